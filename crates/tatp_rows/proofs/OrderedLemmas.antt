@@ -1,0 +1,206 @@
+-- Lists that are ordered by a key: what is found, what an edit keeps, and what it does to sums.
+use Rattle.std.proofs.Common.{◌≡◌, refl, ℕ, suc, ◌+◌, ◌<◌, ◌≤◌, ◌≢◌, ◌-◌, List, [], ◌∷◌, Bool, true, false, length, arith}
+use Rattle.std.specs.Prelude.{◌==◌, nat_lt, Some, None, if◌then◌else◌}
+use Rattle.std.specs.List.{AllByRecursion, sum_by, count_by}
+use Rattle.std.specs.Option.{is_some}
+use Rattle.std.proofs.lemmas.Bool.Decides.{nat_tests}
+use Rattle.std.proofs.lemmas.List.Sums.{sum_by-cons}
+use Rattle.tatp_rows.specs.Ordered.{IsOrderedBy, row_at, with_row_at, with_row, without_row}
+
+-- a fact, from each answer of a test
+pub by_test : {A : Type 0} (test : Bool) → (test ≡ true → A) → (test ≡ false → A) → A
+by_test true if_true if_false = if_true refl
+by_test false if_true if_false = if_false refl
+
+-- what holds of each element holds of a weaker fact too
+pub each-weaker : {X : Type 0} {P Q : X → Type 0} → ((x : X) → P x → Q x) → (xs : List X) → AllByRecursion P xs → AllByRecursion Q xs
+each-weaker weaker [] each = tt
+each-weaker weaker (x ∷ xs) each = (weaker x each.0, each-weaker weaker xs each.1)
+
+module _ {X : Type 0} (key : X → ℕ) where
+  -- the element that is found has the key
+  pub key_found : (k : ℕ) (xs : List X) (x : X) → row_at key k xs ≡ Some x → key x ≡ k
+  key_found k [] x found = cc
+  key_found k (y ∷ ys) x found = grind (arith, nat_tests, key_found k ys x)
+
+  -- what holds of each element holds of the one that is found
+  pub each_found : (P : X → Type 0) (k : ℕ) (xs : List X) (x : X) → AllByRecursion P xs → row_at key k xs ≡ Some x → P x
+  each_found P k [] x each found = absurd cc
+  each_found P k (y ∷ ys) x each found =
+      by_test (key y == k)
+      (λ e. let same : Some y ≡ Some x = rw e at found in let is : y ≡ x = cc in rw (← is) each.0)
+      (λ e. each_found P k ys x each.1 (rw e at found))
+
+  -- an edit at a key keeps what holds of each element
+  pub each-with_row_at : (P : X → Type 0) (k : ℕ) (y : X) (xs : List X) → P y → AllByRecursion P xs → AllByRecursion P (with_row_at key k y xs)
+  each-with_row_at P k y [] new each = tt
+  each-with_row_at P k y (x ∷ xs) new each =
+      by_test (key x == k) (λ e. rw e (new, each.1)) (λ e. rw e (each.0, each-with_row_at P k y xs new each.1))
+
+  -- one more element
+  pub each-with_row : (P : X → Type 0) (y : X) (xs : List X) → P y → AllByRecursion P xs → AllByRecursion P (with_row key y xs)
+  each-with_row P y [] new each = (new, tt)
+  each-with_row P y (x ∷ xs) new each =
+      by_test (nat_lt (key y) (key x)) (λ e. rw e (new, each)) (λ e. rw e (each.0, each-with_row P y xs new each.1))
+
+  -- one element less
+  pub each-without_row : (P : X → Type 0) (k : ℕ) (xs : List X) → AllByRecursion P xs → AllByRecursion P (without_row key k xs)
+  each-without_row P k [] each = tt
+  each-without_row P k (x ∷ xs) each =
+      by_test (key x == k) (λ e. rw e each.1) (λ e. rw e (each.0, each-without_row P k xs each.1))
+
+  -- an element that is absent from a list is neither its head nor in its tail
+  pub absent_cons : (k : ℕ) (x : X) (xs : List X) → row_at key k (x ∷ xs) ≡ None → (key x ≢ k) × (row_at key k xs ≡ None)
+  absent_cons k x xs absent =
+      by_test (key x == k)
+      (λ e. let no : Some x ≡ None = rw e at absent in absurd cc)
+      (λ e. (grind (arith, nat_tests), rw e at absent))
+
+  -- no element has a key below all keys
+  pub absent_below : (k : ℕ) (xs : List X) → AllByRecursion (λ x. k < key x) xs → row_at key k xs ≡ None
+  absent_below k [] above = refl
+  absent_below k (x ∷ xs) above =
+      let e : (key x == k) ≡ false = grind (arith, nat_tests) in rw e (absent_below k xs above.1)
+
+  -- no element has a key above all keys
+  pub absent_above : (k : ℕ) (xs : List X) → AllByRecursion (λ x. key x < k) xs → row_at key k xs ≡ None
+  absent_above k [] below = refl
+  absent_above k (x ∷ xs) below =
+      let e : (key x == k) ≡ false = grind (arith, nat_tests) in rw e (absent_above k xs below.1)
+
+  -- an edit at a key keeps what the new element has from each element of that key
+  pub each-with_row_at_same : (P : X → Type 0) (k : ℕ) (y : X) (xs : List X) → ((x : X) → key x ≡ k → P x → P y) → AllByRecursion P xs → AllByRecursion P (with_row_at key k y xs)
+  each-with_row_at_same P k y [] new each = tt
+  each-with_row_at_same P k y (x ∷ xs) new each =
+      by_test (key x == k)
+      (λ e. let same : key x ≡ k = grind (arith, nat_tests) in rw e (new x same each.0, each.1))
+      (λ e. rw e (each.0, each-with_row_at_same P k y xs new each.1))
+
+  -- another element of the same key keeps the order
+  pub ordered-with_row_at : (k : ℕ) (y : X) (xs : List X) → key y ≡ k → IsOrderedBy key xs → IsOrderedBy key (with_row_at key k y xs)
+  ordered-with_row_at k y [] at ordered = tt
+  ordered-with_row_at k y (x ∷ xs) at ordered =
+      by_test (key x == k)
+      (λ e. let same : key x ≡ k = grind (arith, nat_tests) in
+            rw e (each-weaker {P = λ z. key x < key z} {Q = λ z. key y < key z} (λ z below. omega arith) xs ordered.0, ordered.1))
+      (λ e. rw e (each-with_row_at_same (λ z. key x < key z) k y xs (λ z same below. omega arith) ordered.0, ordered-with_row_at k y xs at ordered.1))
+
+  -- an element of an absent key keeps the order
+  pub ordered-with_row : (y : X) (xs : List X) → row_at key (key y) xs ≡ None → IsOrderedBy key xs → IsOrderedBy key (with_row key y xs)
+  ordered-with_row y [] absent ordered = (tt, tt)
+  ordered-with_row y (x ∷ xs) absent ordered =
+      let rest = absent_cons (key y) x xs absent in
+      by_test (nat_lt (key y) (key x))
+      (λ e. let below : key y < key x = grind (arith, nat_tests) in
+            rw e ((below, each-weaker {P = λ z. key x < key z} {Q = λ z. key y < key z} (λ z above. omega arith) xs ordered.0), ordered))
+      (λ e. let differ : key x ≢ key y = rest.0 in let above : key x < key y = grind (arith, nat_tests) in
+            rw e (each-with_row (λ z. key x < key z) y xs above ordered.0, ordered-with_row y xs rest.1 ordered.1))
+
+  -- one element less keeps the order
+  pub ordered-without_row : (k : ℕ) (xs : List X) → IsOrderedBy key xs → IsOrderedBy key (without_row key k xs)
+  ordered-without_row k [] ordered = tt
+  ordered-without_row k (x ∷ xs) ordered =
+      by_test (key x == k) (λ e. rw e ordered.1) (λ e. rw e (each-without_row (λ z. key x < key z) k xs ordered.0, ordered-without_row k xs ordered.1))
+
+  -- what is found after an edit: at the key, and at another key
+  pub row_at-with_row_at_same : (k : ℕ) (y : X) (xs : List X) (x : X) → key y ≡ k → row_at key k xs ≡ Some x → row_at key k (with_row_at key k y xs) ≡ Some y
+  row_at-with_row_at_same k y [] x at found = absurd cc
+  row_at-with_row_at_same k y (z ∷ xs) x at found = grind (arith, nat_tests, row_at-with_row_at_same k y xs x)
+
+  pub row_at-with_row_at_other : (j k : ℕ) (y : X) (xs : List X) → key y ≡ k → j ≢ k → row_at key j (with_row_at key k y xs) ≡ row_at key j xs
+  row_at-with_row_at_other j k y [] at other = refl
+  row_at-with_row_at_other j k y (z ∷ xs) at other = grind (arith, nat_tests, row_at-with_row_at_other j k y xs)
+
+  pub row_at-with_row_same : (k : ℕ) (y : X) (xs : List X) → key y ≡ k → row_at key k xs ≡ None → row_at key k (with_row key y xs) ≡ Some y
+  row_at-with_row_same k y [] at absent = grind (arith, nat_tests)
+  row_at-with_row_same k y (z ∷ xs) at absent = grind (arith, nat_tests, row_at-with_row_same k y xs)
+
+  pub row_at-with_row_other : (j k : ℕ) (y : X) (xs : List X) → key y ≡ k → j ≢ k → row_at key j (with_row key y xs) ≡ row_at key j xs
+  row_at-with_row_other j k y [] at other = grind (arith, nat_tests)
+  row_at-with_row_other j k y (z ∷ xs) at other = grind (arith, nat_tests, row_at-with_row_other j k y xs)
+
+  pub row_at-without_row_same : (k : ℕ) (xs : List X) → IsOrderedBy key xs → row_at key k (without_row key k xs) ≡ None
+  row_at-without_row_same k [] ordered = refl
+  row_at-without_row_same k (x ∷ xs) ordered =
+      by_test (key x == k)
+      (λ e. let same : key x ≡ k = grind (arith, nat_tests) in
+            rw e (absent_below k xs (each-weaker {P = λ z. key x < key z} {Q = λ z. k < key z} (λ z below. omega arith) xs ordered.0)))
+      (λ e. rw (e, e) (row_at-without_row_same k xs ordered.1))
+
+  pub row_at-without_row_other : (j k : ℕ) (xs : List X) → j ≢ k → row_at key j (without_row key k xs) ≡ row_at key j xs
+  row_at-without_row_other j k [] other = refl
+  row_at-without_row_other j k (z ∷ xs) other = grind (arith, nat_tests, row_at-without_row_other j k xs)
+
+  -- an edit at a key that is absent changes nothing
+  pub with_row_at_absent : (k : ℕ) (y : X) (xs : List X) → row_at key k xs ≡ None → with_row_at key k y xs ≡ xs
+  with_row_at_absent k y [] absent = refl
+  with_row_at_absent k y (x ∷ xs) absent = grind (arith, nat_tests, with_row_at_absent k y xs)
+
+  pub without_row_absent : (k : ℕ) (xs : List X) → row_at key k xs ≡ None → without_row key k xs ≡ xs
+  without_row_absent k [] absent = refl
+  without_row_absent k (x ∷ xs) absent = grind (arith, nat_tests, without_row_absent k xs)
+
+  -- the element itself, put back, changes nothing
+  pub with_row_at_same : (k : ℕ) (x : X) (xs : List X) → row_at key k xs ≡ Some x → with_row_at key k x xs ≡ xs
+  with_row_at_same k x [] found = refl
+  with_row_at_same k x (z ∷ xs) found = grind (arith, nat_tests, with_row_at_same k x xs)
+
+  -- the second of two edits at a key counts
+  pub with_row_at_twice : (k : ℕ) (y z : X) (xs : List X) → key y ≡ k → with_row_at key k z (with_row_at key k y xs) ≡ with_row_at key k z xs
+  with_row_at_twice k y z [] at = refl
+  with_row_at_twice k y z (x ∷ xs) at = grind (arith, nat_tests, with_row_at_twice k y z xs)
+
+  -- a new element, taken out again
+  pub without_row-with_row : (k : ℕ) (y : X) (xs : List X) → key y ≡ k → row_at key k xs ≡ None → without_row key k (with_row key y xs) ≡ xs
+  without_row-with_row k y [] at absent = grind (arith, nat_tests)
+  without_row-with_row k y (x ∷ xs) at absent = grind (arith, nat_tests, without_row-with_row k y xs)
+
+  -- sums after an edit
+  pub sum_by-with_row_at : (f : X → ℕ) (k : ℕ) (x y : X) (xs : List X) → row_at key k xs ≡ Some x → sum_by f (with_row_at key k y xs) + f x ≡ sum_by f xs + f y
+  sum_by-with_row_at f k x y [] found = absurd cc
+  sum_by-with_row_at f k x y (z ∷ xs) found = grind (arith, nat_tests, sum_by-cons, sum_by-with_row_at f k x y xs)
+
+  pub sum_by-with_row : (f : X → ℕ) (y : X) (xs : List X) → sum_by f (with_row key y xs) ≡ f y + sum_by f xs
+  sum_by-with_row f y [] = grind (arith, sum_by-cons)
+  sum_by-with_row f y (x ∷ xs) =
+      by_test (nat_lt (key y) (key x))
+      (λ e. rw e (sum_by-cons f y (x ∷ xs)))
+      (λ e. rw (e, sum_by-cons f x (with_row key y xs), sum_by-cons f x xs) (omega (arith, sum_by-with_row f y xs)))
+
+  pub sum_by-without_row : (f : X → ℕ) (k : ℕ) (x : X) (xs : List X) → row_at key k xs ≡ Some x → sum_by f (without_row key k xs) + f x ≡ sum_by f xs
+  sum_by-without_row f k x [] found = absurd cc
+  sum_by-without_row f k x (z ∷ xs) found = grind (arith, nat_tests, sum_by-cons, sum_by-without_row f k x xs)
+
+  -- a key that is absent counts 0, and in an ordered list a key counts 1 or 0
+  pub count_of_absent : (k : ℕ) (xs : List X) → row_at key k xs ≡ None → count_by (λ x. key x == k) xs ≡ 0
+  count_of_absent k [] absent = refl
+  count_of_absent k (x ∷ xs) absent = grind (arith, nat_tests, sum_by-cons, count_of_absent k xs)
+
+  pub count_of_key : (k : ℕ) (xs : List X) → IsOrderedBy key xs → count_by (λ x. key x == k) xs ≡ (if is_some (row_at key k xs) then 1 else 0)
+  count_of_key k [] ordered = refl
+  count_of_key k (x ∷ xs) ordered =
+      by_test (key x == k)
+      (λ e. let same : key x ≡ k = grind (arith, nat_tests) in
+            let rest = count_of_absent k xs (absent_below k xs (each-weaker {P = λ z. key x < key z} {Q = λ z. k < key z} (λ z below. omega arith) xs ordered.0)) in
+            rw (sum_by-cons, e) (omega (arith, rest)))
+      (λ e. rw (sum_by-cons, e) (omega (arith, count_of_key k xs ordered.1)))
+
+  -- an ordered list has no more elements than there are keys for it
+  pub length-ordered : (low high : ℕ) (xs : List X) → IsOrderedBy key xs → AllByRecursion (λ x. low ≤ key x) xs → AllByRecursion (λ x. key x < high) xs → length xs ≤ high - low
+  length-ordered low high [] ordered from below = omega arith
+  length-ordered low high (x ∷ xs) ordered from below =
+      let rest = length-ordered (suc (key x)) high xs ordered.1 (each-weaker {P = λ z. key x < key z} {Q = λ z. suc (key x) ≤ key z} (λ z above. omega arith) xs ordered.0) below.1 in
+      omega arith
+
+-- pointwise equal numbers give equal sums
+pub sum_by-same : {X : Type 0} (f g : X → ℕ) (xs : List X) → AllByRecursion (λ x. f x ≡ g x) xs → sum_by f xs ≡ sum_by g xs
+sum_by-same f g [] same = refl
+sum_by-same f g (x ∷ xs) same = grind (arith, sum_by-cons, sum_by-same f g xs)
+
+-- pointwise equal sums of two numbers give equal sums of two sums, where the elements are as the fact asks
+pub sums_agree : {X : Type 0} (P : X → Type 0) (f g h i : X → ℕ) → ((x : X) → P x → f x + g x ≡ h x + i x) → (xs : List X) → AllByRecursion P xs → sum_by f xs + sum_by g xs ≡ sum_by h xs + sum_by i xs
+sums_agree P f g h i agree [] each = refl
+sums_agree P f g h i agree (x ∷ xs) each =
+    let here = agree x each.0 in
+    let rest = sums_agree P f g h i agree xs each.1 in
+    rw (sum_by-cons f x xs, sum_by-cons g x xs, sum_by-cons h x xs, sum_by-cons i x xs) (omega arith)

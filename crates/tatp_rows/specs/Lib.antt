@@ -1,0 +1,6 @@
+pub mod Keys
+pub mod Number
+pub mod Ordered
+pub mod Refusal
+pub mod Rows
+pub mod Zones

@@ -1,0 +1,18 @@
+//! The rows of the TATP tables, their ranges and keys, and the refusals of the store.
+//!
+//! The tables are those of the TATP benchmark (its description, sections 2.1 to 2.4). The ranges of the
+//! fields are this project's own choice. What is said of ordered lists of rows stands in `specs/Ordered.antt`,
+//! and every layer above cites it.
+#![tactic(auto)]
+
+mod keys;
+mod number;
+mod refusal;
+mod subscriber;
+mod zones;
+
+pub use keys::{row_key, subscriber_key};
+pub use number::Number;
+pub use refusal::{Back, Refusal};
+pub use subscriber::Subscriber;
+pub use zones::{area, zone};

@@ -1,0 +1,139 @@
+//! Rows of the table Subscriber.
+ghost use Rattle.std.specs.Prelude.{◌≡◌, ◌≤◌, IsTrue};
+ghost use Rattle.tatp_rows.specs.Rows.{SubscriberRow, subscriber_in_range};
+ghost use Rattle.tatp_rows.specs.Keys.{subscriber_key};
+
+use crate::keys;
+use crate::number::Number;
+use std::marker::Model;
+
+/// A row of the table Subscriber (TATP, section 2.1).
+#[derive(Clone, Copy, Debug, PartialEq, Eq)]
+pub struct Subscriber {
+    s_id: u32,
+    sub_nbr: Number,
+    bits: [u8; 10],
+    hexes: [u8; 10],
+    bytes: [u8; 10],
+    msc_location: u32,
+    vlr_location: u32,
+}
+
+impl Model for Subscriber {
+    ghost Value = { SubscriberRow };
+
+    ghost view = { λ s. record {
+        s_id = s.s_id;
+        sub_nbr = s.sub_nbr;
+        bits = s.bits;
+        hexes = s.hexes;
+        bytes = s.bytes;
+        msc_location = s.msc_location;
+        vlr_location = s.vlr_location
+    } };
+
+    ghost invariant = { λ s. IsTrue (subscriber_in_range (record {
+        s_id = s.s_id;
+        sub_nbr = s.sub_nbr;
+        bits = s.bits;
+        hexes = s.hexes;
+        bytes = s.bytes;
+        msc_location = s.msc_location;
+        vlr_location = s.vlr_location
+    })) };
+
+    ghost inverse = { λ s. record {
+        s_id = s.s_id;
+        sub_nbr = s.sub_nbr;
+        bits = s.bits;
+        hexes = s.hexes;
+        bytes = s.bytes;
+        msc_location = s.msc_location;
+        vlr_location = s.vlr_location
+    } };
+}
+
+impl Subscriber {
+    /// The row with another location.
+    pub fn with_vlr_location(self, vlr_location: u32) -> Self
+        requires { 1 ≤ vlr_location }
+        ensures { result ≡ record self { vlr_location = vlr_location } }
+    {
+        let Subscriber {
+            s_id,
+            sub_nbr,
+            bits,
+            hexes,
+            bytes,
+            msc_location,
+            ..
+        } = self;
+        Subscriber {
+            s_id,
+            sub_nbr,
+            bits,
+            hexes,
+            bytes,
+            msc_location,
+            vlr_location,
+        }
+    }
+
+    /// The row's key.
+    pub fn key(&self) -> u64
+        ensures { result ≡ subscriber_key self.now }
+    {
+        keys::subscriber_key(self.s_id)
+    }
+
+    /// The subscriber, 1..=16,777,216.
+    pub fn s_id(&self) -> u32
+        ensures value { result ≡ self.now.s_id }
+        ensures in_range { IsTrue (subscriber_in_range self.now) }
+    {
+        self.s_id
+    }
+
+    /// The subscriber's number.
+    pub fn sub_nbr(&self) -> Number
+        ensures { result ≡ self.now.sub_nbr }
+    {
+        self.sub_nbr
+    }
+
+    /// bit_1 to bit_10, each 0 or 1.
+    pub fn bits(&self) -> [u8; 10]
+        ensures { result ≡ self.now.bits }
+    {
+        self.bits
+    }
+
+    /// hex_1 to hex_10, each 0..=15.
+    pub fn hexes(&self) -> [u8; 10]
+        ensures { result ≡ self.now.hexes }
+    {
+        self.hexes
+    }
+
+    /// byte2_1 to byte2_10.
+    pub fn bytes(&self) -> [u8; 10]
+        ensures { result ≡ self.now.bytes }
+    {
+        self.bytes
+    }
+
+    /// The location of the mobile switching centre, at least 1.
+    pub fn msc_location(&self) -> u32
+        ensures { result ≡ self.now.msc_location }
+    {
+        self.msc_location
+    }
+
+    /// The location of the visitor location register, at least 1.
+    pub fn vlr_location(&self) -> u32
+        ensures { result ≡ self.now.vlr_location }
+    {
+        self.vlr_location
+    }
+}
+
