@@ -1,3 +1,4 @@
 pub mod AppendLemmas
 pub mod MapLemmas
 pub mod OrderedLemmas
+pub mod PlaceLemmas

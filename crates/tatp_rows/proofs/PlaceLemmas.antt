@@ -1,0 +1,109 @@
+-- The place of a key in an ordered list, how many elements have a smaller key, and the edits at that place.
+use Rattle.std.proofs.Common.{◌≡◌, ◌≢◌, refl, ap, ◌∙◌, ℕ, zero, suc, ◌+◌, ◌<◌, ◌≤◌, List, [], ◌∷◌, length, get_or, set, true, false, arith}
+use Rattle.std.specs.Prelude.{◌==◌, nat_lt, Some, None}
+use Rattle.std.specs.List.{AllByRecursion, prefix_len, insert, remove}
+use Rattle.std.proofs.lemmas.Bool.Decides.{nat_tests}
+use Rattle.tatp_rows.specs.Ordered.{IsOrderedBy, row_at, with_row_at, with_row, without_row}
+use Rattle.tatp_rows.proofs.OrderedLemmas.{each-weaker, by_test, absent_below, absent_cons}
+
+one_more : (n : ℕ) → 1 + n ≡ suc n
+one_more n = omega arith
+
+module _ {X : Type 0} (key : X → ℕ) where
+  -- how many elements at the front have a smaller key
+  abbrev pub place_in : ℕ → List X → ℕ
+  place_in k xs = prefix_len (λ x. nat_lt (key x) k) xs
+
+  -- the place in a list whose head has a smaller key, and in one whose head has none
+  pub place-later : (k : ℕ) (x : X) (xs : List X) → key x < k → place_in k (x ∷ xs) ≡ suc (place_in k xs)
+  place-later k x xs under = let e : nat_lt (key x) k ≡ true = grind (arith, nat_tests) in rw e (omega arith)
+
+  pub place-here : (k : ℕ) (x : X) (xs : List X) → k ≤ key x → place_in k (x ∷ xs) ≡ 0
+  place-here k x xs over = let e : nat_lt (key x) k ≡ false = grind (arith, nat_tests) in rw e refl
+
+  pub place-le-length : (k : ℕ) (xs : List X) → place_in k xs ≤ length xs
+  place-le-length k [] = omega arith
+  place-le-length k (x ∷ xs) = let rest = place-le-length k xs in by_test (nat_lt (key x) k) (λ e. rw e (omega arith)) (λ e. rw e (omega arith))
+
+  -- a key is at the head, later, or, where the head's key is greater, absent
+  pub by_order : {A : Type 0} (k n : ℕ) → (n < k → A) → (n ≡ k → A) → (k < n → A) → A
+  by_order k n if_less if_equal if_greater =
+      by_test (nat_lt n k)
+      (λ e. if_less (grind (arith, nat_tests)))
+      (λ e. by_test (n == k) (λ f. if_equal (grind (arith, nat_tests))) (λ f. if_greater (grind (arith, nat_tests))))
+
+  -- the elements after the head of an ordered list have keys above those up to the head's
+  absent_after : (k : ℕ) (x : X) (xs : List X) → k ≤ key x → AllByRecursion (λ z. key x < key z) xs → row_at key k xs ≡ None
+  absent_after k x xs over above = absent_below key k xs (each-weaker {P = λ z. key x < key z} {Q = λ z. k < key z} (λ z below. omega arith) xs above)
+
+  -- what the place of a key holds, where the key is found
+  pub record FoundAtPlace (k : ℕ) (xs : List X) (x : X) : Type 0 where
+    pub within : place_in k xs < length xs
+    pub there : (d : X) → get_or xs (place_in k xs) d ≡ x
+    pub sets : (y : X) → with_row_at key k y xs ≡ set xs (place_in k xs) y
+    pub removes : without_row key k xs ≡ remove xs (place_in k xs)
+
+  pub at_place : (k : ℕ) (xs : List X) (x : X) → IsOrderedBy key xs → row_at key k xs ≡ Some x → FoundAtPlace k xs x
+  at_place k [] x ordered found = absurd cc
+  at_place k (z ∷ zs) x ordered found = by_order k (key z)
+      (λ less. let e : (key z == k) ≡ false = grind (arith, nat_tests) in
+               let rest = at_place k zs x ordered.1 (rw e at found) in
+               let p = place-later k z zs less in
+               record {
+                 within = rw p (let w = rest.within in omega arith);
+                 there = λ d. rw p (rest.there d);
+                 sets = λ y. rw (e, p) (ap (λ l. z ∷ l) (rest.sets y));
+                 removes = rw (e, p) (ap (λ l. z ∷ l) rest.removes);
+               })
+      (λ same. let e : (key z == k) ≡ true = grind (arith, nat_tests) in
+               let p = place-here k z zs (omega arith) in
+               let is : Some z ≡ Some x = rw e at found in
+               record {
+                 within = rw p (omega arith);
+                 there = λ d. rw p cc;
+                 sets = λ y. rw (e, p) refl;
+                 removes = rw (e, p) refl;
+               })
+      (λ greater. let e : (key z == k) ≡ false = grind (arith, nat_tests) in
+                  let none = absent_after k z zs (omega arith) ordered.0 in
+                  let some : row_at key k zs ≡ Some x = rw e at found in
+                  absurd cc)
+
+  -- an absent key is put in at its place
+  pub insert_at_place : (y : X) (xs : List X) → row_at key (key y) xs ≡ None → with_row key y xs ≡ insert xs (place_in (key y) xs) y
+  insert_at_place y [] absent = refl
+  insert_at_place y (z ∷ zs) absent = by_order (key y) (key z)
+      (λ less. let e : nat_lt (key y) (key z) ≡ false = grind (arith, nat_tests) in
+               rw (e, place-later (key y) z zs less) (ap (λ l. z ∷ l) (insert_at_place y zs (absent_cons key (key y) z zs absent).1)))
+      (λ same. absurd ((absent_cons key (key y) z zs absent).0 same))
+      (λ greater. let e : nat_lt (key y) (key z) ≡ true = grind (arith, nat_tests) in
+                  rw (e, place-here (key y) z zs (omega arith)) refl)
+
+  -- the element at the place is the one that is found if its key is the key, and otherwise none is found
+  pub found_at_place : (k : ℕ) (xs : List X) (d : X) → IsOrderedBy key xs → place_in k xs < length xs → key (get_or xs (place_in k xs) d) ≡ k → row_at key k xs ≡ Some (get_or xs (place_in k xs) d)
+  found_at_place k [] d ordered within at = absurd (omega arith)
+  found_at_place k (z ∷ zs) d ordered within at = by_order k (key z)
+      (λ less. let e : (key z == k) ≡ false = grind (arith, nat_tests) in
+               let p = place-later k z zs less in
+               let more = rw p at within in
+               rw (e, p) (found_at_place k zs d ordered.1 (omega arith) (rw p at at)))
+      (λ same. let e : (key z == k) ≡ true = grind (arith, nat_tests) in rw (e, place-here k z zs (omega arith)) refl)
+      (λ greater. absurd (let here : key z ≡ k = rw (place-here k z zs (omega arith)) at at in omega arith))
+
+  pub absent_at_place : (k : ℕ) (xs : List X) (d : X) → IsOrderedBy key xs → (place_in k xs < length xs → key (get_or xs (place_in k xs) d) ≢ k) → row_at key k xs ≡ None
+  absent_at_place k [] d ordered other = refl
+  absent_at_place k (z ∷ zs) d ordered other = by_order k (key z)
+      (λ less. let e : (key z == k) ≡ false = grind (arith, nat_tests) in
+               let p = place-later k z zs less in
+               rw e (absent_at_place k zs d ordered.1 (rw p at (λ (w : place_in k zs < length zs). let more : place_in k (z ∷ zs) < length (z ∷ zs) = rw p (omega arith) in other more))))
+      (λ same. let p = place-here k z zs (omega arith) in
+               let within : place_in k (z ∷ zs) < length (z ∷ zs) = rw p (omega arith) in
+               absurd ((rw p at (other within)) same))
+      (λ greater. let e : (key z == k) ≡ false = grind (arith, nat_tests) in rw e (absent_after k z zs (omega arith) ordered.0))
+
+  -- the number of elements with smaller keys, by what a search finds of the elements around it
+  pub place_is : (k p : ℕ) (xs : List X) → p ≤ length xs → ((i : ℕ) (d : X) → i < p → key (get_or xs i d) < k) → ((d : X) → p < length xs → k ≤ key (get_or xs p d)) → place_in k xs ≡ p
+  place_is k p [] within below from = omega arith
+  place_is k zero (z ∷ zs) within below from = place-here k z zs (from z (omega arith))
+  place_is k (suc p) (z ∷ zs) within below from =
+      place-later k z zs (below 0 z (omega arith)) ∙ ap suc (place_is k p zs (omega arith) (λ i d h. below (suc i) d (omega arith)) (λ d h. from d (omega arith)))
