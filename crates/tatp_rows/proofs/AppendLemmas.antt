@@ -22,9 +22,10 @@ module _ {X : Type 0} (key : X → ℕ) where
   -- two ordered lists with a border between them are ordered as one, and the other way
   pub ordered-append : (m : ℕ) (xs ys : List X) → IsOrderedBy key xs → IsOrderedBy key ys → AllByRecursion (λ x. key x < m) xs → AllByRecursion (λ x. m ≤ key x) ys → IsOrderedBy key (xs ++ ys)
   ordered-append m [] ys left right below from = right
-  ordered-append m (x ∷ xs) ys left right below from =
-      (each-append (λ z. key x < key z) xs ys left.0 (each-weaker {P = λ z. m ≤ key z} {Q = λ z. key x < key z} (λ z above. omega arith) ys from),
-       ordered-append m xs ys left.1 right below.1 from)
+  ordered-append m (x ∷ xs) ys left right below from = (
+    each-append (λ z. key x < key z) xs ys left.0 (each-weaker {P = λ z. m ≤ key z} {Q = λ z. key x < key z} (λ z above. omega arith) ys from),
+    ordered-append m xs ys left.1 right below.1 from,
+  )
 
   pub ordered-left : (xs ys : List X) → IsOrderedBy key (xs ++ ys) → IsOrderedBy key xs
   ordered-left [] ys ordered = tt

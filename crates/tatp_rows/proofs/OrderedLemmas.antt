@@ -82,7 +82,7 @@ module _ {X : Type 0} (key : X → ℕ) where
   ordered-with_row_at k y (x ∷ xs) at ordered =
       by_test (key x == k)
       (λ e. let same : key x ≡ k = grind (arith, nat_tests) in
-            rw e (each-weaker {P = λ z. key x < key z} {Q = λ z. key y < key z} (λ z below. omega arith) xs ordered.0, ordered.1))
+      rw e (each-weaker {P = λ z. key x < key z} {Q = λ z. key y < key z} (λ z below. omega arith) xs ordered.0, ordered.1))
       (λ e. rw e (each-with_row_at_same (λ z. key x < key z) k y xs (λ z same below. omega arith) ordered.0, ordered-with_row_at k y xs at ordered.1))
 
   -- an element of an absent key keeps the order
@@ -92,9 +92,9 @@ module _ {X : Type 0} (key : X → ℕ) where
       let rest = absent_cons (key y) x xs absent in
       by_test (nat_lt (key y) (key x))
       (λ e. let below : key y < key x = grind (arith, nat_tests) in
-            rw e ((below, each-weaker {P = λ z. key x < key z} {Q = λ z. key y < key z} (λ z above. omega arith) xs ordered.0), ordered))
+      rw e ((below, each-weaker {P = λ z. key x < key z} {Q = λ z. key y < key z} (λ z above. omega arith) xs ordered.0), ordered))
       (λ e. let differ : key x ≢ key y = rest.0 in let above : key x < key y = grind (arith, nat_tests) in
-            rw e (each-with_row (λ z. key x < key z) y xs above ordered.0, ordered-with_row y xs rest.1 ordered.1))
+      rw e (each-with_row (λ z. key x < key z) y xs above ordered.0, ordered-with_row y xs rest.1 ordered.1))
 
   -- one element less keeps the order
   pub ordered-without_row : (k : ℕ) (xs : List X) → IsOrderedBy key xs → IsOrderedBy key (without_row key k xs)
@@ -124,7 +124,7 @@ module _ {X : Type 0} (key : X → ℕ) where
   row_at-without_row_same k (x ∷ xs) ordered =
       by_test (key x == k)
       (λ e. let same : key x ≡ k = grind (arith, nat_tests) in
-            rw e (absent_below k xs (each-weaker {P = λ z. key x < key z} {Q = λ z. k < key z} (λ z below. omega arith) xs ordered.0)))
+      rw e (absent_below k xs (each-weaker {P = λ z. key x < key z} {Q = λ z. k < key z} (λ z below. omega arith) xs ordered.0)))
       (λ e. rw (e, e) (row_at-without_row_same k xs ordered.1))
 
   pub row_at-without_row_other : (j k : ℕ) (xs : List X) → j ≢ k → row_at key j (without_row key k xs) ≡ row_at key j xs
@@ -181,8 +181,8 @@ module _ {X : Type 0} (key : X → ℕ) where
   count_of_key k (x ∷ xs) ordered =
       by_test (key x == k)
       (λ e. let same : key x ≡ k = grind (arith, nat_tests) in
-            let rest = count_of_absent k xs (absent_below k xs (each-weaker {P = λ z. key x < key z} {Q = λ z. k < key z} (λ z below. omega arith) xs ordered.0)) in
-            rw (sum_by-cons, e) (omega (arith, rest)))
+      let rest = count_of_absent k xs (absent_below k xs (each-weaker {P = λ z. key x < key z} {Q = λ z. k < key z} (λ z below. omega arith) xs ordered.0)) in
+      rw (sum_by-cons, e) (omega (arith, rest)))
       (λ e. rw (sum_by-cons, e) (omega (arith, count_of_key k xs ordered.1)))
 
   -- an ordered list has no more elements than there are keys for it

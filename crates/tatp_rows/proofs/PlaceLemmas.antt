@@ -47,46 +47,46 @@ module _ {X : Type 0} (key : X → ℕ) where
   at_place k [] x ordered found = absurd cc
   at_place k (z ∷ zs) x ordered found = by_order k (key z)
       (λ less. let e : (key z == k) ≡ false = grind (arith, nat_tests) in
-               let rest = at_place k zs x ordered.1 (rw e at found) in
-               let p = place-later k z zs less in
-               record {
-                 within = rw p (let w = rest.within in omega arith);
-                 there = λ d. rw p (rest.there d);
-                 sets = λ y. rw (e, p) (ap (λ l. z ∷ l) (rest.sets y));
-                 removes = rw (e, p) (ap (λ l. z ∷ l) rest.removes);
-               })
+      let rest = at_place k zs x ordered.1 (rw e at found) in
+      let p = place-later k z zs less in
+      record {
+        within = rw p (let w = rest.within in omega arith);
+        there = λ d. rw p (rest.there d);
+        sets = λ y. rw (e, p) (ap (λ l. z ∷ l) (rest.sets y));
+        removes = rw (e, p) (ap (λ l. z ∷ l) rest.removes);
+      })
       (λ same. let e : (key z == k) ≡ true = grind (arith, nat_tests) in
-               let p = place-here k z zs (omega arith) in
-               let is : Some z ≡ Some x = rw e at found in
-               record {
-                 within = rw p (omega arith);
-                 there = λ d. rw p cc;
-                 sets = λ y. rw (e, p) refl;
-                 removes = rw (e, p) refl;
-               })
+      let p = place-here k z zs (omega arith) in
+      let is : Some z ≡ Some x = rw e at found in
+      record {
+        within = rw p (omega arith);
+        there = λ d. rw p cc;
+        sets = λ y. rw (e, p) refl;
+        removes = rw (e, p) refl;
+      })
       (λ greater. let e : (key z == k) ≡ false = grind (arith, nat_tests) in
-                  let none = absent_after k z zs (omega arith) ordered.0 in
-                  let some : row_at key k zs ≡ Some x = rw e at found in
-                  absurd cc)
+      let none = absent_after k z zs (omega arith) ordered.0 in
+      let some : row_at key k zs ≡ Some x = rw e at found in
+      absurd cc)
 
   -- an absent key is put in at its place
   pub insert_at_place : (y : X) (xs : List X) → row_at key (key y) xs ≡ None → with_row key y xs ≡ insert xs (place_in (key y) xs) y
   insert_at_place y [] absent = refl
   insert_at_place y (z ∷ zs) absent = by_order (key y) (key z)
       (λ less. let e : nat_lt (key y) (key z) ≡ false = grind (arith, nat_tests) in
-               rw (e, place-later (key y) z zs less) (ap (λ l. z ∷ l) (insert_at_place y zs (absent_cons key (key y) z zs absent).1)))
+      rw (e, place-later (key y) z zs less) (ap (λ l. z ∷ l) (insert_at_place y zs (absent_cons key (key y) z zs absent).1)))
       (λ same. absurd ((absent_cons key (key y) z zs absent).0 same))
       (λ greater. let e : nat_lt (key y) (key z) ≡ true = grind (arith, nat_tests) in
-                  rw (e, place-here (key y) z zs (omega arith)) refl)
+      rw (e, place-here (key y) z zs (omega arith)) refl)
 
   -- the element at the place is the one that is found if its key is the key, and otherwise none is found
   pub found_at_place : (k : ℕ) (xs : List X) (d : X) → IsOrderedBy key xs → place_in k xs < length xs → key (get_or xs (place_in k xs) d) ≡ k → row_at key k xs ≡ Some (get_or xs (place_in k xs) d)
   found_at_place k [] d ordered within at = absurd (omega arith)
   found_at_place k (z ∷ zs) d ordered within at = by_order k (key z)
       (λ less. let e : (key z == k) ≡ false = grind (arith, nat_tests) in
-               let p = place-later k z zs less in
-               let more = rw p at within in
-               rw (e, p) (found_at_place k zs d ordered.1 (omega arith) (rw p at at)))
+      let p = place-later k z zs less in
+      let more = rw p at within in
+      rw (e, p) (found_at_place k zs d ordered.1 (omega arith) (rw p at at)))
       (λ same. let e : (key z == k) ≡ true = grind (arith, nat_tests) in rw (e, place-here k z zs (omega arith)) refl)
       (λ greater. absurd (let here : key z ≡ k = rw (place-here k z zs (omega arith)) at at in omega arith))
 
@@ -94,11 +94,11 @@ module _ {X : Type 0} (key : X → ℕ) where
   absent_at_place k [] d ordered other = refl
   absent_at_place k (z ∷ zs) d ordered other = by_order k (key z)
       (λ less. let e : (key z == k) ≡ false = grind (arith, nat_tests) in
-               let p = place-later k z zs less in
-               rw e (absent_at_place k zs d ordered.1 (rw p at (λ (w : place_in k zs < length zs). let more : place_in k (z ∷ zs) < length (z ∷ zs) = rw p (omega arith) in other more))))
+      let p = place-later k z zs less in
+      rw e (absent_at_place k zs d ordered.1 (rw p at (λ (w : place_in k zs < length zs). let more : place_in k (z ∷ zs) < length (z ∷ zs) = rw p (omega arith) in other more))))
       (λ same. let p = place-here k z zs (omega arith) in
-               let within : place_in k (z ∷ zs) < length (z ∷ zs) = rw p (omega arith) in
-               absurd ((rw p at (other within)) same))
+      let within : place_in k (z ∷ zs) < length (z ∷ zs) = rw p (omega arith) in
+      absurd ((rw p at (other within)) same))
       (λ greater. let e : (key z == k) ≡ false = grind (arith, nat_tests) in rw e (absent_after k z zs (omega arith) ordered.0))
 
   -- the number of elements with smaller keys, by what a search finds of the elements around it

@@ -1,5 +1,5 @@
 -- Numbers of subscribers: 15 decimal digits.
-use Rattle.std.specs.Prelude.{◌≡◌, ℕ, ◌-◌, ◌<◌, ◌==◌, ◌&&◌, ◌++◌, nat_lt, List, length, if◌then◌else◌, Result, Ok, Err, decimal, replicate}
+use Rattle.std.specs.Prelude.{ℕ, ◌-◌, ◌<◌, ◌==◌, ◌&&◌, ◌++◌, nat_lt, List, length, if◌then◌else◌, Result, Ok, Err, decimal, replicate}
 use Rattle.std.specs.List.{list_all}
 use Rattle.std.specs.Char.{is_ascii_digit}
 use Rattle.std.specs.Str.Parse.{digits_value}

@@ -1,8 +1,9 @@
 //! Numbers of subscribers: 15 decimal digits.
-ghost use Rattle.std.specs.Prelude.{◌≡◌, ℕ};
-ghost use Rattle.tatp_rows.specs.Number.{IsNumber, number_of};
+ghost use Rattle.std.specs.Prelude.{◌≡◌, ℕ, Some};
+ghost use Rattle.tatp_rows.specs.Number.{IsNumber, number_of, number_in, number_text};
 
 use crate::refusal::Refusal;
+use std::fmt;
 use std::marker::Model;
 
 /// A subscriber's number (TATP's sub_nbr and numberx, sections 2.1 and 2.4): 15 decimal digits.
@@ -34,6 +35,23 @@ impl Number {
         }
     }
 
+    /// Reads exactly 15 ASCII digits; `Field` where the text is anything else.
+    pub fn from_digits(text: &[u8]) -> Result<Self, Refusal>
+        ensures { result ≡ number_in text.now }
+    {
+        if text.len() != 15 {
+            return Err(Refusal::Field);
+        }
+        let mut value = 0u64;
+        for byte in text {
+            if !byte.is_ascii_digit() {
+                return Err(Refusal::Field);
+            }
+            value = value * 10 + u64::from(*byte - b'0');
+        }
+        Ok(Number { value })
+    }
+
     /// The number's value, below 10^15.
     pub fn value(self) -> u64
         ensures value { result ≡ self }
@@ -43,3 +61,11 @@ impl Number {
     }
 }
 
+impl fmt::Display for Number {
+    ghost output = { λ n. Some (number_text n) };
+
+    fn fmt<W: fmt::Write>(&self, f: &mut fmt::Formatter<W>) -> fmt::Result {
+        let value = self.value;
+        write!(f, "{value:015}")
+    }
+}

@@ -1,10 +1,11 @@
 //! Rows of the table Subscriber.
 ghost use Rattle.std.specs.Prelude.{◌≡◌, ◌≤◌, IsTrue};
-ghost use Rattle.tatp_rows.specs.Rows.{SubscriberRow, subscriber_in_range};
+ghost use Rattle.tatp_rows.specs.Rows.{SubscriberRow, subscriber_in_range, subscriber_of, between, are_between};
 ghost use Rattle.tatp_rows.specs.Keys.{subscriber_key};
 
 use crate::keys;
 use crate::number::Number;
+use crate::refusal::Refusal;
 use std::marker::Model;
 
 /// A row of the table Subscriber (TATP, section 2.1).
@@ -23,37 +24,76 @@ impl Model for Subscriber {
     ghost Value = { SubscriberRow };
 
     ghost view = { λ s. record {
-        s_id = s.s_id;
-        sub_nbr = s.sub_nbr;
-        bits = s.bits;
-        hexes = s.hexes;
-        bytes = s.bytes;
-        msc_location = s.msc_location;
-        vlr_location = s.vlr_location
+      s_id = s.s_id;
+      sub_nbr = s.sub_nbr;
+      bits = s.bits;
+      hexes = s.hexes;
+      bytes = s.bytes;
+      msc_location = s.msc_location;
+      vlr_location = s.vlr_location;
     } };
 
     ghost invariant = { λ s. IsTrue (subscriber_in_range (record {
-        s_id = s.s_id;
-        sub_nbr = s.sub_nbr;
-        bits = s.bits;
-        hexes = s.hexes;
-        bytes = s.bytes;
-        msc_location = s.msc_location;
-        vlr_location = s.vlr_location
+      s_id = s.s_id;
+      sub_nbr = s.sub_nbr;
+      bits = s.bits;
+      hexes = s.hexes;
+      bytes = s.bytes;
+      msc_location = s.msc_location;
+      vlr_location = s.vlr_location;
     })) };
 
     ghost inverse = { λ s. record {
-        s_id = s.s_id;
-        sub_nbr = s.sub_nbr;
-        bits = s.bits;
-        hexes = s.hexes;
-        bytes = s.bytes;
-        msc_location = s.msc_location;
-        vlr_location = s.vlr_location
+      s_id = s.s_id;
+      sub_nbr = s.sub_nbr;
+      bits = s.bits;
+      hexes = s.hexes;
+      bytes = s.bytes;
+      msc_location = s.msc_location;
+      vlr_location = s.vlr_location;
     } };
 }
 
 impl Subscriber {
+    /// The row with these fields, in TATP's order; `Field` where one is out of its range: s_id 1..=16,777,216,
+    /// bits 0..=1, hexes 0..=15, both locations 1..=4,294,967,295.
+    pub fn try_new(
+        s_id: u64,
+        sub_nbr: Number,
+        bits: [u8; 10],
+        hexes: [u8; 10],
+        bytes: [u8; 10],
+        msc_location: u64,
+        vlr_location: u64,
+    ) -> Result<Self, Refusal>
+        ensures { result ≡ subscriber_of (record {
+          s_id = s_id;
+          sub_nbr = sub_nbr;
+          bits = bits;
+          hexes = hexes;
+          bytes = bytes;
+          msc_location = msc_location;
+          vlr_location = vlr_location;
+        }) }
+    {
+        let s_id = in_range(s_id, 16_777_216)?;
+        let _number = sub_nbr.value();
+        if !all_at_most(&bits, 1) || !all_at_most(&hexes, 15) || !all_at_most(&bytes, 255) {
+            return Err(Refusal::Field);
+        }
+        let msc_location = in_range(msc_location, 4_294_967_295)?;
+        let vlr_location = in_range(vlr_location, 4_294_967_295)?;
+        Ok(Subscriber {
+            s_id,
+            sub_nbr,
+            bits,
+            hexes,
+            bytes,
+            msc_location,
+            vlr_location,
+        })
+    }
+
     /// The row with another location.
     pub fn with_vlr_location(self, vlr_location: u32) -> Self
         requires { 1 ≤ vlr_location }
@@ -137,3 +177,19 @@ impl Subscriber {
     }
 }
 
+/// The value, where it lies in 1..=`high`; else `Field`.
+fn in_range(value: u64, high: u32) -> Result<u32, Refusal>
+    ensures { result ≡ between 1 high value }
+{
+    if value == 0 || value > u64::from(high) {
+        return Err(Refusal::Field);
+    }
+    Ok(value as u32)
+}
+
+/// Whether each of the values is at most `high`.
+fn all_at_most(values: &[u8; 10], high: u8) -> bool
+    ensures { result ≡ are_between 10 0 high values.now }
+{
+    values.iter().all(|value| *value <= high)
+}

@@ -1,0 +1,68 @@
+-- Numbers of subscribers: how their digits are read one by one, and what is written.
+use Rattle.std.proofs.Common.{◌≡◌, refl, ap, ◌∙◌, ℕ, ◌+◌, ◌-◌, ◌*◌, ◌^◌, ◌<◌, ◌≤◌, ◌++◌, List, [], length, get_or, take, true, false, length-append, add-one, rules, arith}
+use Rattle.std.specs.Prelude.{decimal, replicate}
+use Rattle.std.specs.List.{list_all}
+use Rattle.std.specs.Char.{is_ascii_digit, digit_value}
+use Rattle.std.specs.Str.Parse.{digits_value}
+use Rattle.std.specs.Fmt.{styled_decimal, format_spec, padded_integral, char_count}
+use Rattle.std.proofs.lemmas.Bool.Decides.{nat_tests}
+use Rattle.std.proofs.lemmas.Str.{digit_value_digit}
+use Rattle.std.proofs.lemmas.Int.Digits.{digits_value_more}
+use Rattle.std.proofs.lemmas.List.{append-nil, length-replicate}
+use Rattle.std.proofs.lemmas.List.Folds.{list_all_more}
+use Rattle.std.proofs.lemmas.Fmt.{length-decimal-le}
+use Rattle.std.proofs.Math.Nat.{pow-le-pow_right, pow-suc}
+use Rattle.tatp_rows.specs.Number.{IsNumber, number_text}
+
+-- what an ASCII digit is worth
+pub digit_is : (c : ℕ) → is_ascii_digit c ≡ true → (48 ≤ c) × (c ≤ 57) × (digit_value c ≡ c - 48)
+digit_is c digit =
+    let low : 48 ≤ c = grind (arith, nat_tests) in
+    let high : c ≤ 57 = grind (arith, nat_tests) in
+    (low, high, omega (arith, digit_value_digit c (search rules)))
+
+-- what is known of the first i bytes of a text, which are digits with this value
+pub record IsReadTo (text : List ℕ) (i : ℕ) (value : ℕ) : Type 0 where
+  pub size : length text ≡ 15
+  pub digits : list_all is_ascii_digit (take i text) ≡ true
+  pub value_is : value ≡ digits_value 10 (take i text)
+  pub bound : value < 10 ^ i
+
+-- one more digit
+pub read_more : (text : List ℕ) (i value more : ℕ) → IsReadTo text i value → i < length text → is_ascii_digit (get_or text i 0) ≡ true → more ≡ get_or text i 0 - 48 → IsReadTo text (i + 1) (value * 10 + more)
+read_more text i value more read inside digit is =
+    let known = digit_is (get_or text i 0) digit in
+    record {
+      size = read.size;
+      digits = list_all_more is_ascii_digit text i 0 inside ∙ rw (read.digits, digit) refl;
+      value_is = rw (digits_value_more 10 text i inside, ← read.value_is, known.2, is) refl;
+      bound = let tenfold : 10 ^ (i + 1) ≡ 10 ^ i * 10 = rw add-one (pow-suc 10 i) in omega arith;
+    }
+
+-- zeros stand before a numeral that is shorter than 15 characters
+padded_numeral : (numeral : List ℕ) → padded_integral (format_spec 32 0 4 15 18446744073709551615) false [] numeral ≡ replicate (15 - length numeral) 48 ++ numeral
+unfolding padded_integral char_count
+padded_numeral numeral =
+    let none : 15 - length numeral - 0 - 0 ≡ 15 - length numeral = omega arith in
+    rw (append-nil numeral) (ap (λ n. replicate n 48 ++ numeral) none)
+
+-- the text that `{:015}` writes
+pub written : (n : ℕ) → styled_decimal (format_spec 32 0 4 15 18446744073709551615) n ≡ number_text n
+written n = padded_numeral (decimal n)
+
+-- a number is written in 15 digits
+pub length-number_text : (n : ℕ) → IsNumber n → length (number_text n) ≡ 15
+length-number_text n number =
+    let short = length-decimal-le 15 n (omega arith) (omega arith) (omega arith) in
+    rw (length-append, length-replicate) (omega arith)
+
+-- while bytes are left the value has room for one more digit, and in the end it is a number
+pub read_within : (text : List ℕ) (i value : ℕ) → IsReadTo text i value → i < length text → value < 100000000000000
+read_within text i value read inside =
+    let size = read.size in
+    let most = pow-le-pow_right {n = 10} (omega arith) {i = i} {j = 14} (omega arith) in
+    let last : value < 10 ^ i = read.bound in
+    omega arith
+
+pub read_whole : (text : List ℕ) (value : ℕ) → IsReadTo text (length text) value → IsNumber value
+read_whole text value read = let size = read.size in let last : value < 10 ^ 15 = rw size at read.bound in last

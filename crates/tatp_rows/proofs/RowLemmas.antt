@@ -1,0 +1,252 @@
+-- What the ranges of a row's fields say, one by one.
+use Rattle.std.proofs.Common.{◌≡◌, refl, sym, ℕ, zero, suc, ◌<◌, ◌≤◌, Bool, true, false, List, [], ◌∷◌, length, get_or, ◌↔◌, ◌⊎◌, IsTrue, arith}
+use Rattle.std.specs.Prelude.{◌==◌, ◌&&◌, ◌||◌, nat_lt, nat_le, Ok, Err}
+use Rattle.std.specs.List.{EachIndex, list_all}
+use Rattle.std.proofs.lemmas.Bool.Decides.{nat_tests}
+use Rattle.tatp_rows.proofs.OrderedLemmas.{by_test}
+use Rattle.tatp_rows.specs.declared.refusal.Refusal.TheVariants.{Field}
+use Rattle.tatp_rows.specs.Rows.{between, subscriber_of, SubscriberRow, AccessInfoRow, SpecialFacilityRow, CallForwardingRow, is_between, are_between, subscriber_in_range, access_in_range, facility_in_range, forwarding_in_range}
+
+-- a first test, and the tests after it, from the test of all
+pub both : (a b : Bool) → (a && b) ≡ true → (a ≡ true) × (b ≡ true)
+both true b holds = (refl, holds)
+both false b holds = absurd cc
+
+pub both_from : (a b : Bool) → a ≡ true → b ≡ true → (a && b) ≡ true
+both_from a b first rest = rw first rest
+
+-- a number that lies in a range
+pub between_is : (low high n : ℕ) → is_between low high n ≡ true → (low ≤ n) × (n ≤ high)
+between_is low high n holds = let parts = both (nat_le low n) (nat_le n high) holds in (grind (arith, nat_tests), grind (arith, nat_tests))
+
+pub between_from : (low high n : ℕ) → low ≤ n → n ≤ high → is_between low high n ≡ true
+between_from low high n from to = both_from (nat_le low n) (nat_le n high) (grind (arith, nat_tests)) (grind (arith, nat_tests))
+
+-- a number of a subscriber
+pub number_below : (n : ℕ) → nat_lt n 1000000000000000 ≡ true → n < 1000000000000000
+number_below n holds = grind (arith, nat_tests)
+
+pub number_test : (n : ℕ) → n < 1000000000000000 → nat_lt n 1000000000000000 ≡ true
+number_test n below = grind (arith, nat_tests)
+
+-- numbers that lie in a range, so many
+pub length-are_between : (size low high : ℕ) (ns : List ℕ) → are_between size low high ns ≡ true → length ns ≡ size
+length-are_between size low high ns holds = let parts = both (length ns == size) (list_all (is_between low high) ns) holds in grind (arith, nat_tests)
+
+-- the ranges of a Subscriber row's fields, one by one
+pub record SubscriberRanges (row : SubscriberRow) : Type 0 where
+  pub s_id_from : 1 ≤ row.s_id
+  pub s_id_below : row.s_id < 16777217
+  pub sub_nbr_below : row.sub_nbr < 1000000000000000
+  pub bits_between : are_between 10 0 1 row.bits ≡ true
+  pub hexes_between : are_between 10 0 15 row.hexes ≡ true
+  pub bytes_between : are_between 10 0 255 row.bytes ≡ true
+  pub msc_location_from : 1 ≤ row.msc_location
+  pub msc_location_below : row.msc_location < 4294967296
+  pub vlr_location_from : 1 ≤ row.vlr_location
+  pub vlr_location_below : row.vlr_location < 4294967296
+
+-- the seven tests of a Subscriber row
+seven : (a b c d e f g : Bool) → (a && (b && (c && (d && (e && (f && g)))))) ≡ true → (a ≡ true) × (b ≡ true) × (c ≡ true) × (d ≡ true) × (e ≡ true) × (f ≡ true) × (g ≡ true)
+seven true true true true true true g all = (refl, refl, refl, refl, refl, refl, all)
+seven true true true true true false g all = absurd cc
+seven true true true true false f g all = absurd cc
+seven true true true false e f g all = absurd cc
+seven true true false d e f g all = absurd cc
+seven true false c d e f g all = absurd cc
+seven false b c d e f g all = absurd cc
+
+pub subscriber_ranges : (row : SubscriberRow) → subscriber_in_range row ≡ true → SubscriberRanges row
+subscriber_ranges row holds =
+    let tests = seven (is_between 1 16777216 row.s_id) (nat_lt row.sub_nbr 1000000000000000) (are_between 10 0 1 row.bits) (are_between 10 0 15 row.hexes) (are_between 10 0 255 row.bytes)
+    (is_between 1 4294967295 row.msc_location) (is_between 1 4294967295 row.vlr_location) holds in
+    let s_id = between_is 1 16777216 row.s_id tests.0 in
+    let msc = between_is 1 4294967295 row.msc_location tests.5 in
+    let vlr = between_is 1 4294967295 row.vlr_location tests.6 in
+    record {
+      s_id_from = s_id.0;
+      s_id_below = let to = s_id.1 in omega arith;
+      sub_nbr_below = number_below row.sub_nbr tests.1;
+      bits_between = tests.2;
+      hexes_between = tests.3;
+      bytes_between = tests.4;
+      msc_location_from = msc.0;
+      msc_location_below = let to = msc.1 in omega arith;
+      vlr_location_from = vlr.0;
+      vlr_location_below = let to = vlr.1 in omega arith;
+    }
+
+-- and all of them make the row's test
+pub subscriber_from_ranges : (row : SubscriberRow) → SubscriberRanges row → subscriber_in_range row ≡ true
+subscriber_from_ranges row ranges =
+    let s_id = between_from 1 16777216 row.s_id ranges.s_id_from (let to = ranges.s_id_below in omega arith) in
+    let number = number_test row.sub_nbr ranges.sub_nbr_below in
+    let msc = between_from 1 4294967295 row.msc_location ranges.msc_location_from (let to = ranges.msc_location_below in omega arith) in
+    let vlr = between_from 1 4294967295 row.vlr_location ranges.vlr_location_from (let to = ranges.vlr_location_below in omega arith) in
+    both_from _ _ s_id (both_from _ _ number (both_from _ _ ranges.bits_between (both_from _ _ ranges.hexes_between (both_from _ _ ranges.bytes_between (both_from _ _ msc vlr)))))
+
+-- so many numbers
+pub length_bits : (row : SubscriberRow) → subscriber_in_range row ≡ true → length row.bits ≡ 10
+length_bits row holds = length-are_between 10 0 1 row.bits (subscriber_ranges row holds).bits_between
+
+pub length_hexes : (row : SubscriberRow) → subscriber_in_range row ≡ true → length row.hexes ≡ 10
+length_hexes row holds = length-are_between 10 0 15 row.hexes (subscriber_ranges row holds).hexes_between
+
+pub length_bytes : (row : SubscriberRow) → subscriber_in_range row ≡ true → length row.bytes ≡ 10
+length_bytes row holds = length-are_between 10 0 255 row.bytes (subscriber_ranges row holds).bytes_between
+
+-- the row at another location
+pub relocated_in_range : (row : SubscriberRow) (v : ℕ) → 1 ≤ v → v < 4294967296 → subscriber_in_range row ≡ true → subscriber_in_range (record row { vlr_location = v }) ≡ true
+relocated_in_range row v from below holds =
+    let ranges = subscriber_ranges row holds in
+    subscriber_from_ranges (record row { vlr_location = v }) (record {
+      s_id_from = ranges.s_id_from;
+      s_id_below = ranges.s_id_below;
+      sub_nbr_below = ranges.sub_nbr_below;
+      bits_between = ranges.bits_between;
+      hexes_between = ranges.hexes_between;
+      bytes_between = ranges.bytes_between;
+      msc_location_from = ranges.msc_location_from;
+      msc_location_below = ranges.msc_location_below;
+      vlr_location_from = from;
+      vlr_location_below = below;
+    })
+
+-- the subscriber of a row in the other tables
+pub record IsSubscriberId (s_id : ℕ) : Type 0 where
+  pub from : 1 ≤ s_id
+  pub below : s_id < 16777217
+
+subscriber_id : (s_id : ℕ) (rest : Bool) → (is_between 1 16777216 s_id && rest) ≡ true → IsSubscriberId s_id
+subscriber_id s_id rest holds =
+    let s_id = between_is 1 16777216 s_id (both (is_between 1 16777216 s_id) rest holds).0 in
+    record { from = s_id.0; below = let to = s_id.1 in omega arith }
+
+pub access_s_id : (row : AccessInfoRow) → access_in_range row ≡ true → IsSubscriberId row.s_id
+access_s_id row holds = subscriber_id row.s_id _ holds
+
+pub facility_s_id : (row : SpecialFacilityRow) → facility_in_range row ≡ true → IsSubscriberId row.s_id
+facility_s_id row holds = subscriber_id row.s_id _ holds
+
+pub forwarding_s_id : (row : CallForwardingRow) → forwarding_in_range row ≡ true → IsSubscriberId row.s_id
+forwarding_s_id row holds = subscriber_id row.s_id _ holds
+
+-- the type of a row in the other tables, 1 to 4
+pub record IsKind (kind : ℕ) : Type 0 where
+  pub from : 1 ≤ kind
+  pub below : kind < 5
+
+second_kind : (first : Bool) (kind : ℕ) (rest : Bool) → (first && (is_between 1 4 kind && rest)) ≡ true → IsKind kind
+second_kind first kind rest holds =
+    let later = (both first (is_between 1 4 kind && rest) holds).1 in
+    let range = between_is 1 4 kind (both (is_between 1 4 kind) rest later).0 in
+    record { from = range.0; below = let to = range.1 in omega arith }
+
+pub access_type : (row : AccessInfoRow) → access_in_range row ≡ true → IsKind row.ai_type
+access_type row holds = second_kind (is_between 1 16777216 row.s_id) row.ai_type _ holds
+
+pub facility_type : (row : SpecialFacilityRow) → facility_in_range row ≡ true → IsKind row.sf_type
+facility_type row holds = second_kind (is_between 1 16777216 row.s_id) row.sf_type _ holds
+
+pub forwarding_type : (row : CallForwardingRow) → forwarding_in_range row ≡ true → IsKind row.sf_type
+forwarding_type row holds = second_kind (is_between 1 16777216 row.s_id) row.sf_type _ holds
+
+-- the times and the number of a Call_Forwarding row
+pub record ForwardingRanges (row : CallForwardingRow) : Type 0 where
+  pub start_time_is : (row.start_time ≡ 0) ⊎ ((row.start_time ≡ 8) ⊎ (row.start_time ≡ 16))
+  pub start_time_below : row.start_time < 17
+  pub end_time_from : 1 ≤ row.end_time
+  pub end_time_below : row.end_time < 25
+  pub numberx_below : row.numberx < 1000000000000000
+
+pub forwarding_ranges : (row : CallForwardingRow) → forwarding_in_range row ≡ true → ForwardingRanges row
+forwarding_ranges row holds =
+    let kind = is_between 1 4 row.sf_type in
+    let start = row.start_time == 0 || (row.start_time == 8 || row.start_time == 16) in
+    let end = is_between 1 24 row.end_time in
+    let number = nat_lt row.numberx 1000000000000000 in
+    let after_s_id = (both (is_between 1 16777216 row.s_id) (kind && (start && (end && number))) holds).1 in
+    let after_kind = (both kind (start && (end && number)) after_s_id).1 in
+    let on_start = both start (end && number) after_kind in
+    let on_end = both end number on_start.1 in
+    let start_time = start_is row.start_time on_start.0 in
+    let end_time = between_is 1 24 row.end_time on_end.0 in
+    record {
+      start_time_is = start_time;
+      start_time_below = omega arith;
+      end_time_from = end_time.0;
+      end_time_below = let to = end_time.1 in omega arith;
+      numberx_below = number_below row.numberx on_end.1;
+    }
+  where
+    start_is : (n : ℕ) → (n == 0 || (n == 8 || n == 16)) ≡ true → (n ≡ 0) ⊎ ((n ≡ 8) ⊎ (n ≡ 16))
+    start_is n holds = grind (arith, nat_tests)
+
+-- the numbers lie in a range from 0 exactly where each is at most its end
+each_between : (high : ℕ) (ns : List ℕ) → EachIndex ns (λ k. get_or ns k 0 ≤ high) → list_all (is_between 0 high) ns ≡ true
+each_between high [] each = refl
+each_between high (n ∷ ns) each =
+    both_from (is_between 0 high n) (list_all (is_between 0 high) ns) (between_from 0 high n (omega arith) (each 0 (omega arith)))
+    (each_between high ns (λ k within. each (suc k) (omega arith)))
+
+between_each : (high : ℕ) (ns : List ℕ) → list_all (is_between 0 high) ns ≡ true → EachIndex ns (λ k. get_or ns k 0 ≤ high)
+between_each high [] all k within = absurd (omega arith)
+between_each high (n ∷ ns) all zero within = (between_is 0 high n (both (is_between 0 high n) (list_all (is_between 0 high) ns) all).0).1
+between_each high (n ∷ ns) all (suc k) within = between_each high ns (both (is_between 0 high n) (list_all (is_between 0 high) ns) all).1 k (omega arith)
+
+-- a test of each number's bound is the test of a range from 0
+pub are_from_each : (size high : ℕ) (ns : List ℕ) (result : Bool) → (IsTrue result ↔ EachIndex ns (λ k. get_or ns k 0 ≤ high)) → length ns ≡ size → result ≡ are_between size 0 high ns
+are_from_each size high ns result each long =
+    let sized : (length ns == size) ≡ true = grind (arith, nat_tests) in
+    rw sized (alike result (list_all (is_between 0 high) ns) (λ holds. each_between high ns (each.0 holds)) (λ all. each.1 (between_each high ns all)))
+  where
+    alike : (a b : Bool) → (a ≡ true → b ≡ true) → (b ≡ true → a ≡ true) → a ≡ b
+    alike true b to from = sym (to refl)
+    alike false true to from = from refl
+    alike false false to from = refl
+
+-- what a range's answer says of the number
+pub between_ok : (low high n m : ℕ) → Ok m ≡ between low high n → (m ≡ n) × (is_between low high n ≡ true)
+between_ok low high n m answered =
+    by_test (is_between low high n)
+    (λ e. let same : Ok m ≡ Ok n = rw e at answered in (cc, e))
+    (λ e. let differ : Ok m ≡ Err Field = rw e at answered in absurd cc)
+
+-- a row in range is made as it is
+pub subscriber_of_ok : (row : SubscriberRow) → subscriber_in_range row ≡ true → subscriber_of row ≡ Ok row
+subscriber_of_ok row holds = rw holds refl
+
+-- what is known of the fields of a row that is made
+pub record AreChecked (s_id s sub_nbr : ℕ) (bits hexes bytes : List ℕ) (msc_location m vlr_location v : ℕ) : Type 0 where
+  pub s_id_is : Ok s ≡ between 1 16777216 s_id
+  pub sub_nbr_below : sub_nbr < 1000000000000000
+  pub bits_between : are_between 10 0 1 bits ≡ true
+  pub hexes_between : are_between 10 0 15 hexes ≡ true
+  pub bytes_between : are_between 10 0 255 bytes ≡ true
+  pub msc_location_is : Ok m ≡ between 1 4294967295 msc_location
+  pub vlr_location_is : Ok v ≡ between 1 4294967295 vlr_location
+
+module _ (s_id s sub_nbr : ℕ) (bits hexes bytes : List ℕ) (msc_location m vlr_location v : ℕ) (checked : AreChecked s_id s sub_nbr bits hexes bytes msc_location m vlr_location v) where
+  -- the fields given are in range
+  given_in_range : subscriber_in_range (record { s_id = s_id; sub_nbr = sub_nbr; bits = bits; hexes = hexes; bytes = bytes; msc_location = msc_location; vlr_location = vlr_location }) ≡ true
+  given_in_range =
+      both_from _ _ (between_ok 1 16777216 s_id s checked.s_id_is).1 (both_from _ _ (number_test sub_nbr checked.sub_nbr_below)
+      (both_from _ _ checked.bits_between (both_from _ _ checked.hexes_between (both_from _ _ checked.bytes_between
+      (both_from _ _ (between_ok 1 4294967295 msc_location m checked.msc_location_is).1 (between_ok 1 4294967295 vlr_location v checked.vlr_location_is).1)))))
+
+  -- the row that is made has them
+  pub made_is : Ok (record { s_id = s; sub_nbr = sub_nbr; bits = bits; hexes = hexes; bytes = bytes; msc_location = m; vlr_location = v })
+      ≡ subscriber_of (record { s_id = s_id; sub_nbr = sub_nbr; bits = bits; hexes = hexes; bytes = bytes; msc_location = msc_location; vlr_location = vlr_location })
+  made_is =
+      let s_id_is = (between_ok 1 16777216 s_id s checked.s_id_is).0 in
+      let msc_is = (between_ok 1 4294967295 msc_location m checked.msc_location_is).0 in
+      let vlr_is = (between_ok 1 4294967295 vlr_location v checked.vlr_location_is).0 in
+      rw (s_id_is, msc_is, vlr_is) (sym (subscriber_of_ok _ given_in_range))
+
+  -- and so is the row that is made
+  pub made_in_range : subscriber_in_range (record { s_id = s; sub_nbr = sub_nbr; bits = bits; hexes = hexes; bytes = bytes; msc_location = m; vlr_location = v }) ≡ true
+  made_in_range =
+      let s_id_is = (between_ok 1 16777216 s_id s checked.s_id_is).0 in
+      let msc_is = (between_ok 1 4294967295 msc_location m checked.msc_location_is).0 in
+      let vlr_is = (between_ok 1 4294967295 vlr_location v checked.vlr_location_is).0 in
+      rw (s_id_is, msc_is, vlr_is) given_in_range

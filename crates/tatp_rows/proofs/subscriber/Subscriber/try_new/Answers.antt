@@ -1,0 +1,21 @@
+-- The row that is made has the fields that were given, and they are in range.
+use Rattle.std.proofs.Common.{sym, arith}
+use Rattle.tatp_rows.proofs.RowLemmas.{AreChecked, made_is, made_in_range}
+use Rattle.tatp_rows.proofs.subscriber.Subscriber.try_new.Goals as goal
+
+checked : (c : goal.In_ok-vlr_location) → AreChecked c.args.s_id c.in_ok-s_id.s_id c.args.sub_nbr c.args.bits c.args.hexes c.args.bytes c.args.msc_location c.in_ok-msc_location.msc_location c.args.vlr_location c.in_ok-vlr_location.vlr_location
+checked c = record {
+  s_id_is = c.in_ok-s_id.ensures;
+  sub_nbr_below = let number = c.value-number.ensures.in_range in let same = c.value-number.ensures.value in omega arith;
+  bits_between = sym c.if-not-all_at_most.ensures;
+  hexes_between = sym c.if-not-all_at_most-2.ensures;
+  bytes_between = sym c.if-not-all_at_most-3.ensures;
+  msc_location_is = c.in_ok-msc_location.ensures;
+  vlr_location_is = c.in_ok-vlr_location.ensures;
+}
+
+pub invariant_of-result : goal.invariant_of-result
+invariant_of-result c = made_in_range _ _ _ _ _ _ _ _ _ _ (checked c)
+
+pub returns : goal.returns
+returns c = made_is _ _ _ _ _ _ _ _ _ _ (checked c)
