@@ -9,6 +9,8 @@ mod keys;
 mod number;
 mod refusal;
 mod subscriber;
+#[cfg(test)]
+mod tests;
 mod zones;
 
 pub use keys::{row_key, subscriber_key};

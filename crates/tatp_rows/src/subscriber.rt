@@ -77,6 +77,7 @@ impl Subscriber {
         }) }
     {
         let s_id = in_range(s_id, 16_777_216)?;
+        // A number is in range, as its reader says.
         let _number = sub_nbr.value();
         if !all_at_most(&bits, 1) || !all_at_most(&hexes, 15) || !all_at_most(&bytes, 255) {
             return Err(Refusal::Field);
