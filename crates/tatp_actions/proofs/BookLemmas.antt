@@ -1,0 +1,94 @@
+-- The rules of a book after an edit of its subscribers.
+use Rattle.std.proofs.Common.{◌≡◌, ℕ, ◌+◌, ◌-◌, ◌*◌, ◌<◌, ◌≤◌, ◌==◌, refl, arith, rules, Bool, true, false, ◌≢◌, List, [], ◌∷◌, Option, Some, None, IsSome, nat_lt, sym, ◌∙◌, subst, ap}
+use Rattle.std.specs.List.{AllByRecursion}
+use Rattle.std.proofs.lemmas.Bool.Decides.{nat_tests}
+use Rattle.tatp_rows.proofs.OrderedLemmas.{by_test, key_found, each_found, each-weaker, each-with_row_at, each-with_row, ordered-with_row_at, ordered-with_row, row_at-with_row_at_same, row_at-with_row_at_other, row_at-with_row_same, row_at-with_row_other}
+use Rattle.tatp_rows.specs.Keys.{key_of, subscriber_key}
+use Rattle.tatp_rows.specs.Ordered.{IsOrderedBy, row_at, with_row_at, with_row}
+use Rattle.tatp_rows.specs.Rows.{SubscriberRow, AccessInfoRow, SpecialFacilityRow, subscriber_in_range}
+use Rattle.tatp_actions.specs.Book.{Book, IsBook, IsRowsOf, IsWithin, subscriber_at}
+
+-- a found option is some
+some_is : {X : Type 0} (o : Option X) (x : X) → o ≡ Some x → IsSome o
+some_is o x e = rw e refl
+
+-- what is some is not none
+none_is_not : {X : Type 0} (o : Option X) → o ≡ None → IsSome o → ⊥
+none_is_not o e some = let no : false ≡ true = rw e at some in absurd cc
+
+-- what is found before an edit is found after it
+pub still_found-with_row_at : {X : Type 0} (key : X → ℕ) (j k : ℕ) (y : X) (xs : List X) → key y ≡ k → IsSome (row_at key j xs) → IsSome (row_at key j (with_row_at key k y xs))
+still_found-with_row_at key j k y xs at found =
+    by_test (j == k)
+    (λ e. let same : j ≡ k = grind (arith, nat_tests) in
+          let found' : IsSome (row_at key k xs) = subst (λ (i : ℕ). IsSome (row_at key i xs)) same found in
+          subst (λ (i : ℕ). IsSome (row_at key i (with_row_at key k y xs))) (sym same) (still key k y xs (row_at key k xs) refl at found'))
+    (λ e. let other : j ≢ k = grind (arith, nat_tests) in rw row_at-with_row_at_other found)
+  where
+    still : {X : Type 0} (key : X → ℕ) (k : ℕ) (y : X) (xs : List X) (o : Option X) → row_at key k xs ≡ o → key y ≡ k → IsSome o → IsSome (row_at key k (with_row_at key k y xs))
+    still key k y xs None e at some = absurd cc
+    still key k y xs (Some x) e at some = some_is _ y (row_at-with_row_at_same key k y xs x at e)
+
+pub still_found-with_row : {X : Type 0} (key : X → ℕ) (j : ℕ) (y : X) (xs : List X) → row_at key (key y) xs ≡ None → IsSome (row_at key j xs) → IsSome (row_at key j (with_row key y xs))
+still_found-with_row key j y xs absent found =
+    by_test (j == key y)
+    (λ e. let same : j ≡ key y = grind (arith, nat_tests) in
+          absurd (none_is_not (row_at key j xs) (ap (λ (i : ℕ). row_at key i xs) same ∙ absent) found))
+    (λ e. let other : j ≢ key y = grind (arith, nat_tests) in
+          subst IsSome (sym (row_at-with_row_other key j (key y) y xs refl other)) found)
+
+-- a book with other subscribers keeps the rules, where those of the subscribers hold and each that was found is found
+pub rules_of_subscribers : (lo hi : ℕ) (book : Book) (rows : List SubscriberRow) → IsRowsOf lo hi book
+    → IsOrderedBy subscriber_key rows → AllByRecursion (λ (row : SubscriberRow). subscriber_in_range row ≡ true) rows
+    → AllByRecursion (λ (row : SubscriberRow). IsWithin lo hi row.s_id) rows
+    → ((s : ℕ) → IsSome (subscriber_at book s) → IsSome (row_at subscriber_key (key_of s 0 0) rows))
+    → IsRowsOf lo hi (record book { subscribers = rows })
+rules_of_subscribers lo hi book rows old ordered in_range within still = record {
+    rules = record {
+      subscribers_ordered = ordered;
+      access_ordered = old.rules.access_ordered;
+      facilities_ordered = old.rules.facilities_ordered;
+      forwardings_ordered = old.rules.forwardings_ordered;
+      subscribers_in_range = in_range;
+      access_in_range = old.rules.access_in_range;
+      facilities_in_range = old.rules.facilities_in_range;
+      forwardings_in_range = old.rules.forwardings_in_range;
+      access_have_subscriber = each-weaker (λ (row : AccessInfoRow) found. still row.s_id found) book.access old.rules.access_have_subscriber;
+      facilities_have_subscriber = each-weaker (λ (row : SpecialFacilityRow) found. still row.s_id found) book.facilities old.rules.facilities_have_subscriber;
+      forwardings_have_facility = old.rules.forwardings_have_facility
+    };
+    subscribers = within;
+    access = old.access;
+    facilities = old.facilities;
+    forwardings = old.forwardings
+  }
+
+-- the key of the row that is found is that of its subscriber
+pub s_id_found : (book : Book) (s : ℕ) (row : SubscriberRow) → subscriber_at book s ≡ Some row → row.s_id ≡ s
+s_id_found book s row found = let at = key_found subscriber_key (key_of s 0 0) book.subscribers row found in omega (arith, at)
+
+-- another row of the same subscriber keeps the rules
+pub rules_of_move : (lo hi : ℕ) (book : Book) (s : ℕ) (row new : SubscriberRow) → IsRowsOf lo hi book → subscriber_at book s ≡ Some row
+    → new.s_id ≡ row.s_id → subscriber_in_range new ≡ true
+    → IsRowsOf lo hi (record book { subscribers = with_row_at subscriber_key (key_of s 0 0) new book.subscribers })
+rules_of_move lo hi book s row new old found same in_range =
+    let is = s_id_found book s row found in
+    let at : subscriber_key new ≡ key_of s 0 0 = omega arith in
+    let was = each_found subscriber_key (λ (r : SubscriberRow). IsWithin lo hi r.s_id) (key_of s 0 0) book.subscribers row old.subscribers found in
+    let within : IsWithin lo hi new.s_id = subst (λ (n : ℕ). IsWithin lo hi n) (sym same) was in
+    rules_of_subscribers lo hi book _ old
+    (ordered-with_row_at subscriber_key (key_of s 0 0) new book.subscribers at old.rules.subscribers_ordered)
+    (each-with_row_at subscriber_key (λ (r : SubscriberRow). subscriber_in_range r ≡ true) (key_of s 0 0) new book.subscribers in_range old.rules.subscribers_in_range)
+    (each-with_row_at subscriber_key (λ (r : SubscriberRow). IsWithin lo hi r.s_id) (key_of s 0 0) new book.subscribers within old.subscribers)
+    (λ j some. still_found-with_row_at subscriber_key (key_of j 0 0) (key_of s 0 0) new book.subscribers at some)
+
+-- one more subscriber keeps the rules
+pub rules_of_addition : (lo hi : ℕ) (book : Book) (row : SubscriberRow) → IsRowsOf lo hi book → subscriber_at book row.s_id ≡ None
+    → IsWithin lo hi row.s_id → subscriber_in_range row ≡ true
+    → IsRowsOf lo hi (record book { subscribers = with_row subscriber_key row book.subscribers })
+rules_of_addition lo hi book row old absent within in_range =
+    rules_of_subscribers lo hi book _ old
+    (ordered-with_row subscriber_key row book.subscribers absent old.rules.subscribers_ordered)
+    (each-with_row subscriber_key (λ (r : SubscriberRow). subscriber_in_range r ≡ true) row book.subscribers in_range old.rules.subscribers_in_range)
+    (each-with_row subscriber_key (λ (r : SubscriberRow). IsWithin lo hi r.s_id) row book.subscribers within old.subscribers)
+    (λ j some. still_found-with_row subscriber_key (key_of j 0 0) row book.subscribers absent some)

@@ -1,0 +1,74 @@
+-- What the notes of a change say of each cell.
+use Rattle.std.proofs.Common.{◌≡◌, ℕ, ◌+◌, ◌-◌, ◌<◌, ◌≤◌, ◌==◌, refl, arith, rules, Bool, true, false, List, [], ◌∷◌, nat_lt, if◌then◌else◌, sym, ◌∙◌, subst, ap}
+use Rattle.std.specs.Prelude.{ℤ, pos, negsuc, ◌+ℤ◌}
+use Rattle.std.proofs.lemmas.Bool.Decides.{nat_tests}
+use Rattle.std.proofs.lemmas.Int.{ints}
+use Rattle.tatp_rows.proofs.OrderedLemmas.{by_test}
+use Rattle.tatp_actions.specs.Change.{change_at, area_moved, subscriber_added}
+
+-- one for a test that holds, and none for one that doesn't
+abbrev pub one : Bool → ℕ
+one b = if b then 1 else 0
+
+-- a note of another cell leaves a cell
+pub note_other : (k c : ℕ) (z : ℤ) → (k ≡ c → ⊥) → (if k == c then z else pos 0) ≡ pos 0
+note_other k c z other = by_test (k == c) (λ e. absurd (other (grind (arith, nat_tests)))) (λ e. rw e refl)
+
+-- a note of a cell moves it
+pub note_same : (k c : ℕ) (z : ℤ) → k ≡ c → (if k == c then z else pos 0) ≡ z
+note_same k c z same = by_test (k == c) (λ e. rw e refl) (λ e. absurd (grind (arith, nat_tests)))
+
+-- two notes move a cell by the sum
+pub two_notes : (j k c : ℕ) (y z : ℤ) → change_at ((j, y) ∷ (k, z) ∷ []) c ≡ (if j == c then y else pos 0) +ℤ (if k == c then z else pos 0)
+two_notes j k c y z = omega (arith, ints)
+
+-- the notes of a move between areas leave the cells of start times and of zones
+pub area_moved-low : (from to c : ℕ) → c < 3 → change_at (area_moved from to) c ≡ pos 0
+area_moved-low from to c low =
+    by_test (from == to)
+    (λ e. rw e refl)
+    (λ e. rw (e, note_other (3 + from) c (negsuc 0) (λ h. omega arith), note_other (3 + to) c (pos 1) (λ h. omega arith)) refl)
+
+pub area_moved-zone : (from to z : ℕ) → from < 16 → to < 16 → change_at (area_moved from to) (19 + z) ≡ pos 0
+area_moved-zone from to z small small' =
+    by_test (from == to)
+    (λ e. rw e refl)
+    (λ e. rw (e, note_other (3 + from) (19 + z) (negsuc 0) (λ h. omega arith), note_other (3 + to) (19 + z) (pos 1) (λ h. omega arith)) refl)
+
+-- the notes of a move between areas are what the counts of an area show
+pub area_moved-area : (from to a n m : ℕ) → n + one (from == a) ≡ m + one (to == a) → pos n ≡ pos m +ℤ change_at (area_moved from to) (3 + a)
+area_moved-area from to a n m counted =
+    by_test (from == to)
+    (λ e. let same : from ≡ to = grind (arith, nat_tests) in
+          let counts : n + one (to == a) ≡ m + one (to == a) = subst (λ (f : ℕ). n + one (f == a) ≡ m + one (to == a)) same counted in
+          rw e (omega (arith, ints)))
+    (λ e. by_test (from == a)
+        (λ f. by_test (to == a) (λ g. absurd (grind (arith, nat_tests)))
+            (λ g. let counts : n + 1 ≡ m + 0 = rw (f, g) at counted in
+                  rw (e, note_same (3 + from) (3 + a) (negsuc 0) (grind (arith, nat_tests)), note_other (3 + to) (3 + a) (pos 1) (λ h. grind (arith, nat_tests))) (omega (arith, ints))))
+        (λ f. by_test (to == a)
+            (λ g. let counts : n + 0 ≡ m + 1 = rw (f, g) at counted in
+                  rw (e, note_other (3 + from) (3 + a) (negsuc 0) (λ h. grind (arith, nat_tests)), note_same (3 + to) (3 + a) (pos 1) (grind (arith, nat_tests))) (omega (arith, ints)))
+            (λ g. let counts : n + 0 ≡ m + 0 = rw (f, g) at counted in
+                  rw (e, note_other (3 + from) (3 + a) (negsuc 0) (λ h. grind (arith, nat_tests)), note_other (3 + to) (3 + a) (pos 1) (λ h. grind (arith, nat_tests))) (omega (arith, ints)))))
+
+-- the notes of a new subscriber: none for a start time, one for its area, one for its zone
+pub subscriber_added-low : (area zone c : ℕ) → c < 3 → change_at (subscriber_added area zone) c ≡ pos 0
+subscriber_added-low area zone c low =
+    rw (note_other (3 + area) c (pos 1) (λ h. omega arith), note_other (19 + zone) c (pos 1) (λ h. omega arith)) refl
+
+pub subscriber_added-area : (area zone a n m : ℕ) → a < 16 → n ≡ one (area == a) + m → pos n ≡ pos m +ℤ change_at (subscriber_added area zone) (3 + a)
+subscriber_added-area area zone a n m small counted =
+    by_test (area == a)
+    (λ e. let counts : n ≡ 1 + m = rw e at counted in
+          rw (note_same (3 + area) (3 + a) (pos 1) (grind (arith, nat_tests)), note_other (19 + zone) (3 + a) (pos 1) (λ h. omega arith)) (omega (arith, ints)))
+    (λ e. let counts : n ≡ 0 + m = rw e at counted in
+          rw (note_other (3 + area) (3 + a) (pos 1) (λ h. grind (arith, nat_tests)), note_other (19 + zone) (3 + a) (pos 1) (λ h. omega arith)) (omega (arith, ints)))
+
+pub subscriber_added-zone : (area zone z n m : ℕ) → area < 16 → n ≡ one (zone == z) + m → pos n ≡ pos m +ℤ change_at (subscriber_added area zone) (19 + z)
+subscriber_added-zone area zone z n m small counted =
+    by_test (zone == z)
+    (λ e. let counts : n ≡ 1 + m = rw e at counted in
+          rw (note_other (3 + area) (19 + z) (pos 1) (λ h. omega arith), note_same (19 + zone) (19 + z) (pos 1) (grind (arith, nat_tests))) (omega (arith, ints)))
+    (λ e. let counts : n ≡ 0 + m = rw e at counted in
+          rw (note_other (3 + area) (19 + z) (pos 1) (λ h. omega arith), note_other (19 + zone) (19 + z) (pos 1) (λ h. grind (arith, nat_tests))) (omega (arith, ints)))

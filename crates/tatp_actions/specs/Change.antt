@@ -1,0 +1,27 @@
+-- The change of an action: by how much each cell rises or falls.
+use Rattle.std.specs.Prelude.{◌≡◌, ℕ, ◌+◌, ◌<◌, ◌==◌, List, [], ◌∷◌, ℤ, pos, negsuc, ◌+ℤ◌, ◌≤ℤ◌, if◌then◌else◌}
+use Rattle.tatp_actions.specs.Book.{Book}
+use Rattle.tatp_actions.specs.Cell.{cell}
+use Rattle.tatp_actions.specs.declared.cells.TheConstants.{CELLS, FIRST_AREA, FIRST_ZONE}
+
+-- a note names a cell, and its amount is at most 8 in size
+abbrev pub IsNote : ℕ × ℤ → Type 0
+IsNote note = (note.0 < CELLS) × (negsuc 7 ≤ℤ note.1) × (note.1 ≤ℤ pos 8)
+
+-- by how much the notes move a cell in all
+abbrev pub change_at : List (ℕ × ℤ) → ℕ → ℤ
+change_at [] c = pos 0
+change_at (note ∷ notes) c = (if note.0 == c then note.1 else pos 0) +ℤ change_at notes c
+
+-- the notes are the exact change of every cell from one book to another
+abbrev pub IsChange : ℕ → Book → Book → List (ℕ × ℤ) → Type 0
+IsChange width before after notes =
+    (c : ℕ) → c < CELLS → pos (cell width c after) ≡ pos (cell width c before) +ℤ change_at notes c
+
+-- the notes of a subscriber that moves from one area to another
+abbrev pub area_moved : ℕ → ℕ → List (ℕ × ℤ)
+area_moved from to = if from == to then [] else (FIRST_AREA + from, negsuc 0) ∷ (FIRST_AREA + to, pos 1) ∷ []
+
+-- the notes of a subscriber that is added
+abbrev pub subscriber_added : ℕ → ℕ → List (ℕ × ℤ)
+subscriber_added area zone = (FIRST_AREA + area, pos 1) ∷ (FIRST_ZONE + zone, pos 1) ∷ []

@@ -1,0 +1,7 @@
+pub mod Action
+pub mod Book
+pub mod Cell
+pub mod Change
+pub mod Part
+pub mod Table
+pub mod Recount

@@ -1,0 +1,56 @@
+//! The 51 cells, and where their kinds begin.
+ghost use Rattle.std.specs.Prelude.{◌≡◌, ℕ, ◌<◌, ◌+◌, ◌≤◌, ◌^◌, ◌==◌, List, length, slice_index, slice_set, replicate};
+
+use std::marker::Model;
+
+/// How many cells there are: active forwardings by start time 0, 8 and 16, subscribers by 16 areas, and
+/// rows by 32 zones.
+pub const CELLS: u8 = 51;
+
+/// The cell of area 0; area a has cell `FIRST_AREA + a`.
+pub const FIRST_AREA: u8 = 3;
+
+/// The cell of zone 0; zone z has cell `FIRST_ZONE + z`.
+pub const FIRST_ZONE: u8 = 19;
+
+/// A count for each cell.
+#[derive(Clone, Copy, Debug, PartialEq, Eq)]
+pub struct Cells {
+    counts: [u64; 51],
+}
+
+impl Model for Cells {
+    ghost Value = { List ℕ };
+
+    ghost view = { λ c. c.counts };
+
+    ghost invariant = { λ c. length c.counts ≡ 51 };
+
+    ghost inverse = { λ ns. record { counts = ns } };
+}
+
+impl Cells {
+    /// A count of 0 for each cell.
+    pub fn zero() -> Self
+        ensures { result ≡ replicate 51 0 }
+    {
+        Cells { counts: [0; 51] }
+    }
+
+    /// The count of a cell.
+    pub fn get(&self, cell: u8) -> u64
+        requires { cell < CELLS }
+        ensures { result ≡ slice_index self.now cell }
+    {
+        self.counts[usize::from(cell)]
+    }
+
+    /// Counts one more in a cell.
+    pub fn count_one(&mut self, cell: u8)
+        requires cell { cell < CELLS }
+        requires room { slice_index self.old cell + 1 < 2 ^ 64 }
+        ensures { self.new ≡ slice_set self.old cell (slice_index self.old cell + 1) }
+    {
+        self.counts[usize::from(cell)] += 1;
+    }
+}

@@ -1,0 +1,85 @@
+//! By how much an action moves the cells.
+ghost use Rattle.std.specs.Prelude.{◌≡◌, ℕ, ◌+◌, ◌<◌, ◌≤◌, List, [], ◌∷◌, ◌++◌, length, ℤ, pos, negsuc, ◌≤ℤ◌, if◌then◌else◌, ◌==◌};
+ghost use Rattle.std.specs.List.{AllByRecursion};
+ghost use Rattle.tatp_rows.specs.Zones.{area_of};
+ghost use Rattle.tatp_actions.specs.Change.{IsNote, area_moved, subscriber_added};
+
+use crate::cells::{FIRST_AREA, FIRST_ZONE};
+use arrayvec::ArrayVec;
+use std::marker::Model;
+use tatp_rows::area;
+
+/// The most notes that one change has.
+pub const NOTES: usize = 8;
+
+/// By how much an action moves the cells: at most eight notes, each a cell and its amount.
+#[derive(Debug, Drop)]
+pub struct Change {
+    notes: ArrayVec<(u8, i64), 8>,
+}
+
+impl Model for Change {
+    ghost use Rattle.std.specs.Prelude.{ℕ, ◌≤◌, List, length, ℤ};
+    ghost use Rattle.std.specs.List.{AllByRecursion};
+    ghost use Rattle.tatp_actions.specs.Change.{IsNote};
+
+    ghost Value = { List (ℕ × ℤ) };
+
+    ghost view = { λ c. c.notes.items };
+
+    ghost invariant = { λ c. (length c.notes.items ≤ 8) × AllByRecursion IsNote c.notes.items };
+}
+
+impl Change {
+    /// The change that moves no cell.
+    pub fn none() -> Self
+        ensures { result ≡ [] }
+    {
+        Change {
+            notes: ArrayVec::new(),
+        }
+    }
+
+    /// The notes, each a cell and by how much it moves.
+    pub fn notes(&self) -> &[(u8, i64)]
+        ensures value { result.now ≡ self.now }
+        ensures few { length result.now ≤ 8 }
+        ensures small { AllByRecursion IsNote result.now }
+    {
+        self.notes.as_slice()
+    }
+
+    /// Notes that a cell moves by an amount.
+    fn note(&mut self, cell: u8, amount: i64)
+        requires room { length self.old < 8 }
+        requires note { IsNote (cell, amount) }
+        ensures { self.new ≡ self.old ++ (cell, amount) ∷ [] }
+    {
+        self.notes.push((cell, amount));
+    }
+
+    /// The change where a subscriber moves from one location to another: none within an area.
+    pub(crate) fn location_moved(from: u32, to: u32) -> Self
+        ensures { result ≡ area_moved (area_of from) (area_of to) }
+    {
+        let mut change = Change::none();
+        let old = area(from);
+        let new = area(to);
+        if old != new {
+            change.note(FIRST_AREA + old, -1);
+            change.note(FIRST_AREA + new, 1);
+        }
+        change
+    }
+
+    /// The change where a subscriber is added at a location, in a zone.
+    pub(crate) fn subscriber_added(vlr_location: u32, zone: u8) -> Self
+        requires { zone < 32 }
+        ensures { result ≡ subscriber_added (area_of vlr_location) zone }
+    {
+        let mut change = Change::none();
+        change.note(FIRST_AREA + area(vlr_location), 1);
+        change.note(FIRST_ZONE + zone, 1);
+        change
+    }
+}

@@ -1,0 +1,27 @@
+//! A part of the store: the rows of a range of subscribers, the actions on them, and by how much each action
+//! moves each of the 51 cells.
+//!
+//! The seven transactions are those of the TATP benchmark (its description, section 3). A part belongs to one
+//! owner, as a sub-tree does in physiological partitioning (PLP), so no call takes a latch.
+#![tactic(auto)]
+
+mod action;
+mod cells;
+mod change;
+mod part;
+mod recount;
+mod rows;
+mod table;
+#[cfg(test)]
+mod table_tests;
+#[cfg(test)]
+mod tests;
+mod trees;
+
+pub use action::{Action, RowReply};
+pub use cells::{CELLS, Cells, FIRST_AREA, FIRST_ZONE};
+pub use change::Change;
+pub use part::Part;
+pub use rows::Rows;
+pub use table::Table;
+pub use trees::Trees;

@@ -1,0 +1,140 @@
+//! A table of rows over a sorted vector.
+ghost use Rattle.std.specs.Prelude.{◌≡◌, ℕ, ◌+◌, ◌<◌, [], ◌∷◌, List, length, Option, Some, None, nat_lt, ◌≤◌, IsSome, IsNone, IsErrAnd, IfOk, IfErr, OnOk, OnErr, option_copied, option_map, ok_or};
+ghost use Rattle.std.specs.List.{prefix_len};
+ghost use Rattle.tatp_rows.specs.Ordered.{IsOrderedBy, row_at, with_row_at, with_row, without_row};
+ghost use Rattle.tatp_actions.specs.Table.{first_at, FoldsPairs};
+
+use std::alloc::Global;
+use std::marker::Model;
+use std::mem;
+use tatp_rows::{Back, Refusal};
+
+/// A table of values by key, in one vector that is sorted by key.
+///
+/// It is seen as the list of its pairs (key, value), ordered by key.
+#[derive(Drop)]
+pub struct Table<V> {
+    entries: Vec<(u64, V)>,
+}
+
+impl<V> Model for Table<V> {
+    ghost use Rattle.std.specs.Prelude.{ℕ, List};
+    ghost use Rattle.std.specs.Coded.{coded_list, coded×, coded_ℕ};
+    ghost use Rattle.tatp_rows.specs.Ordered.{IsOrderedBy};
+
+    ghost Value = { List (ℕ × V) };
+
+    ghost coded = { coded_list (coded× coded_ℕ V.code) };
+
+    ghost view = { λ t. t.entries.items };
+
+    ghost invariant = { λ t. IsOrderedBy (λ pair. pair.0) t.entries.items };
+}
+
+impl<V> Table<V> {
+    /// A table with no entry.
+    pub fn new(alloc: Global) -> Self
+        ensures { result ≡ [] }
+    {
+        Table {
+            entries: Vec::new(alloc),
+        }
+    }
+
+    /// How many entries the table has.
+    pub fn len(&self) -> usize
+        ensures { result ≡ length self.now }
+    {
+        self.entries.len()
+    }
+
+    /// How many entries have a key below this one: where its entry is, or would be.
+    fn place_of(&self, key: u64) -> usize
+        ensures place { result ≡ prefix_len (λ pair. nat_lt pair.0 key) self.now }
+        ensures within { result ≤ length self.now }
+        ensures ordered { IsOrderedBy (λ pair. pair.0) self.now }
+    {
+        self.entries.partition_point(|entry| entry.0 < key)
+    }
+
+    /// The value at a key.
+    pub fn get(&self, key: u64) -> Option<&V>
+        ensures { option_copied result ≡ option_map (λ pair. pair.1) (row_at (λ pair. pair.0) key self.now) }
+    {
+        let at = self.place_of(key);
+        let entry = self.entries.get(at)?;
+        if entry.0 == key { Some(&entry.1) } else { None }
+    }
+
+    /// Replaces the value at a key, and hands back the old one; where there is none, hands back the value.
+    pub fn replace(&mut self, key: u64, value: V) -> Result<V, V>
+        ensures value { result ≡ ok_or (option_map (λ pair. pair.1) (row_at (λ pair. pair.0) key self.old)) value }
+        ensures rows { self.new ≡ with_row_at (λ pair. pair.0) key (key, value) self.old }
+    {
+        let at = self.place_of(key);
+        if at == self.entries.len() || self.entries[at].0 != key {
+            return Err(value);
+        }
+        Ok(mem::replace(&mut self.entries[at].1, value))
+    }
+
+    /// Adds an entry. `Exists` where the key has one, `Memory` where a growth was refused: then the table is as
+    /// before, and the value is handed back.
+    pub fn insert(&mut self, key: u64, value: V) -> Result<(), Back<V>>
+        requires { key < 18446744073709551614 }
+        ensures taken { IsSome (row_at (λ pair. pair.0) key self.old) → IsErrAnd result (λ back. back.why ≡ Refusal.Exists) }
+        ensures free { IsNone (row_at (λ pair. pair.0) key self.old) → IfErr result (λ back. back.why ≡ Refusal.Memory) }
+        ensures ok { OnOk result (self.new ≡ with_row (λ pair. pair.0) (key, value) self.old) }
+        ensures item { IfErr result (λ back. back.item ≡ value) }
+        ensures err { OnErr result (self.new ≡ self.old) }
+    {
+        let at = self.place_of(key);
+        if at < self.entries.len() && self.entries[at].0 == key {
+            return Err(Back {
+                why: Refusal::Exists,
+                item: value,
+            });
+        }
+        match self.entries.insert(at, (key, value)) {
+            Ok(()) => Ok(()),
+            Err(refused) => Err(Back {
+                why: Refusal::Memory,
+                item: refused.value.1,
+            }),
+        }
+    }
+
+    /// Takes the entry at a key away, where there is one.
+    pub fn remove(&mut self, key: u64) -> Option<V>
+        ensures value { result ≡ option_map (λ pair. pair.1) (row_at (λ pair. pair.0) key self.old) }
+        ensures rows { self.new ≡ without_row (λ pair. pair.0) key self.old }
+    {
+        let at = self.place_of(key);
+        if at == self.entries.len() || self.entries[at].0 != key {
+            return None;
+        }
+        let (_, value) = self.entries.remove(at);
+        Some(value)
+    }
+
+    /// The first entry from a key on.
+    pub fn first_from(&self, key: u64) -> Option<(u64, &V)>
+        ensures { option_map (λ entry. (entry.0, entry.1.now)) result ≡ first_at (λ pair. pair.0) key self.now }
+    {
+        let at = self.place_of(key);
+        let entry = self.entries.get(at)?;
+        Some((entry.0, &entry.1))
+    }
+
+    /// Folds over the entries, in the order of their keys.
+    pub fn fold<A: Drop, F: Fn(A, u64, &V) -> A>(&self, init: A, f: F) -> A
+        requires { F.IsAlwaysCallable f }
+        ensures { FoldsPairs (λ a key value b. F.post f a key value b) init self.now result }
+    {
+        let mut folded = init;
+        for entry in &self.entries {
+            folded = f(folded, entry.0, &entry.1);
+        }
+        folded
+    }
+}
