@@ -1,7 +1,6 @@
 -- What each action does to a part, from what it does to the rows.
-use Rattle.std.proofs.Common.{◌≡◌, ℕ, ◌+◌, ◌-◌, ◌*◌, ◌<◌, ◌≤◌, ◌==◌, ◌^◌, min, refl, arith, rules, Bool, true, false, List, [], ◌∷◌, Option, Some, None, IsSome, IsNone, nat_lt, nat_le, sym, ◌∙◌, subst, ap, inl, inr, map}
+use Rattle.std.proofs.Common.{◌≡◌, ℕ, ◌+◌, ◌<◌, ◌≤◌, min, refl, arith, rules, true, false, List, [], Option, Some, None, IsSome, IsNone, nat_le, sym, ◌∙◌, subst, ap, inl, inr}
 use Rattle.std.specs.Prelude.{ℤ, option_map}
-use Rattle.std.specs.List.{AllByRecursion}
 use Rattle.std.proofs.lemmas.Bool.Decides.{nat_tests}
 use Rattle.std.proofs.lemmas.Int.{ints}
 use Rattle.tatp_rows.proofs.MapLemmas.{row_at-pairs, with_row_at-pairs, with_row-pairs}
@@ -14,12 +13,11 @@ use Rattle.tatp_rows.specs.Zones.{zone_of, area_of}
 use Rattle.tatp_rows.specs.declared.refusal.Refusal.{Refusal}
 use Rattle.tatp_rows.specs.declared.refusal.Refusal.TheVariants as refusal
 use Rattle.tatp_actions.specs.Action.{IsOutcome, effect, is_in_range}
-use Rattle.tatp_actions.specs.Book.{Book, IsRowsOf, IsWithin, subscriber_at}
-use Rattle.tatp_actions.specs.Change.{IsChange, area_moved, subscriber_added, change_at}
+use Rattle.tatp_actions.specs.Book.{Book, IsWithin, subscriber_at}
+use Rattle.tatp_actions.specs.Change.{IsChange, area_moved, subscriber_added}
 use Rattle.tatp_actions.specs.Part.{PartState, IsPart, IsKeyed, stored_book, Acts}
 use Rattle.tatp_actions.specs.declared.action.Action.{Action}
 use Rattle.tatp_actions.specs.declared.action.Action.TheVariants.{SubscriberData, UpdateLocation, AddSubscriber}
-use Rattle.tatp_actions.specs.declared.action.RowReply.{RowReply}
 use Rattle.tatp_actions.specs.declared.action.RowReply.TheVariants as reply
 use Rattle.tatp_actions.proofs.BookLemmas.{rules_of_move, rules_of_addition, s_id_found}
 use Rattle.tatp_actions.proofs.CellLemmas.{change_of_move, change_of_addition}
@@ -36,23 +34,23 @@ no_change width book c within = omega (arith, ints)
 pub acts_refused : (action : Action) (before : PartState) (why : Refusal) (book : Book) (asked : ℕ) → book ≡ before.book → IsOutcome action before.book (reply.Refused why) before.book → asked ≤ before.asked + 8
     → Acts action before (reply.Refused why) [] (record before { book = book; asked = asked })
 acts_refused action before why book asked same outcome few = rw same (record {
-    outcome = outcome;
-    counted = no_change before.width before.book;
-    refused = λ other is. (refl, refl);
-    range = (refl, refl, refl);
-    asked = few
-  })
+  outcome = outcome;
+  counted = no_change before.width before.book;
+  refused = λ other is. (refl, refl);
+  range = (refl, refl, refl);
+  asked = few;
+})
 
 -- a row that is read leaves the part, but for how often it was asked
 pub acts_read : (before : PartState) (s : ℕ) (row : SubscriberRow) (book : Book) (asked : ℕ) → book ≡ before.book → is_in_range (SubscriberData s) ≡ true → subscriber_at before.book s ≡ Some row → asked ≤ before.asked + 8
     → Acts (SubscriberData s) before (reply.Row row) [] (record before { book = book; asked = asked })
 acts_read before s row book asked same in_range found few = rw same (record {
-    outcome = inr (inl (in_range, rw found refl));
-    counted = no_change before.width before.book;
-    refused = λ other is. (refl, refl);
-    range = (refl, refl, refl);
-    asked = few
-  })
+  outcome = inr (inl (in_range, rw found refl));
+  counted = no_change before.width before.book;
+  refused = λ other is. (refl, refl);
+  range = (refl, refl, refl);
+  asked = few;
+})
 
 -- no refusal is Done
 not_done : {A : Type 0} (why : Refusal) → reply.Done ≡ reply.Refused why → A
@@ -64,12 +62,12 @@ pub acts_moved : (before : PartState) (s v : ℕ) (row : SubscriberRow) (book : 
     → is_in_range (UpdateLocation s v) ≡ true → subscriber_at before.book s ≡ Some row → area_of row.vlr_location < 16 → area_of v < 16 → asked ≤ before.asked + 8
     → Acts (UpdateLocation s v) before reply.Done (area_moved (area_of row.vlr_location) (area_of v)) (record before { book = book; asked = asked })
 acts_moved before s v row book asked is in_range found small small' few = rw is (record {
-    outcome = inr (inl (in_range, rw found refl));
-    counted = change_of_move before.width before.book s row (record row { vlr_location = v }) found refl small small';
-    refused = λ why done. not_done why done;
-    range = (refl, refl, refl);
-    asked = few
-  })
+  outcome = inr (inl (in_range, rw found refl));
+  counted = change_of_move before.width before.book s row (record row { vlr_location = v }) found refl small small';
+  refused = λ why done. not_done why done;
+  range = (refl, refl, refl);
+  asked = few;
+})
 
 -- a row that is added
 pub acts_added : (before : PartState) (row : SubscriberRow) (book : Book) (asked : ℕ)
@@ -77,12 +75,12 @@ pub acts_added : (before : PartState) (row : SubscriberRow) (book : Book) (asked
     → subscriber_in_range row ≡ true → subscriber_at before.book row.s_id ≡ None → area_of row.vlr_location < 16 → asked ≤ before.asked + 8
     → Acts (AddSubscriber row) before reply.Done (subscriber_added (area_of row.vlr_location) (zone_of before.width row.s_id)) (record before { book = book; asked = asked })
 acts_added before row book asked is in_range absent small few = rw is (record {
-    outcome = inr (inl (in_range, rw absent refl));
-    counted = change_of_addition before.width before.book row small;
-    refused = λ why done. not_done why done;
-    range = (refl, refl, refl);
-    asked = few
-  })
+  outcome = inr (inl (in_range, rw absent refl));
+  counted = change_of_addition before.width before.book row small;
+  refused = λ why done. not_done why done;
+  range = (refl, refl, refl);
+  asked = few;
+})
 
 -- a part with another location for a subscriber keeps its rules
 pub part_moved : (part : PartState) (s v : ℕ) (row : SubscriberRow) (book : Book) (asked : ℕ)
@@ -90,10 +88,10 @@ pub part_moved : (part : PartState) (s v : ℕ) (row : SubscriberRow) (book : Bo
     → IsPart part → subscriber_at part.book s ≡ Some row → subscriber_in_range (record row { vlr_location = v }) ≡ true
     → IsPart (record part { book = book; asked = asked })
 part_moved part s v row book asked is old found in_range = rw is (record {
-    range = old.range;
-    width = old.width;
-    rows = rules_of_move part.lo part.hi part.book s row (record row { vlr_location = v }) old.rows found refl in_range
-  })
+  range = old.range;
+  width = old.width;
+  rows = rules_of_move part.lo part.hi part.book s row (record row { vlr_location = v }) old.rows found refl in_range;
+})
 
 -- a part with one more subscriber keeps its rules
 pub part_added : (part : PartState) (row : SubscriberRow) (book : Book) (asked : ℕ)
@@ -101,10 +99,10 @@ pub part_added : (part : PartState) (row : SubscriberRow) (book : Book) (asked :
     → IsPart part → subscriber_at part.book row.s_id ≡ None → IsWithin part.lo part.hi row.s_id → subscriber_in_range row ≡ true
     → IsPart (record part { book = book; asked = asked })
 part_added part row book asked is old absent within in_range = rw is (record {
-    range = old.range;
-    width = old.width;
-    rows = rules_of_addition part.lo part.hi part.book row old.rows absent within in_range
-  })
+  range = old.range;
+  width = old.width;
+  rows = rules_of_addition part.lo part.hi part.book row old.rows absent within in_range;
+})
 
 -- stored pairs: the row that is found, and the book after an edit of the pairs
 pub stored_found : (pairs : List (ℕ × SubscriberRow)) (s : ℕ) (row : Option SubscriberRow) → IsKeyed subscriber_key pairs
@@ -165,24 +163,25 @@ pub update_acts : (pairs pairs1 pairs2 : List (ℕ × SubscriberRow)) (n n1 n2 l
     → pairs2 ≡ with_row_at (λ (p : ℕ × SubscriberRow). p.0) key (key, new) pairs1 → n2 ≡ min (n1 + 1) 18446744073709551615
     → notes ≡ area_moved (area_of row.vlr_location) (area_of v)
     → Acts (UpdateLocation s v) (part_of pairs n lo hi width) reply.Done notes (part_of pairs2 n2 lo hi width)
-      × IsPart (part_of pairs2 n2 lo hi width) × IsKeyed subscriber_key pairs2
+    × IsPart (part_of pairs2 n2 lo hi width) × IsKeyed subscriber_key pairs2
 update_acts pairs pairs1 pairs2 n n1 n2 lo hi width key s v row new notes at rules keyed within one few after found is edit asked noted =
     let found' : Some row ≡ option_map (λ (p : ℕ × SubscriberRow). p.1) (row_at (λ (p : ℕ × SubscriberRow). p.0) (key_of s 0 0) pairs) = subst (λ (k : ℕ). Some row ≡ option_map (λ (p : ℕ × SubscriberRow). p.1) (row_at (λ (p : ℕ × SubscriberRow). p.0) k pairs)) at found in
     let here : subscriber_at (stored_book pairs) s ≡ Some row = stored_found pairs s (Some row) keyed found' in
     let in_range = each_found subscriber_key (λ (r : SubscriberRow). subscriber_in_range r ≡ true) (key_of s 0 0) (stored_book pairs).subscribers row rules.rows.rules.subscribers_in_range here in
     let ranges = subscriber_ranges row in_range in
     let edit' : pairs2 ≡ with_row_at (λ (p : ℕ × SubscriberRow). p.0) (key_of s 0 0) (key_of s 0 0, record row { vlr_location = v }) pairs =
-        edit ∙ ap (λ (ps : List (ℕ × SubscriberRow)). with_row_at (λ (p : ℕ × SubscriberRow). p.0) key (key, new) ps) after.0
-        ∙ ap (λ (r : SubscriberRow). with_row_at (λ (p : ℕ × SubscriberRow). p.0) key (key, r) pairs) is
-        ∙ ap (λ (k : ℕ). with_row_at (λ (p : ℕ × SubscriberRow). p.0) k (k, record row { vlr_location = v }) pairs) at in
+    edit ∙ ap (λ (ps : List (ℕ × SubscriberRow)). with_row_at (λ (p : ℕ × SubscriberRow). p.0) key (key, new) ps) after.0
+    ∙ ap (λ (r : SubscriberRow). with_row_at (λ (p : ℕ × SubscriberRow). p.0) key (key, r) pairs) is
+    ∙ ap (λ (k : ℕ). with_row_at (λ (p : ℕ × SubscriberRow). p.0) k (k, record row { vlr_location = v }) pairs) at in
     let same = s_id_found (stored_book pairs) s row here in
     let own : key_of s 0 0 ≡ subscriber_key (record row { vlr_location = v }) = omega arith in
     let book : stored_book pairs2 ≡ record (stored_book pairs) { subscribers = with_row_at subscriber_key (key_of s 0 0) (record row { vlr_location = v }) (stored_book pairs).subscribers } =
-        ap stored_book edit' ∙ stored_moved pairs (key_of s 0 0) (record row { vlr_location = v }) keyed in
-    let in_range' = relocated_in_range row v one few in_range in
-    (rw noted (acts_moved (part_of pairs n lo hi width) s v row (stored_book pairs2) n2 book (is_location (part_of pairs n lo hi width) s v rules within one few) here (area_below row.vlr_location ranges.vlr_location_below) (area_below v few) (asked_twice n n1 n2 after.1 asked)),
-     part_moved (part_of pairs n lo hi width) s v row (stored_book pairs2) n2 book rules here in_range',
-     subst (IsKeyed subscriber_key) (sym edit') (keyed_moved pairs (key_of s 0 0) (record row { vlr_location = v }) own keyed))
+    ap stored_book edit' ∙ stored_moved pairs (key_of s 0 0) (record row { vlr_location = v }) keyed in
+    let in_range' = relocated_in_range row v one few in_range in (
+      rw noted (acts_moved (part_of pairs n lo hi width) s v row (stored_book pairs2) n2 book (is_location (part_of pairs n lo hi width) s v rules within one few) here (area_below row.vlr_location ranges.vlr_location_below) (area_below v few) (asked_twice n n1 n2 after.1 asked)),
+      part_moved (part_of pairs n lo hi width) s v row (stored_book pairs2) n2 book rules here in_range',
+      subst (IsKeyed subscriber_key) (sym edit') (keyed_moved pairs (key_of s 0 0) (record row { vlr_location = v }) own keyed),
+    )
 
 -- the one call of an addition, where it was done
 pub addition_acts : (pairs pairs1 : List (ℕ × SubscriberRow)) (n n1 lo hi width key : ℕ) (row : SubscriberRow) (notes : List (ℕ × ℤ))
@@ -191,16 +190,17 @@ pub addition_acts : (pairs pairs1 : List (ℕ × SubscriberRow)) (n n1 lo hi wid
     → pairs1 ≡ with_row (λ (p : ℕ × SubscriberRow). p.0) (key, row) pairs → n1 ≡ min (n + 1) 18446744073709551615
     → notes ≡ subscriber_added (area_of row.vlr_location) (zone_of width row.s_id)
     → Acts (AddSubscriber row) (part_of pairs n lo hi width) reply.Done notes (part_of pairs1 n1 lo hi width)
-      × IsPart (part_of pairs1 n1 lo hi width) × IsKeyed subscriber_key pairs1
+    × IsPart (part_of pairs1 n1 lo hi width) × IsKeyed subscriber_key pairs1
 addition_acts pairs pairs1 n n1 lo hi width key row notes at rules keyed within in_range absent edit asked noted =
     let absent' : row_at (λ (p : ℕ × SubscriberRow). p.0) (key_of row.s_id 0 0) pairs ≡ None = subst (λ (k : ℕ). row_at (λ (p : ℕ × SubscriberRow). p.0) k pairs ≡ None) at absent in
     let here : subscriber_at (stored_book pairs) row.s_id ≡ None = stored_found pairs row.s_id None keyed (sym (ap (option_map (λ (p : ℕ × SubscriberRow). p.1)) absent')) in
     let book : stored_book pairs1 ≡ record (stored_book pairs) { subscribers = with_row subscriber_key row (stored_book pairs).subscribers } =
-        ap stored_book edit ∙ stored_added pairs key row at keyed in
-    let ranges = subscriber_ranges row in_range in
-    (rw noted (acts_added (part_of pairs n lo hi width) row (stored_book pairs1) n1 book in_range here (area_below row.vlr_location ranges.vlr_location_below) (asked_once n n1 asked)),
-     part_added (part_of pairs n lo hi width) row (stored_book pairs1) n1 book rules here within in_range,
-     subst (IsKeyed subscriber_key) (sym edit) (keyed_added pairs key row at keyed))
+    ap stored_book edit ∙ stored_added pairs key row at keyed in
+    let ranges = subscriber_ranges row in_range in (
+      rw noted (acts_added (part_of pairs n lo hi width) row (stored_book pairs1) n1 book in_range here (area_below row.vlr_location ranges.vlr_location_below) (asked_once n n1 asked)),
+      part_added (part_of pairs n lo hi width) row (stored_book pairs1) n1 book rules here within in_range,
+      subst (IsKeyed subscriber_key) (sym edit) (keyed_added pairs key row at keyed),
+    )
 
 -- a refusal that comes after one call
 pub refusal_acts : (action : Action) (pairs pairs1 : List (ℕ × SubscriberRow)) (n n1 lo hi width : ℕ) (why : Refusal)

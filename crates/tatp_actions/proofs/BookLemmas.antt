@@ -1,12 +1,12 @@
 -- The rules of a book after an edit of its subscribers.
-use Rattle.std.proofs.Common.{◌≡◌, ℕ, ◌+◌, ◌-◌, ◌*◌, ◌<◌, ◌≤◌, ◌==◌, refl, arith, rules, Bool, true, false, ◌≢◌, List, [], ◌∷◌, Option, Some, None, IsSome, nat_lt, sym, ◌∙◌, subst, ap}
+use Rattle.std.proofs.Common.{◌≡◌, ℕ, ◌==◌, refl, arith, true, false, ◌≢◌, List, Option, Some, None, IsSome, sym, ◌∙◌, subst, ap}
 use Rattle.std.specs.List.{AllByRecursion}
 use Rattle.std.proofs.lemmas.Bool.Decides.{nat_tests}
-use Rattle.tatp_rows.proofs.OrderedLemmas.{by_test, key_found, each_found, each-weaker, each-with_row_at, each-with_row, ordered-with_row_at, ordered-with_row, row_at-with_row_at_same, row_at-with_row_at_other, row_at-with_row_same, row_at-with_row_other}
+use Rattle.tatp_rows.proofs.OrderedLemmas.{by_test, key_found, each_found, each-weaker, each-with_row_at, each-with_row, ordered-with_row_at, ordered-with_row, row_at-with_row_at_same, row_at-with_row_at_other, row_at-with_row_other}
 use Rattle.tatp_rows.specs.Keys.{key_of, subscriber_key}
 use Rattle.tatp_rows.specs.Ordered.{IsOrderedBy, row_at, with_row_at, with_row}
 use Rattle.tatp_rows.specs.Rows.{SubscriberRow, AccessInfoRow, SpecialFacilityRow, subscriber_in_range}
-use Rattle.tatp_actions.specs.Book.{Book, IsBook, IsRowsOf, IsWithin, subscriber_at}
+use Rattle.tatp_actions.specs.Book.{Book, IsRowsOf, IsWithin, subscriber_at}
 
 -- a found option is some
 some_is : {X : Type 0} (o : Option X) (x : X) → o ≡ Some x → IsSome o
@@ -21,8 +21,8 @@ pub still_found-with_row_at : {X : Type 0} (key : X → ℕ) (j k : ℕ) (y : X)
 still_found-with_row_at key j k y xs at found =
     by_test (j == k)
     (λ e. let same : j ≡ k = grind (arith, nat_tests) in
-          let found' : IsSome (row_at key k xs) = subst (λ (i : ℕ). IsSome (row_at key i xs)) same found in
-          subst (λ (i : ℕ). IsSome (row_at key i (with_row_at key k y xs))) (sym same) (still key k y xs (row_at key k xs) refl at found'))
+    let found' : IsSome (row_at key k xs) = subst (λ (i : ℕ). IsSome (row_at key i xs)) same found in
+    subst (λ (i : ℕ). IsSome (row_at key i (with_row_at key k y xs))) (sym same) (still key k y xs (row_at key k xs) refl at found'))
     (λ e. let other : j ≢ k = grind (arith, nat_tests) in rw row_at-with_row_at_other found)
   where
     still : {X : Type 0} (key : X → ℕ) (k : ℕ) (y : X) (xs : List X) (o : Option X) → row_at key k xs ≡ o → key y ≡ k → IsSome o → IsSome (row_at key k (with_row_at key k y xs))
@@ -33,9 +33,9 @@ pub still_found-with_row : {X : Type 0} (key : X → ℕ) (j : ℕ) (y : X) (xs 
 still_found-with_row key j y xs absent found =
     by_test (j == key y)
     (λ e. let same : j ≡ key y = grind (arith, nat_tests) in
-          absurd (none_is_not (row_at key j xs) (ap (λ (i : ℕ). row_at key i xs) same ∙ absent) found))
+    absurd (none_is_not (row_at key j xs) (ap (λ (i : ℕ). row_at key i xs) same ∙ absent) found))
     (λ e. let other : j ≢ key y = grind (arith, nat_tests) in
-          subst IsSome (sym (row_at-with_row_other key j (key y) y xs refl other)) found)
+    subst IsSome (sym (row_at-with_row_other key j (key y) y xs refl other)) found)
 
 -- a book with other subscribers keeps the rules, where those of the subscribers hold and each that was found is found
 pub rules_of_subscribers : (lo hi : ℕ) (book : Book) (rows : List SubscriberRow) → IsRowsOf lo hi book
@@ -44,24 +44,24 @@ pub rules_of_subscribers : (lo hi : ℕ) (book : Book) (rows : List SubscriberRo
     → ((s : ℕ) → IsSome (subscriber_at book s) → IsSome (row_at subscriber_key (key_of s 0 0) rows))
     → IsRowsOf lo hi (record book { subscribers = rows })
 rules_of_subscribers lo hi book rows old ordered in_range within still = record {
-    rules = record {
-      subscribers_ordered = ordered;
-      access_ordered = old.rules.access_ordered;
-      facilities_ordered = old.rules.facilities_ordered;
-      forwardings_ordered = old.rules.forwardings_ordered;
-      subscribers_in_range = in_range;
-      access_in_range = old.rules.access_in_range;
-      facilities_in_range = old.rules.facilities_in_range;
-      forwardings_in_range = old.rules.forwardings_in_range;
-      access_have_subscriber = each-weaker (λ (row : AccessInfoRow) found. still row.s_id found) book.access old.rules.access_have_subscriber;
-      facilities_have_subscriber = each-weaker (λ (row : SpecialFacilityRow) found. still row.s_id found) book.facilities old.rules.facilities_have_subscriber;
-      forwardings_have_facility = old.rules.forwardings_have_facility
-    };
-    subscribers = within;
-    access = old.access;
-    facilities = old.facilities;
-    forwardings = old.forwardings
-  }
+  rules = record {
+    subscribers_ordered = ordered;
+    access_ordered = old.rules.access_ordered;
+    facilities_ordered = old.rules.facilities_ordered;
+    forwardings_ordered = old.rules.forwardings_ordered;
+    subscribers_in_range = in_range;
+    access_in_range = old.rules.access_in_range;
+    facilities_in_range = old.rules.facilities_in_range;
+    forwardings_in_range = old.rules.forwardings_in_range;
+    access_have_subscriber = each-weaker (λ (row : AccessInfoRow) found. still row.s_id found) book.access old.rules.access_have_subscriber;
+    facilities_have_subscriber = each-weaker (λ (row : SpecialFacilityRow) found. still row.s_id found) book.facilities old.rules.facilities_have_subscriber;
+    forwardings_have_facility = old.rules.forwardings_have_facility;
+  };
+  subscribers = within;
+  access = old.access;
+  facilities = old.facilities;
+  forwardings = old.forwardings;
+}
 
 -- the key of the row that is found is that of its subscriber
 pub s_id_found : (book : Book) (s : ℕ) (row : SubscriberRow) → subscriber_at book s ≡ Some row → row.s_id ≡ s

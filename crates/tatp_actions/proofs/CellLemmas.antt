@@ -1,15 +1,15 @@
 -- The counts of the cells after an edit of the subscribers.
-use Rattle.std.proofs.Common.{◌≡◌, ℕ, ◌+◌, ◌-◌, ◌*◌, ◌<◌, ◌≤◌, ◌==◌, refl, arith, rules, Bool, true, false, List, [], ◌∷◌, nat_lt, if◌then◌else◌, Some, sym, ◌∙◌, subst, ap}
-use Rattle.std.specs.Prelude.{ℤ, pos, negsuc, ◌+ℤ◌, count_by}
+use Rattle.std.proofs.Common.{◌≡◌, ℕ, ◌+◌, ◌-◌, ◌*◌, ◌<◌, ◌==◌, refl, arith, List, nat_lt, Some, subst}
+use Rattle.std.specs.Prelude.{ℤ, pos, ◌+ℤ◌, count_by}
 use Rattle.std.proofs.lemmas.Bool.Decides.{nat_tests}
 use Rattle.std.proofs.lemmas.Int.{ints}
 use Rattle.tatp_rows.proofs.OrderedLemmas.{by_test, sum_by-with_row_at, sum_by-with_row}
 use Rattle.tatp_rows.specs.Keys.{key_of, subscriber_key}
-use Rattle.tatp_rows.specs.Ordered.{row_at, with_row_at, with_row}
+use Rattle.tatp_rows.specs.Ordered.{with_row_at, with_row}
 use Rattle.tatp_rows.specs.Rows.{SubscriberRow}
 use Rattle.tatp_rows.specs.Zones.{zone_of, area_of}
 use Rattle.tatp_actions.specs.Book.{Book, subscriber_at}
-use Rattle.tatp_actions.specs.Cell.{cell, active_forwardings, in_area, in_zone}
+use Rattle.tatp_actions.specs.Cell.{active_forwardings, in_area, in_zone}
 use Rattle.tatp_actions.specs.Change.{change_at, IsChange, area_moved, subscriber_added}
 use Rattle.tatp_actions.proofs.ChangeLemmas.{one, area_moved-low, area_moved-area, area_moved-zone, subscriber_added-low, subscriber_added-area, subscriber_added-zone}
 
@@ -46,15 +46,15 @@ pub change_of_subscribers : (width : ℕ) (book : Book) (rows : List SubscriberR
 change_of_subscribers width book rows notes low areas zones c within =
     by_test (nat_lt c 3)
     (λ e. let small : c < 3 = grind (arith, nat_tests) in
-          rw (e, active-subscribers (8 * c) book rows, low c small) (omega (arith, ints)))
+    rw (e, active-subscribers (8 * c) book rows, low c small) (omega (arith, ints)))
     (λ e. by_test (nat_lt c 19)
-        (λ f. let is : 3 + (c - 3) ≡ c = grind (arith, nat_tests) in
-              let small : c - 3 < 16 = grind (arith, nat_tests) in
-              let here = subst (λ (k : ℕ). pos (area_count (c - 3) rows) ≡ pos (area_count (c - 3) book.subscribers) +ℤ change_at notes k) is (areas (c - 3) small) in
-              rw (e, f, area-subscribers (c - 3) book rows, area-own (c - 3) book) here)
-        (λ f. let is : 19 + (c - 19) ≡ c = grind (arith, nat_tests) in
-              let here = subst (λ (k : ℕ). pos (zone_count width (c - 19) rows) ≡ pos (zone_count width (c - 19) book.subscribers) +ℤ change_at notes k) is (zones (c - 19)) in
-              rw (e, f) (let counts = zone-subscribers width (c - 19) book rows in omega (arith, ints))))
+    (λ f. let is : 3 + (c - 3) ≡ c = grind (arith, nat_tests) in
+    let small : c - 3 < 16 = grind (arith, nat_tests) in
+    let here = subst (λ (k : ℕ). pos (area_count (c - 3) rows) ≡ pos (area_count (c - 3) book.subscribers) +ℤ change_at notes k) is (areas (c - 3) small) in
+    rw (e, f, area-subscribers (c - 3) book rows, area-own (c - 3) book) here)
+    (λ f. let is : 19 + (c - 19) ≡ c = grind (arith, nat_tests) in
+    let here = subst (λ (k : ℕ). pos (zone_count width (c - 19) rows) ≡ pos (zone_count width (c - 19) book.subscribers) +ℤ change_at notes k) is (zones (c - 19)) in
+    rw (e, f) (let counts = zone-subscribers width (c - 19) book rows in omega (arith, ints))))
 
 -- a location moves: the exact change
 pub change_of_move : (width : ℕ) (book : Book) (s_id : ℕ) (row new : SubscriberRow) → subscriber_at book s_id ≡ Some row → new.s_id ≡ row.s_id
@@ -64,10 +64,10 @@ change_of_move width book s_id row new found same small small' =
     change_of_subscribers width book (with_row_at subscriber_key (key_of s_id 0 0) new book.subscribers) (area_moved (area_of row.vlr_location) (area_of new.vlr_location))
     (λ c low. area_moved-low (area_of row.vlr_location) (area_of new.vlr_location) c low)
     (λ a below. area_moved-area (area_of row.vlr_location) (area_of new.vlr_location) a _ _
-        (sum_by-with_row_at subscriber_key (λ (x : SubscriberRow). one (area_of x.vlr_location == a)) (key_of s_id 0 0) row new book.subscribers found))
+    (sum_by-with_row_at subscriber_key (λ (x : SubscriberRow). one (area_of x.vlr_location == a)) (key_of s_id 0 0) row new book.subscribers found))
     (λ z. let counts = sum_by-with_row_at subscriber_key (λ (x : SubscriberRow). one (zone_of width x.s_id == z)) (key_of s_id 0 0) row new book.subscribers found in
-          let counts' = subst (λ (s : ℕ). zone_count width z (with_row_at subscriber_key (key_of s_id 0 0) new book.subscribers) + one (zone_of width row.s_id == z) ≡ zone_count width z book.subscribers + one (zone_of width s == z)) same counts in
-          rw (area_moved-zone (area_of row.vlr_location) (area_of new.vlr_location) z small small') (omega (arith, ints)))
+    let counts' = subst (λ (s : ℕ). zone_count width z (with_row_at subscriber_key (key_of s_id 0 0) new book.subscribers) + one (zone_of width row.s_id == z) ≡ zone_count width z book.subscribers + one (zone_of width s == z)) same counts in
+    rw (area_moved-zone (area_of row.vlr_location) (area_of new.vlr_location) z small small') (omega (arith, ints)))
 
 -- a subscriber is added: the exact change
 pub change_of_addition : (width : ℕ) (book : Book) (row : SubscriberRow) → area_of row.vlr_location < 16
@@ -76,6 +76,6 @@ change_of_addition width book row small =
     change_of_subscribers width book (with_row subscriber_key row book.subscribers) (subscriber_added (area_of row.vlr_location) (zone_of width row.s_id))
     (λ c low. subscriber_added-low (area_of row.vlr_location) (zone_of width row.s_id) c low)
     (λ a below. subscriber_added-area (area_of row.vlr_location) (zone_of width row.s_id) a _ _ below
-        (sum_by-with_row subscriber_key (λ (x : SubscriberRow). one (area_of x.vlr_location == a)) row book.subscribers))
+    (sum_by-with_row subscriber_key (λ (x : SubscriberRow). one (area_of x.vlr_location == a)) row book.subscribers))
     (λ z. subscriber_added-zone (area_of row.vlr_location) (zone_of width row.s_id) z _ _ small
-        (sum_by-with_row subscriber_key (λ (x : SubscriberRow). one (zone_of width x.s_id == z)) row book.subscribers))
+    (sum_by-with_row subscriber_key (λ (x : SubscriberRow). one (zone_of width x.s_id == z)) row book.subscribers))

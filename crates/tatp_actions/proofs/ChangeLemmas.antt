@@ -1,5 +1,5 @@
 -- What the notes of a change say of each cell.
-use Rattle.std.proofs.Common.{◌≡◌, ℕ, ◌+◌, ◌-◌, ◌<◌, ◌≤◌, ◌==◌, refl, arith, rules, Bool, true, false, List, [], ◌∷◌, nat_lt, if◌then◌else◌, sym, ◌∙◌, subst, ap}
+use Rattle.std.proofs.Common.{◌≡◌, ℕ, ◌+◌, ◌<◌, ◌==◌, refl, arith, Bool, [], ◌∷◌, if◌then◌else◌, subst}
 use Rattle.std.specs.Prelude.{ℤ, pos, negsuc, ◌+ℤ◌}
 use Rattle.std.proofs.lemmas.Bool.Decides.{nat_tests}
 use Rattle.std.proofs.lemmas.Int.{ints}
@@ -40,17 +40,17 @@ pub area_moved-area : (from to a n m : ℕ) → n + one (from == a) ≡ m + one 
 area_moved-area from to a n m counted =
     by_test (from == to)
     (λ e. let same : from ≡ to = grind (arith, nat_tests) in
-          let counts : n + one (to == a) ≡ m + one (to == a) = subst (λ (f : ℕ). n + one (f == a) ≡ m + one (to == a)) same counted in
-          rw e (omega (arith, ints)))
+    let counts : n + one (to == a) ≡ m + one (to == a) = subst (λ (f : ℕ). n + one (f == a) ≡ m + one (to == a)) same counted in
+    rw e (omega (arith, ints)))
     (λ e. by_test (from == a)
-        (λ f. by_test (to == a) (λ g. absurd (grind (arith, nat_tests)))
-            (λ g. let counts : n + 1 ≡ m + 0 = rw (f, g) at counted in
-                  rw (e, note_same (3 + from) (3 + a) (negsuc 0) (grind (arith, nat_tests)), note_other (3 + to) (3 + a) (pos 1) (λ h. grind (arith, nat_tests))) (omega (arith, ints))))
-        (λ f. by_test (to == a)
-            (λ g. let counts : n + 0 ≡ m + 1 = rw (f, g) at counted in
-                  rw (e, note_other (3 + from) (3 + a) (negsuc 0) (λ h. grind (arith, nat_tests)), note_same (3 + to) (3 + a) (pos 1) (grind (arith, nat_tests))) (omega (arith, ints)))
-            (λ g. let counts : n + 0 ≡ m + 0 = rw (f, g) at counted in
-                  rw (e, note_other (3 + from) (3 + a) (negsuc 0) (λ h. grind (arith, nat_tests)), note_other (3 + to) (3 + a) (pos 1) (λ h. grind (arith, nat_tests))) (omega (arith, ints)))))
+    (λ f. by_test (to == a) (λ g. absurd (grind (arith, nat_tests)))
+    (λ g. let counts : n + 1 ≡ m + 0 = rw (f, g) at counted in
+    rw (e, note_same (3 + from) (3 + a) (negsuc 0) (grind (arith, nat_tests)), note_other (3 + to) (3 + a) (pos 1) (λ h. grind (arith, nat_tests))) (omega (arith, ints))))
+    (λ f. by_test (to == a)
+    (λ g. let counts : n + 0 ≡ m + 1 = rw (f, g) at counted in
+    rw (e, note_other (3 + from) (3 + a) (negsuc 0) (λ h. grind (arith, nat_tests)), note_same (3 + to) (3 + a) (pos 1) (grind (arith, nat_tests))) (omega (arith, ints)))
+    (λ g. let counts : n + 0 ≡ m + 0 = rw (f, g) at counted in
+    rw (e, note_other (3 + from) (3 + a) (negsuc 0) (λ h. grind (arith, nat_tests)), note_other (3 + to) (3 + a) (pos 1) (λ h. grind (arith, nat_tests))) (omega (arith, ints)))))
 
 -- the notes of a new subscriber: none for a start time, one for its area, one for its zone
 pub subscriber_added-low : (area zone c : ℕ) → c < 3 → change_at (subscriber_added area zone) c ≡ pos 0
@@ -61,14 +61,14 @@ pub subscriber_added-area : (area zone a n m : ℕ) → a < 16 → n ≡ one (ar
 subscriber_added-area area zone a n m small counted =
     by_test (area == a)
     (λ e. let counts : n ≡ 1 + m = rw e at counted in
-          rw (note_same (3 + area) (3 + a) (pos 1) (grind (arith, nat_tests)), note_other (19 + zone) (3 + a) (pos 1) (λ h. omega arith)) (omega (arith, ints)))
+    rw (note_same (3 + area) (3 + a) (pos 1) (grind (arith, nat_tests)), note_other (19 + zone) (3 + a) (pos 1) (λ h. omega arith)) (omega (arith, ints)))
     (λ e. let counts : n ≡ 0 + m = rw e at counted in
-          rw (note_other (3 + area) (3 + a) (pos 1) (λ h. grind (arith, nat_tests)), note_other (19 + zone) (3 + a) (pos 1) (λ h. omega arith)) (omega (arith, ints)))
+    rw (note_other (3 + area) (3 + a) (pos 1) (λ h. grind (arith, nat_tests)), note_other (19 + zone) (3 + a) (pos 1) (λ h. omega arith)) (omega (arith, ints)))
 
 pub subscriber_added-zone : (area zone z n m : ℕ) → area < 16 → n ≡ one (zone == z) + m → pos n ≡ pos m +ℤ change_at (subscriber_added area zone) (19 + z)
 subscriber_added-zone area zone z n m small counted =
     by_test (zone == z)
     (λ e. let counts : n ≡ 1 + m = rw e at counted in
-          rw (note_other (3 + area) (19 + z) (pos 1) (λ h. omega arith), note_same (19 + zone) (19 + z) (pos 1) (grind (arith, nat_tests))) (omega (arith, ints)))
+    rw (note_other (3 + area) (19 + z) (pos 1) (λ h. omega arith), note_same (19 + zone) (19 + z) (pos 1) (grind (arith, nat_tests))) (omega (arith, ints)))
     (λ e. let counts : n ≡ 0 + m = rw e at counted in
-          rw (note_other (3 + area) (19 + z) (pos 1) (λ h. omega arith), note_other (19 + zone) (19 + z) (pos 1) (λ h. grind (arith, nat_tests))) (omega (arith, ints)))
+    rw (note_other (3 + area) (19 + z) (pos 1) (λ h. omega arith), note_other (19 + zone) (19 + z) (pos 1) (λ h. grind (arith, nat_tests))) (omega (arith, ints)))

@@ -1,6 +1,6 @@
 -- The counts of the cells are small, since the rows of a book have few keys.
-use Rattle.std.proofs.Common.{◌≡◌, ℕ, suc, ◌+◌, ◌-◌, ◌*◌, ◌/◌, ◌<◌, ◌≤◌, ◌==◌, ◌&&◌, arith, Bool, true, List, [], ◌∷◌, length, nat_lt, inl, inr}
-use Rattle.std.specs.Prelude.{◌⊎◌, count_by}
+use Rattle.std.proofs.Common.{◌≡◌, ℕ, ◌+◌, ◌-◌, ◌*◌, ◌/◌, ◌<◌, ◌≤◌, ◌==◌, ◌&&◌, arith, true, List, [], ◌∷◌, length, nat_lt}
+use Rattle.std.specs.Prelude.{◌⊎◌}
 use Rattle.std.specs.List.{AllByRecursion}
 use Rattle.std.proofs.lemmas.List.Sums.{count_by-le-length}
 use Rattle.tatp_rows.proofs.OrderedLemmas.{by_test, each-weaker, length-ordered}
@@ -23,6 +23,7 @@ ordered_by_slot {X} key slot (x ∷ xs) slots ordered = (above xs slots.1 ordere
   where
     here : key x ≡ 8 * slot x
     here = slots.0.0
+
     above : (ys : List X) → AllByRecursion (λ y. IsSlot (key y) (slot y)) ys → AllByRecursion (λ y. key x < key y) ys → AllByRecursion (λ y. slot x < slot y) ys
     above [] rest over = tt
     above (y ∷ ys) rest over = (let at : key y ≡ 8 * slot y = rest.0.0 in let up : key x < key y = over.0 in omega (arith, here), above ys rest.1 over.1)

@@ -56,4 +56,4 @@ IsOutcome action before answer after =
     ((is_in_range action ≡ false) × (answer ≡ reply.Refused refusal.Field) × (after ≡ before))
     ⊎ (((is_in_range action ≡ true) × ((answer, after) ≡ effect action before))
     ⊎ ((is_in_range action ≡ true) × (adds_row action ≡ true) × ((effect action before).0 ≡ reply.Done)
-        × (answer ≡ reply.Refused refusal.Memory) × (after ≡ before)))
+    × (answer ≡ reply.Refused refusal.Memory) × (after ≡ before)))

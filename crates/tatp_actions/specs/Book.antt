@@ -60,7 +60,7 @@ rows_between low high book = record {
   subscribers = filter (λ row. is_within low high row.s_id) book.subscribers;
   access = filter (λ row. is_within low high row.s_id) book.access;
   facilities = filter (λ row. is_within low high row.s_id) book.facilities;
-  forwardings = filter (λ row. is_within low high row.s_id) book.forwardings
+  forwardings = filter (λ row. is_within low high row.s_id) book.forwardings;
 }
 
 -- the first Subscriber row from a subscriber on

@@ -1,7 +1,6 @@
 -- A part: the rows of a range of subscribers.
-use Rattle.std.specs.Prelude.{◌≡◌, ℕ, ◌<◌, ◌≤◌, ◌+◌, List, [], ◌∷◌, map, ℤ}
+use Rattle.std.specs.Prelude.{◌≡◌, ℕ, ◌<◌, ◌≤◌, ◌+◌, List, [], map, ℤ}
 use Rattle.std.specs.List.{AllByRecursion}
-use Rattle.tatp_rows.specs.Keys.{subscriber_key}
 use Rattle.tatp_rows.specs.Rows.{SubscriberRow}
 use Rattle.tatp_rows.specs.declared.refusal.Refusal.{Refusal}
 use Rattle.tatp_actions.specs.Action.{IsOutcome}

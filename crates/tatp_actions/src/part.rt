@@ -32,19 +32,19 @@ impl<R: Rows> Model for Part<R> {
     ghost Value = { PartState };
 
     ghost view = { λ p. record {
-        book = stored_book (R.subscribers p.rows);
-        asked = R.times_asked p.rows;
-        lo = p.lo;
-        hi = p.hi;
-        width = p.width
+      book = stored_book (R.subscribers p.rows);
+      asked = R.times_asked p.rows;
+      lo = p.lo;
+      hi = p.hi;
+      width = p.width;
     } };
 
     ghost invariant = { λ p. IsPart (record {
-        book = stored_book (R.subscribers p.rows);
-        asked = R.times_asked p.rows;
-        lo = p.lo;
-        hi = p.hi;
-        width = p.width
+      book = stored_book (R.subscribers p.rows);
+      asked = R.times_asked p.rows;
+      lo = p.lo;
+      hi = p.hi;
+      width = p.width;
     }) × IsKeyed subscriber_key (R.subscribers p.rows) };
 }
 

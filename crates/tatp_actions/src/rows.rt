@@ -13,6 +13,7 @@ use tatp_rows::{Back, Refusal, Subscriber};
 /// `asked` by one (saturating), so an action's cost is bounded by how often it asks.
 pub trait Rows {
     ghost subscribers: { Self → List (ℕ × SubscriberRow) };
+
     ghost times_asked: { Self → ℕ };
 
     /// How often the rows were asked.
