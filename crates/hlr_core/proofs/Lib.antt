@@ -1,0 +1,11 @@
+pub mod BoardLemmas
+pub mod ChangeFacts
+pub mod NumbersLemmas
+pub mod PostLemmas
+pub mod RunLemmas
+pub mod WalkLemmas
+pub mod WordsLemmas
+pub mod HeldLemmas
+pub mod StoreLemmas
+pub mod OwnerLemmas
+pub mod RegisterLemmas

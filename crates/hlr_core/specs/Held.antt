@@ -1,0 +1,57 @@
+-- The local law: what an owner has published of a cell and what it has not posted yet are the count over its own rows.
+use Rattle.std.specs.Prelude.{◌≡◌, ◌≢◌, Bool, true, false, Result, Ok, Err, slice_set, ℕ, ◌<◌, ◌≤◌, List, [], ◌∷◌, ℤ, pos, neg_ℤ, ◌+ℤ◌, ◌≤ℤ◌, slice_index_or}
+use Rattle.tatp_actions.specs.Cell.{cell}
+use Rattle.tatp_actions.specs.Part.{PartState, IsPart}
+use Rattle.tatp_rows.specs.declared.refusal.Refusal.{Refusal}
+use Rattle.tatp_rows.specs.declared.refusal.Refusal.TheVariants as refusal
+use Rattle.hlr_core.specs.Board.{IsBoard}
+use Rattle.hlr_core.specs.Post.{is_worn}
+use Rattle.hlr_core.specs.Words.{raised, net, slot_net}
+
+-- a part with its pending deltas, one for each cell
+pub record HoldingState : Type 0 where
+  pub part : PartState
+  pub pending : List ℤ
+
+-- the pending delta of a cell
+abbrev pub pending_at : List ℤ → ℕ → ℤ
+pending_at pending c = slice_index_or pending c (pos 0)
+
+-- the local law, for what is published by a given net
+abbrev pub IsHeld : (ℕ → ℤ) → HoldingState → Type 0
+IsHeld net holding =
+    (c : ℕ) → c < 51 → net c +ℤ pending_at holding.pending c ≡ pos (cell holding.part.width c holding.part.book)
+
+-- the deltas are small enough that the notes of a change fit
+abbrev pub AreSmall : List ℤ → Type 0
+AreSmall pending =
+    (c : ℕ) → c < 51 → (neg_ℤ (pos 1152921504606846976) ≤ℤ pending_at pending c) × (pending_at pending c ≤ℤ pos 1152921504606846976)
+
+-- what is pending moves as the counts of the rows do
+abbrev pub MovesWith : HoldingState → HoldingState → Type 0
+MovesWith before after =
+    (c : ℕ) → c < 51
+    → pending_at after.pending c +ℤ pos (cell before.part.width c before.part.book)
+      ≡ pending_at before.pending c +ℤ pos (cell before.part.width c after.part.book)
+
+-- one cell of a posting: nothing where nothing is pending, else the word is raised by what is pending, unless it would be worn
+abbrev pub IsCellPosted : ℕ → ℕ → HoldingState → List ℕ → Result Bool Refusal → HoldingState → List ℕ → Type 0
+IsCellPosted slot c before words (Ok false) after words' =
+    (pending_at before.pending c ≡ pos 0) × (after ≡ before) × (words' ≡ words)
+IsCellPosted slot c before words (Ok true) after words' =
+    (pending_at before.pending c ≢ pos 0) × (is_worn words slot c (pending_at before.pending c) ≡ false)
+    × (after ≡ record before { pending = slice_set before.pending c (pos 0) })
+    × (words' ≡ raised words slot c (pending_at before.pending c))
+IsCellPosted slot c before words (Err why) after words' =
+    (pending_at before.pending c ≢ pos 0) × (is_worn words slot c (pending_at before.pending c) ≡ true)
+    × (why ≡ refusal.Worn) × (after ≡ before) × (words' ≡ words)
+
+-- the rules of one holding of all subscribers that has slot 0 of a board: the local law, and counts that fit for ever
+pub record AreHeld (holding : HoldingState) (words : List ℕ) : Type 0 where
+  pub from_first : holding.part.lo ≡ 1
+  pub to_last : holding.part.hi ≡ 16777217
+  pub rules : IsPart holding.part
+  pub board : IsBoard words
+  pub held : IsHeld (net words (0 ∷ [])) holding
+  pub counted : (c : ℕ) → c < 51 → (pos 0 ≤ℤ net words (0 ∷ []) c) × (net words (0 ∷ []) c ≤ℤ pos 1099511627776)
+  pub others : (c slot : ℕ) → c < 51 → 1 ≤ slot → slot_net words c slot ≡ pos 0

@@ -1,0 +1,7 @@
+pub mod Board
+pub mod Held
+pub mod Numbers
+pub mod Post
+pub mod Step
+pub mod Store
+pub mod Words

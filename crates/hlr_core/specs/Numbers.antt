@@ -1,0 +1,14 @@
+-- Numbers of subscribers over a whole book: no number stands twice, and each leads to one row.
+use Rattle.std.specs.Prelude.{◌≢◌, ℕ, List, [], ◌∷◌, Option, ⊤}
+use Rattle.std.specs.List.{AllByRecursion}
+use Rattle.tatp_rows.specs.Ordered.{row_at}
+use Rattle.tatp_rows.specs.Rows.{SubscriberRow}
+
+-- the Subscriber row with a number
+abbrev pub owner_of : List SubscriberRow → ℕ → Option SubscriberRow
+owner_of rows number = row_at (λ row. row.sub_nbr) number rows
+
+-- no number stands twice
+abbrev pub HasNoTwin : List SubscriberRow → Type 0
+HasNoTwin [] = ⊤
+HasNoTwin (row ∷ rows) = AllByRecursion (λ other. row.sub_nbr ≢ other.sub_nbr) rows × HasNoTwin rows

@@ -1,0 +1,128 @@
+//! A part with what its owner has not posted yet.
+ghost use Rattle.std.specs.Prelude.{◌≡◌, ℕ, ◌+◌, ◌<◌, ◌≤◌, [], ◌∷◌, Option, IfOk, OnErr, option_copied, ℤ, pos, ◌+ℤ◌, replicate, ◌⊎◌};
+ghost use Rattle.tatp_actions.specs.Action.{s_id_of, IsOutcome};
+ghost use Rattle.tatp_actions.specs.Book.{IsWithin, empty_book, first_subscriber};
+ghost use Rattle.tatp_actions.specs.Cell.{cell};
+ghost use Rattle.tatp_actions.specs.Part.{IsPart, IsRange, IsWidth};
+ghost use Rattle.hlr_core.specs.Board.{IsBoard};
+ghost use Rattle.hlr_core.specs.Held.{HoldingState, pending_at, AreSmall, IsHeld, IsCellPosted, MovesWith};
+ghost use Rattle.hlr_core.specs.Post.{post};
+ghost use Rattle.hlr_core.specs.Words.{net, slot_net};
+
+use crate::board::Board;
+use crate::pending::Pending;
+use std::alloc::Global;
+use std::marker::Model;
+use tatp_actions::{Action, CELLS, Part, RowReply};
+use tatp_rows::{Refusal, Subscriber};
+
+/// A part with what its owner has not posted yet: for each cell the delta that the actions since have left.
+#[derive(Drop)]
+pub struct Holding {
+    part: Part,
+    pending: Pending,
+}
+
+impl Model for Holding {
+    ghost use Rattle.hlr_core.specs.Held.{HoldingState};
+
+    ghost Value = { HoldingState };
+
+    ghost view = { λ h. record { part = h.part; pending = h.pending } };
+}
+
+impl Holding {
+    /// An empty part of the range lo..hi with nothing to post; `Memory` where a growth was refused.
+    pub fn new(alloc: Global, lo: u32, hi: u32, width: u32) -> Result<Self, Refusal>
+        requires range { IsRange lo hi }
+        requires width { IsWidth width }
+        ensures ok { IfOk result (λ holding. holding ≡ record { part = record { book = empty_book; asked = 0; lo = lo; hi = hi; width = width }; pending = replicate 51 (pos 0) }) }
+        ensures err { OnErr result (result ≡ Err Refusal.Memory) }
+    {
+        let part = Part::new(alloc, lo, hi, width)?;
+        Ok(Holding {
+            part,
+            pending: Pending::zero(),
+        })
+    }
+
+    /// Does an action on the rows, and moves the pending deltas by its change.
+    pub fn act(&mut self, action: Action) -> RowReply
+        requires within { IsWithin self.old.part.lo self.old.part.hi (s_id_of action) }
+        requires small { AreSmall self.old.pending }
+        ensures outcome { IsOutcome action self.old.part.book result self.new.part.book }
+        ensures range { (self.new.part.lo ≡ self.old.part.lo) × (self.new.part.hi ≡ self.old.part.hi) × (self.new.part.width ≡ self.old.part.width) }
+        ensures moved { MovesWith self.old self.new }
+        ensures before { IsPart self.old.part }
+        ensures after { IsPart self.new.part }
+    {
+        let (reply, change) = self.part.act(action);
+        self.pending.note(&change);
+        reply
+    }
+
+    /// Posts the pending delta of a cell, where it isn't 0, and tells whether it was. `Worn` where the word would
+    /// pass its limit: then nothing is changed.
+    fn post_cell(&mut self, board: &mut Board, slot: u8, cell: u8) -> Result<bool, Refusal>
+        requires slot { slot < 16 }
+        requires cell { cell < CELLS }
+        ensures { IsCellPosted slot cell self.old board.old result self.new board.new }
+    {
+        let delta = self.pending.get(cell);
+        if delta == 0 {
+            return Ok(false);
+        }
+        board.add(slot, cell, delta)?;
+        self.pending.clear(cell);
+        Ok(true)
+    }
+
+    /// Posts pending deltas in a slot, cells ascending, each whole, until `limit` are posted or none is left; tells
+    /// how many were. `Worn` stops it at a cell whose word would pass its limit: the cells before stay posted, and
+    /// the delta of that cell stays pending.
+    pub fn post(&mut self, board: &mut Board, slot: u8, limit: u64) -> Result<u8, Refusal>
+        requires slot { slot < 16 }
+        requires held { IsHeld (net board.old (slot ∷ [])) self.old }
+        requires rules { IsBoard board.old }
+        ensures posted { (result, board.new) ≡ post (λ c. cell self.old.part.width c self.old.part.book) (slot ∷ []) limit board.old }
+        ensures held { IsHeld (net board.new (slot ∷ [])) self.new }
+        ensures part { self.new.part ≡ self.old.part }
+
+        // Each delta is as it was or posted, and no other slot is touched.
+        ensures either { (c : ℕ) → c < CELLS → (pending_at self.new.pending c ≡ pending_at self.old.pending c) ⊎ (pending_at self.new.pending c ≡ pos 0) }
+        ensures apart { (c other : ℕ) → c < CELLS → (other ≡ slot → ⊥) → slot_net board.new c other ≡ slot_net board.old c other }
+        ensures board { IsBoard board.new }
+    {
+        let mut posted = 0u8;
+        for cell in 0..CELLS {
+            if u64::from(posted) == limit {
+                return Ok(posted);
+            }
+            if self.post_cell(board, slot, cell)? {
+                posted += 1;
+            }
+        }
+        Ok(posted)
+    }
+
+    /// The width of the zones.
+    pub fn width(&self) -> u32
+        ensures { result ≡ self.now.part.width }
+    {
+        self.part.width()
+    }
+
+    /// The pending deltas of all cells.
+    pub fn deltas(&self) -> [i64; 51]
+        ensures { result ≡ self.now.pending }
+    {
+        self.pending.deltas()
+    }
+
+    /// The first Subscriber row of the part from a subscriber on.
+    pub fn first_sub_from(&self, s_id: u64) -> Option<&Subscriber>
+        ensures { option_copied result ≡ first_subscriber s_id self.now.part.book.subscribers }
+    {
+        self.part.first_sub_from(s_id)
+    }
+}

@@ -1,0 +1,139 @@
+//! All owners' holdings, and the board that they post to.
+ghost use Rattle.std.specs.Prelude.{◌≡◌, ℕ, ◌<◌, ◌≤◌, [], ◌∷◌, IsTrue, IfOk, OnErr, option_map, is_some, slice_index_or, ℤ, pos};
+ghost use Rattle.tatp_rows.specs.Rows.{SubscriberRow};
+ghost use Rattle.tatp_actions.specs.Action.{s_id_of, IsOutcome};
+ghost use Rattle.tatp_actions.specs.Book.{IsWithin, IsRowsOf, subscriber_at};
+ghost use Rattle.tatp_actions.specs.Part.{IsWidth};
+ghost use Rattle.hlr_core.specs.Numbers.{owner_of};
+ghost use Rattle.hlr_core.specs.Step.{IsPostStep, posted_reply};
+ghost use Rattle.hlr_core.specs.Store.{Store, opening, published, unposted, slots_of};
+
+use crate::board::Board;
+use crate::event::Reply;
+use crate::holding::Holding;
+use std::alloc::Global;
+use std::marker::Model;
+use tatp_actions::{Action, RowReply};
+use tatp_rows::{Number, Refusal};
+
+/// One past the last subscriber that there can be.
+const ALL_SUBSCRIBERS: u32 = 16_777_217;
+
+/// The slot of the one part that there is until regions come.
+const SLOT: u8 = 0;
+
+/// All owners' holdings with the board that they post to, seen as the store of the definitions.
+#[derive(Drop)]
+pub struct Holdings {
+    holding: Holding,
+    board: Board,
+}
+
+impl Model for Holdings {
+    ghost use Rattle.std.specs.Prelude.{[], ◌∷◌};
+    ghost use Rattle.hlr_core.specs.Store.{Store};
+    ghost use Rattle.hlr_core.specs.Held.{AreHeld};
+
+    ghost Value = { Store };
+
+    ghost view = { λ h. record {
+        book = h.holding.part.book;
+        words = h.board;
+        slots = (0 ∷ []) ∷ [];
+        width = h.holding.part.width
+    } };
+
+    ghost invariant = { λ h. AreHeld h.holding h.board };
+}
+
+fn reply_of_posting(posted: Result<u8, Refusal>) -> Reply
+    ensures { result ≡ posted_reply posted }
+{
+    match posted {
+        Ok(count) => Reply::Posted(count),
+        Err(why) => Reply::Refused(why),
+    }
+}
+
+impl Holdings {
+    /// One empty part for all subscribers, and a board of zeros; `Memory` where a growth was refused.
+    pub fn open(alloc: Global, width: u32) -> Result<Self, Refusal>
+        requires { IsWidth width }
+        ensures ok { IfOk result (λ holdings. holdings ≡ opening 1 width) }
+        ensures err { OnErr result (result ≡ Err Refusal.Memory) }
+    {
+        let holding = Holding::new(alloc, 1, ALL_SUBSCRIBERS, width)?;
+        let board = Board::open(alloc)?;
+        Ok(Holdings { holding, board })
+    }
+
+    /// Does an action on the rows of its subscriber.
+    pub fn act(&mut self, action: Action) -> RowReply
+        requires { IsWithin 1 16777217 (s_id_of action) }
+        ensures outcome { IsOutcome action self.old.book result self.new.book }
+        ensures same { self.new ≡ record self.old { book = self.new.book } }
+    {
+        self.holding.act(action)
+    }
+
+    /// Posts to a part: `NoPart` where there is none with the number, `Worn` where a word would pass its limit.
+    pub fn post(&mut self, part: u64, limit: u64) -> Reply
+        ensures { IsPostStep (slots_of self.old part) part limit self.old result self.new }
+    {
+        let _ = &self.board;
+        if part != 0 {
+            return Reply::Refused(Refusal::NoPart);
+        }
+        reply_of_posting(self.holding.post(&mut self.board, SLOT, limit))
+    }
+
+    /// The cells as published on the board.
+    pub fn published(&self) -> [i64; 51]
+        ensures { (c : ℕ) → c < 51 → slice_index_or result c (pos 0) ≡ published self.now c }
+    {
+        let mut cells = [0; 51];
+        for cell in 0..51u8 {
+            cells[usize::from(cell)] = self.board.net(SLOT, cell);
+        }
+        cells
+    }
+
+    /// What is not posted yet of each cell.
+    pub fn unposted(&self) -> [i64; 51]
+        ensures { (c : ℕ) → c < 51 → slice_index_or result c (pos 0) ≡ unposted self.now c }
+    {
+        self.holding.deltas()
+    }
+
+    /// The subscriber who has a number, found by going through the Subscriber rows.
+    pub fn find(&self, number: Number) -> Option<u32>
+        ensures { result ≡ option_map (λ (row : SubscriberRow). row.s_id) (owner_of self.now.book.subscribers number) }
+    {
+        let mut next = 1u64;
+        while let Some(row) = self.holding.first_sub_from(next) {
+            if row.sub_nbr() == number {
+                return Some(row.s_id());
+            }
+            next = u64::from(row.s_id()) + 1;
+        }
+        None
+    }
+
+    /// Tells whether a subscriber has a row.
+    pub fn has(&self, s_id: u32) -> bool
+        ensures { result ≡ is_some (subscriber_at self.now.book s_id) }
+    {
+        match self.holding.first_sub_from(u64::from(s_id)) {
+            Some(row) => row.s_id() == s_id,
+            None => false,
+        }
+    }
+
+    /// Tells that all rows lie in the range of all subscribers.
+    pub fn width(&self) -> u32
+        ensures width { result ≡ self.now.width }
+        ensures rows { IsRowsOf 1 16777217 self.now.book }
+    {
+        self.holding.width()
+    }
+}

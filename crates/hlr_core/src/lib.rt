@@ -1,0 +1,16 @@
+//! The register: all rows, the 51 standing counts as the board has them, and what is not posted yet.
+//!
+//! Each action moves the counts by a small change that its owner keeps as pending, and a posting raises words of
+//! the board by what is pending. So after each event every cell as published plus its delta not yet posted is
+//! that cell counted over the rows now, and nothing is scanned to answer either.
+#![tactic(auto)]
+
+mod board;
+mod event;
+mod holding;
+mod holdings;
+mod pending;
+mod register;
+
+pub use event::{Event, Reply};
+pub use register::Register;

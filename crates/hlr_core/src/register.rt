@@ -1,0 +1,172 @@
+//! The register: all rows under one roof, no number twice, and every cell as published with what is not posted yet.
+ghost use Rattle.std.specs.Prelude.{◌≡◌, ℕ, [], vec_len, vec_capacity, ◌<◌, ◌≤◌, ◌↔◌, ◌⊎◌, IfOk, OnErr, slice_index_or, option_map, ℤ, pos, ◌+ℤ◌};
+ghost use Rattle.std.specs.Result.{result_ok};
+ghost use Rattle.tatp_rows.specs.Rows.{between};
+ghost use Rattle.tatp_actions.specs.Action.{s_id_of};
+ghost use Rattle.tatp_actions.specs.Cell.{cell};
+ghost use Rattle.hlr_core.specs.Numbers.{HasNoTwin};
+ghost use Rattle.hlr_core.specs.Step.{IsStep, IsRun, reply_of};
+ghost use Rattle.hlr_core.specs.Store.{Store, HasOpening, opening, published, unposted};
+
+use crate::event::{Event, Reply};
+use crate::holdings::Holdings;
+use std::alloc::Global;
+use std::marker::Model;
+use tatp_actions::{Action, RowReply};
+use tatp_rows::{Number, Refusal, Subscriber};
+
+/// A home location register, seen as the store of the definitions: its rows, the words of the board, the slots of
+/// each part and the width of the zones.
+///
+/// Each event moves the store by one right step, and after it every cell as published plus its delta not posted yet
+/// is that cell counted over the rows.
+#[derive(Drop)]
+pub struct Register {
+    holdings: Holdings,
+    alloc: Global,
+}
+
+impl Model for Register {
+    ghost use Rattle.hlr_core.specs.Store.{Store};
+    ghost use Rattle.hlr_core.specs.Numbers.{HasNoTwin};
+
+    ghost Value = { Store };
+
+    ghost view = { λ r. r.holdings };
+
+    ghost invariant = { λ r. HasNoTwin r.holdings.book.subscribers };
+}
+
+fn reply_from(answer: RowReply) -> Reply
+    ensures { result ≡ reply_of answer }
+{
+    match answer {
+        RowReply::Done => Reply::Rows(RowReply::Done),
+        RowReply::Row(row) => Reply::Rows(RowReply::Row(row)),
+        RowReply::Refused(why) => Reply::Refused(why),
+    }
+}
+
+/// The value, where it lies in 1..=`high`.
+fn in_range(value: u64, high: u32) -> Option<u32>
+    ensures { result ≡ result_ok (between 1 high value) }
+{
+    if value == 0 || value > u64::from(high) {
+        return None;
+    }
+    Some(value as u32)
+}
+
+impl Register {
+    /// An empty register whose words are all 0. `Field` where parts isn't 1, as long as there are no regions, or the
+    /// width isn't in 1..=524,288; `Memory` where a growth was refused.
+    pub fn open(alloc: Global, parts: u8, width: u32) -> Result<Register, Refusal>
+        ensures ok { IfOk result (λ register. register ≡ opening parts width) }
+        ensures field { (result ≡ Err Refusal.Field) ↔ ¬ (HasOpening parts width) }
+        ensures other { OnErr result ((result ≡ Err Refusal.Field) ⊎ (result ≡ Err Refusal.Memory)) }
+    {
+        if parts != 1 || width == 0 || width > 524_288 {
+            return Err(Refusal::Field);
+        }
+        let holdings = Holdings::open(alloc, width)?;
+        Ok(Register { holdings, alloc })
+    }
+
+    /// Applies an event, and replies to it.
+    pub fn apply(&mut self, event: Event) -> Reply
+        ensures { IsStep event self.old result self.new }
+    {
+        match event {
+            Event::SubscriberData { s_id } => self.subscriber_data(s_id),
+            Event::UpdateLocation {
+                sub_nbr,
+                vlr_location,
+            } => self.update_location(sub_nbr, vlr_location),
+            Event::AddSubscriber(row) => self.add_subscriber(row),
+            Event::Post { part, limit } => self.post(part, limit),
+        }
+    }
+
+    /// Applies events one after another, and gives their replies in order. `Memory` where the list of replies could
+    /// not be reserved: then no event was applied.
+    pub fn apply_all(&mut self, events: &[Event]) -> Result<Vec<Reply>, Refusal>
+        ensures ok { IfOk result (λ replies. IsRun events.now self.old replies.items self.new) }
+        ensures err { OnErr result ((result ≡ Err Refusal.Memory) × (self.new ≡ self.old)) }
+    {
+        // The borrow checker of the kit can push a reply only in a body that names each type inside it.
+        let _inside: Option<RowReply> = None;
+        let mut replies = reserve(self.alloc, events.len())?;
+        for event in events {
+            let reply = self.apply(*event);
+            replies.push_reserved(reply);
+        }
+        Ok(replies)
+    }
+
+    /// The cells as published: for each, the sum of its plus-words less the sum of its minus-words.
+    pub fn published(&self) -> [i64; 51]
+        ensures { (c : ℕ) → c < 51 → slice_index_or result c (pos 0) ≡ published self.now c }
+    {
+        self.holdings.published()
+    }
+
+    /// What is not posted yet of each cell: with what is published, it is the cell counted over the rows now.
+    pub fn unposted(&self) -> [i64; 51]
+        ensures value { (c : ℕ) → c < 51 → slice_index_or result c (pos 0) ≡ unposted self.now c }
+        ensures counted { (c : ℕ) → c < 51
+            → published self.now c +ℤ slice_index_or result c (pos 0) ≡ pos (cell self.now.width c self.now.book) }
+    {
+        self.holdings.unposted()
+    }
+
+    fn subscriber_data(&mut self, s_id: u64) -> Reply
+        ensures { IsStep (Event.SubscriberData s_id) self.old result self.new }
+    {
+        let Some(s_id) = in_range(s_id, 16_777_216) else {
+            return Reply::Refused(Refusal::Field);
+        };
+        reply_from(self.holdings.act(Action::SubscriberData { s_id }))
+    }
+
+    fn update_location(&mut self, sub_nbr: Number, vlr_location: u64) -> Reply
+        ensures { IsStep (Event.UpdateLocation sub_nbr vlr_location) self.old result self.new }
+    {
+        let Some(vlr_location) = in_range(vlr_location, u32::MAX) else {
+            return Reply::Refused(Refusal::Field);
+        };
+        let _ = self.holdings.width();
+        let Some(s_id) = self.holdings.find(sub_nbr) else {
+            return Reply::Refused(Refusal::NoNumber);
+        };
+        reply_from(self.holdings.act(Action::UpdateLocation { s_id, vlr_location }))
+    }
+
+    fn add_subscriber(&mut self, row: Subscriber) -> Reply
+        ensures { IsStep (Event.AddSubscriber row) self.old result self.new }
+    {
+        if self.holdings.has(row.s_id()) {
+            return Reply::Refused(Refusal::Exists);
+        }
+        if self.holdings.find(row.sub_nbr()).is_some() {
+            return Reply::Refused(Refusal::NumberTaken);
+        }
+        reply_from(self.holdings.act(Action::AddSubscriber(row)))
+    }
+
+    fn post(&mut self, part: u64, limit: u64) -> Reply
+        ensures { IsStep (Event.Post part limit) self.old result self.new }
+    {
+        self.holdings.post(part, limit)
+    }
+}
+
+/// An empty list with room for so many replies; `Memory` where a growth was refused.
+fn reserve(alloc: Global, count: usize) -> Result<Vec<Reply>, Refusal>
+    ensures ok { IfOk result (λ replies. (replies.items ≡ []) × (vec_len replies ≡ 0) × (vec_capacity replies ≡ count)) }
+    ensures err { OnErr result (result ≡ Err Refusal.Memory) }
+{
+    match Vec::with_capacity(alloc, count) {
+        Ok(replies) => Ok(replies),
+        Err(_) => Err(Refusal::Memory),
+    }
+}
