@@ -1,19 +1,17 @@
 -- The local law of the one holding, through opening, actions and postings.
-use Rattle.std.proofs.Common.{◌≡◌, ℕ, ◌+◌, ◌*◌, ◌-◌, ◌<◌, ◌≤◌, refl, arith, List, [], ◌∷◌, sym, ◌∙◌, ap, subst, replicate, inl, inr, ◌⊎◌, nat_lt, true, false}
-use Rattle.std.specs.Prelude.{ℤ, pos, negsuc, ◌+ℤ◌, ◌-ℤ◌, ◌≤ℤ◌}
-use Rattle.std.proofs.lemmas.Bool.Decides.{nat_tests}
+use Rattle.std.proofs.Common.{◌≡◌, ℕ, ◌*◌, ◌-◌, ◌<◌, ◌≤◌, refl, arith, List, [], ◌∷◌, sym, ◌∙◌, ap, subst, replicate, inl, inr, ◌⊎◌, nat_lt}
+use Rattle.std.specs.Prelude.{pos, ◌+ℤ◌, ◌≤ℤ◌}
 use Rattle.std.proofs.lemmas.Bool.{cases_lt}
 use Rattle.std.proofs.lemmas.Int.{ints}
 use Rattle.std.proofs.lemmas.List.{length-replicate, get_or-replicate, get_or_past}
 use Rattle.tatp_rows.proofs.OrderedLemmas.{by_test}
-use Rattle.tatp_actions.specs.Book.{Book, empty_book, IsRowsOf}
+use Rattle.tatp_actions.specs.Book.{empty_book, IsRowsOf}
 use Rattle.tatp_actions.specs.Cell.{cell, active_forwardings, in_area, in_zone}
 use Rattle.tatp_actions.specs.Part.{PartState, IsPart, IsWidth}
 use Rattle.tatp_actions.proofs.CountLemmas.{few_cells}
 use Rattle.hlr_core.specs.Board.{IsBoard}
 use Rattle.hlr_core.specs.Held.{HoldingState, pending_at, IsHeld, AreSmall, MovesWith, AreHeld}
 use Rattle.hlr_core.specs.Words.{slot_net, net, blank_words}
-use Rattle.hlr_core.proofs.BoardLemmas.{zero_board}
 use Rattle.hlr_core.proofs.WordsLemmas.{blank_net}
 
 -- an empty book has no count
@@ -37,34 +35,45 @@ empty_cell width c =
 -- an empty book keeps the rules
 pub empty_rows : (lo hi : ℕ) → IsRowsOf lo hi empty_book
 empty_rows lo hi = record {
-    rules = record {
-      subscribers_ordered = tt; access_ordered = tt; facilities_ordered = tt; forwardings_ordered = tt;
-      subscribers_in_range = tt; access_in_range = tt; facilities_in_range = tt; forwardings_in_range = tt;
-      access_have_subscriber = tt; facilities_have_subscriber = tt; forwardings_have_facility = tt
-    };
-    subscribers = tt; access = tt; facilities = tt; forwardings = tt
-  }
+  rules = record {
+    subscribers_ordered = tt;
+    access_ordered = tt;
+    facilities_ordered = tt;
+    forwardings_ordered = tt;
+    subscribers_in_range = tt;
+    access_in_range = tt;
+    facilities_in_range = tt;
+    forwardings_in_range = tt;
+    access_have_subscriber = tt;
+    facilities_have_subscriber = tt;
+    forwardings_have_facility = tt;
+  };
+  subscribers = tt;
+  access = tt;
+  facilities = tt;
+  forwardings = tt;
+}
 
 -- deltas of 0
 zero_delta : (n c : ℕ) → pending_at (replicate n (pos 0)) c ≡ pos 0
 zero_delta n c = elim (cases_lt c n) [
-    inl below ↦ get_or-replicate n c (pos 0) (pos 0) below
+  | inl below ↦ get_or-replicate n c (pos 0) (pos 0) below
   | inr past ↦ get_or_past (replicate n (pos 0)) c (pos 0) (rw length-replicate past)
-  ]
+]
 
 -- the holding at opening, over blank words
 pub opened_held : (width : ℕ) (holding : HoldingState) (words : List ℕ) → IsWidth width
     → holding ≡ record { part = record { book = empty_book; asked = 0; lo = 1; hi = 16777217; width = width }; pending = replicate 51 (pos 0) }
     → words ≡ blank_words → IsBoard words → AreHeld holding words
 opened_held width holding words wide is blank board = rw (is, blank) (record {
-    from_first = refl;
-    to_last = refl;
-    rules = record { range = (omega arith, omega arith, omega arith); width = wide; rows = empty_rows 1 16777217 };
-    board = subst IsBoard blank board;
-    held = λ c below. rw (blank_net c 0, zero_delta 51 c, empty_cell width c) refl;
-    counted = λ c below. rw (blank_net c 0) (omega (arith, ints), omega (arith, ints));
-    others = λ c slot below from. blank_net c slot
-  })
+  from_first = refl;
+  to_last = refl;
+  rules = record { range = (omega arith, omega arith, omega arith); width = wide; rows = empty_rows 1 16777217 };
+  board = subst IsBoard blank board;
+  held = λ c below. rw (blank_net c 0, zero_delta 51 c, empty_cell width c) refl;
+  counted = λ c below. rw (blank_net c 0) (omega (arith, ints), omega (arith, ints));
+  others = λ c slot below from. blank_net c slot;
+})
 
 -- the count of a cell of a part for all subscribers fits for ever
 count_fits : (holding : HoldingState) (words : List ℕ) (c : ℕ) → AreHeld holding words → cell holding.part.width c holding.part.book ≤ 1099511627776
@@ -83,14 +92,14 @@ pub acted_held : (before after : HoldingState) (words : List ℕ) → AreHeld be
     → (after.part.lo ≡ before.part.lo) × (after.part.hi ≡ before.part.hi) × (after.part.width ≡ before.part.width)
     → MovesWith before after → IsPart after.part → AreHeld after words
 acted_held before after words held same moved rules = record {
-    from_first = same.0 ∙ held.from_first;
-    to_last = same.1 ∙ held.to_last;
-    rules = rules;
-    board = held.board;
-    held = λ c below. (let law = held.held c below in let step = moved c below in rw same.2 (omega (arith, ints)));
-    counted = held.counted;
-    others = held.others
-  }
+  from_first = same.0 ∙ held.from_first;
+  to_last = same.1 ∙ held.to_last;
+  rules = rules;
+  board = held.board;
+  held = λ c below. (let law = held.held c below in let step = moved c below in rw same.2 (omega (arith, ints)));
+  counted = held.counted;
+  others = held.others;
+}
 
 -- a posting keeps the law
 pub posted_held : (before after : HoldingState) (words words' : List ℕ) → AreHeld before words → after.part ≡ before.part
@@ -99,23 +108,23 @@ pub posted_held : (before after : HoldingState) (words words' : List ℕ) → Ar
     → ((c other : ℕ) → c < 51 → (other ≡ 0 → ⊥) → slot_net words' c other ≡ slot_net words c other)
     → IsBoard words' → AreHeld after words'
 posted_held before after words words' held same law either apart board = record {
-    from_first = ap (λ (p : PartState). p.lo) same ∙ held.from_first;
-    to_last = ap (λ (p : PartState). p.hi) same ∙ held.to_last;
-    rules = subst IsPart (sym same) held.rules;
-    board = board;
-    held = law;
-    counted = λ c below. counted_at c below;
-    others = λ c slot below from. apart c slot below (λ e. omega arith) ∙ held.others c slot below from
-  }
+  from_first = ap (λ (p : PartState). p.lo) same ∙ held.from_first;
+  to_last = ap (λ (p : PartState). p.hi) same ∙ held.to_last;
+  rules = subst IsPart (sym same) held.rules;
+  board = board;
+  held = law;
+  counted = λ c below. counted_at c below;
+  others = λ c slot below from. apart c slot below (λ e. omega arith) ∙ held.others c slot below from;
+}
   where
     counted_at : (c : ℕ) → c < 51 → (pos 0 ≤ℤ net words' (0 ∷ []) c) × (net words' (0 ∷ []) c ≤ℤ pos 1099511627776)
     counted_at c below =
         let old = held.held c below in
         let new : net words' (0 ∷ []) c +ℤ pending_at after.pending c ≡ pos (cell before.part.width c before.part.book) =
-            law c below ∙ ap (λ (p : PartState). pos (cell p.width c p.book)) same in
+        law c below ∙ ap (λ (p : PartState). pos (cell p.width c p.book)) same in
         let range = held.counted c below in
         let few = count_fits before words c held in
         elim (either c below) [
-          inl kept ↦ (omega (arith, ints), omega (arith, ints))
-        | inr none ↦ (omega (arith, ints), omega (arith, ints))
+          | inl kept ↦ (omega (arith, ints), omega (arith, ints))
+          | inr none ↦ (omega (arith, ints), omega (arith, ints))
         ]

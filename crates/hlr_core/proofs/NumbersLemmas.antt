@@ -42,15 +42,17 @@ no_twin-with_row_at k new old [] single found same = tt
 no_twin-with_row_at k new old (x ∷ xs) single found same =
     by_test (subscriber_key x == k)
     (λ e.
-        let is : Some x ≡ Some old = rw e at found in
-        let at : x ≡ old = cc in
-        let number_is : new.sub_nbr ≡ x.sub_nbr = rw at same in
-        rw e (each-weaker {P = λ other. x.sub_nbr ≢ other.sub_nbr} {Q = λ other. new.sub_nbr ≢ other.sub_nbr} (λ other differ twin. differ cc) xs single.0, single.1))
+    let is : Some x ≡ Some old = rw e at found in
+    let at : x ≡ old = cc in
+    let number_is : new.sub_nbr ≡ x.sub_nbr = rw at same in
+    rw e (each-weaker {P = λ other. x.sub_nbr ≢ other.sub_nbr} {Q = λ other. new.sub_nbr ≢ other.sub_nbr} (λ other differ twin. differ cc) xs single.0, single.1))
     (λ e.
-        let rest : row_at subscriber_key k xs ≡ Some old = rw e at found in
-        let differ : x.sub_nbr ≢ old.sub_nbr = each_found subscriber_key (λ other. x.sub_nbr ≢ other.sub_nbr) k xs old single.0 rest in
-        rw e (each-with_row_at subscriber_key (λ other. x.sub_nbr ≢ other.sub_nbr) k new xs (λ twin. differ cc) single.0,
-            no_twin-with_row_at k new old xs single.1 rest same))
+    let rest : row_at subscriber_key k xs ≡ Some old = rw e at found in
+    let differ : x.sub_nbr ≢ old.sub_nbr = each_found subscriber_key (λ other. x.sub_nbr ≢ other.sub_nbr) k xs old single.0 rest in
+    rw e (
+      each-with_row_at subscriber_key (λ other. x.sub_nbr ≢ other.sub_nbr) k new xs (λ twin. differ cc) single.0,
+      no_twin-with_row_at k new old xs single.1 rest same,
+    ))
 
 -- the owner of a number is one of the rows
 pub owner_within : (low high n : ℕ) (rows : List SubscriberRow) (row : SubscriberRow) → AllByRecursion (λ row. IsWithin low high row.s_id) rows → owner_of rows n ≡ Some row
@@ -90,10 +92,10 @@ pub no_twin_after : (action : Action) (before : Book) (answer : RowReply) (after
     → IsOutcome action before answer after → HasNoTwin after.subscribers
 no_twin_after action before answer after single takes outcome =
     elim outcome [
-      inl field ↦ let same : after ≡ before = field.2 in rw same single
-    | inr in_range ↦ elim in_range [
-        inl done ↦ let same : after ≡ (effect action before).1 = ap (λ (p : RowReply × Book). p.1) done.1 in rw same (no_twin-effect action before single takes)
-      | inr memory ↦ let same : after ≡ before = memory.4 in rw same single
+      | inl field ↦ let same : after ≡ before = field.2 in rw same single
+      | inr in_range ↦ elim in_range [
+        | inl done ↦ let same : after ≡ (effect action before).1 = ap (λ (p : RowReply × Book). p.1) done.1 in rw same (no_twin-effect action before single takes)
+        | inr memory ↦ let same : after ≡ before = memory.4 in rw same single
       ]
     ]
 
@@ -102,9 +104,9 @@ pub whole_from_part : (action : Action) (before : Book) (answer : RowReply) (aft
     → IsOutcome action before answer after → IsWholeOutcome action before answer after
 whole_from_part action before answer after ranges takes outcome =
     elim outcome [
-      inl field ↦ let no : is_in_range action ≡ false = field.0 in absurd cc
-    | inr in_range ↦ elim in_range [
-        inl done ↦ rw takes (inl done.1)
-      | inr memory ↦ rw takes (inr (memory.1, memory.2, memory.3, memory.4))
+      | inl field ↦ let no : is_in_range action ≡ false = field.0 in absurd cc
+      | inr in_range ↦ elim in_range [
+        | inl done ↦ rw takes (inl done.1)
+        | inr memory ↦ rw takes (inr (memory.1, memory.2, memory.3, memory.4))
       ]
     ]

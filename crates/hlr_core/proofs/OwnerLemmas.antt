@@ -1,11 +1,9 @@
 -- Finding a subscriber by walking over the rows.
-use Rattle.std.proofs.Common.{◌≡◌, ℕ, ◌+◌, ◌-◌, ◌<◌, ◌≤◌, ◌==◌, refl, arith, List, [], ◌∷◌, Bool, true, false, Option, Some, None, sym, ◌∙◌, ap, subst, inl, inr}
+use Rattle.std.proofs.Common.{◌≡◌, ℕ, ◌+◌, ◌<◌, ◌≤◌, ◌==◌, refl, arith, List, Bool, true, false, Some, None, sym, ◌∙◌, ap, inl, inr}
 use Rattle.std.specs.Prelude.{option_map, is_some}
-use Rattle.std.specs.List.{AllByRecursion}
 use Rattle.std.proofs.lemmas.Bool.{cases_eq}
 use Rattle.std.proofs.lemmas.Bool.Decides.{nat_tests}
 use Rattle.tatp_rows.proofs.OrderedLemmas.{each-weaker}
-use Rattle.tatp_rows.specs.Keys.{subscriber_key}
 use Rattle.tatp_rows.specs.Rows.{SubscriberRow}
 use Rattle.tatp_actions.specs.Book.{Book, IsRowsOf, IsWithin, subscriber_at, first_subscriber}
 use Rattle.hlr_core.specs.Numbers.{owner_of}
@@ -18,17 +16,17 @@ pub record IsWalking (book : Book) (number s : ℕ) : Type 0 where
 
 pub walk_begins : (book : Book) (number : ℕ) → IsRowsOf 1 16777217 book → IsWalking book number 1
 walk_begins book number rows = record {
-    ahead = ap (λ (rs : List SubscriberRow). owner_of rs number) (walk_start book.subscribers (each-weaker (λ (row : SubscriberRow) within. within.0) book.subscribers rows.subscribers));
-    few = omega arith
-  }
+  ahead = ap (λ (rs : List SubscriberRow). owner_of rs number) (walk_start book.subscribers (each-weaker (λ (row : SubscriberRow) within. within.0) book.subscribers rows.subscribers));
+  few = omega arith;
+}
 
 -- a turn: the row that comes next, whose number is another
 pub walk_goes_on : (book : Book) (number s : ℕ) (row : SubscriberRow) → IsRowsOf 1 16777217 book → Some row ≡ first_subscriber s book.subscribers → (row.sub_nbr ≡ number → ⊥)
     → IsWalking book number s → IsWalking book number (row.s_id + 1)
 walk_goes_on book number s row rows found other walking = record {
-    ahead = sym (walk_on s number book.subscribers row rows.rules.subscribers_ordered (sym found) other) ∙ walking.ahead;
-    few = (let within = each_first (λ (r : SubscriberRow). IsWithin 1 16777217 r.s_id) s book.subscribers row rows.subscribers (sym found) in omega (arith, within.1))
-  }
+  ahead = sym (walk_on s number book.subscribers row rows.rules.subscribers_ordered (sym found) other) ∙ walking.ahead;
+  few = (let within = each_first (λ (r : SubscriberRow). IsWithin 1 16777217 r.s_id) s book.subscribers row rows.subscribers (sym found) in omega (arith, within.1));
+}
 
 -- the walk gets nearer to its end
 pub walk_falls : (book : Book) (s : ℕ) (row : SubscriberRow) → IsRowsOf 1 16777217 book → Some row ≡ first_subscriber s book.subscribers → (s ≤ row.s_id) × (row.s_id < 16777217)
@@ -51,9 +49,9 @@ walk_misses book number s none walking =
 pub has_row : (book : Book) (s : ℕ) (row : SubscriberRow) (answer : Bool) → IsRowsOf 1 16777217 book → Some row ≡ first_subscriber s book.subscribers → answer ≡ (row.s_id == s)
     → answer ≡ is_some (subscriber_at book s)
 has_row book s row answer rows found is = elim (cases_eq row.s_id s) [
-    inl same ↦ rw (is, first_is_row s book.subscribers row rows.rules.subscribers_ordered (sym found) same) (grind (arith, nat_tests))
+  | inl same ↦ rw (is, first_is_row s book.subscribers row rows.rules.subscribers_ordered (sym found) same) (grind (arith, nat_tests))
   | inr other ↦ rw (is, first_is_other s book.subscribers row rows.rules.subscribers_ordered (sym found) other) (grind (arith, nat_tests))
-  ]
+]
 
 pub has_no_row : (book : Book) (s : ℕ) → None ≡ first_subscriber s book.subscribers → false ≡ is_some (subscriber_at book s)
 has_no_row book s none = rw (first_is_none s book.subscribers (sym none)) refl

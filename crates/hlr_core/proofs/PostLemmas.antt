@@ -1,6 +1,6 @@
 -- A posting, cell by cell.
-use Rattle.std.proofs.Common.{◌≡◌, ◌≢◌, ℕ, ◌+◌, ◌*◌, ◌-◌, ◌<◌, ◌≤◌, refl, arith, zero, suc, Bool, true, false, not, List, [], ◌∷◌, take, get_or, set, length, sym, ◌∙◌, ap, subst, Ok, Err, ◌⊎◌, inl, inr, min, if◌then◌else◌}
-use Rattle.std.specs.Prelude.{ℤ, pos, negsuc, ◌+ℤ◌, ◌-ℤ◌, Result}
+use Rattle.std.proofs.Common.{◌≡◌, ℕ, ◌+◌, ◌-◌, ◌<◌, ◌≤◌, refl, arith, zero, suc, Bool, true, false, not, List, [], ◌∷◌, take, set, length, sym, ◌∙◌, Ok, Err, ◌⊎◌, inl, inr, min, if◌then◌else◌}
+use Rattle.std.specs.Prelude.{ℤ, pos, negsuc, ◌+ℤ◌, ◌-ℤ◌}
 use Rattle.std.specs.List.{range_with_len, filter}
 use Rattle.std.proofs.Math.Seq.{take-nil}
 use Rattle.std.proofs.lemmas.Bool.{cases_lt, cases_eq}
@@ -9,10 +9,9 @@ use Rattle.std.proofs.lemmas.Int.{ints}
 use Rattle.std.proofs.lemmas.List.{get_or-set_same, get_or-set_other, get_or_past, length-set}
 use Rattle.tatp_rows.specs.declared.refusal.Refusal.{Refusal}
 use Rattle.tatp_rows.specs.declared.refusal.Refusal.TheVariants as refusal
-use Rattle.tatp_actions.specs.Cell.{cell}
 use Rattle.hlr_core.specs.Board.{IsBoard}
-use Rattle.hlr_core.specs.Held.{HoldingState, pending_at, IsHeld, IsCellPosted}
-use Rattle.hlr_core.specs.Post.{is_zero, is_worn, due, raise_cells, all_cells, post}
+use Rattle.hlr_core.specs.Held.{HoldingState, pending_at, IsCellPosted}
+use Rattle.hlr_core.specs.Post.{is_zero, is_worn, raise_cells, all_cells, post}
 use Rattle.hlr_core.specs.Words.{slot_net, net, raised}
 use Rattle.hlr_core.proofs.BoardLemmas.{raised_board}
 use Rattle.hlr_core.proofs.WordsLemmas.{slot_net-raised, slot_net-raised_cell, slot_net-raised_slot}
@@ -61,9 +60,9 @@ raise_none gap slot c cells posted words e = rw e refl
 -- a delta that was cleared
 pub cleared : (pending : List ℤ) (c : ℕ) → pending_at (set pending c (pos 0)) c ≡ pos 0
 cleared pending c = elim (cases_lt c (length pending)) [
-    inl within ↦ get_or-set_same pending c (pos 0) (pos 0) within
+  | inl within ↦ get_or-set_same pending c (pos 0) (pos 0) within
   | inr past ↦ get_or_past (set pending c (pos 0)) c (pos 0) (rw length-set past)
-  ]
+]
 
 -- the gap of a cell that is still ahead is what is pending
 abbrev gap_of : (ℕ → ℕ) → ℕ → List ℕ → ℕ → ℤ
@@ -74,30 +73,30 @@ pub posting_begins : (count : ℕ → ℕ) (slot limit : ℕ) (start : List ℕ)
     → ((k : ℕ) → k < 51 → net start (slot ∷ []) k +ℤ pending_at pending k ≡ pos (count k)) → IsPosting count slot limit start 0 0 pending start
 unfolding all_cells
 posting_begins count slot limit start pending own board held = record {
-    goes = λ left whole. let all : left ≡ 51 = omega arith in let least_is : min slot 16 ≡ slot = omega arith in let limit_is : limit - 0 ≡ limit = omega arith in rw (all, limit_is, least_is) refl;
-    ahead = λ k from below. let law = held k below in omega (arith, ints);
-    held = held;
-    either = λ k below. (let law = held k below in inl (omega (arith, ints)));
-    apart = λ k other below differ. refl;
-    board = board;
-    few = omega arith;
-    within = omega arith
-  }
+  goes = λ left whole. let all : left ≡ 51 = omega arith in let least_is : min slot 16 ≡ slot = omega arith in let limit_is : limit - 0 ≡ limit = omega arith in rw (all, limit_is, least_is) refl;
+  ahead = λ k from below. let law = held k below in omega (arith, ints);
+  held = held;
+  either = λ k below. (let law = held k below in inl (omega (arith, ints)));
+  apart = λ k other below differ. refl;
+  board = board;
+  few = omega arith;
+  within = omega arith;
+}
 
 -- a cell with nothing pending
 pub posting_passes : (count : ℕ → ℕ) (slot limit : ℕ) (start : List ℕ) (c posted : ℕ) (pending : List ℤ) (words : List ℕ) → c < 51 → pending_at pending c ≡ pos 0
     → IsPosting count slot limit start c posted pending words → IsPosting count slot limit start (c + 1) posted pending words
 posting_passes count slot limit start c posted pending words below none now = record {
-    goes = λ left whole. let no_gap : gap_of count slot start c ≡ pos 0 = sym (now.ahead c (omega arith) below) ∙ none in
-        let was = now.goes (suc left) (omega arith) in rw (open_past (gap_of count slot start) c left no_gap) at was;
-    ahead = λ k from within. now.ahead k (omega arith) within;
-    held = now.held;
-    either = now.either;
-    apart = now.apart;
-    board = now.board;
-    few = omega (arith, now.few);
-    within = now.within
-  }
+  goes = λ left whole. let no_gap : gap_of count slot start c ≡ pos 0 = sym (now.ahead c (omega arith) below) ∙ none in
+      let was = now.goes (suc left) (omega arith) in rw (open_past (gap_of count slot start) c left no_gap) at was;
+  ahead = λ k from within. now.ahead k (omega arith) within;
+  held = now.held;
+  either = now.either;
+  apart = now.apart;
+  board = now.board;
+  few = omega (arith, now.few);
+  within = now.within;
+}
 
 -- a cell that is posted
 pub posting_goes_on : (count : ℕ → ℕ) (slot limit : ℕ) (start : List ℕ) (c posted : ℕ) (pending : List ℤ) (words : List ℕ) → slot < 16 → c < 51 → (posted ≡ limit → ⊥)
@@ -105,33 +104,34 @@ pub posting_goes_on : (count : ℕ → ℕ) (slot limit : ℕ) (start : List ℕ
     → IsPosting count slot limit start c posted pending words
     → IsPosting count slot limit start (c + 1) (posted + 1) (set pending c (pos 0)) (raised words slot c (pending_at pending c))
 posting_goes_on count slot limit start c posted pending words own below room some fits now = record {
-    goes = λ left whole.
-        let gap_is = now.ahead c (omega arith) below in
-        let gap : gap_of count slot start c ≡ pos 0 → ⊥ = λ e. some (gap_is ∙ e) in
-        let fits' : is_worn words slot c (gap_of count slot start c) ≡ false = rw (← gap_is) fits in
-        let one_left : limit - posted ≡ suc (limit - (posted + 1)) = omega (arith, now.within) in
-        let was = now.goes (suc left) (omega arith) in
-        let first = rw (open_here (gap_of count slot start) c left gap, one_left) at was in
-        rw gap_is (sym (raise_one (gap_of count slot start) slot c (take (limit - (posted + 1)) (open_from (gap_of count slot start) (c + 1) left)) posted words fits') ∙ first);
-    ahead = λ k from within. get_or-set_other pending c k (pos 0) (pos 0) (omega arith) ∙ now.ahead k (omega arith) within;
-    held = λ k within. held_at k within;
-    either = λ k within. either_at k within;
-    apart = λ k other within differ. slot_net-raised_slot words slot other c k (pending_at pending c) below within differ ∙ now.apart k other within differ;
-    board = raised_board words slot c (pending_at pending c) now.board fits;
-    few = omega (arith, now.few);
-    within = omega (arith, now.within)
-  }
+  goes = λ left whole.
+      let gap_is = now.ahead c (omega arith) below in
+      let gap : gap_of count slot start c ≡ pos 0 → ⊥ = λ e. some (gap_is ∙ e) in
+      let fits' : is_worn words slot c (gap_of count slot start c) ≡ false = rw (← gap_is) fits in
+      let one_left : limit - posted ≡ suc (limit - (posted + 1)) = omega (arith, now.within) in
+      let was = now.goes (suc left) (omega arith) in
+      let first = rw (open_here (gap_of count slot start) c left gap, one_left) at was in
+      rw gap_is (sym (raise_one (gap_of count slot start) slot c (take (limit - (posted + 1)) (open_from (gap_of count slot start) (c + 1) left)) posted words fits') ∙ first);
+  ahead = λ k from within. get_or-set_other pending c k (pos 0) (pos 0) (omega arith) ∙ now.ahead k (omega arith) within;
+  held = λ k within. held_at k within;
+  either = λ k within. either_at k within;
+  apart = λ k other within differ. slot_net-raised_slot words slot other c k (pending_at pending c) below within differ ∙ now.apart k other within differ;
+  board = raised_board words slot c (pending_at pending c) now.board fits;
+  few = omega (arith, now.few);
+  within = omega (arith, now.within);
+}
   where
     held_at : (k : ℕ) → k < 51 → net (raised words slot c (pending_at pending c)) (slot ∷ []) k +ℤ pending_at (set pending c (pos 0)) k ≡ pos (count k)
     held_at k within = elim (cases_eq k c) [
-        inl same ↦ (let law = now.held c below in rw (same, slot_net-raised words slot c (pending_at pending c) now.board.wide own below, cleared pending c) (omega (arith, ints)))
+      | inl same ↦ (let law = now.held c below in rw (same, slot_net-raised words slot c (pending_at pending c) now.board.wide own below, cleared pending c) (omega (arith, ints)))
       | inr other ↦ (let law = now.held k within in rw (slot_net-raised_cell words slot c k (pending_at pending c) below within other, get_or-set_other pending c k (pos 0) (pos 0) other) law)
-      ]
+    ]
+
     either_at : (k : ℕ) → k < 51 → (pending_at (set pending c (pos 0)) k ≡ pos (count k) -ℤ net start (slot ∷ []) k) ⊎ (pending_at (set pending c (pos 0)) k ≡ pos 0)
     either_at k within = elim (cases_eq k c) [
-        inl same ↦ inr (rw (same, cleared pending c) refl)
+      | inl same ↦ inr (rw (same, cleared pending c) refl)
       | inr other ↦ (rw (get_or-set_other pending c k (pos 0) (pos 0) other) (now.either k within))
-      ]
+    ]
 
 -- the limit is reached
 pub posting_full : (count : ℕ → ℕ) (slot limit : ℕ) (start : List ℕ) (c posted : ℕ) (pending : List ℤ) (words : List ℕ) → c < 51 → posted ≡ limit
@@ -182,6 +182,6 @@ pub either_old : (count : ℕ → ℕ) (slot : ℕ) (start : List ℕ) (old new 
     → ((k : ℕ) → k < 51 → (pending_at new k ≡ pos (count k) -ℤ net start (slot ∷ []) k) ⊎ (pending_at new k ≡ pos 0))
     → (k : ℕ) → k < 51 → (pending_at new k ≡ pending_at old k) ⊎ (pending_at new k ≡ pos 0)
 either_old count slot start old new held either k below = elim (either k below) [
-    inl gap ↦ (let law = held k below in inl (omega (arith, ints)))
+  | inl gap ↦ (let law = held k below in inl (omega (arith, ints)))
   | inr zero_now ↦ inr zero_now
-  ]
+]

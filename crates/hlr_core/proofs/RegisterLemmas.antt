@@ -1,25 +1,23 @@
 -- Right steps of the register, from what its holdings do.
-use Rattle.std.proofs.Common.{◌≡◌, ℕ, ◌<◌, ◌≤◌, ◌&&◌, refl, arith, List, Bool, true, false, Option, Some, None, sym, ◌∙◌, ap, subst, inl, inr}
+use Rattle.std.proofs.Common.{◌≡◌, ℕ, ◌<◌, ◌≤◌, refl, arith, List, Bool, true, false, Option, Some, None, sym, ◌∙◌, ap, inl}
 use Rattle.std.specs.Prelude.{option_map, is_some}
-use Rattle.std.specs.List.{AllByRecursion}
 use Rattle.std.proofs.lemmas.Bool.Decides.{nat_tests}
-use Rattle.tatp_rows.specs.Keys.{subscriber_key, key_of}
 use Rattle.std.specs.Result.{result_ok}
 use Rattle.tatp_rows.proofs.OrderedLemmas.{by_test}
-use Rattle.tatp_rows.specs.Rows.{SubscriberRow, between, is_between, subscriber_in_range}
+use Rattle.tatp_rows.specs.Rows.{SubscriberRow, between, is_between}
 use Rattle.tatp_rows.specs.declared.refusal.Refusal.TheVariants as refusal
-use Rattle.tatp_actions.specs.Action.{effect, is_in_range, s_id_of, IsOutcome}
-use Rattle.tatp_actions.specs.Book.{Book, IsRowsOf, IsWithin, subscriber_at}
+use Rattle.tatp_actions.specs.Action.{is_in_range, IsOutcome}
+use Rattle.tatp_actions.specs.Book.{Book, IsRowsOf, subscriber_at}
 use Rattle.tatp_actions.specs.declared.action.Action.{Action}
 use Rattle.tatp_actions.specs.declared.action.Action.TheVariants as action
 use Rattle.tatp_actions.specs.declared.action.RowReply.{RowReply}
 use Rattle.tatp_actions.specs.declared.action.RowReply.TheVariants as row_reply
-use Rattle.hlr_core.specs.Numbers.{owner_of, HasNoTwin}
-use Rattle.hlr_core.specs.Step.{IsWholeOutcome, IsRowStep, takes_number, whole_effect, reply_of}
+use Rattle.hlr_core.specs.Numbers.{owner_of}
+use Rattle.hlr_core.specs.Step.{IsRowStep, takes_number, whole_effect, reply_of}
 use Rattle.hlr_core.specs.Store.{Store}
 use Rattle.hlr_core.specs.declared.event.Reply.{Reply}
 use Rattle.hlr_core.specs.declared.event.Reply.TheVariants as reply
-use Rattle.hlr_core.proofs.NumbersLemmas.{owner_within, no_twin_after, whole_from_part}
+use Rattle.hlr_core.proofs.NumbersLemmas.{owner_within, whole_from_part}
 
 -- an action whose fields are in range and that takes no number is a right step
 pub acted_step : (act : Action) (before after : Store) (rows : RowReply) (answer : Reply) → is_in_range act ≡ true → takes_number act before.book ≡ false

@@ -1,16 +1,16 @@
 -- What the register's store says of the one holding and its board.
-use Rattle.std.proofs.Common.{◌≡◌, ℕ, ◌+◌, ◌*◌, ◌-◌, ◌<◌, ◌≤◌, refl, arith, zero, suc, List, [], ◌∷◌, sym, ◌∙◌, ap, subst, Some, None, Ok, Err, slice_get}
-use Rattle.std.specs.Prelude.{ℤ, pos, ◌+ℤ◌, ◌-ℤ◌, Result}
+use Rattle.std.proofs.Common.{◌≡◌, ℕ, ◌<◌, refl, arith, zero, suc, List, [], ◌∷◌, sym, ◌∙◌, None, slice_get}
+use Rattle.std.specs.Prelude.{ℤ, Result}
 use Rattle.std.proofs.lemmas.Int.{ints}
 use Rattle.tatp_rows.specs.declared.refusal.Refusal.{Refusal}
-use Rattle.tatp_actions.specs.Book.{Book, IsRowsOf, rows_between}
+use Rattle.tatp_actions.specs.Book.{IsRowsOf, rows_between}
 use Rattle.tatp_actions.specs.Cell.{cell}
 use Rattle.tatp_actions.proofs.BetweenLemmas.{own_rows}
 use Rattle.hlr_core.specs.Held.{HoldingState, pending_at, AreHeld}
 use Rattle.hlr_core.specs.Post.{post}
 use Rattle.hlr_core.specs.Step.{IsPostStep, posted_reply}
 use Rattle.hlr_core.specs.Store.{Store, published, unposted, slots_of}
-use Rattle.hlr_core.specs.Words.{net, slot_net, all_slots}
+use Rattle.hlr_core.specs.Words.{net, slot_net}
 use Rattle.hlr_core.specs.declared.event.Reply.{Reply}
 use Rattle.hlr_core.proofs.WordsLemmas.{net_of_first}
 

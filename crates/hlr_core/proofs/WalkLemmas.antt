@@ -71,9 +71,9 @@ walk_found s n [] row ordered found has = absurd cc
 walk_found s n (x ∷ xs) row ordered found has =
     first_cons s x xs row found
     (λ e from is.
-        let same : x.sub_nbr ≡ n = rw is has in
-        let test : (x.sub_nbr == n) ≡ true = grind (arith, nat_tests) in
-        rw (e, test) cc)
+    let same : x.sub_nbr ≡ n = rw is has in
+    let test : (x.sub_nbr == n) ≡ true = grind (arith, nat_tests) in
+    rw (e, test) cc)
     (λ e below rest. rw e (walk_found s n xs row ordered.1 rest has))
 
 -- the next row has another number, so the number is looked for after it
@@ -83,18 +83,18 @@ walk_on s n [] row ordered found other = absurd cc
 walk_on s n (x ∷ xs) row ordered found other =
     first_cons s x xs row found
     (λ e from is.
-        let differ : x.sub_nbr ≢ n = rw is other in
-        let test : (x.sub_nbr == n) ≡ false = grind (arith, nat_tests) in
-        let at : x.s_id ≡ row.s_id = rw is refl in
-        let past : nat_le (row.s_id + 1) x.s_id ≡ false = grind (arith, nat_tests) in
-        let after : rows_from (row.s_id + 1) xs ≡ xs =
-            rows_from_all (row.s_id + 1) xs
-            (each-weaker {P = λ y. subscriber_key x < subscriber_key y} {Q = λ y. row.s_id + 1 ≤ y.s_id} (λ y above. omega arith) xs ordered.0) in
-        rw (e, test, past, after) refl)
+    let differ : x.sub_nbr ≢ n = rw is other in
+    let test : (x.sub_nbr == n) ≡ false = grind (arith, nat_tests) in
+    let at : x.s_id ≡ row.s_id = rw is refl in
+    let past : nat_le (row.s_id + 1) x.s_id ≡ false = grind (arith, nat_tests) in
+    let after : rows_from (row.s_id + 1) xs ≡ xs =
+    rows_from_all (row.s_id + 1) xs
+    (each-weaker {P = λ y. subscriber_key x < subscriber_key y} {Q = λ y. row.s_id + 1 ≤ y.s_id} (λ y above. omega arith) xs ordered.0) in
+    rw (e, test, past, after) refl)
     (λ e below rest.
-        let from = first_from s xs row rest in
-        let past : nat_le (row.s_id + 1) x.s_id ≡ false = grind (arith, nat_tests) in
-        rw (e, past) (walk_on s n xs row ordered.1 rest other))
+    let from = first_from s xs row rest in
+    let past : nat_le (row.s_id + 1) x.s_id ≡ false = grind (arith, nat_tests) in
+    rw (e, past) (walk_on s n xs row ordered.1 rest other))
 
 -- a row of s is the first from s on
 pub first_is_row : (s : ℕ) (rows : List SubscriberRow) (row : SubscriberRow) → IsOrderedBy subscriber_key rows → first_subscriber s rows ≡ Some row → row.s_id ≡ s
@@ -103,12 +103,12 @@ first_is_row s [] row ordered found at = absurd cc
 first_is_row s (x ∷ xs) row ordered found at =
     first_cons s x xs row found
     (λ e from is.
-        let same : x.s_id ≡ s = rw is at in
-        let test : (subscriber_key x == key_of s 0 0) ≡ true = grind (arith, nat_tests) in
-        rw test cc)
+    let same : x.s_id ≡ s = rw is at in
+    let test : (subscriber_key x == key_of s 0 0) ≡ true = grind (arith, nat_tests) in
+    rw test cc)
     (λ e below rest.
-        let test : (subscriber_key x == key_of s 0 0) ≡ false = grind (arith, nat_tests) in
-        rw test (first_is_row s xs row ordered.1 rest at))
+    let test : (subscriber_key x == key_of s 0 0) ≡ false = grind (arith, nat_tests) in
+    rw test (first_is_row s xs row ordered.1 rest at))
 
 -- where the first row from s on is another's, s has none
 pub first_is_other : (s : ℕ) (rows : List SubscriberRow) (row : SubscriberRow) → IsOrderedBy subscriber_key rows → first_subscriber s rows ≡ Some row → row.s_id ≢ s
@@ -117,13 +117,13 @@ first_is_other s [] row ordered found other = absurd cc
 first_is_other s (x ∷ xs) row ordered found other =
     first_cons s x xs row found
     (λ e from is.
-        let differ : x.s_id ≢ s = rw is other in
-        let test : (subscriber_key x == key_of s 0 0) ≡ false = grind (arith, nat_tests) in
-        rw test (absent_below subscriber_key (key_of s 0 0) xs
-            (each-weaker {P = λ y. subscriber_key x < subscriber_key y} {Q = λ y. key_of s 0 0 < subscriber_key y} (λ y above. omega arith) xs ordered.0)))
+    let differ : x.s_id ≢ s = rw is other in
+    let test : (subscriber_key x == key_of s 0 0) ≡ false = grind (arith, nat_tests) in
+    rw test (absent_below subscriber_key (key_of s 0 0) xs
+    (each-weaker {P = λ y. subscriber_key x < subscriber_key y} {Q = λ y. key_of s 0 0 < subscriber_key y} (λ y above. omega arith) xs ordered.0)))
     (λ e below rest.
-        let test : (subscriber_key x == key_of s 0 0) ≡ false = grind (arith, nat_tests) in
-        rw test (first_is_other s xs row ordered.1 rest other))
+    let test : (subscriber_key x == key_of s 0 0) ≡ false = grind (arith, nat_tests) in
+    rw test (first_is_other s xs row ordered.1 rest other))
 
 -- where there is no row from s on, s has none
 pub first_is_none : (s : ℕ) (rows : List SubscriberRow) → first_subscriber s rows ≡ None → row_at subscriber_key (key_of s 0 0) rows ≡ None

@@ -32,7 +32,7 @@ abbrev pub MovesWith : HoldingState → HoldingState → Type 0
 MovesWith before after =
     (c : ℕ) → c < 51
     → pending_at after.pending c +ℤ pos (cell before.part.width c before.part.book)
-      ≡ pending_at before.pending c +ℤ pos (cell before.part.width c after.part.book)
+    ≡ pending_at before.pending c +ℤ pos (cell before.part.width c after.part.book)
 
 -- one cell of a posting: nothing where nothing is pending, else the word is raised by what is pending, unless it would be worn
 abbrev pub IsCellPosted : ℕ → ℕ → HoldingState → List ℕ → Result Bool Refusal → HoldingState → List ℕ → Type 0

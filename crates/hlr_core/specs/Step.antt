@@ -3,7 +3,7 @@ use Rattle.std.specs.Prelude.{◌≡◌, ℕ, ◌&&◌, Bool, true, false, List,
 use Rattle.tatp_rows.specs.Rows.{SubscriberRow, is_between}
 use Rattle.tatp_rows.specs.declared.refusal.Refusal.{Refusal}
 use Rattle.tatp_rows.specs.declared.refusal.Refusal.TheVariants as refusal
-use Rattle.tatp_actions.specs.Action.{effect, adds_row, is_in_range}
+use Rattle.tatp_actions.specs.Action.{effect, adds_row}
 use Rattle.tatp_actions.specs.Book.{Book}
 use Rattle.tatp_actions.specs.Cell.{cell}
 use Rattle.tatp_actions.specs.declared.action.Action.{Action}
@@ -40,7 +40,7 @@ abbrev pub IsWholeOutcome : Action → Book → RowReply → Book → Type 0
 IsWholeOutcome act before answer after =
     ((answer, after) ≡ whole_effect act before)
     ⊎ ((adds_row act ≡ true) × ((whole_effect act before).0 ≡ row_reply.Done)
-        × (answer ≡ row_reply.Refused refusal.Memory) × (after ≡ before))
+    × (answer ≡ row_reply.Refused refusal.Memory) × (after ≡ before))
 
 -- the reply that carries the rows' answer
 abbrev pub reply_of : RowReply → Reply
@@ -73,7 +73,7 @@ abbrev pub IsStep : Event → Store → Reply → Store → Type 0
 IsStep (SubscriberData s_id) before = IsRowStep (is_between 1 16777216 s_id) (Some (action.SubscriberData s_id)) before
 IsStep (UpdateLocation sub_nbr vlr_location) before =
     IsRowStep (is_between 1 4294967295 vlr_location)
-        (option_map (λ (row : SubscriberRow). action.UpdateLocation row.s_id vlr_location) (owner_of before.book.subscribers sub_nbr)) before
+    (option_map (λ (row : SubscriberRow). action.UpdateLocation row.s_id vlr_location) (owner_of before.book.subscribers sub_nbr)) before
 IsStep (AddSubscriber row) before = IsRowStep true (Some (action.AddSubscriber row)) before
 IsStep (Post part limit) before = IsPostStep (slots_of before part) part limit before
 

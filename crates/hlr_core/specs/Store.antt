@@ -18,7 +18,7 @@ opening parts width = record {
   book = empty_book;
   words = blank_words;
   slots = map (λ p. p ∷ []) (range_with_len 0 parts);
-  width = width
+  width = width;
 }
 
 -- a cell as published: the sum of the nets of all slots

@@ -32,7 +32,6 @@ abbrev pub raised_word : ℕ → ℕ → ℤ → ℕ
 raised_word slot c (pos n) = plus_word slot c
 raised_word slot c (negsuc n) = minus_word slot c
 
-
 -- the words after an amount is posted in a slot and cell
 abbrev pub raised : List ℕ → ℕ → ℕ → ℤ → List ℕ
 raised words slot c amount =

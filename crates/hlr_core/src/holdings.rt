@@ -37,10 +37,10 @@ impl Model for Holdings {
     ghost Value = { Store };
 
     ghost view = { λ h. record {
-        book = h.holding.part.book;
-        words = h.board;
-        slots = (0 ∷ []) ∷ [];
-        width = h.holding.part.width
+      book = h.holding.part.book;
+      words = h.board;
+      slots = (0 ∷ []) ∷ [];
+      width = h.holding.part.width;
     } };
 
     ghost invariant = { λ h. AreHeld h.holding h.board };

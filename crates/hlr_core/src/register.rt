@@ -138,7 +138,10 @@ impl Register {
         let Some(s_id) = self.holdings.find(sub_nbr) else {
             return Reply::Refused(Refusal::NoNumber);
         };
-        reply_from(self.holdings.act(Action::UpdateLocation { s_id, vlr_location }))
+        reply_from(
+            self.holdings
+                .act(Action::UpdateLocation { s_id, vlr_location }),
+        )
     }
 
     fn add_subscriber(&mut self, row: Subscriber) -> Reply

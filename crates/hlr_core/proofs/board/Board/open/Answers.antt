@@ -1,4 +1,4 @@
-use Rattle.std.proofs.Common.{refl, subst, sym, arith, List, ℕ, ◌∙◌}
+use Rattle.std.proofs.Common.{refl, subst, sym, List, ℕ, ◌∙◌}
 use Rattle.hlr_core.specs.Board.{IsBoard}
 use Rattle.hlr_core.proofs.BoardLemmas.{zero_board, blank_is}
 use Rattle.hlr_core.proofs.board.Board.open.Goals as goal

@@ -18,9 +18,9 @@ returns-in_err-post_cell-clause-posted c =
 pub loop-cell-preserved : goal.loop-cell-preserved
 loop-cell-preserved c =
     elim c.if-branch.branch [
-      then-branch w ↦ (let turn = posting_turn _ _ _ _ c.loop-cell.cell c.loop-cell.posted _ c.loop-cell.self c.post_cell.new.self _ _ true c.requires.slot c.loop-cell-test.true (λ e. c.if-from-limit.false (c.from.ensures ∙ e)) (rw w.if-branch.true at c.in_ok-post_cell.ensures) w.posted-is c.loop-cell.invariant.posting in
+      | then-branch w ↦ (let turn = posting_turn _ _ _ _ c.loop-cell.cell c.loop-cell.posted _ c.loop-cell.self c.post_cell.new.self _ _ true c.requires.slot c.loop-cell-test.true (λ e. c.if-from-limit.false (c.from.ensures ∙ e)) (rw w.if-branch.true at c.in_ok-post_cell.ensures) w.posted-is c.loop-cell.invariant.posting in
           record { part = turn.0 ∙ c.loop-cell.invariant.part; posting = turn.1 })
-    | else-branch w ↦ (let turn = posting_turn _ _ _ _ c.loop-cell.cell c.loop-cell.posted _ c.loop-cell.self c.post_cell.new.self _ _ false c.requires.slot c.loop-cell-test.true (λ e. c.if-from-limit.false (c.from.ensures ∙ e)) (rw w.if-branch.false at c.in_ok-post_cell.ensures) w.posted-is c.loop-cell.invariant.posting in
+      | else-branch w ↦ (let turn = posting_turn _ _ _ _ c.loop-cell.cell c.loop-cell.posted _ c.loop-cell.self c.post_cell.new.self _ _ false c.requires.slot c.loop-cell-test.true (λ e. c.if-from-limit.false (c.from.ensures ∙ e)) (rw w.if-branch.false at c.in_ok-post_cell.ensures) w.posted-is c.loop-cell.invariant.posting in
           record { part = turn.0 ∙ c.loop-cell.invariant.part; posting = turn.1 })
     ]
 

@@ -6,5 +6,5 @@ use Rattle.hlr_core.proofs.holding.Holding.post.Given as goal
 abbrev pub invariant-loop-cell : goal.invariant-loop-cell
 invariant-loop-cell l = record {
   part : l.self.part ≡ l.initial.self.part;
-  posting : IsPosting (λ c. cell l.initial.self.part.width c l.initial.self.part.book) l.slot l.limit l.initial.board l.cell l.posted l.self.pending l.board
+  posting : IsPosting (λ c. cell l.initial.self.part.width c l.initial.self.part.book) l.slot l.limit l.initial.board l.cell l.posted l.self.pending l.board;
 }

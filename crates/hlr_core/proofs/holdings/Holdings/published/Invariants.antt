@@ -5,5 +5,5 @@ use Rattle.hlr_core.proofs.holdings.Holdings.published.Given as goal
 abbrev pub invariant-loop-cell : goal.invariant-loop-cell
 invariant-loop-cell l = record {
   wide : length l.cells ≡ 51;
-  each : (k : ℕ) → k < l.cell → slice_index_or l.cells k (pos 0) ≡ slot_net l.self-inside.board k 0
+  each : (k : ℕ) → k < l.cell → slice_index_or l.cells k (pos 0) ≡ slot_net l.self-inside.board k 0;
 }

@@ -1,4 +1,3 @@
-use Rattle.std.proofs.Common.{◌∙◌, ap, refl}
 use Rattle.hlr_core.proofs.StoreLemmas.{unposted_is}
 use Rattle.hlr_core.proofs.holdings.Holdings.unposted.Goals as goal
 

@@ -1,4 +1,4 @@
-use Rattle.std.proofs.Common.{refl, sym, ◌∙◌}
+use Rattle.std.proofs.Common.{sym, ◌∙◌}
 use Rattle.tatp_actions.specs.declared.action.Action.TheVariants as action
 use Rattle.hlr_core.proofs.NumbersLemmas.{no_twin_after}
 use Rattle.hlr_core.proofs.RegisterLemmas.{exists_step, taken_step, owner_some, acted_step}

@@ -4,7 +4,7 @@ use Rattle.hlr_core.proofs.register.Register.apply_all.Goals as goal
 
 pub loop-event-preserved : goal.loop-event-preserved
 loop-event-preserved c = record {
-    run = run_next c.args.events.now c.loop-event.event-index c.event-item.result _ _ _ _ _ _ c.loop-event-test.true c.event-item.is c.loop-event.invariant.run c.apply-reply.ensures c.push_reserved.ensures.items;
-    so_far = omega (arith, c.push_reserved.ensures.len, c.loop-event.invariant.so_far);
-    room = c.push_reserved.ensures.capacity ∙ c.loop-event.invariant.room
-  }
+  run = run_next c.args.events.now c.loop-event.event-index c.event-item.result _ _ _ _ _ _ c.loop-event-test.true c.event-item.is c.loop-event.invariant.run c.apply-reply.ensures c.push_reserved.ensures.items;
+  so_far = omega (arith, c.push_reserved.ensures.len, c.loop-event.invariant.so_far);
+  room = c.push_reserved.ensures.capacity ∙ c.loop-event.invariant.room;
+}

@@ -1,4 +1,4 @@
-use Rattle.std.proofs.Common.{refl, sym, subst, ℕ}
+use Rattle.std.proofs.Common.{refl, subst, ℕ}
 use Rattle.tatp_actions.specs.Action.{IsOutcome}
 use Rattle.tatp_actions.specs.declared.action.Action.TheVariants as action
 use Rattle.hlr_core.proofs.NumbersLemmas.{no_twin_after}
