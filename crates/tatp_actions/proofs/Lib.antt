@@ -6,3 +6,6 @@ pub mod TableLemmas
 pub mod RecountLemmas
 pub mod CountLemmas
 pub mod BetweenLemmas
+pub mod LocalLemmas
+pub mod JoinedLemmas
+pub mod CutLemmas

@@ -5,3 +5,4 @@ pub mod Change
 pub mod Part
 pub mod Table
 pub mod Recount
+pub mod Joined

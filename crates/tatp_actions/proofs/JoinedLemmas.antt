@@ -1,0 +1,122 @@
+-- The rules and the counts of a book that is joined of two.
+use Rattle.std.proofs.Common.{◌≡◌, ◌∙◌, refl, sym, ap, subst, ℕ, ◌+◌, ◌-◌, ◌*◌, ◌≤◌, ◌==◌, ◌&&◌, arith, true, List, ◌++◌, IsSome, nat_lt, if◌then◌else◌}
+use Rattle.std.specs.Prelude.{ℤ}
+use Rattle.std.proofs.lemmas.Int.{ints}
+use Rattle.tatp_actions.specs.Change.{IsChange}
+use Rattle.std.specs.List.{AllByRecursion, sum_by}
+use Rattle.std.proofs.lemmas.List.Sums.{sum_by-append}
+use Rattle.tatp_rows.proofs.AppendLemmas.{each-append, ordered-append}
+use Rattle.tatp_rows.proofs.OrderedLemmas.{by_test, each-weaker, sum_by-same}
+use Rattle.tatp_rows.proofs.RowLemmas.{forwarding_type}
+use Rattle.tatp_rows.specs.Keys.{subscriber_key, access_key, facility_key, forwarding_key}
+use Rattle.tatp_rows.specs.Rows.{SubscriberRow, AccessInfoRow, SpecialFacilityRow, CallForwardingRow, subscriber_in_range, access_in_range, facility_in_range, forwarding_in_range}
+use Rattle.tatp_rows.specs.Zones.{zone_of, area_of}
+use Rattle.tatp_actions.specs.Book.{Book, IsBook, IsRowsOf, IsWithin, subscriber_at, facility_at}
+use Rattle.tatp_actions.specs.Cell.{cell, active_forwardings, in_area, in_zone, has_active_facility}
+use Rattle.tatp_actions.specs.Joined.{join_books, Apart}
+use Rattle.tatp_actions.proofs.LocalLemmas.{apart, each_from_two, subscriber-low, subscriber-high, facility-low, facility-high}
+
+-- both of two facts, of each element
+pub each_both : {X : Type 0} (P Q : X → Type 0) (xs : List X) → AllByRecursion P xs → AllByRecursion Q xs → AllByRecursion (λ x. P x × Q x) xs
+each_both P Q xs ps qs = each_from_two {P = P} {Q = Q} {R = λ x. P x × Q x} (λ x p q. (p, q)) xs ps qs
+
+-- a wider range
+wider : (lo hi lo' hi' s : ℕ) → lo' ≤ lo → hi ≤ hi' → IsWithin lo hi s → IsWithin lo' hi' s
+wider lo hi lo' hi' s down up within = let from = within.0 in let below = within.1 in (omega arith, omega arith)
+
+-- whether a forwarding counts as active from a start time, 1 or 0
+abbrev counts : Book → ℕ → CallForwardingRow → ℕ
+counts book start row = if row.start_time == start && has_active_facility book row then 1 else 0
+
+-- the rows of two ranges that meet keep the rules of a book together
+module _ (lo n hi : ℕ) (low high : Book) (of_low : IsRowsOf lo n low) (of_high : IsRowsOf n hi high) where
+  -- the two books are apart
+  parts : Apart n low high
+  parts = apart lo n hi low high of_low of_high
+
+  access_joined : AllByRecursion (λ (row : AccessInfoRow). IsSome (subscriber_at (join_books low high) row.s_id)) (low.access ++ high.access)
+  access_joined = each-append (λ (row : AccessInfoRow). IsSome (subscriber_at (join_books low high) row.s_id)) low.access high.access
+      (each_from_two {P = λ (row : AccessInfoRow). IsWithin lo n row.s_id} {Q = λ (row : AccessInfoRow). IsSome (subscriber_at low row.s_id)} (λ row within found. subst IsSome (sym (subscriber-low n low high row.s_id parts within.1)) found) low.access of_low.access of_low.rules.access_have_subscriber)
+      (each_from_two {P = λ (row : AccessInfoRow). IsWithin n hi row.s_id} {Q = λ (row : AccessInfoRow). IsSome (subscriber_at high row.s_id)} (λ row within found. subst IsSome (sym (subscriber-high n low high row.s_id parts within.0)) found) high.access of_high.access of_high.rules.access_have_subscriber)
+
+  facilities_joined : AllByRecursion (λ (row : SpecialFacilityRow). IsSome (subscriber_at (join_books low high) row.s_id)) (low.facilities ++ high.facilities)
+  facilities_joined = each-append (λ (row : SpecialFacilityRow). IsSome (subscriber_at (join_books low high) row.s_id)) low.facilities high.facilities
+      (each_from_two {P = λ (row : SpecialFacilityRow). IsWithin lo n row.s_id} {Q = λ (row : SpecialFacilityRow). IsSome (subscriber_at low row.s_id)} (λ row within found. subst IsSome (sym (subscriber-low n low high row.s_id parts within.1)) found) low.facilities of_low.facilities of_low.rules.facilities_have_subscriber)
+      (each_from_two {P = λ (row : SpecialFacilityRow). IsWithin n hi row.s_id} {Q = λ (row : SpecialFacilityRow). IsSome (subscriber_at high row.s_id)} (λ row within found. subst IsSome (sym (subscriber-high n low high row.s_id parts within.0)) found) high.facilities of_high.facilities of_high.rules.facilities_have_subscriber)
+
+  forwardings_joined : AllByRecursion (λ (row : CallForwardingRow). IsSome (facility_at (join_books low high) row.s_id row.sf_type)) (low.forwardings ++ high.forwardings)
+  forwardings_joined = each-append (λ (row : CallForwardingRow). IsSome (facility_at (join_books low high) row.s_id row.sf_type)) low.forwardings high.forwardings
+      (each_from_two {P = λ (row : CallForwardingRow). IsWithin lo n row.s_id × (forwarding_in_range row ≡ true)} {Q = λ (row : CallForwardingRow). IsSome (facility_at low row.s_id row.sf_type)}
+      (λ row known found. let kind = (forwarding_type row known.1).below in subst IsSome (sym (facility-low n low high row.s_id row.sf_type parts known.0.1 (omega arith))) found) low.forwardings
+      (each_both (λ (row : CallForwardingRow). IsWithin lo n row.s_id) (λ (row : CallForwardingRow). forwarding_in_range row ≡ true) low.forwardings of_low.forwardings of_low.rules.forwardings_in_range) of_low.rules.forwardings_have_facility)
+      (each_from_two {P = λ (row : CallForwardingRow). IsWithin n hi row.s_id} {Q = λ (row : CallForwardingRow). IsSome (facility_at high row.s_id row.sf_type)} (λ row within found. subst IsSome (sym (facility-high n low high row.s_id row.sf_type parts within.0)) found) high.forwardings of_high.forwardings of_high.rules.forwardings_have_facility)
+
+  pub rules_joined : IsBook (join_books low high)
+  rules_joined = record {
+    subscribers_ordered = ordered-append subscriber_key (n * 65536) low.subscribers high.subscribers of_low.rules.subscribers_ordered of_high.rules.subscribers_ordered parts.subscribers_below parts.subscribers_from;
+    access_ordered = ordered-append access_key (n * 65536) low.access high.access of_low.rules.access_ordered of_high.rules.access_ordered parts.access_below parts.access_from;
+    facilities_ordered = ordered-append facility_key (n * 65536) low.facilities high.facilities of_low.rules.facilities_ordered of_high.rules.facilities_ordered parts.facilities_below parts.facilities_from;
+    forwardings_ordered = ordered-append forwarding_key (n * 65536) low.forwardings high.forwardings of_low.rules.forwardings_ordered of_high.rules.forwardings_ordered parts.forwardings_below parts.forwardings_from;
+    subscribers_in_range = each-append (λ (row : SubscriberRow). subscriber_in_range row ≡ true) low.subscribers high.subscribers of_low.rules.subscribers_in_range of_high.rules.subscribers_in_range;
+    access_in_range = each-append (λ (row : AccessInfoRow). access_in_range row ≡ true) low.access high.access of_low.rules.access_in_range of_high.rules.access_in_range;
+    facilities_in_range = each-append (λ (row : SpecialFacilityRow). facility_in_range row ≡ true) low.facilities high.facilities of_low.rules.facilities_in_range of_high.rules.facilities_in_range;
+    forwardings_in_range = each-append (λ (row : CallForwardingRow). forwarding_in_range row ≡ true) low.forwardings high.forwardings of_low.rules.forwardings_in_range of_high.rules.forwardings_in_range;
+    access_have_subscriber = access_joined;
+    facilities_have_subscriber = facilities_joined;
+    forwardings_have_facility = forwardings_joined;
+  }
+
+  pub rows_joined : lo ≤ n → n ≤ hi → IsRowsOf lo hi (join_books low high)
+  rows_joined from to = record {
+    rules = rules_joined;
+    subscribers = each-append (λ (row : SubscriberRow). IsWithin lo hi row.s_id) low.subscribers high.subscribers (each-weaker {P = λ (row : SubscriberRow). IsWithin lo n row.s_id} (λ row within. wider lo n lo hi row.s_id (omega arith) to within) low.subscribers of_low.subscribers) (each-weaker {P = λ (row : SubscriberRow). IsWithin n hi row.s_id} (λ row within. wider n hi lo hi row.s_id from (omega arith) within) high.subscribers of_high.subscribers);
+    access = each-append (λ (row : AccessInfoRow). IsWithin lo hi row.s_id) low.access high.access (each-weaker {P = λ (row : AccessInfoRow). IsWithin lo n row.s_id} (λ row within. wider lo n lo hi row.s_id (omega arith) to within) low.access of_low.access) (each-weaker {P = λ (row : AccessInfoRow). IsWithin n hi row.s_id} (λ row within. wider n hi lo hi row.s_id from (omega arith) within) high.access of_high.access);
+    facilities = each-append (λ (row : SpecialFacilityRow). IsWithin lo hi row.s_id) low.facilities high.facilities (each-weaker {P = λ (row : SpecialFacilityRow). IsWithin lo n row.s_id} (λ row within. wider lo n lo hi row.s_id (omega arith) to within) low.facilities of_low.facilities) (each-weaker {P = λ (row : SpecialFacilityRow). IsWithin n hi row.s_id} (λ row within. wider n hi lo hi row.s_id from (omega arith) within) high.facilities of_high.facilities);
+    forwardings = each-append (λ (row : CallForwardingRow). IsWithin lo hi row.s_id) low.forwardings high.forwardings (each-weaker {P = λ (row : CallForwardingRow). IsWithin lo n row.s_id} (λ row within. wider lo n lo hi row.s_id (omega arith) to within) low.forwardings of_low.forwardings) (each-weaker {P = λ (row : CallForwardingRow). IsWithin n hi row.s_id} (λ row within. wider n hi lo hi row.s_id from (omega arith) within) high.forwardings of_high.forwardings);
+  }
+
+  -- and the counts add up
+  active_joined : (start : ℕ) → active_forwardings start (join_books low high) ≡ active_forwardings start low + active_forwardings start high
+  unfolding active_forwardings
+  active_joined start =
+      let both = sum_by-append (counts (join_books low high) start) low.forwardings high.forwardings in
+      let of_lows = sum_by-same (counts (join_books low high) start) (counts low start) low.forwardings
+      (each_from_two {P = λ (row : CallForwardingRow). IsWithin lo n row.s_id} {Q = λ (row : CallForwardingRow). forwarding_in_range row ≡ true}
+      (λ row within holds. let kind = (forwarding_type row holds).below in rw (facility-low n low high row.s_id row.sf_type parts within.1 (omega arith)) refl) low.forwardings of_low.forwardings of_low.rules.forwardings_in_range) in
+      let of_highs = sum_by-same (counts (join_books low high) start) (counts high start) high.forwardings
+      (each-weaker {P = λ (row : CallForwardingRow). IsWithin n hi row.s_id}
+      (λ row within. rw (facility-high n low high row.s_id row.sf_type parts within.0) refl) high.forwardings of_high.forwardings) in
+      both ∙ ap (λ (c : ℕ). c + sum_by (counts (join_books low high) start) high.forwardings) of_lows ∙ ap (λ (c : ℕ). sum_by (counts low start) low.forwardings + c) of_highs
+
+  area_joined : (area : ℕ) → in_area area (join_books low high) ≡ in_area area low + in_area area high
+  unfolding in_area
+  area_joined area = sum_by-append (λ (row : SubscriberRow). if area_of row.vlr_location == area then 1 else 0) low.subscribers high.subscribers
+
+  zone_joined : (width zone : ℕ) → in_zone width zone (join_books low high) ≡ in_zone width zone low + in_zone width zone high
+  unfolding in_zone
+  zone_joined width zone =
+      let s = sum_by-append (λ (row : SubscriberRow). if zone_of width row.s_id == zone then 1 else 0) low.subscribers high.subscribers in
+      let a = sum_by-append (λ (row : AccessInfoRow). if zone_of width row.s_id == zone then 1 else 0) low.access high.access in
+      let f = sum_by-append (λ (row : SpecialFacilityRow). if zone_of width row.s_id == zone then 1 else 0) low.facilities high.facilities in
+      let c = sum_by-append (λ (row : CallForwardingRow). if zone_of width row.s_id == zone then 1 else 0) low.forwardings high.forwardings in
+      omega arith
+
+  pub cell_joined : (width c : ℕ) → cell width c (join_books low high) ≡ cell width c low + cell width c high
+  cell_joined width c = by_test (nat_lt c 3)
+      (λ e. rw e (active_joined (8 * c)))
+      (λ e. by_test (nat_lt c 19)
+      (λ f. rw (e, f) (area_joined (c - 3)))
+      (λ f. rw (e, f) (zone_joined width (c - 19))))
+
+-- the exact change of one of two books is the exact change of their join
+pub change_joined-low : (lo n hi width : ℕ) (low after high : Book) (notes : List (ℕ × ℤ)) → IsRowsOf lo n low → IsRowsOf lo n after → IsRowsOf n hi high
+    → IsChange width low after notes → IsChange width (join_books low high) (join_books after high) notes
+change_joined-low lo n hi width low after high notes of_low of_after of_high changed c within =
+    let moved = changed c within in
+    rw (cell_joined lo n hi low high of_low of_high width c, cell_joined lo n hi after high of_after of_high width c) (omega (arith, ints))
+
+pub change_joined-high : (lo n hi width : ℕ) (low high after : Book) (notes : List (ℕ × ℤ)) → IsRowsOf lo n low → IsRowsOf n hi high → IsRowsOf n hi after
+    → IsChange width high after notes → IsChange width (join_books low high) (join_books low after) notes
+change_joined-high lo n hi width low high after notes of_low of_high of_after changed c within =
+    let moved = changed c within in
+    rw (cell_joined lo n hi low high of_low of_high width c, cell_joined lo n hi low after of_low of_after width c) (omega (arith, ints))
