@@ -11,6 +11,8 @@ mod holding;
 mod holdings;
 mod pending;
 mod register;
+#[cfg(test)]
+mod tests;
 
 pub use event::{Event, Reply};
 pub use register::Register;
