@@ -1,0 +1,138 @@
+-- Digits that are read one by one.
+use Rattle.std.proofs.Common.{◌≡◌, refl, sym, ◌∙◌, ℕ, ◌+◌, ◌-◌, ◌*◌, ◌<◌, ◌≤◌, List, length, get_or, take, true, false, ◌≢◌, below_more, rules, arith}
+use Rattle.std.specs.Prelude.{◌==◌, nat_lt, Bool, Ok, Err, slice_set, map}
+use Rattle.std.specs.List.{list_all}
+use Rattle.std.specs.Char.{is_ascii_digit, digit_value}
+use Rattle.std.specs.Str.Parse.{digits_value}
+use Rattle.std.proofs.lemmas.Bool.Decides.{nat_tests}
+use Rattle.std.proofs.lemmas.Str.{digit_value_digit}
+use Rattle.std.proofs.lemmas.Str.Parse.{digits_value-take-le}
+use Rattle.std.proofs.lemmas.Int.Digits.{digits_value_more}
+use Rattle.std.proofs.lemmas.List.{take_all, ext_get_or, get_or-map, get_or-set_same, get_or-set_other, length-map, length-set}
+use Rattle.std.proofs.lemmas.Bool.{false≢true}
+use Rattle.std.proofs.lemmas.List.Folds.{list_all_more, list_all_at}
+use Rattle.tatp_rows.specs.declared.refusal.Refusal.TheVariants.{Field}
+use Rattle.hlr.specs.Fields.{number_field, digits_field}
+
+-- what an ASCII digit is worth
+pub digit_is : (c : ℕ) → is_ascii_digit c ≡ true → (48 ≤ c) × (c ≤ 57) × (digit_value c ≡ c - 48)
+digit_is c digit =
+    let low : 48 ≤ c = grind (arith, nat_tests) in
+    let high : c ≤ 57 = grind (arith, nat_tests) in
+    (low, high, omega (arith, digit_value_digit c (search rules)))
+
+-- the first i bytes of a text are digits, and spell this value
+pub record IsReadTo (text : List ℕ) (i : ℕ) (value : ℕ) : Type 0 where
+  pub digits : list_all is_ascii_digit (take i text) ≡ true
+  pub value_is : value ≡ digits_value 10 (take i text)
+
+-- one digit more
+pub read_more : (text : List ℕ) (i value more : ℕ) → IsReadTo text i value → i < length text → is_ascii_digit (get_or text i 0) ≡ true → more ≡ get_or text i 0 - 48 → IsReadTo text (i + 1) (value * 10 + more)
+read_more text i value more read inside digit is =
+    let known = digit_is (get_or text i 0) digit in
+    record {
+      digits = list_all_more is_ascii_digit text i 0 inside ∙ rw (read.digits, digit) refl;
+      value_is = rw (digits_value_more 10 text i inside, ← read.value_is, known.2, is) refl;
+    }
+
+-- a byte that is no digit
+pub refused_byte : (text : List ℕ) (i : ℕ) → i < length text → is_ascii_digit (get_or text i 0) ≡ false → Err Field ≡ number_field text
+unfolding number_field
+refused_byte text i inside other = let none = list_all_at is_ascii_digit text i 0 inside other in grind (arith, nat_tests)
+
+-- a value that is too large
+pub refused_value : (text : List ℕ) (i value more : ℕ) → IsReadTo text i value → i < length text → is_ascii_digit (get_or text i 0) ≡ true → more ≡ get_or text i 0 - 48
+    → 18446744073709551615 < value * 10 + more → Err Field ≡ number_field text
+unfolding number_field
+refused_value text i value more read inside digit is large =
+    let next = read_more text i value more read inside digit is in
+    let front = digits_value-take-le 10 text (i + 1) (omega arith) in
+    let value_is = next.value_is in
+    let above : 18446744073709551615 < digits_value 10 text = omega arith in
+    grind (arith, nat_tests)
+
+-- a text without a byte
+pub refused_empty : (text : List ℕ) → (length text == 0) ≡ true → Err Field ≡ number_field text
+unfolding number_field
+refused_empty text none = grind (arith, nat_tests)
+
+-- the whole text is read
+pub read_whole : (text : List ℕ) (i value : ℕ) → (length text == 0) ≡ false → length text ≤ i → IsReadTo text i value → value < 18446744073709551616 → Ok value ≡ number_field text
+unfolding number_field
+read_whole text i value some past read fits =
+    let whole : take i text ≡ text = take_all i text past in
+    let digits : list_all is_ascii_digit text ≡ true = rw whole at read.digits in
+    let value_is : value ≡ digits_value 10 text = rw whole at read.value_is in
+    let below : digits_value 10 text < 18446744073709551616 = omega arith in
+    grind (arith, nat_tests)
+
+-- what passes as a whole passes at each place
+pub passes_at : (p : ℕ → Bool) (xs : List ℕ) (i : ℕ) → list_all p xs ≡ true → i < length xs → p (get_or xs i 0) ≡ true
+passes_at p xs i all inside = by (p (get_or xs i 0)) refl
+  where
+    by : (b : Bool) → p (get_or xs i 0) ≡ b → p (get_or xs i 0) ≡ true
+    by true e = e
+    by false e = absurd (false≢true (sym (list_all_at p xs i 0 inside e) ∙ all))
+
+-- the digits of the first i bytes of a text lie below a limit, and stand in the list
+pub record AreReadTo (limit : ℕ) (text : List ℕ) (i : ℕ) (digits : List ℕ) : Type 0 where
+  pub size : length digits ≡ length text
+  pub small : list_all (λ c. nat_lt (digit_value c) limit) (take i text) ≡ true
+  pub values : (k : ℕ) → k < i → get_or digits k 0 ≡ digit_value (get_or text k 0)
+
+-- no digit is read yet
+pub none_read : (limit : ℕ) (text digits : List ℕ) → length digits ≡ length text → AreReadTo limit text 0 digits
+none_read limit text digits size = record { size = size; small = refl; values = λ k below. absurd (omega arith) }
+
+-- one digit more
+pub one_read : (limit : ℕ) (text : List ℕ) (i : ℕ) (digits : List ℕ) (digit : ℕ) → AreReadTo limit text i digits → i < length text → digit ≡ digit_value (get_or text i 0) → digit < limit
+    → AreReadTo limit text (i + 1) (slice_set digits i digit)
+one_read limit text i digits digit read inside is small =
+    let size = read.size in
+    let less : nat_lt (digit_value (get_or text i 0)) limit ≡ true = grind (arith, nat_tests) in
+    let room : i < length digits = omega arith in
+    record {
+      size = length-set digits i digit ∙ read.size;
+      small = list_all_more (λ c. nat_lt (digit_value c) limit) text i 0 inside ∙ rw (read.small, less) refl;
+      values = below_more _ i
+          (λ k below. let other : k ≢ i = omega arith in rw get_or-set_other (read.values k below))
+          (rw get_or-set_same is);
+    }
+
+-- all digits are read
+pub all_read : (limit size : ℕ) (text : List ℕ) (i : ℕ) (digits : List ℕ) → length text ≡ size → length text ≤ i → AreReadTo limit text i digits → Ok digits ≡ digits_field limit size text
+unfolding digits_field
+all_read limit size text i digits length_is past read =
+    let whole : take i text ≡ text = take_all i text past in
+    let small : list_all (λ c. nat_lt (digit_value c) limit) text ≡ true = rw whole at read.small in
+    let same : digits ≡ map digit_value text = ext_get_or 0 digits (map digit_value text) (rw length-map read.size)
+    (λ k below. let size_is = read.size in read.values k (omega arith) ∙ sym (get_or-map digit_value text k 0 0 (omega arith))) in
+    grind (arith, nat_tests)
+
+-- a digit that is not below the limit
+pub refused_digit : (limit size : ℕ) (text : List ℕ) (i : ℕ) → i < length text → limit ≤ digit_value (get_or text i 0) → Err Field ≡ digits_field limit size text
+unfolding digits_field
+refused_digit limit size text i inside large =
+    let none = list_all_at (λ c. nat_lt (digit_value c) limit) text i 0 inside (search (rules, nat_tests)) in
+    grind (arith, nat_tests)
+
+-- a text of another length
+pub refused_length : (limit size : ℕ) (text : List ℕ) → (length text ≡ size → ⊥) → Err Field ≡ digits_field limit size text
+unfolding digits_field
+refused_length limit size text other = grind (arith, nat_tests)
+
+-- digits that a field gave lie below their limit
+pub digits_below : (limit size : ℕ) (text digits : List ℕ) → Ok digits ≡ digits_field limit size text → (k : ℕ) → k < size → get_or digits k 0 < limit
+unfolding digits_field
+digits_below limit size text digits is k below = by (length text == size) refl (list_all (λ c. nat_lt (digit_value c) limit) text) refl
+  where
+    by : (b : Bool) → (length text == size) ≡ b → (a : Bool) → list_all (λ c. nat_lt (digit_value c) limit) text ≡ a → get_or digits k 0 < limit
+    by true e true a =
+        let gave : Ok digits ≡ Ok (map digit_value text) = rw (e, a) at is in
+        let same : digits ≡ map digit_value text = cc in
+        let long : length text ≡ size = grind (arith, nat_tests) in
+        let less : nat_lt (digit_value (get_or text k 0)) limit ≡ true = passes_at (λ c. nat_lt (digit_value c) limit) text k a (omega arith) in
+        let value : get_or (map digit_value text) k 0 ≡ digit_value (get_or text k 0) = get_or-map digit_value text k 0 0 (omega arith) in
+        rw (same, value) (grind (arith, nat_tests))
+    by true e false a = let gave : Ok digits ≡ Err Field = rw (e, a) at is in cc
+    by false e a f = let gave : Ok digits ≡ Err Field = rw e at is in cc

@@ -1,0 +1,5 @@
+pub mod FieldFacts
+pub mod OptionFacts
+pub mod RunFacts
+pub mod SinkFacts
+pub mod ViewFacts

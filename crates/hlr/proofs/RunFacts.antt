@@ -1,0 +1,279 @@
+-- How the text of a run grows, record by record.
+use Rattle.std.proofs.Common.{◌≡◌, refl, sym, ap, ◌∙◌, subst, ℕ, ◌+◌, ◌≤◌, ◌<◌, List, [], ◌∷◌, ◌++◌, length, Option, Some, None, Bool, true, false, append_assoc, length-append, ◌⊎◌, inl, inr, arith}
+use Rattle.std.specs.Prelude.{IfSome, option_map, Result, Ok, Err, OnOk, OnErr, ℤ, pos, slice_index_or}
+use Rattle.std.proofs.lemmas.Result.{on_ok_weaker, on_err_weaker}
+use Rattle.std.specs.Result.{is_err}
+use Rattle.std.proofs.lemmas.Bool.{false≢true}
+use Rattle.std.proofs.lemmas.List.{append-nil}
+use Rattle.std.specs.Io.KnownBytes.{Appends, Keeps}
+use Rattle.csv.specs.Reading.{ReadRecord, Reached, default_config, reader_config, reader_state, source_of, strip_bom}
+use Rattle.csv.specs.declared.parser.State.{State}
+use Rattle.csv.specs.declared.parser.State.TheVariants as st
+use Rattle.csv.specs.declared.reader.Reader.{Reader}
+use Rattle.csv.proofs.ReadFacts.{rows-more, rows-end}
+use Rattle.tatp_rows.specs.declared.refusal.Refusal.{Refusal}
+use Rattle.hlr_core.specs.Store.{Store, published, unposted}
+use Rattle.hlr.specs.Records.{command_of}
+use Rattle.hlr.specs.Views.{views_text}
+use Rattle.hlr.specs.declared.records.Command.{Command}
+use Rattle.hlr.specs.declared.records.Command.TheVariants as command
+use Rattle.hlr.specs.Sink.{AppendsFront}
+use Rattle.hlr.specs.Text.{CommandText, RecordText, RecordsText, RecordDone, RecordCut, WritesWhole, RanWhole, RanFront, Ran}
+use Rattle.hlr.specs.declared.fault.Fault.{Fault}
+use Rattle.hlr.specs.declared.fault.Fault.TheVariants as fault
+use Rattle.hlr.proofs.ViewFacts.{views_same}
+use Rattle.hlr.proofs.SinkFacts.{appends_none, appends_both, appends_kept, begins_all, begins_after}
+
+-- one record more
+pub records_more : (rows : List (List (List ℕ))) (row : List (List ℕ)) (s m t : Store) (text more : List ℕ)
+    → RecordsText rows s text m → RecordText row m more t → RecordsText (rows ++ row ∷ []) s (text ++ more) t
+unfolding RecordsText
+records_more [] row s m t text more h k =
+    (more, t, [], subst (λ (from : Store). RecordText row from more t) h.1 k, (refl, refl), rw h.0 (sym (append-nil more)))
+records_more (first ∷ rows) row s m t text more h k =
+    (h.0, h.1, h.2 ++ more, h.3, records_more rows row h.1 m t h.2 more h.4 k, ap (λ w. w ++ more) h.5 ∙ append_assoc h.0 h.2 more)
+
+-- the first records of the bytes are read and answered
+pub record SoFar (start : Store) (bytes : List ℕ) (source : Option (List ℕ)) (state : State) (now : Store) (old new : Option (List ℕ)) (count : ℕ) : Type 0 where
+  pub left : List ℕ
+  pub source_is : source ≡ Some left
+  pub rows : List (List (List ℕ))
+  pub reached : Reached default_config st.StartRecord bytes rows state left
+  pub text : List ℕ
+  pub answers : RecordsText rows start text now
+  pub grew : Appends old new text
+  pub many : length rows ≡ count
+
+-- nothing is read yet
+pub started : (start : Store) (bytes : List ℕ) (source : Option (List ℕ)) (at : State) (old : Option (List ℕ)) → source ≡ Some bytes → at ≡ st.StartRecord → SoFar start bytes source at start old old 0
+unfolding RecordsText Reached
+started start bytes source at old source_is at_start = record {
+  left = bytes;
+  source_is = source_is;
+  rows = [];
+  reached = (sym at_start, refl);
+  text = [];
+  answers = (refl, refl);
+  grew = appends_none old;
+  many = refl;
+}
+
+module _ {R : Type 0} (rem : R → Option (List ℕ)) (start : Store) (bytes : List ℕ) where
+  -- one record more is read and answered
+  pub goes_on : (a b : Reader R) (fields : List (List ℕ)) (now next : Store) (old mid new : Option (List ℕ)) (count : ℕ)
+      → SoFar start bytes (source_of rem a) (reader_state a) now old mid count → reader_config a ≡ default_config → (found : Bool) → found ≡ true → ReadRecord rem a b found fields
+      → RecordDone fields now next mid new → SoFar start bytes (source_of rem b) (reader_state b) next old new (count + 1)
+  goes_on a b fields now next old mid new count so config found there taken done =
+      let read : ReadRecord rem a b true fields = subst (λ (f : Bool). ReadRecord rem a b f fields) there taken in
+      let more = rows-more rem a b fields default_config st.StartRecord bytes so.left so.rows config so.source_is so.reached read in
+      let many = so.many in
+      record {
+        left = more.0;
+        source_is = more.1;
+        rows = so.rows ++ fields ∷ [];
+        reached = more.2;
+        text = so.text ++ done.text;
+        answers = records_more so.rows fields start now next so.text done.text so.answers done.answer;
+        grew = appends_both old mid new so.text done.text so.grew done.grew;
+        many = rw length-append (omega arith);
+      }
+
+  -- the bytes end
+  pub ends : (a b : Reader R) (fields : List (List ℕ)) (now : Store) (old new : Option (List ℕ)) (count : ℕ)
+      → SoFar start bytes (source_of rem a) (reader_state a) now old new count → reader_config a ≡ default_config → (found : Bool) → found ≡ false → ReadRecord rem a b found fields → count ≤ 1048576 → RanWhole start bytes old new
+  ends a b fields now old new count so config found none taken few =
+      let read : ReadRecord rem a b false fields = subst (λ (f : Bool). ReadRecord rem a b f fields) none taken in
+      let many = so.many in
+      record {
+        rows = so.rows;
+        are_records = (reader_state a, so.left, so.reached, rows-end rem a b fields default_config so.left config so.source_is read);
+        few = omega arith;
+        text = so.text;
+        end = now;
+        answers = so.answers;
+        grew = so.grew;
+      }
+
+  -- the sink failed in the answer of a record
+  pub breaks : (a b : Reader R) (fields : List (List ℕ)) (now next : Store) (old mid new : Option (List ℕ)) (count : ℕ)
+      → SoFar start bytes (source_of rem a) (reader_state a) now old mid count → reader_config a ≡ default_config → (found : Bool) → found ≡ true → ReadRecord rem a b found fields
+      → RecordCut fields now next mid new → RanFront start bytes old new fault.Write
+  breaks a b fields now next old mid new count so config found there taken cut =
+      let read : ReadRecord rem a b true fields = subst (λ (f : Bool). ReadRecord rem a b f fields) there taken in
+      let more = rows-more rem a b fields default_config st.StartRecord bytes so.left so.rows config so.source_is so.reached read in
+      record {
+        rows = so.rows ++ fields ∷ [];
+        state = reader_state b;
+        left = more.0;
+        are_first = more.2;
+        text = so.text ++ cut.text;
+        end = next;
+        answers = records_more so.rows fields start now next so.text cut.text so.answers cut.answer;
+        written = so.text ++ cut.grew.front;
+        begins = begins_after so.text cut.grew.front cut.text cut.grew.begins;
+        whole = tt;
+        grew = appends_both old mid new so.text cut.grew.front so.grew cut.grew.grew;
+      }
+
+-- a text that is written whole
+pub writes_whole : (why : Fault) (text : List ℕ) → WritesWhole why text text
+writes_whole fault.Memory text = refl
+writes_whole fault.Field text = refl
+writes_whole fault.Thread text = refl
+writes_whole fault.Read text = refl
+writes_whole fault.Write text = tt
+
+-- the run stops between two records
+pub stops : (start : Store) (bytes : List ℕ) (source : Option (List ℕ)) (at : State) (now : Store) (old new : Option (List ℕ)) (count : ℕ) (why : Fault)
+    → SoFar start bytes source at now old new count → RanFront start bytes old new why
+stops start bytes source at now old new count why so = record {
+  rows = so.rows;
+  state = at;
+  left = so.left;
+  are_first = so.reached;
+  text = so.text;
+  end = now;
+  answers = so.answers;
+  written = so.text;
+  begins = begins_all so.text;
+  whole = writes_whole why so.text;
+  grew = so.grew;
+}
+
+-- a run that read nothing and wrote nothing
+pub ran_nothing : (start : Store) (bytes : List ℕ) (old new : Option (List ℕ)) (why : Fault) → Keeps old new → RanFront start bytes old new why
+unfolding RecordsText Reached
+ran_nothing start bytes old new why kept = record {
+  rows = [];
+  state = st.StartRecord;
+  left = bytes;
+  are_first = (refl, refl);
+  text = [];
+  end = start;
+  answers = (refl, refl);
+  written = [];
+  begins = begins_all [];
+  whole = writes_whole why [];
+  grew = appends_kept old old new [] (appends_none old) kept;
+}
+
+-- nothing more is written after a run
+pub ran_kept : (start : Store) (bytes : List ℕ) (old mid new : Option (List ℕ)) (r : Result (Unit {0}) Fault) → Ran start bytes old mid r → Keeps mid new → Ran start bytes old new r
+ran_kept start bytes old mid new (Ok done) ran kept = record {
+  rows = ran.rows;
+  are_records = ran.are_records;
+  few = ran.few;
+  text = ran.text;
+  end = ran.end;
+  answers = ran.answers;
+  grew = appends_kept old mid new ran.text ran.grew kept;
+}
+ran_kept start bytes old mid new (Err why) ran kept = record {
+  rows = ran.rows;
+  state = ran.state;
+  left = ran.left;
+  are_first = ran.are_first;
+  text = ran.text;
+  end = ran.end;
+  answers = ran.answers;
+  written = ran.written;
+  begins = ran.begins;
+  whole = ran.whole;
+  grew = appends_kept old mid new ran.written ran.grew kept;
+}
+
+-- the flush after a run failed
+pub ran_unflushed : (start : Store) (bytes : List ℕ) (old mid new : Option (List ℕ)) (r : Result (Unit {0}) Fault) → Ran start bytes old mid r → Keeps mid new → RanFront start bytes old new fault.Write
+ran_unflushed start bytes old mid new (Ok done) ran kept = record {
+  rows = ran.rows;
+  state = ran.are_records.0;
+  left = ran.are_records.1;
+  are_first = ran.are_records.2;
+  text = ran.text;
+  end = ran.end;
+  answers = ran.answers;
+  written = ran.text;
+  begins = begins_all ran.text;
+  whole = tt;
+  grew = appends_kept old mid new ran.text ran.grew kept;
+}
+ran_unflushed start bytes old mid new (Err why) ran kept = record {
+  rows = ran.rows;
+  state = ran.state;
+  left = ran.left;
+  are_first = ran.are_first;
+  text = ran.text;
+  end = ran.end;
+  answers = ran.answers;
+  written = ran.written;
+  begins = ran.begins;
+  whole = tt;
+  grew = appends_kept old mid new ran.written ran.grew kept;
+}
+
+-- what is known of known bytes
+pub if_some : {X : Type 0} (o : Option X) (P Q : X → Type 0) → ((x : X) → P x → Q x) → IfSome o P → IfSome o Q
+if_some None P Q step h = tt
+if_some (Some x) P Q step h = step x h
+
+-- the report was taken
+pub views_done : {T E : Type 0} (fields : List (List ℕ)) (s : Store) (shown kept : List ℤ) (old new : Option (List ℕ)) (r : Result T E) → Ok command.Views ≡ command_of fields
+    → ((c : ℕ) → c < 51 → slice_index_or shown c (pos 0) ≡ published s c) → ((c : ℕ) → c < 51 → slice_index_or kept c (pos 0) ≡ unposted s c)
+    → OnOk r (Appends old new (views_text (λ c. slice_index_or shown c (pos 0)) (λ c. slice_index_or kept c (pos 0)))) → OnOk r (RecordDone fields s s old new)
+views_done fields s shown kept old new r is first second took =
+    let same = views_same (λ c. slice_index_or shown c (pos 0)) (published s) (λ c. slice_index_or kept c (pos 0)) (unposted s) first second in
+    on_ok_weaker r (λ (grew : Appends old new (views_text (λ c. slice_index_or shown c (pos 0)) (λ c. slice_index_or kept c (pos 0)))). record {
+      text = views_text (published s) (unposted s);
+      answer = subst (λ (asked : Result Command Refusal). CommandText asked s (views_text (published s) (unposted s)) s) is (refl, refl);
+      grew = subst (λ (text : List ℕ). Appends old new text) same grew;
+    }) took
+
+-- a front of the report was taken
+pub views_cut : {T E : Type 0} (fields : List (List ℕ)) (s : Store) (shown kept : List ℤ) (old new : Option (List ℕ)) (r : Result T E) → Ok command.Views ≡ command_of fields
+    → ((c : ℕ) → c < 51 → slice_index_or shown c (pos 0) ≡ published s c) → ((c : ℕ) → c < 51 → slice_index_or kept c (pos 0) ≡ unposted s c)
+    → OnErr r (AppendsFront old new (views_text (λ c. slice_index_or shown c (pos 0)) (λ c. slice_index_or kept c (pos 0)))) → OnErr r (RecordCut fields s s old new)
+views_cut fields s shown kept old new r is first second took =
+    let same = views_same (λ c. slice_index_or shown c (pos 0)) (published s) (λ c. slice_index_or kept c (pos 0)) (unposted s) first second in
+    on_err_weaker r (λ (grew : AppendsFront old new (views_text (λ c. slice_index_or shown c (pos 0)) (λ c. slice_index_or kept c (pos 0)))). record {
+      text = views_text (published s) (unposted s);
+      answer = subst (λ (asked : Result Command Refusal). CommandText asked s (views_text (published s) (unposted s)) s) is (refl, refl);
+      grew = subst (λ (text : List ℕ). AppendsFront old new text) same grew;
+    }) took
+
+-- what holds of the known bytes
+pub if_known : {X : Type 0} (o : Option X) (Q : X → Type 0) → ((x : X) → o ≡ Some x → Q x) → IfSome o Q
+if_known None Q h = tt
+if_known (Some x) Q h = h x refl
+
+-- known bytes that nothing touches
+pub keeps_same : (o : Option (List ℕ)) → Keeps o o
+keeps_same None = tt
+keeps_same (Some xs) = refl
+
+-- an error that is known to be one
+pub on_err_is : {T E P : Type 0} (r : Result T E) → is_err r ≡ true → OnErr r P → P
+on_err_is (Ok x) failed h = absurd (false≢true failed)
+on_err_is (Err e) failed h = h
+
+-- a success that is known to be one
+pub on_ok_is : {T E P : Type 0} (r : Result T E) → is_err r ≡ false → OnOk r P → P
+on_ok_is (Ok x) passed h = h
+on_ok_is (Err e) passed h = absurd (false≢true (sym passed))
+
+-- a run that ended with a flush
+pub ran_finished : (start : Store) (bytes : List ℕ) (old mid new : Option (List ℕ)) (done r : Result (Unit {0}) Fault) → Ran start bytes old mid done → Keeps mid new
+    → (r ≡ done) ⊎ (r ≡ Err fault.Write) → Ran start bytes old new r
+ran_finished start bytes old mid new done r ran kept (inl same) = rw same (ran_kept start bytes old mid new done ran kept)
+ran_finished start bytes old mid new done r ran kept (inr failed) = rw failed (ran_unflushed start bytes old mid new done ran kept)
+
+-- a run that was refused before it read anything
+pub ran_refused : (start : Store) (bytes : List ℕ) (old new : Option (List ℕ)) (r : Result (Unit {0}) Fault) → is_err r ≡ true → Keeps old new → Ran start bytes old new r
+ran_refused start bytes old new (Ok done) failed kept = absurd (false≢true failed)
+ran_refused start bytes old new (Err why) failed kept = ran_nothing start bytes old new why kept
+
+-- a run over a reader's bytes, without the byte order mark before them, that ended with a flush
+pub ran_flushed : (known source : Option (List ℕ)) (start : Store) (old mid new : Option (List ℕ)) (done r : Result (Unit {0}) Fault) → source ≡ option_map strip_bom known
+    → IfSome source (λ bytes. Ran start bytes old mid done) → Keeps mid new → (r ≡ done) ⊎ (r ≡ Err fault.Write) → IfSome known (λ bytes. Ran start (strip_bom bytes) old new r)
+ran_flushed None source start old mid new done r is ran kept ended = tt
+ran_flushed (Some bytes) source start old mid new done r is ran kept ended =
+    ran_finished start (strip_bom bytes) old mid new done r (subst (λ (o : Option (List ℕ)). IfSome o (λ bytes. Ran start bytes old mid done)) is ran) kept ended

@@ -1,0 +1,97 @@
+-- Bytes that a sink took, piece by piece.
+use Rattle.std.proofs.Common.{◌≡◌, refl, sym, ap, ◌∙◌, subst, ℕ, ◌+◌, ◌-◌, ◌≤◌, List, [], ◌++◌, length, take, drop, Option, Some, None, append_assoc, arith}
+use Rattle.std.specs.Prelude.{Bool, true, false, ◌||◌, Result, Ok, Err, OnErr}
+use Rattle.std.proofs.Math.Seq.{take-add}
+use Rattle.std.proofs.lemmas.List.{append-nil, length-take, take-append-drop, take_rest}
+use Rattle.std.specs.Io.KnownBytes.{Appends, Keeps}
+use Rattle.hlr.specs.Sink.{Begins, AppendsFront}
+
+-- nothing was taken yet
+pub appends_none : (old : Option (List ℕ)) → Appends old old []
+appends_none None = tt
+appends_none (Some xs) = sym (append-nil xs)
+
+-- two pieces after each other
+pub appends_both : (old mid new : Option (List ℕ)) (a b : List ℕ) → Appends old mid a → Appends mid new b → Appends old new (a ++ b)
+appends_both None mid new a b h k = tt
+appends_both (Some xs) None new a b h k = absurd h
+appends_both (Some xs) (Some ys) None a b h k = k
+appends_both (Some xs) (Some ys) (Some zs) a b h k = rw (k, h) (append_assoc xs a b)
+
+-- bytes that stay as they are
+pub appends_kept : (old mid new : Option (List ℕ)) (a : List ℕ) → Appends old mid a → Keeps mid new → Appends old new a
+appends_kept None mid new a h k = tt
+appends_kept (Some xs) None new a h k = absurd h
+appends_kept (Some xs) (Some ys) None a h k = k
+appends_kept (Some xs) (Some ys) (Some zs) a h k = rw k h
+
+-- bytes that stayed as they were, before they grew
+pub appends_after : (old mid new : Option (List ℕ)) (a : List ℕ) → Keeps old mid → Appends mid new a → Appends old new a
+appends_after None mid new a h k = tt
+appends_after (Some xs) None new a h k = absurd h
+appends_after (Some xs) (Some ys) None a h k = k
+appends_after (Some xs) (Some ys) (Some zs) a h k = rw (← h) k
+
+-- the first part of a list is a front of it
+pub begins_taken : (n : ℕ) (whole : List ℕ) → Begins (take n whole) whole
+begins_taken n whole = record { rest = drop n whole; whole_is = sym (take-append-drop n whole) }
+
+-- a front of the first piece is one of both
+pub begins_wider : (front a b : List ℕ) → Begins front a → Begins front (a ++ b)
+begins_wider front a b h = record { rest = h.rest ++ b; whole_is = ap (λ w. w ++ b) h.whole_is ∙ append_assoc front h.rest b }
+
+-- the first piece and a front of the second are a front of both
+pub begins_after : (a front b : List ℕ) → Begins front b → Begins (a ++ front) (a ++ b)
+begins_after a front b h = record { rest = h.rest; whole_is = ap (λ w. a ++ w) h.whole_is ∙ sym (append_assoc a front h.rest) }
+
+-- a list is a front of itself
+pub begins_all : (whole : List ℕ) → Begins whole whole
+begins_all whole = record { rest = []; whole_is = sym (append-nil whole) }
+
+pub front_wider : (old new : Option (List ℕ)) (a b : List ℕ) → AppendsFront old new a → AppendsFront old new (a ++ b)
+front_wider old new a b h = record { front = h.front; begins = begins_wider h.front a b h.begins; grew = h.grew }
+
+pub front_after : (old mid new : Option (List ℕ)) (a b : List ℕ) → Appends old mid a → AppendsFront mid new b → AppendsFront old new (a ++ b)
+front_after old mid new a b h k = record { front = a ++ k.front; begins = begins_after a k.front b k.begins; grew = appends_both old mid new a k.front h k.grew }
+
+-- a whole piece as a front of it
+pub front_all : (old new : Option (List ℕ)) (a : List ℕ) → Appends old new a → AppendsFront old new a
+front_all old new a h = record { front = a; begins = begins_all a; grew = h }
+
+-- the first part of a piece was taken, and then nothing more
+pub front_of_kept : (old mid new : Option (List ℕ)) (n : ℕ) (piece : List ℕ) → Appends old mid (take n piece) → Keeps mid new → AppendsFront old new piece
+front_of_kept old mid new n piece h k = record { front = take n piece; begins = begins_taken n piece; grew = appends_kept old mid new (take n piece) h k }
+
+-- the next part of a piece was taken
+pub grew_on : (old mid new : Option (List ℕ)) (i n : ℕ) (piece : List ℕ) → Appends old mid (take i piece) → Appends mid new (take n (take (length piece - i) (drop i piece))) → Appends old new (take (i + n) piece)
+grew_on old mid new i n piece h k =
+    subst (λ (bytes : List ℕ). Appends old new bytes) (sym (take-add i n piece))
+    (appends_both old mid new (take i piece) (take n (drop i piece)) h
+    (subst (λ (left : List ℕ). Appends mid new (take n left)) (take_rest piece i) k))
+
+-- the first part of a piece was taken, and then the next one
+pub front_of_taken : (old mid new : Option (List ℕ)) (i n : ℕ) (piece : List ℕ) → Appends old mid (take i piece) → Appends mid new (take n (take (length piece - i) (drop i piece))) → AppendsFront old new piece
+front_of_taken old mid new i n piece h k =
+    record { front = take (i + n) piece; begins = begins_taken (i + n) piece; grew = grew_on old mid new i n piece h k }
+
+-- what is left of a piece has no more bytes than it has from there on
+pub left_within : (i n : ℕ) (piece : List ℕ) → i ≤ length piece → n ≤ length (take (length piece - i) (drop i piece)) → i + n ≤ length piece
+left_within i n piece h k = omega (arith, length-take (length piece - i) (drop i piece))
+
+-- a test that is false although a part was added to it was false before
+pub or_false_left : (now before part : Bool) → now ≡ (before || part) → now ≡ false → before ≡ false
+or_false_left now true part e f = sym e ∙ f
+or_false_left now false part e f = refl
+
+-- a front of a front is one of the whole
+pub begins_in : (front mid whole : List ℕ) → Begins front mid → Begins mid whole → Begins front whole
+begins_in front mid whole h k =
+    record { rest = h.rest ++ k.rest; whole_is = k.whole_is ∙ ap (λ w. w ++ k.rest) h.whole_is ∙ append_assoc front h.rest k.rest }
+
+pub front_in : (old new : Option (List ℕ)) (mid whole : List ℕ) → Begins mid whole → AppendsFront old new mid → AppendsFront old new whole
+front_in old new mid whole b h = record { front = h.front; begins = begins_in h.front mid whole h.begins b; grew = h.grew }
+
+-- what is said of any error
+pub on_err_any : {T E : Type 0} {P : Type 0} (r : Result T E) → P → OnErr r P
+on_err_any (Ok x) p = tt
+on_err_any (Err e) p = p

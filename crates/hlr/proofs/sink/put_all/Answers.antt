@@ -1,0 +1,17 @@
+use Rattle.std.proofs.Common.{arith}
+use Rattle.hlr.proofs.SinkFacts.{front_of_kept, front_of_taken, grew_on, left_within, or_false_left}
+use Rattle.hlr.proofs.sink.put_all.Goals as goal
+
+pub returns-in-Ok-eq0-clause-err : goal.returns-in-Ok-eq0-clause-err
+returns-in-Ok-eq0-clause-err g c = front_of_taken _ _ _ _ _ _ c.loop-at.invariant.grew c.in-Ok-eq0.ensures.bytes
+
+pub returns-in-Err-clause-err : goal.returns-in-Err-clause-err
+returns-in-Err-clause-err g c = front_of_kept _ _ _ _ _ c.loop-at.invariant.grew c.in-Err.ensures.bytes
+
+pub loop-at-preserved-in-Ok : goal.loop-at-preserved-in-Ok
+loop-at-preserved-in-Ok g c = record {
+  within = left_within _ _ _ c.loop-at.invariant.within c.in-Ok.ensures.bound;
+  few = omega arith;
+  grew = grew_on _ _ _ _ _ _ c.loop-at.invariant.grew c.in-Ok.ensures.bytes;
+  quiet = λ still. c.loop-at.invariant.quiet (or_false_left _ _ _ c.in-Ok.ensures.told still);
+}

@@ -1,0 +1,65 @@
+-- The lines of the answers. A line is ASCII, ends with a line feed, and has fewer than 256 bytes.
+use Rattle.std.specs.Prelude.{ℕ, ◌/◌, ◌%◌, ◌++◌, List, [], ◌∷◌, map, codes, decimal, ℤ}
+use Rattle.std.specs.List.{flat_map}
+use Rattle.std.specs.Char.{digit_char}
+use Rattle.std.specs.Fmt.{signed_decimal}
+use Rattle.tatp_rows.specs.Number.{number_text}
+use Rattle.tatp_rows.specs.Refusal.{code_of, name_of}
+use Rattle.tatp_rows.specs.Rows.{SubscriberRow}
+use Rattle.tatp_rows.specs.declared.refusal.Refusal.{Refusal}
+use Rattle.tatp_actions.specs.declared.action.RowReply.{RowReply}
+use Rattle.tatp_actions.specs.declared.action.RowReply.TheVariants as row_reply
+use Rattle.hlr_core.specs.declared.event.Reply.{Reply}
+use Rattle.hlr_core.specs.declared.event.Reply.TheVariants as reply
+
+-- the hexadecimal digit of a number's lowest four bits, in lower case
+abbrev pub hex_digit : ℕ → ℕ
+hex_digit n = digit_char (n % 16)
+
+-- one hexadecimal digit for each number
+abbrev pub hexes_text : List ℕ → List ℕ
+hexes_text ns = map hex_digit ns
+
+-- two hexadecimal digits for each byte
+abbrev pub bytes_text : List ℕ → List ℕ
+bytes_text ns = flat_map (λ n. hex_digit (n / 16) ∷ hex_digit n ∷ []) ns
+
+-- the line of what was done
+abbrev pub ok_line : List ℕ
+ok_line = codes "ok\n"
+
+-- the line of a refusal: its number and its name
+unfoldable pub refused_line : Refusal → List ℕ
+refused_line why = codes "refused," ++ decimal (code_of why) ++ codes "," ++ name_of why ++ codes "\n"
+
+-- the line of a Subscriber row
+unfoldable pub subscriber_line : SubscriberRow → List ℕ
+subscriber_line row =
+    codes "subscriber," ++ decimal row.s_id ++ codes "," ++ number_text row.sub_nbr ++ codes ","
+    ++ hexes_text row.bits ++ codes "," ++ hexes_text row.hexes ++ codes "," ++ bytes_text row.bytes ++ codes ","
+    ++ decimal row.msc_location ++ codes "," ++ decimal row.vlr_location ++ codes "\n"
+
+-- the line of how many cells were posted
+unfoldable pub posted_line : ℕ → List ℕ
+posted_line n = codes "posted," ++ decimal n ++ codes "\n"
+
+-- the line of a cell: its published and its unposted count
+unfoldable pub cell_line : ℕ → ℤ → ℤ → List ℕ
+cell_line c published unposted =
+    codes "cell," ++ decimal c ++ codes "," ++ signed_decimal published ++ codes "," ++ signed_decimal unposted ++ codes "\n"
+
+-- the line of how many lines a report of cells has
+unfoldable pub views_line : ℕ → List ℕ
+views_line k = codes "views," ++ decimal k ++ codes "\n"
+
+-- the line of the rows' answer
+abbrev pub row_reply_line : RowReply → List ℕ
+row_reply_line row_reply.Done = ok_line
+row_reply_line (row_reply.Row row) = subscriber_line row
+row_reply_line (row_reply.Refused why) = refused_line why
+
+-- the line of a reply
+abbrev pub reply_line : Reply → List ℕ
+reply_line (reply.Rows answer) = row_reply_line answer
+reply_line (reply.Posted n) = posted_line n
+reply_line (reply.Refused why) = refused_line why

@@ -1,0 +1,103 @@
+-- Which command a record is. Syntax comes first, then Field.
+use Rattle.std.specs.Prelude.{ℕ, ◌+◌, ◌==◌, List, [], length, codes, if◌then◌else◌, Option, Some, None, Result, Ok, Err}
+use Rattle.std.specs.Str.{bytes_eq}
+use Rattle.std.specs.Option.{unwrap_or}
+use Rattle.csv.specs.Records.{field_at}
+use Rattle.tatp_rows.specs.Number.{number_in}
+use Rattle.tatp_rows.specs.Rows.{subscriber_of}
+use Rattle.tatp_rows.specs.declared.refusal.Refusal.{Refusal}
+use Rattle.tatp_rows.specs.declared.refusal.Refusal.TheVariants.{Syntax}
+use Rattle.hlr_core.specs.declared.event.Event.TheVariants as event
+use Rattle.hlr.specs.Fields.{◌>>=◌, number_field, digits_field, bytes_field}
+use Rattle.hlr.specs.declared.records.Command.{Command}
+use Rattle.hlr.specs.declared.records.Command.TheVariants as command
+use Rattle.hlr.specs.declared.records.Word.{Word}
+use Rattle.hlr.specs.declared.records.Word.TheVariants as word
+
+-- the field at a place, which is empty where there is none
+abbrev pub field : List (List ℕ) → ℕ → List ℕ
+field fields i = unwrap_or (field_at fields i) []
+
+-- the word that a text is
+unfoldable pub word_named : List ℕ → Option Word
+word_named text =
+    if bytes_eq text (codes "gsd") then Some word.Gsd
+    else if bytes_eq text (codes "gnd") then Some word.Gnd
+    else if bytes_eq text (codes "gad") then Some word.Gad
+    else if bytes_eq text (codes "usd") then Some word.Usd
+    else if bytes_eq text (codes "ul") then Some word.Ul
+    else if bytes_eq text (codes "icf") then Some word.Icf
+    else if bytes_eq text (codes "dcf") then Some word.Dcf
+    else if bytes_eq text (codes "sub") then Some word.Sub
+    else if bytes_eq text (codes "acc") then Some word.Acc
+    else if bytes_eq text (codes "fac") then Some word.Fac
+    else if bytes_eq text (codes "active") then Some word.Active
+    else if bytes_eq text (codes "number") then Some word.Number
+    else if bytes_eq text (codes "post") then Some word.Post
+    else if bytes_eq text (codes "give") then Some word.Give
+    else if bytes_eq text (codes "take") then Some word.Take
+    else if bytes_eq text (codes "views") then Some word.Views
+    else if bytes_eq text (codes "scan") then Some word.Scan
+    else if bytes_eq text (codes "index") then Some word.Index
+    else if bytes_eq text (codes "regions") then Some word.Regions
+    else if bytes_eq text (codes "propose") then Some word.Propose
+    else if bytes_eq text (codes "recut") then Some word.Recut
+    else None
+
+-- gsd,S
+abbrev pub gsd_of : List (List ℕ) → Result Command Refusal
+gsd_of fields = do
+  s_id ← number_field (field fields 1)
+  Ok (command.Ask (event.SubscriberData s_id))
+
+-- ul,N,vlr
+abbrev pub ul_of : List (List ℕ) → Result Command Refusal
+ul_of fields = do
+  sub_nbr ← number_in (field fields 1)
+  vlr_location ← number_field (field fields 2)
+  Ok (command.Ask (event.UpdateLocation sub_nbr vlr_location))
+
+-- sub,S,N,BITS,HEXES,BYTES,msc,vlr
+abbrev pub sub_of : List (List ℕ) → Result Command Refusal
+sub_of fields = do
+  s_id ← number_field (field fields 1)
+  sub_nbr ← number_in (field fields 2)
+  bits ← digits_field 2 10 (field fields 3)
+  hexes ← digits_field 16 10 (field fields 4)
+  bytes ← bytes_field (field fields 5)
+  msc_location ← number_field (field fields 6)
+  vlr_location ← number_field (field fields 7)
+  row ← subscriber_of (record {
+    s_id = s_id;
+    sub_nbr = sub_nbr;
+    bits = bits;
+    hexes = hexes;
+    bytes = bytes;
+    msc_location = msc_location;
+    vlr_location = vlr_location;
+  })
+  Ok (command.Ask (event.AddSubscriber row))
+
+-- post,part,limit
+abbrev pub post_of : List (List ℕ) → Result Command Refusal
+post_of fields = do
+  part ← number_field (field fields 1)
+  limit ← number_field (field fields 2)
+  Ok (command.Ask (event.Post part limit))
+
+-- what the fields after the word give, where there are as many as that
+abbrev pub with_fields : ℕ → List (List ℕ) → Result Command Refusal → Result Command Refusal
+with_fields n fields read = if length fields == n + 1 then read else Err Syntax
+
+-- the command of a word and its fields; words whose command this program doesn't know yet are Syntax
+abbrev pub command_named : Option Word → List (List ℕ) → Result Command Refusal
+command_named (Some word.Gsd) fields = with_fields 1 fields (gsd_of fields)
+command_named (Some word.Ul) fields = with_fields 2 fields (ul_of fields)
+command_named (Some word.Sub) fields = with_fields 7 fields (sub_of fields)
+command_named (Some word.Post) fields = with_fields 2 fields (post_of fields)
+command_named (Some word.Views) fields = with_fields 0 fields (Ok command.Views)
+command_named _ fields = Err Syntax
+
+-- the command of a record
+unfoldable pub command_of : List (List ℕ) → Result Command Refusal
+command_of fields = command_named (word_named (field fields 0)) fields

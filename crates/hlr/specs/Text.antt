@@ -1,0 +1,100 @@
+-- The text that answers a list of records, and what a run writes of it.
+use Rattle.std.specs.Prelude.{◌≡◌, ◌≤◌, ℕ, Bool, true, List, [], ◌∷◌, ◌++◌, length, Option, Result, Ok, Err, ⊤}
+use Rattle.std.specs.Io.KnownBytes.{Appends}
+use Rattle.csv.specs.Reading.{AreRecords, Reached, default_config}
+use Rattle.csv.specs.declared.parser.State.{State}
+use Rattle.csv.specs.declared.parser.State.TheVariants as st
+use Rattle.tatp_rows.specs.declared.refusal.Refusal.{Refusal}
+use Rattle.hlr_core.specs.Step.{IsStep}
+use Rattle.hlr_core.specs.Store.{Store, published, unposted}
+use Rattle.hlr_core.specs.declared.event.Event.{Event}
+use Rattle.hlr_core.specs.declared.event.Reply.{Reply}
+use Rattle.hlr.specs.Lines.{refused_line, reply_line}
+use Rattle.hlr.specs.Records.{command_of}
+use Rattle.hlr.specs.Sink.{Begins, AppendsFront}
+use Rattle.hlr.specs.Views.{views_text}
+use Rattle.hlr.specs.declared.fault.Fault.{Fault}
+use Rattle.hlr.specs.declared.fault.Fault.TheVariants as fault
+use Rattle.hlr.specs.declared.records.Command.{Command}
+use Rattle.hlr.specs.declared.records.Command.TheVariants as command
+
+-- an event is answered by the line of a right reply
+pub record Answered (before : Store) (event : Event) (text : List ℕ) (after : Store) : Type 0 where
+  pub reply : Reply
+  pub right : IsStep event before reply after
+  pub line : text ≡ reply_line reply
+
+-- a command is answered: an event by its reply, a report by its lines, a record that is no command by its refusal
+abbrev pub CommandText : Result Command Refusal → Store → List ℕ → Store → Type 0
+CommandText (Ok (command.Ask event)) before text after = Answered before event text after
+CommandText (Ok command.Views) before text after = (text ≡ views_text (published before) (unposted before)) × (after ≡ before)
+CommandText (Err why) before text after = (text ≡ refused_line why) × (after ≡ before)
+
+-- a record is answered
+abbrev pub RecordText : List (List ℕ) → Store → List ℕ → Store → Type 0
+RecordText fields = CommandText (command_of fields)
+
+-- the records are answered one after another
+unfoldable pub RecordsText : List (List (List ℕ)) → Store → List ℕ → Store → Type 0
+RecordsText [] before text after = (text ≡ []) × (after ≡ before)
+RecordsText (row ∷ rows) before text after =
+    (first : List ℕ) × (next : Store) × (rest : List ℕ)
+    × RecordText row before first next × RecordsText rows next rest after × (text ≡ first ++ rest)
+
+-- a record's whole answer was taken
+pub record RecordDone (fields : List (List ℕ)) (before after : Store) (old new : Option (List ℕ)) : Type 0 where
+  pub text : List ℕ
+  pub answer : RecordText fields before text after
+  pub grew : Appends old new text
+
+-- a front of a record's answer was taken
+pub record RecordCut (fields : List (List ℕ)) (before after : Store) (old new : Option (List ℕ)) : Type 0 where
+  pub text : List ℕ
+  pub answer : RecordText fields before text after
+  pub grew : AppendsFront old new text
+
+-- after a fault of the sink a front of the text was taken, after any other fault all of it
+abbrev pub WritesWhole : Fault → List ℕ → List ℕ → Type 0
+WritesWhole fault.Write written text = ⊤
+WritesWhole fault.Memory written text = written ≡ text
+WritesWhole fault.Field written text = written ≡ text
+WritesWhole fault.Thread written text = written ≡ text
+WritesWhole fault.Read written text = written ≡ text
+
+-- all records of the bytes are answered, and there are not too many
+pub record RanWhole (start : Store) (bytes : List ℕ) (old new : Option (List ℕ)) : Type 0 where
+  pub rows : List (List (List ℕ))
+  pub are_records : AreRecords default_config st.StartRecord bytes rows
+  pub few : length rows ≤ 1048576
+  pub text : List ℕ
+  pub end : Store
+  pub answers : RecordsText rows start text end
+  pub grew : Appends old new text
+
+-- the first records of the bytes are answered
+pub record RanFront (start : Store) (bytes : List ℕ) (old new : Option (List ℕ)) (why : Fault) : Type 0 where
+  pub rows : List (List (List ℕ))
+  pub state : State
+  pub left : List ℕ
+  pub are_first : Reached default_config st.StartRecord bytes rows state left
+  pub text : List ℕ
+  pub end : Store
+  pub answers : RecordsText rows start text end
+  pub written : List ℕ
+  pub begins : Begins written text
+  pub whole : WritesWhole why written text
+  pub grew : Appends old new written
+
+-- a run from a store over these bytes: on Ok all records are answered, after a fault the first ones
+abbrev pub Ran : Store → List ℕ → Option (List ℕ) → Option (List ℕ) → Result (Unit {0}) Fault → Type 0
+Ran start bytes old new (Ok done) = RanWhole start bytes old new
+Ran start bytes old new (Err why) = RanFront start bytes old new why
+
+-- all that a run wrote is flushed, unless the sink failed or was never used
+abbrev pub IsFlushedAfter : Result (Unit {0}) Fault → Bool → Type 0
+IsFlushedAfter (Ok done) flushed = flushed ≡ true
+IsFlushedAfter (Err fault.Memory) flushed = flushed ≡ true
+IsFlushedAfter (Err fault.Thread) flushed = flushed ≡ true
+IsFlushedAfter (Err fault.Read) flushed = flushed ≡ true
+IsFlushedAfter (Err fault.Write) flushed = ⊤
+IsFlushedAfter (Err fault.Field) flushed = ⊤

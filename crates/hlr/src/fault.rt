@@ -1,0 +1,65 @@
+//! Why a run ended early.
+ghost use Rattle.std.specs.Prelude.{◌≡◌};
+ghost use Rattle.csv.specs.Reading.{error_kind};
+ghost use Rattle.hlr.specs.Fault.{fault_code, fault_words, read_fault_of};
+
+use csv::ErrorKind;
+use thiserror::Error;
+
+/// Why a run ended early. No store is left after it.
+#[derive(Clone, Copy, Debug, PartialEq, Eq, Error)]
+pub enum Fault {
+    /// A growth of memory was refused.
+    #[error("no memory")]
+    Memory,
+    /// An option is out of its range.
+    #[error("bad option")]
+    Field,
+    /// A thread's start was refused.
+    #[error("no thread")]
+    Thread,
+    /// The reader failed, or gave more than 1,048,576 records.
+    #[error("read fault")]
+    Read,
+    /// The sink failed.
+    #[error("write fault")]
+    Write,
+}
+
+impl Fault {
+    /// The number of the fault: 1, 2, 18, 20 or 21.
+    pub fn code(self) -> u8
+        ensures { result ≡ fault_code self }
+    {
+        match self {
+            Fault::Memory => 1,
+            Fault::Field => 2,
+            Fault::Thread => 18,
+            Fault::Read => 20,
+            Fault::Write => 21,
+        }
+    }
+
+    /// What the program says of the fault.
+    pub fn words(self) -> &'static str
+        ensures { result.now ≡ fault_words self }
+    {
+        match self {
+            Fault::Memory => "no memory",
+            Fault::Field => "bad option",
+            Fault::Thread => "no thread",
+            Fault::Read => "read fault",
+            Fault::Write => "write fault",
+        }
+    }
+}
+
+/// The fault that a failed read of a record is: `Memory` where memory was wanted, else `Read`.
+pub fn read_fault(error: csv::Error) -> Fault
+    ensures { result ≡ read_fault_of (error_kind error) }
+{
+    match error.into_kind() {
+        ErrorKind::OutOfMemory => Fault::Memory,
+        _ => Fault::Read,
+    }
+}

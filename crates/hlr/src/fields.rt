@@ -1,0 +1,81 @@
+//! What the fields of a command spell.
+ghost use Rattle.std.specs.Prelude.{◌≡◌, ℕ, ◌<◌};
+ghost use Rattle.std.specs.List.{EachIndex};
+ghost use Rattle.std.specs.Prelude.{slice_index};
+ghost use Rattle.std.specs.Char.{digit_value};
+ghost use Rattle.hlr.specs.Fields.{number_field, digits_field, bytes_of, bytes_field};
+
+use tatp_rows::Refusal;
+
+/// The number that a field spells: one or more ASCII digits, leading zeros allowed, with a value of at most
+/// 2^64 - 1. A sign, a space, any other byte or an empty field is `Field`.
+pub fn parse_number(text: &[u8]) -> Result<u64, Refusal>
+    ensures { result ≡ number_field text.now }
+{
+    if text.is_empty() {
+        return Err(Refusal::Field);
+    }
+    let mut value = 0u64;
+    for byte in text {
+        if !byte.is_ascii_digit() {
+            return Err(Refusal::Field);
+        }
+        let digit = u64::from(*byte - b'0');
+        if value > (u64::MAX - digit) / 10 {
+            return Err(Refusal::Field);
+        }
+        value = value * 10 + digit;
+    }
+    Ok(value)
+}
+
+/// The value of a digit or a letter, from 0 for `0` to 35 for `z` and `Z`, and 36 for any other byte.
+fn digit_value(byte: u8) -> u8
+    ensures { result ≡ digit_value byte }
+{
+    match byte {
+        b'0'..=b'9' => byte - b'0',
+        b'A'..=b'Z' => byte - b'A' + 10,
+        b'a'..=b'z' => byte - b'a' + 10,
+        _ => 36,
+    }
+}
+
+/// The `N` digits that a field spells, each below `limit`; the digits above 9 are letters of either case. Another
+/// length or any other byte is `Field`.
+pub fn parse_digits<const N: usize>(text: &[u8], limit: u8) -> Result<[u8; N], Refusal>
+    ensures { result ≡ digits_field limit N text.now }
+{
+    if text.len() != N {
+        return Err(Refusal::Field);
+    }
+    let mut digits = [0u8; N];
+    for (i, byte) in text.iter().enumerate() {
+        let digit = digit_value(*byte);
+        if digit >= limit {
+            return Err(Refusal::Field);
+        }
+        digits[i] = digit;
+    }
+    Ok(digits)
+}
+
+/// The ten bytes of twenty hexadecimal digits.
+fn pair_digits(digits: &[u8; 20]) -> [u8; 10]
+    requires { (k : ℕ) → k < 20 → slice_index digits.now k < 16 }
+    ensures { result ≡ bytes_of digits.now }
+{
+    let mut bytes = [0u8; 10];
+    for i in 0..10 {
+        bytes[i] = 16 * digits[2 * i] + digits[2 * i + 1];
+    }
+    bytes
+}
+
+/// The ten bytes that a field spells in twenty hexadecimal digits of either case; anything else is `Field`.
+pub fn parse_bytes(text: &[u8]) -> Result<[u8; 10], Refusal>
+    ensures { result ≡ bytes_field text.now }
+{
+    let digits = parse_digits::<20>(text, 16)?;
+    Ok(pair_digits(&digits))
+}

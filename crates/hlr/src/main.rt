@@ -1,0 +1,96 @@
+//! A home location register: command records on standard input, an answer for each on standard output.
+#![tactic(auto)]
+
+mod fault;
+mod fields;
+mod lines;
+mod options;
+mod records;
+mod run;
+mod sink;
+#[cfg(test)]
+mod tests;
+mod views;
+
+use clap::error::ErrorKind;
+use fault::Fault;
+use options::{Options, read_options};
+use run::run_alone;
+use sink::Out;
+use std::env::{self, Env};
+use std::io::{self, BufWriter};
+use std::process::ExitCode;
+
+/// Says a fault on standard error, and gives the program's status after it.
+fn fail(rt: &impl Eprint, fault: Fault) -> ExitCode {
+    let words = fault.words();
+    let _ = eprintln!(rt; "hlr: {words}");
+    ExitCode::FAILURE
+}
+
+/// Says a refusal of the options: help on standard output, any other on standard error.
+fn refuse<R: Print + Eprint>(rt: &R, error: &clap::Error) -> ExitCode {
+    if error.kind() == ErrorKind::OutOfMemory {
+        return fail(rt, Fault::Memory);
+    }
+    if error.print(rt).is_err() {
+        return fail(rt, Fault::Write);
+    }
+    if error.use_stderr() {
+        ExitCode::from(2)
+    } else {
+        ExitCode::SUCCESS
+    }
+}
+
+/// The words that the program was started with.
+fn words_of<R: Env + AllocGlobal + Eprint>(rt: &R) -> Result<Vec<String>, ExitCode> {
+    match env::args(rt) {
+        Ok(args) => args
+            .collect::<Vec<String>>(rt.alloc())
+            .map_err(|_| fail(rt, Fault::Memory)),
+        Err(error) if error.kind() == io::ErrorKind::OutOfMemory => Err(fail(rt, Fault::Memory)),
+        Err(_) => {
+            let _ = eprintln!(rt; "hlr: an option is no text");
+            Err(ExitCode::from(2))
+        }
+    }
+}
+
+/// The options that the words ask for.
+fn options_of<R: AllocGlobal + Print + Eprint>(
+    rt: &R,
+    words: &[String],
+) -> Result<Options, ExitCode> {
+    let mut texts = Vec::new(rt.alloc());
+    for word in words {
+        if texts.push(word.as_str()).is_err() {
+            return Err(fail(rt, Fault::Memory));
+        }
+    }
+    read_options(rt.alloc(), texts.as_slice()).map_err(|error| refuse(rt, &error))
+}
+
+/// Answers standard input on standard output.
+fn answer_input<R: AllocGlobal + Input + Print>(rt: &R, options: Options) -> Result<(), Fault> {
+    let Ok(writer) = BufWriter::new(rt.alloc(), io::writer(rt)) else {
+        return Err(Fault::Memory);
+    };
+    let mut sink = Out::new(writer);
+    run_alone(rt.alloc(), rt.reader(), &mut sink, 1, options.width)
+}
+
+fn main(rt: HostRuntime) -> ExitCode {
+    let words = match words_of(&rt) {
+        Ok(words) => words,
+        Err(status) => return status,
+    };
+    let options = match options_of(&rt, words.as_slice()) {
+        Ok(options) => options,
+        Err(status) => return status,
+    };
+    match answer_input(&rt, options) {
+        Ok(()) => ExitCode::SUCCESS,
+        Err(fault) => fail(&rt, fault),
+    }
+}

@@ -1,0 +1,174 @@
+//! A run: every record of a reader is answered.
+ghost use Rattle.std.specs.Prelude.{◌≡◌, ◌≢◌, ◌⊎◌, ◌↔◌, true, false, Err, Ok, IfSome, OnOk, OnErr};
+ghost use Rattle.std.specs.Result.{is_err};
+ghost use Rattle.std.specs.Io.KnownBytes.{Keeps};
+ghost use Rattle.csv.specs.Reading.{Ready, default_config, reader_config, reader_state, reader_trim, source_of, strip_bom};
+ghost use Rattle.csv.specs.Records.{fields_of};
+ghost use Rattle.csv.specs.declared.parser.State.TheVariants as state;
+ghost use Rattle.csv.specs.declared.reader.Trim.TheVariants as trim;
+ghost use Rattle.hlr_core.specs.Store.{HasOpening, opening};
+ghost use Rattle.hlr.specs.Text.{IsFlushedAfter, Ran, RecordCut, RecordDone};
+ghost use Rattle.tatp_rows.specs.declared.refusal.Refusal.TheVariants as refusal;
+ghost use Rattle.hlr.specs.declared.fault.Fault.TheVariants as fault;
+
+use crate::fault::{Fault, read_fault};
+use crate::lines::{Line, build_refused, build_reply, empty_line};
+use crate::records::{Command, read_command};
+use crate::sink::{PutFault, Sink, put_all};
+use crate::views::write_views;
+use csv::{ByteRecord, Reader, ReaderBuilder};
+use hlr_core::Register;
+use std::alloc::Global;
+use std::io::Read;
+use tatp_rows::Refusal;
+
+/// How many records a run answers at most.
+pub const RECORDS: u32 = 1_048_576;
+
+/// Answers a record. The line is the memory to build the answer in. Where the sink fails, a front of the answer was
+/// taken.
+fn answer<S: Sink>(
+    row: &ByteRecord,
+    register: &mut Register,
+    line: &mut Line,
+    sink: &mut S,
+) -> Result<(), PutFault>
+    ensures ok { OnOk result (RecordDone (fields_of row.now) register.old register.new (S.taken sink.old) (S.taken sink.new)) }
+    ensures err { OnErr result (RecordCut (fields_of row.now) register.old register.new (S.taken sink.old) (S.taken sink.new)) }
+    ensures told { OnErr result (S.has_stalled sink.new ≡ true) }
+{
+    match read_command(row) {
+        Ok(Command::Ask(event)) => {
+            let reply = register.apply(event);
+            build_reply(line, &reply);
+            put_all(sink, line.as_slice())
+        }
+        Ok(Command::Views) => {
+            let published = register.published();
+            let unposted = register.unposted();
+            write_views(&published, &unposted, line, sink)
+        }
+        Err(why) => {
+            build_refused(line, why);
+            put_all(sink, line.as_slice())
+        }
+    }
+}
+
+/// Answers the records of a reader in turn: `Read` where the reader fails or gives more than 1,048,576 records,
+/// `Memory` where it wants memory, `Write` where the sink fails. The row is the memory to read records into.
+fn answer_all<R: Read, S: Sink>(
+    reader: &mut Reader<R>,
+    row: &mut ByteRecord,
+    register: &mut Register,
+    sink: &mut S,
+) -> Result<(), Fault>
+    requires trims { reader_trim reader.old ≡ trim.None }
+    requires ready { Ready reader.old }
+    requires config { reader_config reader.old ≡ default_config }
+    requires start { reader_state reader.old ≡ state.StartRecord }
+    ensures text { IfSome (source_of R.remaining reader.old)
+        (λ bytes. Ran register.old bytes (S.taken sink.old) (S.taken sink.new) result) }
+    ensures write { result ≡ Err fault.Write → S.has_stalled sink.new ≡ true }
+    ensures field { result ≢ Err fault.Field }
+{
+    let mut line = empty_line();
+    for count in 0..RECORDS + 1 {
+        match reader.read_byte_record(row) {
+            Ok(false) => return Ok(()),
+            Ok(true) => {
+                if count == RECORDS {
+                    return Err(Fault::Read);
+                }
+                if answer(row, register, &mut line, sink).is_err() {
+                    return Err(Fault::Write);
+                }
+            }
+            Err(error) => return Err(read_fault(error)),
+        }
+    }
+    Err(Fault::Read)
+}
+
+/// Flushes the sink at the end of a run, unless the sink failed already: `Write` where that fails, and else what the
+/// run answered.
+fn finish<S: Sink>(sink: &mut S, done: Result<(), Fault>) -> Result<(), Fault>
+    requires { done ≢ Err fault.Field }
+    ensures bytes { Keeps (S.taken sink.old) (S.taken sink.new) }
+    ensures answer { (result ≡ done) ⊎ (result ≡ Err fault.Write) }
+    ensures kept { done ≡ Err fault.Write → sink.new ≡ sink.old }
+    ensures told { result ≡ Err fault.Write → (done ≡ Err fault.Write) ⊎ (S.has_stalled sink.new ≡ true) }
+    ensures flushed { IsFlushedAfter result (S.is_flushed sink.new) }
+{
+    match done {
+        Err(Fault::Write) => Err(Fault::Write),
+        _ => match sink.flush() {
+            Ok(()) => done,
+            Err(_) => Err(Fault::Write),
+        },
+    }
+}
+
+/// Answers all records of a reader from the store of a register, and flushes the sink.
+fn run_store<R: Read + Drop, S: Sink>(
+    alloc: Global,
+    reader: R,
+    register: &mut Register,
+    sink: &mut S,
+) -> Result<(), Fault>
+    ensures text { IfSome (R.remaining reader)
+        (λ bytes. Ran register.old (strip_bom bytes) (S.taken sink.old) (S.taken sink.new) result) }
+    ensures write { result ≡ Err fault.Write → S.has_stalled sink.new ≡ true }
+    ensures field { result ≢ Err fault.Field }
+    ensures flushed { IsFlushedAfter result (S.is_flushed sink.new) }
+{
+    let mut records = ReaderBuilder::new()
+        .has_headers(false)
+        .flexible(true)
+        .from_reader(alloc, reader);
+    let mut row = ByteRecord::new(alloc);
+    let done = answer_all(&mut records, &mut row, register, sink);
+    finish(sink, done)
+}
+
+/// Ends a run whose store was refused.
+fn refuse_start<S: Sink>(sink: &mut S, why: Refusal) -> Result<(), Fault>
+    ensures fault { is_err result ≡ true }
+    ensures bytes { Keeps (S.taken sink.old) (S.taken sink.new) }
+    ensures write { result ≡ Err fault.Write → S.has_stalled sink.new ≡ true }
+    ensures field { (result ≡ Err fault.Field) ↔ (why ≡ refusal.Field) }
+    ensures untouched { result ≡ Err fault.Field → sink.new ≡ sink.old }
+    ensures flushed { IsFlushedAfter result (S.is_flushed sink.new) }
+{
+    match why {
+        Refusal::Field => Err(Fault::Field),
+        _ => finish(sink, Err(Fault::Memory)),
+    }
+}
+
+/// Answers all records of a reader, without a thread, from a store with no row. The records are those of CSV with no
+/// header row, with any number of fields; a byte order mark before them counts for nothing. A part's range and the
+/// zones' width are those of `Register::open`.
+///
+/// `Field` where parts isn't 1 or width isn't in 1..=524,288, and then nothing is written. `Memory` where memory is
+/// wanted to start or to read a record. `Read` where the reader fails, or gives more than 1,048,576 records. `Write`
+/// where the sink fails. The sink is flushed at the end, but after `Field` and `Write`.
+pub fn run_alone<R: Read + Drop, S: Sink>(
+    alloc: Global,
+    reader: R,
+    sink: &mut S,
+    parts: u8,
+    width: u32,
+) -> Result<(), Fault>
+    ensures text { IfSome (R.remaining reader)
+        (λ bytes. Ran (opening parts width) (strip_bom bytes) (S.taken sink.old) (S.taken sink.new) result) }
+    ensures write { result ≡ Err fault.Write → S.has_stalled sink.new ≡ true }
+    ensures field { (result ≡ Err fault.Field) ↔ (¬ HasOpening parts width) }
+    ensures untouched { result ≡ Err fault.Field → sink.new ≡ sink.old }
+    ensures flushed { IsFlushedAfter result (S.is_flushed sink.new) }
+{
+    match Register::open(alloc, parts, width) {
+        Ok(mut register) => run_store(alloc, reader, &mut register, sink),
+        Err(why) => refuse_start(sink, why),
+    }
+}

@@ -1,0 +1,136 @@
+//! Where answers are written.
+ghost use Rattle.std.specs.Prelude.{◌≡◌, ◌≤◌, ◌&&◌, ◌||◌, Bool, true, false, not, List, ℕ, Option, length, IfOk, OnOk, OnErr};
+ghost use Rattle.std.specs.Result.{is_err};
+ghost use Rattle.std.specs.Io.KnownBytes.{Appends, Keeps, WriteAppends};
+ghost use Rattle.hlr.specs.Sink.{AppendsFront, stalls, takes};
+
+use std::io::{self, ErrorKind, Write};
+
+/// Why a sink took no bytes.
+#[derive(Clone, Copy, Debug, PartialEq, Eq)]
+pub enum PutFault {
+    /// A signal came first; the same call may succeed when it is tried again.
+    Interrupted,
+    /// The sink failed.
+    Failed,
+}
+
+/// What takes the bytes of the answers.
+pub trait Sink {
+    // The bytes taken so far, where they are known.
+    ghost taken: { Self → Option (List ℕ) };
+
+    // A put or a flush so far failed, was interrupted, or took 0 bytes of a piece that had some.
+    ghost has_stalled: { Self → Bool };
+
+    // All that was taken is flushed.
+    ghost is_flushed: { Self → Bool };
+
+    /// Takes the first bytes of the piece, and answers how many; where it fails it takes none.
+    fn put(&mut self, piece: &[u8]) -> Result<usize, PutFault>
+        ensures bound { IfOk result (λ n. n ≤ length piece.now) }
+        ensures bytes { WriteAppends (taken self.old) (taken self.new) result piece.now }
+        ensures told { has_stalled self.new ≡ (has_stalled self.old || stalls result piece.now) }
+        ensures flushed { is_flushed self.new ≡ (is_flushed self.old && not (takes result)) };
+
+    /// Hands on all that was taken.
+    fn flush(&mut self) -> Result<(), PutFault>
+        ensures bytes { Keeps (taken self.old) (taken self.new) }
+        ensures told { has_stalled self.new ≡ (has_stalled self.old || is_err result) }
+        ensures flushed { OnOk result (is_flushed self.new ≡ true) };
+}
+
+/// The sink over a writer.
+#[derive(Drop)]
+pub struct Out<W: Write + Drop> {
+    writer: W,
+    stalled: bool,
+    flushed: bool,
+}
+
+impl<W: Write + Drop> Out<W> {
+    /// The sink over this writer, of which it isn't known that it is flushed.
+    pub fn new(writer: W) -> Self
+        ensures writer { result.writer ≡ writer }
+        ensures quiet { result.stalled ≡ false }
+        ensures unflushed { result.flushed ≡ false }
+    {
+        Out {
+            writer,
+            stalled: false,
+            flushed: false,
+        }
+    }
+}
+
+impl<W: Write + Drop> Sink for Out<W> {
+    ghost taken = { λ s. W.contents s.writer };
+
+    ghost has_stalled = { λ s. s.stalled };
+
+    ghost is_flushed = { λ s. s.flushed };
+
+    fn put(&mut self, piece: &[u8]) -> Result<usize, PutFault> {
+        match self.writer.write(piece) {
+            Ok(n) => {
+                self.stalled = self.stalled || (n == 0 && !piece.is_empty());
+                self.flushed = self.flushed && n == 0;
+                Ok(n)
+            }
+            Err(error) => {
+                self.stalled = true;
+                Err(put_fault(error))
+            }
+        }
+    }
+
+    fn flush(&mut self) -> Result<(), PutFault> {
+        match self.writer.flush() {
+            Ok(()) => {
+                self.flushed = true;
+                Ok(())
+            }
+            Err(error) => {
+                self.stalled = true;
+                self.flushed = false;
+                Err(put_fault(error))
+            }
+        }
+    }
+}
+
+/// The fault that a writer's error is.
+fn put_fault(error: io::Error) -> PutFault {
+    if error.kind() == ErrorKind::Interrupted {
+        PutFault::Interrupted
+    } else {
+        PutFault::Failed
+    }
+}
+
+/// How often in a row a put that a signal interrupts is tried again.
+pub const RETRIES: u8 = 100;
+
+/// Puts the whole piece into the sink. A put that is interrupted is tried again, up to 100 times in a row; one that
+/// takes 0 bytes, or fails, ends it, and then a front of the piece was taken.
+pub fn put_all<S: Sink>(sink: &mut S, piece: &[u8]) -> Result<(), PutFault>
+    ensures ok { OnOk result (Appends (S.taken sink.old) (S.taken sink.new) piece.now) }
+    ensures err { OnErr result (AppendsFront (S.taken sink.old) (S.taken sink.new) piece.now) }
+    ensures told { OnErr result (S.has_stalled sink.new ≡ true) }
+    ensures quiet { S.has_stalled sink.new ≡ false → S.has_stalled sink.old ≡ false }
+{
+    let mut at = 0usize;
+    let mut tries = 0u8;
+    while at < piece.len() {
+        match sink.put(&piece[at..]) {
+            Ok(0) => return Err(PutFault::Failed),
+            Ok(n) => {
+                at += n;
+                tries = 0;
+            }
+            Err(PutFault::Interrupted) if tries < RETRIES => tries += 1,
+            Err(fault) => return Err(fault),
+        }
+    }
+    Ok(())
+}
