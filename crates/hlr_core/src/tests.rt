@@ -1,5 +1,3 @@
-ghost use Rattle.std.specs.Prelude.{◌≤◌};
-
 use super::*;
 use std::test::Fail;
 use tatp_actions::RowReply;
