@@ -5,3 +5,4 @@ pub mod NumberLemmas
 pub mod OrderedLemmas
 pub mod PlaceLemmas
 pub mod RowLemmas
+pub mod SpanLemmas

@@ -3,4 +3,5 @@ pub mod Number
 pub mod Ordered
 pub mod Refusal
 pub mod Rows
+pub mod Spans
 pub mod Zones
