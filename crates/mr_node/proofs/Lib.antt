@@ -1,0 +1,14 @@
+pub mod EntryLemmas
+pub mod KidLemmas
+pub mod PlaceLemmas
+pub mod SizeLemmas
+pub mod NodeLemmas
+pub mod MoveLemmas
+pub mod PairLemmas
+pub mod EvenLemmas
+pub mod MendLemmas
+pub mod CutLemmas
+pub mod RemoveLemmas
+pub mod RootLemmas
+pub mod FirstLemmas
+pub mod FoldLemmas

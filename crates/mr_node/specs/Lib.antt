@@ -1,0 +1,9 @@
+pub mod Changes
+pub mod Entries
+pub mod Falls
+pub mod Folds
+pub mod Growth
+pub mod Kids
+pub mod Levels
+pub mod Pairs
+pub mod Rows

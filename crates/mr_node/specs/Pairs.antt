@@ -1,0 +1,40 @@
+-- Two neighbours: what is moved from one to the other, and how they become one node or two half full ones.
+use Rattle.std.specs.Prelude.{◌≡◌, ℕ, ◌+◌, ◌≤◌, Bool, true, false, ◌++◌, Option, Some, None}
+use Rattle.std.specs.declared.boxed.Box.{Box}
+use Rattle.std.specs.declared.alloc.Global.{Global}
+use Rattle.mr_node.specs.declared.body.Branch.{Branch}
+use Rattle.mr_node.specs.Rows.{Seen, somes, IsPacked}
+use Rattle.mr_node.specs.Levels.{IsWell}
+
+-- the parts of two inner nodes after moves of children between them
+pub record IsMoved {B : Type 0} (a b c d : Branch B) : Type 0 where
+  pub kids : somes c.kids ++ somes d.kids ≡ somes a.kids ++ somes b.kids
+  pub lens : c.len + d.len ≡ a.len + b.len
+  pub left : IsPacked c.len c.kids
+  pub right : IsPacked d.len d.kids
+  pub left_height : c.height ≡ a.height
+  pub right_height : d.height ≡ b.height
+
+-- the widths of two neighbours: the left one has all, or both have 16 or more
+abbrev pub AreEven : Bool → ℕ → ℕ → Type 0
+AreEven true c d = (16 ≤ c) × (c ≤ 32) × (d ≡ 0)
+AreEven false c d = (16 ≤ c) × (c ≤ 32) × (16 ≤ d) × (d ≤ 32)
+
+-- a node that may be a child at height h
+pub record IsFit {V : Type 0} (h : ℕ) (s : Seen V) : Type 0 where
+  pub level : s.height ≡ h
+  pub enough : 16 ≤ s.width
+  pub well : IsWell s
+
+-- two neighbours made into one node, or into two, with the same rows
+abbrev pub IsEvened : {V : Type 0} → Seen V → Seen V → Seen V → Option (Box (Seen V) Global) → Type 0
+IsEvened a b x None = IsFit a.height x × (x.rows ≡ a.rows ++ b.rows)
+IsEvened a b x (Some y) = IsFit a.height x × IsFit a.height y.value × (x.rows ++ y.value.rows ≡ a.rows ++ b.rows)
+
+-- a full node cut in two halves
+pub record IsHalved {V : Type 0} (a x y : Seen V) : Type 0 where
+  pub low : IsFit a.height x
+  pub high : IsFit a.height y
+  pub rows : x.rows ++ y.rows ≡ a.rows
+  pub low_width : x.width ≡ 16
+  pub high_width : y.width ≡ 16

@@ -1,0 +1,268 @@
+//! The entries of a leaf.
+ghost use Rattle.std.specs.Prelude.{◌≡◌, ◌<◌, ◌≤◌, ◌==◌, ◌+◌, ℕ, [], ◌∷◌, None, IfSome, length, option_map, ok_or, nat_le, nat_lt, slice_index_or, slice_set};
+ghost use Rattle.std.specs.List.{find};
+ghost use Rattle.tatp_rows.specs.Ordered.{row_at, with_row_at, without_row};
+ghost use Rattle.mr_node.specs.Rows.{key_limit, key_of_pair, value_at, somes, StartsWith};
+ghost use Rattle.mr_node.specs.Levels.{IsLeaf, seen_leaf};
+ghost use Rattle.mr_node.specs.Entries.{has_key, IsPlaced, replaced, handed_back};
+ghost use Rattle.mr_node.specs.Folds.{FoldsRows};
+ghost use Rattle.mr_node.specs.Growth.{IsGrown, IsRoomAnswer};
+
+use crate::Room;
+use arrayvec::ArrayVec;
+use std::mem;
+
+// Whether the entry's key is below `key`.
+fn is_before<V>(entry: &Option<(u64, V)>, key: u64) -> bool
+    ensures { IfSome entry.now (λ p. result ≡ nat_lt p.0 key) }
+{
+    match entry {
+        Some(pair) => pair.0 < key,
+        None => false,
+    }
+}
+
+// How many entries at the front have lesser keys, by binary search.
+fn entry_place<V>(entries: &[Option<(u64, V)>], key: u64) -> usize
+    ensures { IsPlaced key result entries.now }
+{
+    let mut low = 0;
+    let mut high = entries.len();
+    while low < high {
+        let middle = low + (high - low) / 2;
+        if is_before(&entries[middle], key) {
+            low = middle + 1;
+        } else {
+            high = middle;
+        }
+    }
+    low
+}
+
+// Whether the entry at this place has the key.
+fn is_at<V>(entries: &[Option<(u64, V)>], place: usize, key: u64) -> bool
+    ensures { result ≡ has_key key (slice_index_or entries.now place None) }
+{
+    if place >= entries.len() {
+        return false;
+    }
+    match &entries[place] {
+        Some(pair) => pair.0 == key,
+        None => false,
+    }
+}
+
+// The place of a key in a leaf.
+fn place_in<V>(entries: &ArrayVec<Option<(u64, V)>, 32>, key: u64) -> usize
+    ensures { IsPlaced key result entries.now.items }
+{
+    entry_place(entries.as_slice(), key)
+}
+
+// Whether the entry of a leaf at this place has the key.
+fn has_entry<V>(entries: &ArrayVec<Option<(u64, V)>, 32>, place: usize, key: u64) -> bool
+    ensures { result ≡ has_key key (slice_index_or entries.now.items place None) }
+{
+    is_at(entries.as_slice(), place, key)
+}
+
+// The value of an entry.
+fn value_in<V>(entry: &Option<(u64, V)>) -> Option<&V>
+    ensures { option_map (λ r. r.now) result ≡ option_map (λ p. p.1) entry.now }
+{
+    match entry {
+        Some(pair) => Some(&pair.1),
+        None => None,
+    }
+}
+
+// The value at a key of a leaf.
+pub(crate) fn find_entry<V>(entries: &ArrayVec<Option<(u64, V)>, 32>, key: u64) -> Option<&V>
+    requires { IsLeaf entries.now.items }
+    ensures { option_map (λ r. r.now) result ≡ value_at key (somes entries.now.items) }
+{
+    let place = place_in(entries, key);
+    if !has_entry(entries, place, key) {
+        return None;
+    }
+    value_in(&entries.as_slice()[place])
+}
+
+// Replaces the value of an entry that has the key.
+fn swap_value<V: Drop>(entry: &mut Option<(u64, V)>, key: u64, value: V) -> Result<V, V>
+    ensures entry { entry.new ≡ replaced key value entry.old }
+    ensures value { result ≡ handed_back key value entry.old }
+{
+    match entry {
+        Some(pair) => {
+            if pair.0 == key {
+                Ok(mem::replace(&mut pair.1, value))
+            } else {
+                Err(value)
+            }
+        }
+        None => Err(value),
+    }
+}
+
+// Replaces the value of the entry at a place, where it has the key.
+fn write_entry<V: Drop>(
+    entries: &mut ArrayVec<Option<(u64, V)>, 32>,
+    place: usize,
+    key: u64,
+    value: V,
+) -> Result<V, V>
+    requires { place < length entries.old.items }
+    ensures items { entries.new.items ≡ slice_set entries.old.items place (replaced key value (slice_index_or entries.old.items place None)) }
+    ensures value { result ≡ handed_back key value (slice_index_or entries.old.items place None) }
+{
+    swap_value(&mut entries.as_mut_slice()[place], key, value)
+}
+
+// Replaces the value at a key of a leaf.
+pub(crate) fn replace_entry<V: Drop>(
+    entries: &mut ArrayVec<Option<(u64, V)>, 32>,
+    key: u64,
+    value: V,
+) -> Result<V, V>
+    requires { IsLeaf entries.old.items }
+    ensures rows { somes entries.new.items ≡ with_row_at key_of_pair key (key, value) (somes entries.old.items) }
+    ensures len { length entries.new.items ≡ length entries.old.items }
+    ensures leaf { IsLeaf entries.new.items }
+    ensures value { result ≡ ok_or (value_at key (somes entries.old.items)) value }
+{
+    let place = place_in(entries, key);
+    if !has_entry(entries, place, key) {
+        return Err(value);
+    }
+    write_entry(entries, place, key, value)
+}
+
+// Puts a row into a leaf that has room.
+pub(crate) fn insert_entry<V: Drop>(
+    entries: &mut ArrayVec<Option<(u64, V)>, 32>,
+    key: u64,
+    value: V,
+) -> Room<V>
+    requires leaf { IsLeaf entries.old.items }
+    requires small { key < key_limit }
+    ensures leaf { IsLeaf entries.new.items }
+    ensures answer { IsRoomAnswer key value (seen_leaf entries.old.items) (seen_leaf entries.new.items) result }
+{
+    let place = place_in(entries, key);
+    if has_entry(entries, place, key) {
+        return Room::Exists(value);
+    }
+    if entries.is_full() {
+        return Room::Full(value);
+    }
+    entries.insert(place, Some((key, value)));
+    Room::Done
+}
+
+// Puts a row whose key isn't there into a leaf with room.
+pub(crate) fn insert_new<V: Drop>(entries: &mut ArrayVec<Option<(u64, V)>, 32>, key: u64, value: V)
+    requires leaf { IsLeaf entries.old.items }
+    requires small { key < key_limit }
+    requires missing { row_at key_of_pair key (somes entries.old.items) ≡ None }
+    requires room { length entries.old.items < 32 }
+    ensures leaf { IsLeaf entries.new.items }
+    ensures grown { IsGrown key value (seen_leaf entries.old.items) (seen_leaf entries.new.items) }
+{
+    let place = place_in(entries, key);
+    entries.insert(place, Some((key, value)));
+}
+
+// Takes the row at a key out of a leaf.
+pub(crate) fn remove_entry<V: Drop>(
+    entries: &mut ArrayVec<Option<(u64, V)>, 32>,
+    key: u64,
+) -> Option<V>
+    requires { IsLeaf entries.old.items }
+    ensures rows { somes entries.new.items ≡ without_row key_of_pair key (somes entries.old.items) }
+    ensures len { length entries.old.items ≤ length entries.new.items + 1 }
+    ensures leaf { IsLeaf entries.new.items }
+    ensures value { result ≡ value_at key (somes entries.old.items) }
+{
+    let place = place_in(entries, key);
+    if !has_entry(entries, place, key) {
+        return None;
+    }
+    match entries.remove(place) {
+        Some((_, value)) => Some(value),
+        None => None,
+    }
+}
+
+// The least key of a leaf, or 0 where it has no entry.
+pub(crate) fn least_entry<V>(entries: &ArrayVec<Option<(u64, V)>, 32>) -> u64
+    requires { IsLeaf entries.now.items }
+    ensures { 0 < length entries.now.items → StartsWith result (somes entries.now.items) }
+{
+    if entries.is_empty() {
+        return 0;
+    }
+    key_in(&entries.as_slice()[0])
+}
+
+// The key of an entry, or 0 where it has none.
+fn key_in<V>(entry: &Option<(u64, V)>) -> u64
+    ensures { IfSome entry.now (λ p. p.0 ≡ result) }
+{
+    match entry {
+        Some(pair) => pair.0,
+        None => 0,
+    }
+}
+
+// The row of an entry.
+fn row_in<V>(entry: &Option<(u64, V)>) -> Option<(u64, &V)>
+    ensures { option_map (λ r. (r.0, r.1.now)) result ≡ entry.now }
+{
+    match entry {
+        Some(pair) => Some((pair.0, &pair.1)),
+        None => None,
+    }
+}
+
+// The first row of a leaf from a key on.
+pub(crate) fn first_entry<V>(
+    entries: &ArrayVec<Option<(u64, V)>, 32>,
+    key: u64,
+) -> Option<(u64, &V)>
+    requires { IsLeaf entries.now.items }
+    ensures { option_map (λ r. (r.0, r.1.now)) result ≡ find (λ p. nat_le key p.0) (somes entries.now.items) }
+{
+    let place = place_in(entries, key);
+    if place >= entries.len() {
+        return None;
+    }
+    row_in(&entries.as_slice()[place])
+}
+
+// One step of a fold, where the entry has a row.
+fn fold_entry<V, A, F: Fn(A, u64, &V) -> A>(entry: &Option<(u64, V)>, so_far: A, f: &F) -> A
+    requires { F.IsAlwaysCallable f.now }
+    ensures { FoldsRows (λ a k r b. F.post f.now a k r b) so_far (somes (entry.now ∷ [])) result }
+{
+    match entry {
+        Some(pair) => f(so_far, pair.0, &pair.1),
+        None => so_far,
+    }
+}
+
+// The fold over the rows of a leaf.
+pub(crate) fn fold_entries<V, A, F: Fn(A, u64, &V) -> A>(
+    entries: &[Option<(u64, V)>],
+    init: A,
+    f: &F,
+) -> A
+    requires { F.IsAlwaysCallable f.now }
+    ensures { FoldsRows (λ a k r b. F.post f.now a k r b) init (somes entries.now) result }
+{
+    let mut folded = init;
+    for entry in entries {
+        folded = fold_entry(entry, folded, f);
+    }
+    folded
+}

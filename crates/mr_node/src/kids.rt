@@ -1,0 +1,68 @@
+//! The children of an inner node.
+ghost use Rattle.std.specs.Prelude.{◌≡◌, ◌<◌, ◌≤◌, ℕ, IfSome, nat_le, slice_index_or};
+ghost use Rattle.std.specs.List.{sum_by};
+ghost use Rattle.mr_node.specs.Rows.{somes};
+ghost use Rattle.mr_node.specs.Kids.{IsKidPlace, count_of};
+
+use crate::Kid;
+
+// Whether the child's least key isn't above `key`.
+fn is_within<B>(kid: &Option<Kid<B>>, key: u64) -> bool
+    ensures { IfSome kid.now (λ k. result ≡ nat_le k.least key) }
+{
+    match kid {
+        Some(kid) => kid.least <= key,
+        None => false,
+    }
+}
+
+// The place of the child to which a key belongs, by binary search.
+pub(crate) fn place_of<B>(kids: &[Option<Kid<B>>; 32], len: usize, key: u64) -> usize
+    requires some { 0 < len }
+    requires fits { len ≤ 32 }
+    ensures { IsKidPlace key result len kids.now }
+{
+    let mut low = 0;
+    let mut high = len;
+    while high - low > 1 {
+        let middle = low + (high - low) / 2;
+        if is_within(&kids[middle], key) {
+            low = middle;
+        } else {
+            high = middle;
+        }
+    }
+    low
+}
+
+// The least key of the first child, or 0 where there is none.
+pub(crate) fn least_kid<B>(kids: &[Option<Kid<B>>; 32]) -> u64
+    ensures { IfSome (slice_index_or kids.now 0 None) (λ k. k.least ≡ result) }
+{
+    match &kids[0] {
+        Some(kid) => kid.least,
+        None => 0,
+    }
+}
+
+// The sum of the children's counts.
+pub(crate) fn sum_counts<B>(kids: &[Option<Kid<B>>; 32]) -> u64
+    requires { sum_by (λ k. k.count) (somes kids.now) < 18446744073709551616 }
+    ensures { result ≡ sum_by (λ k. k.count) (somes kids.now) }
+{
+    let mut total = 0;
+    for place in kids {
+        total += count_in(place);
+    }
+    total
+}
+
+// The count of a child, or 0 where the place is empty.
+fn count_in<B>(place: &Option<Kid<B>>) -> u64
+    ensures { result ≡ count_of place.now }
+{
+    match place {
+        Some(kid) => kid.count,
+        None => 0,
+    }
+}

@@ -1,0 +1,23 @@
+//! The nodes of a tree of rows: at most 32 entries or children each, with the meter that counts every node
+//! that is taken apart or built, and the stock of blank nodes from which trees grow.
+#![tactic(auto)]
+
+mod body;
+mod branch;
+mod entries;
+mod halves;
+mod kids;
+mod mending;
+mod meter;
+mod node;
+mod pairs;
+mod room;
+mod stock;
+#[cfg(test)]
+mod tests;
+
+pub use body::{Body, Branch, Kid};
+pub use meter::Meter;
+pub use node::{Node, build_inner, build_leaf, open};
+pub use room::Room;
+pub use stock::{Blanks, Stock};

@@ -1,0 +1,420 @@
+//! Nodes.
+ghost use Rattle.std.specs.Prelude.{◌≡◌, ◌+◌, ◌*◌, ◌<◌, ◌≤◌, ℕ, None, min, [], length, nat_le, option_map, ok_or};
+ghost use Rattle.std.specs.List.{find};
+ghost use Rattle.tatp_rows.specs.Ordered.{row_at, with_row_at};
+ghost use Rattle.mr_node.specs.Rows.{key_limit, key_of_pair, value_at, StartsWith};
+ghost use Rattle.mr_node.specs.Levels.{seen, IsNode, IsWell, IsLeaf, IsBranch, seen_leaf, seen_branch};
+ghost use Rattle.mr_node.specs.Folds.{FoldsRows};
+ghost use Rattle.mr_node.specs.Growth.{IsGrown, IsRoomAnswer, IsNoted};
+ghost use Rattle.mr_node.specs.Changes.{IsShrunk, IsHeightened, IsLowered};
+
+use crate::branch::{put_kid, take_kid};
+use crate::entries::{
+    find_entry, first_entry, fold_entries, insert_entry, insert_new, least_entry, remove_entry,
+    replace_entry,
+};
+use crate::halves::{halve, kid_of, no_kids};
+use crate::kids::{least_kid, place_of, sum_counts};
+use crate::mending::{make_room, mend, recount};
+use crate::{Body, Branch, Meter, Room, Stock};
+use arrayvec::ArrayVec;
+use std::marker::Model;
+use std::mem;
+
+/// A node of a tree, seen as its height, its width and its rows. Each child of an inner node is half full at least.
+#[derive(Drop)]
+pub struct Node<V> {
+    body: Body<V, Box<Node<V>>>,
+}
+
+impl<V> Model for Node<V> {
+    ghost use Rattle.mr_node.specs.Rows.{Seen, seen_code};
+
+    ghost Value = { Seen V };
+
+    ghost coded = { seen_code V.code };
+
+    ghost use Rattle.mr_node.specs.Levels.{seen, IsNode};
+
+    ghost view = { λ a. seen a.body };
+
+    ghost invariant = { λ a. IsNode a.body };
+
+    ghost size = { λ s. s.height };
+
+    ghost use Rattle.mr_node.specs.Falls.{depth_le_height};
+
+    ghost size_decreases = { λ a h. depth_le_height V a h };
+}
+
+impl<V> Node<V> {
+    /// A leaf without entries.
+    pub fn new() -> Self
+        ensures { result ≡ record { height = 0; width = 0; rows = [] } }
+    {
+        Node {
+            body: Body::Leaf(ArrayVec::new()),
+        }
+    }
+
+    /// How far the node is above the leaves: 0 for a leaf.
+    pub fn height(&self) -> u64
+        ensures value { result ≡ self.now.height }
+        ensures well { IsWell self.now }
+    {
+        match &self.body {
+            Body::Leaf(_) => 0,
+            Body::Inner(branch) => branch.height,
+        }
+    }
+
+    /// The number of entries of a leaf, or of children of an inner node, at most 32.
+    pub fn width(&self) -> usize
+        ensures value { result ≡ self.now.width }
+        ensures well { IsWell self.now }
+    {
+        match &self.body {
+            Body::Leaf(entries) => entries.len(),
+            Body::Inner(branch) => branch.len,
+        }
+    }
+
+    /// The number of rows in and below the node.
+    pub fn len(&self) -> u64
+        ensures { result ≡ length self.now.rows }
+    {
+        match &self.body {
+            Body::Leaf(entries) => entries.len() as u64,
+            Body::Inner(branch) => sum_counts(&branch.kids),
+        }
+    }
+
+    // The least key of a node that has any row, else 0.
+    pub(crate) fn least(&self) -> u64
+        ensures { 0 < self.now.width → StartsWith result self.now.rows }
+    {
+        match &self.body {
+            Body::Leaf(entries) => least_entry(entries),
+            Body::Inner(branch) => least_kid(&branch.kids),
+        }
+    }
+
+    /// The value at a key, or `None`. Looking is no step.
+    pub fn find(&self, key: u64) -> Option<&V>
+        ensures { option_map (λ r. r.now) result ≡ value_at key self.now.rows }
+    {
+        match &self.body {
+            Body::Leaf(entries) => find_entry(entries, key),
+            Body::Inner(branch) => {
+                let at = place_of(&branch.kids, branch.len, key);
+                match &branch.kids[at] {
+                    Some(kid) => kid.node.find(key),
+                    None => unreachable!(),
+                }
+            }
+        }
+    }
+
+    /// The first row from a key on, or `None`. Looking is no step.
+    pub fn first_from(&self, key: u64) -> Option<(u64, &V)>
+        ensures { option_map (λ r. (r.0, r.1.now)) result ≡ find (λ p. nat_le key p.0) self.now.rows }
+    {
+        match &self.body {
+            Body::Leaf(entries) => first_entry(entries, key),
+            Body::Inner(branch) => {
+                let at = place_of(&branch.kids, branch.len, key);
+                match &branch.kids[at] {
+                    Some(kid) => match kid.node.first_from(key) {
+                        Some(row) => Some(row),
+                        None => {
+                            if at + 1 >= branch.len {
+                                return None;
+                            }
+                            match &branch.kids[at + 1] {
+                                Some(next) => next.node.first_from(key),
+                                None => unreachable!(),
+                            }
+                        }
+                    },
+                    None => unreachable!(),
+                }
+            }
+        }
+    }
+
+    /// The fold over the rows in key order. Looking is no step.
+    pub fn fold<A, F: Fn(A, u64, &V) -> A>(&self, init: A, f: &F) -> A
+        requires { F.IsAlwaysCallable f.now }
+        ensures { FoldsRows (λ a k r b. F.post f.now a k r b) init self.now.rows result }
+    {
+        match &self.body {
+            Body::Leaf(entries) => fold_entries(entries.as_slice(), init, f),
+            Body::Inner(branch) => {
+                let mut folded = init;
+                for place in &branch.kids {
+                    match place {
+                        Some(kid) => {
+                            folded = kid.node.fold(folded, f);
+                        }
+                        None => {}
+                    }
+                }
+                folded
+            }
+        }
+    }
+
+    // The parts of a node.
+    fn into_body(self) -> Body<V, Box<Node<V>>>
+        ensures seen { seen result ≡ self }
+        ensures whole { IsNode result }
+    {
+        self.body
+    }
+}
+
+impl<V: Drop> Node<V> {
+    /// Replaces the value at a key in place, and gives the old one. `Err` with the new one where the key isn't there.
+    pub fn replace(&mut self, key: u64, value: V) -> Result<V, V>
+        ensures rows { self.new ≡ record self.old { rows = with_row_at key_of_pair key (key, value) self.old.rows } }
+        ensures well { IsWell self.new }
+        ensures value { result ≡ ok_or (value_at key self.old.rows) value }
+    {
+        match &mut self.body {
+            Body::Leaf(entries) => replace_entry(entries, key, value),
+            Body::Inner(branch) => {
+                let at = place_of(&branch.kids, branch.len, key);
+                match &mut branch.kids[at] {
+                    Some(kid) => {
+                        let node = &mut *kid.node;
+                        node.replace(key, value)
+                    }
+                    None => unreachable!(),
+                }
+            }
+        }
+    }
+
+    /// Takes the row at a key out in place, and evens out what is less than half full. Two steps a level and at most
+    /// four for each two neighbours that are evened out. A root may be left with one child.
+    pub fn remove(&mut self, key: u64, meter: &mut Meter) -> Option<V>
+        requires { 0 < self.old.height → 2 ≤ self.old.width }
+        ensures new { IsShrunk key self.old self.new }
+        ensures value { result ≡ value_at key self.old.rows }
+        ensures steps { meter.new ≤ meter.old + 6 * (self.old.height + 1) }
+    {
+        meter.pass();
+        match &mut self.body {
+            Body::Leaf(entries) => remove_entry(entries, key),
+            Body::Inner(branch) => {
+                let at = place_of(&branch.kids, branch.len, key);
+                match &mut branch.kids[at] {
+                    Some(kid) => {
+                        let node = &mut *kid.node;
+                        let gone = node.remove(key, meter);
+                        recount(kid);
+                        mend(branch, at, meter);
+                        gone
+                    }
+                    None => unreachable!(),
+                }
+            }
+        }
+    }
+
+    /// Puts a row whose key isn't there in place, and cuts each full node on its way in two halves first. Two steps
+    /// a level, and three for each node that is cut.
+    pub fn insert_split(&mut self, key: u64, value: V, stock: &mut Stock<V>, meter: &mut Meter)
+        requires small { key < key_limit }
+        requires missing { row_at key_of_pair key self.old.rows ≡ None }
+        requires room { self.old.width < 32 }
+        requires stock { self.old.height ≤ stock.old }
+        ensures grown { IsGrown key value self.old self.new }
+        ensures steps { meter.new ≤ meter.old + 5 * (self.old.height + 1) }
+    {
+        meter.pass();
+        match &mut self.body {
+            Body::Leaf(entries) => insert_new(entries, key, value),
+            Body::Inner(branch) => {
+                let at = make_room(branch, key, stock, meter);
+                match &mut branch.kids[at] {
+                    Some(kid) => {
+                        let node = &mut *kid.node;
+                        node.insert_split(key, value, stock, meter);
+                        note_new(&mut kid.least, &mut kid.count, key);
+                    }
+                    None => unreachable!(),
+                }
+            }
+        }
+    }
+
+    /// Puts a full node under a new root of two halves, which takes two blank nodes. Four steps.
+    pub fn heighten(&mut self, stock: &mut Stock<V>, meter: &mut Meter)
+        requires full { self.old.width ≡ 32 }
+        requires well { IsWell self.old }
+        requires stock { 2 ≤ stock.old }
+        ensures root { IsHeightened self.old self.new }
+        ensures stock { stock.old ≡ stock.new + 2 }
+        ensures steps { meter.new ≤ meter.old + 4 }
+    {
+        let mut low = stock.give();
+        let high = stock.give();
+        *low = mem::replace(self, Node::new());
+        *self = root_over(low, high, meter);
+    }
+
+    /// Takes away an inner root that has one child. One step.
+    pub fn lower(&mut self, meter: &mut Meter)
+        requires well { IsWell self.old }
+        requires some { 0 < self.old.height → 0 < self.old.width }
+        ensures lowered { IsLowered self.old self.new }
+        ensures steps { meter.new ≤ meter.old + 1 }
+    {
+        if self.height() == 0 {
+            return;
+        }
+        if self.width() >= 2 {
+            return;
+        }
+        let root = mem::replace(self, Node::new());
+        *self = only_child(root, meter);
+    }
+
+    /// Puts a row in place where its leaf has room, with no new node.
+    pub fn insert_room(&mut self, key: u64, value: V) -> Room<V>
+        requires { key < key_limit }
+        ensures { IsRoomAnswer key value self.old self.new result }
+    {
+        match &mut self.body {
+            Body::Leaf(entries) => insert_entry(entries, key, value),
+            Body::Inner(branch) => {
+                let at = place_of(&branch.kids, branch.len, key);
+                match &mut branch.kids[at] {
+                    Some(kid) => {
+                        let node = &mut *kid.node;
+                        let answer = node.insert_room(key, value);
+                        note_row(&mut kid.least, &mut kid.count, key, &answer);
+                        answer
+                    }
+                    None => unreachable!(),
+                }
+            }
+        }
+    }
+}
+
+// Takes the answer of an insertion into a child into the child's least key and count.
+fn note_row<V>(least: &mut u64, count: &mut u64, key: u64, answer: &Room<V>)
+    requires { count.old < 18446744073709551615 }
+    ensures { IsNoted key answer.now least.old count.old least.new count.new }
+{
+    match answer {
+        Room::Done => {
+            *least = (*least).min(key);
+            *count += 1;
+        }
+        Room::Exists(_) => {}
+        Room::Full(_) => {}
+    }
+}
+
+// Takes a new row of a child into the child's least key and count.
+fn note_new(least: &mut u64, count: &mut u64, key: u64)
+    requires { count.old < 18446744073709551615 }
+    ensures least { least.new ≡ min least.old key }
+    ensures count { count.new ≡ count.old + 1 }
+{
+    *least = (*least).min(key);
+    *count += 1;
+}
+
+// A new root over the halves of a full node.
+fn root_over<V: Drop>(node: Box<Node<V>>, blank: Box<Node<V>>, meter: &mut Meter) -> Node<V>
+    requires full { node.value.width ≡ 32 }
+    requires well { IsWell node.value }
+    ensures root { IsHeightened node.value result }
+    ensures steps { meter.new ≤ meter.old + 4 }
+{
+    let height = node.height() + 1;
+    let (low, high) = halve(node, blank, meter);
+    let mut root = Branch {
+        height,
+        len: 0,
+        kids: no_kids(),
+    };
+    put_kid(&mut root, 0, kid_of(high));
+    put_kid(&mut root, 0, kid_of(low));
+    meter.tick();
+    Node {
+        body: Body::Inner(root),
+    }
+}
+
+// The only child of an inner node.
+fn only_child<V: Drop>(node: Node<V>, meter: &mut Meter) -> Node<V>
+    requires inner { 0 < node.height }
+    requires one { node.width ≡ 1 }
+    ensures rows { result.rows ≡ node.rows }
+    ensures well { IsWell result }
+    ensures two { 2 ≤ result.width }
+    ensures steps { meter.new ≤ meter.old + 1 }
+{
+    meter.tick();
+    match node.into_body() {
+        Body::Leaf(_) => unreachable!(),
+        Body::Inner(mut branch) => {
+            let kid = take_kid(&mut branch, 0);
+            Box::into_inner(kid.node)
+        }
+    }
+}
+
+/// Takes a node apart: its parts, and its box, which is now blank. One step.
+pub fn open<V: Drop>(
+    mut node: Box<Node<V>>,
+    meter: &mut Meter,
+) -> (Body<V, Box<Node<V>>>, Box<Node<V>>)
+    ensures seen { seen result.0 ≡ node.value }
+    ensures whole { IsNode result.0 }
+    ensures blank { result.1.value ≡ record { height = 0; width = 0; rows = [] } }
+    ensures steps { meter.new ≡ min (meter.old + 1) 18446744073709551615 }
+{
+    meter.tick();
+    let body = mem::replace(&mut *node, Node::new()).into_body();
+    (body, node)
+}
+
+/// Builds a leaf of these entries in a box. One step.
+pub fn build_leaf<V: Drop>(
+    entries: ArrayVec<Option<(u64, V)>, 32>,
+    mut blank: Box<Node<V>>,
+    meter: &mut Meter,
+) -> Box<Node<V>>
+    requires { IsLeaf entries.items }
+    ensures seen { result.value ≡ seen_leaf entries.items }
+    ensures steps { meter.new ≡ min (meter.old + 1) 18446744073709551615 }
+{
+    meter.tick();
+    *blank = Node {
+        body: Body::Leaf(entries),
+    };
+    blank
+}
+
+/// Builds an inner node of these children in a box. One step.
+pub fn build_inner<V: Drop>(
+    branch: Branch<Box<Node<V>>>,
+    mut blank: Box<Node<V>>,
+    meter: &mut Meter,
+) -> Box<Node<V>>
+    requires { IsBranch branch }
+    ensures seen { result.value ≡ seen_branch branch }
+    ensures steps { meter.new ≡ min (meter.old + 1) 18446744073709551615 }
+{
+    meter.tick();
+    *blank = Node {
+        body: Body::Inner(branch),
+    };
+    blank
+}

@@ -1,0 +1,12 @@
+//! The answer of an insertion that takes no memory.
+
+/// What became of a row that was to go into a node without any new node.
+#[derive(Drop)]
+pub enum Room<V> {
+    /// It went in.
+    Done,
+    /// A row with the key is there; this is the value handed back.
+    Exists(V),
+    /// The leaf to which the key belongs is full; this is the value handed back.
+    Full(V),
+}
