@@ -1,0 +1,7 @@
+use Rattle.std.proofs.Common.{ap, ◌∙◌}
+use Rattle.std.specs.List.{find}
+use Rattle.std.proofs.Common.{leb}
+use Rattle.mr_subtree.proofs.subtree.SubTree.first_from.Goals as goal
+
+pub returns : goal.returns
+returns g c = c.first_from.ensures ∙ ap (λ s. find (λ p. leb c.args.key p.0) s.rows) c.self.view_is

@@ -1,0 +1,7 @@
+use Rattle.std.proofs.Common.{rules, ap, ◌∙◌}
+use Rattle.tatp_rows.specs.Ordered.{row_at}
+use Rattle.mr_node.specs.Rows.{key_of_pair}
+use Rattle.mr_subtree.proofs.subtree.SubTree.insert.Goals as goal
+
+pub insert_full-requires : goal.insert_full-requires
+insert_full-requires g c = (search rules, (c.requires, ap (λ s. row_at key_of_pair c.args.key s.rows) c.in-Full.ensures.2 ∙ c.in-Full.ensures.0))

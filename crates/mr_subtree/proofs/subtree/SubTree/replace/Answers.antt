@@ -1,0 +1,5 @@
+use Rattle.mr_node.proofs.NodeLemmas.{child_replaced}
+use Rattle.mr_subtree.proofs.subtree.SubTree.replace.Goals as goal
+
+pub returns-clause-rows : goal.returns-clause-rows
+returns-clause-rows g c = child_replaced c.args.key c.args.value c.replace.new.self c.self.inside.root c.args.self.now c.replace.ensures.rows c.self.view_is

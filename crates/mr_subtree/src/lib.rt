@@ -1,0 +1,8 @@
+//! Trees of rows, each seen as the ordered list of its pairs of key and value.
+#![tactic(auto)]
+
+mod subtree;
+#[cfg(test)]
+mod tests;
+
+pub use subtree::SubTree;

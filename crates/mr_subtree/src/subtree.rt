@@ -1,0 +1,144 @@
+//! The tree over the nodes of `mr_node`.
+ghost use Rattle.std.specs.Prelude.{◌≡◌, ◌<◌, ◌≤◌, ℕ, None, [], length, nat_le, option_map, ok_or, IfOk, IfErr};
+ghost use Rattle.std.specs.List.{find};
+ghost use Rattle.tatp_rows.specs.Ordered.{row_at, with_row_at, without_row};
+ghost use Rattle.mr_node.specs.Rows.{key_limit, key_of_pair, value_at};
+ghost use Rattle.mr_node.specs.Folds.{FoldsRows};
+ghost use Rattle.mr_subtree.specs.Trees.{IsHeightOf, IsInserted};
+
+use mr_node::{Meter, Node, Room, Stock};
+use std::alloc::Global;
+use std::marker::Model;
+use tatp_rows::{Back, Refusal};
+
+/// A tree of rows, seen as its height, the width of its root, and the list of its pairs of key and value, whose keys
+/// rise and lie below 18446744073709551614.
+#[derive(Drop)]
+pub struct SubTree<V> {
+    root: Node<V>,
+    alloc: Global,
+}
+
+impl<V> Model for SubTree<V> {
+    ghost use Rattle.mr_node.specs.Rows.{Seen, seen_code};
+
+    ghost Value = { Seen V };
+
+    ghost coded = { seen_code V.code };
+
+    ghost use Rattle.mr_subtree.specs.Trees.{IsRoot};
+
+    ghost view = { λ a. a.root };
+
+    ghost invariant = { λ a. IsRoot a.root };
+}
+
+impl<V> SubTree<V> {
+    /// A tree without rows. The root lies in the tree itself, so this is always `Ok`.
+    pub fn new(alloc: Global) -> Result<Self, Refusal>
+        ensures tree { IfOk result (λ tree. (tree.rows ≡ []) × (tree.height ≡ 0)) }
+        ensures ok { IfErr result (λ _. ⊥) }
+    {
+        Ok(SubTree {
+            root: Node::new(),
+            alloc,
+        })
+    }
+
+    /// The value at a key, or `None`.
+    pub fn get(&self, key: u64) -> Option<&V>
+        ensures { option_map (λ r. r.now) result ≡ value_at key self.now.rows }
+    {
+        self.root.find(key)
+    }
+
+    /// The number of rows.
+    pub fn len(&self) -> u64
+        ensures { result ≡ length self.now.rows }
+    {
+        self.root.len()
+    }
+
+    /// The height: 0 for a root that is a leaf. A tree of height h of at least 1 has 2 * 16^h to 32^(h+1) rows.
+    pub fn height(&self) -> u64
+        ensures value { result ≡ self.now.height }
+        ensures bounds { IsHeightOf result (length self.now.rows) }
+    {
+        self.root.height()
+    }
+
+    /// The first row from a key on, or `None`.
+    pub fn first_from(&self, key: u64) -> Option<(u64, &V)>
+        ensures { option_map (λ r. (r.0, r.1.now)) result ≡ find (λ p. nat_le key p.0) self.now.rows }
+    {
+        self.root.first_from(key)
+    }
+
+    /// The fold over the rows in key order: each step is given what was folded so far, a key, and its value.
+    pub fn fold<A, F: Fn(A, u64, &V) -> A>(&self, init: A, f: &F) -> A
+        requires { F.IsAlwaysCallable f.now }
+        ensures { FoldsRows (λ a k r b. F.post f.now a k r b) init self.now.rows result }
+    {
+        self.root.fold(init, f)
+    }
+}
+
+impl<V: Drop> SubTree<V> {
+    /// Replaces the value at a key, and gives the old one; the new one back where the key isn't there. Takes no memory.
+    pub fn replace(&mut self, key: u64, value: V) -> Result<V, V>
+        ensures rows { self.new ≡ record self.old { rows = with_row_at key_of_pair key (key, value) self.old.rows } }
+        ensures value { result ≡ ok_or (value_at key self.old.rows) value }
+    {
+        self.root.replace(key, value)
+    }
+
+    /// Takes the row at a key out, and gives its value. Takes no memory.
+    pub fn remove(&mut self, key: u64) -> Option<V>
+        ensures rows { self.new.rows ≡ without_row key_of_pair key self.old.rows }
+        ensures value { result ≡ value_at key self.old.rows }
+    {
+        let mut meter = Meter::new();
+        let gone = self.root.remove(key, &mut meter);
+        self.root.lower(&mut meter);
+        gone
+    }
+
+    /// Puts a row in. Exists where a row with the key is there, Memory where the blank nodes for it can't be had: then
+    /// the tree is as it was, and the value is handed back. The key is below 18446744073709551614.
+    pub fn insert(&mut self, key: u64, value: V) -> Result<(), Back<V>>
+        requires { key < key_limit }
+        ensures { IsInserted key value self.old.rows self.new.rows result }
+    {
+        match self.root.insert_room(key, value) {
+            Room::Done => Ok(()),
+            Room::Exists(item) => Err(Back {
+                why: Refusal::Exists,
+                item,
+            }),
+            Room::Full(item) => self.insert_full(key, item),
+        }
+    }
+
+    // Puts a row in whose leaf is full: first all blank nodes are taken.
+    fn insert_full(&mut self, key: u64, value: V) -> Result<(), Back<V>>
+        requires small { key < key_limit }
+        requires missing { row_at key_of_pair key self.old.rows ≡ None }
+        ensures { IsInserted key value self.old.rows self.new.rows result }
+    {
+        let count = self.root.height() as usize + 3;
+        let Ok(mut stock) = Stock::take(self.alloc, count) else {
+            return Err(Back {
+                why: Refusal::Memory,
+                item: value,
+            });
+        };
+        let mut meter = Meter::new();
+        if self.root.width() == 32 {
+            self.root.heighten(&mut stock, &mut meter);
+            self.root.insert_split(key, value, &mut stock, &mut meter);
+            return Ok(());
+        }
+        self.root.insert_split(key, value, &mut stock, &mut meter);
+        Ok(())
+    }
+}
