@@ -104,7 +104,8 @@ fn push_pairs(line: &mut Line, bytes: &[u8])
     ensures len { array_vec_len line.new ≡ array_vec_len line.old + 2 * length bytes.now }
 {
     for byte in bytes {
-        push_bytes(line, &[hex_digit(*byte / 16), hex_digit(*byte)]);
+        line.push(hex_digit(*byte / 16));
+        line.push(hex_digit(*byte));
     }
 }
 
