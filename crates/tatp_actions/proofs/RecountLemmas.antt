@@ -1,7 +1,7 @@
 -- What a walk over the Subscriber rows counts.
 use Rattle.std.proofs.Common.{◌≡◌, ◌≢◌, refl, sym, ◌∙◌, ap, subst, ℕ, ◌+◌, ◌-◌, ◌*◌, ◌<◌, ◌≤◌, ◌==◌, arith, true, false, Bool, List, [], ◌∷◌, length, get_or, replicate, nat_lt, Bor, map, if◌then◌else◌}
 use Rattle.std.specs.Prelude.{nat_le, count_by, Option, None, option_map}
-use Rattle.std.specs.List.{AllByRecursion, sum_by}
+use Rattle.std.specs.List.{AllByRecursion, find, sum_by}
 use Rattle.std.proofs.lemmas.List.{get_or-set_same, get_or-set_other, length-set, get_or-replicate, length-replicate, length-map}
 use Rattle.std.proofs.lemmas.List.Sums.{sum_by-cons}
 use Rattle.std.proofs.lemmas.Bool.Decides.{nat_tests}
@@ -14,7 +14,7 @@ use Rattle.tatp_actions.specs.Book.{first_subscriber, IsWithin, IsRowsOf}
 use Rattle.tatp_actions.specs.Cell.{cell, active_forwardings, in_area, in_zone}
 use Rattle.tatp_actions.specs.Part.{stored_book, IsKeyed}
 use Rattle.tatp_actions.specs.Recount.{one_more_in, with_subscriber}
-use Rattle.tatp_actions.specs.Table.{FoldsPairs, first_at}
+use Rattle.mr_node.specs.Folds.{FoldsRows}
 
 -- what a row counts in a cell
 abbrev pub in_cell : ℕ → ℕ → SubscriberRow → ℕ
@@ -76,9 +76,9 @@ in_cell-le width c row = by_test (nat_lt c 3)
 -- a walk over all pairs counts each once
 pub counts_of_fold : (width c : ℕ) (step : List ℕ → ℕ → Bor SubscriberRow → List ℕ → Type 0)
     → ((a : List ℕ) (key : ℕ) (row : Bor SubscriberRow) (b : List ℕ) → step a key row b → (area_of row.now.vlr_location < 16) × (b ≡ with_subscriber width row.now a))
-    → (a : List ℕ) (pairs : List (ℕ × SubscriberRow)) (b : List ℕ) → FoldsPairs step a pairs b → c < length a → get_or a c 0 + length pairs + 1 < 18446744073709551616
+    → (a : List ℕ) (pairs : List (ℕ × SubscriberRow)) (b : List ℕ) → FoldsRows step a pairs b → c < length a → get_or a c 0 + length pairs + 1 < 18446744073709551616
     → get_or b c 0 ≡ get_or a c 0 + sum_by (λ (pair : ℕ × SubscriberRow). in_cell width c pair.1) pairs
-counts_of_fold width c step each a [] b folds within room = ap (λ (counts : List ℕ). get_or counts c 0) folds ∙ plus_zero (get_or a c 0)
+counts_of_fold width c step each a [] b folds within room = ap (λ (counts : List ℕ). get_or counts c 0) (sym folds) ∙ plus_zero (get_or a c 0)
 counts_of_fold width c step each a (pair ∷ pairs) b folds within room =
     let next = folds.0 in
     let here = each a pair.0 folds.1 next folds.3 in
@@ -90,7 +90,7 @@ counts_of_fold width c step each a (pair ∷ pairs) b folds within room =
     let rest = counts_of_fold width c step each next pairs b folds.4 (omega arith) (omega arith) in
     rw (sum_by-cons (λ (pair : ℕ × SubscriberRow). in_cell width c pair.1) pair pairs) (omega arith)
 
--- the sum over the pairs of a table is the count of the cell
+-- the sum over the pairs of a tree is the count of the cell
 sum-zero : {X : Type 0} (xs : List X) → sum_by (λ (x : X). 0) xs ≡ 0
 sum-zero [] = refl
 sum-zero {X} (x ∷ xs) = let rest = sum-zero xs in rw (sum_by-cons (λ (y : X). 0) x xs) (omega arith)
@@ -130,18 +130,18 @@ few_rows low high rows bound ordered within =
 
 -- the first pair from a subscriber's key on is of the first row from the subscriber on
 pub first_of_keyed : (s_id : ℕ) (pairs : List (ℕ × SubscriberRow)) → IsKeyed subscriber_key pairs
-    → option_map (λ (pair : ℕ × SubscriberRow). pair.1) (first_at (λ (pair : ℕ × SubscriberRow). pair.0) (key_of s_id 0 0) pairs) ≡ first_subscriber s_id (map (λ (pair : ℕ × SubscriberRow). pair.1) pairs)
+    → option_map (λ (pair : ℕ × SubscriberRow). pair.1) (find (λ (pair : ℕ × SubscriberRow). nat_le (key_of s_id 0 0) pair.0) pairs) ≡ first_subscriber s_id (map (λ (pair : ℕ × SubscriberRow). pair.1) pairs)
 first_of_keyed s_id [] keyed = refl
 first_of_keyed s_id (pair ∷ pairs) keyed = by_test (nat_le s_id pair.1.s_id)
     (λ e. let f : nat_le (key_of s_id 0 0) pair.0 ≡ true = grind (arith, nat_tests) in rw (e, f) refl)
     (λ e. let f : nat_le (key_of s_id 0 0) pair.0 ≡ false = grind (arith, nat_tests) in rw (e, f) (first_of_keyed s_id pairs keyed.1))
 
--- the same from what the table answers
+-- the same from what the tree answers
 pub first_answered : (s_id key : ℕ) (pairs : List (ℕ × SubscriberRow)) (answer : Option (ℕ × SubscriberRow)) → IsKeyed subscriber_key pairs → key ≡ key_of s_id 0 0
-    → answer ≡ first_at (λ (pair : ℕ × SubscriberRow). pair.0) key pairs → option_map (λ (pair : ℕ × SubscriberRow). pair.1) answer ≡ first_subscriber s_id (map (λ (pair : ℕ × SubscriberRow). pair.1) pairs)
+    → answer ≡ find (λ (pair : ℕ × SubscriberRow). nat_le key pair.0) pairs → option_map (λ (pair : ℕ × SubscriberRow). pair.1) answer ≡ first_subscriber s_id (map (λ (pair : ℕ × SubscriberRow). pair.1) pairs)
 first_answered s_id key pairs answer keyed is answers =
     ap (λ (o : Option (ℕ × SubscriberRow)). option_map (λ (pair : ℕ × SubscriberRow). pair.1) o) answers
-    ∙ ap (λ (k : ℕ). option_map (λ (pair : ℕ × SubscriberRow). pair.1) (first_at (λ (pair : ℕ × SubscriberRow). pair.0) k pairs)) is
+    ∙ ap (λ (k : ℕ). option_map (λ (pair : ℕ × SubscriberRow). pair.1) (find (λ (pair : ℕ × SubscriberRow). nat_le k pair.0) pairs)) is
     ∙ first_of_keyed s_id pairs keyed
 
 -- and past the end of the range there is none
@@ -154,7 +154,7 @@ none_past s_id low high (row ∷ rows) past within =
 -- the walk from all counts at 0
 pub recounted : (width c low high : ℕ) (step : List ℕ → ℕ → Bor SubscriberRow → List ℕ → Type 0)
     → ((a : List ℕ) (key : ℕ) (row : Bor SubscriberRow) (b : List ℕ) → step a key row b → (area_of row.now.vlr_location < 16) × (b ≡ with_subscriber width row.now a))
-    → (zeros : List ℕ) (pairs : List (ℕ × SubscriberRow)) (b : List ℕ) → zeros ≡ replicate 51 0 → FoldsPairs step zeros pairs b → c < 51
+    → (zeros : List ℕ) (pairs : List (ℕ × SubscriberRow)) (b : List ℕ) → zeros ≡ replicate 51 0 → FoldsRows step zeros pairs b → c < 51
     → high ≤ 16777217 → IsRowsOf low high (stored_book pairs) → get_or b c 0 ≡ cell width c (stored_book pairs)
 recounted width c low high step each zeros pairs b all folds within bound rows =
     let len : length zeros ≡ 51 = ap length all ∙ length-replicate {A = ℕ} 51 0 in

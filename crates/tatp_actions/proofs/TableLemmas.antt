@@ -1,14 +1,15 @@
 -- A sorted list of pairs, seen by the place of a key.
 use Rattle.std.proofs.Common.{◌≡◌, ◌≢◌, refl, sym, ◌∙◌, ap, ℕ, zero, suc, ◌+◌, ◌<◌, ◌≤◌, arith, true, false, List, length, get_or, set, take, subst, Bor, ◌++◌, ◌∷◌, [], nat_lt}
 use Rattle.std.specs.Prelude.{nat_le, Some, None}
-use Rattle.std.specs.List.{AllByRecursion, insert, remove}
+use Rattle.std.specs.List.{AllByRecursion, find, insert, remove}
 use Rattle.std.specs.List.Sorted.{IsPartitionedBy, IsPartitionPoint}
-use Rattle.std.proofs.lemmas.List.{get_or_read, take_more, take_all}
+use Rattle.std.proofs.lemmas.List.{get_or_read, take_more}
 use Rattle.std.proofs.lemmas.Bool.Decides.{nat_tests}
 use Rattle.tatp_rows.specs.Ordered.{IsOrderedBy, row_at, with_row_at, with_row, without_row}
 use Rattle.tatp_rows.proofs.OrderedLemmas.{by_test}
 use Rattle.tatp_rows.proofs.PlaceLemmas.{place_in, place-later, place-here, at_place, insert_at_place, found_at_place, absent_at_place, place_is}
-use Rattle.tatp_actions.specs.Table.{first_at, FoldsPairs}
+use Rattle.mr_node.specs.Folds.{FoldsRows}
+use Rattle.mr_node.proofs.FoldLemmas.{folds_append}
 
 -- what holds of each element holds of the one at an index
 pub each_at : {X : Type 0} (P : X → Type 0) (xs : List X) (i : ℕ) (d : X) → AllByRecursion P xs → i < length xs → P (get_or xs i d)
@@ -74,7 +75,7 @@ module _ {X : Type 0} (key : X → ℕ) where
   inserts_here y p xs at absent = ap (λ i. insert xs i y) at ∙ sym (insert_at_place key y xs absent)
 
   -- the first element from a key on stands at the key's place
-  pub first_past : (k p : ℕ) (xs : List X) → p ≡ place_in key k xs → length xs ≤ p → first_at key k xs ≡ None
+  pub first_past : (k p : ℕ) (xs : List X) → p ≡ place_in key k xs → length xs ≤ p → find (λ x. nat_le k (key x)) xs ≡ None
   first_past k p [] at past = refl
   first_past k p (x ∷ xs) at past = by_test (nat_lt (key x) k)
       (λ e. let under : key x < k = grind (arith, nat_tests) in
@@ -84,7 +85,7 @@ module _ {X : Type 0} (key : X → ℕ) where
       (λ e. let over : k ≤ key x = grind (arith, nat_tests) in
       let here = place-here key k x xs over in absurd (omega arith))
 
-  pub first_here : (k : ℕ) (xs : List X) (d : X) → place_in key k xs < length xs → first_at key k xs ≡ Some (get_or xs (place_in key k xs) d)
+  first_here : (k : ℕ) (xs : List X) (d : X) → place_in key k xs < length xs → find (λ x. nat_le k (key x)) xs ≡ Some (get_or xs (place_in key k xs) d)
   first_here k [] d within = absurd (omega arith)
   first_here k (x ∷ xs) d within = by_test (nat_lt (key x) k)
       (λ e. let under : key x < k = grind (arith, nat_tests) in
@@ -95,25 +96,14 @@ module _ {X : Type 0} (key : X → ℕ) where
       let f : nat_le k (key x) ≡ true = grind (arith, nat_tests) in
       rw (f, place-here key k x xs over) refl)
 
-  pub first_is : (k p : ℕ) (xs : List X) (x : X) → p ≡ place_in key k xs → p < length xs → x ≡ get_or xs p x → first_at key k xs ≡ Some x
+  pub first_is : (k p : ℕ) (xs : List X) (x : X) → p ≡ place_in key k xs → p < length xs → x ≡ get_or xs p x → find (λ y. nat_le k (key y)) xs ≡ Some x
   first_is k p xs x at within is =
       let here : x ≡ get_or xs (place_in key k xs) x = is ∙ ap (λ i. get_or xs i x) at in
       first_here k xs x (omega arith) ∙ ap Some (sym here)
 
 -- one more pair at the end of a fold
-pub FoldsPairs-push : {A V : Type 0} (step : A → ℕ → Bor V → A → Type 0) (a : A) (pairs : List (ℕ × V)) (b : A) (pair : ℕ × V) (value : Bor V) (next : A) →
-    FoldsPairs step a pairs b → value.now ≡ pair.1 → step b pair.0 value next → FoldsPairs step a (pairs ++ pair ∷ []) next
-FoldsPairs-push step a [] b pair value next folds is stepped = (next, value, is, subst (λ from. step from pair.0 value next) folds stepped, refl)
-FoldsPairs-push step a (first ∷ pairs) b pair value next folds is stepped =
-    (folds.0, folds.1, folds.2, folds.3, FoldsPairs-push step folds.0 pairs b pair value next folds.4 is stepped)
-
--- a turn of a loop that folds, and its end
-pub FoldsPairs-turn : {A V : Type 0} (step : A → ℕ → Bor V → A → Type 0) (a : A) (pairs : List (ℕ × V)) (i : ℕ) (b : A) (pair : ℕ × V) (value : Bor V) (next : A) →
-    i < length pairs → pair ≡ get_or pairs i pair → FoldsPairs step a (take i pairs) b → value.now ≡ pair.1 → step b pair.0 value next → FoldsPairs step a (take (i + 1) pairs) next
-FoldsPairs-turn step a pairs i b pair value next within at folds is stepped =
+pub folds-turn : {A V : Type 0} (step : A → ℕ → Bor V → A → Type 0) (a : A) (pairs : List (ℕ × V)) (i : ℕ) (b : A) (pair : ℕ × V) (value : Bor V) (next : A) →
+    i < length pairs → pair ≡ get_or pairs i pair → FoldsRows step a (take i pairs) b → value.now ≡ pair.1 → step b pair.0 value next → FoldsRows step a (take (i + 1) pairs) next
+folds-turn step a pairs i b pair value next within at folds is stepped =
     let more = take_more pairs i pair within ∙ ap (λ last. take i pairs ++ last ∷ []) (sym at) in
-    subst (λ front. FoldsPairs step a front next) (sym more) (FoldsPairs-push step a (take i pairs) b pair value next folds is stepped)
-
-pub FoldsPairs-end : {A V : Type 0} (step : A → ℕ → Bor V → A → Type 0) (a : A) (pairs whole : List (ℕ × V)) (i : ℕ) (b : A) →
-    pairs ≡ whole → length pairs ≤ i → FoldsPairs step a (take i pairs) b → FoldsPairs step a whole b
-FoldsPairs-end step a pairs whole i b same past folds = subst (λ all. FoldsPairs step a all b) (take_all i pairs past ∙ same) folds
+    subst (λ front. FoldsRows step a front next) (sym more) (folds_append step a b next (take i pairs) (pair ∷ []) folds (next, value, is, stepped, refl))

@@ -3,6 +3,5 @@ pub mod Book
 pub mod Cell
 pub mod Change
 pub mod Part
-pub mod Table
 pub mod Recount
 pub mod Joined

@@ -9,8 +9,13 @@ mod action;
 mod cells;
 mod change;
 mod part;
+#[cfg(test)]
+mod plain;
+#[cfg(test)]
+mod plain_tests;
 mod recount;
 mod rows;
+#[cfg(test)]
 mod table;
 #[cfg(test)]
 mod table_tests;
@@ -23,5 +28,4 @@ pub use cells::{CELLS, Cells, FIRST_AREA, FIRST_ZONE};
 pub use change::Change;
 pub use part::Part;
 pub use rows::Rows;
-pub use table::Table;
 pub use trees::Trees;

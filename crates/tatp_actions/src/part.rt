@@ -156,7 +156,7 @@ impl Part {
         ensures ok { IfOk result (λ part. part ≡ record { book = empty_book; asked = 0; lo = lo; hi = hi; width = width }) }
         ensures err { OnErr result (result ≡ Err Refusal.Memory) }
     {
-        Ok(Part::over(Trees::new(alloc), lo, hi, width))
+        Ok(Part::over(Trees::new(alloc)?, lo, hi, width))
     }
 
     /// The first subscriber of the range, 1..=16,777,216.

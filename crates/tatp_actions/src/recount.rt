@@ -41,7 +41,7 @@ impl Part {
         let width = self.width;
         self.rows.subscribers.fold(
             Cells::zero(),
-            |cells, _, row| with_subscriber(cells, row, width),
+            &|cells, _, row| with_subscriber(cells, row, width),
         )
     }
 
@@ -49,11 +49,11 @@ impl Part {
     pub fn first_sub_from(&self, s_id: u64) -> Option<&Subscriber>
         ensures { option_copied result ≡ first_subscriber s_id self.now.book.subscribers }
     {
-        let table = &self.rows.subscribers;
+        let tree = &self.rows.subscribers;
         if s_id > LAST_SUBSCRIBER {
             return None;
         }
-        let (_, row) = table.first_from(subscriber_key(s_id as u32))?;
+        let (_, row) = tree.first_from(subscriber_key(s_id as u32))?;
         Some(row)
     }
 }

@@ -1,8 +1,8 @@
-//! A table of rows over a sorted vector.
-ghost use Rattle.std.specs.Prelude.{◌≡◌, ℕ, ◌+◌, ◌<◌, [], ◌∷◌, List, length, Option, Some, None, nat_lt, ◌≤◌, IsSome, IsNone, IsErrAnd, IfOk, IfErr, OnOk, OnErr, option_copied, option_map, ok_or};
-ghost use Rattle.std.specs.List.{prefix_len};
+//! A table of rows over a sorted vector: the plain program that tests compare the trees with.
+ghost use Rattle.std.specs.Prelude.{◌≡◌, ℕ, ◌+◌, ◌<◌, [], ◌∷◌, List, length, Option, Some, None, nat_le, nat_lt, ◌≤◌, IsSome, IsNone, IsErrAnd, IfOk, IfErr, OnOk, OnErr, option_copied, option_map, ok_or};
+ghost use Rattle.std.specs.List.{find, prefix_len};
 ghost use Rattle.tatp_rows.specs.Ordered.{IsOrderedBy, row_at, with_row_at, with_row, without_row};
-ghost use Rattle.tatp_actions.specs.Table.{first_at, FoldsPairs};
+ghost use Rattle.mr_node.specs.Folds.{FoldsRows};
 
 use std::alloc::Global;
 use std::marker::Model;
@@ -119,7 +119,7 @@ impl<V> Table<V> {
 
     /// The first entry from a key on.
     pub fn first_from(&self, key: u64) -> Option<(u64, &V)>
-        ensures { option_map (λ entry. (entry.0, entry.1.now)) result ≡ first_at (λ pair. pair.0) key self.now }
+        ensures { option_map (λ entry. (entry.0, entry.1.now)) result ≡ find (λ pair. nat_le key pair.0) self.now }
     {
         let at = self.place_of(key);
         let entry = self.entries.get(at)?;
@@ -129,7 +129,7 @@ impl<V> Table<V> {
     /// Folds over the entries, in the order of their keys.
     pub fn fold<A: Drop, F: Fn(A, u64, &V) -> A>(&self, init: A, f: F) -> A
         requires { F.IsAlwaysCallable f }
-        ensures { FoldsPairs (λ a key value b. F.post f a key value b) init self.now result }
+        ensures { FoldsRows (λ a key value b. F.post f a key value b) init self.now result }
     {
         let mut folded = init;
         for entry in &self.entries {

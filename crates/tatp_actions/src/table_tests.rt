@@ -1,4 +1,4 @@
-use super::*;
+use crate::table::Table;
 use std::test::Fail;
 use tatp_rows::Refusal;
 

@@ -15,7 +15,7 @@ struct Few {
 }
 
 impl Rows for Few {
-    ghost subscribers = { λ few. few.trees.subscribers };
+    ghost subscribers = { λ few. few.trees.subscribers.rows };
 
     ghost times_asked = { λ few. few.trees.asked };
 
@@ -48,7 +48,7 @@ impl Rows for Few {
     }
 }
 
-fn row(s_id: u64, vlr_location: u64) -> Result<Subscriber, Fail>
+pub(crate) fn row(s_id: u64, vlr_location: u64) -> Result<Subscriber, Fail>
     ensures { IfOk result (λ row. row.s_id ≡ s_id) }
 {
     let number = Number::try_new(s_id).ok().ok_or("the number is in range")?;
@@ -251,12 +251,23 @@ fn refused_growths(rt: HostRuntime) -> Result<(), Fail> {
     Ok(())
 }
 
+// With each allocation refused in turn (`rt try --test --fail-alloc N`): 32 rows fit the root, and more want nodes.
+#[test]
+fn refused_nodes(rt: HostRuntime) -> Result<(), Fail> {
+    let mut part = Part::new(rt.alloc(), 1, 101, 10)?;
+    for s_id in 1..101u64 {
+        assert!(rt; adds(&mut part, row(s_id, 1)?), "at {s_id}");
+    }
+    assert_eq!(rt; part.recount().get(3), 100);
+    Ok(())
+}
+
 #[test]
 fn other_rows(rt: HostRuntime) -> Result<(), Fail> {
     let first = row(1, 5)?;
     let second = row(2, 5)?;
     let few = Few {
-        trees: Trees::new(rt.alloc()),
+        trees: Trees::new(rt.alloc())?,
         room: 1,
     };
     let mut part = Part::over(few, 1, 10, 4);
@@ -283,7 +294,7 @@ fn other_rows(rt: HostRuntime) -> Result<(), Fail> {
 fn rows_by_their_bound(rt: HostRuntime) -> Result<(), Fail> {
     let first = row(1, 5)?;
     let second = first.with_vlr_location(9);
-    let mut trees = Trees::new(rt.alloc());
+    let mut trees = Trees::new(rt.alloc())?;
     assert!(rt; asks(&mut trees, first, second));
     let mut few = Few { trees, room: 1 };
     assert!(rt; asks(&mut few, first, second));

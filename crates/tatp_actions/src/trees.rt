@@ -1,29 +1,30 @@
-//! The rows of a part in tables.
-ghost use Rattle.std.specs.Prelude.{◌≡◌, ℕ, ◌+◌, ◌-◌, ◌^◌, ◌<◌, ◌∷◌, [], List, min, Option, None, IsSome, IsNone, IsErrAnd, IfErr, OnOk, OnErr, option_copied, option_map, ok_or, ⊤};
+//! The rows of a part in trees.
+ghost use Rattle.std.specs.Prelude.{◌≡◌, ℕ, ◌+◌, ◌-◌, ◌^◌, ◌<◌, ◌∷◌, [], List, min, Option, None, IsSome, IsNone, IsErrAnd, IfOk, IfErr, OnOk, OnErr, option_copied, option_map, ok_or, ⊤};
 ghost use Rattle.std.specs.Borrow.{sem, follows_so};
 
 use crate::rows::Rows;
-use crate::table::Table;
+use mr_subtree::SubTree;
 use std::alloc::Global;
-use tatp_rows::{Back, Subscriber};
+use tatp_rows::{Back, Refusal, Subscriber};
 
-/// The rows of a part, each kind in a table of its own, and how often they were asked.
+/// The rows of a part, each kind in a tree of its own, and how often they were asked.
 #[derive(Drop)]
 pub struct Trees {
-    pub(crate) subscribers: Table<Subscriber>,
+    pub(crate) subscribers: SubTree<Subscriber>,
     asked: u64,
 }
 
 impl Trees {
-    /// Rows with empty tables, never asked.
-    pub fn new(alloc: Global) -> Self
-        ensures subscribers { result.subscribers ≡ [] }
-        ensures asked { result.asked ≡ 0 }
+    /// Rows with empty trees, never asked. An empty tree takes no memory, so this is always `Ok`.
+    pub fn new(alloc: Global) -> Result<Self, Refusal>
+        ensures subscribers { IfOk result (λ t. t.subscribers.rows ≡ []) }
+        ensures asked { IfOk result (λ t. t.asked ≡ 0) }
+        ensures ok { IfErr result (λ _. ⊥) }
     {
-        Trees {
-            subscribers: Table::new(alloc),
+        Ok(Trees {
+            subscribers: SubTree::new(alloc)?,
             asked: 0,
-        }
+        })
     }
 
     fn ask(&mut self)
@@ -35,7 +36,7 @@ impl Trees {
 }
 
 impl Rows for Trees {
-    ghost subscribers = { λ t. t.subscribers };
+    ghost subscribers = { λ t. t.subscribers.rows };
 
     ghost times_asked = { λ t. t.asked };
 
