@@ -1,8 +1,13 @@
 -- What the ranges of a row's fields say, one by one.
-use Rattle.std.proofs.Common.{◌≡◌, refl, sym, ℕ, zero, suc, ◌<◌, ◌≤◌, Bool, true, false, List, [], ◌∷◌, length, get_or, ◌↔◌, ◌⊎◌, IsTrue, arith}
+use Rattle.std.proofs.Common.{◌≡◌, refl, sym, ℕ, zero, suc, ◌<◌, ◌≤◌, Bool, true, false, List, [], ◌∷◌, length, get_or, ◌↔◌, ◌⊎◌, inl, inr, IsTrue, arith}
 use Rattle.std.specs.Prelude.{◌==◌, ◌&&◌, ◌||◌, nat_lt, nat_le, Ok, Err}
 use Rattle.std.specs.List.{EachIndex, list_all}
 use Rattle.std.proofs.lemmas.Bool.Decides.{nat_tests}
+use Rattle.std.proofs.lemmas.Str.{IsUtf8-from_ascii}
+use Rattle.std.proofs.lemmas.Bool.{cases_lt}
+use Rattle.std.proofs.lemmas.List.{get_or_past}
+use Rattle.std.specs.Str.{IsUtf8}
+use Rattle.tatp_rows.specs.Letters.{letters_in}
 use Rattle.tatp_rows.proofs.OrderedLemmas.{by_test}
 use Rattle.tatp_rows.specs.declared.refusal.Refusal.TheVariants.{Field}
 use Rattle.tatp_rows.specs.Rows.{between, subscriber_of, SubscriberRow, AccessInfoRow, SpecialFacilityRow, CallForwardingRow, is_between, are_between, subscriber_in_range, access_in_range, facility_in_range, forwarding_in_range}
@@ -182,28 +187,40 @@ forwarding_ranges row holds =
     start_is : (n : ℕ) → (n == 0 || (n == 8 || n == 16)) ≡ true → (n ≡ 0) ⊎ ((n ≡ 8) ⊎ (n ≡ 16))
     start_is n holds = grind (arith, nat_tests)
 
--- the numbers lie in a range from 0 exactly where each is at most its end
-each_between : (high : ℕ) (ns : List ℕ) → EachIndex ns (λ k. get_or ns k 0 ≤ high) → list_all (is_between 0 high) ns ≡ true
-each_between high [] each = refl
-each_between high (n ∷ ns) each =
-    both_from (is_between 0 high n) (list_all (is_between 0 high) ns) (between_from 0 high n (omega arith) (each 0 (omega arith)))
-    (each_between high ns (λ k within. each (suc k) (omega arith)))
+-- the numbers lie in a range exactly where each does
+each_between : (low high : ℕ) (ns : List ℕ) → EachIndex ns (λ k. (low ≤ get_or ns k 0) × (get_or ns k 0 ≤ high)) → list_all (is_between low high) ns ≡ true
+each_between low high [] each = refl
+each_between low high (n ∷ ns) each =
+    let first = each 0 (omega arith) in
+    both_from (is_between low high n) (list_all (is_between low high) ns) (between_from low high n first.0 first.1)
+    (each_between low high ns (λ k within. each (suc k) (omega arith)))
 
-between_each : (high : ℕ) (ns : List ℕ) → list_all (is_between 0 high) ns ≡ true → EachIndex ns (λ k. get_or ns k 0 ≤ high)
-between_each high [] all k within = absurd (omega arith)
-between_each high (n ∷ ns) all zero within = (between_is 0 high n (both (is_between 0 high n) (list_all (is_between 0 high) ns) all).0).1
-between_each high (n ∷ ns) all (suc k) within = between_each high ns (both (is_between 0 high n) (list_all (is_between 0 high) ns) all).1 k (omega arith)
+between_each : (low high : ℕ) (ns : List ℕ) → list_all (is_between low high) ns ≡ true → EachIndex ns (λ k. (low ≤ get_or ns k 0) × (get_or ns k 0 ≤ high))
+between_each low high [] all k within = absurd (omega arith)
+between_each low high (n ∷ ns) all zero within = between_is low high n (both (is_between low high n) (list_all (is_between low high) ns) all).0
+between_each low high (n ∷ ns) all (suc k) within = between_each low high ns (both (is_between low high n) (list_all (is_between low high) ns) all).1 k (omega arith)
 
--- a test of each number's bound is the test of a range from 0
-pub are_from_each : (size high : ℕ) (ns : List ℕ) (result : Bool) → (IsTrue result ↔ EachIndex ns (λ k. get_or ns k 0 ≤ high)) → length ns ≡ size → result ≡ are_between size 0 high ns
-are_from_each size high ns result each long =
+-- a test of each number's bounds is the test of the range
+pub are_from_each : (size low high : ℕ) (ns : List ℕ) (result : Bool) → (IsTrue result ↔ EachIndex ns (λ k. (low ≤ get_or ns k 0) × (get_or ns k 0 ≤ high))) → length ns ≡ size → result ≡ are_between size low high ns
+are_from_each size low high ns result each long =
     let sized : (length ns == size) ≡ true = grind (arith, nat_tests) in
-    rw sized (alike result (list_all (is_between 0 high) ns) (λ holds. each_between high ns (each.0 holds)) (λ all. each.1 (between_each high ns all)))
+    rw sized (alike result (list_all (is_between low high) ns) (λ holds. each_between low high ns (each.0 holds)) (λ all. each.1 (between_each low high ns all)))
   where
     alike : (a b : Bool) → (a ≡ true → b ≡ true) → (b ≡ true → a ≡ true) → a ≡ b
     alike true b to from = sym (to refl)
     alike false true to from = from refl
     alike false false to from = refl
+
+-- letters are ASCII, so a text
+pub letters_utf8 : (size : ℕ) (text : List ℕ) → are_between size 65 90 text ≡ true → IsUtf8 text
+letters_utf8 size text letters = IsUtf8-from_ascii text (λ k. elim (cases_lt k (length text)) [
+  | inl inside ↦ let high = (between_each 65 90 text (both (length text == size) (list_all (is_between 65 90) text) letters).1 k inside).1 in omega arith
+  | inr past ↦ let none : get_or text k 0 ≡ 0 = get_or_past text k 0 past in omega arith
+])
+
+-- the letters of a text that is of letters alone
+pub letters_are : (size : ℕ) (text letters : List ℕ) → letters ≡ text → are_between size 65 90 letters ≡ true → Ok letters ≡ letters_in size text
+letters_are size text letters same holds = rw same (sym (rw (rw same at holds) refl))
 
 -- what a range's answer says of the number
 pub between_ok : (low high n m : ℕ) → Ok m ≡ between low high n → (m ≡ n) × (is_between low high n ≡ true)

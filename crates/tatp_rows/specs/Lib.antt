@@ -1,4 +1,5 @@
 pub mod Keys
+pub mod Letters
 pub mod Number
 pub mod Ordered
 pub mod Refusal

@@ -6,7 +6,9 @@
 #![tactic(auto)]
 
 mod keys;
+mod letters;
 mod number;
+mod ranges;
 mod refusal;
 mod subscriber;
 #[cfg(test)]
@@ -14,6 +16,7 @@ mod tests;
 mod zones;
 
 pub use keys::{row_key, subscriber_key};
+pub use letters::Letters;
 pub use number::Number;
 pub use refusal::{Back, Refusal};
 pub use subscriber::Subscriber;

@@ -1,10 +1,11 @@
 //! Rows of the table Subscriber.
 ghost use Rattle.std.specs.Prelude.{◌≡◌, ◌≤◌, IsTrue};
-ghost use Rattle.tatp_rows.specs.Rows.{SubscriberRow, subscriber_in_range, subscriber_of, between, are_between};
+ghost use Rattle.tatp_rows.specs.Rows.{SubscriberRow, subscriber_in_range, subscriber_of};
 ghost use Rattle.tatp_rows.specs.Keys.{subscriber_key};
 
 use crate::keys;
 use crate::number::Number;
+use crate::ranges::{all_between, in_range};
 use crate::refusal::Refusal;
 use std::marker::Model;
 
@@ -79,7 +80,10 @@ impl Subscriber {
         let s_id = in_range(s_id, 16_777_216)?;
         // A number is in range, as its reader says.
         let _number = sub_nbr.value();
-        if !all_at_most(&bits, 1) || !all_at_most(&hexes, 15) || !all_at_most(&bytes, 255) {
+        if !all_between(&bits, 0, 1)
+            || !all_between(&hexes, 0, 15)
+            || !all_between(&bytes, 0, 255)
+        {
             return Err(Refusal::Field);
         }
         let msc_location = in_range(msc_location, 4_294_967_295)?;
@@ -176,21 +180,4 @@ impl Subscriber {
     {
         self.vlr_location
     }
-}
-
-/// The value, where it lies in 1..=`high`; else `Field`.
-fn in_range(value: u64, high: u32) -> Result<u32, Refusal>
-    ensures { result ≡ between 1 high value }
-{
-    if value == 0 || value > u64::from(high) {
-        return Err(Refusal::Field);
-    }
-    Ok(value as u32)
-}
-
-/// Whether each of the values is at most `high`.
-fn all_at_most(values: &[u8; 10], high: u8) -> bool
-    ensures { result ≡ are_between 10 0 high values.now }
-{
-    values.iter().all(|value| *value <= high)
 }

@@ -7,9 +7,9 @@ checked : (c : goal.In_ok-vlr_location) → AreChecked c.args.s_id c.in_ok-s_id.
 checked c = record {
   s_id_is = c.in_ok-s_id.ensures;
   sub_nbr_below = let number = c.value-number.ensures.in_range in let same = c.value-number.ensures.value in omega arith;
-  bits_between = sym c.if-not-all_at_most.ensures;
-  hexes_between = sym c.if-not-all_at_most-2.ensures;
-  bytes_between = sym c.if-not-all_at_most-3.ensures;
+  bits_between = sym c.if-not-all_between.ensures;
+  hexes_between = sym c.if-not-all_between-2.ensures;
+  bytes_between = sym c.if-not-all_between-3.ensures;
   msc_location_is = c.in_ok-msc_location.ensures;
   vlr_location_is = c.in_ok-vlr_location.ensures;
 }

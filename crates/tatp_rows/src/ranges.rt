@@ -1,0 +1,29 @@
+//! The tests of the fields' ranges.
+ghost use Rattle.std.specs.Prelude.{◌≡◌};
+ghost use Rattle.tatp_rows.specs.Rows.{between, are_between};
+
+use crate::refusal::Refusal;
+
+/// The value, where it lies in 1..=`high`; else `Field`.
+pub fn in_range(value: u64, high: u32) -> Result<u32, Refusal>
+    ensures { result ≡ between 1 high value }
+{
+    if value == 0 || value > u64::from(high) {
+        return Err(Refusal::Field);
+    }
+    Ok(value as u32)
+}
+
+/// The value as a byte, where it lies in 1..=`high`; else `Field`.
+pub fn byte_in_range(value: u64, high: u8) -> Result<u8, Refusal>
+    ensures { result ≡ between 1 high value }
+{
+    Ok(in_range(value, u32::from(high))? as u8)
+}
+
+/// Whether each of the values lies in `low`..=`high`.
+pub fn all_between<const N: usize>(values: &[u8; N], low: u8, high: u8) -> bool
+    ensures { result ≡ are_between N low high values.now }
+{
+    values.iter().all(|value| low <= *value && *value <= high)
+}
