@@ -81,3 +81,15 @@ forwarding_in_range row =
 -- the Subscriber row of these fields, where they are in range
 abbrev pub subscriber_of : SubscriberRow → Result SubscriberRow Refusal
 subscriber_of row = if subscriber_in_range row then Ok row else Err Field
+
+-- the Access_Info row of these fields, where they are in range
+abbrev pub access_of : AccessInfoRow → Result AccessInfoRow Refusal
+access_of row = if access_in_range row then Ok row else Err Field
+
+-- the Special_Facility row of these fields, where they are in range
+abbrev pub facility_of : SpecialFacilityRow → Result SpecialFacilityRow Refusal
+facility_of row = if facility_in_range row then Ok row else Err Field
+
+-- the Call_Forwarding row of these fields, where they are in range
+abbrev pub forwarding_of : CallForwardingRow → Result CallForwardingRow Refusal
+forwarding_of row = if forwarding_in_range row then Ok row else Err Field

@@ -5,6 +5,9 @@
 //! and every layer above cites it.
 #![tactic(auto)]
 
+mod access;
+mod facility;
+mod forwarding;
 mod keys;
 mod letters;
 mod number;
@@ -15,6 +18,9 @@ mod subscriber;
 mod tests;
 mod zones;
 
+pub use access::Access;
+pub use facility::Facility;
+pub use forwarding::Forwarding;
 pub use keys::{row_key, subscriber_key};
 pub use letters::Letters;
 pub use number::Number;

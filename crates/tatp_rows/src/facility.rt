@@ -1,0 +1,157 @@
+//! Rows of the table Special_Facility.
+ghost use Rattle.std.specs.Prelude.{◌≡◌, ◌==◌, IsTrue, if◌then◌else◌};
+ghost use Rattle.tatp_rows.specs.Rows.{SpecialFacilityRow, facility_in_range, facility_of};
+ghost use Rattle.tatp_rows.specs.Keys.{facility_key};
+
+use crate::keys::row_key;
+use crate::letters::Letters;
+use crate::ranges::{byte_in_range, in_range};
+use crate::refusal::Refusal;
+use std::marker::Model;
+
+/// A row of the table Special_Facility (TATP, section 2.3).
+#[derive(Clone, Copy, Debug, PartialEq, Eq)]
+pub struct Facility {
+    s_id: u32,
+    sf_type: u8,
+    is_active: u8,
+    error_cntrl: u8,
+    data_a: u8,
+    data_b: Letters<5>,
+}
+
+impl Model for Facility {
+    ghost Value = { SpecialFacilityRow };
+
+    ghost view = { λ f. record {
+      s_id = f.s_id;
+      sf_type = f.sf_type;
+      is_active = f.is_active;
+      error_cntrl = f.error_cntrl;
+      data_a = f.data_a;
+      data_b = f.data_b;
+    } };
+
+    ghost invariant = { λ f. IsTrue (facility_in_range (record {
+      s_id = f.s_id;
+      sf_type = f.sf_type;
+      is_active = f.is_active;
+      error_cntrl = f.error_cntrl;
+      data_a = f.data_a;
+      data_b = f.data_b;
+    })) };
+
+    ghost inverse = { λ f. record {
+      s_id = f.s_id;
+      sf_type = f.sf_type;
+      is_active = f.is_active;
+      error_cntrl = f.error_cntrl;
+      data_a = f.data_a;
+      data_b = f.data_b;
+    } };
+}
+
+impl Facility {
+    /// The row with these fields, in TATP's order; `Field` where one is out of its range: s_id 1..=16,777,216,
+    /// sf_type 1..=4, is_active 0..=1.
+    pub fn try_new(
+        s_id: u64,
+        sf_type: u64,
+        is_active: u64,
+        error_cntrl: u8,
+        data_a: u8,
+        data_b: Letters<5>,
+    ) -> Result<Self, Refusal>
+        ensures { result ≡ facility_of (record {
+          s_id = s_id;
+          sf_type = sf_type;
+          is_active = is_active;
+          error_cntrl = error_cntrl;
+          data_a = data_a;
+          data_b = data_b;
+        }) }
+    {
+        let s_id = in_range(s_id, 16_777_216)?;
+        let sf_type = byte_in_range(sf_type, 4)?;
+        if is_active > 1 {
+            return Err(Refusal::Field);
+        }
+        // Letters are in range, as their reader says.
+        let _letters = data_b.bytes();
+        Ok(Facility {
+            s_id,
+            sf_type,
+            is_active: is_active as u8,
+            error_cntrl,
+            data_a,
+            data_b,
+        })
+    }
+
+    /// The row with is_active 1 or 0.
+    pub fn with_is_active(self, is_active: bool) -> Self
+        ensures { result ≡ record self { is_active = if is_active then 1 else 0 } }
+    {
+        Facility {
+            is_active: u8::from(is_active),
+            ..self
+        }
+    }
+
+    /// The row with another data_a.
+    pub fn with_data_a(self, data_a: u8) -> Self
+        ensures { result ≡ record self { data_a = data_a } }
+    {
+        Facility { data_a, ..self }
+    }
+
+    /// The row's key.
+    pub fn key(&self) -> u64
+        ensures { result ≡ facility_key self.now }
+    {
+        row_key(self.s_id, self.sf_type, 0)
+    }
+
+    /// The subscriber, 1..=16,777,216.
+    pub fn s_id(&self) -> u32
+        ensures value { result ≡ self.now.s_id }
+        ensures in_range { IsTrue (facility_in_range self.now) }
+    {
+        self.s_id
+    }
+
+    /// The type of the facility, 1..=4.
+    pub fn sf_type(&self) -> u8
+        ensures { result ≡ self.now.sf_type }
+    {
+        self.sf_type
+    }
+
+    /// Whether is_active is 1.
+    pub fn is_active(&self) -> bool
+        ensures { result ≡ (self.now.is_active == 1) }
+    {
+        self.is_active == 1
+    }
+
+    /// error_cntrl, 0..=255.
+    pub fn error_cntrl(&self) -> u8
+        ensures { result ≡ self.now.error_cntrl }
+    {
+        self.error_cntrl
+    }
+
+    /// data_a, 0..=255.
+    pub fn data_a(&self) -> u8
+        ensures { result ≡ self.now.data_a }
+    {
+        self.data_a
+    }
+
+    /// data_b, five letters A to Z.
+    pub fn data_b(&self) -> Letters<5>
+        ensures { result ≡ self.now.data_b }
+    {
+        self.data_b
+    }
+}

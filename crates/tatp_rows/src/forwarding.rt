@@ -1,0 +1,127 @@
+//! Rows of the table Call_Forwarding.
+ghost use Rattle.std.specs.Prelude.{◌≡◌, IsTrue};
+ghost use Rattle.tatp_rows.specs.Rows.{CallForwardingRow, forwarding_in_range, forwarding_of};
+ghost use Rattle.tatp_rows.specs.Keys.{forwarding_key};
+
+use crate::keys::row_key;
+use crate::number::Number;
+use crate::ranges::{byte_in_range, in_range};
+use crate::refusal::Refusal;
+use std::marker::Model;
+
+/// A row of the table Call_Forwarding (TATP, section 2.4).
+#[derive(Clone, Copy, Debug, PartialEq, Eq)]
+pub struct Forwarding {
+    s_id: u32,
+    sf_type: u8,
+    start_time: u8,
+    end_time: u8,
+    numberx: Number,
+}
+
+impl Model for Forwarding {
+    ghost Value = { CallForwardingRow };
+
+    ghost view = { λ f. record {
+      s_id = f.s_id;
+      sf_type = f.sf_type;
+      start_time = f.start_time;
+      end_time = f.end_time;
+      numberx = f.numberx;
+    } };
+
+    ghost invariant = { λ f. IsTrue (forwarding_in_range (record {
+      s_id = f.s_id;
+      sf_type = f.sf_type;
+      start_time = f.start_time;
+      end_time = f.end_time;
+      numberx = f.numberx;
+    })) };
+
+    ghost inverse = { λ f. record {
+      s_id = f.s_id;
+      sf_type = f.sf_type;
+      start_time = f.start_time;
+      end_time = f.end_time;
+      numberx = f.numberx;
+    } };
+}
+
+impl Forwarding {
+    /// The row with these fields, in TATP's order; `Field` where one is out of its range: s_id 1..=16,777,216,
+    /// sf_type 1..=4, start_time 0, 8 or 16, end_time 1..=24. The end may lie before the start.
+    pub fn try_new(
+        s_id: u64,
+        sf_type: u64,
+        start_time: u64,
+        end_time: u64,
+        numberx: Number,
+    ) -> Result<Self, Refusal>
+        ensures { result ≡ forwarding_of (record {
+          s_id = s_id;
+          sf_type = sf_type;
+          start_time = start_time;
+          end_time = end_time;
+          numberx = numberx;
+        }) }
+    {
+        let s_id = in_range(s_id, 16_777_216)?;
+        let sf_type = byte_in_range(sf_type, 4)?;
+        if start_time != 0 && start_time != 8 && start_time != 16 {
+            return Err(Refusal::Field);
+        }
+        let end_time = byte_in_range(end_time, 24)?;
+        // A number is in range, as its reader says.
+        let _number = numberx.value();
+        Ok(Forwarding {
+            s_id,
+            sf_type,
+            start_time: start_time as u8,
+            end_time,
+            numberx,
+        })
+    }
+
+    /// The row's key.
+    pub fn key(&self) -> u64
+        ensures { result ≡ forwarding_key self.now }
+    {
+        row_key(self.s_id, self.sf_type, self.start_time)
+    }
+
+    /// The subscriber, 1..=16,777,216.
+    pub fn s_id(&self) -> u32
+        ensures value { result ≡ self.now.s_id }
+        ensures in_range { IsTrue (forwarding_in_range self.now) }
+    {
+        self.s_id
+    }
+
+    /// The type of the facility, 1..=4.
+    pub fn sf_type(&self) -> u8
+        ensures { result ≡ self.now.sf_type }
+    {
+        self.sf_type
+    }
+
+    /// The hour from which calls are forwarded: 0, 8 or 16.
+    pub fn start_time(&self) -> u8
+        ensures { result ≡ self.now.start_time }
+    {
+        self.start_time
+    }
+
+    /// The hour at which that ends, 1..=24.
+    pub fn end_time(&self) -> u8
+        ensures { result ≡ self.now.end_time }
+    {
+        self.end_time
+    }
+
+    /// The number that calls are forwarded to.
+    pub fn numberx(&self) -> Number
+        ensures { result ≡ self.now.numberx }
+    {
+        self.numberx
+    }
+}
