@@ -156,6 +156,68 @@ facility_type row holds = second_kind (is_between 1 16777216 row.s_id) row.sf_ty
 pub forwarding_type : (row : CallForwardingRow) → forwarding_in_range row ≡ true → IsKind row.sf_type
 forwarding_type row holds = second_kind (is_between 1 16777216 row.s_id) row.sf_type _ holds
 
+-- the ranges of a Special_Facility row's fields, one by one
+pub record FacilityRanges (row : SpecialFacilityRow) : Type 0 where
+  pub s_id_between : is_between 1 16777216 row.s_id ≡ true
+  pub sf_type_between : is_between 1 4 row.sf_type ≡ true
+  pub is_active_between : is_between 0 1 row.is_active ≡ true
+  pub error_cntrl_between : is_between 0 255 row.error_cntrl ≡ true
+  pub data_a_between : is_between 0 255 row.data_a ≡ true
+  pub data_b_between : are_between 5 65 90 row.data_b ≡ true
+
+pub facility_ranges : (row : SpecialFacilityRow) → facility_in_range row ≡ true → FacilityRanges row
+facility_ranges row holds =
+    let kind = is_between 1 4 row.sf_type in
+    let active = is_between 0 1 row.is_active in
+    let error = is_between 0 255 row.error_cntrl in
+    let data_a = is_between 0 255 row.data_a in
+    let letters = are_between 5 65 90 row.data_b in
+    let on_s_id = both (is_between 1 16777216 row.s_id) (kind && (active && (error && (data_a && letters)))) holds in
+    let on_kind = both kind (active && (error && (data_a && letters))) on_s_id.1 in
+    let on_active = both active (error && (data_a && letters)) on_kind.1 in
+    let on_error = both error (data_a && letters) on_active.1 in
+    let on_data = both data_a letters on_error.1 in
+    record {
+      s_id_between = on_s_id.0;
+      sf_type_between = on_kind.0;
+      is_active_between = on_active.0;
+      error_cntrl_between = on_error.0;
+      data_a_between = on_data.0;
+      data_b_between = on_data.1;
+    }
+
+-- and all of them make the row's test
+pub facility_from_ranges : (row : SpecialFacilityRow) → FacilityRanges row → facility_in_range row ≡ true
+facility_from_ranges row ranges =
+    both_from _ _ ranges.s_id_between (both_from _ _ ranges.sf_type_between (both_from _ _ ranges.is_active_between
+    (both_from _ _ ranges.error_cntrl_between (both_from _ _ ranges.data_a_between ranges.data_b_between))))
+
+-- the row that is switched on or off
+pub switched_in_range : (row : SpecialFacilityRow) (n : ℕ) → n ≤ 1 → facility_in_range row ≡ true → facility_in_range (record row { is_active = n }) ≡ true
+switched_in_range row n small holds =
+    let ranges = facility_ranges row holds in
+    facility_from_ranges (record row { is_active = n }) (record {
+      s_id_between = ranges.s_id_between;
+      sf_type_between = ranges.sf_type_between;
+      is_active_between = between_from 0 1 n (omega arith) small;
+      error_cntrl_between = ranges.error_cntrl_between;
+      data_a_between = ranges.data_a_between;
+      data_b_between = ranges.data_b_between;
+    })
+
+-- the row with another data_a
+pub data_a_in_range : (row : SpecialFacilityRow) (n : ℕ) → n ≤ 255 → facility_in_range row ≡ true → facility_in_range (record row { data_a = n }) ≡ true
+data_a_in_range row n small holds =
+    let ranges = facility_ranges row holds in
+    facility_from_ranges (record row { data_a = n }) (record {
+      s_id_between = ranges.s_id_between;
+      sf_type_between = ranges.sf_type_between;
+      is_active_between = ranges.is_active_between;
+      error_cntrl_between = ranges.error_cntrl_between;
+      data_a_between = between_from 0 255 n (omega arith) small;
+      data_b_between = ranges.data_b_between;
+    })
+
 -- the times and the number of a Call_Forwarding row
 pub record ForwardingRanges (row : CallForwardingRow) : Type 0 where
   pub start_time_is : (row.start_time ≡ 0) ⊎ ((row.start_time ≡ 8) ⊎ (row.start_time ≡ 16))
