@@ -7,7 +7,6 @@ use Rattle.std.proofs.lemmas.Str.{IsUtf8-from_ascii}
 use Rattle.std.proofs.lemmas.Bool.{cases_lt}
 use Rattle.std.proofs.lemmas.List.{get_or_past}
 use Rattle.std.specs.Str.{IsUtf8}
-use Rattle.tatp_rows.specs.Letters.{letters_in}
 use Rattle.tatp_rows.proofs.OrderedLemmas.{by_test}
 use Rattle.tatp_rows.specs.declared.refusal.Refusal.TheVariants.{Field}
 use Rattle.tatp_rows.specs.Rows.{between, subscriber_of, SubscriberRow, AccessInfoRow, SpecialFacilityRow, CallForwardingRow, is_between, are_between, subscriber_in_range, access_in_range, facility_in_range, forwarding_in_range}
@@ -279,10 +278,6 @@ letters_utf8 size text letters = IsUtf8-from_ascii text (λ k. elim (cases_lt k 
   | inl inside ↦ let high = (between_each 65 90 text (both (length text == size) (list_all (is_between 65 90) text) letters).1 k inside).1 in omega arith
   | inr past ↦ let none : get_or text k 0 ≡ 0 = get_or_past text k 0 past in omega arith
 ])
-
--- the letters of a text that is of letters alone
-pub letters_are : (size : ℕ) (text letters : List ℕ) → letters ≡ text → are_between size 65 90 letters ≡ true → Ok letters ≡ letters_in size text
-letters_are size text letters same holds = rw same (sym (rw (rw same at holds) refl))
 
 -- what a range's answer says of the number
 pub between_ok : (low high n m : ℕ) → Ok m ≡ between low high n → (m ≡ n) × (is_between low high n ≡ true)

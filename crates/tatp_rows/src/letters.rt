@@ -25,6 +25,16 @@ impl<const N: usize> Model for Letters<N> {
 }
 
 impl<const N: usize> Letters<N> {
+    /// The letters with these bytes; `Field` where one isn't one of A to Z.
+    pub fn try_new(bytes: [u8; N]) -> Result<Self, Refusal>
+        ensures { result ≡ letters_in N bytes.entry }
+    {
+        if !all_between(&bytes, b'A', b'Z') {
+            return Err(Refusal::Field);
+        }
+        Ok(Letters { bytes })
+    }
+
     /// Reads exactly `N` ASCII letters A to Z; `Field` where the text is anything else.
     pub fn from_bytes(text: &[u8]) -> Result<Self, Refusal>
         ensures { result ≡ letters_in N text.now }
@@ -32,10 +42,7 @@ impl<const N: usize> Letters<N> {
         let Ok(bytes) = <[u8; N]>::try_from(text) else {
             return Err(Refusal::Field);
         };
-        if !all_between(&bytes, b'A', b'Z') {
-            return Err(Refusal::Field);
-        }
-        Ok(Letters { bytes })
+        Letters::try_new(bytes)
     }
 
     /// The letters, each 65..=90.

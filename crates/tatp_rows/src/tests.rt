@@ -156,6 +156,8 @@ fn letters(rt: HostRuntime) -> Result<(), Fail> {
         format!(in rt.alloc(); "{amz}")?.as_bytes(),
         b"AMZ".as_slice()
     );
+    assert_eq!(rt; Letters::try_new(*b"AMZ"), Ok(amz));
+    assert_eq!(rt; Letters::try_new(*b"AmZ"), Err(Refusal::Field));
     let qwert = five(b"QWERT")?;
     assert_eq!(rt; qwert.bytes(), *b"QWERT");
     assert_eq!(rt;
