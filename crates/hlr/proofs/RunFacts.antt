@@ -18,7 +18,7 @@ use Rattle.hlr.specs.Views.{views_text}
 use Rattle.hlr.specs.declared.records.Command.{Command}
 use Rattle.hlr.specs.declared.records.Command.TheVariants as command
 use Rattle.hlr.specs.Sink.{AppendsFront}
-use Rattle.hlr.specs.Text.{CommandText, RecordText, RecordsText, RecordDone, RecordCut, WritesWhole, RanWhole, RanFront, Ran}
+use Rattle.hlr.specs.Text.{CommandText, RecordText, RecordsText, RecordDone, RecordCut, WritesWhole, AnsweredRecords, RanWhole, RanFront, Ran}
 use Rattle.hlr.specs.declared.fault.Fault.{Fault}
 use Rattle.hlr.specs.declared.fault.Fault.TheVariants as fault
 use Rattle.hlr.proofs.ViewFacts.{views_same}
@@ -58,6 +58,17 @@ started start bytes source at old source_is at_start = record {
   many = refl;
 }
 
+-- what is answered so far, where the count is within the limit
+abbrev answered_so_far : (start : Store) (bytes : List ℕ) (source : Option (List ℕ)) (at : State) (now : Store) (old new : Option (List ℕ)) (count : ℕ)
+    → SoFar start bytes source at now old new count → count ≤ 1048576 → AnsweredRecords start
+answered_so_far start bytes source at now old new count so within = record {
+  rows = so.rows;
+  few = (let many = so.many in omega arith);
+  text = so.text;
+  end = now;
+  answers = so.answers;
+}
+
 module _ {R : Type 0} (rem : R → Option (List ℕ)) (start : Store) (bytes : List ℕ) where
   -- one record more is read and answered
   pub goes_on : (a b : Reader R) (fields : List (List ℕ)) (now next : Store) (old mid new : Option (List ℕ)) (count : ℕ)
@@ -83,32 +94,31 @@ module _ {R : Type 0} (rem : R → Option (List ℕ)) (start : Store) (bytes : L
       → SoFar start bytes (source_of rem a) (reader_state a) now old new count → reader_config a ≡ default_config → (found : Bool) → found ≡ false → ReadRecord rem a b found fields → count ≤ 1048576 → RanWhole start bytes old new
   ends a b fields now old new count so config found none taken few =
       let read : ReadRecord rem a b false fields = subst (λ (f : Bool). ReadRecord rem a b f fields) none taken in
-      let many = so.many in
       record {
-        rows = so.rows;
+        answered = answered_so_far start bytes (source_of rem a) (reader_state a) now old new count so few;
         are_records = (reader_state a, so.left, so.reached, rows-end rem a b fields default_config so.left config so.source_is read);
-        few = omega arith;
-        text = so.text;
-        end = now;
-        answers = so.answers;
         grew = so.grew;
       }
 
   -- the sink failed in the answer of a record
   pub breaks : (a b : Reader R) (fields : List (List ℕ)) (now next : Store) (old mid new : Option (List ℕ)) (count : ℕ)
       → SoFar start bytes (source_of rem a) (reader_state a) now old mid count → reader_config a ≡ default_config → (found : Bool) → found ≡ true → ReadRecord rem a b found fields
-      → RecordCut fields now next mid new → RanFront start bytes old new fault.Write
-  breaks a b fields now next old mid new count so config found there taken cut =
+      → RecordCut fields now next mid new → count < 1048576 → RanFront start bytes old new fault.Write
+  breaks a b fields now next old mid new count so config found there taken cut below =
       let read : ReadRecord rem a b true fields = subst (λ (f : Bool). ReadRecord rem a b f fields) there taken in
       let more = rows-more rem a b fields default_config st.StartRecord bytes so.left so.rows config so.source_is so.reached read in
+      let many = so.many in
       record {
-        rows = so.rows ++ fields ∷ [];
+        answered = record {
+          rows = so.rows ++ fields ∷ [];
+          few = rw length-append (omega arith);
+          text = so.text ++ cut.text;
+          end = next;
+          answers = records_more so.rows fields start now next so.text cut.text so.answers cut.answer;
+        };
         state = reader_state b;
         left = more.0;
         are_first = more.2;
-        text = so.text ++ cut.text;
-        end = next;
-        answers = records_more so.rows fields start now next so.text cut.text so.answers cut.answer;
         written = so.text ++ cut.grew.front;
         begins = begins_after so.text cut.grew.front cut.text cut.grew.begins;
         whole = tt;
@@ -123,93 +133,61 @@ writes_whole fault.Thread text = refl
 writes_whole fault.Read text = refl
 writes_whole fault.Write text = tt
 
+-- the first records are answered, and their whole text is written
+front_is_whole : (start : Store) (bytes : List ℕ) (old new : Option (List ℕ)) (why : Fault) (answered : AnsweredRecords start) (at : State) (left : List ℕ)
+    → Reached default_config st.StartRecord bytes answered.rows at left → Appends old new answered.text → RanFront start bytes old new why
+front_is_whole start bytes old new why answered at left reached grew = record {
+  answered = answered;
+  state = at;
+  left = left;
+  are_first = reached;
+  written = answered.text;
+  begins = begins_all answered.text;
+  whole = writes_whole why answered.text;
+  grew = grew;
+}
+
+-- nothing more is written after a fault, which another may follow
+front_kept : (start : Store) (bytes : List ℕ) (old mid new : Option (List ℕ)) (why other : Fault) (ran : RanFront start bytes old mid why)
+    → WritesWhole other ran.written ran.answered.text → Keeps mid new → RanFront start bytes old new other
+front_kept start bytes old mid new why other ran whole kept = record {
+  answered = ran.answered;
+  state = ran.state;
+  left = ran.left;
+  are_first = ran.are_first;
+  written = ran.written;
+  begins = ran.begins;
+  whole = whole;
+  grew = appends_kept old mid new ran.written ran.grew kept;
+}
+
 -- the run stops between two records
 pub stops : (start : Store) (bytes : List ℕ) (source : Option (List ℕ)) (at : State) (now : Store) (old new : Option (List ℕ)) (count : ℕ) (why : Fault)
-    → SoFar start bytes source at now old new count → RanFront start bytes old new why
-stops start bytes source at now old new count why so = record {
-  rows = so.rows;
-  state = at;
-  left = so.left;
-  are_first = so.reached;
-  text = so.text;
-  end = now;
-  answers = so.answers;
-  written = so.text;
-  begins = begins_all so.text;
-  whole = writes_whole why so.text;
-  grew = so.grew;
-}
+    → SoFar start bytes source at now old new count → count ≤ 1048576 → RanFront start bytes old new why
+stops start bytes source at now old new count why so within =
+    front_is_whole start bytes old new why (answered_so_far start bytes source at now old new count so within) at so.left so.reached so.grew
 
 -- a run that read nothing and wrote nothing
 pub ran_nothing : (start : Store) (bytes : List ℕ) (old new : Option (List ℕ)) (why : Fault) → Keeps old new → RanFront start bytes old new why
 unfolding RecordsText Reached
-ran_nothing start bytes old new why kept = record {
-  rows = [];
-  state = st.StartRecord;
-  left = bytes;
-  are_first = (refl, refl);
-  text = [];
-  end = start;
-  answers = (refl, refl);
-  written = [];
-  begins = begins_all [];
-  whole = writes_whole why [];
-  grew = appends_kept old old new [] (appends_none old) kept;
-}
+ran_nothing start bytes old new why kept =
+    front_is_whole start bytes old new why (record { rows = []; few = omega arith; text = []; end = start; answers = (refl, refl) }) st.StartRecord bytes (refl, refl)
+    (appends_kept old old new [] (appends_none old) kept)
 
 -- nothing more is written after a run
 pub ran_kept : (start : Store) (bytes : List ℕ) (old mid new : Option (List ℕ)) (r : Result (Unit {0}) Fault) → Ran start bytes old mid r → Keeps mid new → Ran start bytes old new r
 ran_kept start bytes old mid new (Ok done) ran kept = record {
-  rows = ran.rows;
+  answered = ran.answered;
   are_records = ran.are_records;
-  few = ran.few;
-  text = ran.text;
-  end = ran.end;
-  answers = ran.answers;
-  grew = appends_kept old mid new ran.text ran.grew kept;
+  grew = appends_kept old mid new ran.answered.text ran.grew kept;
 }
-ran_kept start bytes old mid new (Err why) ran kept = record {
-  rows = ran.rows;
-  state = ran.state;
-  left = ran.left;
-  are_first = ran.are_first;
-  text = ran.text;
-  end = ran.end;
-  answers = ran.answers;
-  written = ran.written;
-  begins = ran.begins;
-  whole = ran.whole;
-  grew = appends_kept old mid new ran.written ran.grew kept;
-}
+ran_kept start bytes old mid new (Err why) ran kept = front_kept start bytes old mid new why why ran ran.whole kept
 
 -- the flush after a run failed
 pub ran_unflushed : (start : Store) (bytes : List ℕ) (old mid new : Option (List ℕ)) (r : Result (Unit {0}) Fault) → Ran start bytes old mid r → Keeps mid new → RanFront start bytes old new fault.Write
-ran_unflushed start bytes old mid new (Ok done) ran kept = record {
-  rows = ran.rows;
-  state = ran.are_records.0;
-  left = ran.are_records.1;
-  are_first = ran.are_records.2;
-  text = ran.text;
-  end = ran.end;
-  answers = ran.answers;
-  written = ran.text;
-  begins = begins_all ran.text;
-  whole = tt;
-  grew = appends_kept old mid new ran.text ran.grew kept;
-}
-ran_unflushed start bytes old mid new (Err why) ran kept = record {
-  rows = ran.rows;
-  state = ran.state;
-  left = ran.left;
-  are_first = ran.are_first;
-  text = ran.text;
-  end = ran.end;
-  answers = ran.answers;
-  written = ran.written;
-  begins = ran.begins;
-  whole = tt;
-  grew = appends_kept old mid new ran.written ran.grew kept;
-}
+ran_unflushed start bytes old mid new (Ok done) ran kept =
+    front_is_whole start bytes old new fault.Write ran.answered ran.are_records.0 ran.are_records.1 ran.are_records.2 (appends_kept old mid new ran.answered.text ran.grew kept)
+ran_unflushed start bytes old mid new (Err why) ran kept = front_kept start bytes old mid new why fault.Write ran tt kept
 
 -- what is known of known bytes
 pub if_some : {X : Type 0} (o : Option X) (P Q : X → Type 0) → ((x : X) → P x → Q x) → IfSome o P → IfSome o Q

@@ -61,28 +61,29 @@ WritesWhole fault.Field written text = written ≡ text
 WritesWhole fault.Thread written text = written ≡ text
 WritesWhole fault.Read written text = written ≡ text
 
--- all records of the bytes are answered, and there are not too many
-pub record RanWhole (start : Store) (bytes : List ℕ) (old new : Option (List ℕ)) : Type 0 where
+-- records that a run answered, as many as it may at most, with their text and the store after them
+pub record AnsweredRecords (start : Store) : Type 0 where
   pub rows : List (List (List ℕ))
-  pub are_records : AreRecords default_config st.StartRecord bytes rows
   pub few : length rows ≤ 1048576
   pub text : List ℕ
   pub end : Store
   pub answers : RecordsText rows start text end
-  pub grew : Appends old new text
+
+-- all records of the bytes are answered
+pub record RanWhole (start : Store) (bytes : List ℕ) (old new : Option (List ℕ)) : Type 0 where
+  pub answered : AnsweredRecords start
+  pub are_records : AreRecords default_config st.StartRecord bytes answered.rows
+  pub grew : Appends old new answered.text
 
 -- the first records of the bytes are answered
 pub record RanFront (start : Store) (bytes : List ℕ) (old new : Option (List ℕ)) (why : Fault) : Type 0 where
-  pub rows : List (List (List ℕ))
+  pub answered : AnsweredRecords start
   pub state : State
   pub left : List ℕ
-  pub are_first : Reached default_config st.StartRecord bytes rows state left
-  pub text : List ℕ
-  pub end : Store
-  pub answers : RecordsText rows start text end
+  pub are_first : Reached default_config st.StartRecord bytes answered.rows state left
   pub written : List ℕ
-  pub begins : Begins written text
-  pub whole : WritesWhole why written text
+  pub begins : Begins written answered.text
+  pub whole : WritesWhole why written answered.text
   pub grew : Appends old new written
 
 -- a run from a store over these bytes: on Ok all records are answered, after a fault the first ones

@@ -8,6 +8,7 @@ loop-count-init g c = record {
   trims = c.requires.trims;
   ready = c.requires.ready;
   config = c.requires.config;
+  few = omega arith;
   so_far = if_known _ _ (λ bytes is. started _ _ _ _ _ is c.requires.start);
 }
 
@@ -24,10 +25,14 @@ returns-then-is_err-clause-text g c =
     let failed : is_err c.answer.result ≡ true = search rules in
     if_some _ _ _ (λ bytes so.
     breaks g.R.Read.remaining _ bytes c.loop-count.reader c.read_byte_record.new.self _ _ _ _ _ _ _ so inv.config _ c.in-Ok-true.field-0-test
-    (c.in-Ok-true.ensures.reads inv.trims inv.ready) (on_err_is c.answer.result failed c.answer.ensures.err)) inv.so_far
+    (c.in-Ok-true.ensures.reads inv.trims inv.ready) (on_err_is c.answer.result failed c.answer.ensures.err) (omega arith)) inv.so_far
 
 pub returns-in-Err-clause-text : goal.returns-in-Err-clause-text
-returns-in-Err-clause-text g c = if_some _ _ _ (λ bytes so. stops _ _ _ _ _ _ _ _ _ so) c.loop-count.invariant.so_far
+returns-in-Err-clause-text g c = if_some _ _ _ (λ bytes so. stops _ _ _ _ _ _ _ _ _ so c.loop-count.invariant.few) c.loop-count.invariant.so_far
+
+pub returns-then-count-eq-RECORDS-clause-text : goal.returns-then-count-eq-RECORDS-clause-text
+returns-then-count-eq-RECORDS-clause-text g c =
+    if_some _ _ _ (λ bytes so. stops _ _ _ _ _ _ _ _ _ so c.loop-count.invariant.few) c.loop-count.invariant.so_far
 
 pub loop-count-preserved : goal.loop-count-preserved
 loop-count-preserved g c =
@@ -38,6 +43,7 @@ loop-count-preserved g c =
       trims = read.3 ∙ inv.trims;
       ready = inl (c.in-Ok-true.ensures.ready inv.trims);
       config = read.2 ∙ inv.config;
+      few = omega arith;
       so_far = if_some _ _ _ (λ bytes so.
           goes_on g.R.Read.remaining _ bytes c.loop-count.reader c.read_byte_record.new.self _ _ _ _ _ _ _ so inv.config _ c.in-Ok-true.field-0-test
           (c.in-Ok-true.ensures.reads inv.trims inv.ready) (on_ok_is c.answer.result passed c.answer.ensures.ok)) inv.so_far;
