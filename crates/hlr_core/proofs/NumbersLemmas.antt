@@ -8,7 +8,7 @@ use Rattle.tatp_rows.specs.Keys.{key_of, subscriber_key}
 use Rattle.tatp_rows.specs.Ordered.{row_at, with_row_at, with_row}
 use Rattle.tatp_rows.specs.Rows.{SubscriberRow}
 use Rattle.tatp_actions.specs.Action.{effect, IsOutcome, is_in_range, subscriber_data, update_location, add_subscriber}
-use Rattle.tatp_actions.specs.Book.{Book, subscriber_at, IsWithin}
+use Rattle.tatp_actions.specs.Book.{Book, subscriber_at}
 use Rattle.tatp_actions.specs.declared.action.Action.{Action}
 use Rattle.tatp_actions.specs.declared.action.Action.TheVariants.{SubscriberData, UpdateLocation, AddSubscriber}
 use Rattle.tatp_actions.specs.declared.action.RowReply.{RowReply}
@@ -53,11 +53,6 @@ no_twin-with_row_at k new old (x ∷ xs) single found same =
       each-with_row_at subscriber_key (λ other. x.sub_nbr ≢ other.sub_nbr) k new xs (λ twin. differ cc) single.0,
       no_twin-with_row_at k new old xs single.1 rest same,
     ))
-
--- the owner of a number is one of the rows
-pub owner_within : (low high n : ℕ) (rows : List SubscriberRow) (row : SubscriberRow) → AllByRecursion (λ row. IsWithin low high row.s_id) rows → owner_of rows n ≡ Some row
-    → IsWithin low high row.s_id
-owner_within low high n rows row each found = each_found number (λ row. IsWithin low high row.s_id) n rows row each found
 
 -- what each action leaves, by what it finds
 data_no_twin : (book : Book) (found : Option SubscriberRow) → HasNoTwin book.subscribers → HasNoTwin (subscriber_data book found).1.subscribers

@@ -20,18 +20,22 @@ walk_begins book number rows = record {
   few = omega arith;
 }
 
+-- the row that comes next is that of a subscriber
+pub walk_within : (book : Book) (s : ℕ) (row : SubscriberRow) → IsRowsOf 1 16777217 book → Some row ≡ first_subscriber s book.subscribers → IsWithin 1 16777217 row.s_id
+walk_within book s row rows found = each_first (λ (r : SubscriberRow). IsWithin 1 16777217 r.s_id) s book.subscribers row rows.subscribers (sym found)
+
 -- a turn: the row that comes next, whose number is another
 pub walk_goes_on : (book : Book) (number s : ℕ) (row : SubscriberRow) → IsRowsOf 1 16777217 book → Some row ≡ first_subscriber s book.subscribers → (row.sub_nbr ≡ number → ⊥)
     → IsWalking book number s → IsWalking book number (row.s_id + 1)
 walk_goes_on book number s row rows found other walking = record {
   ahead = sym (walk_on s number book.subscribers row rows.rules.subscribers_ordered (sym found) other) ∙ walking.ahead;
-  few = (let within = each_first (λ (r : SubscriberRow). IsWithin 1 16777217 r.s_id) s book.subscribers row rows.subscribers (sym found) in omega (arith, within.1));
+  few = (let within = walk_within book s row rows found in omega (arith, within.1));
 }
 
 -- the walk gets nearer to its end
 pub walk_falls : (book : Book) (s : ℕ) (row : SubscriberRow) → IsRowsOf 1 16777217 book → Some row ≡ first_subscriber s book.subscribers → (s ≤ row.s_id) × (row.s_id < 16777217)
 walk_falls book s row rows found =
-    (first_from s book.subscribers row (sym found), (each_first (λ (r : SubscriberRow). IsWithin 1 16777217 r.s_id) s book.subscribers row rows.subscribers (sym found)).1)
+    (first_from s book.subscribers row (sym found), (walk_within book s row rows found).1)
 
 -- the row that comes next has the number
 pub walk_finds : (book : Book) (number s : ℕ) (row : SubscriberRow) → IsRowsOf 1 16777217 book → Some row ≡ first_subscriber s book.subscribers → row.sub_nbr ≡ number

@@ -1,13 +1,11 @@
 -- Right steps of the register, from what its holdings do.
-use Rattle.std.proofs.Common.{◌≡◌, ℕ, ◌<◌, ◌≤◌, refl, arith, List, Bool, true, false, Option, Some, None, sym, ◌∙◌, ap, inl}
+use Rattle.std.proofs.Common.{◌≡◌, ℕ, ◌<◌, ◌≤◌, refl, arith, List, Bool, true, false, Option, Some, None, sym, ap, inl}
 use Rattle.std.specs.Prelude.{option_map, is_some}
 use Rattle.std.proofs.lemmas.Bool.Decides.{nat_tests}
-use Rattle.std.specs.Result.{result_ok}
-use Rattle.tatp_rows.proofs.OrderedLemmas.{by_test}
-use Rattle.tatp_rows.specs.Rows.{SubscriberRow, between, is_between}
+use Rattle.tatp_rows.specs.Rows.{SubscriberRow, is_between}
 use Rattle.tatp_rows.specs.declared.refusal.Refusal.TheVariants as refusal
 use Rattle.tatp_actions.specs.Action.{is_in_range, IsOutcome}
-use Rattle.tatp_actions.specs.Book.{Book, IsRowsOf, subscriber_at}
+use Rattle.tatp_actions.specs.Book.{subscriber_at}
 use Rattle.tatp_actions.specs.declared.action.Action.{Action}
 use Rattle.tatp_actions.specs.declared.action.Action.TheVariants as action
 use Rattle.tatp_actions.specs.declared.action.RowReply.{RowReply}
@@ -17,7 +15,7 @@ use Rattle.hlr_core.specs.Step.{IsRowStep, takes_number, whole_effect, reply_of}
 use Rattle.hlr_core.specs.Store.{Store}
 use Rattle.hlr_core.specs.declared.event.Reply.{Reply}
 use Rattle.hlr_core.specs.declared.event.Reply.TheVariants as reply
-use Rattle.hlr_core.proofs.NumbersLemmas.{owner_within, whole_from_part}
+use Rattle.hlr_core.proofs.NumbersLemmas.{whole_from_part}
 
 -- an action whose fields are in range and that takes no number is a right step
 pub acted_step : (act : Action) (before after : Store) (rows : RowReply) (answer : Reply) → is_in_range act ≡ true → takes_number act before.book ≡ false
@@ -26,34 +24,16 @@ pub acted_step : (act : Action) (before after : Store) (rows : RowReply) (answer
 acted_step act before after rows answer in_range free outcome same is =
     (rows, after.book, whole_from_part act before.book rows after.book in_range free outcome, is, same)
 
--- where a number has an owner, its s_id is that of a subscriber
-pub owner_is : (book : Book) (number s : ℕ) → IsRowsOf 1 16777217 book → Some s ≡ option_map (λ (row : SubscriberRow). row.s_id) (owner_of book.subscribers number) → (1 ≤ s) × (s < 16777217)
-owner_is book number s rows found = owner_cases (owner_of book.subscribers number) refl
-  where
-    owner_cases : (o : Option SubscriberRow) → owner_of book.subscribers number ≡ o → (1 ≤ s) × (s < 16777217)
-    owner_cases None e = let no : Some s ≡ None = found ∙ ap (option_map (λ (row : SubscriberRow). row.s_id)) e in absurd cc
-    owner_cases (Some row) e =
-        let is : Some s ≡ Some row.s_id = found ∙ ap (option_map (λ (row : SubscriberRow). row.s_id)) e in
-        let same : s ≡ row.s_id = cc in
-        rw same (owner_within 1 16777217 number book.subscribers row rows.subscribers e)
-
 -- a location in range, of a subscriber
 pub location_in_range : (s v : ℕ) → (1 ≤ s) × (s < 16777217) → is_between 1 4294967295 v ≡ true → is_in_range (action.UpdateLocation s v) ≡ true
 location_in_range s v within fits = let own : is_between 1 16777216 s ≡ true = grind (arith, nat_tests) in rw (own, fits) refl
 
--- a number that lies in its range
-pub in_range_is : (low high n m : ℕ) → Some m ≡ result_ok (between low high n) → (m ≡ n) × (is_between low high n ≡ true)
-in_range_is low high n m found = by_test (is_between low high n)
-    (λ e. let is : Some m ≡ Some n = rw e at found in (cc, e))
-    (λ e. let no : Some m ≡ None = rw e at found in absurd cc)
-
 -- the step of a location's update, by the number's owner
-pub updated_step : (number s v : ℕ) (before after : Store) (rows : RowReply) (answer : Reply) → IsRowsOf 1 16777217 before.book → is_between 1 4294967295 v ≡ true
+pub updated_step : (number s v : ℕ) (before after : Store) (rows : RowReply) (answer : Reply) → (1 ≤ s) × (s < 16777217) → is_between 1 4294967295 v ≡ true
     → Some s ≡ option_map (λ (row : SubscriberRow). row.s_id) (owner_of before.book.subscribers number)
     → IsOutcome (action.UpdateLocation s v) before.book rows after.book → after ≡ record before { book = after.book } → answer ≡ reply_of rows
     → IsRowStep (is_between 1 4294967295 v) (option_map (λ (row : SubscriberRow). action.UpdateLocation row.s_id v) (owner_of before.book.subscribers number)) before answer after
-updated_step number s v before after rows answer range fits found outcome same is =
-    let within = owner_is before.book number s range found in
+updated_step number s v before after rows answer within fits found outcome same is =
     let step = acted_step (action.UpdateLocation s v) before after rows answer (location_in_range s v within fits) refl outcome same is in
     rw (fits, owner_action (owner_of before.book.subscribers number) found) step
   where

@@ -105,13 +105,6 @@ impl Holding {
         Ok(posted)
     }
 
-    /// The width of the zones.
-    pub fn width(&self) -> u32
-        ensures { result ≡ self.now.part.width }
-    {
-        self.part.width()
-    }
-
     /// The pending deltas of all cells.
     pub fn deltas(&self) -> [i64; 51]
         ensures { result ≡ self.now.pending }

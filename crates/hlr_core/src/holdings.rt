@@ -1,8 +1,8 @@
 //! All owners' holdings, and the board that they post to.
-ghost use Rattle.std.specs.Prelude.{◌≡◌, ℕ, ◌<◌, ◌≤◌, [], ◌∷◌, IsTrue, IfOk, OnErr, option_map, is_some, slice_index_or, ℤ, pos};
+ghost use Rattle.std.specs.Prelude.{◌≡◌, ℕ, ◌<◌, ◌≤◌, [], ◌∷◌, IfOk, IfSome, OnErr, option_map, is_some, slice_index_or, ℤ, pos};
 ghost use Rattle.tatp_rows.specs.Rows.{SubscriberRow};
 ghost use Rattle.tatp_actions.specs.Action.{s_id_of, IsOutcome};
-ghost use Rattle.tatp_actions.specs.Book.{IsWithin, IsRowsOf, subscriber_at};
+ghost use Rattle.tatp_actions.specs.Book.{IsWithin, subscriber_at};
 ghost use Rattle.tatp_actions.specs.Part.{IsWidth};
 ghost use Rattle.hlr_core.specs.Numbers.{owner_of};
 ghost use Rattle.hlr_core.specs.Step.{IsPostStep, posted_reply};
@@ -107,7 +107,8 @@ impl Holdings {
 
     /// The subscriber who has a number, found by going through the Subscriber rows.
     pub fn find(&self, number: Number) -> Option<u32>
-        ensures { result ≡ option_map (λ (row : SubscriberRow). row.s_id) (owner_of self.now.book.subscribers number) }
+        ensures owner { result ≡ option_map (λ (row : SubscriberRow). row.s_id) (owner_of self.now.book.subscribers number) }
+        ensures within { IfSome result (λ s_id. IsWithin 1 16777217 s_id) }
     {
         let mut next = 1u64;
         while let Some(row) = self.holding.first_sub_from(next) {
@@ -127,13 +128,5 @@ impl Holdings {
             Some(row) => row.s_id() == s_id,
             None => false,
         }
-    }
-
-    /// Tells that all rows lie in the range of all subscribers.
-    pub fn width(&self) -> u32
-        ensures width { result ≡ self.now.width }
-        ensures rows { IsRowsOf 1 16777217 self.now.book }
-    {
-        self.holding.width()
     }
 }

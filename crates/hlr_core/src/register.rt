@@ -1,7 +1,5 @@
 //! The register: all rows under one roof, no number twice, and every cell as published with what is not posted yet.
 ghost use Rattle.std.specs.Prelude.{◌≡◌, ℕ, [], vec_len, vec_capacity, ◌<◌, ◌≤◌, ◌↔◌, ◌⊎◌, IfOk, OnErr, slice_index_or, option_map, ℤ, pos, ◌+ℤ◌};
-ghost use Rattle.std.specs.Result.{result_ok};
-ghost use Rattle.tatp_rows.specs.Rows.{between};
 ghost use Rattle.tatp_actions.specs.Action.{s_id_of};
 ghost use Rattle.tatp_actions.specs.Cell.{cell};
 ghost use Rattle.hlr_core.specs.Numbers.{HasNoTwin};
@@ -13,7 +11,7 @@ use crate::holdings::Holdings;
 use std::alloc::Global;
 use std::marker::Model;
 use tatp_actions::{Action, RowReply};
-use tatp_rows::{Number, Refusal, Subscriber};
+use tatp_rows::{Number, Refusal, Subscriber, in_range};
 
 /// A home location register, seen as the store of the definitions: its rows, the words of the board, the slots of
 /// each part and the width of the zones.
@@ -45,16 +43,6 @@ fn reply_from(answer: RowReply) -> Reply
         RowReply::Row(row) => Reply::Rows(RowReply::Row(row)),
         RowReply::Refused(why) => Reply::Refused(why),
     }
-}
-
-/// The value, where it lies in 1..=`high`.
-fn in_range(value: u64, high: u32) -> Option<u32>
-    ensures { result ≡ result_ok (between 1 high value) }
-{
-    if value == 0 || value > u64::from(high) {
-        return None;
-    }
-    Some(value as u32)
 }
 
 impl Register {
@@ -122,7 +110,7 @@ impl Register {
     fn subscriber_data(&mut self, s_id: u64) -> Reply
         ensures { IsStep (Event.SubscriberData s_id) self.old result self.new }
     {
-        let Some(s_id) = in_range(s_id, 16_777_216) else {
+        let Ok(s_id) = in_range(s_id, 16_777_216) else {
             return Reply::Refused(Refusal::Field);
         };
         reply_from(self.holdings.act(Action::SubscriberData { s_id }))
@@ -131,10 +119,9 @@ impl Register {
     fn update_location(&mut self, sub_nbr: Number, vlr_location: u64) -> Reply
         ensures { IsStep (Event.UpdateLocation sub_nbr vlr_location) self.old result self.new }
     {
-        let Some(vlr_location) = in_range(vlr_location, u32::MAX) else {
+        let Ok(vlr_location) = in_range(vlr_location, u32::MAX) else {
             return Reply::Refused(Refusal::Field);
         };
-        let _ = self.holdings.width();
         let Some(s_id) = self.holdings.find(sub_nbr) else {
             return Reply::Refused(Refusal::NoNumber);
         };

@@ -131,6 +131,16 @@ fn subscribers(rt: HostRuntime) -> Result<(), Fail> {
 }
 
 #[test]
+fn numbers_in_range(rt: HostRuntime) {
+    assert_eq!(rt; in_range(0, 5), Err(Refusal::Field));
+    assert_eq!(rt; in_range(1, 5), Ok(1));
+    assert_eq!(rt; in_range(5, 5), Ok(5));
+    assert_eq!(rt; in_range(6, 5), Err(Refusal::Field));
+    assert_eq!(rt; in_range(4_294_967_295, u32::MAX), Ok(u32::MAX));
+    assert_eq!(rt; in_range(4_294_967_296, u32::MAX), Err(Refusal::Field));
+}
+
+#[test]
 fn fields_out_of_range(rt: HostRuntime) {
     assert_eq!(rt; row(0, 1), Err(Refusal::Field));
     assert_eq!(rt; row(16_777_216, 1).is_ok(), true);
