@@ -69,70 +69,30 @@ pub enum Word {
 pub fn word_of(text: &[u8]) -> Option<Word>
     ensures { result ≡ word_named text.now }
 {
-    if text == b"gsd".as_slice() {
-        return Some(Word::Gsd);
-    }
-    if text == b"gnd".as_slice() {
-        return Some(Word::Gnd);
-    }
-    if text == b"gad".as_slice() {
-        return Some(Word::Gad);
-    }
-    if text == b"usd".as_slice() {
-        return Some(Word::Usd);
-    }
-    if text == b"ul".as_slice() {
-        return Some(Word::Ul);
-    }
-    if text == b"icf".as_slice() {
-        return Some(Word::Icf);
-    }
-    if text == b"dcf".as_slice() {
-        return Some(Word::Dcf);
-    }
-    if text == b"sub".as_slice() {
-        return Some(Word::Sub);
-    }
-    if text == b"acc".as_slice() {
-        return Some(Word::Acc);
-    }
-    if text == b"fac".as_slice() {
-        return Some(Word::Fac);
-    }
-    if text == b"active".as_slice() {
-        return Some(Word::Active);
-    }
-    if text == b"number".as_slice() {
-        return Some(Word::Number);
-    }
-    if text == b"post".as_slice() {
-        return Some(Word::Post);
-    }
-    if text == b"give".as_slice() {
-        return Some(Word::Give);
-    }
-    if text == b"take".as_slice() {
-        return Some(Word::Take);
-    }
-    if text == b"views".as_slice() {
-        return Some(Word::Views);
-    }
-    if text == b"scan".as_slice() {
-        return Some(Word::Scan);
-    }
-    if text == b"index".as_slice() {
-        return Some(Word::Index);
-    }
-    if text == b"regions".as_slice() {
-        return Some(Word::Regions);
-    }
-    if text == b"propose".as_slice() {
-        return Some(Word::Propose);
-    }
-    if text == b"recut".as_slice() {
-        return Some(Word::Recut);
-    }
-    None
+    Some(match text {
+        b"gsd" => Word::Gsd,
+        b"gnd" => Word::Gnd,
+        b"gad" => Word::Gad,
+        b"usd" => Word::Usd,
+        b"ul" => Word::Ul,
+        b"icf" => Word::Icf,
+        b"dcf" => Word::Dcf,
+        b"sub" => Word::Sub,
+        b"acc" => Word::Acc,
+        b"fac" => Word::Fac,
+        b"active" => Word::Active,
+        b"number" => Word::Number,
+        b"post" => Word::Post,
+        b"give" => Word::Give,
+        b"take" => Word::Take,
+        b"views" => Word::Views,
+        b"scan" => Word::Scan,
+        b"index" => Word::Index,
+        b"regions" => Word::Regions,
+        b"propose" => Word::Propose,
+        b"recut" => Word::Recut,
+        _ => return None,
+    })
 }
 
 /// The field at a place, which is empty where there is none.
@@ -194,7 +154,8 @@ fn read_post(row: &ByteRecord) -> Result<Command, Refusal>
     Ok(Command::Ask(Event::Post { part, limit }))
 }
 
-/// The command that the fields after a word give, where there are `wanted` of them; else `Syntax`.
+/// The command that a word and the fields after it give: `Syntax` where this program has no command of that word yet, or
+/// there are more or fewer fields than it has; then `Field` where one isn't of its form or is out of its range.
 fn read_fields(word: Word, row: &ByteRecord) -> Result<Command, Refusal>
     ensures { result ≡ command_named (Some word) (fields_of row.now) }
 {
