@@ -14,7 +14,7 @@ ghost use Rattle.hlr.specs.declared.fault.Fault.TheVariants as fault;
 use crate::fault::{Fault, read_fault};
 use crate::lines::{Line, build_refused, build_reply, empty_line};
 use crate::records::{Command, read_command};
-use crate::sink::{PutFault, Sink, put_all};
+use crate::sink::{Sink, Stalled, put_all};
 use crate::views::write_views;
 use csv::{ByteRecord, Reader, ReaderBuilder};
 use hlr_core::Register;
@@ -32,7 +32,7 @@ fn answer<S: Sink>(
     register: &mut Register,
     line: &mut Line,
     sink: &mut S,
-) -> Result<(), PutFault>
+) -> Result<(), Stalled>
     ensures ok { OnOk result (RecordDone (fields_of row.now) register.old register.new (S.taken sink.old) (S.taken sink.new)) }
     ensures err { OnErr result (RecordCut (fields_of row.now) register.old register.new (S.taken sink.old) (S.taken sink.new)) }
     ensures told { OnErr result (S.has_stalled sink.new ≡ true) }

@@ -108,12 +108,16 @@ fn put_fault(error: io::Error) -> PutFault {
     }
 }
 
+/// A piece was not taken whole: its put took 0 bytes, failed, or was interrupted too often.
+#[derive(Clone, Copy, Debug, PartialEq, Eq)]
+pub struct Stalled;
+
 /// How often in a row a put that a signal interrupts is tried again.
 pub const RETRIES: u8 = 100;
 
 /// Puts the whole piece into the sink. A put that is interrupted is tried again, up to 100 times in a row; one that
 /// takes 0 bytes, or fails, ends it, and then a front of the piece was taken.
-pub fn put_all<S: Sink>(sink: &mut S, piece: &[u8]) -> Result<(), PutFault>
+pub fn put_all<S: Sink>(sink: &mut S, piece: &[u8]) -> Result<(), Stalled>
     ensures ok { OnOk result (Appends (S.taken sink.old) (S.taken sink.new) piece.now) }
     ensures err { OnErr result (AppendsFront (S.taken sink.old) (S.taken sink.new) piece.now) }
     ensures told { OnErr result (S.has_stalled sink.new ≡ true) }
@@ -123,13 +127,13 @@ pub fn put_all<S: Sink>(sink: &mut S, piece: &[u8]) -> Result<(), PutFault>
     let mut tries = 0u8;
     while at < piece.len() {
         match sink.put(&piece[at..]) {
-            Ok(0) => return Err(PutFault::Failed),
+            Ok(0) => return Err(Stalled),
             Ok(n) => {
                 at += n;
                 tries = 0;
             }
             Err(PutFault::Interrupted) if tries < RETRIES => tries += 1,
-            Err(fault) => return Err(fault),
+            Err(_) => return Err(Stalled),
         }
     }
     Ok(())

@@ -5,7 +5,7 @@ ghost use Rattle.hlr.specs.Sink.{AppendsFront};
 ghost use Rattle.hlr.specs.Views.{cell_text, cell_lines, views_text};
 
 use crate::lines::{Line, build_cell, build_views};
-use crate::sink::{PutFault, Sink, put_all};
+use crate::sink::{Sink, Stalled, put_all};
 
 /// Writes the line of a cell, unless both of its counts are 0, and answers how many lines it wrote.
 #[tactic(auto, unfolding(crate::specs::Views::cell_text, crate::specs::Views::cell_lines))]
@@ -15,7 +15,7 @@ fn write_cell<S: Sink>(
     unposted: i64,
     line: &mut Line,
     sink: &mut S,
-) -> Result<u64, PutFault>
+) -> Result<u64, Stalled>
     ensures ok { OnOk result (Appends (S.taken sink.old) (S.taken sink.new) (cell_text cell published unposted)) }
     ensures lines { IfOk result (λ lines. lines ≡ cell_lines published unposted) }
     ensures few { IfOk result (λ lines. lines ≤ 1) }
@@ -46,7 +46,7 @@ pub fn write_views<S: Sink>(
     unposted: &[i64; 51],
     line: &mut Line,
     sink: &mut S,
-) -> Result<(), PutFault>
+) -> Result<(), Stalled>
     ensures ok { OnOk result (Appends (S.taken sink.old) (S.taken sink.new)
         (views_text (λ c. slice_index_or published.now c (pos 0)) (λ c. slice_index_or unposted.now c (pos 0)))) }
     ensures err { OnErr result (AppendsFront (S.taken sink.old) (S.taken sink.new)

@@ -8,6 +8,9 @@ returns-in-Ok-eq0-clause-err g c = front_of_taken _ _ _ _ _ _ c.loop-at.invarian
 pub returns-in-Err-clause-err : goal.returns-in-Err-clause-err
 returns-in-Err-clause-err g c = front_of_kept _ _ _ _ _ c.loop-at.invariant.grew c.in-Err.ensures.bytes
 
+pub returns-in-Err-2-clause-err : goal.returns-in-Err-2-clause-err
+returns-in-Err-2-clause-err g c = front_of_kept _ _ _ _ _ c.loop-at.invariant.grew c.in-Err.ensures.bytes
+
 pub loop-at-preserved-in-Ok : goal.loop-at-preserved-in-Ok
 loop-at-preserved-in-Ok g c = record {
   within = left_within _ _ _ c.loop-at.invariant.within c.in-Ok.ensures.bound;
