@@ -194,6 +194,10 @@ pub if_some : {X : Type 0} (o : Option X) (P Q : X → Type 0) → ((x : X) → 
 if_some None P Q step h = tt
 if_some (Some x) P Q step h = step x h
 
+-- the report is the answer of its record
+views_answer : (fields : List (List ℕ)) (s : Store) → Ok command.Views ≡ command_of fields → RecordText fields s (views_text (published s) (unposted s)) s
+views_answer fields s is = subst (λ (asked : Result Command Refusal). CommandText asked s (views_text (published s) (unposted s)) s) is (refl, refl)
+
 -- the report was taken
 pub views_done : {T E : Type 0} (fields : List (List ℕ)) (s : Store) (shown kept : List ℤ) (old new : Option (List ℕ)) (r : Result T E) → Ok command.Views ≡ command_of fields
     → ((c : ℕ) → c < 51 → slice_index_or shown c (pos 0) ≡ published s c) → ((c : ℕ) → c < 51 → slice_index_or kept c (pos 0) ≡ unposted s c)
@@ -202,7 +206,7 @@ views_done fields s shown kept old new r is first second took =
     let same = views_same (λ c. slice_index_or shown c (pos 0)) (published s) (λ c. slice_index_or kept c (pos 0)) (unposted s) first second in
     on_ok_weaker r (λ (grew : Appends old new (views_text (λ c. slice_index_or shown c (pos 0)) (λ c. slice_index_or kept c (pos 0)))). record {
       text = views_text (published s) (unposted s);
-      answer = subst (λ (asked : Result Command Refusal). CommandText asked s (views_text (published s) (unposted s)) s) is (refl, refl);
+      answer = views_answer fields s is;
       grew = subst (λ (text : List ℕ). Appends old new text) same grew;
     }) took
 
@@ -214,7 +218,7 @@ views_cut fields s shown kept old new r is first second took =
     let same = views_same (λ c. slice_index_or shown c (pos 0)) (published s) (λ c. slice_index_or kept c (pos 0)) (unposted s) first second in
     on_err_weaker r (λ (grew : AppendsFront old new (views_text (λ c. slice_index_or shown c (pos 0)) (λ c. slice_index_or kept c (pos 0)))). record {
       text = views_text (published s) (unposted s);
-      answer = subst (λ (asked : Result Command Refusal). CommandText asked s (views_text (published s) (unposted s)) s) is (refl, refl);
+      answer = views_answer fields s is;
       grew = subst (λ (text : List ℕ). AppendsFront old new text) same grew;
     }) took
 
