@@ -5,35 +5,13 @@ use Rattle.std.specs.List.{list_all}
 use Rattle.std.specs.Char.{is_ascii_digit, digit_value}
 use Rattle.std.specs.Str.Parse.{digits_value}
 use Rattle.std.proofs.lemmas.Bool.Decides.{nat_tests}
-use Rattle.std.proofs.lemmas.Str.{digit_value_digit}
 use Rattle.std.proofs.lemmas.Str.Parse.{digits_value-take-le}
-use Rattle.std.proofs.lemmas.Int.Digits.{digits_value_more}
 use Rattle.std.proofs.lemmas.List.{take_all, ext_get_or, get_or-map, get_or-set_same, get_or-set_other, length-map, length-set}
 use Rattle.std.proofs.lemmas.Bool.{false≢true}
 use Rattle.std.proofs.lemmas.List.Folds.{list_all_more, list_all_at}
 use Rattle.tatp_rows.specs.declared.refusal.Refusal.TheVariants.{Field}
+use Rattle.tatp_rows.proofs.NumberLemmas.{AreDigits, digits_more}
 use Rattle.hlr.specs.Fields.{number_field, digits_field}
-
--- what an ASCII digit is worth
-pub digit_is : (c : ℕ) → is_ascii_digit c ≡ true → (48 ≤ c) × (c ≤ 57) × (digit_value c ≡ c - 48)
-digit_is c digit =
-    let low : 48 ≤ c = grind (arith, nat_tests) in
-    let high : c ≤ 57 = grind (arith, nat_tests) in
-    (low, high, omega (arith, digit_value_digit c (search rules)))
-
--- the first i bytes of a text are digits, and spell this value
-pub record IsReadTo (text : List ℕ) (i : ℕ) (value : ℕ) : Type 0 where
-  pub digits : list_all is_ascii_digit (take i text) ≡ true
-  pub value_is : value ≡ digits_value 10 (take i text)
-
--- one digit more
-pub read_more : (text : List ℕ) (i value more : ℕ) → IsReadTo text i value → i < length text → is_ascii_digit (get_or text i 0) ≡ true → more ≡ get_or text i 0 - 48 → IsReadTo text (i + 1) (value * 10 + more)
-read_more text i value more read inside digit is =
-    let known = digit_is (get_or text i 0) digit in
-    record {
-      digits = list_all_more is_ascii_digit text i 0 inside ∙ rw (read.digits, digit) refl;
-      value_is = rw (digits_value_more 10 text i inside, ← read.value_is, known.2, is) refl;
-    }
 
 -- a byte that is no digit
 pub refused_byte : (text : List ℕ) (i : ℕ) → i < length text → is_ascii_digit (get_or text i 0) ≡ false → Err Field ≡ number_field text
@@ -41,11 +19,11 @@ unfolding number_field
 refused_byte text i inside other = let none = list_all_at is_ascii_digit text i 0 inside other in grind (arith, nat_tests)
 
 -- a value that is too large
-pub refused_value : (text : List ℕ) (i value more : ℕ) → IsReadTo text i value → i < length text → is_ascii_digit (get_or text i 0) ≡ true → more ≡ get_or text i 0 - 48
+pub refused_value : (text : List ℕ) (i value more : ℕ) → AreDigits text i value → i < length text → is_ascii_digit (get_or text i 0) ≡ true → more ≡ get_or text i 0 - 48
     → 18446744073709551615 < value * 10 + more → Err Field ≡ number_field text
 unfolding number_field
 refused_value text i value more read inside digit is large =
-    let next = read_more text i value more read inside digit is in
+    let next = digits_more text i value more read inside digit is in
     let front = digits_value-take-le 10 text (i + 1) (omega arith) in
     let value_is = next.value_is in
     let above : 18446744073709551615 < digits_value 10 text = omega arith in
@@ -57,7 +35,7 @@ unfolding number_field
 refused_empty text none = grind (arith, nat_tests)
 
 -- the whole text is read
-pub read_whole : (text : List ℕ) (i value : ℕ) → (length text == 0) ≡ false → length text ≤ i → IsReadTo text i value → value < 18446744073709551616 → Ok value ≡ number_field text
+pub read_whole : (text : List ℕ) (i value : ℕ) → (length text == 0) ≡ false → length text ≤ i → AreDigits text i value → value < 18446744073709551616 → Ok value ≡ number_field text
 unfolding number_field
 read_whole text i value some past read fits =
     let whole : take i text ≡ text = take_all i text past in

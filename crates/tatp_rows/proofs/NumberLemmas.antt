@@ -21,11 +21,24 @@ digit_is c digit =
     let high : c ≤ 57 = grind (arith, nat_tests) in
     (low, high, omega (arith, digit_value_digit c (search rules)))
 
--- what is known of the first i bytes of a text, which are digits with this value
-pub record IsReadTo (text : List ℕ) (i : ℕ) (value : ℕ) : Type 0 where
-  pub size : length text ≡ 15
+-- the first i bytes of a text are digits, and spell this value
+pub record AreDigits (text : List ℕ) (i : ℕ) (value : ℕ) : Type 0 where
   pub digits : list_all is_ascii_digit (take i text) ≡ true
   pub value_is : value ≡ digits_value 10 (take i text)
+
+-- one digit more
+pub digits_more : (text : List ℕ) (i value more : ℕ) → AreDigits text i value → i < length text → is_ascii_digit (get_or text i 0) ≡ true → more ≡ get_or text i 0 - 48 → AreDigits text (i + 1) (value * 10 + more)
+digits_more text i value more read inside digit is =
+    let known = digit_is (get_or text i 0) digit in
+    record {
+      digits = list_all_more is_ascii_digit text i 0 inside ∙ rw (read.digits, digit) refl;
+      value_is = rw (digits_value_more 10 text i inside, ← read.value_is, known.2, is) refl;
+    }
+
+-- what is known of the first i bytes of 15, which are digits with this value
+pub record IsReadTo (text : List ℕ) (i : ℕ) (value : ℕ) : Type 0 where
+  pub size : length text ≡ 15
+  pub read : AreDigits text i value
   pub bound : value < 10 ^ i
 
 -- one more digit
@@ -34,8 +47,7 @@ read_more text i value more read inside digit is =
     let known = digit_is (get_or text i 0) digit in
     record {
       size = read.size;
-      digits = list_all_more is_ascii_digit text i 0 inside ∙ rw (read.digits, digit) refl;
-      value_is = rw (digits_value_more 10 text i inside, ← read.value_is, known.2, is) refl;
+      read = digits_more text i value more read.read inside digit is;
       bound = let tenfold : 10 ^ (i + 1) ≡ 10 ^ i * 10 = rw add-one (pow-suc 10 i) in omega arith;
     }
 

@@ -1,5 +1,5 @@
 -- What the ranges of a row's fields say, one by one.
-use Rattle.std.proofs.Common.{◌≡◌, refl, sym, ℕ, zero, suc, ◌<◌, ◌≤◌, Bool, true, false, List, [], ◌∷◌, length, get_or, ◌↔◌, ◌⊎◌, inl, inr, IsTrue, arith}
+use Rattle.std.proofs.Common.{◌≡◌, refl, subst, sym, ℕ, zero, suc, ◌<◌, ◌≤◌, Bool, true, false, List, [], ◌∷◌, length, get_or, ◌↔◌, ◌⊎◌, inl, inr, IsTrue, arith}
 use Rattle.std.specs.Prelude.{◌==◌, ◌&&◌, ◌||◌, nat_lt, nat_le, Ok, Err}
 use Rattle.std.specs.List.{EachIndex, list_all}
 use Rattle.std.proofs.lemmas.Bool.Decides.{nat_tests}
@@ -308,19 +308,20 @@ module _ (s_id s sub_nbr : ℕ) (bits hexes bytes : List ℕ) (msc_location m vl
       (both_from _ _ checked.bits_between (both_from _ _ checked.hexes_between (both_from _ _ checked.bytes_between
       (both_from _ _ (between_ok 1 4294967295 msc_location m checked.msc_location_is).1 (between_ok 1 4294967295 vlr_location v checked.vlr_location_is).1)))))
 
-  -- the row that is made has them
+  -- they are those of the row that is made
+  made_same : ◌≡◌ {A = SubscriberRow} (record { s_id = s; sub_nbr = sub_nbr; bits = bits; hexes = hexes; bytes = bytes; msc_location = m; vlr_location = v })
+      (record { s_id = s_id; sub_nbr = sub_nbr; bits = bits; hexes = hexes; bytes = bytes; msc_location = msc_location; vlr_location = vlr_location })
+  made_same =
+      let s_id_is = (between_ok 1 16777216 s_id s checked.s_id_is).0 in
+      let msc_is = (between_ok 1 4294967295 msc_location m checked.msc_location_is).0 in
+      let vlr_is = (between_ok 1 4294967295 vlr_location v checked.vlr_location_is).0 in
+      rw (s_id_is, msc_is, vlr_is) refl
+
+  -- the row that is made is the one asked for
   pub made_is : Ok (record { s_id = s; sub_nbr = sub_nbr; bits = bits; hexes = hexes; bytes = bytes; msc_location = m; vlr_location = v })
       ≡ subscriber_of (record { s_id = s_id; sub_nbr = sub_nbr; bits = bits; hexes = hexes; bytes = bytes; msc_location = msc_location; vlr_location = vlr_location })
-  made_is =
-      let s_id_is = (between_ok 1 16777216 s_id s checked.s_id_is).0 in
-      let msc_is = (between_ok 1 4294967295 msc_location m checked.msc_location_is).0 in
-      let vlr_is = (between_ok 1 4294967295 vlr_location v checked.vlr_location_is).0 in
-      rw (s_id_is, msc_is, vlr_is) (sym (subscriber_of_ok _ given_in_range))
+  made_is = rw made_same (sym (subscriber_of_ok _ given_in_range))
 
-  -- and so is the row that is made
+  -- and it is in range
   pub made_in_range : subscriber_in_range (record { s_id = s; sub_nbr = sub_nbr; bits = bits; hexes = hexes; bytes = bytes; msc_location = m; vlr_location = v }) ≡ true
-  made_in_range =
-      let s_id_is = (between_ok 1 16777216 s_id s checked.s_id_is).0 in
-      let msc_is = (between_ok 1 4294967295 msc_location m checked.msc_location_is).0 in
-      let vlr_is = (between_ok 1 4294967295 vlr_location v checked.vlr_location_is).0 in
-      rw (s_id_is, msc_is, vlr_is) given_in_range
+  made_in_range = subst (λ (row : SubscriberRow). subscriber_in_range row ≡ true) (sym made_same) given_in_range

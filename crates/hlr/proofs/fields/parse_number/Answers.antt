@@ -1,5 +1,6 @@
 use Rattle.std.proofs.Common.{sym, ◌∙◌, arith}
-use Rattle.hlr.proofs.FieldFacts.{read_more, read_whole, refused_byte, refused_value, refused_empty}
+use Rattle.tatp_rows.proofs.NumberLemmas.{digits_more}
+use Rattle.hlr.proofs.FieldFacts.{read_whole, refused_byte, refused_value, refused_empty}
 use Rattle.hlr.proofs.fields.parse_number.Goals as goal
 
 pub returns-then-is_empty : goal.returns-then-is_empty
@@ -14,7 +15,7 @@ returns-then-value-digit c =
 
 pub loop-byte-preserved : goal.loop-byte-preserved
 loop-byte-preserved c =
-    read_more _ _ _ _ c.loop-byte.invariant c.loop-byte-test.true (sym c.is_ascii_digit.ensures.value ∙ c.if-not-is_ascii_digit.false) c.from-digit.ensures
+    digits_more _ _ _ _ c.loop-byte.invariant c.loop-byte-test.true (sym c.is_ascii_digit.ensures.value ∙ c.if-not-is_ascii_digit.false) c.from-digit.ensures
 
 pub returns : goal.returns
 returns c =
