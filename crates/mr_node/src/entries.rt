@@ -1,5 +1,5 @@
 //! The entries of a leaf.
-ghost use Rattle.std.specs.Prelude.{◌≡◌, ◌<◌, ◌≤◌, ◌==◌, ◌+◌, ℕ, [], ◌∷◌, None, IfSome, length, option_map, ok_or, nat_le, nat_lt, slice_index_or, slice_set};
+ghost use Rattle.std.specs.Prelude.{◌≡◌, ◌<◌, ◌≤◌, ◌==◌, ◌+◌, ◌-◌, ℕ, [], ◌∷◌, None, IfSome, length, option_map, ok_or, nat_le, nat_lt, slice_index_or, slice_set};
 ghost use Rattle.std.specs.List.{find};
 ghost use Rattle.tatp_rows.specs.Ordered.{row_at, with_row_at, without_row};
 ghost use Rattle.mr_node.specs.Rows.{key_limit, key_of_pair, value_at, somes, StartsWith};
@@ -22,19 +22,31 @@ fn is_before<V>(entry: &Option<(u64, V)>, key: u64) -> bool
     }
 }
 
-// How many entries at the front have lesser keys, by binary search.
+// How many entries at the front have lesser keys, by fours.
+fn fours_before<V>(entries: &[Option<(u64, V)>], key: u64) -> usize
+    ensures within { result ≤ length entries.now }
+    ensures before { 0 < result → IfSome (slice_index_or entries.now (result - 1) None) (λ p. p.0 < key) }
+{
+    let mut low = 0;
+    while entries.len() - low > 3 {
+        if !is_before(&entries[low + 3], key) {
+            return low;
+        }
+        low += 4;
+    }
+    low
+}
+
+// How many entries at the front have lesser keys: first by fours, then one by one.
 fn entry_place<V>(entries: &[Option<(u64, V)>], key: u64) -> usize
     ensures { IsPlaced key result entries.now }
 {
-    let mut low = 0;
-    let mut high = entries.len();
-    while low < high {
-        let middle = low + (high - low) / 2;
-        if is_before(&entries[middle], key) {
-            low = middle + 1;
-        } else {
-            high = middle;
+    let mut low = fours_before(entries, key);
+    while low < entries.len() {
+        if !is_before(&entries[low], key) {
+            return low;
         }
+        low += 1;
     }
     low
 }

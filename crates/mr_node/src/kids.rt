@@ -16,23 +16,37 @@ fn is_within<B>(kid: &Option<Kid<B>>, key: u64) -> bool
     }
 }
 
-// The place of the child to which a key belongs, by binary search.
+// The last place, by fours, of a child whose least key isn't above `key`, or 0.
+fn fours_within<B>(kids: &[Option<Kid<B>>; 32], len: usize, key: u64) -> usize
+    requires some { 0 < len }
+    requires fits { len ≤ 32 }
+    ensures within { result < len }
+    ensures here { 0 < result → IfSome (slice_index_or kids.now result None) (λ k. k.least ≤ key) }
+{
+    let mut place = 0;
+    while place + 4 < len {
+        if !is_within(&kids[place + 4], key) {
+            return place;
+        }
+        place += 4;
+    }
+    place
+}
+
+// The place of the child to which a key belongs: first by fours, then one by one.
 pub(crate) fn place_of<B>(kids: &[Option<Kid<B>>; 32], len: usize, key: u64) -> usize
     requires some { 0 < len }
     requires fits { len ≤ 32 }
     ensures { IsKidPlace key result len kids.now }
 {
-    let mut low = 0;
-    let mut high = len;
-    while high - low > 1 {
-        let middle = low + (high - low) / 2;
-        if is_within(&kids[middle], key) {
-            low = middle;
-        } else {
-            high = middle;
+    let mut place = fours_within(kids, len, key);
+    while place + 1 < len {
+        if !is_within(&kids[place + 1], key) {
+            return place;
         }
+        place += 1;
     }
-    low
+    place
 }
 
 // The least key of the first child, or 0 where there is none.

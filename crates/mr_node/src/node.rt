@@ -250,6 +250,8 @@ impl<V: Drop> Node<V> {
     }
 
     /// Puts a full node under a new root of two halves, which takes two blank nodes. Four steps.
+    #[cold]
+    #[inline(never)]
     pub fn heighten(&mut self, stock: &mut Stock<V>, meter: &mut Meter)
         requires full { self.old.width ≡ 32 }
         requires well { IsWell self.old }
@@ -277,8 +279,7 @@ impl<V: Drop> Node<V> {
         if self.width() >= 2 {
             return;
         }
-        let root = mem::replace(self, Node::new());
-        *self = only_child(root, meter);
+        drop_root(self, meter);
     }
 
     /// Puts a row in place where its leaf has room, with no new node.
@@ -349,6 +350,19 @@ fn root_over<V: Drop>(node: Box<Node<V>>, blank: Box<Node<V>>, meter: &mut Meter
     Node {
         body: Body::Inner(root),
     }
+}
+
+// Puts the only child of an inner root in its place.
+#[cold]
+#[inline(never)]
+fn drop_root<V: Drop>(root: &mut Node<V>, meter: &mut Meter)
+    requires inner { 0 < root.old.height }
+    requires one { root.old.width ≡ 1 }
+    ensures lowered { IsLowered root.old root.new }
+    ensures steps { meter.new ≤ meter.old + 1 }
+{
+    let node = mem::replace(root, Node::new());
+    *root = only_child(node, meter);
 }
 
 // The only child of an inner node.

@@ -49,8 +49,12 @@ fn join_entries<V: Drop>(
     ensures left_len { length left.new.items ≡ length left.old.items + length right.old.items }
     ensures right_len { length right.new.items ≡ 0 }
 {
+    right.as_mut_slice().reverse();
     while !right.is_empty() {
-        entry_to_left(left, right);
+        match right.pop() {
+            Some(entry) => left.push(entry),
+            None => unreachable!(),
+        }
     }
 }
 
@@ -66,8 +70,12 @@ pub(crate) fn split_entries<V: Drop>(
     ensures right_len { length right.new.items ≡ 16 }
 {
     while right.len() < 16 {
-        entry_to_right(left, right);
+        match left.pop() {
+            Some(entry) => right.push(entry),
+            None => unreachable!(),
+        }
     }
+    right.as_mut_slice().reverse();
 }
 
 // Makes two leaves into one where their entries fit one, else into two half full ones.

@@ -120,6 +120,8 @@ impl<V: Drop> SubTree<V> {
     }
 
     // Puts a row in whose leaf is full: first all blank nodes are taken.
+    #[cold]
+    #[inline(never)]
     fn insert_full(&mut self, key: u64, value: V) -> Result<(), Back<V>>
         requires small { key < key_limit }
         requires missing { row_at key_of_pair key self.old.rows ≡ None }

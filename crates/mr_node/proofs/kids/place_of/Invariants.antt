@@ -1,11 +1,10 @@
 use Rattle.std.proofs.Common.{◌<◌, ◌≤◌, ◌-◌, None, slice_index_or, IfSome}
 use Rattle.mr_node.proofs.kids.place_of.Given as goal
 
-abbrev pub invariant-loop-high : goal.invariant-loop-high
-invariant-loop-high g l =
-    (l.low < l.high) × (l.high ≤ l.len)
-    × (0 < l.low → IfSome (slice_index_or l.kids l.low None) (λ k. k.least ≤ l.key))
-    × (l.high < l.len → IfSome (slice_index_or l.kids l.high None) (λ k. l.key < k.least))
+abbrev pub invariant-loop-place : goal.invariant-loop-place
+invariant-loop-place g l =
+    (l.place < l.len)
+    × (0 < l.place → IfSome (slice_index_or l.kids l.place None) (λ k. k.least ≤ l.key))
 
-abbrev pub decreases-loop-high : goal.decreases-loop-high
-decreases-loop-high g l = l.high - l.low
+abbrev pub decreases-loop-place : goal.decreases-loop-place
+decreases-loop-place g l = l.len - l.place
