@@ -1,15 +1,19 @@
 -- Two neighbours that share their rows anew.
-use Rattle.std.proofs.Common.{◌≡◌, ℕ, ◌-◌, ◌<◌, ◌≤◌, List, [], ◌++◌, length, Option, None, refl, sym, ap, subst, ◌∙◌, arith, append-nil, true, false}
+use Rattle.std.proofs.Common.{◌≡◌, ℕ, ◌-◌, ◌<◌, ◌≤◌, List, [], ◌++◌, length, Option, None, refl, sym, ap, subst, ◌∙◌, arith, append-nil, Bool, true, false}
 use Rattle.std.specs.List.{AllByRecursion}
 use Rattle.std.proofs.lemmas.List.{nil_from_length}
 use Rattle.tatp_rows.specs.Ordered.{IsOrderedBy}
 use Rattle.tatp_rows.proofs.AppendLemmas.{each-append, each-left, each-right, ordered-left, ordered-right}
 use Rattle.mr_node.specs.Rows.{Seen, key_of_pair, key_limit, somes, IsPacked}
 use Rattle.mr_node.specs.Levels.{NodeBranch, rows_of, IsLeaf, IsKid, IsBranch, seen_leaf, seen_branch}
-use Rattle.mr_node.specs.Pairs.{IsMoved, AreEven, IsFit, IsEvened, IsHalved}
+use Rattle.mr_node.specs.Pairs.{IsMoved, AreEven, IsFit, IsEvened, AreEvened, IsHalved}
 use Rattle.mr_node.proofs.PlaceLemmas.{somes_append, packed_left, packed_right, packed_join, packed_length}
 use Rattle.mr_node.proofs.KidLemmas.{rows_of-append}
 use Rattle.mr_node.proofs.SizeLemmas.{leaf_well, branch_well}
+
+pub even_fits : (r : Bool) (c d : ℕ) → AreEven r c d → (c ≤ 32) × (d ≤ 32)
+even_fits true c d even = (even.1, omega (arith, even.2))
+even_fits false c d even = (even.1, even.3)
 
 module _ {V : Type 0} where
   shared_entries : (a b c d : List (Option (ℕ × V))) → c ++ d ≡ a ++ b → somes c ++ somes d ≡ somes a ++ somes b
@@ -50,6 +54,10 @@ module _ {V : Type 0} where
         subst (IsFit 0) (sym et) (record { level = refl; enough = even.2; well = leaf_well d high }),
         ap (λ x. x.rows ++ t.rows) es ∙ ap (λ x. somes c ++ x.rows) et ∙ shared_entries a b c d e,
       )
+
+  pub evened_leaves : (r : Bool) (a b c d : List (Option (ℕ × V))) → IsLeaf a → IsLeaf b → c ++ d ≡ a ++ b → IsOrderedBy key_of_pair (somes a ++ somes b) → AreEven r (length c) (length d) → AreEvened r (seen_leaf a) (seen_leaf b) (seen_leaf c) (seen_leaf d)
+  evened_leaves true a b c d la lb e o even = one_leaf a b c d la lb e o even (seen_leaf c) refl
+  evened_leaves false a b c d la lb e o even = two_leaves a b c d la lb e o even (seen_leaf c) (seen_leaf d) refl refl
 
   shared_kids : (a b c d : NodeBranch V) → IsMoved a b c d → rows_of (somes c.kids) ++ rows_of (somes d.kids) ≡ rows_of (somes a.kids) ++ rows_of (somes b.kids)
   shared_kids a b c d m = sym (rows_of-append (somes c.kids) (somes d.kids)) ∙ ap rows_of m.kids ∙ rows_of-append (somes a.kids) (somes b.kids)

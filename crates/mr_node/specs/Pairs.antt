@@ -31,6 +31,11 @@ abbrev pub IsEvened : {V : Type 0} → Seen V → Seen V → Seen V → Option (
 IsEvened a b x None = IsFit a.height x × (x.rows ≡ a.rows ++ b.rows)
 IsEvened a b x (Some y) = IsFit a.height x × IsFit a.height y.value × (x.rows ++ y.value.rows ≡ a.rows ++ b.rows)
 
+-- two neighbours evened out in place: the first has all rows, or both are half full
+abbrev pub AreEvened : {V : Type 0} → Bool → Seen V → Seen V → Seen V → Seen V → Type 0
+AreEvened true a b x y = IsFit a.height x × (x.rows ≡ a.rows ++ b.rows)
+AreEvened false a b x y = IsFit a.height x × IsFit a.height y × (x.rows ++ y.rows ≡ a.rows ++ b.rows)
+
 -- a full node cut in two halves
 pub record IsHalved {V : Type 0} (a x y : Seen V) : Type 0 where
   pub low : IsFit a.height x

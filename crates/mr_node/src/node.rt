@@ -1,11 +1,12 @@
 //! Nodes.
-ghost use Rattle.std.specs.Prelude.{◌≡◌, ◌+◌, ◌*◌, ◌<◌, ◌≤◌, ℕ, None, min, [], length, nat_le, option_map, ok_or};
+ghost use Rattle.std.specs.Prelude.{◌≡◌, ◌+◌, ◌*◌, ◌<◌, ◌≤◌, ℕ, None, min, [], ◌++◌, length, nat_le, option_map, ok_or};
 ghost use Rattle.std.specs.List.{find};
-ghost use Rattle.tatp_rows.specs.Ordered.{row_at, with_row_at};
+ghost use Rattle.tatp_rows.specs.Ordered.{IsOrderedBy, row_at, with_row_at};
 ghost use Rattle.mr_node.specs.Rows.{key_limit, key_of_pair, value_at, StartsWith};
 ghost use Rattle.mr_node.specs.Levels.{seen, IsNode, IsWell, IsLeaf, IsBranch, seen_leaf, seen_branch};
 ghost use Rattle.mr_node.specs.Folds.{FoldsRows};
 ghost use Rattle.mr_node.specs.Growth.{IsGrown, IsRoomAnswer, IsNoted};
+ghost use Rattle.mr_node.specs.Pairs.{IsHalved, AreEvened};
 ghost use Rattle.mr_node.specs.Changes.{IsShrunk, IsHeightened, IsLowered};
 
 use crate::branch::{put_kid, take_kid};
@@ -16,6 +17,7 @@ use crate::entries::{
 use crate::halves::{halve, kid_of, no_kids};
 use crate::kids::{least_kid, place_of, sum_counts};
 use crate::mending::{make_room, mend, recount};
+use crate::pairs::{even_entries, split_entries, split_kids};
 use crate::{Body, Branch, Meter, Room, Stock};
 use arrayvec::ArrayVec;
 use std::marker::Model;
@@ -282,6 +284,47 @@ impl<V: Drop> Node<V> {
         drop_root(self, meter);
     }
 
+    // Moves the upper half of a full node into another one, whose own rows are let go.
+    pub(crate) fn halve_into(&mut self, high: &mut Node<V>)
+        requires { self.old.width ≡ 32 }
+        ensures { IsHalved self.old self.new high.new }
+    {
+        match &mut self.body {
+            Body::Leaf(left) => {
+                let mut right = ArrayVec::new();
+                split_entries(left, &mut right);
+                put_leaf(high, right)
+            }
+            Body::Inner(left) => {
+                let mut right = Branch {
+                    height: left.height,
+                    len: 0,
+                    kids: no_kids(),
+                };
+                split_kids(left, &mut right);
+                put_inner(high, right)
+            }
+        }
+    }
+
+    // Evens out a leaf and the next one in place: true where the first has all rows now.
+    pub(crate) fn even_leaf(&mut self, next: &mut Node<V>) -> bool
+        requires leaf { self.old.height ≡ 0 }
+        requires next_leaf { next.old.height ≡ 0 }
+        requires ordered { IsOrderedBy key_of_pair (self.old.rows ++ next.old.rows) }
+        requires some { 15 ≤ self.old.width }
+        requires next_some { 15 ≤ next.old.width }
+        ensures { AreEvened result self.old next.old self.new next.new }
+    {
+        match &mut self.body {
+            Body::Leaf(left) => match &mut next.body {
+                Body::Leaf(right) => even_entries(left, right),
+                Body::Inner(_) => unreachable!(),
+            },
+            Body::Inner(_) => unreachable!(),
+        }
+    }
+
     /// Puts a row in place where its leaf has room, with no new node.
     pub fn insert_room(&mut self, key: u64, value: V) -> Room<V>
         requires { key < key_limit }
@@ -328,6 +371,26 @@ fn note_new(least: &mut u64, count: &mut u64, key: u64)
 {
     *least = (*least).min(key);
     *count += 1;
+}
+
+// Makes a node a leaf of these entries.
+fn put_leaf<V: Drop>(node: &mut Node<V>, entries: ArrayVec<Option<(u64, V)>, 32>)
+    requires { IsLeaf entries.items }
+    ensures { node.new ≡ seen_leaf entries.items }
+{
+    *node = Node {
+        body: Body::Leaf(entries),
+    };
+}
+
+// Makes a node an inner node of these children.
+fn put_inner<V: Drop>(node: &mut Node<V>, branch: Branch<Box<Node<V>>>)
+    requires { IsBranch branch }
+    ensures { node.new ≡ seen_branch branch }
+{
+    *node = Node {
+        body: Body::Inner(branch),
+    };
 }
 
 // A new root over the halves of a full node.
@@ -410,9 +473,7 @@ pub fn build_leaf<V: Drop>(
     ensures steps { meter.new ≡ min (meter.old + 1) 18446744073709551615 }
 {
     meter.tick();
-    *blank = Node {
-        body: Body::Leaf(entries),
-    };
+    put_leaf(&mut *blank, entries);
     blank
 }
 
@@ -427,8 +488,6 @@ pub fn build_inner<V: Drop>(
     ensures steps { meter.new ≡ min (meter.old + 1) 18446744073709551615 }
 {
     meter.tick();
-    *blank = Node {
-        body: Body::Inner(branch),
-    };
+    put_inner(&mut *blank, branch);
     blank
 }

@@ -1,5 +1,5 @@
 //! The tree over the nodes of `mr_node`.
-ghost use Rattle.std.specs.Prelude.{◌≡◌, ◌<◌, ◌≤◌, ℕ, None, [], length, nat_le, option_map, ok_or, IfOk, IfErr};
+ghost use Rattle.std.specs.Prelude.{◌≡◌, ◌+◌, ◌<◌, ◌≤◌, ℕ, None, [], length, nat_le, option_map, ok_or, IfOk, IfErr};
 ghost use Rattle.std.specs.List.{find};
 ghost use Rattle.tatp_rows.specs.Ordered.{row_at, with_row_at, without_row};
 ghost use Rattle.mr_node.specs.Rows.{key_limit, key_of_pair, value_at};
@@ -119,6 +119,18 @@ impl<V: Drop> SubTree<V> {
         }
     }
 
+    // How many blank nodes a row takes whose leaf is full: one a level, and three more under a full root.
+    fn blanks_wanted(&self) -> usize
+        ensures each { self.now.height ≤ result }
+        ensures full { self.now.width ≡ 32 → self.now.height + 3 ≤ result }
+    {
+        let levels = self.root.height() as usize;
+        if self.root.width() == 32 {
+            return levels + 3;
+        }
+        levels
+    }
+
     // Puts a row in whose leaf is full: first all blank nodes are taken.
     #[cold]
     #[inline(never)]
@@ -127,8 +139,7 @@ impl<V: Drop> SubTree<V> {
         requires missing { row_at key_of_pair key self.old.rows ≡ None }
         ensures { IsInserted key value self.old.rows self.new.rows result }
     {
-        let count = self.root.height() as usize + 3;
-        let Ok(mut stock) = Stock::take(self.alloc, count) else {
+        let Ok(mut stock) = Stock::take(self.alloc, self.blanks_wanted()) else {
             return Err(Back {
                 why: Refusal::Memory,
                 item: value,

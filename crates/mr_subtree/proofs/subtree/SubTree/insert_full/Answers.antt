@@ -1,20 +1,17 @@
 use Rattle.std.proofs.Common.{rules, arith, ap, ◌∙◌}
 use Rattle.tatp_rows.specs.Ordered.{row_at, with_row}
 use Rattle.mr_node.specs.Rows.{key_of_pair}
-use Rattle.mr_subtree.proofs.RootFacts.{low_root, grown_root, higher_root}
+use Rattle.mr_subtree.proofs.RootFacts.{grown_root, higher_root}
 use Rattle.mr_subtree.proofs.subtree.SubTree.insert_full.Goals as goal
-
-pub overflow_add-count : goal.overflow_add-count
-overflow_add-count g c = omega (arith, low_root c.self.inside.root c.self.invariant, c.height.ensures.value)
 
 pub insert_split-requires : goal.insert_split-requires
 insert_split-requires g c =
     let root = c.heighten.ensures.root in
-    (search rules, (c.requires.small, (ap (row_at key_of_pair c.args.key) root.rows ∙ ap (λ s. row_at key_of_pair c.args.key s.rows) c.self.view_is ∙ c.requires.missing, (omega (arith, root.width), omega (arith, root.height, c.in-Ok.ensures, c.heighten.ensures.stock, c.height.ensures.value)))))
+    (search rules, (c.requires.small, (ap (row_at key_of_pair c.args.key) root.rows ∙ ap (λ s. row_at key_of_pair c.args.key s.rows) c.self.view_is ∙ c.requires.missing, (omega (arith, root.width), omega (arith, root.height, c.in-Ok.ensures, c.heighten.ensures.stock, ap (λ s. s.height) c.self.view_is, c.blanks_wanted.ensures.full (omega (arith, c.if-width-eq32.true, c.width.ensures.value, ap (λ s. s.width) c.self.view_is)))))))
 
 pub insert_split-requires-2 : goal.insert_split-requires-2
 insert_split-requires-2 g c =
-    (search rules, (c.requires.small, (ap (λ s. row_at key_of_pair c.args.key s.rows) c.self.view_is ∙ c.requires.missing, (omega (arith, c.if-width-eq32.false, c.width.ensures.value, c.self.invariant.well.fits), omega (arith, c.in-Ok.ensures, c.height.ensures.value)))))
+    (search rules, (c.requires.small, (ap (λ s. row_at key_of_pair c.args.key s.rows) c.self.view_is ∙ c.requires.missing, (omega (arith, c.if-width-eq32.false, c.width.ensures.value, c.self.invariant.well.fits), omega (arith, c.in-Ok.ensures, ap (λ s. s.height) c.self.view_is, c.blanks_wanted.ensures.each)))))
 
 pub invariant_of-self : goal.invariant_of-self
 invariant_of-self g c = higher_root c.args.key c.args.value c.self.inside.root c.heighten.new.self c.insert_split.new.self c.heighten.ensures.root c.insert_split.ensures.grown
