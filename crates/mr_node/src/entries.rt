@@ -9,6 +9,7 @@ ghost use Rattle.mr_node.specs.Folds.{FoldsRows};
 ghost use Rattle.mr_node.specs.Growth.{IsGrown, IsRoomAnswer};
 
 use crate::Room;
+use crate::kids::steps_over;
 use arrayvec::ArrayVec;
 use std::mem;
 
@@ -26,6 +27,7 @@ fn is_before<V>(entry: &Option<(u64, V)>, key: u64) -> bool
 fn fours_before<V>(entries: &[Option<(u64, V)>], key: u64) -> usize
     ensures within { result ≤ length entries.now }
     ensures before { 0 < result → IfSome (slice_index_or entries.now (result - 1) None) (λ p. p.0 < key) }
+    ensures next { result + 3 < length entries.now → IfSome (slice_index_or entries.now (result + 3) None) (λ p. key ≤ p.0) }
 {
     let mut low = 0;
     while entries.len() - low > 3 {
@@ -37,18 +39,44 @@ fn fours_before<V>(entries: &[Option<(u64, V)>], key: u64) -> usize
     low
 }
 
-// How many entries at the front have lesser keys: first by fours, then one by one.
+// How many entries at the front have lesser keys, where it is `low` to `low + 3`: three looks, and no branch on a key.
+fn place_of_three<V>(entries: &[Option<(u64, V)>], low: usize, key: u64) -> usize
+    requires within { low + 3 ≤ length entries.now }
+    requires before { 0 < low → IfSome (slice_index_or entries.now (low - 1) None) (λ p. p.0 < key) }
+    requires next { low + 3 < length entries.now → IfSome (slice_index_or entries.now (low + 3) None) (λ p. key ≤ p.0) }
+    ensures { IsPlaced key result entries.now }
+{
+    let first = is_before(&entries[low], key);
+    let second = is_before(&entries[low + 1], key);
+    let third = is_before(&entries[low + 2], key);
+    low + steps_over(first, second, third)
+}
+
+// How many entries at the front have lesser keys, one by one from `low` on.
+fn place_from<V>(entries: &[Option<(u64, V)>], low: usize, key: u64) -> usize
+    requires within { low ≤ length entries.now }
+    requires before { 0 < low → IfSome (slice_index_or entries.now (low - 1) None) (λ p. p.0 < key) }
+    ensures { IsPlaced key result entries.now }
+{
+    let mut place = low;
+    while place < entries.len() {
+        if !is_before(&entries[place], key) {
+            return place;
+        }
+        place += 1;
+    }
+    place
+}
+
+// How many entries at the front have lesser keys: first by fours, then among the last three.
 fn entry_place<V>(entries: &[Option<(u64, V)>], key: u64) -> usize
     ensures { IsPlaced key result entries.now }
 {
-    let mut low = fours_before(entries, key);
-    while low < entries.len() {
-        if !is_before(&entries[low], key) {
-            return low;
-        }
-        low += 1;
+    let low = fours_before(entries, key);
+    if entries.len() - low < 3 {
+        return place_from(entries, low, key);
     }
-    low
+    place_of_three(entries, low, key)
 }
 
 // Whether the entry at this place has the key.

@@ -1,5 +1,5 @@
 use Rattle.std.proofs.Common.{◌<◌, ◌≤◌, ◌-◌, None, slice_index_or, IfSome}
-use Rattle.mr_node.proofs.kids.place_of.Given as goal
+use Rattle.mr_node.proofs.kids.place_from.Given as goal
 
 abbrev pub invariant-loop-place : goal.invariant-loop-place
 invariant-loop-place g l =
