@@ -1,5 +1,5 @@
 //! Inner nodes that lose or get a child.
-ghost use Rattle.std.specs.Prelude.{◌≡◌, ◌+◌, ◌<◌, ◌≤◌, ℕ, None, IfSome, length, slice_index_or};
+ghost use Rattle.std.specs.Prelude.{◌≡◌, ◌+◌, ◌-◌, ◌<◌, ◌≤◌, ℕ, None, IfSome, slice_index_or, if◌then◌else◌};
 ghost use Rattle.mr_node.specs.Rows.{StartsWith};
 ghost use Rattle.mr_node.specs.Levels.{IsBranch};
 ghost use Rattle.mr_node.specs.Changes.{IsLooseBranch, IsThinAt, IsSplicedAt, IsMended, IsSame, IsRoomAt};
@@ -9,14 +9,14 @@ use crate::halves::{even, halve, kid_of};
 use crate::kids::place_of;
 use crate::{Branch, Kid, Meter, Node, Stock};
 
-// The least key and the count of a child, taken anew from its node.
-pub(crate) fn recount<V>(kid: &mut Kid<Box<Node<V>>>)
+// The least key and the count of a child, after a removal in its node that took a row out or not.
+pub(crate) fn note_gone<V>(kid: &mut Kid<Box<Node<V>>>, is_gone: bool)
     ensures node { kid.new.node ≡ kid.old.node }
     ensures least { 0 < kid.old.node.value.width → StartsWith kid.new.least kid.old.node.value.rows }
-    ensures count { kid.new.count ≡ length kid.old.node.value.rows }
+    ensures count { kid.new.count ≡ kid.old.count - (if is_gone then 1 else 0) }
 {
     kid.least = kid.node.least();
-    kid.count = kid.node.len();
+    kid.count = kid.count.saturating_sub(u64::from(is_gone));
 }
 
 // The width of the child at a place.

@@ -16,7 +16,7 @@ use crate::entries::{
 };
 use crate::halves::{halve, kid_of, no_kids};
 use crate::kids::{least_kid, place_of, sum_counts};
-use crate::mending::{make_room, mend, recount};
+use crate::mending::{make_room, mend, note_gone};
 use crate::pairs::{even_entries, split_entries, split_kids};
 use crate::{Body, Branch, Meter, Room, Stock};
 use arrayvec::ArrayVec;
@@ -214,7 +214,7 @@ impl<V: Drop> Node<V> {
                     Some(kid) => {
                         let node = &mut *kid.node;
                         let gone = node.remove(key, meter);
-                        recount(kid);
+                        note_gone(kid, gone.is_some());
                         mend(branch, at, meter);
                         gone
                     }

@@ -1,4 +1,4 @@
-use Rattle.std.proofs.Common.{rules, arith, ◌≡◌, ◌-◌, ◌<◌, option_map, refl, sym, ap, subst, ◌∙◌}
+use Rattle.std.proofs.Common.{rules, arith, ◌≡◌, ◌-◌, ◌<◌, option_map, is_some, refl, sym, ap, subst, ◌∙◌}
 use Rattle.mr_node.specs.Rows.{somes, value_at}
 use Rattle.mr_node.specs.Levels.{IsNode, IsBranch, seen, seen_leaf, seen_branch}
 use Rattle.mr_node.specs.Changes.{IsShrunk}
@@ -6,7 +6,7 @@ use Rattle.mr_node.proofs.PlaceLemmas.{got_used, never_none}
 use Rattle.mr_node.proofs.KidLemmas.{cut_kid}
 use Rattle.mr_node.proofs.SizeLemmas.{leaf_well}
 use Rattle.mr_node.proofs.NodeLemmas.{find_cut}
-use Rattle.mr_node.proofs.RemoveLemmas.{thin_after, shrunk_branch}
+use Rattle.mr_node.proofs.RemoveLemmas.{count_gone, thin_after, shrunk_branch}
 use Rattle.mr_node.proofs.node.Node.+remove.Goals as goal
 
 pub unreachable-requires : goal.unreachable-requires
@@ -41,8 +41,10 @@ mend-requires g t c =
     let cut = cut_kid c.args.key i b k whole at got in
     let n = c.remove-gone.new.self in
     let shrunk = subst (λ s. IsShrunk c.args.key s n) c.deref_mut-node.ensures.value c.remove-gone.ensures.new in
-    let same = ap (λ x. x.value) c.recount.ensures.node in
-    (search rules, (search rules, (thin_after c.args.key i b k c.recount.new.kid n whole cut at.within shrunk same c.recount.ensures.least c.recount.ensures.count, (omega (arith, c.requires, ap (λ s. s.height) now, ap (λ s. s.width) now, whole.inner), at.within))))
+    let same = ap (λ x. x.value) c.note_gone.ensures.node in
+    let is_gone = c.is_some.ensures ∙ ap is_some c.remove-gone.ensures.value ∙ ap (λ s. is_some (value_at c.args.key s.rows)) c.deref_mut-node.ensures.value in
+    let counted = count_gone c.args.key k.count c.note_gone.new.kid.count c.is_some.result k.node.value.rows n.rows shrunk.rows cut.kid.counted is_gone c.note_gone.ensures.count in
+    (search rules, (search rules, (thin_after c.args.key i b k c.note_gone.new.kid n whole cut at.within shrunk same c.note_gone.ensures.least counted, (omega (arith, c.requires, ap (λ s. s.height) now, ap (λ s. s.width) now, whole.inner), at.within))))
 
 pub returns-in-Leaf-clause-new : goal.returns-in-Leaf-clause-new
 returns-in-Leaf-clause-new g t c =
@@ -61,8 +63,8 @@ returns-in-Some-clause-new g t c =
     let cut = cut_kid c.args.key i b k whole at got in
     let n = c.remove-gone.new.self in
     let shrunk = subst (λ s. IsShrunk c.args.key s n) c.deref_mut-node.ensures.value c.remove-gone.ensures.new in
-    let same = ap (λ x. x.value) c.recount.ensures.node in
-    shrunk_branch c.args.key i b c.mend.new.branch k c.recount.new.kid n c.args.self.now now whole cut at.within shrunk same c.mend.ensures.mended
+    let same = ap (λ x. x.value) c.note_gone.ensures.node in
+    shrunk_branch c.args.key i b c.mend.new.branch k c.note_gone.new.kid n c.args.self.now now whole cut at.within shrunk same c.mend.ensures.mended
 
 pub returns-in-Some-clause-value : goal.returns-in-Some-clause-value
 returns-in-Some-clause-value g t c =
