@@ -15,16 +15,22 @@ use Rattle.tatp_rows.specs.declared.refusal.Refusal.TheVariants as refusal
 use Rattle.tatp_actions.specs.Action.{IsOutcome, effect, is_in_range}
 use Rattle.tatp_actions.specs.Book.{Book, IsWithin, subscriber_at}
 use Rattle.tatp_actions.specs.Change.{IsChange, area_moved, subscriber_added}
-use Rattle.tatp_actions.specs.Part.{PartState, IsPart, IsKeyed, stored_book, Acts}
+use Rattle.tatp_actions.specs.Part.{PartState, IsPart, Acts}
+use Rattle.tatp_actions.specs.Tables.{Tables, AreKeyed, IsKeyed, stored_book}
+use Rattle.mr_node.specs.Rows.{key_of_pair, value_at}
 use Rattle.tatp_actions.specs.declared.action.Action.{Action}
 use Rattle.tatp_actions.specs.declared.action.Action.TheVariants.{SubscriberData, UpdateLocation, AddSubscriber}
 use Rattle.tatp_actions.specs.declared.action.RowReply.TheVariants as reply
 use Rattle.tatp_actions.proofs.BookLemmas.{rules_of_move, rules_of_addition, s_id_found}
 use Rattle.tatp_actions.proofs.CellLemmas.{change_of_move, change_of_addition}
 
--- the part of these pairs
-abbrev pub part_of : List (ℕ × SubscriberRow) → ℕ → ℕ → ℕ → ℕ → PartState
-part_of pairs asked lo hi width = record { book = stored_book pairs; asked = asked; lo = lo; hi = hi; width = width }
+-- the part of these tables
+abbrev pub part_of : Tables → ℕ → ℕ → ℕ → ℕ → PartState
+part_of tables asked lo hi width = record { book = stored_book tables; asked = asked; lo = lo; hi = hi; width = width }
+
+-- the tables with these Subscriber rows
+abbrev pub with_subscribers : Tables → List (ℕ × SubscriberRow) → Tables
+with_subscribers tables pairs = record tables { subscribers = pairs }
 
 -- no notes change nothing
 no_change : (width : ℕ) (book : Book) → IsChange width book book []
@@ -105,25 +111,28 @@ part_added part row book asked is old absent within in_range = rw is (record {
 })
 
 -- stored pairs: the row that is found, and the book after an edit of the pairs
-pub stored_found : (pairs : List (ℕ × SubscriberRow)) (s : ℕ) (row : Option SubscriberRow) → IsKeyed subscriber_key pairs
-    → row ≡ option_map (λ (p : ℕ × SubscriberRow). p.1) (row_at (λ (p : ℕ × SubscriberRow). p.0) (key_of s 0 0) pairs) → subscriber_at (stored_book pairs) s ≡ row
-stored_found pairs s row keyed is = row_at-pairs subscriber_key (key_of s 0 0) pairs keyed ∙ sym is
+pub stored_found : (tables : Tables) (s : ℕ) (row : Option SubscriberRow) → AreKeyed tables → row ≡ value_at (key_of s 0 0) tables.subscribers → subscriber_at (stored_book tables) s ≡ row
+stored_found tables s row keyed is = row_at-pairs subscriber_key (key_of s 0 0) tables.subscribers keyed.subscribers ∙ sym is
 
-pub stored_moved : (pairs : List (ℕ × SubscriberRow)) (k : ℕ) (new : SubscriberRow) → IsKeyed subscriber_key pairs
-    → stored_book (with_row_at (λ (p : ℕ × SubscriberRow). p.0) k (k, new) pairs) ≡ record (stored_book pairs) { subscribers = with_row_at subscriber_key k new (stored_book pairs).subscribers }
-stored_moved pairs k new keyed = ap (λ (rows : List SubscriberRow). record (stored_book pairs) { subscribers = rows }) (with_row_at-pairs subscriber_key k new pairs keyed)
+pub stored_moved : (tables : Tables) (k : ℕ) (new : SubscriberRow) → AreKeyed tables
+    → stored_book (with_subscribers tables (with_row_at key_of_pair k (k, new) tables.subscribers)) ≡ record (stored_book tables) { subscribers = with_row_at subscriber_key k new (stored_book tables).subscribers }
+stored_moved tables k new keyed = ap (λ (rows : List SubscriberRow). record (stored_book tables) { subscribers = rows }) (with_row_at-pairs subscriber_key k new tables.subscribers keyed.subscribers)
 
-pub stored_added : (pairs : List (ℕ × SubscriberRow)) (k : ℕ) (new : SubscriberRow) → k ≡ subscriber_key new → IsKeyed subscriber_key pairs
-    → stored_book (with_row (λ (p : ℕ × SubscriberRow). p.0) (k, new) pairs) ≡ record (stored_book pairs) { subscribers = with_row subscriber_key new (stored_book pairs).subscribers }
-stored_added pairs k new at keyed = ap (λ (rows : List SubscriberRow). record (stored_book pairs) { subscribers = rows }) (with_row-pairs subscriber_key k new pairs at keyed)
+pub stored_added : (tables : Tables) (k : ℕ) (new : SubscriberRow) → k ≡ subscriber_key new → AreKeyed tables
+    → stored_book (with_subscribers tables (with_row key_of_pair (k, new) tables.subscribers)) ≡ record (stored_book tables) { subscribers = with_row subscriber_key new (stored_book tables).subscribers }
+stored_added tables k new at keyed = ap (λ (rows : List SubscriberRow). record (stored_book tables) { subscribers = rows }) (with_row-pairs subscriber_key k new tables.subscribers at keyed.subscribers)
 
-pub keyed_moved : (pairs : List (ℕ × SubscriberRow)) (k : ℕ) (new : SubscriberRow) → k ≡ subscriber_key new → IsKeyed subscriber_key pairs
-    → IsKeyed subscriber_key (with_row_at (λ (p : ℕ × SubscriberRow). p.0) k (k, new) pairs)
-keyed_moved pairs k new at keyed = each-with_row_at (λ (p : ℕ × SubscriberRow). p.0) (λ (p : ℕ × SubscriberRow). p.0 ≡ subscriber_key p.1) k (k, new) pairs at keyed
+-- tables with other Subscriber rows that stand at their keys
+keyed_with : (tables : Tables) (pairs : List (ℕ × SubscriberRow)) → AreKeyed tables → IsKeyed subscriber_key pairs → AreKeyed (with_subscribers tables pairs)
+keyed_with tables pairs keyed here = record { subscribers = here; access = keyed.access; facilities = keyed.facilities; forwardings = keyed.forwardings }
 
-pub keyed_added : (pairs : List (ℕ × SubscriberRow)) (k : ℕ) (new : SubscriberRow) → k ≡ subscriber_key new → IsKeyed subscriber_key pairs
-    → IsKeyed subscriber_key (with_row (λ (p : ℕ × SubscriberRow). p.0) (k, new) pairs)
-keyed_added pairs k new at keyed = each-with_row (λ (p : ℕ × SubscriberRow). p.0) (λ (p : ℕ × SubscriberRow). p.0 ≡ subscriber_key p.1) (k, new) pairs at keyed
+pub keyed_moved : (tables : Tables) (k : ℕ) (new : SubscriberRow) → k ≡ subscriber_key new → AreKeyed tables
+    → AreKeyed (with_subscribers tables (with_row_at key_of_pair k (k, new) tables.subscribers))
+keyed_moved tables k new at keyed = keyed_with tables _ keyed (each-with_row_at key_of_pair (λ (p : ℕ × SubscriberRow). p.0 ≡ subscriber_key p.1) k (k, new) tables.subscribers at keyed.subscribers)
+
+pub keyed_added : (tables : Tables) (k : ℕ) (new : SubscriberRow) → k ≡ subscriber_key new → AreKeyed tables
+    → AreKeyed (with_subscribers tables (with_row key_of_pair (k, new) tables.subscribers))
+keyed_added tables k new at keyed = keyed_with tables _ keyed (each-with_row key_of_pair (λ (p : ℕ × SubscriberRow). p.0 ≡ subscriber_key p.1) (k, new) tables.subscribers at keyed.subscribers)
 
 -- the subscribers of a part's range are subscribers
 pub is_subscriber : (part : PartState) (s : ℕ) → IsPart part → IsWithin part.lo part.hi s → is_in_range (SubscriberData s) ≡ true
@@ -155,94 +164,89 @@ area_below : (v : ℕ) → v < 4294967296 → area_of v < 16
 area_below v few = omega arith
 
 -- the two calls of a location's update: the row that is found, and the row that takes its place
-pub update_acts : (pairs pairs1 pairs2 : List (ℕ × SubscriberRow)) (n n1 n2 lo hi width key s v : ℕ) (row new : SubscriberRow) (notes : List (ℕ × ℤ))
-    → key ≡ key_of s 0 0 → IsPart (part_of pairs n lo hi width) → IsKeyed subscriber_key pairs → IsWithin lo hi s → 1 ≤ v → v < 4294967296
-    → (pairs1 ≡ pairs) × (n1 ≡ min (n + 1) 18446744073709551615)
-    → Some row ≡ option_map (λ (p : ℕ × SubscriberRow). p.1) (row_at (λ (p : ℕ × SubscriberRow). p.0) key pairs)
+pub update_acts : (tables tables1 tables2 : Tables) (n n1 n2 lo hi width key s v : ℕ) (row new : SubscriberRow) (notes : List (ℕ × ℤ))
+    → key ≡ key_of s 0 0 → IsPart (part_of tables n lo hi width) → AreKeyed tables → IsWithin lo hi s → 1 ≤ v → v < 4294967296
+    → (tables1 ≡ tables) × (n1 ≡ min (n + 1) 18446744073709551615)
+    → Some row ≡ value_at key tables.subscribers
     → new ≡ record row { vlr_location = v }
-    → pairs2 ≡ with_row_at (λ (p : ℕ × SubscriberRow). p.0) key (key, new) pairs1 → n2 ≡ min (n1 + 1) 18446744073709551615
+    → tables2 ≡ with_subscribers tables1 (with_row_at key_of_pair key (key, new) tables1.subscribers) → n2 ≡ min (n1 + 1) 18446744073709551615
     → notes ≡ area_moved (area_of row.vlr_location) (area_of v)
-    → Acts (UpdateLocation s v) (part_of pairs n lo hi width) reply.Done notes (part_of pairs2 n2 lo hi width)
-    × IsPart (part_of pairs2 n2 lo hi width) × IsKeyed subscriber_key pairs2
-update_acts pairs pairs1 pairs2 n n1 n2 lo hi width key s v row new notes at rules keyed within one few after found is edit asked noted =
-    let found' : Some row ≡ option_map (λ (p : ℕ × SubscriberRow). p.1) (row_at (λ (p : ℕ × SubscriberRow). p.0) (key_of s 0 0) pairs) = subst (λ (k : ℕ). Some row ≡ option_map (λ (p : ℕ × SubscriberRow). p.1) (row_at (λ (p : ℕ × SubscriberRow). p.0) k pairs)) at found in
-    let here : subscriber_at (stored_book pairs) s ≡ Some row = stored_found pairs s (Some row) keyed found' in
-    let in_range = each_found subscriber_key (λ (r : SubscriberRow). subscriber_in_range r ≡ true) (key_of s 0 0) (stored_book pairs).subscribers row rules.rows.rules.subscribers_in_range here in
+    → Acts (UpdateLocation s v) (part_of tables n lo hi width) reply.Done notes (part_of tables2 n2 lo hi width)
+    × IsPart (part_of tables2 n2 lo hi width) × AreKeyed tables2
+update_acts tables tables1 tables2 n n1 n2 lo hi width key s v row new notes at rules keyed within one few after found is edit asked noted =
+    let found' : Some row ≡ value_at (key_of s 0 0) tables.subscribers = subst (λ (k : ℕ). Some row ≡ value_at k tables.subscribers) at found in
+    let here : subscriber_at (stored_book tables) s ≡ Some row = stored_found tables s (Some row) keyed found' in
+    let in_range = each_found subscriber_key (λ (r : SubscriberRow). subscriber_in_range r ≡ true) (key_of s 0 0) (stored_book tables).subscribers row rules.rows.rules.subscribers_in_range here in
     let ranges = subscriber_ranges row in_range in
-    let edit' : pairs2 ≡ with_row_at (λ (p : ℕ × SubscriberRow). p.0) (key_of s 0 0) (key_of s 0 0, record row { vlr_location = v }) pairs =
-    edit ∙ ap (λ (ps : List (ℕ × SubscriberRow)). with_row_at (λ (p : ℕ × SubscriberRow). p.0) key (key, new) ps) after.0
-    ∙ ap (λ (r : SubscriberRow). with_row_at (λ (p : ℕ × SubscriberRow). p.0) key (key, r) pairs) is
-    ∙ ap (λ (k : ℕ). with_row_at (λ (p : ℕ × SubscriberRow). p.0) k (k, record row { vlr_location = v }) pairs) at in
-    let same = s_id_found (stored_book pairs) s row here in
+    let edit' : tables2 ≡ with_subscribers tables (with_row_at key_of_pair (key_of s 0 0) (key_of s 0 0, record row { vlr_location = v }) tables.subscribers) =
+    edit ∙ ap (λ (t : Tables). with_subscribers t (with_row_at key_of_pair key (key, new) t.subscribers)) after.0
+    ∙ ap (λ (r : SubscriberRow). with_subscribers tables (with_row_at key_of_pair key (key, r) tables.subscribers)) is
+    ∙ ap (λ (k : ℕ). with_subscribers tables (with_row_at key_of_pair k (k, record row { vlr_location = v }) tables.subscribers)) at in
+    let same = s_id_found (stored_book tables) s row here in
     let own : key_of s 0 0 ≡ subscriber_key (record row { vlr_location = v }) = omega arith in
-    let book : stored_book pairs2 ≡ record (stored_book pairs) { subscribers = with_row_at subscriber_key (key_of s 0 0) (record row { vlr_location = v }) (stored_book pairs).subscribers } =
-    ap stored_book edit' ∙ stored_moved pairs (key_of s 0 0) (record row { vlr_location = v }) keyed in
+    let book : stored_book tables2 ≡ record (stored_book tables) { subscribers = with_row_at subscriber_key (key_of s 0 0) (record row { vlr_location = v }) (stored_book tables).subscribers } =
+    ap stored_book edit' ∙ stored_moved tables (key_of s 0 0) (record row { vlr_location = v }) keyed in
     let in_range' = relocated_in_range row v one few in_range in (
-      rw noted (acts_moved (part_of pairs n lo hi width) s v row (stored_book pairs2) n2 book (is_location (part_of pairs n lo hi width) s v rules within one few) here (area_below row.vlr_location ranges.vlr_location_below) (area_below v few) (asked_twice n n1 n2 after.1 asked)),
-      part_moved (part_of pairs n lo hi width) s v row (stored_book pairs2) n2 book rules here in_range',
-      subst (IsKeyed subscriber_key) (sym edit') (keyed_moved pairs (key_of s 0 0) (record row { vlr_location = v }) own keyed),
+      rw noted (acts_moved (part_of tables n lo hi width) s v row (stored_book tables2) n2 book (is_location (part_of tables n lo hi width) s v rules within one few) here (area_below row.vlr_location ranges.vlr_location_below) (area_below v few) (asked_twice n n1 n2 after.1 asked)),
+      part_moved (part_of tables n lo hi width) s v row (stored_book tables2) n2 book rules here in_range',
+      subst AreKeyed (sym edit') (keyed_moved tables (key_of s 0 0) (record row { vlr_location = v }) own keyed),
     )
 
+-- where no row is found at the key of a subscriber, there is none in the book
+pub missing_row : (tables : Tables) (key s : ℕ) → key ≡ key_of s 0 0 → AreKeyed tables → None ≡ value_at key tables.subscribers → subscriber_at (stored_book tables) s ≡ None
+missing_row tables key s at keyed found = stored_found tables s None keyed (subst (λ (k : ℕ). None ≡ value_at k tables.subscribers) at found)
+
+pub present_row : (tables : Tables) (key s : ℕ) (row : SubscriberRow) → key ≡ key_of s 0 0 → AreKeyed tables → Some row ≡ value_at key tables.subscribers → subscriber_at (stored_book tables) s ≡ Some row
+present_row tables key s row at keyed found = stored_found tables s (Some row) keyed (subst (λ (k : ℕ). Some row ≡ value_at k tables.subscribers) at found)
+
 -- the one call of an addition, where it was done
-pub addition_acts : (pairs pairs1 : List (ℕ × SubscriberRow)) (n n1 lo hi width key : ℕ) (row : SubscriberRow) (notes : List (ℕ × ℤ))
-    → key ≡ subscriber_key row → IsPart (part_of pairs n lo hi width) → IsKeyed subscriber_key pairs → IsWithin lo hi row.s_id → subscriber_in_range row ≡ true
-    → row_at (λ (p : ℕ × SubscriberRow). p.0) key pairs ≡ None
-    → pairs1 ≡ with_row (λ (p : ℕ × SubscriberRow). p.0) (key, row) pairs → n1 ≡ min (n + 1) 18446744073709551615
+pub addition_acts : (tables tables1 : Tables) (n n1 lo hi width key : ℕ) (row : SubscriberRow) (notes : List (ℕ × ℤ))
+    → key ≡ subscriber_key row → IsPart (part_of tables n lo hi width) → AreKeyed tables → IsWithin lo hi row.s_id → subscriber_in_range row ≡ true
+    → (row_at key_of_pair key tables.subscribers ≡ None) × (tables1.subscribers ≡ with_row key_of_pair (key, row) tables.subscribers)
+    → tables1 ≡ with_subscribers tables tables1.subscribers → n1 ≡ min (n + 1) 18446744073709551615
     → notes ≡ subscriber_added (area_of row.vlr_location) (zone_of width row.s_id)
-    → Acts (AddSubscriber row) (part_of pairs n lo hi width) reply.Done notes (part_of pairs1 n1 lo hi width)
-    × IsPart (part_of pairs1 n1 lo hi width) × IsKeyed subscriber_key pairs1
-addition_acts pairs pairs1 n n1 lo hi width key row notes at rules keyed within in_range absent edit asked noted =
-    let absent' : row_at (λ (p : ℕ × SubscriberRow). p.0) (key_of row.s_id 0 0) pairs ≡ None = subst (λ (k : ℕ). row_at (λ (p : ℕ × SubscriberRow). p.0) k pairs ≡ None) at absent in
-    let here : subscriber_at (stored_book pairs) row.s_id ≡ None = stored_found pairs row.s_id None keyed (sym (ap (option_map (λ (p : ℕ × SubscriberRow). p.1)) absent')) in
-    let book : stored_book pairs1 ≡ record (stored_book pairs) { subscribers = with_row subscriber_key row (stored_book pairs).subscribers } =
-    ap stored_book edit ∙ stored_added pairs key row at keyed in
+    → Acts (AddSubscriber row) (part_of tables n lo hi width) reply.Done notes (part_of tables1 n1 lo hi width)
+    × IsPart (part_of tables1 n1 lo hi width) × AreKeyed tables1
+addition_acts tables tables1 n n1 lo hi width key row notes at rules keyed within in_range added others asked noted =
+    let here = missing_row tables key row.s_id at keyed (sym (ap (option_map (λ (p : ℕ × SubscriberRow). p.1)) added.0)) in
+    let edit : tables1 ≡ with_subscribers tables (with_row key_of_pair (key, row) tables.subscribers) = others ∙ ap (with_subscribers tables) added.1 in
+    let book : stored_book tables1 ≡ record (stored_book tables) { subscribers = with_row subscriber_key row (stored_book tables).subscribers } =
+    ap stored_book edit ∙ stored_added tables key row at keyed in
     let ranges = subscriber_ranges row in_range in (
-      rw noted (acts_added (part_of pairs n lo hi width) row (stored_book pairs1) n1 book in_range here (area_below row.vlr_location ranges.vlr_location_below) (asked_once n n1 asked)),
-      part_added (part_of pairs n lo hi width) row (stored_book pairs1) n1 book rules here within in_range,
-      subst (IsKeyed subscriber_key) (sym edit) (keyed_added pairs key row at keyed),
+      rw noted (acts_added (part_of tables n lo hi width) row (stored_book tables1) n1 book in_range here (area_below row.vlr_location ranges.vlr_location_below) (asked_once n n1 asked)),
+      part_added (part_of tables n lo hi width) row (stored_book tables1) n1 book rules here within in_range,
+      subst AreKeyed (sym edit) (keyed_added tables key row at keyed),
     )
 
 -- a refusal that comes after one call
-pub refusal_acts : (action : Action) (pairs pairs1 : List (ℕ × SubscriberRow)) (n n1 lo hi width : ℕ) (why : Refusal)
-    → pairs1 ≡ pairs → n1 ≡ min (n + 1) 18446744073709551615
-    → IsOutcome action (stored_book pairs) (reply.Refused why) (stored_book pairs)
-    → Acts action (part_of pairs n lo hi width) (reply.Refused why) [] (part_of pairs1 n1 lo hi width)
-refusal_acts action pairs pairs1 n n1 lo hi width why same asked outcome =
-    acts_refused action (part_of pairs n lo hi width) why (stored_book pairs1) n1 (ap stored_book same) outcome (asked_once n n1 asked)
-
--- where no row is found at the key of a subscriber, there is none in the book
-pub missing_row : (pairs : List (ℕ × SubscriberRow)) (key s : ℕ) → key ≡ key_of s 0 0 → IsKeyed subscriber_key pairs
-    → None ≡ option_map (λ (p : ℕ × SubscriberRow). p.1) (row_at (λ (p : ℕ × SubscriberRow). p.0) key pairs) → subscriber_at (stored_book pairs) s ≡ None
-missing_row pairs key s at keyed found =
-    stored_found pairs s None keyed (subst (λ (k : ℕ). None ≡ option_map (λ (p : ℕ × SubscriberRow). p.1) (row_at (λ (p : ℕ × SubscriberRow). p.0) k pairs)) at found)
-
-pub present_row : (pairs : List (ℕ × SubscriberRow)) (key s : ℕ) (row : SubscriberRow) → key ≡ key_of s 0 0 → IsKeyed subscriber_key pairs
-    → Some row ≡ option_map (λ (p : ℕ × SubscriberRow). p.1) (row_at (λ (p : ℕ × SubscriberRow). p.0) key pairs) → subscriber_at (stored_book pairs) s ≡ Some row
-present_row pairs key s row at keyed found =
-    stored_found pairs s (Some row) keyed (subst (λ (k : ℕ). Some row ≡ option_map (λ (p : ℕ × SubscriberRow). p.1) (row_at (λ (p : ℕ × SubscriberRow). p.0) k pairs)) at found)
+pub refusal_acts : (action : Action) (tables tables1 : Tables) (n n1 lo hi width : ℕ) (why : Refusal)
+    → tables1 ≡ tables → n1 ≡ min (n + 1) 18446744073709551615
+    → IsOutcome action (stored_book tables) (reply.Refused why) (stored_book tables)
+    → Acts action (part_of tables n lo hi width) (reply.Refused why) [] (part_of tables1 n1 lo hi width)
+refusal_acts action tables tables1 n n1 lo hi width why same asked outcome =
+    acts_refused action (part_of tables n lo hi width) why (stored_book tables1) n1 (ap stored_book same) outcome (asked_once n n1 asked)
 
 -- an action on a subscriber who has no row is refused
 pub no_subscriber : (action : Action) (book : Book) → is_in_range action ≡ true → (reply.Refused refusal.NoSubscriber, book) ≡ effect action book
     → IsOutcome action book (reply.Refused refusal.NoSubscriber) book
 no_subscriber action book in_range is = inr (inl (in_range, is))
 
--- a key that was free, from the clause that a taken one refuses
-pub free_key : {X : Type 0} (o : Option X) → (IsSome o → ⊥) → o ≡ None
-free_key None never = refl
-free_key (Some x) never = absurd (never refl)
-
 -- the outcome of an addition that is refused: a row with the key is there, or memory was wanted
-pub addition_refused : (pairs : List (ℕ × SubscriberRow)) (key : ℕ) (row : SubscriberRow) (why : Refusal)
-    → key ≡ key_of row.s_id 0 0 → IsKeyed subscriber_key pairs → subscriber_in_range row ≡ true
-    → (IsSome (row_at (λ (p : ℕ × SubscriberRow). p.0) key pairs) → why ≡ refusal.Exists)
-    → (IsNone (row_at (λ (p : ℕ × SubscriberRow). p.0) key pairs) → why ≡ refusal.Memory)
-    → IsOutcome (AddSubscriber row) (stored_book pairs) (reply.Refused why) (stored_book pairs)
-addition_refused pairs key row why at keyed in_range taken free = cases (row_at (λ (p : ℕ × SubscriberRow). p.0) key pairs) refl
+pub addition_refused : (tables : Tables) (key : ℕ) (row : SubscriberRow) (why : Refusal)
+    → key ≡ key_of row.s_id 0 0 → AreKeyed tables → subscriber_in_range row ≡ true
+    → (IsSome (row_at key_of_pair key tables.subscribers) → why ≡ refusal.Exists)
+    → (row_at key_of_pair key tables.subscribers ≡ None → why ≡ refusal.Memory)
+    → IsOutcome (AddSubscriber row) (stored_book tables) (reply.Refused why) (stored_book tables)
+addition_refused tables key row why at keyed in_range taken free = cases (row_at key_of_pair key tables.subscribers) refl
   where
-    cases : (o : Option (ℕ × SubscriberRow)) → row_at (λ (p : ℕ × SubscriberRow). p.0) key pairs ≡ o → IsOutcome (AddSubscriber row) (stored_book pairs) (reply.Refused why) (stored_book pairs)
+    cases : (o : Option (ℕ × SubscriberRow)) → row_at key_of_pair key tables.subscribers ≡ o → IsOutcome (AddSubscriber row) (stored_book tables) (reply.Refused why) (stored_book tables)
     cases None e =
-        let absent = missing_row pairs key row.s_id at keyed (sym (ap (option_map (λ (p : ℕ × SubscriberRow). p.1)) e)) in
-        rw (free (rw e refl)) (inr (inr (in_range, refl, rw absent refl, refl, refl)))
+        let absent = missing_row tables key row.s_id at keyed (sym (ap (option_map (λ (p : ℕ × SubscriberRow). p.1)) e)) in
+        rw (free e) (inr (inr (in_range, refl, rw absent refl, refl, refl)))
     cases (Some p) e =
-        let present = present_row pairs key row.s_id p.1 at keyed (sym (ap (option_map (λ (p : ℕ × SubscriberRow). p.1)) e)) in
+        let present = present_row tables key row.s_id p.1 at keyed (sym (ap (option_map (λ (p : ℕ × SubscriberRow). p.1)) e)) in
         rw (taken (rw e refl)) (inr (inl (in_range, rw present refl)))
+
+-- a refused addition leaves all tables
+pub tables_kept : (tables tables1 : Tables) → tables1.subscribers ≡ tables.subscribers → tables1 ≡ with_subscribers tables tables1.subscribers → tables1 ≡ tables
+tables_kept tables tables1 same others = others ∙ ap (with_subscribers tables) same

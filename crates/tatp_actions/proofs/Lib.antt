@@ -3,7 +3,9 @@ pub mod BookLemmas
 pub mod CellLemmas
 pub mod ChangeLemmas
 pub mod TableLemmas
+pub mod CounterLemmas
 pub mod RecountLemmas
+pub mod FirstLemmas
 pub mod CountLemmas
 pub mod BetweenLemmas
 pub mod LocalLemmas

@@ -1,7 +1,5 @@
 -- A part: the rows of a range of subscribers.
-use Rattle.std.specs.Prelude.{◌≡◌, ℕ, ◌<◌, ◌≤◌, ◌+◌, List, [], map, ℤ}
-use Rattle.std.specs.List.{AllByRecursion}
-use Rattle.tatp_rows.specs.Rows.{SubscriberRow}
+use Rattle.std.specs.Prelude.{◌≡◌, ℕ, ◌<◌, ◌≤◌, ◌+◌, List, [], ℤ}
 use Rattle.tatp_rows.specs.declared.refusal.Refusal.{Refusal}
 use Rattle.tatp_actions.specs.Action.{IsOutcome}
 use Rattle.tatp_actions.specs.Book.{Book, IsRowsOf}
@@ -31,14 +29,6 @@ pub record IsPart (part : PartState) : Type 0 where
   pub range : IsRange part.lo part.hi
   pub width : IsWidth part.width
   pub rows : IsRowsOf part.lo part.hi part.book
-
--- each key of the pairs is the key of its row
-abbrev pub IsKeyed : {X : Type 0} → (X → ℕ) → List (ℕ × X) → Type 0
-IsKeyed key pairs = AllByRecursion (λ pair. pair.0 ≡ key pair.1) pairs
-
--- the book of stored rows; the tables of the other three kinds of row are empty
-abbrev pub stored_book : List (ℕ × SubscriberRow) → Book
-stored_book subscribers = record { subscribers = map (λ pair. pair.1) subscribers; access = []; facilities = []; forwardings = [] }
 
 -- what an action does to a part: a right outcome, the exact change of every cell, the same range and width, and at most eight questions
 pub record Acts (action : Action) (before : PartState) (answer : RowReply) (notes : List (ℕ × ℤ)) (after : PartState) : Type 0 where

@@ -1,6 +1,9 @@
--- What a Subscriber row counts in the cells.
-use Rattle.std.specs.Prelude.{ℕ, ◌+◌, ◌-◌, ◌^◌, nat_lt, List, if◌then◌else◌, slice_index, slice_set}
-use Rattle.tatp_rows.specs.Rows.{SubscriberRow}
+-- What each row counts in the cells.
+use Rattle.std.specs.Prelude.{ℕ, ◌+◌, ◌-◌, ◌/◌, ◌^◌, ◌==◌, nat_lt, Bool, false, List, if◌then◌else◌, slice_index, slice_set}
+use Rattle.std.specs.Option.{option_map_or}
+use Rattle.mr_node.specs.Rows.{value_at}
+use Rattle.tatp_rows.specs.Keys.{key_of}
+use Rattle.tatp_rows.specs.Rows.{SubscriberRow, SpecialFacilityRow, CallForwardingRow}
 use Rattle.tatp_rows.specs.Zones.{zone_of, area_of}
 use Rattle.tatp_actions.specs.declared.cells.TheConstants.{FIRST_AREA, FIRST_ZONE}
 
@@ -8,6 +11,18 @@ use Rattle.tatp_actions.specs.declared.cells.TheConstants.{FIRST_AREA, FIRST_ZON
 abbrev pub one_more_in : ℕ → List ℕ → List ℕ
 one_more_in cell counts = if nat_lt (slice_index counts cell) (2 ^ 64 - 1) then slice_set counts cell (slice_index counts cell + 1) else counts
 
+-- the counts with one more row of a subscriber, in the cell of its zone
+abbrev pub with_row_of : ℕ → ℕ → List ℕ → List ℕ
+with_row_of width s_id counts = one_more_in (FIRST_ZONE + zone_of width s_id) counts
+
 -- the counts with one more Subscriber row, in the cells of its area and of its zone
 abbrev pub with_subscriber : ℕ → SubscriberRow → List ℕ → List ℕ
-with_subscriber width row counts = one_more_in (FIRST_ZONE + zone_of width row.s_id) (one_more_in (FIRST_AREA + area_of row.vlr_location) counts)
+with_subscriber width row counts = with_row_of width row.s_id (one_more_in (FIRST_AREA + area_of row.vlr_location) counts)
+
+-- the stored facility of a forwarding is active
+abbrev pub is_active_in : List (ℕ × SpecialFacilityRow) → CallForwardingRow → Bool
+is_active_in facilities row = option_map_or (λ facility. facility.is_active == 1) (value_at (key_of row.s_id row.sf_type 0) facilities) false
+
+-- the counts with one more Call_Forwarding row, in the cell of its zone and, where it is active, in that of its start time
+abbrev pub with_forwarding : ℕ → Bool → CallForwardingRow → List ℕ → List ℕ
+with_forwarding width active row counts = with_row_of width row.s_id (if active then one_more_in (row.start_time / 8) counts else counts)

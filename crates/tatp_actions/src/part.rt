@@ -1,11 +1,11 @@
 //! A part of the store: the rows of a range of subscribers.
 ghost use Rattle.std.specs.Prelude.{◌≡◌, ℕ, ◌+◌, ◌≤◌, ◌<◌, List, [], IfOk, OnErr, slice_index, option_copied};
-ghost use Rattle.tatp_rows.specs.Keys.{subscriber_key};
 ghost use Rattle.tatp_actions.specs.Action.{s_id_of, IsOutcome};
 ghost use Rattle.tatp_actions.specs.Book.{IsWithin, IsRowsOf, empty_book, first_subscriber};
 ghost use Rattle.tatp_actions.specs.Cell.{cell};
 ghost use Rattle.tatp_actions.specs.Change.{IsChange};
-ghost use Rattle.tatp_actions.specs.Part.{PartState, IsPart, IsRange, IsWidth, IsKeyed, stored_book, Acts};
+ghost use Rattle.tatp_actions.specs.Part.{PartState, IsPart, IsRange, IsWidth, Acts};
+ghost use Rattle.tatp_actions.specs.Tables.{AreKeyed, stored_book};
 
 use crate::action::{Action, RowReply};
 use crate::cells::{Cells, FIRST_AREA, FIRST_ZONE};
@@ -26,13 +26,13 @@ pub struct Part<R: Rows = Trees> {
 }
 
 impl<R: Rows> Model for Part<R> {
-    ghost use Rattle.tatp_rows.specs.Keys.{subscriber_key};
-    ghost use Rattle.tatp_actions.specs.Part.{PartState, IsPart, IsKeyed, stored_book};
+    ghost use Rattle.tatp_actions.specs.Part.{PartState, IsPart};
+    ghost use Rattle.tatp_actions.specs.Tables.{AreKeyed, stored_book};
 
     ghost Value = { PartState };
 
     ghost view = { λ p. record {
-      book = stored_book (R.subscribers p.rows);
+      book = stored_book (R.tables p.rows);
       asked = R.times_asked p.rows;
       lo = p.lo;
       hi = p.hi;
@@ -40,12 +40,12 @@ impl<R: Rows> Model for Part<R> {
     } };
 
     ghost invariant = { λ p. IsPart (record {
-      book = stored_book (R.subscribers p.rows);
+      book = stored_book (R.tables p.rows);
       asked = R.times_asked p.rows;
       lo = p.lo;
       hi = p.hi;
       width = p.width;
-    }) × IsKeyed subscriber_key (R.subscribers p.rows) };
+    }) × AreKeyed (R.tables p.rows) };
 }
 
 fn refused(why: Refusal) -> (RowReply, Change)
@@ -59,9 +59,9 @@ impl<R: Rows> Part<R> {
     pub fn over(rows: R, lo: u32, hi: u32, width: u32) -> Self
         requires range { IsRange lo hi }
         requires width { IsWidth width }
-        requires rows { IsRowsOf lo hi (stored_book (R.subscribers rows)) }
-        requires keys { IsKeyed subscriber_key (R.subscribers rows) }
-        ensures { result ≡ record { book = stored_book (R.subscribers rows); asked = R.times_asked rows; lo = lo; hi = hi; width = width } }
+        requires rows { IsRowsOf lo hi (stored_book (R.tables rows)) }
+        requires keys { AreKeyed (R.tables rows) }
+        ensures { result ≡ record { book = stored_book (R.tables rows); asked = R.times_asked rows; lo = lo; hi = hi; width = width } }
     {
         Part {
             rows,

@@ -1,41 +1,51 @@
-//! The plain program of the definition: the rows of a part in a sorted vector, for tests.
-ghost use Rattle.std.specs.Prelude.{◌≡◌, ℕ, ◌+◌, ◌-◌, ◌^◌, ◌<◌, ◌∷◌, [], List, min, Option, None, IsSome, IsNone, IsErrAnd, IfErr, OnOk, OnErr, option_copied, option_map, ok_or, ⊤};
+//! The plain program of the definition: the rows of a part in sorted vectors, for tests.
+ghost use Rattle.std.specs.Prelude.{◌≡◌, ℕ, ◌<◌, [], option_copied, ok_or, ⊤};
 ghost use Rattle.std.specs.Borrow.{sem, follows_so};
+ghost use Rattle.tatp_actions.specs.Tables.{once_more};
 
 use crate::rows::Rows;
 use crate::table::Table;
 use std::alloc::Global;
-use tatp_rows::{Back, Subscriber};
+use tatp_rows::{Access, Back, Facility, Forwarding, Subscriber};
 
-/// The rows of a part in a table, and how often they were asked.
+/// The rows of a part, each of the four tables in a sorted vector of its own, and how often they were asked.
 #[derive(Drop)]
 pub struct PlainRows {
     pub(crate) subscribers: Table<Subscriber>,
+    pub(crate) access: Table<Access>,
+    pub(crate) facilities: Table<Facility>,
+    pub(crate) forwardings: Table<Forwarding>,
     asked: u64,
 }
 
 impl PlainRows {
-    /// Rows with an empty table, never asked.
+    /// Rows with empty tables, never asked.
     pub fn new(alloc: Global) -> Self
-        ensures subscribers { result.subscribers ≡ [] }
-        ensures asked { result.asked ≡ 0 }
+        ensures { result ≡ record { subscribers = []; access = []; facilities = []; forwardings = []; asked = 0 } }
     {
         PlainRows {
             subscribers: Table::new(alloc),
+            access: Table::new(alloc),
+            facilities: Table::new(alloc),
+            forwardings: Table::new(alloc),
             asked: 0,
         }
     }
 
     fn ask(&mut self)
-        ensures subscribers { self.new.subscribers ≡ self.old.subscribers }
-        ensures asked { self.new.asked ≡ min (self.old.asked + 1) (2 ^ 64 - 1) }
+        ensures { self.new ≡ record self.old { asked = once_more self.old.asked } }
     {
         self.asked = self.asked.saturating_add(1);
     }
 }
 
 impl Rows for PlainRows {
-    ghost subscribers = { λ t. t.subscribers };
+    ghost tables = { λ t. record {
+      subscribers = t.subscribers;
+      access = t.access;
+      facilities = t.facilities;
+      forwardings = t.forwardings;
+    } };
 
     ghost times_asked = { λ t. t.asked };
 
@@ -61,5 +71,65 @@ impl Rows for PlainRows {
     fn remove_s(&mut self, key: u64) -> Option<Subscriber> {
         self.ask();
         self.subscribers.remove(key)
+    }
+
+    fn get_a(&mut self, key: u64) -> Option<&Access> {
+        self.asked = self.asked.saturating_add(1);
+        self.access.get(key)
+    }
+
+    fn replace_a(&mut self, key: u64, value: Access) -> Result<Access, Access> {
+        self.ask();
+        self.access.replace(key, value)
+    }
+
+    fn insert_a(&mut self, key: u64, value: Access) -> Result<(), Back<Access>> {
+        self.ask();
+        self.access.insert(key, value)
+    }
+
+    fn remove_a(&mut self, key: u64) -> Option<Access> {
+        self.ask();
+        self.access.remove(key)
+    }
+
+    fn get_f(&mut self, key: u64) -> Option<&Facility> {
+        self.asked = self.asked.saturating_add(1);
+        self.facilities.get(key)
+    }
+
+    fn replace_f(&mut self, key: u64, value: Facility) -> Result<Facility, Facility> {
+        self.ask();
+        self.facilities.replace(key, value)
+    }
+
+    fn insert_f(&mut self, key: u64, value: Facility) -> Result<(), Back<Facility>> {
+        self.ask();
+        self.facilities.insert(key, value)
+    }
+
+    fn remove_f(&mut self, key: u64) -> Option<Facility> {
+        self.ask();
+        self.facilities.remove(key)
+    }
+
+    fn get_c(&mut self, key: u64) -> Option<&Forwarding> {
+        self.asked = self.asked.saturating_add(1);
+        self.forwardings.get(key)
+    }
+
+    fn replace_c(&mut self, key: u64, value: Forwarding) -> Result<Forwarding, Forwarding> {
+        self.ask();
+        self.forwardings.replace(key, value)
+    }
+
+    fn insert_c(&mut self, key: u64, value: Forwarding) -> Result<(), Back<Forwarding>> {
+        self.ask();
+        self.forwardings.insert(key, value)
+    }
+
+    fn remove_c(&mut self, key: u64) -> Option<Forwarding> {
+        self.ask();
+        self.forwardings.remove(key)
     }
 }

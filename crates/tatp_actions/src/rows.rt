@@ -1,18 +1,20 @@
 //! What a part asks of its rows.
-ghost use Rattle.std.specs.Prelude.{◌≡◌, ℕ, ◌+◌, ◌-◌, ◌^◌, ◌<◌, ◌∷◌, List, min, Option, IsSome, IsNone, IsErrAnd, IfErr, OnOk, OnErr, option_copied, option_map, ok_or, ⊤};
+ghost use Rattle.std.specs.Prelude.{◌≡◌, ℕ, ◌<◌, option_copied, ok_or, ⊤};
 ghost use Rattle.std.specs.Borrow.{sem, follows_so};
 ghost use mathlib.Core.Option.{none};
-ghost use Rattle.tatp_rows.specs.Rows.{SubscriberRow};
-ghost use Rattle.tatp_rows.specs.Ordered.{row_at, with_row_at, with_row, without_row};
+ghost use Rattle.tatp_rows.specs.Ordered.{with_row_at, without_row};
+ghost use Rattle.mr_node.specs.Rows.{key_limit, key_of_pair, value_at};
+ghost use Rattle.mr_subtree.specs.Trees.{IsInserted};
+ghost use Rattle.tatp_actions.specs.Tables.{Tables, once_more};
 
-use tatp_rows::{Back, Refusal, Subscriber};
+use tatp_rows::{Access, Back, Facility, Forwarding, Subscriber};
 
 /// The rows of a part, by key, and how often they were asked.
 ///
-/// Each table is seen as a list of pairs (key, row), ordered by key. No call walks over a table, and each raises
-/// `asked` by one (saturating), so an action's cost is bounded by how often it asks.
+/// Each of the four tables is seen as a list of pairs (key, row), ordered by key. No call walks over a table, and
+/// each raises `asked` by one (saturating), so an action's cost is bounded by how often it asks.
 pub trait Rows {
-    ghost subscribers: { Self → List (ℕ × SubscriberRow) };
+    ghost tables: { Self → Tables };
 
     ghost times_asked: { Self → ℕ };
 
@@ -23,29 +25,104 @@ pub trait Rows {
     /// The Subscriber row at a key.
     fn get_s(&mut self, key: u64) -> Option<&Subscriber>
         ensures* after { sem 𝓛 (follows_so Self.row Self.row self.entry.ghost_name none (λ _ _. ⊤)
-            (λ rows. (subscribers rows ≡ subscribers self.old) × (times_asked rows ≡ min (times_asked self.old + 1) (2 ^ 64 - 1)))) }
-        ensures value { option_copied result ≡ option_map (λ pair. pair.1) (row_at (λ pair. pair.0) key (subscribers self.old)) };
+            (λ rows. (tables rows ≡ tables self.old) × (times_asked rows ≡ once_more (times_asked self.old)))) }
+        ensures value { option_copied result ≡ value_at key (tables self.old).subscribers };
 
     /// Replaces the Subscriber row at a key, and hands back the old one; where there is none, hands back the value.
     fn replace_s(&mut self, key: u64, value: Subscriber) -> Result<Subscriber, Subscriber>
-        ensures value { result ≡ ok_or (option_map (λ pair. pair.1) (row_at (λ pair. pair.0) key (subscribers self.old))) value }
-        ensures rows { subscribers self.new ≡ with_row_at (λ pair. pair.0) key (key, value) (subscribers self.old) }
-        ensures asked { times_asked self.new ≡ min (times_asked self.old + 1) (2 ^ 64 - 1) };
+        ensures value { result ≡ ok_or (value_at key (tables self.old).subscribers) value }
+        ensures rows { tables self.new ≡ record (tables self.old) { subscribers = with_row_at key_of_pair key (key, value) (tables self.old).subscribers } }
+        ensures asked { times_asked self.new ≡ once_more (times_asked self.old) };
 
     /// Adds a Subscriber row. `Exists` where the key has a row, `Memory` where a growth was refused: then the rows
     /// are as before, and the row is handed back.
     fn insert_s(&mut self, key: u64, value: Subscriber) -> Result<(), Back<Subscriber>>
-        requires { key < 18446744073709551614 }
-        ensures taken { IsSome (row_at (λ pair. pair.0) key (subscribers self.old)) → IsErrAnd result (λ back. back.why ≡ Refusal.Exists) }
-        ensures free { IsNone (row_at (λ pair. pair.0) key (subscribers self.old)) → IfErr result (λ back. back.why ≡ Refusal.Memory) }
-        ensures ok { OnOk result (subscribers self.new ≡ with_row (λ pair. pair.0) (key, value) (subscribers self.old)) }
-        ensures item { IfErr result (λ back. back.item ≡ value) }
-        ensures err { OnErr result (subscribers self.new ≡ subscribers self.old) }
-        ensures asked { times_asked self.new ≡ min (times_asked self.old + 1) (2 ^ 64 - 1) };
+        requires { key < key_limit }
+        ensures table { IsInserted key value (tables self.old).subscribers (tables self.new).subscribers result }
+        ensures others { tables self.new ≡ record (tables self.old) { subscribers = (tables self.new).subscribers } }
+        ensures asked { times_asked self.new ≡ once_more (times_asked self.old) };
 
     /// Takes the Subscriber row at a key away, where there is one.
     fn remove_s(&mut self, key: u64) -> Option<Subscriber>
-        ensures value { result ≡ option_map (λ pair. pair.1) (row_at (λ pair. pair.0) key (subscribers self.old)) }
-        ensures rows { subscribers self.new ≡ without_row (λ pair. pair.0) key (subscribers self.old) }
-        ensures asked { times_asked self.new ≡ min (times_asked self.old + 1) (2 ^ 64 - 1) };
+        ensures value { result ≡ value_at key (tables self.old).subscribers }
+        ensures rows { tables self.new ≡ record (tables self.old) { subscribers = without_row key_of_pair key (tables self.old).subscribers } }
+        ensures asked { times_asked self.new ≡ once_more (times_asked self.old) };
+
+    /// The Access_Info row at a key.
+    fn get_a(&mut self, key: u64) -> Option<&Access>
+        ensures* after { sem 𝓛 (follows_so Self.row Self.row self.entry.ghost_name none (λ _ _. ⊤)
+            (λ rows. (tables rows ≡ tables self.old) × (times_asked rows ≡ once_more (times_asked self.old)))) }
+        ensures value { option_copied result ≡ value_at key (tables self.old).access };
+
+    /// Replaces the Access_Info row at a key, and hands back the old one; where there is none, hands back the value.
+    fn replace_a(&mut self, key: u64, value: Access) -> Result<Access, Access>
+        ensures value { result ≡ ok_or (value_at key (tables self.old).access) value }
+        ensures rows { tables self.new ≡ record (tables self.old) { access = with_row_at key_of_pair key (key, value) (tables self.old).access } }
+        ensures asked { times_asked self.new ≡ once_more (times_asked self.old) };
+
+    /// Adds an Access_Info row. `Exists` where the key has a row, `Memory` where a growth was refused: then the rows
+    /// are as before, and the row is handed back.
+    fn insert_a(&mut self, key: u64, value: Access) -> Result<(), Back<Access>>
+        requires { key < key_limit }
+        ensures table { IsInserted key value (tables self.old).access (tables self.new).access result }
+        ensures others { tables self.new ≡ record (tables self.old) { access = (tables self.new).access } }
+        ensures asked { times_asked self.new ≡ once_more (times_asked self.old) };
+
+    /// Takes the Access_Info row at a key away, where there is one.
+    fn remove_a(&mut self, key: u64) -> Option<Access>
+        ensures value { result ≡ value_at key (tables self.old).access }
+        ensures rows { tables self.new ≡ record (tables self.old) { access = without_row key_of_pair key (tables self.old).access } }
+        ensures asked { times_asked self.new ≡ once_more (times_asked self.old) };
+
+    /// The Special_Facility row at a key.
+    fn get_f(&mut self, key: u64) -> Option<&Facility>
+        ensures* after { sem 𝓛 (follows_so Self.row Self.row self.entry.ghost_name none (λ _ _. ⊤)
+            (λ rows. (tables rows ≡ tables self.old) × (times_asked rows ≡ once_more (times_asked self.old)))) }
+        ensures value { option_copied result ≡ value_at key (tables self.old).facilities };
+
+    /// Replaces the Special_Facility row at a key, and hands back the old one; where there is none, hands back the value.
+    fn replace_f(&mut self, key: u64, value: Facility) -> Result<Facility, Facility>
+        ensures value { result ≡ ok_or (value_at key (tables self.old).facilities) value }
+        ensures rows { tables self.new ≡ record (tables self.old) { facilities = with_row_at key_of_pair key (key, value) (tables self.old).facilities } }
+        ensures asked { times_asked self.new ≡ once_more (times_asked self.old) };
+
+    /// Adds a Special_Facility row. `Exists` where the key has a row, `Memory` where a growth was refused: then the rows
+    /// are as before, and the row is handed back.
+    fn insert_f(&mut self, key: u64, value: Facility) -> Result<(), Back<Facility>>
+        requires { key < key_limit }
+        ensures table { IsInserted key value (tables self.old).facilities (tables self.new).facilities result }
+        ensures others { tables self.new ≡ record (tables self.old) { facilities = (tables self.new).facilities } }
+        ensures asked { times_asked self.new ≡ once_more (times_asked self.old) };
+
+    /// Takes the Special_Facility row at a key away, where there is one.
+    fn remove_f(&mut self, key: u64) -> Option<Facility>
+        ensures value { result ≡ value_at key (tables self.old).facilities }
+        ensures rows { tables self.new ≡ record (tables self.old) { facilities = without_row key_of_pair key (tables self.old).facilities } }
+        ensures asked { times_asked self.new ≡ once_more (times_asked self.old) };
+
+    /// The Call_Forwarding row at a key.
+    fn get_c(&mut self, key: u64) -> Option<&Forwarding>
+        ensures* after { sem 𝓛 (follows_so Self.row Self.row self.entry.ghost_name none (λ _ _. ⊤)
+            (λ rows. (tables rows ≡ tables self.old) × (times_asked rows ≡ once_more (times_asked self.old)))) }
+        ensures value { option_copied result ≡ value_at key (tables self.old).forwardings };
+
+    /// Replaces the Call_Forwarding row at a key, and hands back the old one; where there is none, hands back the value.
+    fn replace_c(&mut self, key: u64, value: Forwarding) -> Result<Forwarding, Forwarding>
+        ensures value { result ≡ ok_or (value_at key (tables self.old).forwardings) value }
+        ensures rows { tables self.new ≡ record (tables self.old) { forwardings = with_row_at key_of_pair key (key, value) (tables self.old).forwardings } }
+        ensures asked { times_asked self.new ≡ once_more (times_asked self.old) };
+
+    /// Adds a Call_Forwarding row. `Exists` where the key has a row, `Memory` where a growth was refused: then the rows
+    /// are as before, and the row is handed back.
+    fn insert_c(&mut self, key: u64, value: Forwarding) -> Result<(), Back<Forwarding>>
+        requires { key < key_limit }
+        ensures table { IsInserted key value (tables self.old).forwardings (tables self.new).forwardings result }
+        ensures others { tables self.new ≡ record (tables self.old) { forwardings = (tables self.new).forwardings } }
+        ensures asked { times_asked self.new ≡ once_more (times_asked self.old) };
+
+    /// Takes the Call_Forwarding row at a key away, where there is one.
+    fn remove_c(&mut self, key: u64) -> Option<Forwarding>
+        ensures value { result ≡ value_at key (tables self.old).forwardings }
+        ensures rows { tables self.new ≡ record (tables self.old) { forwardings = without_row key_of_pair key (tables self.old).forwardings } }
+        ensures asked { times_asked self.new ≡ once_more (times_asked self.old) };
 }

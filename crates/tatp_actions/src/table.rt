@@ -3,6 +3,8 @@ ghost use Rattle.std.specs.Prelude.{◌≡◌, ℕ, ◌+◌, ◌<◌, [], ◌∷
 ghost use Rattle.std.specs.List.{find, prefix_len};
 ghost use Rattle.tatp_rows.specs.Ordered.{IsOrderedBy, row_at, with_row_at, with_row, without_row};
 ghost use Rattle.mr_node.specs.Folds.{FoldsRows};
+ghost use Rattle.mr_node.specs.Rows.{key_limit, key_of_pair, value_at};
+ghost use Rattle.mr_subtree.specs.Trees.{IsInserted};
 
 use std::alloc::Global;
 use std::marker::Model;
@@ -59,7 +61,7 @@ impl<V> Table<V> {
 
     /// The value at a key.
     pub fn get(&self, key: u64) -> Option<&V>
-        ensures { option_copied result ≡ option_map (λ pair. pair.1) (row_at (λ pair. pair.0) key self.now) }
+        ensures { option_copied result ≡ value_at key self.now }
     {
         let at = self.place_of(key);
         let entry = self.entries.get(at)?;
@@ -68,8 +70,8 @@ impl<V> Table<V> {
 
     /// Replaces the value at a key, and hands back the old one; where there is none, hands back the value.
     pub fn replace(&mut self, key: u64, value: V) -> Result<V, V>
-        ensures value { result ≡ ok_or (option_map (λ pair. pair.1) (row_at (λ pair. pair.0) key self.old)) value }
-        ensures rows { self.new ≡ with_row_at (λ pair. pair.0) key (key, value) self.old }
+        ensures value { result ≡ ok_or (value_at key self.old) value }
+        ensures rows { self.new ≡ with_row_at key_of_pair key (key, value) self.old }
     {
         let at = self.place_of(key);
         if at == self.entries.len() || self.entries[at].0 != key {
@@ -81,12 +83,8 @@ impl<V> Table<V> {
     /// Adds an entry. `Exists` where the key has one, `Memory` where a growth was refused: then the table is as
     /// before, and the value is handed back.
     pub fn insert(&mut self, key: u64, value: V) -> Result<(), Back<V>>
-        requires { key < 18446744073709551614 }
-        ensures taken { IsSome (row_at (λ pair. pair.0) key self.old) → IsErrAnd result (λ back. back.why ≡ Refusal.Exists) }
-        ensures free { IsNone (row_at (λ pair. pair.0) key self.old) → IfErr result (λ back. back.why ≡ Refusal.Memory) }
-        ensures ok { OnOk result (self.new ≡ with_row (λ pair. pair.0) (key, value) self.old) }
-        ensures item { IfErr result (λ back. back.item ≡ value) }
-        ensures err { OnErr result (self.new ≡ self.old) }
+        requires { key < key_limit }
+        ensures { IsInserted key value self.old self.new result }
     {
         let at = self.place_of(key);
         if at < self.entries.len() && self.entries[at].0 == key {
@@ -106,8 +104,8 @@ impl<V> Table<V> {
 
     /// Takes the entry at a key away, where there is one.
     pub fn remove(&mut self, key: u64) -> Option<V>
-        ensures value { result ≡ option_map (λ pair. pair.1) (row_at (λ pair. pair.0) key self.old) }
-        ensures rows { self.new ≡ without_row (λ pair. pair.0) key self.old }
+        ensures value { result ≡ value_at key self.old }
+        ensures rows { self.new ≡ without_row key_of_pair key self.old }
     {
         let at = self.place_of(key);
         if at == self.entries.len() || self.entries[at].0 != key {

@@ -4,8 +4,13 @@ ghost use Rattle.tatp_actions.specs.Book.{IsWithin};
 ghost use Rattle.std.specs.Borrow.{sem, follows_so};
 
 use super::*;
+use crate::plain::PlainRows;
+use crate::recount::{with_access, with_facility, with_forwarding};
+use mr_subtree::SubTree;
 use std::test::Fail;
-use tatp_rows::{Back, Number, Refusal, Subscriber, subscriber_key};
+use tatp_rows::{
+    Access, Back, Facility, Forwarding, Letters, Number, Refusal, Subscriber, subscriber_key,
+};
 
 /// Rows that take so many more rows, and refuse every one after these for want of memory.
 #[derive(Drop)]
@@ -15,7 +20,12 @@ struct Few {
 }
 
 impl Rows for Few {
-    ghost subscribers = { λ few. few.trees.subscribers.rows };
+    ghost tables = { λ few. record {
+      subscribers = few.trees.subscribers.rows;
+      access = few.trees.access.rows;
+      facilities = few.trees.facilities.rows;
+      forwardings = few.trees.forwardings.rows;
+    } };
 
     ghost times_asked = { λ few. few.trees.asked };
 
@@ -45,6 +55,54 @@ impl Rows for Few {
 
     fn remove_s(&mut self, key: u64) -> Option<Subscriber> {
         self.trees.remove_s(key)
+    }
+
+    fn get_a(&mut self, key: u64) -> Option<&Access> {
+        self.trees.get_a(key)
+    }
+
+    fn replace_a(&mut self, key: u64, value: Access) -> Result<Access, Access> {
+        self.trees.replace_a(key, value)
+    }
+
+    fn insert_a(&mut self, key: u64, value: Access) -> Result<(), Back<Access>> {
+        self.trees.insert_a(key, value)
+    }
+
+    fn remove_a(&mut self, key: u64) -> Option<Access> {
+        self.trees.remove_a(key)
+    }
+
+    fn get_f(&mut self, key: u64) -> Option<&Facility> {
+        self.trees.get_f(key)
+    }
+
+    fn replace_f(&mut self, key: u64, value: Facility) -> Result<Facility, Facility> {
+        self.trees.replace_f(key, value)
+    }
+
+    fn insert_f(&mut self, key: u64, value: Facility) -> Result<(), Back<Facility>> {
+        self.trees.insert_f(key, value)
+    }
+
+    fn remove_f(&mut self, key: u64) -> Option<Facility> {
+        self.trees.remove_f(key)
+    }
+
+    fn get_c(&mut self, key: u64) -> Option<&Forwarding> {
+        self.trees.get_c(key)
+    }
+
+    fn replace_c(&mut self, key: u64, value: Forwarding) -> Result<Forwarding, Forwarding> {
+        self.trees.replace_c(key, value)
+    }
+
+    fn insert_c(&mut self, key: u64, value: Forwarding) -> Result<(), Back<Forwarding>> {
+        self.trees.insert_c(key, value)
+    }
+
+    fn remove_c(&mut self, key: u64) -> Option<Forwarding> {
+        self.trees.remove_c(key)
     }
 }
 
@@ -120,6 +178,90 @@ fn asks<R: Rows>(rows: &mut R, first: Subscriber, second: Subscriber) -> bool {
         && removed == Some(second)
         && gone.is_none()
         && rows.asked() == before.saturating_add(7)
+}
+
+/// What rows answer of an Access_Info row, which they keep by its key.
+fn keeps_access<R: Rows>(rows: &mut R, row: Access) -> bool {
+    let key = row.key();
+    rows.replace_a(key, row) == Err(row)
+        && rows.insert_a(key, row).is_ok()
+        && rows.insert_a(key, row).is_err()
+        && rows.get_a(key).copied() == Some(row)
+        && rows.replace_a(key, row) == Ok(row)
+        && rows.remove_a(key) == Some(row)
+        && rows.get_a(key).is_none()
+        && rows.asked() == 7
+}
+
+/// The same of a Special_Facility row.
+fn keeps_facility<R: Rows>(rows: &mut R, row: Facility) -> bool {
+    let key = row.key();
+    rows.replace_f(key, row) == Err(row)
+        && rows.insert_f(key, row).is_ok()
+        && rows.insert_f(key, row).is_err()
+        && rows.get_f(key).copied() == Some(row)
+        && rows.replace_f(key, row) == Ok(row)
+        && rows.remove_f(key) == Some(row)
+        && rows.get_f(key).is_none()
+        && rows.asked() == 14
+}
+
+/// The same of a Call_Forwarding row.
+fn keeps_forwarding<R: Rows>(rows: &mut R, row: Forwarding) -> bool {
+    let key = row.key();
+    rows.replace_c(key, row) == Err(row)
+        && rows.insert_c(key, row).is_ok()
+        && rows.insert_c(key, row).is_err()
+        && rows.get_c(key).copied() == Some(row)
+        && rows.replace_c(key, row) == Ok(row)
+        && rows.remove_c(key) == Some(row)
+        && rows.get_c(key).is_none()
+        && rows.asked() == 21
+}
+
+#[test]
+fn other_tables(rt: HostRuntime) -> Result<(), Fail> {
+    let three = Letters::from_bytes(b"ABC")?;
+    let five = Letters::from_bytes(b"VWXYZ")?;
+    let number = Number::try_new(7)?;
+    let mut trees = Trees::new(rt.alloc())?;
+    let mut plain = PlainRows::new(rt.alloc());
+    let access = Access::try_new(7, 4, 255, 0, three, five)?;
+    assert!(rt; keeps_access(&mut trees, access));
+    assert!(rt; keeps_access(&mut plain, access));
+    let facility = Facility::try_new(7, 2, 1, 0, 9, five)?;
+    assert!(rt; keeps_facility(&mut trees, facility));
+    assert!(rt; keeps_facility(&mut plain, facility));
+    let forwarding = Forwarding::try_new(7, 2, 8, 16, number)?;
+    assert!(rt; keeps_forwarding(&mut trees, forwarding));
+    assert!(rt; keeps_forwarding(&mut plain, forwarding));
+    let mut few = Few { trees, room: 0 };
+    assert!(rt; few.insert_a(access.key(), access).is_ok());
+    assert!(rt; few.insert_f(facility.key(), facility).is_ok());
+    assert!(rt; few.insert_c(forwarding.key(), forwarding).is_ok());
+    Ok(())
+}
+
+// The walk that counts anew, row by row: a forwarding counts in the cell of its start time while its facility is active.
+#[test]
+fn counted_rows(rt: HostRuntime) -> Result<(), Fail> {
+    let five = Letters::from_bytes(b"VWXYZ")?;
+    let forwarding = Forwarding::try_new(7, 2, 8, 16, Number::try_new(7)?)?;
+    let mut facilities = SubTree::new(rt.alloc())?;
+    let none = with_forwarding(Cells::zero(), &forwarding, 4, &facilities);
+    assert_eq!(rt; (none.get(1), none.get(20)), (0, 1));
+    let facility = Facility::try_new(7, 2, 1, 0, 9, five)?;
+    assert!(rt; facilities.insert(facility.key(), facility).is_ok());
+    let active = with_forwarding(none, &forwarding, 4, &facilities);
+    assert_eq!(rt; (active.get(1), active.get(20)), (1, 2));
+    let idle = facility.with_is_active(false);
+    assert_eq!(rt; facilities.replace(facility.key(), idle), Ok(facility));
+    let idle = with_forwarding(active, &forwarding, 4, &facilities);
+    assert_eq!(rt; (idle.get(0), idle.get(1), idle.get(20)), (0, 1, 3));
+    let access = Access::try_new(7, 4, 255, 0, Letters::from_bytes(b"ABC")?, five)?;
+    let more = with_facility(with_access(idle, &access, 4), &facility, 4);
+    assert_eq!(rt; (more.get(0), more.get(1), more.get(20)), (0, 1, 5));
+    Ok(())
 }
 
 #[test]

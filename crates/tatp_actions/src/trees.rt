@@ -1,16 +1,20 @@
 //! The rows of a part in trees.
-ghost use Rattle.std.specs.Prelude.{◌≡◌, ℕ, ◌+◌, ◌-◌, ◌^◌, ◌<◌, ◌∷◌, [], List, min, Option, None, IsSome, IsNone, IsErrAnd, IfOk, IfErr, OnOk, OnErr, option_copied, option_map, ok_or, ⊤};
+ghost use Rattle.std.specs.Prelude.{◌≡◌, ℕ, ◌<◌, [], IfOk, IfErr, option_copied, ok_or, ⊤};
 ghost use Rattle.std.specs.Borrow.{sem, follows_so};
+ghost use Rattle.tatp_actions.specs.Tables.{once_more};
 
 use crate::rows::Rows;
 use mr_subtree::SubTree;
 use std::alloc::Global;
-use tatp_rows::{Back, Refusal, Subscriber};
+use tatp_rows::{Access, Back, Facility, Forwarding, Refusal, Subscriber};
 
-/// The rows of a part, each kind in a tree of its own, and how often they were asked.
+/// The rows of a part, each of the four tables in a tree of its own, and how often they were asked.
 #[derive(Drop)]
 pub struct Trees {
     pub(crate) subscribers: SubTree<Subscriber>,
+    pub(crate) access: SubTree<Access>,
+    pub(crate) facilities: SubTree<Facility>,
+    pub(crate) forwardings: SubTree<Forwarding>,
     asked: u64,
 }
 
@@ -18,25 +22,35 @@ impl Trees {
     /// Rows with empty trees, never asked. An empty tree takes no memory, so this is always `Ok`.
     pub fn new(alloc: Global) -> Result<Self, Refusal>
         ensures subscribers { IfOk result (λ t. t.subscribers.rows ≡ []) }
+        ensures access { IfOk result (λ t. t.access.rows ≡ []) }
+        ensures facilities { IfOk result (λ t. t.facilities.rows ≡ []) }
+        ensures forwardings { IfOk result (λ t. t.forwardings.rows ≡ []) }
         ensures asked { IfOk result (λ t. t.asked ≡ 0) }
         ensures ok { IfErr result (λ _. ⊥) }
     {
         Ok(Trees {
             subscribers: SubTree::new(alloc)?,
+            access: SubTree::new(alloc)?,
+            facilities: SubTree::new(alloc)?,
+            forwardings: SubTree::new(alloc)?,
             asked: 0,
         })
     }
 
     fn ask(&mut self)
-        ensures subscribers { self.new.subscribers ≡ self.old.subscribers }
-        ensures asked { self.new.asked ≡ min (self.old.asked + 1) (2 ^ 64 - 1) }
+        ensures { self.new ≡ record self.old { asked = once_more self.old.asked } }
     {
         self.asked = self.asked.saturating_add(1);
     }
 }
 
 impl Rows for Trees {
-    ghost subscribers = { λ t. t.subscribers.rows };
+    ghost tables = { λ t. record {
+      subscribers = t.subscribers.rows;
+      access = t.access.rows;
+      facilities = t.facilities.rows;
+      forwardings = t.forwardings.rows;
+    } };
 
     ghost times_asked = { λ t. t.asked };
 
@@ -62,5 +76,65 @@ impl Rows for Trees {
     fn remove_s(&mut self, key: u64) -> Option<Subscriber> {
         self.ask();
         self.subscribers.remove(key)
+    }
+
+    fn get_a(&mut self, key: u64) -> Option<&Access> {
+        self.asked = self.asked.saturating_add(1);
+        self.access.get(key)
+    }
+
+    fn replace_a(&mut self, key: u64, value: Access) -> Result<Access, Access> {
+        self.ask();
+        self.access.replace(key, value)
+    }
+
+    fn insert_a(&mut self, key: u64, value: Access) -> Result<(), Back<Access>> {
+        self.ask();
+        self.access.insert(key, value)
+    }
+
+    fn remove_a(&mut self, key: u64) -> Option<Access> {
+        self.ask();
+        self.access.remove(key)
+    }
+
+    fn get_f(&mut self, key: u64) -> Option<&Facility> {
+        self.asked = self.asked.saturating_add(1);
+        self.facilities.get(key)
+    }
+
+    fn replace_f(&mut self, key: u64, value: Facility) -> Result<Facility, Facility> {
+        self.ask();
+        self.facilities.replace(key, value)
+    }
+
+    fn insert_f(&mut self, key: u64, value: Facility) -> Result<(), Back<Facility>> {
+        self.ask();
+        self.facilities.insert(key, value)
+    }
+
+    fn remove_f(&mut self, key: u64) -> Option<Facility> {
+        self.ask();
+        self.facilities.remove(key)
+    }
+
+    fn get_c(&mut self, key: u64) -> Option<&Forwarding> {
+        self.asked = self.asked.saturating_add(1);
+        self.forwardings.get(key)
+    }
+
+    fn replace_c(&mut self, key: u64, value: Forwarding) -> Result<Forwarding, Forwarding> {
+        self.ask();
+        self.forwardings.replace(key, value)
+    }
+
+    fn insert_c(&mut self, key: u64, value: Forwarding) -> Result<(), Back<Forwarding>> {
+        self.ask();
+        self.forwardings.insert(key, value)
+    }
+
+    fn remove_c(&mut self, key: u64) -> Option<Forwarding> {
+        self.ask();
+        self.forwardings.remove(key)
     }
 }

@@ -1,5 +1,5 @@
 use Rattle.std.proofs.Common.{refl, inl, inr, ◌<◌, ◌≤◌, ap}
-use Rattle.tatp_actions.specs.Part.{stored_book}
+use Rattle.tatp_actions.specs.Tables.{stored_book}
 use Rattle.tatp_actions.proofs.ActsLemmas.{acts_read, is_subscriber, refusal_acts, missing_row, present_row, asked_once}
 use Rattle.tatp_actions.proofs.part.Part.subscriber_data.Goals as goal
 

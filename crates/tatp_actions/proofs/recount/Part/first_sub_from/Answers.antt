@@ -3,7 +3,7 @@ use Rattle.std.specs.Prelude.{Some, None}
 use Rattle.tatp_rows.specs.Rows.{SubscriberRow}
 use Rattle.tatp_actions.specs.Book.{first_subscriber}
 use Rattle.tatp_actions.specs.Part.{PartState}
-use Rattle.tatp_actions.proofs.RecountLemmas.{first_answered, none_past}
+use Rattle.tatp_actions.proofs.FirstLemmas.{first_answered, none_past}
 use Rattle.tatp_actions.proofs.recount.Part.first_sub_from.Goals as goal
 
 pub returns-then-s_id-gt-LAST_SUBSCRIBER : goal.returns-then-s_id-gt-LAST_SUBSCRIBER
@@ -17,9 +17,9 @@ pub returns-in_err-row : goal.returns-in_err-row
 returns-in_err-row c =
     rw c.from_residual.ensures
     (subst (λ (is : PartState). None ≡ first_subscriber c.args.s_id is.book.subscribers) c.self.view_is
-    (first_answered c.args.s_id c.subscriber_key.result c.self.inside.rows.subscribers.rows None c.self.invariant.1 c.subscriber_key.ensures c.in_err-row.ensures))
+    (first_answered c.args.s_id c.subscriber_key.result c.self.inside.rows.subscribers.rows None c.self.invariant.1.subscribers c.subscriber_key.ensures c.in_err-row.ensures))
 
 pub returns : goal.returns
 returns c =
     subst (λ (is : PartState). Some c.in_ok-row.row.now ≡ first_subscriber c.args.s_id is.book.subscribers) c.self.view_is
-    (first_answered c.args.s_id c.subscriber_key.result c.self.inside.rows.subscribers.rows (Some (c.in_ok-row.field-0-0, c.in_ok-row.row.now)) c.self.invariant.1 c.subscriber_key.ensures c.in_ok-row.ensures)
+    (first_answered c.args.s_id c.subscriber_key.result c.self.inside.rows.subscribers.rows (Some (c.in_ok-row.field-0-0, c.in_ok-row.row.now)) c.self.invariant.1.subscribers c.subscriber_key.ensures c.in_ok-row.ensures)

@@ -1,4 +1,4 @@
-use Rattle.std.proofs.Common.{◌≡◌, ◌∙◌, sym, ap, subst, length, arith}
+use Rattle.std.proofs.Common.{◌≡◌, ◌∙◌, refl, sym, ap, subst, length, arith, rules}
 use Rattle.std.specs.Prelude.{None, Some, IsNone}
 use Rattle.std.specs.List.{insert}
 use Rattle.tatp_rows.specs.Ordered.{IsOrderedBy, row_at, with_row}
@@ -7,11 +7,16 @@ use Rattle.tatp_actions.proofs.TableLemmas.{absent_past, absent_here, found_here
 use Rattle.tatp_actions.proofs.table.Table.insert.Goals as goal
 use Rattle.tatp_actions.proofs.table.Table.insert.Goals.{else-at-len-via-then-at-len+else-index-key, else-at-len-via-else-at-len, in-Ok, in-Err}
 
-pub returns-then-index-key-clause-free : goal.returns-then-index-key-clause-free
-returns-then-index-key-clause-free g c = λ free.
-    let len : length c.self.inside.entries.items ≡ length c.args.self.now = ap length c.self.view_is in
-    let found = found_here (λ pair. pair.0) c.args.key c.place_of-at.result c.args.self.now c.index.result.now c.place_of-at.ensures.ordered c.place_of-at.ensures.place (omega arith) (rw c.self.view_is at c.index.ensures) c.if-index-key.true in
-    absurd (let no : IsNone (Some c.index.result.now) = subst IsNone found free in cc)
+pub returns-then-index-key : goal.returns-then-index-key
+returns-then-index-key g c = (
+  refl,
+  refl,
+  λ some. refl,
+  λ free.
+      let len : length c.self.inside.entries.items ≡ length c.args.self.now = ap length c.self.view_is in
+      let found = found_here (λ pair. pair.0) c.args.key c.place_of-at.result c.args.self.now c.index.result.now c.place_of-at.ensures.ordered c.place_of-at.ensures.place (omega arith) (rw c.self.view_is at c.index.ensures) c.if-index-key.true in
+      absurd (let no : Some c.index.result.now ≡ None = sym found ∙ free in cc),
+)
 
 -- the key has no entry, where the call puts one in
 absent : (g : _) (c : goal.Joined-insert g) → row_at (λ pair. pair.0) c.args.key c.args.self.now ≡ None
@@ -35,11 +40,8 @@ invariant_of-self g c = elim c.match-insert.branch [
   | in-Err w ↦ subst (λ pairs. IsOrderedBy (λ pair. pair.0) pairs) (sym w.in-Err.ensures.items) c.self.invariant
 ]
 
-pub returns-clause-taken : goal.returns-clause-taken
-returns-clause-taken g c = λ taken. absurd (let e = absent g c in let some = rw e at taken in cc)
-
-pub returns-clause-ok : goal.returns-clause-ok
-returns-clause-ok g c = elim c.match-insert.branch [
-  | in-Ok w ↦ rw w.result-is (w.in-Ok.ensures.items ∙ inserts g c)
-  | in-Err w ↦ rw w.result-is tt
+pub returns : goal.returns
+returns g c = elim c.match-insert.branch [
+  | in-Ok w ↦ rw w.result-is (absent g c, w.in-Ok.ensures.items ∙ inserts g c)
+  | in-Err w ↦ rw w.result-is (search rules, w.in-Err.ensures.items ∙ c.self.view_is, (λ taken. absurd (let e = absent g c in let some = rw e at taken in cc)), λ free. refl)
 ]

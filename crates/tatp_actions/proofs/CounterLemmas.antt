@@ -1,0 +1,187 @@
+-- How a walk over rows counts them in a cell.
+use Rattle.std.proofs.Common.{◌≡◌, ◌≢◌, refl, sym, ◌∙◌, ap, subst, ℕ, ◌+◌, ◌-◌, ◌*◌, ◌/◌, ◌<◌, ◌≤◌, ◌==◌, ◌&&◌, arith, true, false, Bool, List, [], ◌∷◌, length, get_or, nat_lt, Bor, if◌then◌else◌}
+use Rattle.std.specs.Prelude.{◌⊎◌, ⊤}
+use Rattle.std.specs.List.{sum_by}
+use Rattle.std.proofs.lemmas.List.{get_or-set_same, get_or-set_other, length-set}
+use Rattle.std.proofs.lemmas.List.Sums.{sum_by-cons}
+use Rattle.std.proofs.lemmas.Bool.Decides.{nat_tests}
+use Rattle.mr_node.specs.Folds.{FoldsRows}
+use Rattle.tatp_rows.specs.Rows.{SubscriberRow, CallForwardingRow, forwarding_in_range}
+use Rattle.tatp_rows.specs.Zones.{zone_of, area_of}
+use Rattle.tatp_rows.proofs.OrderedLemmas.{by_test}
+use Rattle.tatp_rows.proofs.RowLemmas.{forwarding_ranges}
+use Rattle.tatp_actions.specs.Recount.{one_more_in, with_row_of, with_subscriber, with_forwarding}
+
+-- what a row of a subscriber counts in a cell by its zone
+abbrev pub zone_in : ℕ → ℕ → ℕ → ℕ
+zone_in width c s_id = if nat_lt c 19 then 0 else (if zone_of width s_id == c - 19 then 1 else 0)
+
+-- what a Subscriber row counts in a cell
+abbrev pub subscriber_in : ℕ → ℕ → SubscriberRow → ℕ
+subscriber_in width c row =
+    if nat_lt c 3 then 0
+    else (if nat_lt c 19 then (if area_of row.vlr_location == c - 3 then 1 else 0) else zone_in width c row.s_id)
+
+-- what a Call_Forwarding row counts in a cell
+abbrev pub forwarding_in : ℕ → ℕ → Bool → CallForwardingRow → ℕ
+forwarding_in width c active row = if nat_lt c 3 then (if row.start_time == 8 * c && active then 1 else 0) else zone_in width c row.s_id
+
+-- one more in a cell keeps how many cells there are, and counts in that cell alone
+pub one_more-length : (i : ℕ) (counts : List ℕ) → length (one_more_in i counts) ≡ length counts
+one_more-length i counts = by_test (nat_lt (get_or counts i 0) 18446744073709551615)
+    (λ e. rw e (length-set counts i (get_or counts i 0 + 1)))
+    (λ e. rw e refl)
+
+pub one_more-at : (i c : ℕ) (counts : List ℕ) → c < length counts → get_or counts c 0 < 18446744073709551615 → get_or (one_more_in i counts) c 0 ≡ get_or counts c 0 + (if c == i then 1 else 0)
+one_more-at i c counts within room = by_test (c == i)
+    (λ e. let same : c ≡ i = grind (arith, nat_tests) in
+    let room' = subst (λ k. get_or counts k 0 < 18446744073709551615) same room in
+    let f : nat_lt (get_or counts i 0) 18446744073709551615 ≡ true = grind (arith, nat_tests) in
+    rw (e, f, same) (get_or-set_same counts i (get_or counts i 0 + 1) 0 (omega arith)))
+    (λ e. let other : c ≢ i = grind (arith, nat_tests) in
+    by_test (nat_lt (get_or counts i 0) 18446744073709551615)
+    (λ f. rw (e, f) (let same = get_or-set_other counts i c (get_or counts i 0 + 1) 0 other in omega arith))
+    (λ f. rw (e, f) (omega arith)))
+
+-- a test counts at most one
+tick-le : (test : Bool) → (if test then 1 else 0) ≤ 1
+tick-le true = omega arith
+tick-le false = omega arith
+
+plus_zero : (n : ℕ) → n ≡ n + 0
+plus_zero n = omega arith
+
+-- a way to count rows: it keeps how many cells there are, and counts a row's amount, at most one, in a cell
+pub record IsCounter {X : Type 0} (c : ℕ) (Good : X → Type 0) (amount : X → ℕ) (more : X → List ℕ → List ℕ) : Type 0 where
+  pub keeps : (row : X) (counts : List ℕ) → length (more row counts) ≡ length counts
+  pub counts_in : (row : X) (counts : List ℕ) → Good row → c < length counts → get_or counts c 0 + 2 < 18446744073709551616 → get_or (more row counts) c 0 ≡ get_or counts c 0 + amount row
+  pub little : (row : X) → amount row ≤ 1
+
+-- what a walk over pairs has counted: each of them once
+pub record IsCounted {X : Type 0} (c : ℕ) (amount : X → ℕ) (before : List ℕ) (pairs : List (ℕ × X)) (after : List ℕ) : Type 0 where
+  pub keeps : length after ≡ length before
+  pub counts_in : get_or after c 0 ≡ get_or before c 0 + sum_by (λ (pair : ℕ × X). amount pair.1) pairs
+  pub little : sum_by (λ (pair : ℕ × X). amount pair.1) pairs ≤ length pairs
+
+pub counted_by_fold : {X : Type 0} (c : ℕ) (Good : X → Type 0) (amount : X → ℕ) (more : X → List ℕ → List ℕ) → IsCounter c Good amount more
+    → (step : List ℕ → ℕ → Bor X → List ℕ → Type 0)
+    → ((a : List ℕ) (key : ℕ) (row : Bor X) (b : List ℕ) → step a key row b → Good row.now × (b ≡ more row.now a))
+    → (a : List ℕ) (pairs : List (ℕ × X)) (b : List ℕ) → FoldsRows step a pairs b → c < length a → get_or a c 0 + length pairs + 1 < 18446744073709551616
+    → IsCounted c amount a pairs b
+counted_by_fold c Good amount more counter step each a [] b folds within room = record {
+  keeps = sym (ap length folds);
+  counts_in = ap (λ (counts : List ℕ). get_or counts c 0) (sym folds) ∙ plus_zero (get_or a c 0);
+  little = omega arith;
+}
+counted_by_fold {X} c Good amount more counter step each a (pair ∷ pairs) b folds within room =
+    let next = folds.0 in
+    let here = each a pair.0 folds.1 next folds.3 in
+    let row = counter.counts_in folds.1.now a here.0 within (omega arith) in
+    let at : get_or next c 0 ≡ get_or a c 0 + amount pair.1 =
+    ap (λ (counts : List ℕ). get_or counts c 0) here.1 ∙ row ∙ ap (λ (r : X). get_or a c 0 + amount r) folds.2 in
+    let len : length next ≡ length a = ap length here.1 ∙ counter.keeps folds.1.now a in
+    let le = counter.little pair.1 in
+    let rest = counted_by_fold c Good amount more counter step each next pairs b folds.4 (omega arith) (omega arith) in
+    let sum = sum_by-cons (λ (p : ℕ × X). amount p.1) pair pairs in
+    record { keeps = rest.keeps ∙ len; counts_in = rw sum (let more_in = rest.counts_in in omega arith); little = rw sum (let few = rest.little in omega arith) }
+
+-- a row of a subscriber
+row_of-length : (width s_id : ℕ) (counts : List ℕ) → length (with_row_of width s_id counts) ≡ length counts
+row_of-length width s_id counts = one_more-length (19 + zone_of width s_id) counts
+
+in_zone_cell : (z c : ℕ) → ◌≡◌ {A = ℕ} (if c == 19 + z then 1 else 0) (if nat_lt c 19 then 0 else (if z == c - 19 then 1 else 0))
+in_zone_cell z c = grind (arith, nat_tests)
+
+row_of-at : (width s_id c : ℕ) (counts : List ℕ) → c < length counts → get_or counts c 0 + 1 < 18446744073709551616
+    → get_or (with_row_of width s_id counts) c 0 ≡ get_or counts c 0 + zone_in width c s_id
+row_of-at width s_id c counts within room = one_more-at (19 + zone_of width s_id) c counts within (omega arith) ∙ ap (λ n. get_or counts c 0 + n) (in_zone_cell (zone_of width s_id) c)
+
+zone_in-le : (width c s_id : ℕ) → zone_in width c s_id ≤ 1
+zone_in-le width c s_id = by_test (nat_lt c 19) (λ e. rw e (omega arith)) (λ e. rw e (tick-le (zone_of width s_id == c - 19)))
+
+pub row_counter : {X : Type 0} (width c : ℕ) (owner : X → ℕ) → IsCounter {X = X} c (λ row. ⊤) (λ row. zone_in width c (owner row)) (λ row counts. with_row_of width (owner row) counts)
+row_counter width c owner = record {
+  keeps = λ row counts. row_of-length width (owner row) counts;
+  counts_in = λ row counts good within room. row_of-at width (owner row) c counts within (omega arith);
+  little = λ row. zone_in-le width c (owner row);
+}
+
+-- a Subscriber row
+in_area_cell : (a c n : ℕ) → a < 16 → (if c == 3 + a then 1 else 0) + (if nat_lt c 19 then 0 else n) ≡ (if nat_lt c 3 then 0 else (if nat_lt c 19 then (if a == c - 3 then 1 else 0) else n))
+in_area_cell a c n small = grind (arith, nat_tests)
+
+in_area_cell-twice : (a c n : ℕ) → a < 16 → (if c == 3 + a then 1 else 0) + (if nat_lt c 19 then 0 else n) ≡ (if nat_lt c 3 then 0 else (if nat_lt c 19 then (if a == c - 3 then 1 else 0) else (if nat_lt c 19 then 0 else n)))
+in_area_cell-twice a c n small = by_test (nat_lt c 19)
+    (λ e. let same = in_area_cell a c n small in simp e (rw e at same))
+    (λ e. let same = in_area_cell a c n small in simp e (rw e at same))
+
+subscriber-at : (width c : ℕ) (row : SubscriberRow) (counts : List ℕ) → area_of row.vlr_location < 16 → c < length counts → get_or counts c 0 + 2 < 18446744073709551616
+    → get_or (with_subscriber width row counts) c 0 ≡ get_or counts c 0 + subscriber_in width c row
+subscriber-at width c row counts small within room =
+    let a = area_of row.vlr_location in
+    let n : ℕ = if zone_of width row.s_id == c - 19 then 1 else 0 in
+    let first = one_more-at (3 + a) c counts within (omega arith) in
+    let len = one_more-length (3 + a) counts in
+    let tick = tick-le (c == 3 + a) in
+    let second = row_of-at width row.s_id c (one_more_in (3 + a) counts) (omega arith) (omega arith) in
+    let both = in_area_cell-twice a c n small in
+    omega arith
+
+subscriber_in-le : (width c : ℕ) (row : SubscriberRow) → subscriber_in width c row ≤ 1
+subscriber_in-le width c row = by_test (nat_lt c 3)
+    (λ e. rw e (omega arith))
+    (λ e. by_test (nat_lt c 19) (λ f. rw (e, f) (tick-le (area_of row.vlr_location == c - 3))) (λ f. rw (e, f) (let le = zone_in-le width c row.s_id in rw f at le)))
+
+pub subscriber_counter : (width c : ℕ) → IsCounter c (λ (row : SubscriberRow). area_of row.vlr_location < 16) (subscriber_in width c) (with_subscriber width)
+subscriber_counter width c = record {
+  keeps = λ row counts. row_of-length width row.s_id (one_more_in (3 + area_of row.vlr_location) counts) ∙ one_more-length (3 + area_of row.vlr_location) counts;
+  counts_in = λ row counts small within room. subscriber-at width c row counts small within room;
+  little = λ row. subscriber_in-le width c row;
+}
+
+-- a Call_Forwarding row
+start_slot : (n : ℕ) → (n ≡ 0) ⊎ ((n ≡ 8) ⊎ (n ≡ 16)) → (n ≡ 8 * (n / 8)) × (n / 8 < 3)
+start_slot n is = (omega arith, omega arith)
+
+in_start_cell : (start q c n : ℕ) → start ≡ 8 * q → q < 3 → (if c == q then 1 else 0) + (if nat_lt c 19 then 0 else n) ≡ (if nat_lt c 3 then (if start == 8 * c then 1 else 0) else (if nat_lt c 19 then 0 else n))
+in_start_cell start q c n is small = grind (arith, nat_tests)
+
+and-true : (b : Bool) → (b && true) ≡ b
+and-true true = refl
+and-true false = refl
+
+no_start_cell : (t : Bool) (c n : ℕ) → (if nat_lt c 19 then 0 else n) ≡ (if nat_lt c 3 then (if t && false then 1 else 0) else (if nat_lt c 19 then 0 else n))
+no_start_cell true c n = grind (arith, nat_tests)
+no_start_cell false c n = grind (arith, nat_tests)
+
+forwarding-at : (width c : ℕ) (active : Bool) (row : CallForwardingRow) (counts : List ℕ) → forwarding_in_range row ≡ true → c < length counts → get_or counts c 0 + 2 < 18446744073709551616
+    → get_or (with_forwarding width active row counts) c 0 ≡ get_or counts c 0 + forwarding_in width c active row
+forwarding-at width c true row counts holds within room =
+    let q = row.start_time / 8 in
+    let n : ℕ = if zone_of width row.s_id == c - 19 then 1 else 0 in
+    let slot = start_slot row.start_time (forwarding_ranges row holds).start_time_is in
+    let first = one_more-at q c counts within (omega arith) in
+    let len = one_more-length q counts in
+    let tick = tick-le (c == q) in
+    let second = row_of-at width row.s_id c (one_more_in q counts) (omega arith) (omega arith) in
+    let both = in_start_cell row.start_time q c n slot.0 slot.1 in
+    rw (and-true (row.start_time == 8 * c)) (omega arith)
+forwarding-at width c false row counts holds within room =
+    row_of-at width row.s_id c counts within (omega arith)
+    ∙ ap (λ n. get_or counts c 0 + n) (no_start_cell (row.start_time == 8 * c) c (if zone_of width row.s_id == c - 19 then 1 else 0))
+
+forwarding_in-le : (width c : ℕ) (active : Bool) (row : CallForwardingRow) → forwarding_in width c active row ≤ 1
+forwarding_in-le width c active row = by_test (nat_lt c 3)
+    (λ e. rw e (tick-le (row.start_time == 8 * c && active)))
+    (λ e. rw e (zone_in-le width c row.s_id))
+
+forwarding-length : (width : ℕ) (active : Bool) (row : CallForwardingRow) (counts : List ℕ) → length (with_forwarding width active row counts) ≡ length counts
+forwarding-length width true row counts = row_of-length width row.s_id (one_more_in (row.start_time / 8) counts) ∙ one_more-length (row.start_time / 8) counts
+forwarding-length width false row counts = row_of-length width row.s_id counts
+
+pub forwarding_counter : (width c : ℕ) (active : CallForwardingRow → Bool) → IsCounter c (λ (row : CallForwardingRow). forwarding_in_range row ≡ true) (λ row. forwarding_in width c (active row) row) (λ row. with_forwarding width (active row) row)
+forwarding_counter width c active = record {
+  keeps = λ row counts. forwarding-length width (active row) row counts;
+  counts_in = λ row counts holds within room. forwarding-at width c (active row) row counts holds within room;
+  little = λ row. forwarding_in-le width c (active row) row;
+}
