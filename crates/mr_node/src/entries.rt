@@ -1,5 +1,5 @@
 //! The entries of a leaf.
-ghost use Rattle.std.specs.Prelude.{◌≡◌, ◌<◌, ◌≤◌, ◌==◌, ◌+◌, ◌-◌, ℕ, [], ◌∷◌, None, IfSome, length, option_map, ok_or, nat_le, nat_lt, slice_index_or, slice_set};
+ghost use Rattle.std.specs.Prelude.{◌≡◌, ◌<◌, ◌≤◌, ◌==◌, ◌+◌, ◌-◌, ℕ, [], ◌∷◌, None, IfSome, length, option_map, ok_or, nat_le, nat_lt, slice_index_or, slice_set, Ok, Err, if◌then◌else◌};
 ghost use Rattle.std.specs.List.{find};
 ghost use Rattle.tatp_rows.specs.Ordered.{row_at, with_row_at, without_row};
 ghost use Rattle.mr_node.specs.Rows.{key_limit, key_of_pair, value_at, somes, StartsWith};
@@ -128,52 +128,52 @@ pub(crate) fn find_entry<V>(entries: &ArrayVec<Option<(u64, V)>, 32>, key: u64) 
     value_in(&entries.as_slice()[place])
 }
 
-// Replaces the value of an entry that has the key.
-fn swap_value<V: Drop>(entry: &mut Option<(u64, V)>, key: u64, value: V) -> Result<V, V>
-    ensures entry { entry.new ≡ replaced key value entry.old }
-    ensures value { result ≡ handed_back key value entry.old }
+// Swaps the value of an entry that has the key with another one: false where it has another key.
+fn swap_value<V: Drop>(entry: &mut Option<(u64, V)>, key: u64, value: &mut V) -> bool
+    ensures entry { entry.new ≡ replaced key value.old entry.old }
+    ensures value { (if result then Ok value.new else Err value.new) ≡ handed_back key value.old entry.old }
 {
     match entry {
         Some(pair) => {
-            if pair.0 == key {
-                Ok(mem::replace(&mut pair.1, value))
-            } else {
-                Err(value)
+            if pair.0 != key {
+                return false;
             }
+            mem::swap(&mut pair.1, value);
+            true
         }
-        None => Err(value),
+        None => false,
     }
 }
 
-// Replaces the value of the entry at a place, where it has the key.
+// Swaps the value of the entry at a place, where it has the key.
 fn write_entry<V: Drop>(
     entries: &mut ArrayVec<Option<(u64, V)>, 32>,
     place: usize,
     key: u64,
-    value: V,
-) -> Result<V, V>
+    value: &mut V,
+) -> bool
     requires { place < length entries.old.items }
-    ensures items { entries.new.items ≡ slice_set entries.old.items place (replaced key value (slice_index_or entries.old.items place None)) }
-    ensures value { result ≡ handed_back key value (slice_index_or entries.old.items place None) }
+    ensures items { entries.new.items ≡ slice_set entries.old.items place (replaced key value.old (slice_index_or entries.old.items place None)) }
+    ensures value { (if result then Ok value.new else Err value.new) ≡ handed_back key value.old (slice_index_or entries.old.items place None) }
 {
     swap_value(&mut entries.as_mut_slice()[place], key, value)
 }
 
-// Replaces the value at a key of a leaf.
+// Swaps the value at a key of a leaf: false where the key isn't there.
 pub(crate) fn replace_entry<V: Drop>(
     entries: &mut ArrayVec<Option<(u64, V)>, 32>,
     key: u64,
-    value: V,
-) -> Result<V, V>
+    value: &mut V,
+) -> bool
     requires { IsLeaf entries.old.items }
-    ensures rows { somes entries.new.items ≡ with_row_at key_of_pair key (key, value) (somes entries.old.items) }
+    ensures rows { somes entries.new.items ≡ with_row_at key_of_pair key (key, value.old) (somes entries.old.items) }
     ensures len { length entries.new.items ≡ length entries.old.items }
     ensures leaf { IsLeaf entries.new.items }
-    ensures value { result ≡ ok_or (value_at key (somes entries.old.items)) value }
+    ensures value { (if result then Ok value.new else Err value.new) ≡ ok_or (value_at key (somes entries.old.items)) value.old }
 {
     let place = place_in(entries, key);
     if !has_entry(entries, place, key) {
-        return Err(value);
+        return false;
     }
     write_entry(entries, place, key, value)
 }

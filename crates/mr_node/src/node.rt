@@ -1,5 +1,5 @@
 //! Nodes.
-ghost use Rattle.std.specs.Prelude.{◌≡◌, ◌+◌, ◌*◌, ◌<◌, ◌≤◌, ℕ, None, min, [], ◌++◌, length, nat_le, option_map, ok_or};
+ghost use Rattle.std.specs.Prelude.{◌≡◌, ◌+◌, ◌*◌, ◌<◌, ◌≤◌, ℕ, None, min, [], ◌++◌, length, nat_le, option_map, ok_or, Ok, Err, if◌then◌else◌};
 ghost use Rattle.std.specs.List.{find};
 ghost use Rattle.tatp_rows.specs.Ordered.{IsOrderedBy, row_at, with_row_at};
 ghost use Rattle.mr_node.specs.Rows.{key_limit, key_of_pair, value_at, StartsWith};
@@ -177,10 +177,22 @@ impl<V> Node<V> {
 
 impl<V: Drop> Node<V> {
     /// Replaces the value at a key in place, and gives the old one. `Err` with the new one where the key isn't there.
-    pub fn replace(&mut self, key: u64, value: V) -> Result<V, V>
+    pub fn replace(&mut self, key: u64, mut value: V) -> Result<V, V>
         ensures rows { self.new ≡ record self.old { rows = with_row_at key_of_pair key (key, value) self.old.rows } }
         ensures well { IsWell self.new }
         ensures value { result ≡ ok_or (value_at key self.old.rows) value }
+    {
+        if self.swap_at(key, &mut value) {
+            return Ok(value);
+        }
+        Err(value)
+    }
+
+    // Swaps the value at a key with another one in place: false where the key isn't there. The value moves but once.
+    fn swap_at(&mut self, key: u64, value: &mut V) -> bool
+        ensures rows { self.new ≡ record self.old { rows = with_row_at key_of_pair key (key, value.old) self.old.rows } }
+        ensures well { IsWell self.new }
+        ensures value { (if result then Ok value.new else Err value.new) ≡ ok_or (value_at key self.old.rows) value.old }
     {
         match &mut self.body {
             Body::Leaf(entries) => replace_entry(entries, key, value),
@@ -189,7 +201,7 @@ impl<V: Drop> Node<V> {
                 match &mut branch.kids[at] {
                     Some(kid) => {
                         let node = &mut *kid.node;
-                        node.replace(key, value)
+                        node.swap_at(key, value)
                     }
                     None => unreachable!(),
                 }

@@ -170,11 +170,11 @@ fn twenty_thousand_changes(rt: HostRuntime) -> Result<(), Fail> {
 }
 
 // With each allocation refused in turn (`rt try --test --fail-alloc N`): the tree is as before, and the same call with
-// memory is right.
+// memory is right. The rows split leaves under a root, and a root grows from height 0 to 1 and from 1 to 2.
 #[test]
 fn memory_refused(rt: HostRuntime) -> Result<(), Fail> {
     let mut tree = SubTree::new(rt.alloc())?;
-    for key in 0..1100u64 {
+    for key in 0..560u64 {
         if let Err(back) = tree.insert(key, key) {
             assert_eq!(rt; back.why, Refusal::Memory);
             assert_eq!(rt; back.item, key);
@@ -183,10 +183,11 @@ fn memory_refused(rt: HostRuntime) -> Result<(), Fail> {
             tree.insert(key, key)?;
         }
     }
-    assert_eq!(rt; tree.len(), 1100);
+    assert_eq!(rt; tree.height(), 2);
+    assert_eq!(rt; tree.len(), 560);
     assert_eq!(rt;
         tree.fold(0u64, &|sum, _key, value| sum.wrapping_add(*value)),
-        604450
+        156520
     );
     Ok(())
 }
