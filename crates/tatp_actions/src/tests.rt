@@ -224,15 +224,15 @@ fn other_tables(rt: HostRuntime) -> Result<(), Fail> {
     let three = Letters::from_bytes(b"ABC")?;
     let five = Letters::from_bytes(b"VWXYZ")?;
     let number = Number::try_new(7)?;
+    let access = Access::try_new(7, 4, 255, 0, three, five)?;
+    let facility = Facility::try_new(7, 2, 1, 0, 9, five)?;
+    let forwarding = Forwarding::try_new(7, 2, 8, 16, number)?;
     let mut trees = Trees::new(rt.alloc())?;
     let mut plain = PlainRows::new(rt.alloc());
-    let access = Access::try_new(7, 4, 255, 0, three, five)?;
     assert!(rt; keeps_access(&mut trees, access));
     assert!(rt; keeps_access(&mut plain, access));
-    let facility = Facility::try_new(7, 2, 1, 0, 9, five)?;
     assert!(rt; keeps_facility(&mut trees, facility));
     assert!(rt; keeps_facility(&mut plain, facility));
-    let forwarding = Forwarding::try_new(7, 2, 8, 16, number)?;
     assert!(rt; keeps_forwarding(&mut trees, forwarding));
     assert!(rt; keeps_forwarding(&mut plain, forwarding));
     let mut few = Few { trees, room: 0 };
@@ -278,12 +278,12 @@ fn empty_part(rt: HostRuntime) -> Result<(), Fail> {
 
 #[test]
 fn actions(rt: HostRuntime) -> Result<(), Fail> {
-    let mut part = Part::new(rt.alloc(), 1, 16_777_217, 524_288)
-        .ok()
-        .ok_or("memory")?;
     let first = row(1, 5)?;
     let second = row(2, 268_435_456)?;
     let last = row(16_777_216, 4_294_967_295)?;
+    let mut part = Part::new(rt.alloc(), 1, 16_777_217, 524_288)
+        .ok()
+        .ok_or("memory")?;
     let absent = RowReply::Refused(Refusal::NoSubscriber);
     assert!(rt; answers(&mut part, Action::SubscriberData { s_id: 1 }, absent, &[]));
     let add = Action::AddSubscriber(first);
@@ -301,10 +301,10 @@ fn actions(rt: HostRuntime) -> Result<(), Fail> {
 
 #[test]
 fn locations(rt: HostRuntime) -> Result<(), Fail> {
+    let first = row(1, 5)?;
     let mut part = Part::new(rt.alloc(), 1, 16_777_217, 524_288)
         .ok()
         .ok_or("memory")?;
-    let first = row(1, 5)?;
     assert!(rt; adds(&mut part, first));
     let to_last = Action::UpdateLocation {
         s_id: 1,
@@ -342,12 +342,12 @@ fn locations(rt: HostRuntime) -> Result<(), Fail> {
 
 #[test]
 fn counts(rt: HostRuntime) -> Result<(), Fail> {
-    let mut part = Part::new(rt.alloc(), 1, 16_777_217, 524_288)
-        .ok()
-        .ok_or("memory")?;
     let first = row(1, 5)?;
     let second = row(2, 268_435_456)?;
     let last = row(16_777_216, 4_294_967_295)?;
+    let mut part = Part::new(rt.alloc(), 1, 16_777_217, 524_288)
+        .ok()
+        .ok_or("memory")?;
     assert!(rt; adds(&mut part, last));
     assert!(rt; adds(&mut part, first));
     assert!(rt; adds(&mut part, second));
@@ -380,12 +380,14 @@ fn counts(rt: HostRuntime) -> Result<(), Fail> {
 
 #[test]
 fn refused_growths(rt: HostRuntime) -> Result<(), Fail> {
+    let (ten, twenty, thirty) = (row(10, 1)?, row(20, 1)?, row(30, 1)?);
+    let (forty, five) = (row(40, 1)?, row(5, 1)?);
     let mut part = Part::new(rt.alloc(), 1, 100, 8).ok().ok_or("memory")?;
-    assert!(rt; adds(&mut part, row(10, 1)?));
-    assert!(rt; adds(&mut part, row(20, 1)?));
-    assert!(rt; adds(&mut part, row(30, 1)?));
-    assert!(rt; adds(&mut part, row(40, 1)?));
-    assert!(rt; adds(&mut part, row(5, 1)?));
+    assert!(rt; adds(&mut part, ten));
+    assert!(rt; adds(&mut part, twenty));
+    assert!(rt; adds(&mut part, thirty));
+    assert!(rt; adds(&mut part, forty));
+    assert!(rt; adds(&mut part, five));
     let cells = part.recount();
     for (cell, want) in [(3, 5), (19, 1), (20, 1), (21, 1), (22, 1), (23, 1), (24, 0)] {
         assert_eq!(rt; cells.get(cell), want, "at {cell}");
