@@ -5,6 +5,7 @@ use Rattle.std.specs.Int.RustNames.{unsigned_abs}
 use Rattle.std.proofs.lemmas.List.{length-replicate, get_or-replicate, get_or_past, length-set, get_or-set_same, get_or-set_other}
 use Rattle.std.proofs.lemmas.Bool.{cases_lt, cases_eq}
 use Rattle.std.proofs.lemmas.Bool.Decides.{nat_tests}
+use Rattle.hlr_core.specs.declared.board.TheConstants.{WORDS}
 use Rattle.hlr_core.specs.Post.{is_worn}
 use Rattle.hlr_core.specs.Words.{raised, raised_word, blank_words}
 use Rattle.hlr_core.specs.Board.{IsBoard}
@@ -13,7 +14,7 @@ use Rattle.hlr_core.specs.Board.{IsBoard}
 pub zero_word : (n w : ℕ) → get_or (replicate {A = ℕ} n 0) w 0 ≡ 0
 zero_word n w = elim (cases_lt w n) [ inl below ↦ get_or-replicate n w 0 0 below | inr past ↦ get_or_past (replicate n 0) w 0 (rw length-replicate past) ]
 
-pub zero_board : (n : ℕ) → n ≡ 1632 → IsBoard (replicate n 0)
+pub zero_board : (n : ℕ) → n ≡ WORDS → IsBoard (replicate n 0)
 zero_board n is = record { wide = length-replicate n 0 ∙ is; small = λ w. let zero : get_or (replicate n 0) w 0 ≡ 0 = zero_word n w in omega arith }
 
 -- a word at most the limit in place of another
@@ -35,6 +36,6 @@ raised_board words slot c amount board fits =
     word_raised words (raised_word slot c amount) (get_or words (raised_word slot c amount) 0 + unsigned_abs amount) board (grind (arith, nat_tests))
 
 -- blank words are zeros
-pub blank_is : replicate {A = ℕ} 1632 0 ≡ blank_words
+pub blank_is : replicate {A = ℕ} WORDS 0 ≡ blank_words
 unfolding blank_words
 blank_is = refl

@@ -4,6 +4,7 @@ use Rattle.std.specs.Prelude.{ℤ, pos, neg_ℤ, ◌+ℤ◌, ◌≤ℤ◌}
 use Rattle.std.specs.List.{AllByRecursion}
 use Rattle.std.proofs.lemmas.Int.{ints, to_z-of_z}
 use Rattle.std.proofs.lemmas.List.{length-set, get_or-set_same, get_or-set_other, take_more}
+use Rattle.tatp_actions.specs.declared.cells.TheConstants.{CELLS}
 use Rattle.hlr_core.specs.Held.{pending_at, AreSmall}
 use Rattle.std.proofs.lemmas.Bool.Decides.{nat_tests}
 use Rattle.tatp_actions.specs.Change.{change_at, IsNote}
@@ -21,13 +22,13 @@ note_at (note ∷ notes) (suc i) each within = note_at notes i each.1 (omega ari
 
 -- deltas after the first i notes: how far each has moved, and how far it can have
 pub record AreNoted (start deltas : List ℤ) (notes : List (ℕ × ℤ)) (i : ℕ) : Type 0 where
-  pub wide : length deltas ≡ 51
-  pub moved : (c : ℕ) → c < 51 → pending_at deltas c ≡ pending_at start c +ℤ change_at (take i notes) c
-  pub from : (c : ℕ) → c < 51 → neg_ℤ (pos (1152921504606846976 + 8 * i)) ≤ℤ pending_at deltas c
-  pub to : (c : ℕ) → c < 51 → pending_at deltas c ≤ℤ pos (1152921504606846976 + 8 * i)
+  pub wide : length deltas ≡ CELLS
+  pub moved : (c : ℕ) → c < CELLS → pending_at deltas c ≡ pending_at start c +ℤ change_at (take i notes) c
+  pub from : (c : ℕ) → c < CELLS → neg_ℤ (pos (1152921504606846976 + 8 * i)) ≤ℤ pending_at deltas c
+  pub to : (c : ℕ) → c < CELLS → pending_at deltas c ≤ℤ pos (1152921504606846976 + 8 * i)
 
 -- before the first note
-pub none_noted : (start : List ℤ) (notes : List (ℕ × ℤ)) → length start ≡ 51 → AreSmall start → AreNoted start start notes 0
+pub none_noted : (start : List ℤ) (notes : List (ℕ × ℤ)) → length start ≡ CELLS → AreSmall start → AreNoted start start notes 0
 none_noted start notes wide small = record {
   wide = wide;
   moved = λ c below. omega (arith, ints);
@@ -43,7 +44,7 @@ plain_sum a b fits_a fits_b fits = rw (to_z-of_z w64 a fits_a, to_z-of_z w64 b f
 pub note_fits : (start deltas : List ℤ) (notes : List (ℕ × ℤ)) (i cell : ℕ) (note : ℕ × ℤ) → AreNoted start deltas notes i → i < length notes → length notes ≤ 8 → IsNote note → cell ≡ note.0
     → FitsSigned w64 (pending_at deltas cell) × FitsSigned w64 note.1 × FitsSigned w64 (pending_at deltas cell +ℤ note.1)
 note_fits start deltas notes i cell note noted within few is at =
-    let below : cell < 51 = omega (arith, is.0) in
+    let below : cell < CELLS = omega (arith, is.0) in
     let from = noted.from cell below in
     let to = noted.to cell below in
     let least = is.1 in
@@ -61,7 +62,7 @@ one_noted start deltas notes i cell note value noted within which is at sum = re
 }
   where
     inside : cell < length deltas
-    inside = let below : cell < 51 = omega (arith, is.0) in omega (arith, noted.wide)
+    inside = let below : cell < CELLS = omega (arith, is.0) in omega (arith, noted.wide)
 
     there : (c : ℕ) → note.0 ≡ c → pending_at (set deltas cell value) c ≡ value
     there c same = let e : c ≡ cell = omega arith in rw e (get_or-set_same deltas cell value (pos 0) inside)
@@ -72,7 +73,7 @@ one_noted start deltas notes i cell note value noted within which is at sum = re
     more : (c : ℕ) → change_at (take (i + 1) notes) c ≡ change_at (take i notes) c +ℤ (if note.0 == c then note.1 else pos 0)
     more c = rw (take_more notes i (0, pos 0) within, change_at-more (take i notes) (get_or notes i (0, pos 0)) c, ← which) refl
 
-    here : (c : ℕ) → c < 51 → (b : Bool) → (note.0 == c) ≡ b → pending_at (set deltas cell value) c ≡ pending_at start c +ℤ change_at (take (i + 1) notes) c
+    here : (c : ℕ) → c < CELLS → (b : Bool) → (note.0 == c) ≡ b → pending_at (set deltas cell value) c ≡ pending_at start c +ℤ change_at (take (i + 1) notes) c
     here c below true e =
         let same : note.0 ≡ c = grind (arith, nat_tests) in
         let was : pending_at deltas c ≡ pending_at start c +ℤ change_at (take i notes) c = noted.moved c below in
@@ -83,7 +84,7 @@ one_noted start deltas notes i cell note value noted within which is at sum = re
         let was : pending_at deltas c ≡ pending_at start c +ℤ change_at (take i notes) c = noted.moved c below in
         rw (elsewhere c other, more c, e) (omega (arith, ints))
 
-    low : (c : ℕ) → c < 51 → (b : Bool) → (note.0 == c) ≡ b → neg_ℤ (pos (1152921504606846976 + 8 * (i + 1))) ≤ℤ pending_at (set deltas cell value) c
+    low : (c : ℕ) → c < CELLS → (b : Bool) → (note.0 == c) ≡ b → neg_ℤ (pos (1152921504606846976 + 8 * (i + 1))) ≤ℤ pending_at (set deltas cell value) c
     low c below true e =
         let same : note.0 ≡ c = grind (arith, nat_tests) in
         let was = noted.from cell (omega arith) in let least = is.1 in
@@ -93,7 +94,7 @@ one_noted start deltas notes i cell note value noted within which is at sum = re
         let was = noted.from c below in
         rw (elsewhere c other) (omega (arith, ints))
 
-    high : (c : ℕ) → c < 51 → (b : Bool) → (note.0 == c) ≡ b → pending_at (set deltas cell value) c ≤ℤ pos (1152921504606846976 + 8 * (i + 1))
+    high : (c : ℕ) → c < CELLS → (b : Bool) → (note.0 == c) ≡ b → pending_at (set deltas cell value) c ≤ℤ pos (1152921504606846976 + 8 * (i + 1))
     high c below true e =
         let same : note.0 ≡ c = grind (arith, nat_tests) in
         let was = noted.to cell (omega arith) in let most = is.2 in

@@ -9,6 +9,7 @@ use Rattle.tatp_actions.specs.Book.{empty_book, IsRowsOf}
 use Rattle.tatp_actions.specs.Cell.{cell, active_forwardings, in_area, in_zone}
 use Rattle.tatp_actions.specs.Part.{PartState, IsPart, IsWidth}
 use Rattle.tatp_actions.proofs.CountLemmas.{few_cells}
+use Rattle.tatp_actions.specs.declared.cells.TheConstants.{CELLS}
 use Rattle.hlr_core.specs.Board.{IsBoard}
 use Rattle.hlr_core.specs.Held.{HoldingState, pending_at, IsHeld, AreSmall, MovesWith, AreHeld}
 use Rattle.hlr_core.specs.Words.{slot_net, net, blank_words}
@@ -63,14 +64,14 @@ zero_delta n c = elim (cases_lt c n) [
 
 -- the holding at opening, over blank words
 pub opened_held : (width : ℕ) (holding : HoldingState) (words : List ℕ) → IsWidth width
-    → holding ≡ record { part = record { book = empty_book; asked = 0; lo = 1; hi = 16777217; width = width }; pending = replicate 51 (pos 0) }
+    → holding ≡ record { part = record { book = empty_book; asked = 0; lo = 1; hi = 16777217; width = width }; pending = replicate CELLS (pos 0) }
     → words ≡ blank_words → IsBoard words → AreHeld holding words
 opened_held width holding words wide is blank board = rw (is, blank) (record {
   from_first = refl;
   to_last = refl;
   rules = record { range = (omega arith, omega arith, omega arith); width = wide; rows = empty_rows 1 16777217 };
   board = subst IsBoard blank board;
-  held = λ c below. rw (blank_net c 0, zero_delta 51 c, empty_cell width c) refl;
+  held = λ c below. rw (blank_net c 0, zero_delta CELLS c, empty_cell width c) refl;
   counted = λ c below. rw (blank_net c 0) (omega (arith, ints), omega (arith, ints));
   others = λ c slot below from. blank_net c slot;
 })
@@ -104,8 +105,8 @@ acted_held before after words held same moved rules = record {
 -- a posting keeps the law
 pub posted_held : (before after : HoldingState) (words words' : List ℕ) → AreHeld before words → after.part ≡ before.part
     → IsHeld (net words' (0 ∷ [])) after
-    → ((c : ℕ) → c < 51 → (pending_at after.pending c ≡ pending_at before.pending c) ⊎ (pending_at after.pending c ≡ pos 0))
-    → ((c other : ℕ) → c < 51 → (other ≡ 0 → ⊥) → slot_net words' c other ≡ slot_net words c other)
+    → ((c : ℕ) → c < CELLS → (pending_at after.pending c ≡ pending_at before.pending c) ⊎ (pending_at after.pending c ≡ pos 0))
+    → ((c other : ℕ) → c < CELLS → (other ≡ 0 → ⊥) → slot_net words' c other ≡ slot_net words c other)
     → IsBoard words' → AreHeld after words'
 posted_held before after words words' held same law either apart board = record {
   from_first = ap (λ (p : PartState). p.lo) same ∙ held.from_first;
@@ -117,7 +118,7 @@ posted_held before after words words' held same law either apart board = record 
   others = λ c slot below from. apart c slot below (λ e. omega arith) ∙ held.others c slot below from;
 }
   where
-    counted_at : (c : ℕ) → c < 51 → (pos 0 ≤ℤ net words' (0 ∷ []) c) × (net words' (0 ∷ []) c ≤ℤ pos 1099511627776)
+    counted_at : (c : ℕ) → c < CELLS → (pos 0 ≤ℤ net words' (0 ∷ []) c) × (net words' (0 ∷ []) c ≤ℤ pos 1099511627776)
     counted_at c below =
         let old = held.held c below in
         let new : net words' (0 ∷ []) c +ℤ pending_at after.pending c ≡ pos (cell before.part.width c before.part.book) =

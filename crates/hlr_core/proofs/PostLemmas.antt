@@ -9,6 +9,7 @@ use Rattle.std.proofs.lemmas.Int.{ints}
 use Rattle.std.proofs.lemmas.List.{get_or-set_same, get_or-set_other, get_or_past, length-set}
 use Rattle.tatp_rows.specs.declared.refusal.Refusal.{Refusal}
 use Rattle.tatp_rows.specs.declared.refusal.Refusal.TheVariants as refusal
+use Rattle.tatp_actions.specs.declared.cells.TheConstants.{CELLS}
 use Rattle.hlr_core.specs.Board.{IsBoard}
 use Rattle.hlr_core.specs.Held.{HoldingState, pending_at, IsCellPosted}
 use Rattle.hlr_core.specs.Post.{is_zero, is_worn, raise_cells, all_cells, post}
@@ -22,12 +23,12 @@ open_from gap c left = filter (λ k. not (is_zero (gap k))) (range_with_len c le
 
 -- where a posting stands before cell c: what is left of it gives the whole answer, and the deltas from c on are the gaps
 pub record IsPosting (count : ℕ → ℕ) (slot limit : ℕ) (start : List ℕ) (c posted : ℕ) (pending : List ℤ) (words : List ℕ) : Type 0 where
-  pub goes : (left : ℕ) → c + left ≡ 51 → raise_cells (λ (k : ℕ). pos (count k) -ℤ net start (slot ∷ []) k) slot (take (limit - posted) (open_from (λ (k : ℕ). pos (count k) -ℤ net start (slot ∷ []) k) c left)) posted words
+  pub goes : (left : ℕ) → c + left ≡ CELLS → raise_cells (λ (k : ℕ). pos (count k) -ℤ net start (slot ∷ []) k) slot (take (limit - posted) (open_from (λ (k : ℕ). pos (count k) -ℤ net start (slot ∷ []) k) c left)) posted words
       ≡ post count (slot ∷ []) limit start
-  pub ahead : (k : ℕ) → c ≤ k → k < 51 → pending_at pending k ≡ pos (count k) -ℤ net start (slot ∷ []) k
-  pub held : (k : ℕ) → k < 51 → net words (slot ∷ []) k +ℤ pending_at pending k ≡ pos (count k)
-  pub either : (k : ℕ) → k < 51 → (pending_at pending k ≡ pos (count k) -ℤ net start (slot ∷ []) k) ⊎ (pending_at pending k ≡ pos 0)
-  pub apart : (k other : ℕ) → k < 51 → (other ≡ slot → ⊥) → slot_net words k other ≡ slot_net start k other
+  pub ahead : (k : ℕ) → c ≤ k → k < CELLS → pending_at pending k ≡ pos (count k) -ℤ net start (slot ∷ []) k
+  pub held : (k : ℕ) → k < CELLS → net words (slot ∷ []) k +ℤ pending_at pending k ≡ pos (count k)
+  pub either : (k : ℕ) → k < CELLS → (pending_at pending k ≡ pos (count k) -ℤ net start (slot ∷ []) k) ⊎ (pending_at pending k ≡ pos 0)
+  pub apart : (k other : ℕ) → k < CELLS → (other ≡ slot → ⊥) → slot_net words k other ≡ slot_net start k other
   pub board : IsBoard words
   pub few : posted ≤ c
   pub within : posted ≤ limit
@@ -70,10 +71,10 @@ gap_of count slot start k = pos (count k) -ℤ net start (slot ∷ []) k
 
 -- a posting begins
 pub posting_begins : (count : ℕ → ℕ) (slot limit : ℕ) (start : List ℕ) (pending : List ℤ) → slot < 16 → IsBoard start
-    → ((k : ℕ) → k < 51 → net start (slot ∷ []) k +ℤ pending_at pending k ≡ pos (count k)) → IsPosting count slot limit start 0 0 pending start
+    → ((k : ℕ) → k < CELLS → net start (slot ∷ []) k +ℤ pending_at pending k ≡ pos (count k)) → IsPosting count slot limit start 0 0 pending start
 unfolding all_cells
 posting_begins count slot limit start pending own board held = record {
-  goes = λ left whole. let all : left ≡ 51 = omega arith in let least_is : min slot 16 ≡ slot = omega arith in let limit_is : limit - 0 ≡ limit = omega arith in rw (all, limit_is, least_is) refl;
+  goes = λ left whole. let all : left ≡ CELLS = omega arith in let least_is : min slot 16 ≡ slot = omega arith in let limit_is : limit - 0 ≡ limit = omega arith in rw (all, limit_is, least_is) refl;
   ahead = λ k from below. let law = held k below in omega (arith, ints);
   held = held;
   either = λ k below. (let law = held k below in inl (omega (arith, ints)));
@@ -84,7 +85,7 @@ posting_begins count slot limit start pending own board held = record {
 }
 
 -- a cell with nothing pending
-pub posting_passes : (count : ℕ → ℕ) (slot limit : ℕ) (start : List ℕ) (c posted : ℕ) (pending : List ℤ) (words : List ℕ) → c < 51 → pending_at pending c ≡ pos 0
+pub posting_passes : (count : ℕ → ℕ) (slot limit : ℕ) (start : List ℕ) (c posted : ℕ) (pending : List ℤ) (words : List ℕ) → c < CELLS → pending_at pending c ≡ pos 0
     → IsPosting count slot limit start c posted pending words → IsPosting count slot limit start (c + 1) posted pending words
 posting_passes count slot limit start c posted pending words below none now = record {
   goes = λ left whole. let no_gap : gap_of count slot start c ≡ pos 0 = sym (now.ahead c (omega arith) below) ∙ none in
@@ -99,7 +100,7 @@ posting_passes count slot limit start c posted pending words below none now = re
 }
 
 -- a cell that is posted
-pub posting_goes_on : (count : ℕ → ℕ) (slot limit : ℕ) (start : List ℕ) (c posted : ℕ) (pending : List ℤ) (words : List ℕ) → slot < 16 → c < 51 → (posted ≡ limit → ⊥)
+pub posting_goes_on : (count : ℕ → ℕ) (slot limit : ℕ) (start : List ℕ) (c posted : ℕ) (pending : List ℤ) (words : List ℕ) → slot < 16 → c < CELLS → (posted ≡ limit → ⊥)
     → (pending_at pending c ≡ pos 0 → ⊥) → is_worn words slot c (pending_at pending c) ≡ false
     → IsPosting count slot limit start c posted pending words
     → IsPosting count slot limit start (c + 1) (posted + 1) (set pending c (pos 0)) (raised words slot c (pending_at pending c))
@@ -121,47 +122,47 @@ posting_goes_on count slot limit start c posted pending words own below room som
   within = omega (arith, now.within);
 }
   where
-    held_at : (k : ℕ) → k < 51 → net (raised words slot c (pending_at pending c)) (slot ∷ []) k +ℤ pending_at (set pending c (pos 0)) k ≡ pos (count k)
+    held_at : (k : ℕ) → k < CELLS → net (raised words slot c (pending_at pending c)) (slot ∷ []) k +ℤ pending_at (set pending c (pos 0)) k ≡ pos (count k)
     held_at k within = elim (cases_eq k c) [
       | inl same ↦ (let law = now.held c below in rw (same, slot_net-raised words slot c (pending_at pending c) now.board.wide own below, cleared pending c) (omega (arith, ints)))
       | inr other ↦ (let law = now.held k within in rw (slot_net-raised_cell words slot c k (pending_at pending c) below within other, get_or-set_other pending c k (pos 0) (pos 0) other) law)
     ]
 
-    either_at : (k : ℕ) → k < 51 → (pending_at (set pending c (pos 0)) k ≡ pos (count k) -ℤ net start (slot ∷ []) k) ⊎ (pending_at (set pending c (pos 0)) k ≡ pos 0)
+    either_at : (k : ℕ) → k < CELLS → (pending_at (set pending c (pos 0)) k ≡ pos (count k) -ℤ net start (slot ∷ []) k) ⊎ (pending_at (set pending c (pos 0)) k ≡ pos 0)
     either_at k within = elim (cases_eq k c) [
       | inl same ↦ inr (rw (same, cleared pending c) refl)
       | inr other ↦ (rw (get_or-set_other pending c k (pos 0) (pos 0) other) (now.either k within))
     ]
 
 -- the limit is reached
-pub posting_full : (count : ℕ → ℕ) (slot limit : ℕ) (start : List ℕ) (c posted : ℕ) (pending : List ℤ) (words : List ℕ) → c < 51 → posted ≡ limit
+pub posting_full : (count : ℕ → ℕ) (slot limit : ℕ) (start : List ℕ) (c posted : ℕ) (pending : List ℤ) (words : List ℕ) → c < CELLS → posted ≡ limit
     → IsPosting count slot limit start c posted pending words → (Ok posted, words) ≡ post count (slot ∷ []) limit start
 posting_full count slot limit start c posted pending words below full now =
     let none_left : limit - posted ≡ 0 = omega arith in
-    let was = now.goes (51 - c) (omega arith) in rw none_left at was
+    let was = now.goes (CELLS - c) (omega arith) in rw none_left at was
 
 -- no cell is left
-pub posting_ends : (count : ℕ → ℕ) (slot limit : ℕ) (start : List ℕ) (c posted : ℕ) (pending : List ℤ) (words : List ℕ) → c ≡ 51
+pub posting_ends : (count : ℕ → ℕ) (slot limit : ℕ) (start : List ℕ) (c posted : ℕ) (pending : List ℤ) (words : List ℕ) → c ≡ CELLS
     → IsPosting count slot limit start c posted pending words → (Ok posted, words) ≡ post count (slot ∷ []) limit start
 posting_ends count slot limit start c posted pending words all now =
     let was = now.goes 0 (omega arith) in rw (take-nil (limit - posted)) at was
 
 -- a word would be worn
-pub posting_stops : (count : ℕ → ℕ) (slot limit : ℕ) (start : List ℕ) (c posted : ℕ) (pending : List ℤ) (words : List ℕ) → c < 51 → (posted ≡ limit → ⊥)
+pub posting_stops : (count : ℕ → ℕ) (slot limit : ℕ) (start : List ℕ) (c posted : ℕ) (pending : List ℤ) (words : List ℕ) → c < CELLS → (posted ≡ limit → ⊥)
     → (pending_at pending c ≡ pos 0 → ⊥) → is_worn words slot c (pending_at pending c) ≡ true
     → IsPosting count slot limit start c posted pending words → (Err refusal.Worn, words) ≡ post count (slot ∷ []) limit start
 posting_stops count slot limit start c posted pending words below room some worn now =
     let gap_is = now.ahead c (omega arith) below in
     let gap : gap_of count slot start c ≡ pos 0 → ⊥ = λ e. some (gap_is ∙ e) in
     let worn' : is_worn words slot c (gap_of count slot start c) ≡ true = rw (← gap_is) worn in
-    let left = 51 - (c + 1) in
+    let left = CELLS - (c + 1) in
     let one_left : limit - posted ≡ suc (limit - (posted + 1)) = omega (arith, now.within) in
     let was = now.goes (suc left) (omega arith) in
     let first = rw (open_here (gap_of count slot start) c left gap, one_left) at was in
     sym (raise_none (gap_of count slot start) slot c (take (limit - (posted + 1)) (open_from (gap_of count slot start) (c + 1) left)) posted words worn') ∙ first
 
 -- one turn of a posting: where it stands after a cell that was tried, and its answer where the cell was worn
-pub posting_turn : (count : ℕ → ℕ) (slot limit : ℕ) (start : List ℕ) (c posted next : ℕ) (before after : HoldingState) (words words' : List ℕ) (b : Bool) → slot < 16 → c < 51 → (posted ≡ limit → ⊥)
+pub posting_turn : (count : ℕ → ℕ) (slot limit : ℕ) (start : List ℕ) (c posted next : ℕ) (before after : HoldingState) (words words' : List ℕ) (b : Bool) → slot < 16 → c < CELLS → (posted ≡ limit → ⊥)
     → IsCellPosted slot c before words (Ok b) after words' → next ≡ (if b then posted + 1 else posted)
     → IsPosting count slot limit start c posted before.pending words
     → (after.part ≡ before.part) × IsPosting count slot limit start (c + 1) next after.pending words'
@@ -170,7 +171,7 @@ posting_turn count slot limit start c posted next before after words words' true
 posting_turn count slot limit start c posted next before after words words' false own below room done is now =
     rw (done.1, done.2, is) (refl, posting_passes count slot limit start c posted before.pending words below done.0 now)
 
-pub posting_worn : (count : ℕ → ℕ) (slot limit : ℕ) (start : List ℕ) (c posted : ℕ) (before after : HoldingState) (words words' : List ℕ) (why : Refusal) → c < 51 → (posted ≡ limit → ⊥)
+pub posting_worn : (count : ℕ → ℕ) (slot limit : ℕ) (start : List ℕ) (c posted : ℕ) (before after : HoldingState) (words words' : List ℕ) (why : Refusal) → c < CELLS → (posted ≡ limit → ⊥)
     → IsCellPosted slot c before words (Err why) after words'
     → IsPosting count slot limit start c posted before.pending words → (Err why, words') ≡ post count (slot ∷ []) limit start
 posting_worn count slot limit start c posted before after words words' why below room done now =
@@ -178,9 +179,9 @@ posting_worn count slot limit start c posted before after words words' why below
 
 -- each delta is as it was before the posting, or posted
 pub either_old : (count : ℕ → ℕ) (slot : ℕ) (start : List ℕ) (old new : List ℤ)
-    → ((k : ℕ) → k < 51 → net start (slot ∷ []) k +ℤ pending_at old k ≡ pos (count k))
-    → ((k : ℕ) → k < 51 → (pending_at new k ≡ pos (count k) -ℤ net start (slot ∷ []) k) ⊎ (pending_at new k ≡ pos 0))
-    → (k : ℕ) → k < 51 → (pending_at new k ≡ pending_at old k) ⊎ (pending_at new k ≡ pos 0)
+    → ((k : ℕ) → k < CELLS → net start (slot ∷ []) k +ℤ pending_at old k ≡ pos (count k))
+    → ((k : ℕ) → k < CELLS → (pending_at new k ≡ pos (count k) -ℤ net start (slot ∷ []) k) ⊎ (pending_at new k ≡ pos 0))
+    → (k : ℕ) → k < CELLS → (pending_at new k ≡ pending_at old k) ⊎ (pending_at new k ≡ pos 0)
 either_old count slot start old new held either k below = elim (either k below) [
   | inl gap ↦ (let law = held k below in inl (omega (arith, ints)))
   | inr zero_now ↦ inr zero_now

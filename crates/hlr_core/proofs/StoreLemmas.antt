@@ -6,6 +6,7 @@ use Rattle.tatp_rows.specs.declared.refusal.Refusal.{Refusal}
 use Rattle.tatp_actions.specs.Book.{IsRowsOf, rows_between}
 use Rattle.tatp_actions.specs.Cell.{cell}
 use Rattle.tatp_actions.proofs.BetweenLemmas.{own_rows}
+use Rattle.tatp_actions.specs.declared.cells.TheConstants.{CELLS}
 use Rattle.hlr_core.specs.Held.{HoldingState, pending_at, AreHeld}
 use Rattle.hlr_core.specs.Post.{post}
 use Rattle.hlr_core.specs.Step.{IsPostStep, posted_reply}
@@ -24,11 +25,11 @@ no_part zero never = absurd (never refl)
 no_part (suc part) never = refl
 
 -- a cell as published is the net of the one slot
-pub published_is : (holding : HoldingState) (words : List ℕ) (c : ℕ) → c < 51 → AreHeld holding words → published (store_of holding words) c ≡ net words (0 ∷ []) c
+pub published_is : (holding : HoldingState) (words : List ℕ) (c : ℕ) → c < CELLS → AreHeld holding words → published (store_of holding words) c ≡ net words (0 ∷ []) c
 published_is holding words c below held = net_of_first words c (λ slot from. held.others c slot below from)
 
 -- what is pending is what is not posted
-pub unposted_is : (holding : HoldingState) (words : List ℕ) (c : ℕ) → c < 51 → AreHeld holding words → pending_at holding.pending c ≡ unposted (store_of holding words) c
+pub unposted_is : (holding : HoldingState) (words : List ℕ) (c : ℕ) → c < CELLS → AreHeld holding words → pending_at holding.pending c ≡ unposted (store_of holding words) c
 unposted_is holding words c below held =
     let law = held.held c below in
     rw (published_is holding words c below held) (omega (arith, ints))
@@ -48,5 +49,5 @@ post_step before after words words' part limit answer posted first held same don
     rw (first, own, ← done, is, same) (refl, refl)
 
 -- the net of the one slot is what all slots have published
-pub net_is_published : (holding : HoldingState) (words : List ℕ) (c : ℕ) (n : ℤ) → c < 51 → AreHeld holding words → n ≡ slot_net words c 0 → n ≡ published (store_of holding words) c
+pub net_is_published : (holding : HoldingState) (words : List ℕ) (c : ℕ) (n : ℤ) → c < CELLS → AreHeld holding words → n ≡ slot_net words c 0 → n ≡ published (store_of holding words) c
 net_is_published holding words c n below held is = let one : net words (0 ∷ []) c ≡ slot_net words c 0 = omega (arith, ints) in is ∙ sym one ∙ sym (published_is holding words c below held)

@@ -4,6 +4,8 @@ use Rattle.std.specs.Prelude.{ℤ, pos, negsuc, ◌+ℤ◌}
 use Rattle.std.specs.List.{range_with_len}
 use Rattle.std.proofs.lemmas.Int.{ints}
 use Rattle.std.proofs.lemmas.List.{get_or-set_same, get_or-set_other, length-set}
+use Rattle.tatp_actions.specs.declared.cells.TheConstants.{CELLS}
+use Rattle.hlr_core.specs.declared.board.TheConstants.{WORDS}
 use Rattle.hlr_core.specs.Words.{plus_word, minus_word, slot_net, net, raised, all_slots, blank_words}
 use Rattle.hlr_core.proofs.BoardLemmas.{zero_word}
 
@@ -13,7 +15,7 @@ length-raised words slot c (pos n) = length-set words _ _
 length-raised words slot c (negsuc n) = length-set words _ _
 
 -- the net of the slot and cell that was raised
-pub slot_net-raised : (words : List ℕ) (slot c : ℕ) (amount : ℤ) → length words ≡ 1632 → slot < 16 → c < 51
+pub slot_net-raised : (words : List ℕ) (slot c : ℕ) (amount : ℤ) → length words ≡ WORDS → slot < 16 → c < CELLS
     → slot_net (raised words slot c amount) c slot ≡ slot_net words c slot +ℤ amount
 slot_net-raised words slot c (pos n) wide own here =
     let within : plus_word slot c < length words = omega arith in
@@ -25,7 +27,7 @@ slot_net-raised words slot c (negsuc n) wide own here =
     rw (get_or-set_same words (minus_word slot c) (get_or words (minus_word slot c) 0 + suc n) 0 within, get_or-set_other words (minus_word slot c) (plus_word slot c) (get_or words (minus_word slot c) 0 + suc n) 0 other) (omega (arith, ints))
 
 -- the net of another cell, or of another slot, stays
-pub slot_net-raised_cell : (words : List ℕ) (slot c k : ℕ) (amount : ℤ) → c < 51 → k < 51 → k ≢ c → slot_net (raised words slot c amount) k slot ≡ slot_net words k slot
+pub slot_net-raised_cell : (words : List ℕ) (slot c k : ℕ) (amount : ℤ) → c < CELLS → k < CELLS → k ≢ c → slot_net (raised words slot c amount) k slot ≡ slot_net words k slot
 slot_net-raised_cell words slot c k (pos n) here there other =
     let p : plus_word slot k ≢ plus_word slot c = omega arith in
     let m : minus_word slot k ≢ plus_word slot c = omega arith in
@@ -35,7 +37,7 @@ slot_net-raised_cell words slot c k (negsuc n) here there other =
     let m : minus_word slot k ≢ minus_word slot c = omega arith in
     rw (get_or-set_other words (minus_word slot c) (plus_word slot k) (get_or words (minus_word slot c) 0 + suc n) 0 p, get_or-set_other words (minus_word slot c) (minus_word slot k) (get_or words (minus_word slot c) 0 + suc n) 0 m) refl
 
-pub slot_net-raised_slot : (words : List ℕ) (slot other c k : ℕ) (amount : ℤ) → c < 51 → k < 51 → other ≢ slot → slot_net (raised words slot c amount) k other ≡ slot_net words k other
+pub slot_net-raised_slot : (words : List ℕ) (slot other c k : ℕ) (amount : ℤ) → c < CELLS → k < CELLS → other ≢ slot → slot_net (raised words slot c amount) k other ≡ slot_net words k other
 slot_net-raised_slot words slot other c k (pos n) here there apart =
     let p : plus_word other k ≢ plus_word slot c = omega arith in
     let m : minus_word other k ≢ plus_word slot c = omega arith in
@@ -61,4 +63,4 @@ net_of_first words c none = let rest = net_none words c 1 15 none in rw rest ref
 -- blank words have no net
 pub blank_net : (c slot : ℕ) → slot_net blank_words c slot ≡ pos 0
 unfolding blank_words
-blank_net c slot = rw (zero_word 1632 (plus_word slot c), zero_word 1632 (minus_word slot c)) refl
+blank_net c slot = rw (zero_word WORDS (plus_word slot c), zero_word WORDS (minus_word slot c)) refl

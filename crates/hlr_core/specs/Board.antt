@@ -1,7 +1,8 @@
 -- The rules of the board's words.
 use Rattle.std.specs.Prelude.{◌≡◌, ℕ, ◌≤◌, List, length, slice_index}
+use Rattle.hlr_core.specs.declared.board.TheConstants.{WORDS, LIMIT}
 
--- there are 1,632 words, and none passes 2^63 - 1
+-- there are so many words, and none passes the limit
 pub record IsBoard (words : List ℕ) : Type 0 where
-  pub wide : length words ≡ 1632
-  pub small : (w : ℕ) → slice_index words w ≤ 9223372036854775807
+  pub wide : length words ≡ WORDS
+  pub small : (w : ℕ) → slice_index words w ≤ LIMIT

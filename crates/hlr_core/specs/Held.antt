@@ -1,6 +1,7 @@
 -- The local law: what an owner has published of a cell and what it has not posted yet are the count over its own rows.
 use Rattle.std.specs.Prelude.{◌≡◌, ◌≢◌, Bool, true, false, Result, Ok, Err, slice_set, ℕ, ◌<◌, ◌≤◌, List, [], ◌∷◌, ℤ, pos, neg_ℤ, ◌+ℤ◌, ◌≤ℤ◌, slice_index_or}
 use Rattle.tatp_actions.specs.Cell.{cell}
+use Rattle.tatp_actions.specs.declared.cells.TheConstants.{CELLS}
 use Rattle.tatp_actions.specs.Part.{PartState, IsPart}
 use Rattle.tatp_rows.specs.declared.refusal.Refusal.{Refusal}
 use Rattle.tatp_rows.specs.declared.refusal.Refusal.TheVariants as refusal
@@ -20,17 +21,17 @@ pending_at pending c = slice_index_or pending c (pos 0)
 -- the local law, for what is published by a given net
 abbrev pub IsHeld : (ℕ → ℤ) → HoldingState → Type 0
 IsHeld net holding =
-    (c : ℕ) → c < 51 → net c +ℤ pending_at holding.pending c ≡ pos (cell holding.part.width c holding.part.book)
+    (c : ℕ) → c < CELLS → net c +ℤ pending_at holding.pending c ≡ pos (cell holding.part.width c holding.part.book)
 
 -- the deltas are small enough that the notes of a change fit
 abbrev pub AreSmall : List ℤ → Type 0
 AreSmall pending =
-    (c : ℕ) → c < 51 → (neg_ℤ (pos 1152921504606846976) ≤ℤ pending_at pending c) × (pending_at pending c ≤ℤ pos 1152921504606846976)
+    (c : ℕ) → c < CELLS → (neg_ℤ (pos 1152921504606846976) ≤ℤ pending_at pending c) × (pending_at pending c ≤ℤ pos 1152921504606846976)
 
 -- what is pending moves as the counts of the rows do
 abbrev pub MovesWith : HoldingState → HoldingState → Type 0
 MovesWith before after =
-    (c : ℕ) → c < 51
+    (c : ℕ) → c < CELLS
     → pending_at after.pending c +ℤ pos (cell before.part.width c before.part.book)
     ≡ pending_at before.pending c +ℤ pos (cell before.part.width c after.part.book)
 
@@ -53,5 +54,5 @@ pub record AreHeld (holding : HoldingState) (words : List ℕ) : Type 0 where
   pub rules : IsPart holding.part
   pub board : IsBoard words
   pub held : IsHeld (net words (0 ∷ [])) holding
-  pub counted : (c : ℕ) → c < 51 → (pos 0 ≤ℤ net words (0 ∷ []) c) × (net words (0 ∷ []) c ≤ℤ pos 1099511627776)
-  pub others : (c slot : ℕ) → c < 51 → 1 ≤ slot → slot_net words c slot ≡ pos 0
+  pub counted : (c : ℕ) → c < CELLS → (pos 0 ≤ℤ net words (0 ∷ []) c) × (net words (0 ∷ []) c ≤ℤ pos 1099511627776)
+  pub others : (c slot : ℕ) → c < CELLS → 1 ≤ slot → slot_net words c slot ≡ pos 0

@@ -4,11 +4,13 @@ use Rattle.std.specs.Int.RustNames.{unsigned_abs}
 use Rattle.std.specs.List.{filter, range_with_len}
 use Rattle.tatp_rows.specs.declared.refusal.Refusal.{Refusal}
 use Rattle.tatp_rows.specs.declared.refusal.Refusal.TheVariants as refusal
+use Rattle.tatp_actions.specs.declared.cells.TheConstants.{CELLS}
+use Rattle.hlr_core.specs.declared.board.TheConstants.{LIMIT}
 use Rattle.hlr_core.specs.Words.{net, raised, raised_word}
 
 -- the cells, ascending
 unfoldable pub all_cells : List ℕ
-all_cells = range_with_len 0 51
+all_cells = range_with_len 0 CELLS
 
 -- the least of a part's slots
 abbrev pub least : List ℕ → ℕ
@@ -24,9 +26,9 @@ is_zero (negsuc n) = false
 abbrev pub due : (ℕ → ℤ) → ℕ → List ℕ
 due gap limit = take limit (filter (λ c. not (is_zero (gap c))) all_cells)
 
--- an amount would carry a word past 2^63 - 1
+-- an amount would carry a word past its limit
 abbrev pub is_worn : List ℕ → ℕ → ℕ → ℤ → Bool
-is_worn words slot c amount = nat_lt 9223372036854775807 (slice_index words (raised_word slot c amount) + unsigned_abs amount)
+is_worn words slot c amount = nat_lt LIMIT (slice_index words (raised_word slot c amount) + unsigned_abs amount)
 
 -- the cells are raised by their gaps one after another, up to one that would wear a word; the answer is how many were
 abbrev pub raise_cells : (ℕ → ℤ) → ℕ → List ℕ → ℕ → List ℕ → Result ℕ Refusal × List ℕ

@@ -2,17 +2,19 @@
 use Rattle.std.specs.Prelude.{ℕ, ◌+◌, ◌*◌, List, [], ◌∷◌, replicate, slice_index, slice_set, ℤ, pos, negsuc, ◌+ℤ◌, ◌-ℤ◌}
 use Rattle.std.specs.Int.RustNames.{unsigned_abs}
 use Rattle.std.specs.List.{range_with_len}
+use Rattle.tatp_actions.specs.declared.cells.TheConstants.{CELLS}
+use Rattle.hlr_core.specs.declared.board.TheConstants.{SLOTS, SLOT_WORDS, WORDS}
 
 -- where a slot has the plus-word and the minus-word of a cell
 abbrev pub plus_word : ℕ → ℕ → ℕ
-plus_word slot c = slot * 102 + c
+plus_word slot c = slot * SLOT_WORDS + c
 
 abbrev pub minus_word : ℕ → ℕ → ℕ
-minus_word slot c = slot * 102 + 51 + c
+minus_word slot c = slot * SLOT_WORDS + CELLS + c
 
--- all 1,632 words at 0
+-- all words at 0
 unfoldable pub blank_words : List ℕ
-blank_words = replicate 1632 0
+blank_words = replicate WORDS 0
 
 -- the net of a slot in a cell: its plus-word less its minus-word
 abbrev pub slot_net : List ℕ → ℕ → ℕ → ℤ
@@ -23,9 +25,9 @@ abbrev pub net : List ℕ → List ℕ → ℕ → ℤ
 net words [] c = pos 0
 net words (slot ∷ slots) c = slot_net words c slot +ℤ net words slots c
 
--- the 16 slots
+-- all slots
 unfoldable pub all_slots : List ℕ
-all_slots = range_with_len 0 16
+all_slots = range_with_len 0 SLOTS
 
 -- the word that an amount raises in a slot and cell: the plus-word if it is positive, else the minus-word
 abbrev pub raised_word : ℕ → ℕ → ℤ → ℕ

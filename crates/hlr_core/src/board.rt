@@ -13,10 +13,10 @@ use tatp_rows::Refusal;
 pub const SLOTS: u8 = 16;
 
 /// How many words a slot has: a plus-word and a minus-word for each cell.
-pub const SLOT_WORDS: usize = 102;
+pub const SLOT_WORDS: usize = 2 * CELLS as usize;
 
 /// How many words the board has.
-pub const WORDS: usize = 1_632;
+pub const WORDS: usize = SLOTS as usize * SLOT_WORDS;
 
 /// The greatest value of a word.
 pub const LIMIT: u64 = 9_223_372_036_854_775_807;
@@ -61,26 +61,30 @@ impl Board {
 
     /// What a slot has published of a cell: its plus-word less its minus-word.
     pub fn net(&self, slot: u8, cell: u8) -> i64
-        requires slot { slot < 16 }
+        requires slot { slot < SLOTS }
         requires cell { cell < CELLS }
         ensures value { result ≡ slot_net self.now cell slot }
         ensures board { IsBoard self.now }
     {
         let at = usize::from(slot) * SLOT_WORDS + usize::from(cell);
-        self.words[at] as i64 - self.words[at + 51] as i64
+        self.words[at] as i64 - self.words[at + usize::from(CELLS)] as i64
     }
 
     /// Raises the plus-word of a slot and cell by a positive amount, or its minus-word by the size of a negative one.
     /// `Worn` where the word would pass its limit: then nothing is changed.
     pub fn add(&mut self, slot: u8, cell: u8, amount: i64) -> Result<(), Refusal>
-        requires slot { slot < 16 }
+        requires slot { slot < SLOTS }
         requires cell { cell < CELLS }
         requires amount { amount ≢ pos 0 }
         ensures ok { OnOk result ((is_worn self.old slot cell amount ≡ false) × (self.new ≡ raised self.old slot cell amount)) }
         ensures worn { OnErr result ((is_worn self.old slot cell amount ≡ true) × (result ≡ Err Refusal.Worn) × (self.new ≡ self.old)) }
     {
         let plus = usize::from(slot) * SLOT_WORDS + usize::from(cell);
-        let at = if amount < 0 { plus + 51 } else { plus };
+        let at = if amount < 0 {
+            plus + usize::from(CELLS)
+        } else {
+            plus
+        };
         let size = amount.unsigned_abs();
         let word = self.words[at];
         if size > LIMIT - word {

@@ -9,7 +9,7 @@ ghost use Rattle.hlr_core.specs.Held.{HoldingState, pending_at, AreSmall, IsHeld
 ghost use Rattle.hlr_core.specs.Post.{post};
 ghost use Rattle.hlr_core.specs.Words.{net, slot_net};
 
-use crate::board::Board;
+use crate::board::{Board, SLOTS};
 use crate::pending::Pending;
 use std::alloc::Global;
 use std::marker::Model;
@@ -36,7 +36,7 @@ impl Holding {
     pub fn new(alloc: Global, lo: u32, hi: u32, width: u32) -> Result<Self, Refusal>
         requires range { IsRange lo hi }
         requires width { IsWidth width }
-        ensures ok { IfOk result (λ holding. holding ≡ record { part = record { book = empty_book; asked = 0; lo = lo; hi = hi; width = width }; pending = replicate 51 (pos 0) }) }
+        ensures ok { IfOk result (λ holding. holding ≡ record { part = record { book = empty_book; asked = 0; lo = lo; hi = hi; width = width }; pending = replicate CELLS (pos 0) }) }
         ensures err { OnErr result (result ≡ Err Refusal.Memory) }
     {
         let part = Part::new(alloc, lo, hi, width)?;
@@ -64,7 +64,7 @@ impl Holding {
     /// Posts the pending delta of a cell, where it isn't 0, and tells whether it was. `Worn` where the word would
     /// pass its limit: then nothing is changed.
     fn post_cell(&mut self, board: &mut Board, slot: u8, cell: u8) -> Result<bool, Refusal>
-        requires slot { slot < 16 }
+        requires slot { slot < SLOTS }
         requires cell { cell < CELLS }
         ensures { IsCellPosted slot cell self.old board.old result self.new board.new }
     {
@@ -81,7 +81,7 @@ impl Holding {
     /// how many were. `Worn` stops it at a cell whose word would pass its limit: the cells before stay posted, and
     /// the delta of that cell stays pending.
     pub fn post(&mut self, board: &mut Board, slot: u8, limit: u64) -> Result<u8, Refusal>
-        requires slot { slot < 16 }
+        requires slot { slot < SLOTS }
         requires held { IsHeld (net board.old (slot ∷ [])) self.old }
         requires rules { IsBoard board.old }
         ensures posted { (result, board.new) ≡ post (λ c. cell self.old.part.width c self.old.part.book) (slot ∷ []) limit board.old }

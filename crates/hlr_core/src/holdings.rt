@@ -13,7 +13,7 @@ use crate::event::Reply;
 use crate::holding::Holding;
 use std::alloc::Global;
 use std::marker::Model;
-use tatp_actions::{Action, RowReply};
+use tatp_actions::{Action, CELLS, RowReply};
 use tatp_rows::{Number, Refusal};
 
 /// One past the last subscriber that there can be.
@@ -89,10 +89,10 @@ impl Holdings {
 
     /// The cells as published on the board.
     pub fn published(&self) -> [i64; 51]
-        ensures { (c : ℕ) → c < 51 → slice_index_or result c (pos 0) ≡ published self.now c }
+        ensures { (c : ℕ) → c < CELLS → slice_index_or result c (pos 0) ≡ published self.now c }
     {
         let mut cells = [0; 51];
-        for cell in 0..51u8 {
+        for cell in 0..CELLS {
             cells[usize::from(cell)] = self.board.net(SLOT, cell);
         }
         cells
@@ -100,7 +100,7 @@ impl Holdings {
 
     /// What is not posted yet of each cell.
     pub fn unposted(&self) -> [i64; 51]
-        ensures { (c : ℕ) → c < 51 → slice_index_or result c (pos 0) ≡ unposted self.now c }
+        ensures { (c : ℕ) → c < CELLS → slice_index_or result c (pos 0) ≡ unposted self.now c }
     {
         self.holding.deltas()
     }

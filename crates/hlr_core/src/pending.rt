@@ -1,6 +1,7 @@
 //! What an owner has not posted yet: a delta for each cell.
 ghost use Rattle.std.specs.Prelude.{◌≡◌, ℕ, ◌<◌, ◌≤◌, List, length, ℤ, pos, negsuc, ◌+ℤ◌, ◌≤ℤ◌, slice_set, replicate};
 ghost use Rattle.tatp_actions.specs.Change.{change_at};
+ghost use Rattle.tatp_actions.specs.declared.cells.TheConstants.{CELLS};
 ghost use Rattle.hlr_core.specs.Held.{pending_at, AreSmall};
 
 use std::marker::Model;
@@ -9,7 +10,7 @@ use tatp_actions::{CELLS, Change};
 /// A delta for each cell, seen as their list.
 #[derive(Clone, Copy, Debug, PartialEq, Eq)]
 pub struct Pending {
-    deltas: [i64; 51],
+    deltas: [i64; CELLS as usize],
 }
 
 impl Model for Pending {
@@ -17,7 +18,7 @@ impl Model for Pending {
 
     ghost view = { λ p. p.deltas };
 
-    ghost invariant = { λ p. length p.deltas ≡ 51 };
+    ghost invariant = { λ p. length p.deltas ≡ CELLS };
 
     ghost inverse = { λ zs. record { deltas = zs } };
 }
@@ -25,7 +26,7 @@ impl Model for Pending {
 impl Pending {
     /// A delta of 0 for each cell.
     pub fn zero() -> Self
-        ensures { result ≡ replicate 51 (pos 0) }
+        ensures { result ≡ replicate CELLS (pos 0) }
     {
         Pending { deltas: [0; 51] }
     }

@@ -10,7 +10,7 @@ use crate::event::{Event, Reply};
 use crate::holdings::Holdings;
 use std::alloc::Global;
 use std::marker::Model;
-use tatp_actions::{Action, RowReply};
+use tatp_actions::{Action, CELLS, RowReply};
 use tatp_rows::{Number, Refusal, Subscriber, in_range};
 
 /// A home location register, seen as the store of the definitions: its rows, the words of the board, the slots of
@@ -93,15 +93,15 @@ impl Register {
 
     /// The cells as published: for each, the sum of its plus-words less the sum of its minus-words.
     pub fn published(&self) -> [i64; 51]
-        ensures { (c : ℕ) → c < 51 → slice_index_or result c (pos 0) ≡ published self.now c }
+        ensures { (c : ℕ) → c < CELLS → slice_index_or result c (pos 0) ≡ published self.now c }
     {
         self.holdings.published()
     }
 
     /// What is not posted yet of each cell: with what is published, it is the cell counted over the rows now.
     pub fn unposted(&self) -> [i64; 51]
-        ensures value { (c : ℕ) → c < 51 → slice_index_or result c (pos 0) ≡ unposted self.now c }
-        ensures counted { (c : ℕ) → c < 51
+        ensures value { (c : ℕ) → c < CELLS → slice_index_or result c (pos 0) ≡ unposted self.now c }
+        ensures counted { (c : ℕ) → c < CELLS
             → published self.now c +ℤ slice_index_or result c (pos 0) ≡ pos (cell self.now.width c self.now.book) }
     {
         self.holdings.unposted()
