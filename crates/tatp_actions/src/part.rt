@@ -1,5 +1,5 @@
 //! A part of the store: the rows of a range of subscribers.
-ghost use Rattle.std.specs.Prelude.{◌≡◌, ℕ, ◌+◌, ◌≤◌, ◌<◌, List, [], IfOk, OnErr, slice_index, option_copied};
+ghost use Rattle.std.specs.Prelude.{◌≡◌, ℕ, ◌+◌, ◌≤◌, ◌<◌, List, [], IfOk, IfErr, slice_index, option_copied};
 ghost use Rattle.tatp_actions.specs.Action.{s_id_of, IsOutcome};
 ghost use Rattle.tatp_actions.specs.Book.{IsWithin, IsRowsOf, empty_book, first_subscriber};
 ghost use Rattle.tatp_actions.specs.Cell.{cell};
@@ -23,6 +23,7 @@ pub struct Part<R: Rows = Trees> {
     lo: u32,
     hi: u32,
     pub(crate) width: u32,
+    alloc: Global,
 }
 
 impl<R: Rows> Model for Part<R> {
@@ -55,8 +56,8 @@ fn refused(why: Refusal) -> (RowReply, Change)
 }
 
 impl<R: Rows> Part<R> {
-    /// A part over rows that lie in its range and keep the rules of a book.
-    pub fn over(rows: R, lo: u32, hi: u32, width: u32) -> Self
+    /// A part over rows that lie in its range and keep the rules of a book. It keeps the allocator.
+    pub fn over(alloc: Global, rows: R, lo: u32, hi: u32, width: u32) -> Self
         requires range { IsRange lo hi }
         requires width { IsWidth width }
         requires rows { IsRowsOf lo hi (stored_book (R.tables rows)) }
@@ -68,6 +69,7 @@ impl<R: Rows> Part<R> {
             lo,
             hi,
             width,
+            alloc,
         }
     }
 
@@ -149,14 +151,14 @@ impl<R: Rows> Part<R> {
 }
 
 impl Part {
-    /// An empty part of the range lo..hi; `Memory` where a growth was refused.
+    /// An empty part of the range lo..hi. Its empty trees take no memory, so this is always `Ok`.
     pub fn new(alloc: Global, lo: u32, hi: u32, width: u32) -> Result<Self, Refusal>
         requires range { IsRange lo hi }
         requires width { IsWidth width }
-        ensures ok { IfOk result (λ part. part ≡ record { book = empty_book; asked = 0; lo = lo; hi = hi; width = width }) }
-        ensures err { OnErr result (result ≡ Err Refusal.Memory) }
+        ensures part { IfOk result (λ part. part ≡ record { book = empty_book; asked = 0; lo = lo; hi = hi; width = width }) }
+        ensures ok { IfErr result (λ _. ⊥) }
     {
-        Ok(Part::over(Trees::new(alloc)?, lo, hi, width))
+        Ok(Part::over(alloc, Trees::new(alloc)?, lo, hi, width))
     }
 
     /// The first subscriber of the range, 1..=16,777,216.

@@ -36,7 +36,7 @@ fn draw(seed: u64) -> Result<Action, Fail>
 #[test]
 fn same_actions(rt: HostRuntime) -> Result<(), Fail> {
     let mut part = Part::new(rt.alloc(), 1, 2001, 100)?;
-    let mut plain = Part::over(PlainRows::new(rt.alloc()), 1, 2001, 100);
+    let mut plain = Part::over(rt.alloc(), PlainRows::new(rt.alloc()), 1, 2001, 100);
     let mut seed = 7u64;
     for turn in 0..20_000u32 {
         seed = after(seed);

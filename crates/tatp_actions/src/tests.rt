@@ -414,7 +414,7 @@ fn other_rows(rt: HostRuntime) -> Result<(), Fail> {
         trees: Trees::new(rt.alloc())?,
         room: 1,
     };
-    let mut part = Part::over(few, 1, 10, 4);
+    let mut part = Part::over(rt.alloc(), few, 1, 10, 4);
     assert_eq!(rt; part.asked(), 0);
     let add = Action::AddSubscriber(first);
     assert!(rt; answers(&mut part, add, RowReply::Done, &[(3, 1), (19, 1)]));
