@@ -1,9 +1,10 @@
 -- What becomes of an inner node when a child of it changes in place.
-use Rattle.std.proofs.Common.{◌≡◌, ℕ, ◌+◌, ◌-◌, ◌<◌, min, List, ◌++◌, length, get_or, set, take, drop, Some, None, IsSome, refl, sym, ap, subst, ◌∙◌, arith}
+use Rattle.std.proofs.Common.{◌≡◌, ℕ, ◌+◌, ◌-◌, ◌<◌, ◌≤◌, min, List, ◌++◌, length, get_or, set, take, drop, Some, None, IsSome, refl, sym, ap, subst, ◌∙◌, arith}
 use Rattle.tatp_rows.specs.Ordered.{row_at, with_row_at, with_row}
 use Rattle.tatp_rows.specs.Spans.{StartsAt}
 use Rattle.tatp_rows.proofs.OrderedLemmas.{each-with_row, ordered-with_row, ordered-with_row_at}
 use Rattle.tatp_rows.proofs.SpanLemmas.{row_at-part, with_row_at-part, with_row-part, every-with_row_at-same, length-with_row_at, length-with_row, starts_with_row, starts_with_row_at}
+use Rattle.std.proofs.lemmas.List.{length-append}
 use Rattle.mr_node.specs.Rows.{Seen, key_of_pair, somes, key_limit}
 use Rattle.mr_node.specs.Levels.{NodeKid, NodeBranch, rows_of, IsWell, IsKid, IsBranch, seen_branch}
 use Rattle.mr_node.specs.Kids.{IsKidPlace}
@@ -98,6 +99,13 @@ module _ {V : Type 0} where
   pub same_branch : (i : ℕ) (b : NodeBranch V) (k k' : NodeKid V) → get_or b.kids i None ≡ Some k → k' ≡ k → branch_with b i k' ≡ b
   same_branch i b k k' got e = ap (branch_with b i) e ∙ ap (λ ks. record b { kids = ks }) (same_written i k b.kids got)
 
+  -- a node has as many rows as a child of it at least
+  enough_in_kid : (key h i : ℕ) (kids : List (NodeKid V)) (k : NodeKid V) → IsCutAt key h i kids k → 32 ≤ length k.node.value.rows → 32 ≤ length (rows_of kids)
+  enough_in_kid key h i kids k cut enough =
+      let before = rows_of (take i kids) in
+      let after = rows_of (drop (i + 1) kids) in
+      omega (arith, ap length cut.rows, length-append before (k.node.value.rows ++ after), length-append k.node.value.rows after)
+
   pub room_branch : (key i : ℕ) (value : V) (b : NodeBranch V) (k : NodeKid V) (n : Seen V) (least count : ℕ) (answer : Room V) → IsBranch b → IsKidPlace key i b.len b.kids → get_or b.kids i None ≡ Some k → key < key_limit → IsRoomAnswer key value k.node.value n answer → IsNoted key answer k.least k.count least count → (IsBranch (branch_with b i (kid_grown k least count n))) × IsRoomAnswer key value (seen_branch b) (seen_branch (branch_with b i (kid_grown k least count n))) answer
   room_branch key i value b k n least count Done branch at got small h noted =
       let cut = cut_kid key i b k branch at got in
@@ -108,7 +116,7 @@ module _ {V : Type 0} where
       (subst IsBranch (sym same) branch, (subst (λ o. IsSome o) (sym (find_branch key i b k branch at got)) h.0, h.1, ap seen_branch same))
   room_branch key i value b k n least count (Full v) branch at got small h noted =
       let same = same_branch i b k (kid_grown k least count n) got (same_kid k least count n noted.0 noted.1 h.2) in
-      (subst IsBranch (sym same) branch, (find_branch key i b k branch at got ∙ h.0, h.1, ap seen_branch same))
+      (subst IsBranch (sym same) branch, (find_branch key i b k branch at got ∙ h.0, h.1, ap seen_branch same, enough_in_kid key (b.height - 1) i (somes b.kids) k (cut_kid key i b k branch at got) h.3))
 
   pub kid_count_fits : (h : ℕ) (k : NodeKid V) → IsKid h k → k.count < 18446744073709551615
   kid_count_fits h k kid = omega (arith, kid.counted, few_rows k.node.value kid.well)

@@ -25,7 +25,7 @@ pub record AreKidsBeside {V : Type 0} (from to : ℕ) (b : NodeBranch V) : Type 
   pub before : AllByRecursion (IsKid (b.height - 1)) (take from (somes b.kids))
   pub after : AllByRecursion (IsKid (b.height - 1)) (drop to (somes b.kids))
 
--- the child at a place of an inner node has its least key and its count, or is too small
+-- the child at a place of an inner node may be one short of half full; its least key and its count are right
 pub record IsThinAt {V : Type 0} (place : ℕ) (b : NodeBranch V) : Type 0 where
   pub loose : IsLooseBranch b
   pub beside : AreKidsBeside place (place + 1) b

@@ -1,5 +1,5 @@
 -- What an insertion makes of a node.
-use Rattle.std.specs.Prelude.{◌≡◌, ℕ, ◌+◌, ◌≤◌, min, None, IsSome}
+use Rattle.std.specs.Prelude.{◌≡◌, ℕ, ◌+◌, ◌≤◌, min, length, None, IsSome}
 use Rattle.tatp_rows.specs.Ordered.{row_at, with_row}
 use Rattle.mr_node.specs.declared.room.Room.{Room}
 use Rattle.mr_node.specs.declared.room.Room.TheVariants.{Done, Exists, Full}
@@ -13,11 +13,11 @@ pub record IsGrown {V : Type 0} (key : ℕ) (value : V) (old new : Seen V) : Typ
   pub width : old.width ≤ new.width
   pub well : IsWell new
 
--- the answer of an insertion that takes no memory: the row went in, or the key is there, or the leaf is full
+-- the answer of an insertion that takes no memory: the row went in, or the key is there, or the leaf is full, and so has 32 rows
 abbrev pub IsRoomAnswer : {V : Type 0} → ℕ → V → Seen V → Seen V → Room V → Type 0
 IsRoomAnswer key value old new Done = (row_at key_of_pair key old.rows ≡ None) × IsGrown key value old new
 IsRoomAnswer key value old new (Exists v) = IsSome (row_at key_of_pair key old.rows) × (v ≡ value) × (new ≡ old)
-IsRoomAnswer key value old new (Full v) = (row_at key_of_pair key old.rows ≡ None) × (v ≡ value) × (new ≡ old)
+IsRoomAnswer key value old new (Full v) = (row_at key_of_pair key old.rows ≡ None) × (v ≡ value) × (new ≡ old) × (32 ≤ length old.rows)
 
 -- the least key and the count of a child after such an insertion
 abbrev pub IsNoted : {V : Type 0} → ℕ → Room V → ℕ → ℕ → ℕ → ℕ → Type 0

@@ -1,5 +1,7 @@
 -- What the rules of a root say of its height.
-use Rattle.std.proofs.Common.{◌≡◌, ℕ, ◌^◌, ◌<◌, ◌≤◌, length, sym, subst, arith, inl, inr, add-one}
+use Rattle.std.proofs.Common.{◌≡◌, ℕ, ◌^◌, ◌<◌, ◌≤◌, length, Result, Ok, Err, IfErr, sym, subst, arith, inl, inr, add-one}
+use Rattle.tatp_rows.specs.declared.refusal.Back.{Back}
+use Rattle.tatp_rows.specs.declared.refusal.Refusal.TheVariants.{Memory}
 use Rattle.std.proofs.Math.Nat.{mul-le-mul_right, pow-suc}
 use Rattle.std.proofs.lemmas.Bool.{cases_lt}
 use Rattle.mr_node.specs.Rows.{Seen}
@@ -30,3 +32,8 @@ module _ {V : Type 0} where
 
   pub higher_root : (key : ℕ) (value : V) (s mid new : Seen V) → IsHeightened s mid → IsGrown key value mid new → IsRoot new
   higher_root key value s mid new high grown = record { well = grown.well; two = λ h. omega (arith, high.width, grown.width) }
+
+-- where there are 32 rows or more, the answer says nothing new
+pub memory_wanted : {V : Type 0} (answer : Result (Unit {0}) (Back V)) (n : ℕ) → 32 ≤ n → IfErr answer (λ back. back.why ≡ Memory → 32 ≤ n)
+memory_wanted (Ok u) n enough = tt
+memory_wanted (Err back) n enough = λ wanted. enough

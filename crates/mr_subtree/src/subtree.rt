@@ -1,5 +1,5 @@
 //! The tree over the nodes of `mr_node`.
-ghost use Rattle.std.specs.Prelude.{◌≡◌, ◌+◌, ◌<◌, ◌≤◌, ℕ, None, [], length, nat_le, option_map, ok_or, IfOk, IfErr};
+ghost use Rattle.std.specs.Prelude.{◌≡◌, ◌+◌, ◌<◌, ◌≤◌, ℕ, None, [], length, nat_le, option_map, ok_or, IfOk, IfErr, OnErr};
 ghost use Rattle.std.specs.List.{find};
 ghost use Rattle.tatp_rows.specs.Ordered.{row_at, with_row_at, without_row};
 ghost use Rattle.mr_node.specs.Rows.{key_limit, key_of_pair, value_at};
@@ -103,11 +103,14 @@ impl<V: Drop> SubTree<V> {
         gone
     }
 
-    /// Puts a row in. Exists where a row with the key is there, Memory where the blank nodes for it can't be had: then
-    /// the tree is as it was, and the value is handed back. The key is below 18446744073709551614.
+    /// Puts a row in. Exists where a row with the key is there, Memory where the blank nodes for it can't be had, which
+    /// a tree of less than 32 rows never wants: then the tree is as it was, and the value is handed back. The key is
+    /// below 18446744073709551614.
     pub fn insert(&mut self, key: u64, value: V) -> Result<(), Back<V>>
         requires { key < key_limit }
-        ensures { IsInserted key value self.old.rows self.new.rows result }
+        ensures answer { IsInserted key value self.old.rows self.new.rows result }
+        ensures kept { OnErr result (self.new ≡ self.old) }
+        ensures memory { IfErr result (λ back. back.why ≡ Refusal.Memory → 32 ≤ length self.old.rows) }
     {
         match self.root.insert_room(key, value) {
             Room::Done => Ok(()),
@@ -137,7 +140,8 @@ impl<V: Drop> SubTree<V> {
     fn insert_full(&mut self, key: u64, value: V) -> Result<(), Back<V>>
         requires small { key < key_limit }
         requires missing { row_at key_of_pair key self.old.rows ≡ None }
-        ensures { IsInserted key value self.old.rows self.new.rows result }
+        ensures answer { IsInserted key value self.old.rows self.new.rows result }
+        ensures kept { OnErr result (self.new ≡ self.old) }
     {
         let Ok(mut stock) = Stock::take(self.alloc, self.blanks_wanted()) else {
             return Err(Back {

@@ -1,11 +1,16 @@
-use Rattle.std.proofs.Common.{arith, ◌≡◌, ◌<◌, ℕ, false, sym, subst, ◌∙◌, refl}
+use Rattle.std.proofs.Common.{arith, ◌≡◌, ◌<◌, ℕ, true, false, length, sym, subst, ◌∙◌, refl}
 use Rattle.std.proofs.Common.{Bool, ◌==◌, ◌≤◌}
 use Rattle.std.proofs.lemmas.Bool.Decides.{nat_tests}
 use Rattle.mr_node.specs.Levels.{IsLeaf, seen_leaf}
 use Rattle.mr_node.specs.Growth.{IsGrown}
+use Rattle.mr_node.proofs.PlaceLemmas.{packed_length}
 use Rattle.mr_node.proofs.SizeLemmas.{leaf_well}
 use Rattle.mr_node.proofs.EntryLemmas.{missing_at, found_some, leaf_inserted}
 use Rattle.mr_node.proofs.entries.insert_entry.Goals as goal
+
+-- a leaf that is full has 32 entries
+full : (full : Bool) (n : ℕ) → full ≡ (n == 32) → full ≡ true → 32 ≤ n
+full is n e f = grind (arith, nat_tests)
 
 -- a leaf that isn't full has room
 room : (full : Bool) (n : ℕ) → full ≡ (n == 32) → full ≡ false → n ≤ 32 → n < 32
@@ -19,7 +24,10 @@ returns-then-has_entry-clause-answer g c =
 pub returns-then-is_full-clause-answer : goal.returns-then-is_full-clause-answer
 returns-then-is_full-clause-answer g c =
     let not = sym c.has_entry.ensures ∙ c.if-has_entry.false in
-    ((missing_at c.args.key c.place_in-place.result c.args.entries.now.items c.requires.leaf c.place_in-place.ensures not).row, refl, refl)
+    let es = c.args.entries.now.items in
+    let rows = packed_length (length es) es c.requires.leaf.packed in
+    let all = full c.is_full.result _ c.is_full.ensures.value c.if-is_full.true in
+    ((missing_at c.args.key c.place_in-place.result es c.requires.leaf c.place_in-place.ensures not).row, refl, refl, omega (arith, rows, all))
 
 pub returns-clause-leaf : goal.returns-clause-leaf
 returns-clause-leaf g c =

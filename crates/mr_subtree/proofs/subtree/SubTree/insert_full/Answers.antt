@@ -19,8 +19,8 @@ invariant_of-self g c = higher_root c.args.key c.args.value c.self.inside.root c
 pub invariant_of-self-2 : goal.invariant_of-self-2
 invariant_of-self-2 g c = grown_root c.args.key c.args.value c.self.inside.root c.insert_split-2.new.self c.self.invariant c.insert_split-2.ensures.grown
 
-pub returns-then-width-eq32 : goal.returns-then-width-eq32
-returns-then-width-eq32 g c = (c.requires.missing, c.insert_split.ensures.grown.rows ∙ ap (with_row key_of_pair (c.args.key, c.args.value)) c.heighten.ensures.root.rows ∙ ap (λ s. with_row key_of_pair (c.args.key, c.args.value) s.rows) c.self.view_is)
+pub returns-then-width-eq32-clause-answer : goal.returns-then-width-eq32-clause-answer
+returns-then-width-eq32-clause-answer g c = (c.requires.missing, c.insert_split.ensures.grown.rows ∙ ap (with_row key_of_pair (c.args.key, c.args.value)) c.heighten.ensures.root.rows ∙ ap (λ s. with_row key_of_pair (c.args.key, c.args.value) s.rows) c.self.view_is)
 
-pub returns : goal.returns
-returns g c = (c.requires.missing, c.insert_split-2.ensures.grown.rows ∙ ap (λ s. with_row key_of_pair (c.args.key, c.args.value) s.rows) c.self.view_is)
+pub returns-clause-answer : goal.returns-clause-answer
+returns-clause-answer g c = (c.requires.missing, c.insert_split-2.ensures.grown.rows ∙ ap (λ s. with_row key_of_pair (c.args.key, c.args.value) s.rows) c.self.view_is)
