@@ -1,5 +1,5 @@
 //! A part with what its owner has not posted yet.
-ghost use Rattle.std.specs.Prelude.{◌≡◌, ℕ, ◌+◌, ◌<◌, ◌≤◌, [], ◌∷◌, Option, IfOk, OnErr, option_copied, ℤ, pos, ◌+ℤ◌, replicate, ◌⊎◌};
+ghost use Rattle.std.specs.Prelude.{◌≡◌, ℕ, ◌+◌, ◌<◌, ◌≤◌, [], ◌∷◌, Option, IfOk, IfErr, option_copied, ℤ, pos, ◌+ℤ◌, replicate, ◌⊎◌};
 ghost use Rattle.tatp_actions.specs.Action.{s_id_of, IsOutcome};
 ghost use Rattle.tatp_actions.specs.Book.{IsWithin, empty_book, first_subscriber};
 ghost use Rattle.tatp_actions.specs.Cell.{cell};
@@ -32,12 +32,12 @@ impl Model for Holding {
 }
 
 impl Holding {
-    /// An empty part of the range lo..hi with nothing to post; `Memory` where a growth was refused.
+    /// An empty part of the range lo..hi with nothing to post. It takes no memory, so this is always `Ok`.
     pub fn new(alloc: Global, lo: u32, hi: u32, width: u32) -> Result<Self, Refusal>
         requires range { IsRange lo hi }
         requires width { IsWidth width }
-        ensures ok { IfOk result (λ holding. holding ≡ record { part = record { book = empty_book; asked = 0; lo = lo; hi = hi; width = width }; pending = replicate CELLS (pos 0) }) }
-        ensures err { OnErr result (result ≡ Err Refusal.Memory) }
+        ensures holding { IfOk result (λ holding. holding ≡ record { part = record { book = empty_book; asked = 0; lo = lo; hi = hi; width = width }; pending = replicate CELLS (pos 0) }) }
+        ensures ok { IfErr result (λ _. ⊥) }
     {
         let part = Part::new(alloc, lo, hi, width)?;
         Ok(Holding {
@@ -106,7 +106,7 @@ impl Holding {
     }
 
     /// The pending deltas of all cells.
-    pub fn deltas(&self) -> [i64; 51]
+    pub fn deltas(&self) -> [i64; CELLS as usize]
         ensures { result ≡ self.now.pending }
     {
         self.pending.deltas()

@@ -88,7 +88,7 @@ impl Holdings {
     }
 
     /// The cells as published on the board.
-    pub fn published(&self) -> [i64; 51]
+    pub fn published(&self) -> [i64; CELLS as usize]
         ensures { (c : ℕ) → c < CELLS → slice_index_or result c (pos 0) ≡ published self.now c }
     {
         let mut cells = [0; 51];
@@ -99,7 +99,7 @@ impl Holdings {
     }
 
     /// What is not posted yet of each cell.
-    pub fn unposted(&self) -> [i64; 51]
+    pub fn unposted(&self) -> [i64; CELLS as usize]
         ensures { (c : ℕ) → c < CELLS → slice_index_or result c (pos 0) ≡ unposted self.now c }
     {
         self.holding.deltas()

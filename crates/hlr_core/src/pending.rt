@@ -40,7 +40,7 @@ impl Pending {
     }
 
     /// The deltas of all cells.
-    pub fn deltas(&self) -> [i64; 51]
+    pub fn deltas(&self) -> [i64; CELLS as usize]
         ensures { result ≡ self.now }
     {
         self.deltas

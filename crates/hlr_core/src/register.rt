@@ -92,14 +92,14 @@ impl Register {
     }
 
     /// The cells as published: for each, the sum of its plus-words less the sum of its minus-words.
-    pub fn published(&self) -> [i64; 51]
+    pub fn published(&self) -> [i64; CELLS as usize]
         ensures { (c : ℕ) → c < CELLS → slice_index_or result c (pos 0) ≡ published self.now c }
     {
         self.holdings.published()
     }
 
     /// What is not posted yet of each cell: with what is published, it is the cell counted over the rows now.
-    pub fn unposted(&self) -> [i64; 51]
+    pub fn unposted(&self) -> [i64; CELLS as usize]
         ensures value { (c : ℕ) → c < CELLS → slice_index_or result c (pos 0) ≡ unposted self.now c }
         ensures counted { (c : ℕ) → c < CELLS
             → published self.now c +ℤ slice_index_or result c (pos 0) ≡ pos (cell self.now.width c self.now.book) }
