@@ -1,7 +1,7 @@
 use super::*;
 use std::process::Abort;
 use std::test::Fail;
-use tatp_actions::RowReply;
+use tatp_actions::{CELLS, RowReply};
 use tatp_rows::{Number, Refusal, Subscriber};
 
 const DONE: Reply = Reply::Rows(RowReply::Done);
@@ -48,8 +48,8 @@ fn row(s_id: u64, number_value: u64, vlr_location: u64) -> Result<Subscriber, Fa
 }
 
 /// The counts of all cells, of which these aren't 0.
-fn counts(some: &[(u8, i64)]) -> [i64; 51] {
-    let mut cells = [0; 51];
+fn counts(some: &[(u8, i64)]) -> [i64; CELLS as usize] {
+    let mut cells = [0; CELLS as usize];
     for (cell, count) in some {
         if let Some(place) = cells.get_mut(usize::from(*cell)) {
             *place = *count;
@@ -105,101 +105,6 @@ fn posting(part: u64, limit: u64) -> Event {
     Event::Post { part, limit }
 }
 
-#[test]
-fn openings(rt: HostRuntime) -> Result<(), Fail> {
-    for (parts, width) in [(0, 4), (2, 4), (16, 4), (1, 0), (1, 524_289), (0, 0)] {
-        let refused = Register::open(rt.alloc(), parts, width);
-        assert_eq!(rt; refused.err(), Some(Refusal::Field), "at {parts}, {width}");
-    }
-    let register = opened(&rt, 1)?;
-    assert!(rt; stands(&register, &[], &[]));
-    Ok(())
-}
-
-/// Rows that are added and read.
-fn expect_rows(rt: &impl Abort, register: &mut Register) -> Result<(), Fail> {
-    for s_id in [0, 16_777_217, u64::MAX] {
-        assert!(rt; replies(register, read(s_id), FIELD), "at {s_id}");
-    }
-    assert!(rt; replies(register, read(16_777_216), ABSENT));
-    let seven = row(7, 70, 5)?;
-    let last = row(16_777_216, 80, 4_294_967_295)?;
-    assert!(rt; replies(register, Event::AddSubscriber(last), DONE));
-    assert!(rt; replies(register, Event::AddSubscriber(seven), DONE));
-    assert!(rt; replies(register, Event::AddSubscriber(seven), EXISTS));
-    assert!(rt; replies(register, Event::AddSubscriber(row(8, 70, 5)?), TAKEN));
-    assert!(rt; replies(register, Event::AddSubscriber(row(7, 80, 5)?), EXISTS));
-    assert!(rt; replies(register, Event::AddSubscriber(row(7, 81, 5)?), EXISTS));
-    assert!(rt; replies(register, read(8), ABSENT));
-    assert!(rt; replies(register, read(7), Reply::Rows(RowReply::Row(seven))));
-    assert!(rt; stands(register, &[], &[(3, 1), (18, 1), (19, 1), (50, 1)]));
-    Ok(())
-}
-
-#[test]
-fn rows(rt: HostRuntime) -> Result<(), Fail> {
-    let mut register = opened(&rt, 524_288)?;
-    expect_rows(&rt, &mut register)
-}
-
-/// Subscribers that move.
-fn expect_locations(rt: &impl Abort, register: &mut Register) -> Result<(), Fail> {
-    let seventy = number(70)?;
-    let seven = row(7, 70, 5)?;
-    assert!(rt; replies(register, moved(seventy, 5), NO_NUMBER));
-    assert!(rt; replies(register, moved(seventy, 0), FIELD));
-    assert!(rt; replies(register, Event::AddSubscriber(row(3, 69, 1)?), DONE));
-    assert!(rt; replies(register, Event::AddSubscriber(seven), DONE));
-    assert!(rt; replies(register, moved(seventy, 0), FIELD));
-    assert!(rt; replies(register, moved(seventy, 4_294_967_296), FIELD));
-    assert!(rt; replies(register, moved(number(7)?, 5), NO_NUMBER));
-    assert!(rt; replies(register, read(7), Reply::Rows(RowReply::Row(seven))));
-    assert!(rt; replies(register, moved(seventy, 4_294_967_295), DONE));
-    let there = row(7, 70, 4_294_967_295)?;
-    assert!(rt; replies(register, read(7), Reply::Rows(RowReply::Row(there))));
-    let third = row(3, 69, 1)?;
-    assert!(rt; replies(register, read(3), Reply::Rows(RowReply::Row(third))));
-    assert!(rt; stands(register, &[], &[(3, 1), (18, 1), (19, 1), (20, 1)]));
-    Ok(())
-}
-
-#[test]
-fn locations(rt: HostRuntime) -> Result<(), Fail> {
-    let mut register = opened(&rt, 4)?;
-    expect_locations(&rt, &mut register)
-}
-
-/// Cells that are posted.
-fn expect_postings(rt: &impl Abort, register: &mut Register) -> Result<(), Fail> {
-    let first = row(7, 70, 268_435_456)?;
-    assert!(rt; replies(register, Event::AddSubscriber(first), DONE));
-    assert!(rt; stands(register, &[], &[(4, 1), (20, 1)]));
-    assert!(rt; replies(register, posting(1, 5), NO_PART));
-    assert!(rt; replies(register, posting(u64::MAX, 5), NO_PART));
-    assert!(rt; replies(register, posting(0, 0), Reply::Posted(0)));
-    assert!(rt; stands(register, &[], &[(4, 1), (20, 1)]));
-    assert!(rt; replies(register, posting(0, 1), Reply::Posted(1)));
-    assert!(rt; stands(register, &[(4, 1)], &[(20, 1)]));
-    assert!(rt; replies(register, posting(0, u64::MAX), Reply::Posted(1)));
-    assert!(rt; stands(register, &[(4, 1), (20, 1)], &[]));
-    assert!(rt; replies(register, posting(0, 51), Reply::Posted(0)));
-    assert!(rt; replies(register, moved(number(70)?, 4_294_967_295), DONE));
-    assert!(rt; stands(register, &[(4, 1), (20, 1)], &[(4, -1), (18, 1)]));
-    assert!(rt; replies(register, posting(0, 51), Reply::Posted(2)));
-    assert!(rt; stands(register, &[(18, 1), (20, 1)], &[]));
-    assert!(rt; replies(register, moved(number(70)?, 268_435_456), DONE));
-    assert!(rt; replies(register, moved(number(70)?, 4_294_967_294), DONE));
-    assert!(rt; replies(register, posting(0, 51), Reply::Posted(0)));
-    assert!(rt; stands(register, &[(18, 1), (20, 1)], &[]));
-    Ok(())
-}
-
-#[test]
-fn postings(rt: HostRuntime) -> Result<(), Fail> {
-    let mut register = opened(&rt, 4)?;
-    expect_postings(&rt, &mut register)
-}
-
 /// A list of events, and where memory was refused, the same list again.
 fn expect_runs(rt: &impl Abort, register: &mut Register) -> Result<(), Fail> {
     assert!(rt; replies(register, Event::AddSubscriber(row(1, 1, 1)?), DONE));
@@ -244,26 +149,13 @@ fn runs(rt: HostRuntime) -> Result<(), Fail> {
     expect_runs(&rt, &mut register)
 }
 
-#[test]
-fn texts(rt: HostRuntime) -> Result<(), Fail> {
-    let text = format!(in rt.alloc(); "{:?}", posting(1, 2))?;
-    assert_eq!(rt; text.as_bytes(), b"Post { part: 1, limit: 2 }".as_slice());
-    let text = format!(in rt.alloc(); "{:?}", Reply::Posted(3))?;
-    assert_eq!(rt; text.as_bytes(), b"Posted(3)".as_slice());
-    let text = format!(in rt.alloc(); "{DONE:?}")?;
-    assert_eq!(rt; text.as_bytes(), b"Rows(Done)".as_slice());
-    let text = format!(in rt.alloc(); "{TAKEN:?}")?;
-    assert_eq!(rt; text.as_bytes(), b"Refused(NumberTaken)".as_slice());
-    Ok(())
-}
-
 /// A plain register of the subscribers 1, 1 + stride, 1 + 2 * stride and so on, which counts its rows each time.
 #[derive(Drop)]
 struct Plain {
     width: u32,
     stride: u32,
     rows: [Option<Subscriber>; 40],
-    published: [i64; 51],
+    published: [i64; CELLS as usize],
 }
 
 impl Plain {
@@ -271,8 +163,8 @@ impl Plain {
         (s_id.wrapping_sub(1) / u64::from(self.stride.max(1))) as usize
     }
 
-    fn counted(&self) -> [i64; 51] {
-        let mut cells = [0i64; 51];
+    fn counted(&self) -> [i64; CELLS as usize] {
+        let mut cells = [0i64; CELLS as usize];
         for row in self.rows.iter().flatten() {
             let area = 3 + row.vlr_location() / 268_435_456;
             let zone = 19 + ((row.s_id() - 1) / self.width.max(1)).min(31);
@@ -436,7 +328,7 @@ fn difference_at(rt: &HostRuntime, width: u32, stride: u32) -> Result<Option<u32
         width,
         stride,
         rows: [None; 40],
-        published: [0; 51],
+        published: [0; CELLS as usize],
     };
     difference(&mut register, &mut plain)
 }
