@@ -1,5 +1,5 @@
 -- Inner nodes that lose or get a child.
-use Rattle.std.proofs.Common.{◌≡◌, ℕ, ◌+◌, ◌-◌, ◌<◌, ◌≤◌, List, [], ◌∷◌, ◌++◌, length, get_or, take, drop, Some, None, IfSome, refl, sym, ap, subst, ◌∙◌, arith, take_at}
+use Rattle.std.proofs.Common.{◌≡◌, ℕ, ◌+◌, ◌-◌, ◌<◌, ◌≤◌, List, [], ◌∷◌, ◌++◌, length, get_or, take, drop, Option, Some, None, IfSome, refl, sym, ap, subst, ◌∙◌, arith, take_at}
 use Rattle.std.specs.List.{AllByRecursion}
 use Rattle.std.proofs.lemmas.List.{append_assoc, append_cancel_left, drop-drop, drop_at, length-take-le, take-append-drop, take-take}
 use Rattle.std.specs.declared.boxed.Box.{Box}
@@ -165,3 +165,13 @@ module _ {V : Type 0} where
           keys = loose.keys;
         };
       }
+
+  -- a child that is half full isn't thin
+  pub never_thin : (w : ℕ) (o : Option (NodeKid V)) (P : Type 0) → IfSome o (λ k. w ≡ k.node.value.width) → 16 ≤ w → IfSome o (λ k. k.node.value.width < 16 → P)
+  never_thin w None P width enough = tt
+  never_thin w (Some k) P width enough = λ thin. absurd (omega (arith, width, enough, thin))
+
+  -- what holds in any case
+  pub thin_or_not : (o : Option (NodeKid V)) (P : Type 0) → P → IfSome o (λ k. k.node.value.width < 16 → P)
+  thin_or_not None P p = tt
+  thin_or_not (Some k) P p = λ thin. p

@@ -7,3 +7,4 @@ pub mod Kids
 pub mod Levels
 pub mod Pairs
 pub mod Rows
+pub mod Steps

@@ -4,6 +4,7 @@ ghost use Rattle.tatp_rows.specs.Ordered.{IsOrderedBy};
 ghost use Rattle.mr_node.specs.Rows.{key_of_pair, somes, IsPacked};
 ghost use Rattle.mr_node.specs.Levels.{IsBranch, IsKid, rows_of, seen_branch};
 ghost use Rattle.mr_node.specs.Pairs.{IsFit, IsEvened, IsHalved};
+ghost use Rattle.mr_node.specs.Steps.{after_steps};
 
 use crate::pairs::even_kids;
 use crate::{Body, Branch, Kid, Meter, Node, build_inner, open};
@@ -31,17 +32,16 @@ fn even_leaves<V: Drop>(
     requires left_some { 15 ≤ left.value.width }
     requires right_some { 15 ≤ right.value.width }
     ensures nodes { IsEvened left.value right.value result.0.value result.1 }
-    ensures steps { meter.new ≤ meter.old + 4 }
+    ensures steps { meter.new ≡ after_steps 4 meter.old }
 {
-    meter.pass();
-    meter.pass();
+    meter.tick(4);
     if left.even_leaf(&mut *right) {
         return (left, None);
     }
     (left, Some(right))
 }
 
-// Two inner nodes made into one, or into two half full ones.
+// Two inner nodes made into one, or into two half full ones. One or two steps.
 fn even_branches<V: Drop>(
     mut left: Branch<Box<Node<V>>>,
     mut right: Branch<Box<Node<V>>>,
@@ -56,6 +56,7 @@ fn even_branches<V: Drop>(
     requires left_some { 15 ≤ left.len }
     requires right_some { 15 ≤ right.len }
     ensures nodes { IsEvened (seen_branch left) (seen_branch right) result.0.value result.1 }
+    ensures no_fewer { after_steps 1 meter.old ≤ meter.new }
     ensures steps { meter.new ≤ meter.old + 2 }
 {
     if even_kids(&mut left, &mut right) {
@@ -66,7 +67,7 @@ fn even_branches<V: Drop>(
     (low, Some(high))
 }
 
-// Two neighbours above the leaves made into one, or into two half full ones. At most four steps.
+// Two neighbours above the leaves made into one, or into two half full ones. Three or four steps.
 #[inline(never)]
 fn even_inner<V: Drop>(
     left: Box<Node<V>>,
@@ -79,6 +80,7 @@ fn even_inner<V: Drop>(
     requires left_some { 15 ≤ left.value.width }
     requires right_some { 15 ≤ right.value.width }
     ensures nodes { IsEvened left.value right.value result.0.value result.1 }
+    ensures no_fewer { after_steps 3 meter.old ≤ meter.new }
     ensures steps { meter.new ≤ meter.old + 4 }
 {
     let (left, left_box) = open(left, meter);
@@ -93,7 +95,7 @@ fn even_inner<V: Drop>(
 }
 
 // Makes two neighbours of one height into one node where their entries fit one, else into two half full ones.
-// At most four steps.
+// Three or four steps.
 pub(crate) fn even<V: Drop>(
     left: Box<Node<V>>,
     right: Box<Node<V>>,
@@ -104,6 +106,7 @@ pub(crate) fn even<V: Drop>(
     requires left_some { 15 ≤ left.value.width }
     requires right_some { 15 ≤ right.value.width }
     ensures nodes { IsEvened left.value right.value result.0.value result.1 }
+    ensures no_fewer { after_steps 3 meter.old ≤ meter.new }
     ensures steps { meter.new ≤ meter.old + 4 }
 {
     if left.height() > 0 {
@@ -131,10 +134,9 @@ pub(crate) fn halve<V: Drop>(
 ) -> (Box<Node<V>>, Box<Node<V>>)
     requires { node.value.width ≡ 32 }
     ensures halves { IsHalved node.value result.0.value result.1.value }
-    ensures steps { meter.new ≤ meter.old + 3 }
+    ensures steps { meter.new ≡ after_steps 3 meter.old }
 {
-    meter.pass();
-    meter.tick();
+    meter.tick(3);
     node.halve_into(&mut *blank);
     (node, blank)
 }

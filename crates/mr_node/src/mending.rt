@@ -1,8 +1,9 @@
 //! Inner nodes that lose or get a child.
-ghost use Rattle.std.specs.Prelude.{◌≡◌, ◌+◌, ◌-◌, ◌<◌, ◌≤◌, ℕ, None, IfSome, slice_index_or, if◌then◌else◌};
+ghost use Rattle.std.specs.Prelude.{◌≡◌, ◌+◌, ◌-◌, ◌*◌, ◌<◌, ◌≤◌, ℕ, None, IfSome, slice_index_or, if◌then◌else◌};
 ghost use Rattle.mr_node.specs.Rows.{StartsWith};
 ghost use Rattle.mr_node.specs.Levels.{IsBranch};
 ghost use Rattle.mr_node.specs.Changes.{IsLooseBranch, IsThinAt, IsSplicedAt, IsMended, IsSame, IsRoomAt};
+ghost use Rattle.mr_node.specs.Steps.{after_steps};
 
 use crate::branch::{put_kid, take_kid};
 use crate::halves::{even, halve, kid_of};
@@ -30,11 +31,12 @@ fn kid_width<V>(kids: &[Option<Kid<Box<Node<V>>>>; 32], place: usize) -> usize
     }
 }
 
-// Evens out the child at `place` and the next one.
+// Evens out the child at `place` and the next one. Three or four steps.
 fn join_pair<V: Drop>(branch: &mut Branch<Box<Node<V>>>, place: usize, meter: &mut Meter)
     requires loose { IsLooseBranch branch.old }
     requires within { place + 1 < branch.old.len }
     ensures spliced { IsSplicedAt place branch.old branch.new }
+    ensures no_fewer { after_steps 3 meter.old ≤ meter.new }
     ensures steps { meter.new ≤ meter.old + 4 }
 {
     let low = take_kid(branch, place);
@@ -49,12 +51,14 @@ fn join_pair<V: Drop>(branch: &mut Branch<Box<Node<V>>>, place: usize, meter: &m
     }
 }
 
-// Mends an inner node whose child at `place` may be one short of half full.
+// Mends an inner node whose child at `place` may be one short of half full: three or four steps where it is, else none.
 pub(crate) fn mend<V: Drop>(branch: &mut Branch<Box<Node<V>>>, place: usize, meter: &mut Meter)
     requires thin { IsThinAt place branch.old }
     requires two { 2 ≤ branch.old.len }
     requires within { place < branch.old.len }
     ensures mended { IsMended branch.old branch.new }
+    ensures no_fewer { after_steps 0 meter.old ≤ meter.new }
+    ensures thin { IfSome (slice_index_or branch.old.kids place None) (λ k. k.node.value.width < 16 → after_steps 3 meter.old ≤ meter.new) }
     ensures steps { meter.new ≤ meter.old + 4 }
 {
     if kid_width(&branch.kids, place) >= 16 {
@@ -67,7 +71,7 @@ pub(crate) fn mend<V: Drop>(branch: &mut Branch<Box<Node<V>>>, place: usize, met
     join_pair(branch, place - 1, meter);
 }
 
-// Finds the child to which a key belongs, and cuts it in two halves first where it is full.
+// Finds the child to which a key belongs, and cuts it in two halves first where it is full: three steps, and one blank.
 pub(crate) fn make_room<V: Drop>(
     branch: &mut Branch<Box<Node<V>>>,
     key: u64,
@@ -79,8 +83,10 @@ pub(crate) fn make_room<V: Drop>(
     requires stock { 0 < stock.old }
     ensures same { IsSame branch.old branch.new }
     ensures place { IsRoomAt key result branch.new }
-    ensures stock { stock.old ≤ stock.new + 1 }
-    ensures steps { meter.new ≤ meter.old + 3 }
+    ensures stock { stock.new ≤ stock.old }
+    ensures used { stock.old ≤ stock.new + 1 }
+    ensures no_fewer { after_steps (3 * (stock.old - stock.new)) meter.old ≤ meter.new }
+    ensures steps { meter.new ≤ meter.old + 3 * (stock.old - stock.new) }
 {
     let place = place_of(&branch.kids, branch.len, key);
     if kid_width(&branch.kids, place) < 32 {

@@ -1,5 +1,6 @@
 //! The count of steps.
-ghost use Rattle.std.specs.Prelude.{◌≡◌, ◌+◌, ◌≤◌, min};
+ghost use Rattle.std.specs.Prelude.{◌≡◌};
+ghost use Rattle.mr_node.specs.Steps.{after_steps};
 
 use std::marker::Model;
 
@@ -32,17 +33,10 @@ impl Meter {
         self.steps
     }
 
-    /// Counts one step.
-    pub(crate) fn tick(&mut self)
-        ensures { self.new ≡ min (self.old + 1) 18446744073709551615 }
+    /// Counts so many steps: one for each node that is taken apart, and one for each that is built, in place too.
+    pub(crate) fn tick(&mut self, steps: u64)
+        ensures { self.new ≡ after_steps steps self.old }
     {
-        self.steps = self.steps.saturating_add(1);
-    }
-
-    /// Counts two steps: a node is opened and built again in place.
-    pub(crate) fn pass(&mut self)
-        ensures { self.new ≡ min (self.old + 2) 18446744073709551615 }
-    {
-        self.steps = self.steps.saturating_add(2);
+        self.steps = self.steps.saturating_add(steps);
     }
 }

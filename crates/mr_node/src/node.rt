@@ -1,5 +1,5 @@
 //! Nodes.
-ghost use Rattle.std.specs.Prelude.{◌≡◌, ◌+◌, ◌*◌, ◌<◌, ◌≤◌, ℕ, None, min, [], ◌++◌, length, nat_le, option_map, ok_or, Ok, Err, if◌then◌else◌};
+ghost use Rattle.std.specs.Prelude.{◌≡◌, ◌+◌, ◌-◌, ◌*◌, ◌<◌, ◌≤◌, ℕ, None, min, [], ◌++◌, length, nat_le, option_map, ok_or, Ok, Err, if◌then◌else◌};
 ghost use Rattle.std.specs.List.{find};
 ghost use Rattle.tatp_rows.specs.Ordered.{IsOrderedBy, row_at, with_row_at};
 ghost use Rattle.mr_node.specs.Rows.{key_limit, key_of_pair, value_at, StartsWith};
@@ -8,6 +8,7 @@ ghost use Rattle.mr_node.specs.Folds.{FoldsRows};
 ghost use Rattle.mr_node.specs.Growth.{IsGrown, IsRoomAnswer, IsNoted};
 ghost use Rattle.mr_node.specs.Pairs.{IsHalved, AreEvened};
 ghost use Rattle.mr_node.specs.Changes.{IsShrunk, IsHeightened, IsLowered};
+ghost use Rattle.mr_node.specs.Steps.{after_steps};
 
 use crate::branch::{put_kid, take_kid};
 use crate::entries::{
@@ -209,15 +210,16 @@ impl<V: Drop> Node<V> {
         }
     }
 
-    /// Takes the row at a key out in place, and evens out what is less than half full. Two steps a level and at most
+    /// Takes the row at a key out in place, and evens out what is less than half full. Two steps a level, and three or
     /// four for each two neighbours that are evened out. A root may be left with one child.
     pub fn remove(&mut self, key: u64, meter: &mut Meter) -> Option<V>
         requires { 0 < self.old.height → 2 ≤ self.old.width }
         ensures new { IsShrunk key self.old self.new }
         ensures value { result ≡ value_at key self.old.rows }
+        ensures no_fewer { after_steps (2 * (self.old.height + 1)) meter.old ≤ meter.new }
         ensures steps { meter.new ≤ meter.old + 6 * (self.old.height + 1) }
     {
-        meter.pass();
+        meter.tick(2);
         match &mut self.body {
             Body::Leaf(entries) => remove_entry(entries, key),
             Body::Inner(branch) => {
@@ -237,16 +239,19 @@ impl<V: Drop> Node<V> {
     }
 
     /// Puts a row whose key isn't there in place, and cuts each full node on its way in two halves first. Two steps
-    /// a level, and three for each node that is cut.
+    /// a level, and three for each node that is cut, which takes one blank node.
     pub fn insert_split(&mut self, key: u64, value: V, stock: &mut Stock<V>, meter: &mut Meter)
         requires small { key < key_limit }
         requires missing { row_at key_of_pair key self.old.rows ≡ None }
         requires room { self.old.width < 32 }
         requires stock { self.old.height ≤ stock.old }
         ensures grown { IsGrown key value self.old self.new }
-        ensures steps { meter.new ≤ meter.old + 5 * (self.old.height + 1) }
+        ensures stock { stock.new ≤ stock.old }
+        ensures used { stock.old ≤ stock.new + self.old.height }
+        ensures no_fewer { after_steps (2 * (self.old.height + 1) + 3 * (stock.old - stock.new)) meter.old ≤ meter.new }
+        ensures steps { meter.new ≤ meter.old + (2 * (self.old.height + 1) + 3 * (stock.old - stock.new)) }
     {
-        meter.pass();
+        meter.tick(2);
         match &mut self.body {
             Body::Leaf(entries) => insert_new(entries, key, value),
             Body::Inner(branch) => {
@@ -272,7 +277,7 @@ impl<V: Drop> Node<V> {
         requires stock { 2 ≤ stock.old }
         ensures root { IsHeightened self.old self.new }
         ensures stock { stock.old ≡ stock.new + 2 }
-        ensures steps { meter.new ≤ meter.old + 4 }
+        ensures steps { meter.new ≡ after_steps 4 meter.old }
     {
         let mut low = stock.give();
         let high = stock.give();
@@ -280,12 +285,14 @@ impl<V: Drop> Node<V> {
         *self = root_over(low, high, meter);
     }
 
-    /// Takes away an inner root that has one child. One step.
+    /// Takes away an inner root that has one child, and its level with it: one step.
     pub fn lower(&mut self, meter: &mut Meter)
         requires well { IsWell self.old }
         requires some { 0 < self.old.height → 0 < self.old.width }
         ensures lowered { IsLowered self.old self.new }
-        ensures steps { meter.new ≤ meter.old + 1 }
+        ensures level { self.old.height ≤ self.new.height + 1 }
+        ensures no_fewer { after_steps (self.old.height - self.new.height) meter.old ≤ meter.new }
+        ensures steps { meter.new ≤ meter.old + (self.old.height - self.new.height) }
     {
         if self.height() == 0 {
             return;
@@ -410,7 +417,7 @@ fn root_over<V: Drop>(node: Box<Node<V>>, blank: Box<Node<V>>, meter: &mut Meter
     requires full { node.value.width ≡ 32 }
     requires well { IsWell node.value }
     ensures root { IsHeightened node.value result }
-    ensures steps { meter.new ≤ meter.old + 4 }
+    ensures steps { meter.new ≡ after_steps 4 meter.old }
 {
     let height = node.height() + 1;
     let (low, high) = halve(node, blank, meter);
@@ -421,7 +428,7 @@ fn root_over<V: Drop>(node: Box<Node<V>>, blank: Box<Node<V>>, meter: &mut Meter
     };
     put_kid(&mut root, 0, kid_of(high));
     put_kid(&mut root, 0, kid_of(low));
-    meter.tick();
+    meter.tick(1);
     Node {
         body: Body::Inner(root),
     }
@@ -434,7 +441,8 @@ fn drop_root<V: Drop>(root: &mut Node<V>, meter: &mut Meter)
     requires inner { 0 < root.old.height }
     requires one { root.old.width ≡ 1 }
     ensures lowered { IsLowered root.old root.new }
-    ensures steps { meter.new ≤ meter.old + 1 }
+    ensures level { root.old.height ≡ root.new.height + 1 }
+    ensures steps { meter.new ≡ after_steps 1 meter.old }
 {
     let node = mem::replace(root, Node::new());
     *root = only_child(node, meter);
@@ -447,9 +455,10 @@ fn only_child<V: Drop>(node: Node<V>, meter: &mut Meter) -> Node<V>
     ensures rows { result.rows ≡ node.rows }
     ensures well { IsWell result }
     ensures two { 2 ≤ result.width }
-    ensures steps { meter.new ≤ meter.old + 1 }
+    ensures level { node.height ≡ result.height + 1 }
+    ensures steps { meter.new ≡ after_steps 1 meter.old }
 {
-    meter.tick();
+    meter.tick(1);
     match node.into_body() {
         Body::Leaf(_) => unreachable!(),
         Body::Inner(mut branch) => {
@@ -467,9 +476,9 @@ pub fn open<V: Drop>(
     ensures seen { seen result.0 ≡ node.value }
     ensures whole { IsNode result.0 }
     ensures blank { result.1.value ≡ record { height = 0; width = 0; rows = [] } }
-    ensures steps { meter.new ≡ min (meter.old + 1) 18446744073709551615 }
+    ensures steps { meter.new ≡ after_steps 1 meter.old }
 {
-    meter.tick();
+    meter.tick(1);
     let body = mem::replace(&mut *node, Node::new()).into_body();
     (body, node)
 }
@@ -482,9 +491,9 @@ pub fn build_leaf<V: Drop>(
 ) -> Box<Node<V>>
     requires { IsLeaf entries.items }
     ensures seen { result.value ≡ seen_leaf entries.items }
-    ensures steps { meter.new ≡ min (meter.old + 1) 18446744073709551615 }
+    ensures steps { meter.new ≡ after_steps 1 meter.old }
 {
-    meter.tick();
+    meter.tick(1);
     put_leaf(&mut *blank, entries);
     blank
 }
@@ -497,9 +506,9 @@ pub fn build_inner<V: Drop>(
 ) -> Box<Node<V>>
     requires { IsBranch branch }
     ensures seen { result.value ≡ seen_branch branch }
-    ensures steps { meter.new ≡ min (meter.old + 1) 18446744073709551615 }
+    ensures steps { meter.new ≡ after_steps 1 meter.old }
 {
-    meter.tick();
+    meter.tick(1);
     put_inner(&mut *blank, branch);
     blank
 }

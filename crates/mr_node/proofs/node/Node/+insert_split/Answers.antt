@@ -1,4 +1,4 @@
-use Rattle.std.proofs.Common.{rules, arith, ◌≡◌, ◌-◌, ◌<◌, None, sym, ap, subst, ◌∙◌}
+use Rattle.std.proofs.Common.{rules, arith, ◌≡◌, ◌+◌, ◌-◌, ◌<◌, None, sym, ap, subst, ◌∙◌}
 use Rattle.tatp_rows.specs.Ordered.{row_at}
 use Rattle.mr_node.specs.Rows.{key_of_pair, somes}
 use Rattle.mr_node.specs.Levels.{IsNode, IsBranch, seen, seen_leaf, seen_branch}
@@ -39,7 +39,7 @@ insert_split-requires g t c κs within =
     let cut = both.0 in
     let lower : c.deref_mut-node.result.now.height < c.args.self.now.height = omega (arith, ap (λ s. s.height) c.deref_mut-node.ensures.value, cut.kid.level, same.height, whole.inner, ap (λ s. s.height) now) in
     let absent : row_at key_of_pair c.args.key k.node.value.rows ≡ None = sym (find_cut c.args.key i (nb.height - 1) (somes nb.kids) k cut) ∙ ap (row_at key_of_pair c.args.key) same.rows ∙ ap (λ s. row_at key_of_pair c.args.key s.rows) (sym now) ∙ c.requires.missing in
-    (omega (arith, lower, c.decreases), (within, (search rules, (c.requires.small, (ap (λ s. row_at key_of_pair c.args.key s.rows) c.deref_mut-node.ensures.value ∙ absent, (omega (arith, ap (λ s. s.width) c.deref_mut-node.ensures.value, both.1), omega (arith, lower, c.requires.stock, c.make_room-at.ensures.stock)))))))
+    (omega (arith, lower, c.decreases), (within, (search rules, (c.requires.small, (ap (λ s. row_at key_of_pair c.args.key s.rows) c.deref_mut-node.ensures.value ∙ absent, (omega (arith, ap (λ s. s.width) c.deref_mut-node.ensures.value, both.1), omega (arith, lower, c.requires.stock, c.make_room-at.ensures.used)))))))
 
 pub note_new-requires : goal.note_new-requires
 note_new-requires g t c =
@@ -96,6 +96,38 @@ returns-in-Some-clause-grown g t c =
     let all = grown_cut c.args.key i c.args.value nb k (kid_grown k c.note_new.new.least c.note_new.new.count n) same.whole cut place.within c.requires.small absent kid grown.rows in
     same_grown c.args.key c.args.value b nb c.args.self.now _ now same all.2
 
+pub returns-in-Some-clause-used : goal.returns-in-Some-clause-used
+returns-in-Some-clause-used g t c =
+    let b = c.in-Inner.branch in
+    let whole : IsBranch b = subst IsNode c.in-Inner.is c.self.invariant in
+    let now : c.args.self.now ≡ seen_branch b = sym c.self.view_is ∙ ap seen c.in-Inner.is in
+    let nb = c.make_room-at.new.branch in
+    let same = c.make_room-at.ensures.same in
+    let place = c.make_room-at.ensures.place in
+    let i = c.make_room-at.result in
+    let k = c.in-Some.kid in
+    let got = got_used nb.len i c.index-branch-at.result k nb.kids same.whole.packed place.within c.in-Some.is in
+    let both = cut_of_room c.args.key i nb k same.whole place got in
+    let cut = both.0 in
+    let lower : c.deref_mut-node.result.now.height + 1 ≡ c.args.self.now.height = omega (arith, ap (λ s. s.height) c.deref_mut-node.ensures.value, cut.kid.level, same.height, whole.inner, ap (λ s. s.height) now) in
+    omega (arith, lower, c.make_room-at.ensures.stock, c.make_room-at.ensures.used, c.insert_split.ensures.stock, c.insert_split.ensures.used)
+
+pub returns-in-Some-clause-no_fewer : goal.returns-in-Some-clause-no_fewer
+returns-in-Some-clause-no_fewer g t c =
+    let b = c.in-Inner.branch in
+    let whole : IsBranch b = subst IsNode c.in-Inner.is c.self.invariant in
+    let now : c.args.self.now ≡ seen_branch b = sym c.self.view_is ∙ ap seen c.in-Inner.is in
+    let nb = c.make_room-at.new.branch in
+    let same = c.make_room-at.ensures.same in
+    let place = c.make_room-at.ensures.place in
+    let i = c.make_room-at.result in
+    let k = c.in-Some.kid in
+    let got = got_used nb.len i c.index-branch-at.result k nb.kids same.whole.packed place.within c.in-Some.is in
+    let both = cut_of_room c.args.key i nb k same.whole place got in
+    let cut = both.0 in
+    let lower : c.deref_mut-node.result.now.height + 1 ≡ c.args.self.now.height = omega (arith, ap (λ s. s.height) c.deref_mut-node.ensures.value, cut.kid.level, same.height, whole.inner, ap (λ s. s.height) now) in
+    omega (arith, lower, c.make_room-at.ensures.stock, c.make_room-at.ensures.used, c.insert_split.ensures.stock, c.insert_split.ensures.used, c.tick.ensures, c.make_room-at.ensures.no_fewer, c.insert_split.ensures.no_fewer)
+
 pub returns-in-Some-clause-steps : goal.returns-in-Some-clause-steps
 returns-in-Some-clause-steps g t c =
     let b = c.in-Inner.branch in
@@ -109,5 +141,5 @@ returns-in-Some-clause-steps g t c =
     let got = got_used nb.len i c.index-branch-at.result k nb.kids same.whole.packed place.within c.in-Some.is in
     let both = cut_of_room c.args.key i nb k same.whole place got in
     let cut = both.0 in
-    let lower : c.deref_mut-node.result.now.height < c.args.self.now.height = omega (arith, ap (λ s. s.height) c.deref_mut-node.ensures.value, cut.kid.level, same.height, whole.inner, ap (λ s. s.height) now) in
-    omega (arith, lower, c.pass.ensures, c.make_room-at.ensures.steps, c.insert_split.ensures.steps)
+    let lower : c.deref_mut-node.result.now.height + 1 ≡ c.args.self.now.height = omega (arith, ap (λ s. s.height) c.deref_mut-node.ensures.value, cut.kid.level, same.height, whole.inner, ap (λ s. s.height) now) in
+    omega (arith, lower, c.make_room-at.ensures.stock, c.make_room-at.ensures.used, c.insert_split.ensures.stock, c.insert_split.ensures.used, c.tick.ensures, c.make_room-at.ensures.steps, c.insert_split.ensures.steps)

@@ -1,4 +1,4 @@
-use Rattle.std.proofs.Common.{rules, arith, ◌≡◌, ◌-◌, ◌<◌, option_map, is_some, refl, sym, ap, subst, ◌∙◌}
+use Rattle.std.proofs.Common.{rules, arith, ◌≡◌, ◌+◌, ◌-◌, ◌<◌, option_map, is_some, refl, sym, ap, subst, ◌∙◌}
 use Rattle.mr_node.specs.Rows.{somes, value_at}
 use Rattle.mr_node.specs.Levels.{IsNode, IsBranch, seen, seen_leaf, seen_branch}
 use Rattle.mr_node.specs.Changes.{IsShrunk}
@@ -89,4 +89,17 @@ returns-in-Some-clause-steps g t c =
     let got = got_used b.len i c.index-branch-at.result k b.kids whole.packed at.within c.in-Some.is in
     let cut = cut_kid c.args.key i b k whole at got in
     let lower : c.deref_mut-node.result.now.height < c.args.self.now.height = omega (arith, ap (λ s. s.height) c.deref_mut-node.ensures.value, cut.kid.level, whole.inner, ap (λ s. s.height) now) in
-    omega (arith, lower, c.pass.ensures, c.remove-gone.ensures.steps, c.mend.ensures.steps)
+    omega (arith, lower, c.tick.ensures, c.remove-gone.ensures.steps, c.mend.ensures.steps)
+
+pub returns-in-Some-clause-no_fewer : goal.returns-in-Some-clause-no_fewer
+returns-in-Some-clause-no_fewer g t c =
+    let b = c.in-Inner.branch in
+    let whole : IsBranch b = subst IsNode c.in-Inner.is c.self.invariant in
+    let now : c.args.self.now ≡ seen_branch b = sym c.self.view_is ∙ ap seen c.in-Inner.is in
+    let i = c.place_of-at.result in
+    let k = c.in-Some.kid in
+    let at = c.place_of-at.ensures in
+    let got = got_used b.len i c.index-branch-at.result k b.kids whole.packed at.within c.in-Some.is in
+    let cut = cut_kid c.args.key i b k whole at got in
+    let lower : c.deref_mut-node.result.now.height + 1 ≡ c.args.self.now.height = omega (arith, ap (λ s. s.height) c.deref_mut-node.ensures.value, cut.kid.level, whole.inner, ap (λ s. s.height) now) in
+    omega (arith, lower, c.tick.ensures, c.remove-gone.ensures.no_fewer, c.mend.ensures.no_fewer)
