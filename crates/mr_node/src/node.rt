@@ -47,7 +47,7 @@ impl<V> Model for Node<V> {
 
     ghost use Rattle.mr_node.specs.Falls.{depth_le_height};
 
-    ghost size_decreases = { λ a h. depth_le_height V a h };
+    ghost size_decreases = { λ a h. depth_le_height V a.body h };
 }
 
 impl<V> Node<V> {
