@@ -9,7 +9,7 @@ use Rattle.mr_node.specs.Rows.{Seen, key_of_pair, key_limit, somes, IsPacked, Ke
 use Rattle.mr_node.specs.Levels.{NodeKid, NodeBranch, rows_of, IsKid, IsBranch}
 use Rattle.mr_node.specs.Kids.{IsKidPlace}
 use Rattle.mr_node.specs.Pairs.{IsHalved}
-use Rattle.mr_node.specs.Changes.{IsSame, IsRoomAt}
+use Rattle.mr_node.specs.Changes.{IsRoomMade, IsRoomAt}
 use Rattle.mr_node.proofs.PlaceLemmas.{packed_length, packed_get, packed_some, somes_split}
 use Rattle.mr_node.proofs.KidLemmas.{IsCutAt, rows_of-append, cut_kid}
 use Rattle.mr_node.proofs.MendLemmas.{put_at, kid_at}
@@ -45,7 +45,7 @@ module _ {V : Type 0} where
       let wide : w ≡ some.0.node.value.width = subst (λ o. IfSome o (λ k. w ≡ k.node.value.width)) some.1 width in
       record { within = at.within; below = cut.below; above = cut.above; room = subst (λ o. IfSome o (λ k. k.node.value.width < 32)) (sym some.1) (omega (arith, wide)) }
 
-  pub same_alone : (b : NodeBranch V) → IsBranch b → IsSame b b
+  pub same_alone : (b : NodeBranch V) → IsBranch b → IsRoomMade b b
   same_alone b branch = record { height = refl; len = omega arith; rows = refl; whole = branch }
 
   -- a full child is 32 wide
@@ -93,7 +93,7 @@ module _ {V : Type 0} where
       let c = rows_of (drop (i + 1) (somes b.kids)) in
       ap (λ r. a ++ r) (sym (append_assoc low.node.value.rows high.node.value.rows c) ∙ ap (λ r. r ++ c) sp.rows) ∙ sym cut.rows
 
-  pub split_same : (key i : ℕ) (b new : NodeBranch V) (k low high : NodeKid V) → IsBranch b → b.len < 32 → IsCutAt key (b.height - 1) i (somes b.kids) k → IsKidSplit i b new k low high → IsSame b new
+  pub split_same : (key i : ℕ) (b new : NodeBranch V) (k low high : NodeKid V) → IsBranch b → b.len < 32 → IsCutAt key (b.height - 1) i (somes b.kids) k → IsKidSplit i b new k low high → IsRoomMade b new
   split_same key i b new k low high branch room cut sp =
       let a = take i (somes b.kids) in
       let c = drop (i + 1) (somes b.kids) in

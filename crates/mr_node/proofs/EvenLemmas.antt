@@ -6,12 +6,12 @@ use Rattle.tatp_rows.specs.Ordered.{IsOrderedBy}
 use Rattle.tatp_rows.proofs.AppendLemmas.{each-append, each-left, each-right, ordered-left, ordered-right}
 use Rattle.mr_node.specs.Rows.{Seen, key_of_pair, key_limit, somes, IsPacked}
 use Rattle.mr_node.specs.Levels.{NodeBranch, rows_of, IsLeaf, IsKid, IsBranch, seen_leaf, seen_branch}
-use Rattle.mr_node.specs.Pairs.{IsMoved, AreEven, IsFit, IsEvened, AreEvened, IsHalved}
+use Rattle.mr_node.specs.Pairs.{IsMoved, AreEvenWidths, IsKidNode, IsEvened, AreEvened, IsHalved}
 use Rattle.mr_node.proofs.PlaceLemmas.{somes_append, packed_left, packed_right, packed_join, packed_length}
 use Rattle.mr_node.proofs.KidLemmas.{rows_of-append}
 use Rattle.mr_node.proofs.SizeLemmas.{leaf_well, branch_well}
 
-pub even_fits : (r : Bool) (c d : ℕ) → AreEven r c d → (c ≤ 32) × (d ≤ 32)
+pub even_fits : (r : Bool) (c d : ℕ) → AreEvenWidths r c d → (c ≤ 32) × (d ≤ 32)
 even_fits true c d even = (even.1, omega (arith, even.2))
 even_fits false c d even = (even.1, even.3)
 
@@ -39,23 +39,23 @@ module _ {V : Type 0} where
         keys = each-right (λ p. p.0 < key_limit) (somes c) (somes d) (subst (AllByRecursion (λ p. p.0 < key_limit)) same (each-append (λ p. p.0 < key_limit) (somes a) (somes b) la.keys lb.keys));
       }
 
-  pub one_leaf : (a b c d : List (Option (ℕ × V))) → IsLeaf a → IsLeaf b → c ++ d ≡ a ++ b → IsOrderedBy key_of_pair (somes a ++ somes b) → AreEven true (length c) (length d) → (s : Seen V) → s ≡ seen_leaf c → IsEvened (seen_leaf a) (seen_leaf b) s None
+  pub one_leaf : (a b c d : List (Option (ℕ × V))) → IsLeaf a → IsLeaf b → c ++ d ≡ a ++ b → IsOrderedBy key_of_pair (somes a ++ somes b) → AreEvenWidths true (length c) (length d) → (s : Seen V) → s ≡ seen_leaf c → IsEvened (seen_leaf a) (seen_leaf b) s None
   one_leaf a b c d la lb e o even s es =
       let leaf = left_leaf a b c d la lb e o even.1 in
       let none : somes d ≡ [] = ap somes (nil_from_length d even.2) in
       subst (λ x. IsEvened (seen_leaf a) (seen_leaf b) x None) (sym es)
       (record { level = refl; enough = even.0; well = leaf_well c leaf }, sym (append-nil (somes c)) ∙ ap (λ r. somes c ++ r) (sym none) ∙ shared_entries a b c d e)
 
-  pub two_leaves : (a b c d : List (Option (ℕ × V))) → IsLeaf a → IsLeaf b → c ++ d ≡ a ++ b → IsOrderedBy key_of_pair (somes a ++ somes b) → AreEven false (length c) (length d) → (s t : Seen V) → s ≡ seen_leaf c → t ≡ seen_leaf d → (IsFit 0 s) × (IsFit 0 t) × (s.rows ++ t.rows ≡ somes a ++ somes b)
+  pub two_leaves : (a b c d : List (Option (ℕ × V))) → IsLeaf a → IsLeaf b → c ++ d ≡ a ++ b → IsOrderedBy key_of_pair (somes a ++ somes b) → AreEvenWidths false (length c) (length d) → (s t : Seen V) → s ≡ seen_leaf c → t ≡ seen_leaf d → (IsKidNode 0 s) × (IsKidNode 0 t) × (s.rows ++ t.rows ≡ somes a ++ somes b)
   two_leaves a b c d la lb e o even s t es et =
       let low = left_leaf a b c d la lb e o even.1 in
       let high = right_leaf a b c d la lb e o even.3 in (
-        subst (IsFit 0) (sym es) (record { level = refl; enough = even.0; well = leaf_well c low }),
-        subst (IsFit 0) (sym et) (record { level = refl; enough = even.2; well = leaf_well d high }),
+        subst (IsKidNode 0) (sym es) (record { level = refl; enough = even.0; well = leaf_well c low }),
+        subst (IsKidNode 0) (sym et) (record { level = refl; enough = even.2; well = leaf_well d high }),
         ap (λ x. x.rows ++ t.rows) es ∙ ap (λ x. somes c ++ x.rows) et ∙ shared_entries a b c d e,
       )
 
-  pub evened_leaves : (r : Bool) (a b c d : List (Option (ℕ × V))) → IsLeaf a → IsLeaf b → c ++ d ≡ a ++ b → IsOrderedBy key_of_pair (somes a ++ somes b) → AreEven r (length c) (length d) → AreEvened r (seen_leaf a) (seen_leaf b) (seen_leaf c) (seen_leaf d)
+  pub evened_leaves : (r : Bool) (a b c d : List (Option (ℕ × V))) → IsLeaf a → IsLeaf b → c ++ d ≡ a ++ b → IsOrderedBy key_of_pair (somes a ++ somes b) → AreEvenWidths r (length c) (length d) → AreEvened r (seen_leaf a) (seen_leaf b) (seen_leaf c) (seen_leaf d)
   evened_leaves true a b c d la lb e o even = one_leaf a b c d la lb e o even (seen_leaf c) refl
   evened_leaves false a b c d la lb e o even = two_leaves a b c d la lb e o even (seen_leaf c) (seen_leaf d) refl refl
 
@@ -106,19 +106,19 @@ module _ {V : Type 0} where
         keys = each-right (λ p. p.0 < key_limit) (rows_of (somes c.kids)) (rows_of (somes d.kids)) (subst (AllByRecursion (λ p. p.0 < key_limit)) same s.keys);
       }
 
-  pub one_branch : (a b c d : NodeBranch V) → IsShared a b → IsMoved a b c d → AreEven true c.len d.len → (s : Seen V) → s ≡ seen_branch c → IsEvened (seen_branch a) (seen_branch b) s None
+  pub one_branch : (a b c d : NodeBranch V) → IsShared a b → IsMoved a b c d → AreEvenWidths true c.len d.len → (s : Seen V) → s ≡ seen_branch c → IsEvened (seen_branch a) (seen_branch b) s None
   one_branch a b c d sh m even s es =
       let whole = left_branch a b c d sh m (omega (arith, even.0)) even.1 in
       let none : rows_of (somes d.kids) ≡ [] = ap rows_of (nil_from_length (somes d.kids) (packed_length d.len d.kids m.right ∙ even.2)) in
       subst (λ x. IsEvened (seen_branch a) (seen_branch b) x None) (sym es)
       (record { level = m.left_height; enough = even.0; well = branch_well c whole }, sym (append-nil (rows_of (somes c.kids))) ∙ ap (λ r. rows_of (somes c.kids) ++ r) (sym none) ∙ shared_kids a b c d m)
 
-  pub two_branches : (a b c d : NodeBranch V) → IsShared a b → IsMoved a b c d → AreEven false c.len d.len → (s t : Seen V) → s ≡ seen_branch c → t ≡ seen_branch d → (IsFit a.height s) × (IsFit a.height t) × (s.rows ++ t.rows ≡ rows_of (somes a.kids) ++ rows_of (somes b.kids))
+  pub two_branches : (a b c d : NodeBranch V) → IsShared a b → IsMoved a b c d → AreEvenWidths false c.len d.len → (s t : Seen V) → s ≡ seen_branch c → t ≡ seen_branch d → (IsKidNode a.height s) × (IsKidNode a.height t) × (s.rows ++ t.rows ≡ rows_of (somes a.kids) ++ rows_of (somes b.kids))
   two_branches a b c d sh m even s t es et =
       let low = left_branch a b c d sh m (omega (arith, even.0)) even.1 in
       let high = right_branch a b c d sh m (omega (arith, even.2)) even.3 in (
-        subst (IsFit a.height) (sym es) (record { level = m.left_height; enough = even.0; well = branch_well c low }),
-        subst (IsFit a.height) (sym et) (record { level = m.right_height ∙ sh.level; enough = even.2; well = branch_well d high }),
+        subst (IsKidNode a.height) (sym es) (record { level = m.left_height; enough = even.0; well = branch_well c low }),
+        subst (IsKidNode a.height) (sym et) (record { level = m.right_height ∙ sh.level; enough = even.2; well = branch_well d high }),
         ap (λ x. x.rows ++ t.rows) es ∙ ap (λ x. rows_of (somes c.kids) ++ x.rows) et ∙ shared_kids a b c d m,
       )
 

@@ -8,8 +8,8 @@ use Rattle.tatp_rows.specs.Ordered.{IsOrderedBy}
 use Rattle.tatp_rows.proofs.AppendLemmas.{each-append, each-left, each-right, ordered-left, ordered-right}
 use Rattle.mr_node.specs.Rows.{Seen, key_of_pair, key_limit, somes, IsPacked, KeysBelow, StartsWith}
 use Rattle.mr_node.specs.Levels.{NodeKid, NodeBranch, rows_of, IsKid}
-use Rattle.mr_node.specs.Pairs.{IsFit, IsEvened}
-use Rattle.mr_node.specs.Changes.{IsLoose, IsLooseBranch, AreKidsBeside, IsThinAt, IsSplicedAt, IsMended}
+use Rattle.mr_node.specs.Pairs.{IsKidNode, IsEvened}
+use Rattle.mr_node.specs.Changes.{IsLoose, IsLooseBranch, AreKidsBeside, IsLooseAt, IsSplicedAt, IsMended}
 use Rattle.mr_node.proofs.PlaceLemmas.{packed_some, somes_split}
 use Rattle.mr_node.proofs.KidLemmas.{rows_of-append}
 
@@ -38,8 +38,8 @@ module _ {X : Type 0} where
       eu ∙ ap (λ r. r ++ (x ∷ drop l t)) (ap (take l) et ∙ take_at a d l len) ∙ ap (λ r. a ++ (x ∷ r)) (ap (drop l) et ∙ drop_at a d l len)
 
 module _ {V : Type 0} where
-  pub fit_own : (h : ℕ) (s : Seen V) → IsFit h s → IsFit s.height s
-  fit_own h s fit = record { level = refl; enough = fit.enough; well = fit.well }
+  pub own_height : (h : ℕ) (s : Seen V) → IsKidNode h s → IsKidNode s.height s
+  own_height h s fit = record { level = refl; enough = fit.enough; well = fit.well }
 
   pub kid_at : (h j : ℕ) (k : NodeKid V) → j ≡ h → IsKid j k → IsKid h k
   kid_at h j k e = subst (λ n. IsKid n k) e
@@ -102,7 +102,7 @@ module _ {V : Type 0} where
         kids = λ beside. subst (AllByRecursion (IsKid (b.height - 1))) (sym now) (beside_parts l b beside (k ∷ (j ∷ [])) (good, (fine, tt)));
       }
 
-  -- from the children beside a thin one to those beside a pair that has it
+  -- from the children beside a loose one to those beside a pair that has it
   beside_next : (l : ℕ) (b : NodeBranch V) → AreKidsBeside l (l + 1) b → AreKidsBeside l (l + 2) b
   beside_next l b beside = record {
     before = beside.before;
@@ -133,22 +133,22 @@ module _ {V : Type 0} where
     };
   }
 
-  pub mended_next : (l : ℕ) (b new : NodeBranch V) → IsThinAt l b → IsSplicedAt l b new → IsMended b new
-  mended_next l b new thin sp = mended_of l b new thin.loose sp (beside_next l b thin.beside)
+  pub mended_next : (l : ℕ) (b new : NodeBranch V) → IsLooseAt l b → IsSplicedAt l b new → IsMended b new
+  mended_next l b new loose sp = mended_of l b new loose.branch sp (beside_next l b loose.beside)
 
-  pub mended_last : (l m : ℕ) (b new : NodeBranch V) → l ≡ m + 1 → IsThinAt l b → IsSplicedAt m b new → IsMended b new
-  mended_last l m b new e thin sp = mended_of m b new thin.loose sp (beside_last l m b e thin.beside)
+  pub mended_last : (l m : ℕ) (b new : NodeBranch V) → l ≡ m + 1 → IsLooseAt l b → IsSplicedAt m b new → IsMended b new
+  mended_last l m b new e loose sp = mended_of m b new loose.branch sp (beside_last l m b e loose.beside)
 
-  -- a thin child that is half full after all
-  pub mended_same : (l w : ℕ) (b : NodeBranch V) → IsThinAt l b → l < b.len → IfSome (get_or b.kids l None) (λ k. w ≡ k.node.value.width) → 16 ≤ w → IsMended b b
-  mended_same l w b thin lt width enough =
+  -- a child that is half full after all
+  pub mended_same : (l w : ℕ) (b : NodeBranch V) → IsLooseAt l b → l < b.len → IfSome (get_or b.kids l None) (λ k. w ≡ k.node.value.width) → 16 ≤ w → IsMended b b
+  mended_same l w b loose lt width enough =
       let kids = somes b.kids in
-      let loose = thin.loose in
-      let some = packed_some b.len l b.kids loose.packed lt in
+      let branch = loose.branch in
+      let some = packed_some b.len l b.kids branch.packed lt in
       let k = some.0 in
-      let split = somes_split b.len l k b.kids loose.packed some.1 in
-      let mid = (each-right (IsLoose (b.height - 1)) (take l kids) (k ∷ drop (l + 1) kids) (subst (AllByRecursion (IsLoose (b.height - 1))) split loose.kids)).0 in
-      let here = subst (λ o. IfSome o (λ j. (StartsWith j.least j.node.value.rows) × (j.count ≡ length j.node.value.rows))) some.1 thin.here in
+      let split = somes_split b.len l k b.kids branch.packed some.1 in
+      let mid = (each-right (IsLoose (b.height - 1)) (take l kids) (k ∷ drop (l + 1) kids) (subst (AllByRecursion (IsLoose (b.height - 1))) split branch.kids)).0 in
+      let here = subst (λ o. IfSome o (λ j. (StartsWith j.least j.node.value.rows) × (j.count ≡ length j.node.value.rows))) some.1 loose.here in
       let wide : w ≡ k.node.value.width = subst (λ o. IfSome o (λ j. w ≡ j.node.value.width)) some.1 width in
       let good : IsKid (b.height - 1) k = record { level = mid.level; enough = omega (arith, wide); well = mid.well; first = here.0; counted = here.1 } in
       record {
@@ -156,13 +156,13 @@ module _ {V : Type 0} where
         len = omega arith;
         rows = refl;
         whole = record {
-          inner = loose.inner;
+          inner = branch.inner;
           some = omega arith;
-          fits = loose.fits;
-          packed = loose.packed;
-          kids = subst (AllByRecursion (IsKid (b.height - 1))) (sym split) (each-append (IsKid (b.height - 1)) (take l kids) (k ∷ drop (l + 1) kids) thin.beside.before (good, thin.beside.after));
-          ordered = loose.ordered;
-          keys = loose.keys;
+          fits = branch.fits;
+          packed = branch.packed;
+          kids = subst (AllByRecursion (IsKid (b.height - 1))) (sym split) (each-append (IsKid (b.height - 1)) (take l kids) (k ∷ drop (l + 1) kids) loose.beside.before (good, loose.beside.after));
+          ordered = branch.ordered;
+          keys = branch.keys;
         };
       }
 

@@ -8,7 +8,7 @@ use Rattle.tatp_rows.proofs.OrderedLemmas.{each-weaker, each-without_row, ordere
 use Rattle.tatp_rows.proofs.SpanLemmas.{without_row-part}
 use Rattle.mr_node.specs.Rows.{Seen, key_of_pair, key_limit, value_at, somes, KeysBelow, StartsWith}
 use Rattle.mr_node.specs.Levels.{NodeKid, NodeBranch, rows_of, IsWell, IsKid, IsBranch, seen_branch}
-use Rattle.mr_node.specs.Changes.{IsLoose, IsThinAt, IsMended, IsShrunk}
+use Rattle.mr_node.specs.Changes.{IsLoose, IsLooseAt, IsMended, IsShrunk}
 use Rattle.mr_node.proofs.PlaceLemmas.{packed_fits, packed_set, somes_set, somes_written}
 use Rattle.mr_node.proofs.KidLemmas.{IsCutAt, rows_written}
 use Rattle.mr_node.proofs.SizeLemmas.{branch_well}
@@ -48,8 +48,8 @@ module _ {V : Type 0} where
     well = subst IsWell (sym e) shrunk.well;
   }
 
-  pub thin_after : (key i : ℕ) (b : NodeBranch V) (k k' : NodeKid V) (n : Seen V) → IsBranch b → IsCutAt key (b.height - 1) i (somes b.kids) k → i < b.len → IsShrunk key k.node.value n → k'.node.value ≡ n → (0 < n.width → StartsWith k'.least n.rows) → k'.count ≡ length n.rows → IsThinAt i (branch_with b i k')
-  thin_after key i b k k' n branch cut lt shrunk e first count =
+  pub loose_after : (key i : ℕ) (b : NodeBranch V) (k k' : NodeKid V) (n : Seen V) → IsBranch b → IsCutAt key (b.height - 1) i (somes b.kids) k → i < b.len → IsShrunk key k.node.value n → k'.node.value ≡ n → (0 < n.width → StartsWith k'.least n.rows) → k'.count ≡ length n.rows → IsLooseAt i (branch_with b i k')
+  loose_after key i b k k' n branch cut lt shrunk e first count =
       let kids = somes b.kids in
       let list = somes_set b.len i k' b.kids branch.packed lt in
       let written = somes_written b.len i k' b.kids branch.packed lt in
@@ -58,7 +58,7 @@ module _ {V : Type 0} where
       let back : drop (i + 1) (somes (set b.kids i (Some k'))) ≡ drop (i + 1) kids = ap (drop (i + 1)) list ∙ drop-set-lt (i + 1) kids i k' (omega arith) in
       let loose = loose_kid (b.height - 1) key k k' n cut.kid shrunk e in
       record {
-        loose = record {
+        branch = record {
           inner = branch.inner;
           fits = branch.fits;
           packed = packed_set b.len i k' b.kids branch.packed lt;

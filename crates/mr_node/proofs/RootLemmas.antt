@@ -7,7 +7,7 @@ use Rattle.mr_node.specs.Rows.{Seen, key_of_pair, key_limit, somes, IsPacked, Ke
 use Rattle.mr_node.specs.Levels.{NodeKid, NodeBranch, rows_of, IsWell, IsKid, IsBranch, seen_branch}
 use Rattle.mr_node.specs.Pairs.{IsHalved}
 use Rattle.mr_node.specs.Growth.{IsGrown}
-use Rattle.mr_node.specs.Changes.{IsSame, IsHeightened}
+use Rattle.mr_node.specs.Changes.{IsRoomMade, IsHeightened}
 use Rattle.mr_node.proofs.PlaceLemmas.{packed_length}
 use Rattle.mr_node.proofs.MendLemmas.{kid_at}
 use Rattle.mr_node.proofs.SizeLemmas.{branch_well}
@@ -38,7 +38,7 @@ module _ {V : Type 0} where
       let list : somes b.kids ≡ k ∷ [] = e ∙ ap (λ r. k ∷ r) none in
       (ap rows_of list ∙ append-nil k.node.value.rows, (subst (AllByRecursion (IsKid (b.height - 1))) list branch.kids).0)
 
-  pub same_grown : (key : ℕ) (value : V) (b mid : NodeBranch V) (now new : Seen V) → now ≡ seen_branch b → IsSame b mid → IsGrown key value (seen_branch mid) new → IsGrown key value now new
+  pub same_grown : (key : ℕ) (value : V) (b mid : NodeBranch V) (now new : Seen V) → now ≡ seen_branch b → IsRoomMade b mid → IsGrown key value (seen_branch mid) new → IsGrown key value now new
   same_grown key value b mid now new e same grown =
       subst (λ s. IsGrown key value s new) (sym e) (record {
         rows = grown.rows ∙ ap (with_row key_of_pair (key, value)) same.rows;

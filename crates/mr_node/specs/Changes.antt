@@ -1,4 +1,4 @@
--- What a removal, a split and a new or collapsed root make of a node.
+-- What a removal, a halving of a child, and a new or collapsed root make of a node.
 use Rattle.std.specs.Prelude.{◌≡◌, ℕ, ◌+◌, ◌-◌, ◌<◌, ◌≤◌, length, take, drop, None, slice_index_or, IfSome}
 use Rattle.std.specs.List.{AllByRecursion}
 use Rattle.tatp_rows.specs.Ordered.{IsOrderedBy, without_row}
@@ -25,9 +25,9 @@ pub record AreKidsBeside {V : Type 0} (from to : ℕ) (b : NodeBranch V) : Type 
   pub before : AllByRecursion (IsKid (b.height - 1)) (take from (somes b.kids))
   pub after : AllByRecursion (IsKid (b.height - 1)) (drop to (somes b.kids))
 
--- the child at a place of an inner node may be one short of half full; its least key and its count are right
-pub record IsThinAt {V : Type 0} (place : ℕ) (b : NodeBranch V) : Type 0 where
-  pub loose : IsLooseBranch b
+-- an inner node whose child at a place alone may be one short of half full; its least key and its count are right
+pub record IsLooseAt {V : Type 0} (place : ℕ) (b : NodeBranch V) : Type 0 where
+  pub branch : IsLooseBranch b
   pub beside : AreKidsBeside place (place + 1) b
   pub here : IfSome (slice_index_or b.kids place None) (λ k. (StartsWith k.least k.node.value.rows) × (k.count ≡ length k.node.value.rows))
 
@@ -55,8 +55,8 @@ pub record IsShrunk {V : Type 0} (key : ℕ) (old new : Seen V) : Type 0 where
   pub width : old.width ≤ new.width + 1
   pub well : IsWell new
 
--- an inner node with the same rows in as many children, or in one more
-pub record IsSame {V : Type 0} (old new : NodeBranch V) : Type 0 where
+-- an inner node in which room was made: the same rows in as many children, or in one more
+pub record IsRoomMade {V : Type 0} (old new : NodeBranch V) : Type 0 where
   pub height : new.height ≡ old.height
   pub len : old.len ≤ new.len
   pub rows : rows_of (somes new.kids) ≡ rows_of (somes old.kids)

@@ -2,7 +2,7 @@
 use Rattle.std.specs.Prelude.{◌≡◌, ℕ, List, [], ◌∷◌}
 use Rattle.std.specs.Borrow.{Bor}
 
--- from a the steps over the pairs lead to b: each is given the key and a reference to the value
+-- from a the calls over the pairs lead to b: each is given the key and a reference to the value
 abbrev pub FoldsRows : {V A : Type 0} → (A → ℕ → Bor V → A → Type 0) → A → List (ℕ × V) → A → Type 0
 FoldsRows Gives a [] b = a ≡ b
 FoldsRows {V} {A} Gives a (p ∷ rows) b = (m : A) × (r : Bor V) × (r.now ≡ p.1) × Gives a p.0 r m × FoldsRows Gives m rows b

@@ -15,31 +15,31 @@ pub record IsMoved {B : Type 0} (a b c d : Branch B) : Type 0 where
   pub left_height : c.height ≡ a.height
   pub right_height : d.height ≡ b.height
 
--- the widths of two neighbours: the left one has all, or both have 16 or more
-abbrev pub AreEven : Bool → ℕ → ℕ → Type 0
-AreEven true c d = (16 ≤ c) × (c ≤ 32) × (d ≡ 0)
-AreEven false c d = (16 ≤ c) × (c ≤ 32) × (16 ≤ d) × (d ≤ 32)
+-- the widths of two neighbours that are evened out: the left one has all, or both have 16 or more
+abbrev pub AreEvenWidths : Bool → ℕ → ℕ → Type 0
+AreEvenWidths true c d = (16 ≤ c) × (c ≤ 32) × (d ≡ 0)
+AreEvenWidths false c d = (16 ≤ c) × (c ≤ 32) × (16 ≤ d) × (d ≤ 32)
 
--- a node that may be a child at height h
-pub record IsFit {V : Type 0} (h : ℕ) (s : Seen V) : Type 0 where
+-- the node of a child at height h
+pub record IsKidNode {V : Type 0} (h : ℕ) (s : Seen V) : Type 0 where
   pub level : s.height ≡ h
   pub enough : 16 ≤ s.width
   pub well : IsWell s
 
 -- two neighbours made into one node, or into two, with the same rows
 abbrev pub IsEvened : {V : Type 0} → Seen V → Seen V → Seen V → Option (Box (Seen V) Global) → Type 0
-IsEvened a b x None = IsFit a.height x × (x.rows ≡ a.rows ++ b.rows)
-IsEvened a b x (Some y) = IsFit a.height x × IsFit a.height y.value × (x.rows ++ y.value.rows ≡ a.rows ++ b.rows)
+IsEvened a b x None = IsKidNode a.height x × (x.rows ≡ a.rows ++ b.rows)
+IsEvened a b x (Some y) = IsKidNode a.height x × IsKidNode a.height y.value × (x.rows ++ y.value.rows ≡ a.rows ++ b.rows)
 
 -- two neighbours evened out in place: the first has all rows, or both are half full
 abbrev pub AreEvened : {V : Type 0} → Bool → Seen V → Seen V → Seen V → Seen V → Type 0
-AreEvened true a b x y = IsFit a.height x × (x.rows ≡ a.rows ++ b.rows)
-AreEvened false a b x y = IsFit a.height x × IsFit a.height y × (x.rows ++ y.rows ≡ a.rows ++ b.rows)
+AreEvened true a b x y = IsKidNode a.height x × (x.rows ≡ a.rows ++ b.rows)
+AreEvened false a b x y = IsKidNode a.height x × IsKidNode a.height y × (x.rows ++ y.rows ≡ a.rows ++ b.rows)
 
--- a full node cut in two halves
+-- a full node made into two half full ones
 pub record IsHalved {V : Type 0} (a x y : Seen V) : Type 0 where
-  pub low : IsFit a.height x
-  pub high : IsFit a.height y
+  pub low : IsKidNode a.height x
+  pub high : IsKidNode a.height y
   pub rows : x.rows ++ y.rows ≡ a.rows
   pub low_width : x.width ≡ 16
   pub high_width : y.width ≡ 16

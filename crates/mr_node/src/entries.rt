@@ -9,7 +9,7 @@ ghost use Rattle.mr_node.specs.Folds.{FoldsRows};
 ghost use Rattle.mr_node.specs.Growth.{IsGrown, IsRoomAnswer};
 
 use crate::Room;
-use crate::kids::steps_over;
+use crate::kids::places_over;
 use arrayvec::ArrayVec;
 use std::mem;
 
@@ -49,7 +49,7 @@ fn place_of_three<V>(entries: &[Option<(u64, V)>], low: usize, key: u64) -> usiz
     let first = is_before(&entries[low], key);
     let second = is_before(&entries[low + 1], key);
     let third = is_before(&entries[low + 2], key);
-    low + steps_over(first, second, third)
+    low + places_over(first, second, third)
 }
 
 // How many entries at the front have lesser keys, one by one from `low` on.
@@ -280,7 +280,7 @@ pub(crate) fn first_entry<V>(
     row_in(&entries.as_slice()[place])
 }
 
-// One step of a fold, where the entry has a row.
+// What a fold makes of an entry.
 fn fold_entry<V, A, F: Fn(A, u64, &V) -> A>(entry: &Option<(u64, V)>, so_far: A, f: &F) -> A
     requires { F.IsAlwaysCallable f.now }
     ensures { FoldsRows (λ a k r b. F.post f.now a k r b) so_far (somes (entry.now ∷ [])) result }

@@ -1,9 +1,9 @@
-//! Nodes that are joined, evened out or cut in halves.
+//! Nodes that are joined, evened out or halved.
 ghost use Rattle.std.specs.Prelude.{◌≡◌, ◌+◌, ◌<◌, ◌≤◌, ℕ, ◌++◌};
 ghost use Rattle.tatp_rows.specs.Ordered.{IsOrderedBy};
 ghost use Rattle.mr_node.specs.Rows.{key_of_pair, somes, IsPacked};
 ghost use Rattle.mr_node.specs.Levels.{IsBranch, IsKid, rows_of, seen_branch};
-ghost use Rattle.mr_node.specs.Pairs.{IsFit, IsEvened, IsHalved};
+ghost use Rattle.mr_node.specs.Pairs.{IsKidNode, IsEvened, IsHalved};
 ghost use Rattle.mr_node.specs.Steps.{after_steps};
 
 use crate::pairs::even_kids;
@@ -11,7 +11,7 @@ use crate::{Body, Branch, Kid, Meter, Node, build_inner, open};
 
 // A node as a child, with its least key and its count.
 pub(crate) fn kid_of<V>(node: Box<Node<V>>) -> Kid<Box<Node<V>>>
-    requires { IsFit node.value.height node.value }
+    requires { IsKidNode node.value.height node.value }
     ensures kid { IsKid node.value.height result }
     ensures node { result.node ≡ node }
 {
@@ -126,7 +126,7 @@ pub(crate) fn no_kids<B>() -> [Option<Kid<B>>; 32]
     ]
 }
 
-// Cuts a full node in two halves, the upper one in the blank. Three steps.
+// Halves a full node: the upper half goes into the blank. Three steps.
 pub(crate) fn halve<V: Drop>(
     mut node: Box<Node<V>>,
     mut blank: Box<Node<V>>,

@@ -17,7 +17,7 @@ fn is_within<B>(kid: &Option<Kid<B>>, key: u64) -> bool
 }
 
 // How far to go over three places, of which the middle one is looked at first: with no branch.
-pub(crate) fn steps_over(first: bool, second: bool, third: bool) -> usize
+pub(crate) fn places_over(first: bool, second: bool, third: bool) -> usize
     ensures { result ≡ (if second then (if third then 3 else 2) else (if first then 1 else 0)) }
 {
     usize::from(first | second) + usize::from(second) + usize::from(second & third)
@@ -52,7 +52,7 @@ fn place_of_three<B>(kids: &[Option<Kid<B>>; 32], len: usize, low: usize, key: u
     let first = is_within(&kids[low + 1], key);
     let second = is_within(&kids[low + 2], key);
     let third = is_within(&kids[low + 3], key);
-    low + steps_over(first, second, third)
+    low + places_over(first, second, third)
 }
 
 // The place of the child to which a key belongs, one by one from `low` on.

@@ -2,7 +2,7 @@
 ghost use Rattle.std.specs.Prelude.{◌≡◌, ◌+◌, ◌-◌, ◌*◌, ◌<◌, ◌≤◌, ℕ, None, IfSome, slice_index_or, if◌then◌else◌};
 ghost use Rattle.mr_node.specs.Rows.{StartsWith};
 ghost use Rattle.mr_node.specs.Levels.{IsBranch};
-ghost use Rattle.mr_node.specs.Changes.{IsLooseBranch, IsThinAt, IsSplicedAt, IsMended, IsSame, IsRoomAt};
+ghost use Rattle.mr_node.specs.Changes.{IsLooseBranch, IsLooseAt, IsSplicedAt, IsMended, IsRoomMade, IsRoomAt};
 ghost use Rattle.mr_node.specs.Steps.{after_steps};
 
 use crate::branch::{put_kid, take_kid};
@@ -53,7 +53,7 @@ fn join_pair<V: Drop>(branch: &mut Branch<Box<Node<V>>>, place: usize, meter: &m
 
 // Mends an inner node whose child at `place` may be one short of half full: three or four steps where it is, else none.
 pub(crate) fn mend<V: Drop>(branch: &mut Branch<Box<Node<V>>>, place: usize, meter: &mut Meter)
-    requires thin { IsThinAt place branch.old }
+    requires loose { IsLooseAt place branch.old }
     requires two { 2 ≤ branch.old.len }
     requires within { place < branch.old.len }
     ensures mended { IsMended branch.old branch.new }
@@ -71,7 +71,7 @@ pub(crate) fn mend<V: Drop>(branch: &mut Branch<Box<Node<V>>>, place: usize, met
     join_pair(branch, place - 1, meter);
 }
 
-// Finds the child to which a key belongs, and cuts it in two halves first where it is full: three steps, and one blank.
+// Finds the child to which a key belongs, and halves it first where it is full: three steps, and one blank.
 pub(crate) fn make_room<V: Drop>(
     branch: &mut Branch<Box<Node<V>>>,
     key: u64,
@@ -81,7 +81,7 @@ pub(crate) fn make_room<V: Drop>(
     requires branch { IsBranch branch.old }
     requires room { branch.old.len < 32 }
     requires stock { 0 < stock.old }
-    ensures same { IsSame branch.old branch.new }
+    ensures same { IsRoomMade branch.old branch.new }
     ensures place { IsRoomAt key result branch.new }
     ensures stock { stock.new ≤ stock.old }
     ensures used { stock.old ≤ stock.new + 1 }

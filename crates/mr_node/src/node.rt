@@ -18,7 +18,7 @@ use crate::entries::{
 use crate::halves::{halve, kid_of, no_kids};
 use crate::kids::{least_kid, place_of, sum_counts};
 use crate::mending::{make_room, mend, note_gone};
-use crate::pairs::{even_entries, split_entries, split_kids};
+use crate::pairs::{even_entries, halve_entries, halve_kids};
 use crate::{Body, Branch, Meter, Room, Stock};
 use arrayvec::ArrayVec;
 use std::marker::Model;
@@ -109,8 +109,8 @@ impl<V> Node<V> {
         match &self.body {
             Body::Leaf(entries) => find_entry(entries, key),
             Body::Inner(branch) => {
-                let at = place_of(&branch.kids, branch.len, key);
-                match &branch.kids[at] {
+                let place = place_of(&branch.kids, branch.len, key);
+                match &branch.kids[place] {
                     Some(kid) => kid.node.find(key),
                     None => unreachable!(),
                 }
@@ -125,15 +125,15 @@ impl<V> Node<V> {
         match &self.body {
             Body::Leaf(entries) => first_entry(entries, key),
             Body::Inner(branch) => {
-                let at = place_of(&branch.kids, branch.len, key);
-                match &branch.kids[at] {
+                let place = place_of(&branch.kids, branch.len, key);
+                match &branch.kids[place] {
                     Some(kid) => match kid.node.first_from(key) {
                         Some(row) => Some(row),
                         None => {
-                            if at + 1 >= branch.len {
+                            if place + 1 >= branch.len {
                                 return None;
                             }
-                            match &branch.kids[at + 1] {
+                            match &branch.kids[place + 1] {
                                 Some(next) => next.node.first_from(key),
                                 None => unreachable!(),
                             }
@@ -198,8 +198,8 @@ impl<V: Drop> Node<V> {
         match &mut self.body {
             Body::Leaf(entries) => replace_entry(entries, key, value),
             Body::Inner(branch) => {
-                let at = place_of(&branch.kids, branch.len, key);
-                match &mut branch.kids[at] {
+                let place = place_of(&branch.kids, branch.len, key);
+                match &mut branch.kids[place] {
                     Some(kid) => {
                         let node = &mut *kid.node;
                         node.swap_at(key, value)
@@ -223,13 +223,13 @@ impl<V: Drop> Node<V> {
         match &mut self.body {
             Body::Leaf(entries) => remove_entry(entries, key),
             Body::Inner(branch) => {
-                let at = place_of(&branch.kids, branch.len, key);
-                match &mut branch.kids[at] {
+                let place = place_of(&branch.kids, branch.len, key);
+                match &mut branch.kids[place] {
                     Some(kid) => {
                         let node = &mut *kid.node;
                         let gone = node.remove(key, meter);
                         note_gone(kid, gone.is_some());
-                        mend(branch, at, meter);
+                        mend(branch, place, meter);
                         gone
                     }
                     None => unreachable!(),
@@ -238,8 +238,8 @@ impl<V: Drop> Node<V> {
         }
     }
 
-    /// Puts a row whose key isn't there in place, and cuts each full node on its way in two halves first. Two steps
-    /// a level, and three for each node that is cut, which takes one blank node.
+    /// Puts a row whose key isn't there in place, and halves each full node on its way first. Two steps a level,
+    /// and three for each node that is halved, which takes one blank node.
     pub fn insert_split(&mut self, key: u64, value: V, stock: &mut Stock<V>, meter: &mut Meter)
         requires small { key < key_limit }
         requires missing { row_at key_of_pair key self.old.rows ≡ None }
@@ -255,8 +255,8 @@ impl<V: Drop> Node<V> {
         match &mut self.body {
             Body::Leaf(entries) => insert_new(entries, key, value),
             Body::Inner(branch) => {
-                let at = make_room(branch, key, stock, meter);
-                match &mut branch.kids[at] {
+                let place = make_room(branch, key, stock, meter);
+                match &mut branch.kids[place] {
                     Some(kid) => {
                         let node = &mut *kid.node;
                         node.insert_split(key, value, stock, meter);
@@ -311,7 +311,7 @@ impl<V: Drop> Node<V> {
         match &mut self.body {
             Body::Leaf(left) => {
                 let mut right = ArrayVec::new();
-                split_entries(left, &mut right);
+                halve_entries(left, &mut right);
                 put_leaf(high, right)
             }
             Body::Inner(left) => {
@@ -320,7 +320,7 @@ impl<V: Drop> Node<V> {
                     len: 0,
                     kids: no_kids(),
                 };
-                split_kids(left, &mut right);
+                halve_kids(left, &mut right);
                 put_inner(high, right)
             }
         }
@@ -352,8 +352,8 @@ impl<V: Drop> Node<V> {
         match &mut self.body {
             Body::Leaf(entries) => insert_entry(entries, key, value),
             Body::Inner(branch) => {
-                let at = place_of(&branch.kids, branch.len, key);
-                match &mut branch.kids[at] {
+                let place = place_of(&branch.kids, branch.len, key);
+                match &mut branch.kids[place] {
                     Some(kid) => {
                         let node = &mut *kid.node;
                         let answer = node.insert_room(key, value);

@@ -1,7 +1,7 @@
 //! Two neighbours that share their entries or children.
 ghost use Rattle.std.specs.Prelude.{◌≡◌, ◌+◌, ◌-◌, ◌<◌, ◌≤◌, ℕ, List, [], ◌∷◌, ◌++◌, length};
 ghost use Rattle.mr_node.specs.Rows.{somes, IsPacked};
-ghost use Rattle.mr_node.specs.Pairs.{IsMoved, AreEven};
+ghost use Rattle.mr_node.specs.Pairs.{IsMoved, AreEvenWidths};
 
 use crate::Branch;
 use crate::branch::{put_kid, take_kid};
@@ -59,7 +59,7 @@ fn join_entries<V: Drop>(
 }
 
 // Moves the upper half of a full leaf to an empty one.
-pub(crate) fn split_entries<V: Drop>(
+pub(crate) fn halve_entries<V: Drop>(
     left: &mut ArrayVec<Option<(u64, V)>, 32>,
     right: &mut ArrayVec<Option<(u64, V)>, 32>,
 )
@@ -88,7 +88,7 @@ pub(crate) fn even_entries<V: Drop>(
     requires left_fits { length left.old.items ≤ 32 }
     requires right_fits { length right.old.items ≤ 32 }
     ensures entries { left.new.items ++ right.new.items ≡ left.old.items ++ right.old.items }
-    ensures even { AreEven result (length left.new.items) (length right.new.items) }
+    ensures even { AreEvenWidths result (length left.new.items) (length right.new.items) }
 {
     if left.len() + right.len() <= 32 {
         join_entries(left, right);
@@ -151,7 +151,7 @@ fn join_kids<B: Drop>(left: &mut Branch<B>, right: &mut Branch<B>)
 }
 
 // Moves the upper half of a full inner node to an empty one.
-pub(crate) fn split_kids<B: Drop>(left: &mut Branch<B>, right: &mut Branch<B>)
+pub(crate) fn halve_kids<B: Drop>(left: &mut Branch<B>, right: &mut Branch<B>)
     requires left_packed { IsPacked left.old.len left.old.kids }
     requires right_packed { IsPacked right.old.len right.old.kids }
     requires full { left.old.len ≡ 32 }
@@ -174,7 +174,7 @@ pub(crate) fn even_kids<B: Drop>(left: &mut Branch<B>, right: &mut Branch<B>) ->
     requires left_fits { left.old.len ≤ 32 }
     requires right_fits { right.old.len ≤ 32 }
     ensures moved { IsMoved left.old right.old left.new right.new }
-    ensures even { AreEven result left.new.len right.new.len }
+    ensures even { AreEvenWidths result left.new.len right.new.len }
 {
     if left.len + right.len <= 32 {
         join_kids(left, right);

@@ -74,7 +74,7 @@ impl<V> SubTree<V> {
         self.root.first_from(key)
     }
 
-    /// The fold over the rows in key order: each step is given what was folded so far, a key, and its value.
+    /// The fold over the rows in key order: each call is given what was folded so far, a key, and its value.
     pub fn fold<A, F: Fn(A, u64, &V) -> A>(&self, init: A, f: &F) -> A
         requires { F.IsAlwaysCallable f.now }
         ensures { FoldsRows (λ a k r b. F.post f.now a k r b) init self.now.rows result }

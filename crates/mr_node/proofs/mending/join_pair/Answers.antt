@@ -2,7 +2,7 @@ use Rattle.std.proofs.Common.{rules, arith, sym, ap, subst, ◌∙◌}
 use Rattle.mr_node.specs.Rows.{somes}
 use Rattle.mr_node.specs.Pairs.{IsEvened}
 use Rattle.mr_node.proofs.PlaceLemmas.{packed_length}
-use Rattle.mr_node.proofs.MendLemmas.{pair_taken, loose_pair, fit_own, spliced_one, spliced_two}
+use Rattle.mr_node.proofs.MendLemmas.{pair_taken, loose_pair, own_height, spliced_one, spliced_two}
 use Rattle.mr_node.proofs.mending.join_pair.Goals as goal
 
 pub even-one-requires : goal.even-one-requires
@@ -23,7 +23,7 @@ kid_of-requires g c =
     let high = c.take_kid-high.result in
     let pair = pair_taken c.args.place low high (somes b.kids) (somes c.take_kid-low.new.branch.kids) (somes c.take_kid-high.new.branch.kids) (omega (arith, packed_length b.len b.kids loose.packed, c.requires.within)) c.take_kid-low.ensures.kid c.take_kid-low.ensures.rest c.take_kid-high.ensures.kid c.take_kid-high.ensures.rest in
     let evened = subst (λ o. IsEvened low.node.value high.node.value c.even-one.result.0.value o) c.in-None.is c.even-one.ensures.nodes in
-    (search rules, fit_own _ _ evened.0)
+    (search rules, own_height _ _ evened.0)
 
 pub returns-in-None-clause-spliced : goal.returns-in-None-clause-spliced
 returns-in-None-clause-spliced g c =

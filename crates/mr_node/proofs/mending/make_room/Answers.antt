@@ -1,7 +1,7 @@
 use Rattle.std.proofs.Common.{rules, arith, ap, ◌∙◌}
 use Rattle.mr_node.specs.Rows.{somes}
 use Rattle.mr_node.proofs.KidLemmas.{cut_kid}
-use Rattle.mr_node.proofs.MendLemmas.{fit_own}
+use Rattle.mr_node.proofs.MendLemmas.{own_height}
 use Rattle.mr_node.proofs.CutLemmas.{got_taken, room_found, same_alone, full_width, kid_split, split_same, split_low, split_high}
 use Rattle.mr_node.proofs.mending.make_room.Goals as goal
 
@@ -21,10 +21,10 @@ halve-low-requires g c =
     (search rules, full_width c.args.key i c.kid_width.result b k c.requires.branch at got c.kid_width.ensures c.if-kid_width-lt32.false)
 
 pub kid_of-low-requires : goal.kid_of-low-requires
-kid_of-low-requires g c = (search rules, fit_own _ _ c.halve-low.ensures.halves.low)
+kid_of-low-requires g c = (search rules, own_height _ _ c.halve-low.ensures.halves.low)
 
 pub kid_of-high-requires : goal.kid_of-high-requires
-kid_of-high-requires g c = (search rules, fit_own _ _ c.halve-low.ensures.halves.high)
+kid_of-high-requires g c = (search rules, own_height _ _ c.halve-low.ensures.halves.high)
 
 pub returns-then-least-key-clause-same : goal.returns-then-least-key-clause-same
 returns-then-least-key-clause-same g c =

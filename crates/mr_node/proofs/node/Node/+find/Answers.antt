@@ -9,15 +9,15 @@ pub unreachable-requires : goal.unreachable-requires
 unreachable-requires g t c =
     let branch = c.in-Inner.branch in
     let whole : IsBranch branch = subst IsNode c.in-Inner.is c.self.invariant in
-    let at = c.place_of-at.ensures in
-    never_none branch.len c.place_of-at.result c.index-branch-at.result branch.kids whole.packed at.within c.in-None.is
+    let at = c.place_of-place.ensures in
+    never_none branch.len c.place_of-place.result c.index-branch-place.result branch.kids whole.packed at.within c.in-None.is
 
 pub returns-in-Some : goal.returns-in-Some
 returns-in-Some g t c =
     let branch = c.in-Inner.branch in
     let whole : IsBranch branch = subst IsNode c.in-Inner.is c.self.invariant in
-    let at = c.place_of-at.ensures in
-    let got = got_used branch.len c.place_of-at.result c.index-branch-at.result c.in-Some.kid branch.kids whole.packed at.within c.in-Some.is in
+    let at = c.place_of-place.ensures in
+    let got = got_used branch.len c.place_of-place.result c.index-branch-place.result c.in-Some.kid branch.kids whole.packed at.within c.in-Some.is in
     let now : c.args.self.now ≡ seen_branch branch = sym c.self.view_is ∙ ap seen c.in-Inner.is in
-    let below = find_branch c.args.key c.place_of-at.result branch c.in-Some.kid whole at got in
+    let below = find_branch c.args.key c.place_of-place.result branch c.in-Some.kid whole at got in
     c.find.ensures ∙ ap (λ s. value_at c.args.key s.rows) c.deref.ensures ∙ sym (ap (option_map (λ p. p.1)) below) ∙ sym (ap (λ s. value_at c.args.key s.rows) now)

@@ -14,52 +14,52 @@ unreachable-requires g t c =
     let b = c.in-Inner.branch in
     let whole : IsBranch b = subst IsNode c.in-Inner.is c.self.invariant in
     let now : seen_branch b ≡ c.args.self.now = sym (ap seen c.in-Inner.is) ∙ c.self.view_is in
-    let at = c.place_of-at.ensures in
-    let i = c.place_of-at.result in
-    never_none b.len (i + 1) c.index-branch-at-in-None-first_from.result b.kids whole.packed c.if-at-branch.false c.in-None-kids.is
+    let at = c.place_of-place.ensures in
+    let i = c.place_of-place.result in
+    never_none b.len (i + 1) c.index-branch-place-in-None-first_from.result b.kids whole.packed c.if-place-branch.false c.in-None-kids.is
 
 pub unreachable-requires-in-None : goal.unreachable-requires-in-None
 unreachable-requires-in-None g t c =
     let b = c.in-Inner.branch in
     let whole : IsBranch b = subst IsNode c.in-Inner.is c.self.invariant in
     let now : seen_branch b ≡ c.args.self.now = sym (ap seen c.in-Inner.is) ∙ c.self.view_is in
-    let at = c.place_of-at.ensures in
-    let i = c.place_of-at.result in
-    never_none b.len i c.index-branch-at.result b.kids whole.packed at.within c.in-None.is
+    let at = c.place_of-place.ensures in
+    let i = c.place_of-place.result in
+    never_none b.len i c.index-branch-place.result b.kids whole.packed at.within c.in-None.is
 
 pub returns-in-Some-first_from : goal.returns-in-Some-first_from
 returns-in-Some-first_from g t c =
     let b = c.in-Inner.branch in
     let whole : IsBranch b = subst IsNode c.in-Inner.is c.self.invariant in
     let now : seen_branch b ≡ c.args.self.now = sym (ap seen c.in-Inner.is) ∙ c.self.view_is in
-    let at = c.place_of-at.ensures in
-    let i = c.place_of-at.result in
+    let at = c.place_of-place.ensures in
+    let i = c.place_of-place.result in
     let k = c.in-Some.kid in
-    let got = got_used b.len i c.index-branch-at.result k b.kids whole.packed at.within c.in-Some.is in
+    let got = got_used b.len i c.index-branch-place.result k b.kids whole.packed at.within c.in-Some.is in
     let found = sym (ap (λ s. first_row c.args.key s.rows) c.deref.ensures) ∙ sym c.first_from.ensures ∙ ap (option_map (λ r. (r.0, r.1.now))) c.in-Some-first_from.is in
     sym (first_in_kid c.args.key (b.height - 1) i (somes b.kids) k (c.in-Some-first_from.row.0, c.in-Some-first_from.row.1.now) (cut_kid c.args.key i b k whole at got) found) ∙ ap (λ s. first_row c.args.key s.rows) now
 
-pub returns-then-at-branch : goal.returns-then-at-branch
-returns-then-at-branch g t c =
+pub returns-then-place-branch : goal.returns-then-place-branch
+returns-then-place-branch g t c =
     let b = c.in-Inner.branch in
     let whole : IsBranch b = subst IsNode c.in-Inner.is c.self.invariant in
     let now : seen_branch b ≡ c.args.self.now = sym (ap seen c.in-Inner.is) ∙ c.self.view_is in
-    let at = c.place_of-at.ensures in
-    let i = c.place_of-at.result in
+    let at = c.place_of-place.ensures in
+    let i = c.place_of-place.result in
     let k = c.in-Some.kid in
-    let got = got_used b.len i c.index-branch-at.result k b.kids whole.packed at.within c.in-Some.is in
+    let got = got_used b.len i c.index-branch-place.result k b.kids whole.packed at.within c.in-Some.is in
     let none = sym (ap (λ s. first_row c.args.key s.rows) c.deref.ensures) ∙ sym c.first_from.ensures ∙ ap (option_map (λ r. (r.0, r.1.now))) c.in-None-first_from.is in
-    sym (first_no_next c.args.key i b k whole at got c.if-at-branch.true none) ∙ ap (λ s. first_row c.args.key s.rows) now
+    sym (first_no_next c.args.key i b k whole at got c.if-place-branch.true none) ∙ ap (λ s. first_row c.args.key s.rows) now
 
 pub returns-in-Some-kids : goal.returns-in-Some-kids
 returns-in-Some-kids g t c =
     let b = c.in-Inner.branch in
     let whole : IsBranch b = subst IsNode c.in-Inner.is c.self.invariant in
     let now : seen_branch b ≡ c.args.self.now = sym (ap seen c.in-Inner.is) ∙ c.self.view_is in
-    let at = c.place_of-at.ensures in
-    let i = c.place_of-at.result in
+    let at = c.place_of-place.ensures in
+    let i = c.place_of-place.result in
     let k = c.in-Some.kid in
-    let got = got_used b.len i c.index-branch-at.result k b.kids whole.packed at.within c.in-Some.is in
+    let got = got_used b.len i c.index-branch-place.result k b.kids whole.packed at.within c.in-Some.is in
     let none = sym (ap (λ s. first_row c.args.key s.rows) c.deref.ensures) ∙ sym c.first_from.ensures ∙ ap (option_map (λ r. (r.0, r.1.now))) c.in-None-first_from.is in
-    let next = got_used b.len (i + 1) c.index-branch-at-in-None-first_from.result c.in-Some-kids.next b.kids whole.packed c.if-at-branch.false c.in-Some-kids.is in
-    c.first_from-in-Some-kids.ensures ∙ ap (λ s. first_row c.args.key s.rows) c.deref-in-Some-kids.ensures ∙ sym (first_in_next c.args.key i b k c.in-Some-kids.next whole at got next c.if-at-branch.false none) ∙ ap (λ s. first_row c.args.key s.rows) now
+    let next = got_used b.len (i + 1) c.index-branch-place-in-None-first_from.result c.in-Some-kids.next b.kids whole.packed c.if-place-branch.false c.in-Some-kids.is in
+    c.first_from-in-Some-kids.ensures ∙ ap (λ s. first_row c.args.key s.rows) c.deref-in-Some-kids.ensures ∙ sym (first_in_next c.args.key i b k c.in-Some-kids.next whole at got next c.if-place-branch.false none) ∙ ap (λ s. first_row c.args.key s.rows) now

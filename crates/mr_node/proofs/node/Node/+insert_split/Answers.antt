@@ -14,44 +14,44 @@ insert_new-requires g t c =
     let now : c.args.self.now ≡ seen_leaf c.in-Leaf.entries.items = sym c.self.view_is ∙ ap seen c.in-Leaf.is in
     (search rules, (subst IsNode c.in-Leaf.is c.self.invariant, (c.requires.small, (ap (λ s. row_at key_of_pair c.args.key s.rows) (sym now) ∙ c.requires.missing, omega (arith, ap (λ s. s.width) now, c.requires.room)))))
 
-pub make_room-at-requires : goal.make_room-at-requires
-make_room-at-requires g t c =
+pub make_room-place-requires : goal.make_room-place-requires
+make_room-place-requires g t c =
     let b = c.in-Inner.branch in
     let whole : IsBranch b = subst IsNode c.in-Inner.is c.self.invariant in
     let now : c.args.self.now ≡ seen_branch b = sym c.self.view_is ∙ ap seen c.in-Inner.is in
     (search rules, (search rules, (whole, (omega (arith, ap (λ s. s.width) now, c.requires.room), omega (arith, ap (λ s. s.height) now, whole.inner, c.requires.stock)))))
 
 pub unreachable-requires : goal.unreachable-requires
-unreachable-requires g t c = never_none c.make_room-at.new.branch.len c.make_room-at.result c.index-branch-at.result c.make_room-at.new.branch.kids c.make_room-at.ensures.same.whole.packed c.make_room-at.ensures.place.within c.in-None.is
+unreachable-requires g t c = never_none c.make_room-place.new.branch.len c.make_room-place.result c.index-branch-place.result c.make_room-place.new.branch.kids c.make_room-place.ensures.same.whole.packed c.make_room-place.ensures.place.within c.in-None.is
 
 pub insert_split-requires : goal.insert_split-requires
 insert_split-requires g t c κs within =
     let b = c.in-Inner.branch in
     let whole : IsBranch b = subst IsNode c.in-Inner.is c.self.invariant in
     let now : c.args.self.now ≡ seen_branch b = sym c.self.view_is ∙ ap seen c.in-Inner.is in
-    let nb = c.make_room-at.new.branch in
-    let same = c.make_room-at.ensures.same in
-    let place = c.make_room-at.ensures.place in
-    let i = c.make_room-at.result in
+    let nb = c.make_room-place.new.branch in
+    let same = c.make_room-place.ensures.same in
+    let place = c.make_room-place.ensures.place in
+    let i = c.make_room-place.result in
     let k = c.in-Some.kid in
-    let got = got_used nb.len i c.index-branch-at.result k nb.kids same.whole.packed place.within c.in-Some.is in
+    let got = got_used nb.len i c.index-branch-place.result k nb.kids same.whole.packed place.within c.in-Some.is in
     let both = cut_of_room c.args.key i nb k same.whole place got in
     let cut = both.0 in
     let lower : c.deref_mut-node.result.now.height < c.args.self.now.height = omega (arith, ap (λ s. s.height) c.deref_mut-node.ensures.value, cut.kid.level, same.height, whole.inner, ap (λ s. s.height) now) in
     let absent : row_at key_of_pair c.args.key k.node.value.rows ≡ None = sym (find_cut c.args.key i (nb.height - 1) (somes nb.kids) k cut) ∙ ap (row_at key_of_pair c.args.key) same.rows ∙ ap (λ s. row_at key_of_pair c.args.key s.rows) (sym now) ∙ c.requires.missing in
-    (omega (arith, lower, c.decreases), (within, (search rules, (c.requires.small, (ap (λ s. row_at key_of_pair c.args.key s.rows) c.deref_mut-node.ensures.value ∙ absent, (omega (arith, ap (λ s. s.width) c.deref_mut-node.ensures.value, both.1), omega (arith, lower, c.requires.stock, c.make_room-at.ensures.used)))))))
+    (omega (arith, lower, c.decreases), (within, (search rules, (c.requires.small, (ap (λ s. row_at key_of_pair c.args.key s.rows) c.deref_mut-node.ensures.value ∙ absent, (omega (arith, ap (λ s. s.width) c.deref_mut-node.ensures.value, both.1), omega (arith, lower, c.requires.stock, c.make_room-place.ensures.used)))))))
 
 pub note_new-requires : goal.note_new-requires
 note_new-requires g t c =
     let b = c.in-Inner.branch in
     let whole : IsBranch b = subst IsNode c.in-Inner.is c.self.invariant in
     let now : c.args.self.now ≡ seen_branch b = sym c.self.view_is ∙ ap seen c.in-Inner.is in
-    let nb = c.make_room-at.new.branch in
-    let same = c.make_room-at.ensures.same in
-    let place = c.make_room-at.ensures.place in
-    let i = c.make_room-at.result in
+    let nb = c.make_room-place.new.branch in
+    let same = c.make_room-place.ensures.same in
+    let place = c.make_room-place.ensures.place in
+    let i = c.make_room-place.result in
     let k = c.in-Some.kid in
-    let got = got_used nb.len i c.index-branch-at.result k nb.kids same.whole.packed place.within c.in-Some.is in
+    let got = got_used nb.len i c.index-branch-place.result k nb.kids same.whole.packed place.within c.in-Some.is in
     let both = cut_of_room c.args.key i nb k same.whole place got in
     let cut = both.0 in
     kid_count_fits (nb.height - 1) k cut.kid
@@ -61,12 +61,12 @@ invariant_of-self-in-Some g t c =
     let b = c.in-Inner.branch in
     let whole : IsBranch b = subst IsNode c.in-Inner.is c.self.invariant in
     let now : c.args.self.now ≡ seen_branch b = sym c.self.view_is ∙ ap seen c.in-Inner.is in
-    let nb = c.make_room-at.new.branch in
-    let same = c.make_room-at.ensures.same in
-    let place = c.make_room-at.ensures.place in
-    let i = c.make_room-at.result in
+    let nb = c.make_room-place.new.branch in
+    let same = c.make_room-place.ensures.same in
+    let place = c.make_room-place.ensures.place in
+    let i = c.make_room-place.result in
     let k = c.in-Some.kid in
-    let got = got_used nb.len i c.index-branch-at.result k nb.kids same.whole.packed place.within c.in-Some.is in
+    let got = got_used nb.len i c.index-branch-place.result k nb.kids same.whole.packed place.within c.in-Some.is in
     let both = cut_of_room c.args.key i nb k same.whole place got in
     let cut = both.0 in
     let absent : row_at key_of_pair c.args.key k.node.value.rows ≡ None = sym (find_cut c.args.key i (nb.height - 1) (somes nb.kids) k cut) ∙ ap (row_at key_of_pair c.args.key) same.rows ∙ ap (λ s. row_at key_of_pair c.args.key s.rows) (sym now) ∙ c.requires.missing in
@@ -81,12 +81,12 @@ returns-in-Some-clause-grown g t c =
     let b = c.in-Inner.branch in
     let whole : IsBranch b = subst IsNode c.in-Inner.is c.self.invariant in
     let now : c.args.self.now ≡ seen_branch b = sym c.self.view_is ∙ ap seen c.in-Inner.is in
-    let nb = c.make_room-at.new.branch in
-    let same = c.make_room-at.ensures.same in
-    let place = c.make_room-at.ensures.place in
-    let i = c.make_room-at.result in
+    let nb = c.make_room-place.new.branch in
+    let same = c.make_room-place.ensures.same in
+    let place = c.make_room-place.ensures.place in
+    let i = c.make_room-place.result in
     let k = c.in-Some.kid in
-    let got = got_used nb.len i c.index-branch-at.result k nb.kids same.whole.packed place.within c.in-Some.is in
+    let got = got_used nb.len i c.index-branch-place.result k nb.kids same.whole.packed place.within c.in-Some.is in
     let both = cut_of_room c.args.key i nb k same.whole place got in
     let cut = both.0 in
     let absent : row_at key_of_pair c.args.key k.node.value.rows ≡ None = sym (find_cut c.args.key i (nb.height - 1) (somes nb.kids) k cut) ∙ ap (row_at key_of_pair c.args.key) same.rows ∙ ap (λ s. row_at key_of_pair c.args.key s.rows) (sym now) ∙ c.requires.missing in
@@ -101,45 +101,45 @@ returns-in-Some-clause-used g t c =
     let b = c.in-Inner.branch in
     let whole : IsBranch b = subst IsNode c.in-Inner.is c.self.invariant in
     let now : c.args.self.now ≡ seen_branch b = sym c.self.view_is ∙ ap seen c.in-Inner.is in
-    let nb = c.make_room-at.new.branch in
-    let same = c.make_room-at.ensures.same in
-    let place = c.make_room-at.ensures.place in
-    let i = c.make_room-at.result in
+    let nb = c.make_room-place.new.branch in
+    let same = c.make_room-place.ensures.same in
+    let place = c.make_room-place.ensures.place in
+    let i = c.make_room-place.result in
     let k = c.in-Some.kid in
-    let got = got_used nb.len i c.index-branch-at.result k nb.kids same.whole.packed place.within c.in-Some.is in
+    let got = got_used nb.len i c.index-branch-place.result k nb.kids same.whole.packed place.within c.in-Some.is in
     let both = cut_of_room c.args.key i nb k same.whole place got in
     let cut = both.0 in
     let lower : c.deref_mut-node.result.now.height + 1 ≡ c.args.self.now.height = omega (arith, ap (λ s. s.height) c.deref_mut-node.ensures.value, cut.kid.level, same.height, whole.inner, ap (λ s. s.height) now) in
-    omega (arith, lower, c.make_room-at.ensures.stock, c.make_room-at.ensures.used, c.insert_split.ensures.stock, c.insert_split.ensures.used)
+    omega (arith, lower, c.make_room-place.ensures.stock, c.make_room-place.ensures.used, c.insert_split.ensures.stock, c.insert_split.ensures.used)
 
 pub returns-in-Some-clause-no_fewer : goal.returns-in-Some-clause-no_fewer
 returns-in-Some-clause-no_fewer g t c =
     let b = c.in-Inner.branch in
     let whole : IsBranch b = subst IsNode c.in-Inner.is c.self.invariant in
     let now : c.args.self.now ≡ seen_branch b = sym c.self.view_is ∙ ap seen c.in-Inner.is in
-    let nb = c.make_room-at.new.branch in
-    let same = c.make_room-at.ensures.same in
-    let place = c.make_room-at.ensures.place in
-    let i = c.make_room-at.result in
+    let nb = c.make_room-place.new.branch in
+    let same = c.make_room-place.ensures.same in
+    let place = c.make_room-place.ensures.place in
+    let i = c.make_room-place.result in
     let k = c.in-Some.kid in
-    let got = got_used nb.len i c.index-branch-at.result k nb.kids same.whole.packed place.within c.in-Some.is in
+    let got = got_used nb.len i c.index-branch-place.result k nb.kids same.whole.packed place.within c.in-Some.is in
     let both = cut_of_room c.args.key i nb k same.whole place got in
     let cut = both.0 in
     let lower : c.deref_mut-node.result.now.height + 1 ≡ c.args.self.now.height = omega (arith, ap (λ s. s.height) c.deref_mut-node.ensures.value, cut.kid.level, same.height, whole.inner, ap (λ s. s.height) now) in
-    omega (arith, lower, c.make_room-at.ensures.stock, c.make_room-at.ensures.used, c.insert_split.ensures.stock, c.insert_split.ensures.used, c.tick.ensures, c.make_room-at.ensures.no_fewer, c.insert_split.ensures.no_fewer)
+    omega (arith, lower, c.make_room-place.ensures.stock, c.make_room-place.ensures.used, c.insert_split.ensures.stock, c.insert_split.ensures.used, c.tick.ensures, c.make_room-place.ensures.no_fewer, c.insert_split.ensures.no_fewer)
 
 pub returns-in-Some-clause-steps : goal.returns-in-Some-clause-steps
 returns-in-Some-clause-steps g t c =
     let b = c.in-Inner.branch in
     let whole : IsBranch b = subst IsNode c.in-Inner.is c.self.invariant in
     let now : c.args.self.now ≡ seen_branch b = sym c.self.view_is ∙ ap seen c.in-Inner.is in
-    let nb = c.make_room-at.new.branch in
-    let same = c.make_room-at.ensures.same in
-    let place = c.make_room-at.ensures.place in
-    let i = c.make_room-at.result in
+    let nb = c.make_room-place.new.branch in
+    let same = c.make_room-place.ensures.same in
+    let place = c.make_room-place.ensures.place in
+    let i = c.make_room-place.result in
     let k = c.in-Some.kid in
-    let got = got_used nb.len i c.index-branch-at.result k nb.kids same.whole.packed place.within c.in-Some.is in
+    let got = got_used nb.len i c.index-branch-place.result k nb.kids same.whole.packed place.within c.in-Some.is in
     let both = cut_of_room c.args.key i nb k same.whole place got in
     let cut = both.0 in
     let lower : c.deref_mut-node.result.now.height + 1 ≡ c.args.self.now.height = omega (arith, ap (λ s. s.height) c.deref_mut-node.ensures.value, cut.kid.level, same.height, whole.inner, ap (λ s. s.height) now) in
-    omega (arith, lower, c.make_room-at.ensures.stock, c.make_room-at.ensures.used, c.insert_split.ensures.stock, c.insert_split.ensures.used, c.tick.ensures, c.make_room-at.ensures.steps, c.insert_split.ensures.steps)
+    omega (arith, lower, c.make_room-place.ensures.stock, c.make_room-place.ensures.used, c.insert_split.ensures.stock, c.insert_split.ensures.used, c.tick.ensures, c.make_room-place.ensures.steps, c.insert_split.ensures.steps)

@@ -1,6 +1,6 @@
 use Rattle.std.proofs.Common.{arith}
 use Rattle.mr_node.proofs.PairLemmas.{moved_again, not_moved}
-use Rattle.mr_node.proofs.pairs.split_kids.Goals as goal
+use Rattle.mr_node.proofs.pairs.halve_kids.Goals as goal
 
 pub loop-right-init : goal.loop-right-init
 loop-right-init g c = (not_moved c.args.left.now c.args.right.now c.requires.left_packed c.requires.right_packed, omega arith)
