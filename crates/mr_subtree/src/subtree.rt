@@ -1,7 +1,7 @@
 //! The tree over the nodes of `mr_node`.
 ghost use Rattle.std.specs.Prelude.{◌≡◌, ◌+◌, ◌<◌, ◌≤◌, ℕ, None, [], length, nat_le, option_map, ok_or, IfOk, IfErr, OnErr};
 ghost use Rattle.std.specs.List.{find};
-ghost use Rattle.tatp_rows.specs.Ordered.{row_at, with_row_at, without_row};
+ghost use Rattle.tatp_rows.specs.Ordered.{row_at, with_row, with_row_at, without_row};
 ghost use Rattle.mr_node.specs.Rows.{key_limit, key_of_pair, value_at};
 ghost use Rattle.mr_node.specs.Folds.{FoldsRows};
 ghost use Rattle.mr_subtree.specs.Trees.{IsHeightOf, IsInserted};
@@ -134,7 +134,7 @@ impl<V: Drop> SubTree<V> {
         levels
     }
 
-    // Puts a row in whose leaf is full: first all blank nodes are taken.
+    // Puts a row in whose leaf is full: all blank nodes are taken before the tree changes.
     #[cold]
     #[inline(never)]
     fn insert_full(&mut self, key: u64, value: V) -> Result<(), Back<V>>
@@ -149,13 +149,24 @@ impl<V: Drop> SubTree<V> {
                 item: value,
             });
         };
+        self.grow(key, value, &mut stock);
+        Ok(())
+    }
+
+    // Puts a row in whose leaf is full, where the blank nodes for it are there.
+    fn grow(&mut self, key: u64, value: V, stock: &mut Stock<V>)
+        requires small { key < key_limit }
+        requires missing { row_at key_of_pair key self.old.rows ≡ None }
+        requires each { self.old.height ≤ stock.old }
+        requires full { self.old.width ≡ 32 → self.old.height + 3 ≤ stock.old }
+        ensures { self.new.rows ≡ with_row key_of_pair (key, value) self.old.rows }
+    {
         let mut meter = Meter::new();
         if self.root.width() == 32 {
-            self.root.heighten(&mut stock, &mut meter);
-            self.root.insert_split(key, value, &mut stock, &mut meter);
-            return Ok(());
+            self.root.heighten(stock, &mut meter);
+            self.root.insert_split(key, value, stock, &mut meter);
+            return;
         }
-        self.root.insert_split(key, value, &mut stock, &mut meter);
-        Ok(())
+        self.root.insert_split(key, value, stock, &mut meter);
     }
 }
