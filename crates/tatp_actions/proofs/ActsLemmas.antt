@@ -8,6 +8,7 @@ use Rattle.tatp_rows.proofs.OrderedLemmas.{each_found, each-with_row_at, each-wi
 use Rattle.tatp_rows.proofs.RowLemmas.{subscriber_ranges, relocated_in_range}
 use Rattle.tatp_rows.specs.Keys.{key_of, subscriber_key}
 use Rattle.tatp_rows.specs.Ordered.{row_at, with_row_at, with_row}
+use Rattle.tatp_rows.specs.declared.ranges.TheConstants.{LAST_SUBSCRIBER}
 use Rattle.tatp_rows.specs.Rows.{SubscriberRow, subscriber_in_range}
 use Rattle.tatp_rows.specs.Zones.{zone_of, area_of}
 use Rattle.tatp_rows.specs.declared.refusal.Refusal.{Refusal}
@@ -139,7 +140,7 @@ pub is_subscriber : (part : PartState) (s : ℕ) → IsPart part → IsWithin pa
 is_subscriber part s rules within =
     let range = rules.range in
     let from : nat_le 1 s ≡ true = grind (arith, nat_tests) in
-    let to : nat_le s 16777216 ≡ true = grind (arith, nat_tests) in
+    let to : nat_le s LAST_SUBSCRIBER ≡ true = grind (arith, nat_tests) in
     rw (from, to) refl
 
 -- a location in range

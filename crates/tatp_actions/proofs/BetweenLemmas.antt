@@ -1,9 +1,8 @@
 -- The rows of a range, where all rows belong to it.
 use Rattle.std.proofs.Common.{◌≡◌, ◌∙◌, refl, sym, ap, ℕ, ◌≤◌, ◌&&◌, arith, Bool, true, false, List, [], ◌∷◌}
 use Rattle.std.specs.Prelude.{nat_le, nat_lt}
-use Rattle.std.specs.List.{AllByRecursion, filter}
 use Rattle.std.proofs.lemmas.Bool.Decides.{nat_tests}
-use Rattle.tatp_rows.proofs.OrderedLemmas.{each-weaker}
+use Rattle.tatp_rows.proofs.OrderedLemmas.{each-weaker, filter_all, filter_none}
 use Rattle.tatp_rows.proofs.RowLemmas.{both_from}
 use Rattle.tatp_rows.specs.Rows.{SubscriberRow, AccessInfoRow, SpecialFacilityRow, CallForwardingRow}
 use Rattle.tatp_actions.specs.Book.{Book, IsRowsOf, IsWithin, is_within, rows_between, empty_book}
@@ -11,11 +10,6 @@ use Rattle.tatp_actions.specs.Joined.{join_books, cut_low, cut_high}
 use Rattle.tatp_actions.proofs.CutLemmas.{same_tables, cut_joined, cut_low_rows, cut_high_rows}
 use Rattle.std.proofs.lemmas.List.Elements.{filter-append}
 use Rattle.std.proofs.lemmas.List.{append-nil}
-
--- a filter keeps a list whose elements all pass
-pub filter_all : {X : Type 0} (p : X → Bool) (xs : List X) → AllByRecursion (λ x. p x ≡ true) xs → filter p xs ≡ xs
-filter_all p [] each = refl
-filter_all p (x ∷ xs) each = rw each.0 (ap (λ rest. x ∷ rest) (filter_all p xs each.1))
 
 -- the test of a range
 pub within_test : (lo hi s_id : ℕ) → IsWithin lo hi s_id → is_within lo hi s_id ≡ true
@@ -28,11 +22,6 @@ own_rows lo hi book rows = same_tables
     (filter_all (λ (row : AccessInfoRow). is_within lo hi row.s_id) book.access (each-weaker {P = λ (row : AccessInfoRow). IsWithin lo hi row.s_id} (λ row within. within_test lo hi row.s_id within) book.access rows.access))
     (filter_all (λ (row : SpecialFacilityRow). is_within lo hi row.s_id) book.facilities (each-weaker {P = λ (row : SpecialFacilityRow). IsWithin lo hi row.s_id} (λ row within. within_test lo hi row.s_id within) book.facilities rows.facilities))
     (filter_all (λ (row : CallForwardingRow). is_within lo hi row.s_id) book.forwardings (each-weaker {P = λ (row : CallForwardingRow). IsWithin lo hi row.s_id} (λ row within. within_test lo hi row.s_id within) book.forwardings rows.forwardings))
-
--- a filter leaves nothing of a list whose elements all fail
-pub filter_none : {X : Type 0} (p : X → Bool) (xs : List X) → AllByRecursion (λ x. p x ≡ false) xs → filter p xs ≡ []
-filter_none p [] each = refl
-filter_none p (x ∷ xs) each = rw each.0 (filter_none p xs each.1)
 
 -- a subscriber past a range, and one in front of it
 pub past_test : (lo hi a b s_id : ℕ) → hi ≤ a → IsWithin lo hi s_id → is_within a b s_id ≡ false

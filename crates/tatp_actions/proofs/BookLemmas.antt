@@ -1,41 +1,11 @@
 -- The rules of a book after an edit of its subscribers.
-use Rattle.std.proofs.Common.{◌≡◌, ℕ, ◌==◌, refl, arith, true, false, ◌≢◌, List, Option, Some, None, IsSome, sym, ◌∙◌, subst, ap}
+use Rattle.std.proofs.Common.{◌≡◌, ℕ, arith, true, List, Some, None, IsSome, sym, subst}
 use Rattle.std.specs.List.{AllByRecursion}
-use Rattle.std.proofs.lemmas.Bool.Decides.{nat_tests}
-use Rattle.tatp_rows.proofs.OrderedLemmas.{by_test, key_found, each_found, each-weaker, each-with_row_at, each-with_row, ordered-with_row_at, ordered-with_row, row_at-with_row_at_same, row_at-with_row_at_other, row_at-with_row_other}
+use Rattle.tatp_rows.proofs.OrderedLemmas.{key_found, each_found, each-weaker, each-with_row_at, each-with_row, ordered-with_row_at, ordered-with_row, still_found-with_row_at, still_found-with_row}
 use Rattle.tatp_rows.specs.Keys.{key_of, subscriber_key}
 use Rattle.tatp_rows.specs.Ordered.{IsOrderedBy, row_at, with_row_at, with_row}
 use Rattle.tatp_rows.specs.Rows.{SubscriberRow, AccessInfoRow, SpecialFacilityRow, subscriber_in_range}
 use Rattle.tatp_actions.specs.Book.{Book, IsRowsOf, IsWithin, subscriber_at}
-
--- a found option is some
-some_is : {X : Type 0} (o : Option X) (x : X) → o ≡ Some x → IsSome o
-some_is o x e = rw e refl
-
--- what is some is not none
-none_is_not : {X : Type 0} (o : Option X) → o ≡ None → IsSome o → ⊥
-none_is_not o e some = let no : false ≡ true = rw e at some in absurd cc
-
--- what is found before an edit is found after it
-pub still_found-with_row_at : {X : Type 0} (key : X → ℕ) (j k : ℕ) (y : X) (xs : List X) → key y ≡ k → IsSome (row_at key j xs) → IsSome (row_at key j (with_row_at key k y xs))
-still_found-with_row_at key j k y xs at found =
-    by_test (j == k)
-    (λ e. let same : j ≡ k = grind (arith, nat_tests) in
-    let found' : IsSome (row_at key k xs) = subst (λ (i : ℕ). IsSome (row_at key i xs)) same found in
-    subst (λ (i : ℕ). IsSome (row_at key i (with_row_at key k y xs))) (sym same) (still key k y xs (row_at key k xs) refl at found'))
-    (λ e. let other : j ≢ k = grind (arith, nat_tests) in rw row_at-with_row_at_other found)
-  where
-    still : {X : Type 0} (key : X → ℕ) (k : ℕ) (y : X) (xs : List X) (o : Option X) → row_at key k xs ≡ o → key y ≡ k → IsSome o → IsSome (row_at key k (with_row_at key k y xs))
-    still key k y xs None e at some = absurd cc
-    still key k y xs (Some x) e at some = some_is _ y (row_at-with_row_at_same key k y xs x at e)
-
-pub still_found-with_row : {X : Type 0} (key : X → ℕ) (j : ℕ) (y : X) (xs : List X) → row_at key (key y) xs ≡ None → IsSome (row_at key j xs) → IsSome (row_at key j (with_row key y xs))
-still_found-with_row key j y xs absent found =
-    by_test (j == key y)
-    (λ e. let same : j ≡ key y = grind (arith, nat_tests) in
-    absurd (none_is_not (row_at key j xs) (ap (λ (i : ℕ). row_at key i xs) same ∙ absent) found))
-    (λ e. let other : j ≢ key y = grind (arith, nat_tests) in
-    subst IsSome (sym (row_at-with_row_other key j (key y) y xs refl other)) found)
 
 -- a book with other subscribers keeps the rules, where those of the subscribers hold and each that was found is found
 pub rules_of_subscribers : (lo hi : ℕ) (book : Book) (rows : List SubscriberRow) → IsRowsOf lo hi book

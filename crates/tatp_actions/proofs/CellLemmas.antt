@@ -12,6 +12,7 @@ use Rattle.tatp_actions.specs.Book.{Book, subscriber_at}
 use Rattle.tatp_actions.specs.Cell.{active_forwardings, in_area, in_zone}
 use Rattle.tatp_actions.specs.Change.{change_at, IsChange, area_moved, subscriber_added}
 use Rattle.tatp_actions.proofs.ChangeLemmas.{one, area_moved-low, area_moved-area, area_moved-zone, subscriber_added-low, subscriber_added-area, subscriber_added-zone}
+use Rattle.tatp_actions.specs.declared.cells.TheConstants.{FIRST_AREA, FIRST_ZONE}
 
 -- how many of the subscribers are in an area, and in a zone
 abbrev pub area_count : ℕ → List SubscriberRow → ℕ
@@ -39,22 +40,22 @@ zone-subscribers width z book rows = omega arith
 
 -- notes that are right for the three kinds of cells are the exact change of the subscribers
 pub change_of_subscribers : (width : ℕ) (book : Book) (rows : List SubscriberRow) (notes : List (ℕ × ℤ))
-    → ((c : ℕ) → c < 3 → change_at notes c ≡ pos 0)
-    → ((a : ℕ) → a < 16 → pos (area_count a rows) ≡ pos (area_count a book.subscribers) +ℤ change_at notes (3 + a))
-    → ((z : ℕ) → pos (zone_count width z rows) ≡ pos (zone_count width z book.subscribers) +ℤ change_at notes (19 + z))
+    → ((c : ℕ) → c < FIRST_AREA → change_at notes c ≡ pos 0)
+    → ((a : ℕ) → a < 16 → pos (area_count a rows) ≡ pos (area_count a book.subscribers) +ℤ change_at notes (FIRST_AREA + a))
+    → ((z : ℕ) → pos (zone_count width z rows) ≡ pos (zone_count width z book.subscribers) +ℤ change_at notes (FIRST_ZONE + z))
     → IsChange width book (record book { subscribers = rows }) notes
 change_of_subscribers width book rows notes low areas zones c within =
-    by_test (nat_lt c 3)
-    (λ e. let small : c < 3 = grind (arith, nat_tests) in
+    by_test (nat_lt c FIRST_AREA)
+    (λ e. let small : c < FIRST_AREA = grind (arith, nat_tests) in
     rw (e, active-subscribers (8 * c) book rows, low c small) (omega (arith, ints)))
-    (λ e. by_test (nat_lt c 19)
-    (λ f. let is : 3 + (c - 3) ≡ c = grind (arith, nat_tests) in
-    let small : c - 3 < 16 = grind (arith, nat_tests) in
-    let here = subst (λ (k : ℕ). pos (area_count (c - 3) rows) ≡ pos (area_count (c - 3) book.subscribers) +ℤ change_at notes k) is (areas (c - 3) small) in
-    rw (e, f, area-subscribers (c - 3) book rows, area-own (c - 3) book) here)
-    (λ f. let is : 19 + (c - 19) ≡ c = grind (arith, nat_tests) in
-    let here = subst (λ (k : ℕ). pos (zone_count width (c - 19) rows) ≡ pos (zone_count width (c - 19) book.subscribers) +ℤ change_at notes k) is (zones (c - 19)) in
-    rw (e, f) (let counts = zone-subscribers width (c - 19) book rows in omega (arith, ints))))
+    (λ e. by_test (nat_lt c FIRST_ZONE)
+    (λ f. let is : FIRST_AREA + (c - FIRST_AREA) ≡ c = grind (arith, nat_tests) in
+    let small : c - FIRST_AREA < 16 = grind (arith, nat_tests) in
+    let here = subst (λ (k : ℕ). pos (area_count (c - FIRST_AREA) rows) ≡ pos (area_count (c - FIRST_AREA) book.subscribers) +ℤ change_at notes k) is (areas (c - FIRST_AREA) small) in
+    rw (e, f, area-subscribers (c - FIRST_AREA) book rows, area-own (c - FIRST_AREA) book) here)
+    (λ f. let is : FIRST_ZONE + (c - FIRST_ZONE) ≡ c = grind (arith, nat_tests) in
+    let here = subst (λ (k : ℕ). pos (zone_count width (c - FIRST_ZONE) rows) ≡ pos (zone_count width (c - FIRST_ZONE) book.subscribers) +ℤ change_at notes k) is (zones (c - FIRST_ZONE)) in
+    rw (e, f) (let counts = zone-subscribers width (c - FIRST_ZONE) book rows in omega (arith, ints))))
 
 -- a location moves: the exact change
 pub change_of_move : (width : ℕ) (book : Book) (s_id : ℕ) (row new : SubscriberRow) → subscriber_at book s_id ≡ Some row → new.s_id ≡ row.s_id

@@ -5,6 +5,7 @@ use Rattle.std.proofs.lemmas.Bool.Decides.{nat_tests}
 use Rattle.std.proofs.lemmas.Int.{ints}
 use Rattle.tatp_rows.proofs.OrderedLemmas.{by_test}
 use Rattle.tatp_actions.specs.Change.{change_at, area_moved, subscriber_added}
+use Rattle.tatp_actions.specs.declared.cells.TheConstants.{FIRST_AREA, FIRST_ZONE}
 
 -- one for a test that holds, and none for one that doesn't
 abbrev pub one : Bool → ℕ
@@ -23,20 +24,20 @@ pub two_notes : (j k c : ℕ) (y z : ℤ) → change_at ((j, y) ∷ (k, z) ∷ [
 two_notes j k c y z = omega (arith, ints)
 
 -- the notes of a move between areas leave the cells of start times and of zones
-pub area_moved-low : (from to c : ℕ) → c < 3 → change_at (area_moved from to) c ≡ pos 0
+pub area_moved-low : (from to c : ℕ) → c < FIRST_AREA → change_at (area_moved from to) c ≡ pos 0
 area_moved-low from to c low =
     by_test (from == to)
     (λ e. rw e refl)
-    (λ e. rw (e, note_other (3 + from) c (negsuc 0) (λ h. omega arith), note_other (3 + to) c (pos 1) (λ h. omega arith)) refl)
+    (λ e. rw (e, note_other (FIRST_AREA + from) c (negsuc 0) (λ h. omega arith), note_other (FIRST_AREA + to) c (pos 1) (λ h. omega arith)) refl)
 
-pub area_moved-zone : (from to z : ℕ) → from < 16 → to < 16 → change_at (area_moved from to) (19 + z) ≡ pos 0
+pub area_moved-zone : (from to z : ℕ) → from < 16 → to < 16 → change_at (area_moved from to) (FIRST_ZONE + z) ≡ pos 0
 area_moved-zone from to z small small' =
     by_test (from == to)
     (λ e. rw e refl)
-    (λ e. rw (e, note_other (3 + from) (19 + z) (negsuc 0) (λ h. omega arith), note_other (3 + to) (19 + z) (pos 1) (λ h. omega arith)) refl)
+    (λ e. rw (e, note_other (FIRST_AREA + from) (FIRST_ZONE + z) (negsuc 0) (λ h. omega arith), note_other (FIRST_AREA + to) (FIRST_ZONE + z) (pos 1) (λ h. omega arith)) refl)
 
 -- the notes of a move between areas are what the counts of an area show
-pub area_moved-area : (from to a n m : ℕ) → n + one (from == a) ≡ m + one (to == a) → pos n ≡ pos m +ℤ change_at (area_moved from to) (3 + a)
+pub area_moved-area : (from to a n m : ℕ) → n + one (from == a) ≡ m + one (to == a) → pos n ≡ pos m +ℤ change_at (area_moved from to) (FIRST_AREA + a)
 area_moved-area from to a n m counted =
     by_test (from == to)
     (λ e. let same : from ≡ to = grind (arith, nat_tests) in
@@ -45,30 +46,30 @@ area_moved-area from to a n m counted =
     (λ e. by_test (from == a)
     (λ f. by_test (to == a) (λ g. absurd (grind (arith, nat_tests)))
     (λ g. let counts : n + 1 ≡ m + 0 = rw (f, g) at counted in
-    rw (e, note_same (3 + from) (3 + a) (negsuc 0) (grind (arith, nat_tests)), note_other (3 + to) (3 + a) (pos 1) (λ h. grind (arith, nat_tests))) (omega (arith, ints))))
+    rw (e, note_same (FIRST_AREA + from) (FIRST_AREA + a) (negsuc 0) (grind (arith, nat_tests)), note_other (FIRST_AREA + to) (FIRST_AREA + a) (pos 1) (λ h. grind (arith, nat_tests))) (omega (arith, ints))))
     (λ f. by_test (to == a)
     (λ g. let counts : n + 0 ≡ m + 1 = rw (f, g) at counted in
-    rw (e, note_other (3 + from) (3 + a) (negsuc 0) (λ h. grind (arith, nat_tests)), note_same (3 + to) (3 + a) (pos 1) (grind (arith, nat_tests))) (omega (arith, ints)))
+    rw (e, note_other (FIRST_AREA + from) (FIRST_AREA + a) (negsuc 0) (λ h. grind (arith, nat_tests)), note_same (FIRST_AREA + to) (FIRST_AREA + a) (pos 1) (grind (arith, nat_tests))) (omega (arith, ints)))
     (λ g. let counts : n + 0 ≡ m + 0 = rw (f, g) at counted in
-    rw (e, note_other (3 + from) (3 + a) (negsuc 0) (λ h. grind (arith, nat_tests)), note_other (3 + to) (3 + a) (pos 1) (λ h. grind (arith, nat_tests))) (omega (arith, ints)))))
+    rw (e, note_other (FIRST_AREA + from) (FIRST_AREA + a) (negsuc 0) (λ h. grind (arith, nat_tests)), note_other (FIRST_AREA + to) (FIRST_AREA + a) (pos 1) (λ h. grind (arith, nat_tests))) (omega (arith, ints)))))
 
 -- the notes of a new subscriber: none for a start time, one for its area, one for its zone
-pub subscriber_added-low : (area zone c : ℕ) → c < 3 → change_at (subscriber_added area zone) c ≡ pos 0
+pub subscriber_added-low : (area zone c : ℕ) → c < FIRST_AREA → change_at (subscriber_added area zone) c ≡ pos 0
 subscriber_added-low area zone c low =
-    rw (note_other (3 + area) c (pos 1) (λ h. omega arith), note_other (19 + zone) c (pos 1) (λ h. omega arith)) refl
+    rw (note_other (FIRST_AREA + area) c (pos 1) (λ h. omega arith), note_other (FIRST_ZONE + zone) c (pos 1) (λ h. omega arith)) refl
 
-pub subscriber_added-area : (area zone a n m : ℕ) → a < 16 → n ≡ one (area == a) + m → pos n ≡ pos m +ℤ change_at (subscriber_added area zone) (3 + a)
+pub subscriber_added-area : (area zone a n m : ℕ) → a < 16 → n ≡ one (area == a) + m → pos n ≡ pos m +ℤ change_at (subscriber_added area zone) (FIRST_AREA + a)
 subscriber_added-area area zone a n m small counted =
     by_test (area == a)
     (λ e. let counts : n ≡ 1 + m = rw e at counted in
-    rw (note_same (3 + area) (3 + a) (pos 1) (grind (arith, nat_tests)), note_other (19 + zone) (3 + a) (pos 1) (λ h. omega arith)) (omega (arith, ints)))
+    rw (note_same (FIRST_AREA + area) (FIRST_AREA + a) (pos 1) (grind (arith, nat_tests)), note_other (FIRST_ZONE + zone) (FIRST_AREA + a) (pos 1) (λ h. omega arith)) (omega (arith, ints)))
     (λ e. let counts : n ≡ 0 + m = rw e at counted in
-    rw (note_other (3 + area) (3 + a) (pos 1) (λ h. grind (arith, nat_tests)), note_other (19 + zone) (3 + a) (pos 1) (λ h. omega arith)) (omega (arith, ints)))
+    rw (note_other (FIRST_AREA + area) (FIRST_AREA + a) (pos 1) (λ h. grind (arith, nat_tests)), note_other (FIRST_ZONE + zone) (FIRST_AREA + a) (pos 1) (λ h. omega arith)) (omega (arith, ints)))
 
-pub subscriber_added-zone : (area zone z n m : ℕ) → area < 16 → n ≡ one (zone == z) + m → pos n ≡ pos m +ℤ change_at (subscriber_added area zone) (19 + z)
+pub subscriber_added-zone : (area zone z n m : ℕ) → area < 16 → n ≡ one (zone == z) + m → pos n ≡ pos m +ℤ change_at (subscriber_added area zone) (FIRST_ZONE + z)
 subscriber_added-zone area zone z n m small counted =
     by_test (zone == z)
     (λ e. let counts : n ≡ 1 + m = rw e at counted in
-    rw (note_other (3 + area) (19 + z) (pos 1) (λ h. omega arith), note_same (19 + zone) (19 + z) (pos 1) (grind (arith, nat_tests))) (omega (arith, ints)))
+    rw (note_other (FIRST_AREA + area) (FIRST_ZONE + z) (pos 1) (λ h. omega arith), note_same (FIRST_ZONE + zone) (FIRST_ZONE + z) (pos 1) (grind (arith, nat_tests))) (omega (arith, ints)))
     (λ e. let counts : n ≡ 0 + m = rw e at counted in
-    rw (note_other (3 + area) (19 + z) (pos 1) (λ h. omega arith), note_other (19 + zone) (19 + z) (pos 1) (λ h. grind (arith, nat_tests))) (omega (arith, ints)))
+    rw (note_other (FIRST_AREA + area) (FIRST_ZONE + z) (pos 1) (λ h. omega arith), note_other (FIRST_ZONE + zone) (FIRST_ZONE + z) (pos 1) (λ h. grind (arith, nat_tests))) (omega (arith, ints)))

@@ -11,6 +11,8 @@ use Rattle.tatp_rows.specs.Rows.{SubscriberRow, AccessInfoRow, SpecialFacilityRo
 use Rattle.tatp_rows.specs.Zones.{zone_of, area_of}
 use Rattle.tatp_actions.specs.Book.{Book, IsBook, IsRowsOf}
 use Rattle.tatp_actions.specs.Cell.{cell, active_forwardings, in_area, in_zone, has_active_facility}
+use Rattle.tatp_actions.specs.declared.cells.TheConstants.{FIRST_AREA, FIRST_ZONE}
+use Rattle.tatp_rows.specs.declared.ranges.TheConstants.{LAST_SUBSCRIBER}
 
 -- the key is eight times the slot, and the slot lies below that of the first subscriber that there can't be
 abbrev IsSlot : ℕ → ℕ → Type 0
@@ -56,7 +58,7 @@ few_facilities book rules =
     rules.facilities_ordered
 
 -- a start time is a multiple of 8
-start_in_slots : (n : ℕ) → (n ≡ 0) ⊎ ((n ≡ 8) ⊎ (n ≡ 16)) → (n ≡ 8 * (n / 8)) × (n / 8 < 3)
+start_in_slots : (n : ℕ) → (n ≡ 0) ⊎ ((n ≡ 8) ⊎ (n ≡ 16)) → (n ≡ 8 * (n / 8)) × (n / 8 < FIRST_AREA)
 start_in_slots n is = (omega arith, omega arith)
 
 pub few_forwardings : (book : Book) → IsBook book → length book.forwardings ≤ 137438961664
@@ -94,12 +96,12 @@ few_in_zone width zone book rules =
 
 -- no cell of a book counts more than 2^40
 pub few_in_cell : (width c : ℕ) (book : Book) → IsBook book → cell width c book ≤ 1099511627776
-few_in_cell width c book rules = by_test (nat_lt c 3)
+few_in_cell width c book rules = by_test (nat_lt c FIRST_AREA)
     (λ e. rw e (few_active (8 * c) book rules))
-    (λ e. by_test (nat_lt c 19)
-    (λ f. rw (e, f) (few_in_area (c - 3) book rules))
-    (λ f. rw (e, f) (few_in_zone width (c - 19) book rules)))
+    (λ e. by_test (nat_lt c FIRST_ZONE)
+    (λ f. rw (e, f) (few_in_area (c - FIRST_AREA) book rules))
+    (λ f. rw (e, f) (few_in_zone width (c - FIRST_ZONE) book rules)))
 
 -- the same for the rows of a range
-pub few_cells : (lo hi width c : ℕ) (book : Book) → IsRowsOf lo hi book → hi ≤ 16777217 → cell width c book ≤ 1099511627776
+pub few_cells : (lo hi width c : ℕ) (book : Book) → IsRowsOf lo hi book → hi ≤ LAST_SUBSCRIBER + 1 → cell width c book ≤ 1099511627776
 few_cells lo hi width c book rows bound = few_in_cell width c book rows.rules

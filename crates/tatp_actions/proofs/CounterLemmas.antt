@@ -11,20 +11,21 @@ use Rattle.tatp_rows.specs.Zones.{zone_of, area_of}
 use Rattle.tatp_rows.proofs.OrderedLemmas.{by_test}
 use Rattle.tatp_rows.proofs.RowLemmas.{forwarding_ranges}
 use Rattle.tatp_actions.specs.Recount.{one_more_in, with_row_of, with_subscriber, with_forwarding}
+use Rattle.tatp_actions.specs.declared.cells.TheConstants.{FIRST_AREA, FIRST_ZONE}
 
 -- what a row of a subscriber counts in a cell by its zone
 abbrev pub zone_in : ℕ → ℕ → ℕ → ℕ
-zone_in width c s_id = if nat_lt c 19 then 0 else (if zone_of width s_id == c - 19 then 1 else 0)
+zone_in width c s_id = if nat_lt c FIRST_ZONE then 0 else (if zone_of width s_id == c - FIRST_ZONE then 1 else 0)
 
 -- what a Subscriber row counts in a cell
 abbrev pub subscriber_in : ℕ → ℕ → SubscriberRow → ℕ
 subscriber_in width c row =
-    if nat_lt c 3 then 0
-    else (if nat_lt c 19 then (if area_of row.vlr_location == c - 3 then 1 else 0) else zone_in width c row.s_id)
+    if nat_lt c FIRST_AREA then 0
+    else (if nat_lt c FIRST_ZONE then (if area_of row.vlr_location == c - FIRST_AREA then 1 else 0) else zone_in width c row.s_id)
 
 -- what a Call_Forwarding row counts in a cell
 abbrev pub forwarding_in : ℕ → ℕ → Bool → CallForwardingRow → ℕ
-forwarding_in width c active row = if nat_lt c 3 then (if row.start_time == 8 * c && active then 1 else 0) else zone_in width c row.s_id
+forwarding_in width c active row = if nat_lt c FIRST_AREA then (if row.start_time == 8 * c && active then 1 else 0) else zone_in width c row.s_id
 
 -- one more in a cell keeps how many cells there are, and counts in that cell alone
 pub one_more-length : (i : ℕ) (counts : List ℕ) → length (one_more_in i counts) ≡ length counts
@@ -87,17 +88,17 @@ counted_by_fold {X} c Good amount more counter step each a (pair ∷ pairs) b fo
 
 -- a row of a subscriber
 row_of-length : (width s_id : ℕ) (counts : List ℕ) → length (with_row_of width s_id counts) ≡ length counts
-row_of-length width s_id counts = one_more-length (19 + zone_of width s_id) counts
+row_of-length width s_id counts = one_more-length (FIRST_ZONE + zone_of width s_id) counts
 
-in_zone_cell : (z c : ℕ) → ◌≡◌ {A = ℕ} (if c == 19 + z then 1 else 0) (if nat_lt c 19 then 0 else (if z == c - 19 then 1 else 0))
+in_zone_cell : (z c : ℕ) → ◌≡◌ {A = ℕ} (if c == FIRST_ZONE + z then 1 else 0) (if nat_lt c FIRST_ZONE then 0 else (if z == c - FIRST_ZONE then 1 else 0))
 in_zone_cell z c = grind (arith, nat_tests)
 
 row_of-at : (width s_id c : ℕ) (counts : List ℕ) → c < length counts → get_or counts c 0 + 1 < 18446744073709551616
     → get_or (with_row_of width s_id counts) c 0 ≡ get_or counts c 0 + zone_in width c s_id
-row_of-at width s_id c counts within room = one_more-at (19 + zone_of width s_id) c counts within (omega arith) ∙ ap (λ n. get_or counts c 0 + n) (in_zone_cell (zone_of width s_id) c)
+row_of-at width s_id c counts within room = one_more-at (FIRST_ZONE + zone_of width s_id) c counts within (omega arith) ∙ ap (λ n. get_or counts c 0 + n) (in_zone_cell (zone_of width s_id) c)
 
 zone_in-le : (width c s_id : ℕ) → zone_in width c s_id ≤ 1
-zone_in-le width c s_id = by_test (nat_lt c 19) (λ e. rw e (omega arith)) (λ e. rw e (tick-le (zone_of width s_id == c - 19)))
+zone_in-le width c s_id = by_test (nat_lt c FIRST_ZONE) (λ e. rw e (omega arith)) (λ e. rw e (tick-le (zone_of width s_id == c - FIRST_ZONE)))
 
 pub row_counter : {X : Type 0} (width c : ℕ) (owner : X → ℕ) → IsCounter {X = X} c (λ row. ⊤) (λ row. zone_in width c (owner row)) (λ row counts. with_row_of width (owner row) counts)
 row_counter width c owner = record {
@@ -107,11 +108,11 @@ row_counter width c owner = record {
 }
 
 -- a Subscriber row
-in_area_cell : (a c n : ℕ) → a < 16 → (if c == 3 + a then 1 else 0) + (if nat_lt c 19 then 0 else n) ≡ (if nat_lt c 3 then 0 else (if nat_lt c 19 then (if a == c - 3 then 1 else 0) else n))
+in_area_cell : (a c n : ℕ) → a < 16 → (if c == FIRST_AREA + a then 1 else 0) + (if nat_lt c FIRST_ZONE then 0 else n) ≡ (if nat_lt c FIRST_AREA then 0 else (if nat_lt c FIRST_ZONE then (if a == c - FIRST_AREA then 1 else 0) else n))
 in_area_cell a c n small = grind (arith, nat_tests)
 
-in_area_cell-twice : (a c n : ℕ) → a < 16 → (if c == 3 + a then 1 else 0) + (if nat_lt c 19 then 0 else n) ≡ (if nat_lt c 3 then 0 else (if nat_lt c 19 then (if a == c - 3 then 1 else 0) else (if nat_lt c 19 then 0 else n)))
-in_area_cell-twice a c n small = by_test (nat_lt c 19)
+in_area_cell-twice : (a c n : ℕ) → a < 16 → (if c == FIRST_AREA + a then 1 else 0) + (if nat_lt c FIRST_ZONE then 0 else n) ≡ (if nat_lt c FIRST_AREA then 0 else (if nat_lt c FIRST_ZONE then (if a == c - FIRST_AREA then 1 else 0) else (if nat_lt c FIRST_ZONE then 0 else n)))
+in_area_cell-twice a c n small = by_test (nat_lt c FIRST_ZONE)
     (λ e. let same = in_area_cell a c n small in simp e (rw e at same))
     (λ e. let same = in_area_cell a c n small in simp e (rw e at same))
 
@@ -119,38 +120,38 @@ subscriber-at : (width c : ℕ) (row : SubscriberRow) (counts : List ℕ) → ar
     → get_or (with_subscriber width row counts) c 0 ≡ get_or counts c 0 + subscriber_in width c row
 subscriber-at width c row counts small within room =
     let a = area_of row.vlr_location in
-    let n : ℕ = if zone_of width row.s_id == c - 19 then 1 else 0 in
-    let first = one_more-at (3 + a) c counts within (omega arith) in
-    let len = one_more-length (3 + a) counts in
-    let tick = tick-le (c == 3 + a) in
-    let second = row_of-at width row.s_id c (one_more_in (3 + a) counts) (omega arith) (omega arith) in
+    let n : ℕ = if zone_of width row.s_id == c - FIRST_ZONE then 1 else 0 in
+    let first = one_more-at (FIRST_AREA + a) c counts within (omega arith) in
+    let len = one_more-length (FIRST_AREA + a) counts in
+    let tick = tick-le (c == FIRST_AREA + a) in
+    let second = row_of-at width row.s_id c (one_more_in (FIRST_AREA + a) counts) (omega arith) (omega arith) in
     let both = in_area_cell-twice a c n small in
     omega arith
 
 subscriber_in-le : (width c : ℕ) (row : SubscriberRow) → subscriber_in width c row ≤ 1
-subscriber_in-le width c row = by_test (nat_lt c 3)
+subscriber_in-le width c row = by_test (nat_lt c FIRST_AREA)
     (λ e. rw e (omega arith))
-    (λ e. by_test (nat_lt c 19) (λ f. rw (e, f) (tick-le (area_of row.vlr_location == c - 3))) (λ f. rw (e, f) (let le = zone_in-le width c row.s_id in rw f at le)))
+    (λ e. by_test (nat_lt c FIRST_ZONE) (λ f. rw (e, f) (tick-le (area_of row.vlr_location == c - FIRST_AREA))) (λ f. rw (e, f) (let le = zone_in-le width c row.s_id in rw f at le)))
 
 pub subscriber_counter : (width c : ℕ) → IsCounter c (λ (row : SubscriberRow). area_of row.vlr_location < 16) (subscriber_in width c) (with_subscriber width)
 subscriber_counter width c = record {
-  keeps = λ row counts. row_of-length width row.s_id (one_more_in (3 + area_of row.vlr_location) counts) ∙ one_more-length (3 + area_of row.vlr_location) counts;
+  keeps = λ row counts. row_of-length width row.s_id (one_more_in (FIRST_AREA + area_of row.vlr_location) counts) ∙ one_more-length (FIRST_AREA + area_of row.vlr_location) counts;
   counts_in = λ row counts small within room. subscriber-at width c row counts small within room;
   little = λ row. subscriber_in-le width c row;
 }
 
 -- a Call_Forwarding row
-start_slot : (n : ℕ) → (n ≡ 0) ⊎ ((n ≡ 8) ⊎ (n ≡ 16)) → (n ≡ 8 * (n / 8)) × (n / 8 < 3)
+start_slot : (n : ℕ) → (n ≡ 0) ⊎ ((n ≡ 8) ⊎ (n ≡ 16)) → (n ≡ 8 * (n / 8)) × (n / 8 < FIRST_AREA)
 start_slot n is = (omega arith, omega arith)
 
-in_start_cell : (start q c n : ℕ) → start ≡ 8 * q → q < 3 → (if c == q then 1 else 0) + (if nat_lt c 19 then 0 else n) ≡ (if nat_lt c 3 then (if start == 8 * c then 1 else 0) else (if nat_lt c 19 then 0 else n))
+in_start_cell : (start q c n : ℕ) → start ≡ 8 * q → q < FIRST_AREA → (if c == q then 1 else 0) + (if nat_lt c FIRST_ZONE then 0 else n) ≡ (if nat_lt c FIRST_AREA then (if start == 8 * c then 1 else 0) else (if nat_lt c FIRST_ZONE then 0 else n))
 in_start_cell start q c n is small = grind (arith, nat_tests)
 
 and-true : (b : Bool) → (b && true) ≡ b
 and-true true = refl
 and-true false = refl
 
-no_start_cell : (t : Bool) (c n : ℕ) → (if nat_lt c 19 then 0 else n) ≡ (if nat_lt c 3 then (if t && false then 1 else 0) else (if nat_lt c 19 then 0 else n))
+no_start_cell : (t : Bool) (c n : ℕ) → (if nat_lt c FIRST_ZONE then 0 else n) ≡ (if nat_lt c FIRST_AREA then (if t && false then 1 else 0) else (if nat_lt c FIRST_ZONE then 0 else n))
 no_start_cell true c n = grind (arith, nat_tests)
 no_start_cell false c n = grind (arith, nat_tests)
 
@@ -158,7 +159,7 @@ forwarding-at : (width c : ℕ) (active : Bool) (row : CallForwardingRow) (count
     → get_or (with_forwarding width active row counts) c 0 ≡ get_or counts c 0 + forwarding_in width c active row
 forwarding-at width c true row counts holds within room =
     let q = row.start_time / 8 in
-    let n : ℕ = if zone_of width row.s_id == c - 19 then 1 else 0 in
+    let n : ℕ = if zone_of width row.s_id == c - FIRST_ZONE then 1 else 0 in
     let slot = start_slot row.start_time (forwarding_ranges row holds).start_time_is in
     let first = one_more-at q c counts within (omega arith) in
     let len = one_more-length q counts in
@@ -168,10 +169,10 @@ forwarding-at width c true row counts holds within room =
     rw (and-true (row.start_time == 8 * c)) (omega arith)
 forwarding-at width c false row counts holds within room =
     row_of-at width row.s_id c counts within (omega arith)
-    ∙ ap (λ n. get_or counts c 0 + n) (no_start_cell (row.start_time == 8 * c) c (if zone_of width row.s_id == c - 19 then 1 else 0))
+    ∙ ap (λ n. get_or counts c 0 + n) (no_start_cell (row.start_time == 8 * c) c (if zone_of width row.s_id == c - FIRST_ZONE then 1 else 0))
 
 forwarding_in-le : (width c : ℕ) (active : Bool) (row : CallForwardingRow) → forwarding_in width c active row ≤ 1
-forwarding_in-le width c active row = by_test (nat_lt c 3)
+forwarding_in-le width c active row = by_test (nat_lt c FIRST_AREA)
     (λ e. rw e (tick-le (row.start_time == 8 * c && active)))
     (λ e. rw e (zone_in-le width c row.s_id))
 

@@ -1,75 +1,23 @@
 -- A book cut between two subscribers: its two halves, and the counts of each.
 use Rattle.std.proofs.Common.{◌≡◌, ◌∙◌, refl, sym, ap, subst, ℕ, ◌+◌, ◌*◌, ◌<◌, ◌≤◌, arith, true, false, List, [], ◌∷◌, ◌++◌, IsSome, nat_lt}
-use Rattle.std.specs.Prelude.{nat_le}
 use Rattle.std.specs.List.{AllByRecursion}
-use Rattle.std.proofs.lemmas.Bool.Decides.{nat_tests}
 use Rattle.tatp_rows.proofs.AppendLemmas.{each-left, each-right, ordered-left, ordered-right}
+use Rattle.tatp_rows.proofs.HalfLemmas.{below_each, from_each, halves_joined, below_joined, from_joined}
 use Rattle.tatp_rows.proofs.KeyLemmas.{key_below_is, key_from_is}
-use Rattle.tatp_rows.proofs.OrderedLemmas.{by_test, each-weaker}
+use Rattle.tatp_rows.proofs.OrderedLemmas.{each-weaker, each_from_two, each_both}
 use Rattle.tatp_rows.proofs.RowLemmas.{access_type, facility_type, forwarding_type, forwarding_ranges}
 use Rattle.tatp_rows.specs.Keys.{subscriber_key, access_key, facility_key, forwarding_key}
-use Rattle.tatp_rows.specs.Ordered.{IsOrderedBy}
 use Rattle.tatp_rows.specs.Rows.{SubscriberRow, AccessInfoRow, SpecialFacilityRow, CallForwardingRow, subscriber_in_range, access_in_range, facility_in_range, forwarding_in_range}
 use Rattle.tatp_actions.specs.Book.{Book, IsBook, IsRowsOf, IsWithin, subscriber_at, facility_at}
 use Rattle.tatp_actions.specs.Cell.{cell}
-use Rattle.tatp_actions.specs.Joined.{join_books, keys_below, keys_from, cut_low, cut_high, Apart}
-use Rattle.tatp_actions.proofs.JoinedLemmas.{each_both, cell_joined}
-use Rattle.tatp_actions.proofs.LocalLemmas.{each_from_two, subscriber-low, subscriber-high, facility-low, facility-high}
+use Rattle.tatp_actions.specs.Joined.{join_books, cut_low, cut_high, Apart}
+use Rattle.tatp_actions.proofs.JoinedLemmas.{cell_joined}
+use Rattle.tatp_actions.proofs.LocalLemmas.{subscriber-low, subscriber-high, facility-low, facility-high}
 
 -- a book is known by its four tables
 pub same_tables : {s s' : List SubscriberRow} {a a' : List AccessInfoRow} {f f' : List SpecialFacilityRow} {c c' : List CallForwardingRow} → s ≡ s' → a ≡ a' → f ≡ f' → c ≡ c'
     → ◌≡◌ {A = Book} (record { subscribers = s; access = a; facilities = f; forwardings = c }) (record { subscribers = s'; access = a'; facilities = f'; forwardings = c' })
 same_tables es ea ef ec = cc
-
-module _ {X : Type 0} (key : X → ℕ) where
-  -- each key of the lower half is below the border, and each of the upper one from it on
-  pub below_each : (k : ℕ) (xs : List X) → AllByRecursion (λ x. key x < k) (keys_below key k xs)
-  below_each k [] = tt
-  below_each k (x ∷ xs) = by_test (nat_lt (key x) k)
-      (λ e. let under : key x < k = grind (arith, nat_tests) in rw e (under, below_each k xs))
-      (λ e. rw e (below_each k xs))
-
-  pub from_each : (k : ℕ) (xs : List X) → AllByRecursion (λ x. k ≤ key x) (keys_from key k xs)
-  from_each k [] = tt
-  from_each k (x ∷ xs) = by_test (nat_le k (key x))
-      (λ e. let over : k ≤ key x = grind (arith, nat_tests) in rw e (over, from_each k xs))
-      (λ e. rw e (from_each k xs))
-
-  -- a list whose keys are all on one side
-  pub below_all : (k : ℕ) (xs : List X) → AllByRecursion (λ x. key x < k) xs → keys_below key k xs ≡ xs
-  below_all k [] under = refl
-  below_all k (x ∷ xs) under = let e : nat_lt (key x) k ≡ true = grind (arith, nat_tests) in rw e (ap (λ (rest : List X). x ∷ rest) (below_all k xs under.1))
-
-  pub below_none : (k : ℕ) (xs : List X) → AllByRecursion (λ x. k ≤ key x) xs → keys_below key k xs ≡ []
-  below_none k [] over = refl
-  below_none k (x ∷ xs) over = let e : nat_lt (key x) k ≡ false = grind (arith, nat_tests) in rw e (below_none k xs over.1)
-
-  pub from_all : (k : ℕ) (xs : List X) → AllByRecursion (λ x. k ≤ key x) xs → keys_from key k xs ≡ xs
-  from_all k [] over = refl
-  from_all k (x ∷ xs) over = let e : nat_le k (key x) ≡ true = grind (arith, nat_tests) in rw e (ap (λ (rest : List X). x ∷ rest) (from_all k xs over.1))
-
-  pub from_none : (k : ℕ) (xs : List X) → AllByRecursion (λ x. key x < k) xs → keys_from key k xs ≡ []
-  from_none k [] under = refl
-  from_none k (x ∷ xs) under = let e : nat_le k (key x) ≡ false = grind (arith, nat_tests) in rw e (from_none k xs under.1)
-
-  -- the halves of an ordered list make the list
-  pub halves_joined : (k : ℕ) (xs : List X) → IsOrderedBy key xs → keys_below key k xs ++ keys_from key k xs ≡ xs
-  halves_joined k [] ordered = refl
-  halves_joined k (x ∷ xs) ordered = by_test (nat_lt (key x) k)
-      (λ e. let f : nat_le k (key x) ≡ false = grind (arith, nat_tests) in rw (e, f) (ap (λ (rest : List X). x ∷ rest) (halves_joined k xs ordered.1)))
-      (λ e. let f : nat_le k (key x) ≡ true = grind (arith, nat_tests) in
-      let over : k ≤ key x = grind (arith, nat_tests) in
-      let above = each-weaker {P = λ z. key x < key z} {Q = λ z. k ≤ key z} (λ z up. omega arith) xs ordered.0 in
-      rw (e, f, below_none k xs above, from_all k xs above) refl)
-
-  -- and the halves of a join at its border are the lists that were joined
-  pub below_joined : (k : ℕ) (xs ys : List X) → AllByRecursion (λ x. key x < k) xs → AllByRecursion (λ x. k ≤ key x) ys → keys_below key k (xs ++ ys) ≡ xs
-  below_joined k [] ys under over = below_none k ys over
-  below_joined k (x ∷ xs) ys under over = let e : nat_lt (key x) k ≡ true = grind (arith, nat_tests) in rw e (ap (λ (rest : List X). x ∷ rest) (below_joined k xs ys under.1 over))
-
-  pub from_joined : (k : ℕ) (xs ys : List X) → AllByRecursion (λ x. key x < k) xs → AllByRecursion (λ x. k ≤ key x) ys → keys_from key k (xs ++ ys) ≡ ys
-  from_joined k [] ys under over = from_all k ys over
-  from_joined k (x ∷ xs) ys under over = let e : nat_le k (key x) ≡ false = grind (arith, nat_tests) in rw e (from_joined k xs ys under.1 over)
 
 -- the two halves of a book are apart, and joined they are the book
 pub cut_apart : (n : ℕ) (book : Book) → Apart n (cut_low n book) (cut_high n book)

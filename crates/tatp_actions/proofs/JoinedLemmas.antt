@@ -6,7 +6,7 @@ use Rattle.tatp_actions.specs.Change.{IsChange}
 use Rattle.std.specs.List.{AllByRecursion, sum_by}
 use Rattle.std.proofs.lemmas.List.Sums.{sum_by-append}
 use Rattle.tatp_rows.proofs.AppendLemmas.{each-append, ordered-append}
-use Rattle.tatp_rows.proofs.OrderedLemmas.{by_test, each-weaker, sum_by-same}
+use Rattle.tatp_rows.proofs.OrderedLemmas.{by_test, each-weaker, each_from_two, each_both, sum_by-same}
 use Rattle.tatp_rows.proofs.RowLemmas.{forwarding_type}
 use Rattle.tatp_rows.specs.Keys.{subscriber_key, access_key, facility_key, forwarding_key}
 use Rattle.tatp_rows.specs.Rows.{SubscriberRow, AccessInfoRow, SpecialFacilityRow, CallForwardingRow, subscriber_in_range, access_in_range, facility_in_range, forwarding_in_range}
@@ -14,11 +14,8 @@ use Rattle.tatp_rows.specs.Zones.{zone_of, area_of}
 use Rattle.tatp_actions.specs.Book.{Book, IsBook, IsRowsOf, IsWithin, subscriber_at, facility_at}
 use Rattle.tatp_actions.specs.Cell.{cell, active_forwardings, in_area, in_zone, has_active_facility}
 use Rattle.tatp_actions.specs.Joined.{join_books, Apart}
-use Rattle.tatp_actions.proofs.LocalLemmas.{apart, each_from_two, subscriber-low, subscriber-high, facility-low, facility-high}
-
--- both of two facts, of each element
-pub each_both : {X : Type 0} (P Q : X → Type 0) (xs : List X) → AllByRecursion P xs → AllByRecursion Q xs → AllByRecursion (λ x. P x × Q x) xs
-each_both P Q xs ps qs = each_from_two {P = P} {Q = Q} {R = λ x. P x × Q x} (λ x p q. (p, q)) xs ps qs
+use Rattle.tatp_actions.proofs.LocalLemmas.{apart, subscriber-low, subscriber-high, facility-low, facility-high}
+use Rattle.tatp_actions.specs.declared.cells.TheConstants.{FIRST_AREA, FIRST_ZONE}
 
 -- a wider range
 wider : (lo hi lo' hi' s : ℕ) → lo' ≤ lo → hi ≤ hi' → IsWithin lo hi s → IsWithin lo' hi' s
@@ -102,11 +99,11 @@ module _ (lo n hi : ℕ) (low high : Book) (of_low : IsRowsOf lo n low) (of_high
       omega arith
 
   pub cell_joined : (width c : ℕ) → cell width c (join_books low high) ≡ cell width c low + cell width c high
-  cell_joined width c = by_test (nat_lt c 3)
+  cell_joined width c = by_test (nat_lt c FIRST_AREA)
       (λ e. rw e (active_joined (8 * c)))
-      (λ e. by_test (nat_lt c 19)
-      (λ f. rw (e, f) (area_joined (c - 3)))
-      (λ f. rw (e, f) (zone_joined width (c - 19))))
+      (λ e. by_test (nat_lt c FIRST_ZONE)
+      (λ f. rw (e, f) (area_joined (c - FIRST_AREA)))
+      (λ f. rw (e, f) (zone_joined width (c - FIRST_ZONE))))
 
 -- the exact change of one of two books is the exact change of their join
 pub change_joined-low : (lo n hi width : ℕ) (low after high : Book) (notes : List (ℕ × ℤ)) → IsRowsOf lo n low → IsRowsOf lo n after → IsRowsOf n hi high

@@ -3,6 +3,7 @@ use Rattle.std.proofs.Common.{◌≡◌, ◌∙◌, refl, sym, ap, ℕ, ◌*◌,
 use Rattle.std.specs.List.{AllByRecursion}
 use Rattle.tatp_rows.proofs.AppendLemmas.{row_at-low, row_at-high, with_row_at-low, with_row_at-high, with_row-low, with_row-high}
 use Rattle.tatp_rows.proofs.KeyLemmas.{key_below, key_from}
+use Rattle.tatp_rows.proofs.OrderedLemmas.{each_from_two}
 use Rattle.tatp_rows.proofs.RowLemmas.{access_type, facility_type, forwarding_type, forwarding_ranges}
 use Rattle.tatp_rows.specs.Keys.{key_of, subscriber_key, facility_key}
 use Rattle.tatp_rows.specs.Rows.{SubscriberRow, AccessInfoRow, SpecialFacilityRow, CallForwardingRow, access_in_range, facility_in_range, forwarding_in_range}
@@ -12,11 +13,6 @@ use Rattle.tatp_actions.specs.Joined.{join_books, Apart}
 use Rattle.tatp_actions.specs.declared.action.Action.{Action}
 use Rattle.tatp_actions.specs.declared.action.Action.TheVariants.{SubscriberData, UpdateLocation, AddSubscriber}
 use Rattle.tatp_actions.specs.declared.action.RowReply.{RowReply}
-
--- a fact of each element from two others
-pub each_from_two : {X : Type 0} {P Q R : X → Type 0} → ((x : X) → P x → Q x → R x) → (xs : List X) → AllByRecursion P xs → AllByRecursion Q xs → AllByRecursion R xs
-each_from_two both [] ps qs = tt
-each_from_two both (x ∷ xs) ps qs = (both x ps.0 qs.0, each_from_two both xs ps.1 qs.1)
 
 -- the rows of two ranges that meet are apart
 pub apart : (lo n hi : ℕ) (low high : Book) → IsRowsOf lo n low → IsRowsOf n hi high → Apart n low high

@@ -18,6 +18,7 @@ use Rattle.tatp_actions.specs.Recount.{with_row_of, with_subscriber, is_active_i
 use Rattle.tatp_actions.specs.Tables.{Tables, AreKeyed, stored_book, values_of}
 use Rattle.tatp_actions.proofs.CountLemmas.{few_subscribers, few_access, few_facilities, few_forwardings}
 use Rattle.tatp_actions.proofs.CounterLemmas.{zone_in, subscriber_in, forwarding_in, IsCounted, counted_by_fold, row_counter, subscriber_counter, forwarding_counter}
+use Rattle.tatp_actions.specs.declared.cells.TheConstants.{CELLS, FIRST_AREA, FIRST_ZONE}
 
 -- sums over pairs
 sum-zero : {X : Type 0} (xs : List X) → sum_by (λ (x : X). 0) xs ≡ 0
@@ -87,11 +88,11 @@ cell_of_sums : (width c : ℕ) (tables : Tables) → AreKeyed tables
     → sum_by (λ (pair : ℕ × SubscriberRow). subscriber_in width c pair.1) tables.subscribers + sum_by (λ (pair : ℕ × AccessInfoRow). zone_in width c pair.1.s_id) tables.access
     + sum_by (λ (pair : ℕ × SpecialFacilityRow). zone_in width c pair.1.s_id) tables.facilities + sum_by (λ (pair : ℕ × CallForwardingRow). forwarding_in width c (is_active_in tables.facilities pair.1) pair.1) tables.forwardings
     ≡ cell width c (stored_book tables)
-cell_of_sums width c tables keyed = by_test (nat_lt c 3)
-    (λ e. let f : nat_lt c 19 ≡ true = grind (arith, nat_tests) in simp (e, f) (started tables keyed (8 * c)))
-    (λ e. by_test (nat_lt c 19)
-    (λ f. simp (e, f) (placed tables (c - 3)))
-    (λ f. simp (e, f) (zoned tables width (c - 19))))
+cell_of_sums width c tables keyed = by_test (nat_lt c FIRST_AREA)
+    (λ e. let f : nat_lt c FIRST_ZONE ≡ true = grind (arith, nat_tests) in simp (e, f) (started tables keyed (8 * c)))
+    (λ e. by_test (nat_lt c FIRST_ZONE)
+    (λ f. simp (e, f) (placed tables (c - FIRST_AREA)))
+    (λ f. simp (e, f) (zoned tables width (c - FIRST_ZONE))))
 
 -- the walk over the four tables from all counts at 0
 pub recounted : (width c low high : ℕ) (tables : Tables) (zeros b1 b2 b3 b4 : List ℕ)
@@ -101,11 +102,11 @@ pub recounted : (width c low high : ℕ) (tables : Tables) (zeros b1 b2 b3 b4 : 
     → ((a : List ℕ) (key : ℕ) (row : Bor AccessInfoRow) (b : List ℕ) → step2 a key row b → b ≡ with_row_of width row.now.s_id a)
     → ((a : List ℕ) (key : ℕ) (row : Bor SpecialFacilityRow) (b : List ℕ) → step3 a key row b → b ≡ with_row_of width row.now.s_id a)
     → ((a : List ℕ) (key : ℕ) (row : Bor CallForwardingRow) (b : List ℕ) → step4 a key row b → (forwarding_in_range row.now ≡ true) × (b ≡ with_forwarding width (is_active_in tables.facilities row.now) row.now a))
-    → zeros ≡ replicate 51 0 → FoldsRows step1 zeros tables.subscribers b1 → FoldsRows step2 b1 tables.access b2 → FoldsRows step3 b2 tables.facilities b3 → FoldsRows step4 b3 tables.forwardings b4
-    → c < 51 → AreKeyed tables → IsRowsOf low high (stored_book tables) → get_or b4 c 0 ≡ cell width c (stored_book tables)
+    → zeros ≡ replicate CELLS 0 → FoldsRows step1 zeros tables.subscribers b1 → FoldsRows step2 b1 tables.access b2 → FoldsRows step3 b2 tables.facilities b3 → FoldsRows step4 b3 tables.forwardings b4
+    → c < CELLS → AreKeyed tables → IsRowsOf low high (stored_book tables) → get_or b4 c 0 ≡ cell width c (stored_book tables)
 recounted width c low high tables zeros b1 b2 b3 b4 step1 step2 step3 step4 each1 each2 each3 each4 all folds1 folds2 folds3 folds4 within keyed rows =
-    let len : length zeros ≡ 51 = ap length all ∙ length-replicate {A = ℕ} 51 0 in
-    let at : get_or zeros c 0 ≡ 0 = ap (λ (counts : List ℕ). get_or counts c 0) all ∙ get_or-replicate 51 c 0 0 within in
+    let len : length zeros ≡ CELLS = ap length all ∙ length-replicate {A = ℕ} CELLS 0 in
+    let at : get_or zeros c 0 ≡ 0 = ap (λ (counts : List ℕ). get_or counts c 0) all ∙ get_or-replicate CELLS c 0 0 within in
     let book = stored_book tables in
     let few1 = few_subscribers book rows.rules in
     let few2 = few_access book rows.rules in

@@ -3,6 +3,7 @@ use Rattle.std.specs.Prelude.{◌≡◌, ℕ, ◌&&◌, Bool, true, false, Optio
 use Rattle.tatp_rows.specs.Keys.{key_of, subscriber_key}
 use Rattle.tatp_rows.specs.Ordered.{with_row_at, with_row}
 use Rattle.tatp_rows.specs.Rows.{SubscriberRow, is_between, subscriber_in_range}
+use Rattle.tatp_rows.specs.declared.ranges.TheConstants.{LAST_SUBSCRIBER}
 use Rattle.tatp_rows.specs.declared.refusal.Refusal.TheVariants as refusal
 use Rattle.tatp_actions.specs.Book.{Book, subscriber_at}
 use Rattle.tatp_actions.specs.declared.action.Action.{Action}
@@ -18,8 +19,8 @@ s_id_of (AddSubscriber row) = row.s_id
 
 -- the fields of an action are in range
 abbrev pub is_in_range : Action → Bool
-is_in_range (SubscriberData s_id) = is_between 1 16777216 s_id
-is_in_range (UpdateLocation s_id vlr_location) = is_between 1 16777216 s_id && is_between 1 4294967295 vlr_location
+is_in_range (SubscriberData s_id) = is_between 1 LAST_SUBSCRIBER s_id
+is_in_range (UpdateLocation s_id vlr_location) = is_between 1 LAST_SUBSCRIBER s_id && is_between 1 4294967295 vlr_location
 is_in_range (AddSubscriber row) = subscriber_in_range row
 
 -- GET_SUBSCRIBER_DATA: the row that was found

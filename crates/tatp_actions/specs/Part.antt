@@ -1,5 +1,6 @@
 -- A part: the rows of a range of subscribers.
 use Rattle.std.specs.Prelude.{◌≡◌, ℕ, ◌<◌, ◌≤◌, ◌+◌, List, [], ℤ}
+use Rattle.tatp_rows.specs.declared.ranges.TheConstants.{LAST_SUBSCRIBER, GREATEST_WIDTH}
 use Rattle.tatp_rows.specs.declared.refusal.Refusal.{Refusal}
 use Rattle.tatp_actions.specs.Action.{IsOutcome}
 use Rattle.tatp_actions.specs.Book.{Book, IsRowsOf}
@@ -18,11 +19,11 @@ pub record PartState : Type 0 where
 
 -- the range is not empty, and lies in that of all subscribers
 abbrev pub IsRange : ℕ → ℕ → Type 0
-IsRange lo hi = (1 ≤ lo) × (lo < hi) × (hi ≤ 16777217)
+IsRange lo hi = (1 ≤ lo) × (lo < hi) × (hi ≤ LAST_SUBSCRIBER + 1)
 
 -- the width of the zones is in range
 abbrev pub IsWidth : ℕ → Type 0
-IsWidth width = (1 ≤ width) × (width ≤ 524288)
+IsWidth width = (1 ≤ width) × (width ≤ GREATEST_WIDTH)
 
 -- the rules of a part
 pub record IsPart (part : PartState) : Type 0 where

@@ -1,4 +1,4 @@
-//! The 51 cells, and where their kinds begin.
+//! The cells, and where their kinds begin.
 ghost use Rattle.std.specs.Prelude.{◌≡◌, ℕ, ◌<◌, ◌+◌, ◌≤◌, ◌^◌, ◌==◌, List, length, slice_index, slice_set, replicate};
 
 use std::marker::Model;
@@ -6,6 +6,9 @@ use std::marker::Model;
 /// How many cells there are: active forwardings by start time 0, 8 and 16, subscribers by 16 areas, and
 /// rows by 32 zones.
 pub const CELLS: u8 = 51;
+
+/// The same, as a length.
+const COUNTS: usize = CELLS as usize;
 
 /// The cell of area 0; area a has cell `FIRST_AREA + a`.
 pub const FIRST_AREA: u8 = 3;
@@ -16,15 +19,18 @@ pub const FIRST_ZONE: u8 = 19;
 /// A count for each cell.
 #[derive(Clone, Copy, Debug, PartialEq, Eq)]
 pub struct Cells {
-    counts: [u64; 51],
+    counts: [u64; COUNTS],
 }
 
 impl Model for Cells {
+    ghost use Rattle.std.specs.Prelude.{◌≡◌, ℕ, List, length};
+    ghost use Rattle.tatp_actions.specs.declared.cells.TheConstants.{CELLS};
+
     ghost Value = { List ℕ };
 
     ghost view = { λ c. c.counts };
 
-    ghost invariant = { λ c. length c.counts ≡ 51 };
+    ghost invariant = { λ c. length c.counts ≡ CELLS };
 
     ghost inverse = { λ ns. record { counts = ns } };
 }
@@ -32,9 +38,11 @@ impl Model for Cells {
 impl Cells {
     /// A count of 0 for each cell.
     pub fn zero() -> Self
-        ensures { result ≡ replicate 51 0 }
+        ensures { result ≡ replicate CELLS 0 }
     {
-        Cells { counts: [0; 51] }
+        Cells {
+            counts: [0; COUNTS],
+        }
     }
 
     /// The count of a cell.

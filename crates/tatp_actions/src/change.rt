@@ -15,19 +15,20 @@ pub const NOTES: usize = 8;
 /// By how much an action moves the cells: at most eight notes, each a cell and its amount.
 #[derive(Debug, Drop)]
 pub struct Change {
-    notes: ArrayVec<(u8, i64), 8>,
+    notes: ArrayVec<(u8, i64), NOTES>,
 }
 
 impl Model for Change {
     ghost use Rattle.std.specs.Prelude.{ℕ, ◌≤◌, List, length, ℤ};
     ghost use Rattle.std.specs.List.{AllByRecursion};
     ghost use Rattle.tatp_actions.specs.Change.{IsNote};
+    ghost use Rattle.tatp_actions.specs.declared.change.TheConstants.{NOTES};
 
     ghost Value = { List (ℕ × ℤ) };
 
     ghost view = { λ c. c.notes.items };
 
-    ghost invariant = { λ c. (length c.notes.items ≤ 8) × AllByRecursion IsNote c.notes.items };
+    ghost invariant = { λ c. (length c.notes.items ≤ NOTES) × AllByRecursion IsNote c.notes.items };
 }
 
 impl Change {
@@ -43,7 +44,7 @@ impl Change {
     /// The notes, each a cell and by how much it moves.
     pub fn notes(&self) -> &[(u8, i64)]
         ensures value { result.now ≡ self.now }
-        ensures few { length result.now ≤ 8 }
+        ensures few { length result.now ≤ NOTES }
         ensures small { AllByRecursion IsNote result.now }
     {
         self.notes.as_slice()
@@ -51,7 +52,7 @@ impl Change {
 
     /// Notes that a cell moves by an amount.
     fn note(&mut self, cell: u8, amount: i64)
-        requires room { length self.old < 8 }
+        requires room { length self.old < NOTES }
         requires note { IsNote (cell, amount) }
         ensures { self.new ≡ self.old ++ (cell, amount) ∷ [] }
     {

@@ -18,8 +18,6 @@ mod rows;
 #[cfg(test)]
 mod table;
 #[cfg(test)]
-mod table_tests;
-#[cfg(test)]
 mod tests;
 mod trees;
 

@@ -19,15 +19,15 @@ pub struct PlainRows {
 }
 
 impl PlainRows {
-    /// Rows with empty tables, never asked.
-    pub fn new(alloc: Global) -> Self
+    /// Rows with empty tables that have room for so many each, never asked.
+    pub fn new(alloc: Global, room: usize) -> Self
         ensures { result ≡ record { subscribers = []; access = []; facilities = []; forwardings = []; asked = 0 } }
     {
         PlainRows {
-            subscribers: Table::new(alloc),
-            access: Table::new(alloc),
-            facilities: Table::new(alloc),
-            forwardings: Table::new(alloc),
+            subscribers: Table::new(alloc, room),
+            access: Table::new(alloc, room),
+            facilities: Table::new(alloc, room),
+            forwardings: Table::new(alloc, room),
             asked: 0,
         }
     }

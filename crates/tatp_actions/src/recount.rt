@@ -9,10 +9,9 @@ ghost use Rattle.tatp_actions.specs.Recount.{one_more_in, with_row_of, with_subs
 use crate::cells::{CELLS, Cells, FIRST_AREA, FIRST_ZONE};
 use crate::part::Part;
 use mr_subtree::SubTree;
-use tatp_rows::{Access, Facility, Forwarding, Subscriber, area, row_key, subscriber_key, zone};
-
-/// The last subscriber that there can be.
-const LAST_SUBSCRIBER: u64 = 16_777_216;
+use tatp_rows::{
+    Access, Facility, Forwarding, LAST_SUBSCRIBER, Subscriber, area, row_key, subscriber_key, zone,
+};
 
 /// Counts one more in a cell, where its count has room.
 fn count_with_room(cells: &mut Cells, cell: u8)
@@ -110,7 +109,8 @@ impl Part {
         ensures { option_copied result ≡ first_subscriber s_id self.now.book.subscribers }
     {
         let tree = &self.rows.subscribers;
-        if s_id > LAST_SUBSCRIBER {
+        let last = u64::from(LAST_SUBSCRIBER);
+        if s_id > last {
             return None;
         }
         let (_, row) = tree.first_from(subscriber_key(s_id as u32))?;

@@ -1,8 +1,7 @@
 //! A table of rows over a sorted vector: the plain program that tests compare the trees with.
-ghost use Rattle.std.specs.Prelude.{◌≡◌, ℕ, ◌+◌, ◌<◌, [], ◌∷◌, List, length, Option, Some, None, nat_le, nat_lt, ◌≤◌, IsSome, IsNone, IsErrAnd, IfOk, IfErr, OnOk, OnErr, option_copied, option_map, ok_or};
-ghost use Rattle.std.specs.List.{find, prefix_len};
+ghost use Rattle.std.specs.Prelude.{◌≡◌, ℕ, ◌+◌, ◌<◌, [], ◌∷◌, List, length, Option, Some, None, nat_lt, ◌≤◌, IsSome, IsNone, IsErrAnd, IfOk, IfErr, OnOk, OnErr, option_copied, ok_or};
+ghost use Rattle.std.specs.List.{prefix_len};
 ghost use Rattle.tatp_rows.specs.Ordered.{IsOrderedBy, row_at, with_row_at, with_row, without_row};
-ghost use Rattle.mr_node.specs.Folds.{FoldsRows};
 ghost use Rattle.mr_node.specs.Rows.{key_limit, key_of_pair, value_at};
 ghost use Rattle.mr_subtree.specs.Trees.{IsInserted};
 
@@ -11,12 +10,13 @@ use std::marker::Model;
 use std::mem;
 use tatp_rows::{Back, Refusal};
 
-/// A table of values by key, in one vector that is sorted by key.
+/// A table of values by key, in one vector that is sorted by key, with room for so many.
 ///
 /// It is seen as the list of its pairs (key, value), ordered by key.
 #[derive(Drop)]
 pub struct Table<V> {
     entries: Vec<(u64, V)>,
+    room: usize,
 }
 
 impl<V> Model for Table<V> {
@@ -35,19 +35,13 @@ impl<V> Model for Table<V> {
 
 impl<V> Table<V> {
     /// A table with no entry.
-    pub fn new(alloc: Global) -> Self
+    pub fn new(alloc: Global, room: usize) -> Self
         ensures { result ≡ [] }
     {
         Table {
             entries: Vec::new(alloc),
+            room,
         }
-    }
-
-    /// How many entries the table has.
-    pub fn len(&self) -> usize
-        ensures { result ≡ length self.now }
-    {
-        self.entries.len()
     }
 
     /// How many entries have a key below this one: where its entry is, or would be.
@@ -80,8 +74,8 @@ impl<V> Table<V> {
         Ok(mem::replace(&mut self.entries[at].1, value))
     }
 
-    /// Adds an entry. `Exists` where the key has one, `Memory` where a growth was refused: then the table is as
-    /// before, and the value is handed back.
+    /// Adds an entry. `Exists` where the key has one, `Memory` where there is no room: then the table is as before,
+    /// and the value is handed back.
     pub fn insert(&mut self, key: u64, value: V) -> Result<(), Back<V>>
         requires { key < key_limit }
         ensures { IsInserted key value self.old self.new result }
@@ -90,6 +84,12 @@ impl<V> Table<V> {
         if at < self.entries.len() && self.entries[at].0 == key {
             return Err(Back {
                 why: Refusal::Exists,
+                item: value,
+            });
+        }
+        if self.entries.len() >= self.room {
+            return Err(Back {
+                why: Refusal::Memory,
                 item: value,
             });
         }
@@ -113,26 +113,5 @@ impl<V> Table<V> {
         }
         let (_, value) = self.entries.remove(at);
         Some(value)
-    }
-
-    /// The first entry from a key on.
-    pub fn first_from(&self, key: u64) -> Option<(u64, &V)>
-        ensures { option_map (λ entry. (entry.0, entry.1.now)) result ≡ find (λ pair. nat_le key pair.0) self.now }
-    {
-        let at = self.place_of(key);
-        let entry = self.entries.get(at)?;
-        Some((entry.0, &entry.1))
-    }
-
-    /// Folds over the entries, in the order of their keys.
-    pub fn fold<A: Drop, F: Fn(A, u64, &V) -> A>(&self, init: A, f: F) -> A
-        requires { F.IsAlwaysCallable f }
-        ensures { FoldsRows (λ a key value b. F.post f a key value b) init self.now result }
-    {
-        let mut folded = init;
-        for entry in &self.entries {
-            folded = f(folded, entry.0, &entry.1);
-        }
-        folded
     }
 }

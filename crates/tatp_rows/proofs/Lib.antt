@@ -1,4 +1,5 @@
 pub mod AppendLemmas
+pub mod HalfLemmas
 pub mod KeyLemmas
 pub mod MapLemmas
 pub mod NumberLemmas

@@ -1,7 +1,7 @@
 -- Lists that are ordered by a key: what is found, what an edit keeps, and what it does to sums.
-use Rattle.std.proofs.Common.{◌≡◌, refl, ℕ, suc, ◌+◌, ◌<◌, ◌≤◌, ◌≢◌, ◌-◌, List, [], ◌∷◌, Bool, true, false, length, arith}
+use Rattle.std.proofs.Common.{◌≡◌, ◌∙◌, refl, sym, ap, subst, ℕ, suc, ◌+◌, ◌<◌, ◌≤◌, ◌≢◌, ◌-◌, List, [], ◌∷◌, Bool, true, false, length, Option, IsSome, arith}
 use Rattle.std.specs.Prelude.{◌==◌, nat_lt, Some, None, if◌then◌else◌}
-use Rattle.std.specs.List.{AllByRecursion, sum_by, count_by}
+use Rattle.std.specs.List.{AllByRecursion, filter, sum_by, count_by}
 use Rattle.std.specs.Option.{is_some}
 use Rattle.std.proofs.lemmas.Bool.Decides.{nat_tests}
 use Rattle.std.proofs.lemmas.List.Sums.{sum_by-cons}
@@ -16,6 +16,25 @@ by_test false if_true if_false = if_false refl
 pub each-weaker : {X : Type 0} {P Q : X → Type 0} → ((x : X) → P x → Q x) → (xs : List X) → AllByRecursion P xs → AllByRecursion Q xs
 each-weaker weaker [] each = tt
 each-weaker weaker (x ∷ xs) each = (weaker x each.0, each-weaker weaker xs each.1)
+
+-- a fact of each element from two others
+pub each_from_two : {X : Type 0} {P Q R : X → Type 0} → ((x : X) → P x → Q x → R x) → (xs : List X) → AllByRecursion P xs → AllByRecursion Q xs → AllByRecursion R xs
+each_from_two both [] ps qs = tt
+each_from_two both (x ∷ xs) ps qs = (both x ps.0 qs.0, each_from_two both xs ps.1 qs.1)
+
+-- both of two facts, of each element
+pub each_both : {X : Type 0} (P Q : X → Type 0) (xs : List X) → AllByRecursion P xs → AllByRecursion Q xs → AllByRecursion (λ x. P x × Q x) xs
+each_both P Q xs ps qs = each_from_two {P = P} {Q = Q} {R = λ x. P x × Q x} (λ x p q. (p, q)) xs ps qs
+
+-- a filter keeps a list whose elements all pass
+pub filter_all : {X : Type 0} (p : X → Bool) (xs : List X) → AllByRecursion (λ x. p x ≡ true) xs → filter p xs ≡ xs
+filter_all p [] each = refl
+filter_all p (x ∷ xs) each = rw each.0 (ap (λ rest. x ∷ rest) (filter_all p xs each.1))
+
+-- a filter leaves nothing of a list whose elements all fail
+pub filter_none : {X : Type 0} (p : X → Bool) (xs : List X) → AllByRecursion (λ x. p x ≡ false) xs → filter p xs ≡ []
+filter_none p [] each = refl
+filter_none p (x ∷ xs) each = rw each.0 (filter_none p xs each.1)
 
 module _ {X : Type 0} (key : X → ℕ) where
   -- the element that is found has the key
@@ -204,3 +223,32 @@ sums_agree P f g h i agree (x ∷ xs) each =
     let here = agree x each.0 in
     let rest = sums_agree P f g h i agree xs each.1 in
     rw (sum_by-cons f x xs, sum_by-cons g x xs, sum_by-cons h x xs, sum_by-cons i x xs) (omega arith)
+
+-- a found option is some
+some_is : {X : Type 0} (o : Option X) (x : X) → o ≡ Some x → IsSome o
+some_is o x e = rw e refl
+
+-- what is some is not none
+none_is_not : {X : Type 0} (o : Option X) → o ≡ None → IsSome o → ⊥
+none_is_not o e some = let no : false ≡ true = rw e at some in absurd cc
+
+-- what is found before an edit is found after it
+pub still_found-with_row_at : {X : Type 0} (key : X → ℕ) (j k : ℕ) (y : X) (xs : List X) → key y ≡ k → IsSome (row_at key j xs) → IsSome (row_at key j (with_row_at key k y xs))
+still_found-with_row_at key j k y xs at found =
+    by_test (j == k)
+    (λ e. let same : j ≡ k = grind (arith, nat_tests) in
+    let found' : IsSome (row_at key k xs) = subst (λ (i : ℕ). IsSome (row_at key i xs)) same found in
+    subst (λ (i : ℕ). IsSome (row_at key i (with_row_at key k y xs))) (sym same) (still key k y xs (row_at key k xs) refl at found'))
+    (λ e. let other : j ≢ k = grind (arith, nat_tests) in rw row_at-with_row_at_other found)
+  where
+    still : {X : Type 0} (key : X → ℕ) (k : ℕ) (y : X) (xs : List X) (o : Option X) → row_at key k xs ≡ o → key y ≡ k → IsSome o → IsSome (row_at key k (with_row_at key k y xs))
+    still key k y xs None e at some = absurd cc
+    still key k y xs (Some x) e at some = some_is _ y (row_at-with_row_at_same key k y xs x at e)
+
+pub still_found-with_row : {X : Type 0} (key : X → ℕ) (j : ℕ) (y : X) (xs : List X) → row_at key (key y) xs ≡ None → IsSome (row_at key j xs) → IsSome (row_at key j (with_row key y xs))
+still_found-with_row key j y xs absent found =
+    by_test (j == key y)
+    (λ e. let same : j ≡ key y = grind (arith, nat_tests) in
+    absurd (none_is_not (row_at key j xs) (ap (λ (i : ℕ). row_at key i xs) same ∙ absent) found))
+    (λ e. let other : j ≢ key y = grind (arith, nat_tests) in
+    subst IsSome (sym (row_at-with_row_other key j (key y) y xs refl other)) found)

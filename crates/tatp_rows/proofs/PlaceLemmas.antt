@@ -1,13 +1,20 @@
 -- The place of a key in an ordered list, how many elements have a smaller key, and the edits at that place.
-use Rattle.std.proofs.Common.{◌≡◌, ◌≢◌, refl, ap, ◌∙◌, ℕ, zero, suc, ◌+◌, ◌<◌, ◌≤◌, List, [], ◌∷◌, length, get_or, set, true, false, arith}
+use Rattle.std.proofs.Common.{◌≡◌, ◌≢◌, refl, sym, ap, ◌∙◌, ℕ, zero, suc, ◌+◌, ◌<◌, ◌≤◌, List, [], ◌∷◌, length, get_or, set, true, false, arith}
 use Rattle.std.specs.Prelude.{◌==◌, nat_lt, Some, None}
 use Rattle.std.specs.List.{AllByRecursion, prefix_len, insert, remove}
+use Rattle.std.specs.List.Sorted.{IsPartitionedBy, IsPartitionPoint}
 use Rattle.std.proofs.lemmas.Bool.Decides.{nat_tests}
 use Rattle.tatp_rows.specs.Ordered.{IsOrderedBy, row_at, with_row_at, with_row, without_row}
 use Rattle.tatp_rows.proofs.OrderedLemmas.{each-weaker, by_test, absent_below, absent_cons}
 
 one_more : (n : ℕ) → 1 + n ≡ suc n
 one_more n = omega arith
+
+-- what holds of each element holds of the one at an index
+pub each_at : {X : Type 0} (P : X → Type 0) (xs : List X) (i : ℕ) (d : X) → AllByRecursion P xs → i < length xs → P (get_or xs i d)
+each_at P [] i d each within = absurd (omega arith)
+each_at P (x ∷ xs) zero d each within = each.0
+each_at P (x ∷ xs) (suc i) d each within = each_at P xs i d each.1 (omega arith)
 
 module _ {X : Type 0} (key : X → ℕ) where
   -- how many elements at the front have a smaller key
@@ -107,3 +114,51 @@ module _ {X : Type 0} (key : X → ℕ) where
   place_is k zero (z ∷ zs) within below from = place-here k z zs (from z (omega arith))
   place_is k (suc p) (z ∷ zs) within below from =
       place-later k z zs (below 0 z (omega arith)) ∙ ap suc (place_is k p zs (omega arith) (λ i d h. below (suc i) d (omega arith)) (λ d h. from d (omega arith)))
+
+  -- keys rise from index to index
+  pub rises : (xs : List X) (i j : ℕ) (d : X) → IsOrderedBy key xs → i ≤ j → j < length xs → key (get_or xs i d) ≤ key (get_or xs j d)
+  rises [] i j d ordered up within = absurd (omega arith)
+  rises (x ∷ xs) zero zero d ordered up within = omega arith
+  rises (x ∷ xs) zero (suc j) d ordered up within =
+      let above = each_at (λ y. key x < key y) xs j d ordered.0 (omega arith) in omega arith
+  rises (x ∷ xs) (suc i) zero d ordered up within = absurd (omega arith)
+  rises (x ∷ xs) (suc i) (suc j) d ordered up within = rises xs i j d ordered.1 (omega arith) (omega arith)
+
+  -- the elements with smaller keys stand in front
+  pub partitioned : (k : ℕ) (xs : List X) → IsOrderedBy key xs → IsPartitionedBy (λ x. nat_lt (key x) k) xs
+  partitioned k xs ordered = λ i j d up within test.
+      let below = rises xs i j d ordered up within in grind (arith, nat_tests)
+
+  -- what a search by halves finds is the place of the key
+  pub place_from_point : (k p : ℕ) (xs : List X) → p ≤ length xs → IsPartitionPoint (λ x. nat_lt (key x) k ≡ true) (λ x. nat_lt (key x) k ≡ false) xs p → p ≡ place_in k xs
+  place_from_point k p xs bound point = sym (place_is k p xs bound
+      (λ i d under. let test : nat_lt (key (get_or xs i d)) k ≡ true = point.0 i d (omega arith) under in grind (arith, nat_tests))
+      (λ d within. let test : nat_lt (key (get_or xs p d)) k ≡ false = point.1 p d (omega arith) within in grind (arith, nat_tests)))
+
+  -- no element has the key, where its place is the end
+  pub absent_past : (k p : ℕ) (xs : List X) → IsOrderedBy key xs → p ≡ place_in k xs → length xs ≤ p → row_at key k xs ≡ None
+  absent_past k p [] ordered at past = refl
+  absent_past k p (x ∷ xs) ordered at past = absent_at_place k (x ∷ xs) x ordered (λ within. absurd (omega arith))
+
+  -- nor where the element at its place has another
+  pub absent_here : (k p : ℕ) (xs : List X) (x : X) → IsOrderedBy key xs → p ≡ place_in k xs → x ≡ get_or xs p x → key x ≢ k → row_at key k xs ≡ None
+  absent_here k p xs x ordered at is other =
+      absent_at_place k xs x ordered (λ within. λ same. other (ap key (is ∙ ap (λ i. get_or xs i x) at) ∙ same))
+
+  -- the element at the place, where it has the key
+  pub found_here : (k p : ℕ) (xs : List X) (x : X) → IsOrderedBy key xs → p ≡ place_in k xs → p < length xs → x ≡ get_or xs p x → key x ≡ k → row_at key k xs ≡ Some x
+  found_here k p xs x ordered at within is same =
+      let here : x ≡ get_or xs (place_in k xs) x = is ∙ ap (λ i. get_or xs i x) at in
+      found_at_place k xs x ordered (omega arith) (ap key (sym here) ∙ same) ∙ ap Some (sym here)
+
+  -- the edits at the place of an element that has the key
+  pub sets_here : (k p : ℕ) (xs : List X) (x y : X) → IsOrderedBy key xs → p ≡ place_in k xs → p < length xs → x ≡ get_or xs p x → key x ≡ k → set xs p y ≡ with_row_at key k y xs
+  sets_here k p xs x y ordered at within is same =
+      ap (λ i. set xs i y) at ∙ sym ((at_place k xs x ordered (found_here k p xs x ordered at within is same)).sets y)
+
+  pub removes_here : (k p : ℕ) (xs : List X) (x : X) → IsOrderedBy key xs → p ≡ place_in k xs → p < length xs → x ≡ get_or xs p x → key x ≡ k → remove xs p ≡ without_row key k xs
+  removes_here k p xs x ordered at within is same =
+      ap (λ i. remove xs i) at ∙ sym ((at_place k xs x ordered (found_here k p xs x ordered at within is same)).removes)
+
+  pub inserts_here : (y : X) (p : ℕ) (xs : List X) → p ≡ place_in (key y) xs → row_at key (key y) xs ≡ None → insert xs p y ≡ with_row key y xs
+  inserts_here y p xs at absent = ap (λ i. insert xs i y) at ∙ sym (insert_at_place y xs absent)

@@ -1,5 +1,5 @@
 -- What the ranges of a row's fields say, one by one.
-use Rattle.std.proofs.Common.{◌≡◌, refl, subst, sym, ℕ, zero, suc, ◌<◌, ◌≤◌, Bool, true, false, List, [], ◌∷◌, length, get_or, ◌↔◌, ◌⊎◌, inl, inr, IsTrue, arith}
+use Rattle.std.proofs.Common.{◌≡◌, refl, subst, sym, ℕ, zero, suc, ◌+◌, ◌<◌, ◌≤◌, Bool, true, false, List, [], ◌∷◌, length, get_or, ◌↔◌, ◌⊎◌, inl, inr, IsTrue, arith}
 use Rattle.std.specs.Prelude.{◌==◌, ◌&&◌, ◌||◌, nat_lt, nat_le, Ok, Err}
 use Rattle.std.specs.List.{EachIndex, list_all}
 use Rattle.std.proofs.lemmas.Bool.Decides.{nat_tests}
@@ -8,6 +8,7 @@ use Rattle.std.proofs.lemmas.Bool.{cases_lt}
 use Rattle.std.proofs.lemmas.List.{get_or_past}
 use Rattle.std.specs.Str.{IsUtf8}
 use Rattle.tatp_rows.proofs.OrderedLemmas.{by_test}
+use Rattle.tatp_rows.specs.declared.ranges.TheConstants.{LAST_SUBSCRIBER}
 use Rattle.tatp_rows.specs.declared.refusal.Refusal.TheVariants.{Field}
 use Rattle.tatp_rows.specs.Rows.{between, subscriber_of, SubscriberRow, AccessInfoRow, SpecialFacilityRow, CallForwardingRow, is_between, are_between, subscriber_in_range, access_in_range, facility_in_range, forwarding_in_range}
 
@@ -40,7 +41,7 @@ length-are_between size low high ns holds = let parts = both (length ns == size)
 -- the ranges of a Subscriber row's fields, one by one
 pub record SubscriberRanges (row : SubscriberRow) : Type 0 where
   pub s_id_from : 1 ≤ row.s_id
-  pub s_id_below : row.s_id < 16777217
+  pub s_id_below : row.s_id < LAST_SUBSCRIBER + 1
   pub sub_nbr_below : row.sub_nbr < 1000000000000000
   pub bits_between : are_between 10 0 1 row.bits ≡ true
   pub hexes_between : are_between 10 0 15 row.hexes ≡ true
@@ -62,9 +63,9 @@ seven false b c d e f g all = absurd cc
 
 pub subscriber_ranges : (row : SubscriberRow) → subscriber_in_range row ≡ true → SubscriberRanges row
 subscriber_ranges row holds =
-    let tests = seven (is_between 1 16777216 row.s_id) (nat_lt row.sub_nbr 1000000000000000) (are_between 10 0 1 row.bits) (are_between 10 0 15 row.hexes) (are_between 10 0 255 row.bytes)
+    let tests = seven (is_between 1 LAST_SUBSCRIBER row.s_id) (nat_lt row.sub_nbr 1000000000000000) (are_between 10 0 1 row.bits) (are_between 10 0 15 row.hexes) (are_between 10 0 255 row.bytes)
     (is_between 1 4294967295 row.msc_location) (is_between 1 4294967295 row.vlr_location) holds in
-    let s_id = between_is 1 16777216 row.s_id tests.0 in
+    let s_id = between_is 1 LAST_SUBSCRIBER row.s_id tests.0 in
     let msc = between_is 1 4294967295 row.msc_location tests.5 in
     let vlr = between_is 1 4294967295 row.vlr_location tests.6 in
     record {
@@ -83,7 +84,7 @@ subscriber_ranges row holds =
 -- and all of them make the row's test
 pub subscriber_from_ranges : (row : SubscriberRow) → SubscriberRanges row → subscriber_in_range row ≡ true
 subscriber_from_ranges row ranges =
-    let s_id = between_from 1 16777216 row.s_id ranges.s_id_from (let to = ranges.s_id_below in omega arith) in
+    let s_id = between_from 1 LAST_SUBSCRIBER row.s_id ranges.s_id_from (let to = ranges.s_id_below in omega arith) in
     let number = number_test row.sub_nbr ranges.sub_nbr_below in
     let msc = between_from 1 4294967295 row.msc_location ranges.msc_location_from (let to = ranges.msc_location_below in omega arith) in
     let vlr = between_from 1 4294967295 row.vlr_location ranges.vlr_location_from (let to = ranges.vlr_location_below in omega arith) in
@@ -119,11 +120,11 @@ relocated_in_range row v from below holds =
 -- the subscriber of a row in the other tables
 pub record IsSubscriberId (s_id : ℕ) : Type 0 where
   pub from : 1 ≤ s_id
-  pub below : s_id < 16777217
+  pub below : s_id < LAST_SUBSCRIBER + 1
 
-subscriber_id : (s_id : ℕ) (rest : Bool) → (is_between 1 16777216 s_id && rest) ≡ true → IsSubscriberId s_id
+subscriber_id : (s_id : ℕ) (rest : Bool) → (is_between 1 LAST_SUBSCRIBER s_id && rest) ≡ true → IsSubscriberId s_id
 subscriber_id s_id rest holds =
-    let s_id = between_is 1 16777216 s_id (both (is_between 1 16777216 s_id) rest holds).0 in
+    let s_id = between_is 1 LAST_SUBSCRIBER s_id (both (is_between 1 LAST_SUBSCRIBER s_id) rest holds).0 in
     record { from = s_id.0; below = let to = s_id.1 in omega arith }
 
 pub access_s_id : (row : AccessInfoRow) → access_in_range row ≡ true → IsSubscriberId row.s_id
@@ -147,17 +148,17 @@ second_kind first kind rest holds =
     record { from = range.0; below = let to = range.1 in omega arith }
 
 pub access_type : (row : AccessInfoRow) → access_in_range row ≡ true → IsKind row.ai_type
-access_type row holds = second_kind (is_between 1 16777216 row.s_id) row.ai_type _ holds
+access_type row holds = second_kind (is_between 1 LAST_SUBSCRIBER row.s_id) row.ai_type _ holds
 
 pub facility_type : (row : SpecialFacilityRow) → facility_in_range row ≡ true → IsKind row.sf_type
-facility_type row holds = second_kind (is_between 1 16777216 row.s_id) row.sf_type _ holds
+facility_type row holds = second_kind (is_between 1 LAST_SUBSCRIBER row.s_id) row.sf_type _ holds
 
 pub forwarding_type : (row : CallForwardingRow) → forwarding_in_range row ≡ true → IsKind row.sf_type
-forwarding_type row holds = second_kind (is_between 1 16777216 row.s_id) row.sf_type _ holds
+forwarding_type row holds = second_kind (is_between 1 LAST_SUBSCRIBER row.s_id) row.sf_type _ holds
 
 -- the ranges of a Special_Facility row's fields, one by one
 pub record FacilityRanges (row : SpecialFacilityRow) : Type 0 where
-  pub s_id_between : is_between 1 16777216 row.s_id ≡ true
+  pub s_id_between : is_between 1 LAST_SUBSCRIBER row.s_id ≡ true
   pub sf_type_between : is_between 1 4 row.sf_type ≡ true
   pub is_active_between : is_between 0 1 row.is_active ≡ true
   pub error_cntrl_between : is_between 0 255 row.error_cntrl ≡ true
@@ -171,7 +172,7 @@ facility_ranges row holds =
     let error = is_between 0 255 row.error_cntrl in
     let data_a = is_between 0 255 row.data_a in
     let letters = are_between 5 65 90 row.data_b in
-    let on_s_id = both (is_between 1 16777216 row.s_id) (kind && (active && (error && (data_a && letters)))) holds in
+    let on_s_id = both (is_between 1 LAST_SUBSCRIBER row.s_id) (kind && (active && (error && (data_a && letters)))) holds in
     let on_kind = both kind (active && (error && (data_a && letters))) on_s_id.1 in
     let on_active = both active (error && (data_a && letters)) on_kind.1 in
     let on_error = both error (data_a && letters) on_active.1 in
@@ -231,7 +232,7 @@ forwarding_ranges row holds =
     let start = row.start_time == 0 || (row.start_time == 8 || row.start_time == 16) in
     let end = is_between 1 24 row.end_time in
     let number = nat_lt row.numberx 1000000000000000 in
-    let after_s_id = (both (is_between 1 16777216 row.s_id) (kind && (start && (end && number))) holds).1 in
+    let after_s_id = (both (is_between 1 LAST_SUBSCRIBER row.s_id) (kind && (start && (end && number))) holds).1 in
     let after_kind = (both kind (start && (end && number)) after_s_id).1 in
     let on_start = both start (end && number) after_kind in
     let on_end = both end number on_start.1 in
@@ -292,7 +293,7 @@ subscriber_of_ok row holds = rw holds refl
 
 -- what is known of the fields of a row that is made
 pub record AreChecked (s_id s sub_nbr : ℕ) (bits hexes bytes : List ℕ) (msc_location m vlr_location v : ℕ) : Type 0 where
-  pub s_id_is : Ok s ≡ between 1 16777216 s_id
+  pub s_id_is : Ok s ≡ between 1 LAST_SUBSCRIBER s_id
   pub sub_nbr_below : sub_nbr < 1000000000000000
   pub bits_between : are_between 10 0 1 bits ≡ true
   pub hexes_between : are_between 10 0 15 hexes ≡ true
@@ -304,7 +305,7 @@ module _ (s_id s sub_nbr : ℕ) (bits hexes bytes : List ℕ) (msc_location m vl
   -- the fields given are in range
   given_in_range : subscriber_in_range (record { s_id = s_id; sub_nbr = sub_nbr; bits = bits; hexes = hexes; bytes = bytes; msc_location = msc_location; vlr_location = vlr_location }) ≡ true
   given_in_range =
-      both_from _ _ (between_ok 1 16777216 s_id s checked.s_id_is).1 (both_from _ _ (number_test sub_nbr checked.sub_nbr_below)
+      both_from _ _ (between_ok 1 LAST_SUBSCRIBER s_id s checked.s_id_is).1 (both_from _ _ (number_test sub_nbr checked.sub_nbr_below)
       (both_from _ _ checked.bits_between (both_from _ _ checked.hexes_between (both_from _ _ checked.bytes_between
       (both_from _ _ (between_ok 1 4294967295 msc_location m checked.msc_location_is).1 (between_ok 1 4294967295 vlr_location v checked.vlr_location_is).1)))))
 
@@ -312,7 +313,7 @@ module _ (s_id s sub_nbr : ℕ) (bits hexes bytes : List ℕ) (msc_location m vl
   made_same : ◌≡◌ {A = SubscriberRow} (record { s_id = s; sub_nbr = sub_nbr; bits = bits; hexes = hexes; bytes = bytes; msc_location = m; vlr_location = v })
       (record { s_id = s_id; sub_nbr = sub_nbr; bits = bits; hexes = hexes; bytes = bytes; msc_location = msc_location; vlr_location = vlr_location })
   made_same =
-      let s_id_is = (between_ok 1 16777216 s_id s checked.s_id_is).0 in
+      let s_id_is = (between_ok 1 LAST_SUBSCRIBER s_id s checked.s_id_is).0 in
       let msc_is = (between_ok 1 4294967295 msc_location m checked.msc_location_is).0 in
       let vlr_is = (between_ok 1 4294967295 vlr_location v checked.vlr_location_is).0 in
       rw (s_id_is, msc_is, vlr_is) refl

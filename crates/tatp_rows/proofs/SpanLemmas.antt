@@ -4,14 +4,9 @@ use Rattle.std.specs.List.{AllByRecursion, find}
 use Rattle.std.proofs.lemmas.Bool.{eqb-true}
 use Rattle.std.proofs.lemmas.Bool.Decides.{nat_tests}
 use Rattle.tatp_rows.proofs.AppendLemmas.{each-append, ordered-append, ordered-right, ordered-between, row_at-low, row_at-high, with_row_at-low, with_row_at-high, with_row-low, with_row-high, without_row-low, without_row-high}
-use Rattle.tatp_rows.proofs.OrderedLemmas.{each-weaker, absent_below, with_row_at_absent, without_row_absent, length-ordered}
+use Rattle.tatp_rows.proofs.OrderedLemmas.{by_test, each-weaker, absent_below, with_row_at_absent, without_row_absent, length-ordered}
 use Rattle.tatp_rows.specs.Ordered.{IsOrderedBy, row_at, with_row_at, with_row, without_row}
 use Rattle.tatp_rows.specs.Spans.{AllBelow, AllFrom, StartsAt}
-
--- a fact of a test, by its two answers
-by_test : (b : Bool) (P : Bool → Type 0) → (b ≡ true → P true) → (b ≡ false → P false) → P b
-by_test true P f g = f refl
-by_test false P f g = g refl
 
 module _ {X : Type 0} (key : X → ℕ) where
   pub below-weaker : (k l : ℕ) (xs : List X) → k ≤ l → AllBelow key k xs → AllBelow key l xs
@@ -106,26 +101,26 @@ module _ {X : Type 0} (key : X → ℕ) where
   pub every-with_row_at-same : (P : ℕ → Type 0) (k : ℕ) (y : X) (xs : List X) → key y ≡ k → AllByRecursion (λ z. P (key z)) xs → AllByRecursion (λ z. P (key z)) (with_row_at key k y xs)
   every-with_row_at-same P k y [] e h = tt
   every-with_row_at-same P k y (x ∷ xs) e h =
-      by_test (eqb (key x) k) (λ b. AllByRecursion (λ z. P (key z)) (cond b (y ∷ xs) (x ∷ with_row_at key k y xs)))
-      (λ t. (subst P (sym (e ∙ sym (eqb-true (key x) k t))) h.0, h.1))
-      (λ t. (h.0, every-with_row_at-same P k y xs e h.1))
+      by_test (eqb (key x) k)
+      (λ t. rw t (subst P (sym (e ∙ sym (eqb-true (key x) k t))) h.0, h.1))
+      (λ t. rw t (h.0, every-with_row_at-same P k y xs e h.1))
 
   -- the lengths of edited lists
   pub length-with_row_at : (k : ℕ) (y : X) (xs : List X) → length (with_row_at key k y xs) ≡ length xs
   length-with_row_at k y [] = refl
-  length-with_row_at k y (x ∷ xs) = by_test (eqb (key x) k) (λ b. length (cond b (y ∷ xs) (x ∷ with_row_at key k y xs)) ≡ suc (length xs)) (λ t. refl) (λ t. ap suc (length-with_row_at k y xs))
+  length-with_row_at k y (x ∷ xs) = by_test (eqb (key x) k) (λ t. rw t refl) (λ t. rw t (ap suc (length-with_row_at k y xs)))
 
   pub length-with_row : (y : X) (xs : List X) → length (with_row key y xs) ≡ length xs + 1
   length-with_row y [] = refl
-  length-with_row y (x ∷ xs) = by_test (ltb (key y) (key x)) (λ b. length (cond b (y ∷ (x ∷ xs)) (x ∷ with_row key y xs)) ≡ suc (length xs) + 1) (λ t. omega arith) (λ t. omega (arith, length-with_row y xs))
+  length-with_row y (x ∷ xs) = by_test (ltb (key y) (key x)) (λ t. rw t (omega arith)) (λ t. rw t (omega (arith, length-with_row y xs)))
 
   pub length-without_row : (k : ℕ) (xs : List X) → length xs ≤ length (without_row key k xs) + 1
   length-without_row k [] = omega arith
-  length-without_row k (x ∷ xs) = by_test (eqb (key x) k) (λ b. suc (length xs) ≤ length (cond b xs (x ∷ without_row key k xs)) + 1) (λ t. omega arith) (λ t. omega (arith, length-without_row k xs))
+  length-without_row k (x ∷ xs) = by_test (eqb (key x) k) (λ t. rw t (omega arith)) (λ t. rw t (omega (arith, length-without_row k xs)))
 
   pub length-without_row-le : (k : ℕ) (xs : List X) → length (without_row key k xs) ≤ length xs
   length-without_row-le k [] = omega arith
-  length-without_row-le k (x ∷ xs) = by_test (eqb (key x) k) (λ b. length (cond b xs (x ∷ without_row key k xs)) ≤ suc (length xs)) (λ t. omega arith) (λ t. omega (arith, length-without_row-le k xs))
+  length-without_row-le k (x ∷ xs) = by_test (eqb (key x) k) (λ t. rw t (omega arith)) (λ t. rw t (omega (arith, length-without_row-le k xs)))
 
   -- keys from j on and below n, in order, are at most as many as there are such numbers
   pub few_between : (j n : ℕ) (xs : List X) → AllFrom key j xs → IsOrderedBy key xs → AllBelow key n xs → length xs ≤ n - j
@@ -134,11 +129,11 @@ module _ {X : Type 0} (key : X → ℕ) where
   -- the first key after an insertion is the lesser of the two
   pub starts_with_row : (k : ℕ) (y : X) (xs : List X) → StartsAt key k xs → StartsAt key (min k (key y)) (with_row key y xs)
   starts_with_row k y [] h = absurd h
-  starts_with_row k y (x ∷ xs) h = by_test (ltb (key y) (key x)) (λ b. StartsAt key (min k (key y)) (cond b (y ∷ (x ∷ xs)) (x ∷ with_row key y xs))) (λ t. grind (arith, nat_tests)) (λ t. grind (arith, nat_tests))
+  starts_with_row k y (x ∷ xs) h = by_test (ltb (key y) (key x)) (λ t. rw t (grind (arith, nat_tests))) (λ t. rw t (grind (arith, nat_tests)))
 
   pub starts_with_row_at : (k j : ℕ) (y : X) (xs : List X) → key y ≡ j → StartsAt key k xs → StartsAt key k (with_row_at key j y xs)
   starts_with_row_at k j y [] e h = absurd h
-  starts_with_row_at k j y (x ∷ xs) e h = by_test (eqb (key x) j) (λ b. StartsAt key k (cond b (y ∷ xs) (x ∷ with_row_at key j y xs))) (λ t. grind (arith, nat_tests)) (λ t. h)
+  starts_with_row_at k j y (x ∷ xs) e h = by_test (eqb (key x) j) (λ t. rw t (grind (arith, nat_tests))) (λ t. rw t h)
 
   -- all of an ordered list lies from its first key on
   pub from_start : (k : ℕ) (xs : List X) → StartsAt key k xs → IsOrderedBy key xs → AllFrom key k xs
@@ -168,8 +163,8 @@ module _ {X : Type 0} (test : X → Bool) where
   -- the first element that passes, of two lists
   pub find-left : (x : X) (a b : List X) → find test a ≡ Some x → find test (a ++ b) ≡ Some x
   find-left x [] b h = let wrong : ⊥ = cc in absurd wrong
-  find-left x (y ∷ a) b h = by_test (test y) (λ r. cond r (Some y) (find test a) ≡ Some x → cond r (Some y) (find test (a ++ b)) ≡ Some x) (λ t e. e) (λ t e. find-left x a b e) h
+  find-left x (y ∷ a) b h = by_test (test y) (λ t. rw t (rw t at h)) (λ t. rw t (find-left x a b (rw t at h)))
 
   pub find-right : (a b : List X) → find test a ≡ None → find test (a ++ b) ≡ find test b
   find-right [] b h = refl
-  find-right (y ∷ a) b h = by_test (test y) (λ r. cond r (Some y) (find test a) ≡ None → cond r (Some y) (find test (a ++ b)) ≡ find test b) (λ t e. let wrong : ⊥ = cc in absurd wrong) (λ t e. find-right a b e) h
+  find-right (y ∷ a) b h = by_test (test y) (λ t. let found : Some y ≡ None = rw t at h in absurd cc) (λ t. rw t (find-right a b (rw t at h)))

@@ -1,6 +1,7 @@
 -- The rows of the four tables (TATP, sections 2.1 to 2.4), and the ranges of their fields, which are this project's choice.
 use Rattle.std.specs.Prelude.{ℕ, ◌==◌, ◌&&◌, ◌||◌, nat_lt, nat_le, Bool, List, length, if◌then◌else◌, Result, Ok, Err}
 use Rattle.std.specs.List.{list_all}
+use Rattle.tatp_rows.specs.declared.ranges.TheConstants.{LAST_SUBSCRIBER}
 use Rattle.tatp_rows.specs.declared.refusal.Refusal.{Refusal}
 use Rattle.tatp_rows.specs.declared.refusal.Refusal.TheVariants.{Field}
 
@@ -55,26 +56,26 @@ are_between size low high ns = (length ns == size) && list_all (is_between low h
 -- the fields of a Subscriber row are in range
 abbrev pub subscriber_in_range : SubscriberRow → Bool
 subscriber_in_range row =
-    is_between 1 16777216 row.s_id && (nat_lt row.sub_nbr 1000000000000000
+    is_between 1 LAST_SUBSCRIBER row.s_id && (nat_lt row.sub_nbr 1000000000000000
     && (are_between 10 0 1 row.bits && (are_between 10 0 15 row.hexes && (are_between 10 0 255 row.bytes
     && (is_between 1 4294967295 row.msc_location && is_between 1 4294967295 row.vlr_location)))))
 
 -- the fields of an Access_Info row are in range; letters are A to Z
 abbrev pub access_in_range : AccessInfoRow → Bool
 access_in_range row =
-    is_between 1 16777216 row.s_id && (is_between 1 4 row.ai_type && (is_between 0 255 row.data1
+    is_between 1 LAST_SUBSCRIBER row.s_id && (is_between 1 4 row.ai_type && (is_between 0 255 row.data1
     && (is_between 0 255 row.data2 && (are_between 3 65 90 row.data3 && are_between 5 65 90 row.data4))))
 
 -- the fields of a Special_Facility row are in range
 abbrev pub facility_in_range : SpecialFacilityRow → Bool
 facility_in_range row =
-    is_between 1 16777216 row.s_id && (is_between 1 4 row.sf_type && (is_between 0 1 row.is_active
+    is_between 1 LAST_SUBSCRIBER row.s_id && (is_between 1 4 row.sf_type && (is_between 0 1 row.is_active
     && (is_between 0 255 row.error_cntrl && (is_between 0 255 row.data_a && are_between 5 65 90 row.data_b))))
 
 -- the fields of a Call_Forwarding row are in range; its end may lie before its start
 abbrev pub forwarding_in_range : CallForwardingRow → Bool
 forwarding_in_range row =
-    is_between 1 16777216 row.s_id && (is_between 1 4 row.sf_type
+    is_between 1 LAST_SUBSCRIBER row.s_id && (is_between 1 4 row.sf_type
     && ((row.start_time == 0 || (row.start_time == 8 || row.start_time == 16))
     && (is_between 1 24 row.end_time && nat_lt row.numberx 1000000000000000)))
 

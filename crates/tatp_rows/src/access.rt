@@ -5,7 +5,7 @@ ghost use Rattle.tatp_rows.specs.Keys.{access_key};
 
 use crate::keys::row_key;
 use crate::letters::Letters;
-use crate::ranges::{byte_in_range, in_range};
+use crate::ranges::{LAST_SUBSCRIBER, byte_in_range, in_range};
 use crate::refusal::Refusal;
 use std::marker::Model;
 
@@ -71,7 +71,7 @@ impl Access {
           data4 = data4;
         }) }
     {
-        let s_id = in_range(s_id, 16_777_216)?;
+        let s_id = in_range(s_id, LAST_SUBSCRIBER)?;
         let ai_type = byte_in_range(ai_type, 4)?;
         // Letters are in range, as their reader says.
         let _three = data3.bytes();

@@ -5,7 +5,7 @@ ghost use Rattle.tatp_rows.specs.Keys.{facility_key};
 
 use crate::keys::row_key;
 use crate::letters::Letters;
-use crate::ranges::{byte_in_range, in_range};
+use crate::ranges::{LAST_SUBSCRIBER, byte_in_range, in_range};
 use crate::refusal::Refusal;
 use std::marker::Model;
 
@@ -71,7 +71,7 @@ impl Facility {
           data_b = data_b;
         }) }
     {
-        let s_id = in_range(s_id, 16_777_216)?;
+        let s_id = in_range(s_id, LAST_SUBSCRIBER)?;
         let sf_type = byte_in_range(sf_type, 4)?;
         if is_active > 1 {
             return Err(Refusal::Field);

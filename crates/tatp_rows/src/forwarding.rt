@@ -5,7 +5,7 @@ ghost use Rattle.tatp_rows.specs.Keys.{forwarding_key};
 
 use crate::keys::row_key;
 use crate::number::Number;
-use crate::ranges::{byte_in_range, in_range};
+use crate::ranges::{LAST_SUBSCRIBER, byte_in_range, in_range};
 use crate::refusal::Refusal;
 use std::marker::Model;
 
@@ -65,7 +65,7 @@ impl Forwarding {
           numberx = numberx;
         }) }
     {
-        let s_id = in_range(s_id, 16_777_216)?;
+        let s_id = in_range(s_id, LAST_SUBSCRIBER)?;
         let sf_type = byte_in_range(sf_type, 4)?;
         if start_time != 0 && start_time != 8 && start_time != 16 {
             return Err(Refusal::Field);

@@ -1,8 +1,14 @@
-//! The tests of the fields' ranges.
+//! The greatest numbers of a store, and the tests of the fields' ranges.
 ghost use Rattle.std.specs.Prelude.{◌≡◌};
 ghost use Rattle.tatp_rows.specs.Rows.{between, are_between};
 
 use crate::refusal::Refusal;
+
+/// The last subscriber that there can be: each s_id is 1..=16,777,216.
+pub const LAST_SUBSCRIBER: u32 = 16_777_216;
+
+/// The greatest width of the zones, with which all 32 of them are alike.
+pub const GREATEST_WIDTH: u32 = 524_288;
 
 /// The value, where it lies in 1..=`high`; else `Field`.
 pub fn in_range(value: u64, high: u32) -> Result<u32, Refusal>

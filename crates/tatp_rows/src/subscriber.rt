@@ -5,7 +5,7 @@ ghost use Rattle.tatp_rows.specs.Keys.{subscriber_key};
 
 use crate::keys;
 use crate::number::Number;
-use crate::ranges::{all_between, in_range};
+use crate::ranges::{LAST_SUBSCRIBER, all_between, in_range};
 use crate::refusal::Refusal;
 use std::marker::Model;
 
@@ -77,7 +77,7 @@ impl Subscriber {
           vlr_location = vlr_location;
         }) }
     {
-        let s_id = in_range(s_id, 16_777_216)?;
+        let s_id = in_range(s_id, LAST_SUBSCRIBER)?;
         // A number is in range, as its reader says.
         let _number = sub_nbr.value();
         if !all_between(&bits, 0, 1)

@@ -6,8 +6,8 @@ use Rattle.tatp_actions.specs.Part.{PartState}
 use Rattle.tatp_actions.proofs.FirstLemmas.{first_answered, none_past}
 use Rattle.tatp_actions.proofs.recount.Part.first_sub_from.Goals as goal
 
-pub returns-then-s_id-gt-LAST_SUBSCRIBER : goal.returns-then-s_id-gt-LAST_SUBSCRIBER
-returns-then-s_id-gt-LAST_SUBSCRIBER c =
+pub returns-then-s_id-last : goal.returns-then-s_id-last
+returns-then-s_id-last c =
     let part = c.self.invariant.0 in
     let bound = part.range.2 in
     subst (λ (is : PartState). None ≡ first_subscriber c.args.s_id is.book.subscribers) c.self.view_is

@@ -3,7 +3,7 @@ use Rattle.std.specs.Prelude.{None, Some, IsNone}
 use Rattle.std.specs.List.{insert}
 use Rattle.tatp_rows.specs.Ordered.{IsOrderedBy, row_at, with_row}
 use Rattle.tatp_rows.proofs.OrderedLemmas.{ordered-with_row}
-use Rattle.tatp_actions.proofs.TableLemmas.{absent_past, absent_here, found_here, inserts_here}
+use Rattle.tatp_rows.proofs.PlaceLemmas.{absent_past, absent_here, found_here, inserts_here}
 use Rattle.tatp_actions.proofs.table.Table.insert.Goals as goal
 use Rattle.tatp_actions.proofs.table.Table.insert.Goals.{else-at-len-via-then-at-len+else-index-key, else-at-len-via-else-at-len, in-Ok, in-Err}
 
@@ -33,6 +33,20 @@ inserts : (g : _) (c : goal.Joined-insert g) → insert c.self.inside.entries.it
 inserts g c =
     ap (λ pairs. insert pairs c.place_of-at.result (c.args.key, c.args.value)) c.self.view_is
     ∙ inserts_here (λ pair. pair.0) (c.args.key, c.args.value) c.place_of-at.result c.args.self.now c.place_of-at.ensures.place (absent g c)
+
+-- the same where there is no room for it
+absent_full : (g : _) (c : goal.Then-len-self g) → row_at (λ pair. pair.0) c.args.key c.args.self.now ≡ None
+absent_full g c =
+    let len : length c.self.inside.entries.items ≡ length c.args.self.now = ap length c.self.view_is in
+    elim c.else-at-len.branch [
+      | else-at-len-via-then-at-len+else-index-key w ↦
+          absent_here (λ pair. pair.0) c.args.key c.place_of-at.result c.args.self.now w.index.result.now c.place_of-at.ensures.ordered c.place_of-at.ensures.place (rw c.self.view_is at w.index.ensures) w.if-index-key.false
+      | else-at-len-via-else-at-len w ↦
+          absent_past (λ pair. pair.0) c.args.key c.place_of-at.result c.args.self.now c.place_of-at.ensures.ordered c.place_of-at.ensures.place (omega arith)
+    ]
+
+pub returns-then-len-self : goal.returns-then-len-self
+returns-then-len-self g c = (refl, refl, (λ taken. absurd (let e = absent_full g c in let some = rw e at taken in cc)), λ free. refl)
 
 pub invariant_of-self : goal.invariant_of-self
 invariant_of-self g c = elim c.match-insert.branch [

@@ -1,5 +1,5 @@
 use Rattle.std.proofs.Common.{◌≡◌}
-use Rattle.tatp_actions.proofs.tests.refused_nodes.Given as goal
+use Rattle.tatp_actions.proofs.tests.expect_hundred.Given as goal
 
 -- the part keeps its range
 abbrev pub invariant-loop-s_id : goal.invariant-loop-s_id

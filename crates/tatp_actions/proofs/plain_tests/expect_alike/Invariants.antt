@@ -1,5 +1,5 @@
 use Rattle.std.proofs.Common.{◌≡◌}
-use Rattle.tatp_actions.proofs.plain_tests.same_actions.Given as goal
+use Rattle.tatp_actions.proofs.plain_tests.expect_alike.Given as goal
 
 -- both parts keep their range
 abbrev pub invariant-loop-turn : goal.invariant-loop-turn

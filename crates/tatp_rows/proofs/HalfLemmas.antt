@@ -1,0 +1,57 @@
+-- Lists cut at a key: the half below it and the half from it on.
+use Rattle.std.proofs.Common.{◌≡◌, refl, ap, ℕ, ◌<◌, ◌≤◌, arith, true, false, List, [], ◌∷◌, ◌++◌, nat_lt}
+use Rattle.std.specs.Prelude.{nat_le}
+use Rattle.std.proofs.lemmas.Bool.Decides.{nat_tests}
+use Rattle.tatp_rows.proofs.OrderedLemmas.{by_test, each-weaker}
+use Rattle.tatp_rows.specs.Ordered.{IsOrderedBy}
+use Rattle.tatp_rows.specs.Spans.{AllBelow, AllFrom, keys_below, keys_from}
+
+module _ {X : Type 0} (key : X → ℕ) where
+  -- each key of the lower half is below the border, and each of the upper one from it on
+  pub below_each : (k : ℕ) (xs : List X) → AllBelow key k (keys_below key k xs)
+  below_each k [] = tt
+  below_each k (x ∷ xs) = by_test (nat_lt (key x) k)
+      (λ e. let under : key x < k = grind (arith, nat_tests) in rw e (under, below_each k xs))
+      (λ e. rw e (below_each k xs))
+
+  pub from_each : (k : ℕ) (xs : List X) → AllFrom key k (keys_from key k xs)
+  from_each k [] = tt
+  from_each k (x ∷ xs) = by_test (nat_le k (key x))
+      (λ e. let over : k ≤ key x = grind (arith, nat_tests) in rw e (over, from_each k xs))
+      (λ e. rw e (from_each k xs))
+
+  -- a list whose keys are all on one side
+  pub below_all : (k : ℕ) (xs : List X) → AllBelow key k xs → keys_below key k xs ≡ xs
+  below_all k [] under = refl
+  below_all k (x ∷ xs) under = let e : nat_lt (key x) k ≡ true = grind (arith, nat_tests) in rw e (ap (λ (rest : List X). x ∷ rest) (below_all k xs under.1))
+
+  pub below_none : (k : ℕ) (xs : List X) → AllFrom key k xs → keys_below key k xs ≡ []
+  below_none k [] over = refl
+  below_none k (x ∷ xs) over = let e : nat_lt (key x) k ≡ false = grind (arith, nat_tests) in rw e (below_none k xs over.1)
+
+  pub from_all : (k : ℕ) (xs : List X) → AllFrom key k xs → keys_from key k xs ≡ xs
+  from_all k [] over = refl
+  from_all k (x ∷ xs) over = let e : nat_le k (key x) ≡ true = grind (arith, nat_tests) in rw e (ap (λ (rest : List X). x ∷ rest) (from_all k xs over.1))
+
+  pub from_none : (k : ℕ) (xs : List X) → AllBelow key k xs → keys_from key k xs ≡ []
+  from_none k [] under = refl
+  from_none k (x ∷ xs) under = let e : nat_le k (key x) ≡ false = grind (arith, nat_tests) in rw e (from_none k xs under.1)
+
+  -- the halves of an ordered list make the list
+  pub halves_joined : (k : ℕ) (xs : List X) → IsOrderedBy key xs → keys_below key k xs ++ keys_from key k xs ≡ xs
+  halves_joined k [] ordered = refl
+  halves_joined k (x ∷ xs) ordered = by_test (nat_lt (key x) k)
+      (λ e. let f : nat_le k (key x) ≡ false = grind (arith, nat_tests) in rw (e, f) (ap (λ (rest : List X). x ∷ rest) (halves_joined k xs ordered.1)))
+      (λ e. let f : nat_le k (key x) ≡ true = grind (arith, nat_tests) in
+      let over : k ≤ key x = grind (arith, nat_tests) in
+      let above = each-weaker {P = λ z. key x < key z} {Q = λ z. k ≤ key z} (λ z up. omega arith) xs ordered.0 in
+      rw (e, f, below_none k xs above, from_all k xs above) refl)
+
+  -- and the halves of a join at its border are the lists that were joined
+  pub below_joined : (k : ℕ) (xs ys : List X) → AllBelow key k xs → AllFrom key k ys → keys_below key k (xs ++ ys) ≡ xs
+  below_joined k [] ys under over = below_none k ys over
+  below_joined k (x ∷ xs) ys under over = let e : nat_lt (key x) k ≡ true = grind (arith, nat_tests) in rw e (ap (λ (rest : List X). x ∷ rest) (below_joined k xs ys under.1 over))
+
+  pub from_joined : (k : ℕ) (xs ys : List X) → AllBelow key k xs → AllFrom key k ys → keys_from key k (xs ++ ys) ≡ ys
+  from_joined k [] ys under over = from_all k ys over
+  from_joined k (x ∷ xs) ys under over = let e : nat_le k (key x) ≡ false = grind (arith, nat_tests) in rw e (from_joined k xs ys under.1 over)
