@@ -8,7 +8,7 @@ use Rattle.clap.specs.Words.{App, Rule, Text, FailsBy, HasKind, Kinds, HasMatche
 use Rattle.clap.specs.declared.parser.matches.ArgMatches.{ArgMatches}
 use Rattle.clap.specs.declared.error.Error.{Error}
 use Rattle.clap.proofs.WalkLemmas.{one_text-rows}
-use Rattle.hlr.specs.Options.{program, zone_rule, Spells}
+use Rattle.hlr.specs.Options.{program, with_version, zone_rule, Spells}
 
 -- the program is one that clap's definitions speak of
 pub program_simple : is_simple program ≡ true
@@ -20,7 +20,7 @@ unfolding program
 program_free = refl
 
 -- the program is built from its one option
-pub program_is : with_rule (new_app (codes "hlr")) zone_rule ≡ program
+pub program_is : with_rule (with_version (new_app (codes "hlr"))) zone_rule ≡ program
 unfolding program
 program_is = refl
 
@@ -51,7 +51,7 @@ spelled m id (Some t) r e none some = by r (some t e)
     by (Some n) h = (t, sym (one_text-rows (found_of m) id) ∙ e, h)
 
 -- the program's option, added to the program without options
-pub program_from : (app : App) (rule : Rule) → app ≡ new_app (codes "hlr") → rule ≡ zone_rule → with_rule app rule ≡ program
+pub program_from : (app : App) (rule : Rule) → app ≡ with_version (new_app (codes "hlr")) → rule ≡ zone_rule → with_rule app rule ≡ program
 program_from app rule a r = rw (a, r) program_is
 
 -- what a number that was read from a text is

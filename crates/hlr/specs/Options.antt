@@ -1,5 +1,5 @@
 -- The options of the program, and what the words that it is started with make of them.
-use Rattle.std.specs.Prelude.{◌≡◌, ◌≤◌, ℕ, List, [], ◌∷◌, Option, Some, codes, pos}
+use Rattle.std.specs.Prelude.{◌≡◌, ◌≤◌, ℕ, true, List, [], ◌∷◌, Option, Some, codes, pos}
 use Rattle.std.specs.Str.Parse.{digits_value, without_leading_plus}
 use Rattle.clap.specs.Words.{App, Row, Rule, Text, new_app, new_rule, one_of, with_rule}
 use Rattle.clap.specs.declared.builder.value_parser.ValueParser.TheVariants as parser
@@ -14,9 +14,13 @@ zone_rule = record (new_rule (codes "zone")) {
   defaults = codes "524288" ∷ [];
 }
 
+-- an app that answers `--version`
+abbrev pub with_version : App → App
+with_version app = record app { top = record app.top { has_version = true } }
+
 -- the program with its options
 unfoldable pub program : App
-program = with_rule (new_app (codes "hlr")) zone_rule
+program = with_rule (with_version (new_app (codes "hlr"))) zone_rule
 
 -- a number is the one that a text spells; a plus sign may stand before its digits
 abbrev pub Spells : Option Text → ℕ → Type 0

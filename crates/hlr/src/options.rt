@@ -8,6 +8,35 @@ use clap::builder::ValueParser;
 use clap::{Arg, ArgMatches, Command, Error};
 use std::alloc::{AllocError, Global};
 
+/// The version that the program answers.
+const VERSION: &str = "0.1.0";
+
+/// What the program is.
+const ABOUT: &str = "A home location register. It answers command records.";
+
+/// What the program reads and writes, with an example.
+const FORMATS: &str = "\
+Standard input is CSV without a header row, a command a record. Each record is answered on standard output, before
+the program waits for more input.
+
+  sub,S,N,BITS,HEXES,BYTES,M,V   adds the subscriber S, 1 to 16777216, of number N, 15 digits: ok
+  gsd,S                          shows a subscriber: subscriber,S,N,BITS,HEXES,BYTES,M,V
+  ul,N,V                         sets the location of the subscriber of number N: ok
+  post,0,L                       publishes the changed counts of at most L cells: posted,CELLS
+  views                          shows the counts that aren't 0: cell,C,PUBLISHED,UNPOSTED lines, then views,LINES
+
+BITS are 10 digits 0 or 1, HEXES 10 and BYTES 20 hexadecimal digits, and the locations M and V 1 to 4294967295. Any
+other record, or one that can't be done, is answered refused,CODE,NAME. A run starts with no subscriber and keeps
+none. It ends with its input, or after 1048576 records.
+
+Example:
+
+  $ printf 'sub,7,000000000000007,0000000000,0000000000,00000000000000000000,1,5\\ngsd,7\\n' | hlr
+  ok
+  subscriber,7,000000000000007,0000000000,0000000000,00000000000000000000,1,5
+
+The status is 0, or 1 after 'hlr: no memory', 'hlr: read fault' or 'hlr: write fault', or 2 where an option is wrong.";
+
 /// The options of the program.
 #[derive(Clone, Copy, Debug, PartialEq, Eq)]
 pub struct Options {
@@ -32,7 +61,11 @@ fn zone_arg<'a>(alloc: Global) -> Arg<'a>
 fn program_command<'a>(alloc: Global) -> Result<Command<'a>, AllocError>
     ensures { IfOk result (λ command. app_of command ≡ program) }
 {
-    Command::new(alloc, "hlr").arg(zone_arg(alloc))
+    Command::new(alloc, "hlr")
+        .version(VERSION)
+        .about(ABOUT)
+        .after_help(FORMATS)
+        .arg(zone_arg(alloc))
 }
 
 /// The number that `--zone` spells.
@@ -43,7 +76,7 @@ fn read_zone(matches: &ArgMatches<'_>) -> Option<u32>
 }
 
 /// The options that the program's words ask for, of which the first is the program's name. An error has one of the
-/// kinds that the words call for, which is a request for help too, or `OutOfMemory`.
+/// kinds that the words call for, which is a request for help or the version too, or `OutOfMemory`.
 pub fn read_options<'a>(alloc: Global, words: &'a [&'a str]) -> Result<Options, Error>
     ensures range { IfOk result InRange }
     ensures words { IfOk result (OptionsOf (matches_of program (map (λ word. word.now) words.now))) }
