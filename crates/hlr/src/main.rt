@@ -1,6 +1,7 @@
 //! A home location register: command records on standard input, an answer for each on standard output.
 #![tactic(auto)]
 
+mod counted;
 mod fault;
 mod fields;
 mod lines;
@@ -71,7 +72,8 @@ fn options_of<R: AllocGlobal + Print + Eprint>(
     read_options(rt.alloc(), texts.as_slice()).map_err(|error| refuse(rt, &error))
 }
 
-/// Answers standard input on standard output.
+/// Answers standard input on standard output. The answers so far are flushed before a read that may wait, and at the end,
+/// but after `Field` and `Write`.
 fn answer_input<R: AllocGlobal + Input + Print>(rt: &R, options: Options) -> Result<(), Fault> {
     let Ok(writer) = BufWriter::new(rt.alloc(), io::writer(rt)) else {
         return Err(Fault::Memory);

@@ -7,10 +7,12 @@ ghost use Rattle.csv.specs.Records.{fields_of};
 ghost use Rattle.csv.specs.declared.parser.State.TheVariants as state;
 ghost use Rattle.csv.specs.declared.reader.Trim.TheVariants as trim;
 ghost use Rattle.hlr_core.specs.Store.{HasOpening, opening};
+ghost use Rattle.hlr.specs.Counted.{counted_remaining};
 ghost use Rattle.hlr.specs.Text.{IsFlushedAfter, Ran, RecordCut, RecordDone};
 ghost use Rattle.tatp_rows.specs.declared.refusal.Refusal.TheVariants as refusal;
 ghost use Rattle.hlr.specs.declared.fault.Fault.TheVariants as fault;
 
+use crate::counted::Counted;
 use crate::fault::{Fault, read_fault};
 use crate::lines::{Line, build_refused, build_reply, empty_line};
 use crate::records::{Command, read_command};
@@ -55,10 +57,36 @@ fn answer<S: Sink>(
     }
 }
 
-/// Answers the records of a reader in turn: `Read` where the reader fails or gives more than 1,048,576 records,
-/// `Memory` where it wants memory, `Write` where the sink fails. The row is the memory to read records into.
+/// Answers a record that was read last, and flushes the sink before the next read may wait: where no further whole
+/// record was handed on to this reader. Where the sink fails, a front of the answer was taken.
+fn answer_in_time<R: Read, S: Sink>(
+    reader: &Reader<Counted<R>>,
+    row: &ByteRecord,
+    register: &mut Register,
+    line: &mut Line,
+    sink: &mut S,
+) -> Result<(), Stalled>
+    ensures ok { OnOk result (RecordDone (fields_of row.now) register.old register.new (S.taken sink.old) (S.taken sink.new)) }
+    ensures err { OnErr result (RecordCut (fields_of row.now) register.old register.new (S.taken sink.old) (S.taken sink.new)) }
+    ensures told { OnErr result (S.has_stalled sink.new ≡ true) }
+{
+    if answer(row, register, line, sink).is_err() {
+        return Err(Stalled);
+    }
+    if reader.get_ref().has_record_from(reader.position().byte()) {
+        return Ok(());
+    }
+    match sink.flush() {
+        Ok(()) => Ok(()),
+        Err(_) => Err(Stalled),
+    }
+}
+
+/// Answers the records of a reader in turn, each before the next read may wait: `Read` where the reader fails or gives
+/// more than 1,048,576 records, `Memory` where it wants memory, `Write` where the sink fails. The row is the memory to
+/// read records into.
 fn answer_all<R: Read, S: Sink>(
-    reader: &mut Reader<R>,
+    reader: &mut Reader<Counted<R>>,
     row: &mut ByteRecord,
     register: &mut Register,
     sink: &mut S,
@@ -67,10 +95,11 @@ fn answer_all<R: Read, S: Sink>(
     requires ready { Ready reader.old }
     requires config { reader_config reader.old ≡ default_config }
     requires start { reader_state reader.old ≡ state.StartRecord }
-    ensures text { IfSome (source_of R.remaining reader.old)
+    ensures text { IfSome (source_of (counted_remaining R.remaining) reader.old)
         (λ bytes. Ran register.old bytes (S.taken sink.old) (S.taken sink.new) result) }
     ensures write { result ≡ Err fault.Write → S.has_stalled sink.new ≡ true }
     ensures field { result ≢ Err fault.Field }
+    ensures thread { result ≢ Err fault.Thread }
 {
     let mut line = empty_line();
     for count in 0..RECORDS + 1 {
@@ -80,7 +109,7 @@ fn answer_all<R: Read, S: Sink>(
                 if count == RECORDS {
                     return Err(Fault::Read);
                 }
-                if answer(row, register, &mut line, sink).is_err() {
+                if answer_in_time(reader, row, register, &mut line, sink).is_err() {
                     return Err(Fault::Write);
                 }
             }
@@ -120,12 +149,14 @@ fn run_store<R: Read + Drop, S: Sink>(
         (λ bytes. Ran register.old (strip_bom bytes) (S.taken sink.old) (S.taken sink.new) result) }
     ensures write { result ≡ Err fault.Write → S.has_stalled sink.new ≡ true }
     ensures field { result ≢ Err fault.Field }
+    ensures thread { result ≢ Err fault.Thread }
     ensures flushed { IsFlushedAfter result (S.is_flushed sink.new) }
 {
+    let counted = Counted::new(reader);
     let mut records = ReaderBuilder::new()
         .has_headers(false)
         .flexible(true)
-        .from_reader(alloc, reader);
+        .from_reader(alloc, counted);
     let mut row = ByteRecord::new(alloc);
     let done = answer_all(&mut records, &mut row, register, sink);
     finish(sink, done)
@@ -138,6 +169,7 @@ fn refuse_start<S: Sink>(sink: &mut S, why: Refusal) -> Result<(), Fault>
     ensures write { result ≡ Err fault.Write → S.has_stalled sink.new ≡ true }
     ensures field { (result ≡ Err fault.Field) ↔ (why ≡ refusal.Field) }
     ensures untouched { result ≡ Err fault.Field → sink.new ≡ sink.old }
+    ensures thread { result ≢ Err fault.Thread }
     ensures flushed { IsFlushedAfter result (S.is_flushed sink.new) }
 {
     match why {
@@ -152,7 +184,10 @@ fn refuse_start<S: Sink>(sink: &mut S, why: Refusal) -> Result<(), Fault>
 ///
 /// `Field` where parts isn't 1 or width isn't in 1..=524,288, and then nothing is written. `Memory` where memory is
 /// wanted to start or to read a record. `Read` where the reader fails, or gives more than 1,048,576 records. `Write`
-/// where the sink fails. The sink is flushed at the end, but after `Field` and `Write`.
+/// where the sink fails.
+///
+/// The sink is flushed at the end, but after `Field` and `Write`, and after each record behind which the reader gave no
+/// further whole one so far: before a read that may wait, every answer is flushed.
 pub fn run_alone<R: Read + Drop, S: Sink>(
     alloc: Global,
     reader: R,
@@ -165,6 +200,7 @@ pub fn run_alone<R: Read + Drop, S: Sink>(
     ensures write { result ≡ Err fault.Write → S.has_stalled sink.new ≡ true }
     ensures field { (result ≡ Err fault.Field) ↔ (¬ HasOpening parts width) }
     ensures untouched { result ≡ Err fault.Field → sink.new ≡ sink.old }
+    ensures thread { result ≢ Err fault.Thread }
     ensures flushed { IsFlushedAfter result (S.is_flushed sink.new) }
 {
     match Register::open(alloc, parts, width) {

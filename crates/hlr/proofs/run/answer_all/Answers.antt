@@ -1,5 +1,6 @@
 use Rattle.std.proofs.Common.{◌≡◌, ◌∙◌, true, false, inl, rules, arith}
 use Rattle.std.specs.Result.{is_err}
+use Rattle.hlr.specs.Counted.{counted_remaining}
 use Rattle.hlr.proofs.RunFacts.{if_some, if_known, on_err_is, on_ok_is, started, goes_on, ends, breaks, stops}
 use Rattle.hlr.proofs.run.answer_all.Goals as goal
 
@@ -16,16 +17,16 @@ pub returns-in-Ok-false-clause-text : goal.returns-in-Ok-false-clause-text
 returns-in-Ok-false-clause-text g c =
     let inv = c.loop-count.invariant in
     if_some _ _ _ (λ bytes so.
-    ends g.R.Read.remaining _ bytes c.loop-count.reader c.read_byte_record.new.self _ _ _ _ _ so inv.config _ c.in-Ok-false.field-0-test
+    ends (counted_remaining g.R.Read.remaining) _ bytes c.loop-count.reader c.read_byte_record.new.self _ _ _ _ _ so inv.config _ c.in-Ok-false.field-0-test
     (c.in-Ok-false.ensures.reads inv.trims inv.ready) (omega arith)) inv.so_far
 
 pub returns-then-is_err-clause-text : goal.returns-then-is_err-clause-text
 returns-then-is_err-clause-text g c =
     let inv = c.loop-count.invariant in
-    let failed : is_err c.answer.result ≡ true = search rules in
+    let failed : is_err c.answer_in_time.result ≡ true = search rules in
     if_some _ _ _ (λ bytes so.
-    breaks g.R.Read.remaining _ bytes c.loop-count.reader c.read_byte_record.new.self _ _ _ _ _ _ _ so inv.config _ c.in-Ok-true.field-0-test
-    (c.in-Ok-true.ensures.reads inv.trims inv.ready) (on_err_is c.answer.result failed c.answer.ensures.err) (omega arith)) inv.so_far
+    breaks (counted_remaining g.R.Read.remaining) _ bytes c.loop-count.reader c.read_byte_record.new.self _ _ _ _ _ _ _ so inv.config _ c.in-Ok-true.field-0-test
+    (c.in-Ok-true.ensures.reads inv.trims inv.ready) (on_err_is c.answer_in_time.result failed c.answer_in_time.ensures.err) (omega arith)) inv.so_far
 
 pub returns-in-Err-clause-text : goal.returns-in-Err-clause-text
 returns-in-Err-clause-text g c = if_some _ _ _ (λ bytes so. stops _ _ _ _ _ _ _ _ _ so c.loop-count.invariant.few) c.loop-count.invariant.so_far
@@ -38,13 +39,13 @@ pub loop-count-preserved : goal.loop-count-preserved
 loop-count-preserved g c =
     let inv = c.loop-count.invariant in
     let read = c.in-Ok-true.ensures.reads inv.trims inv.ready in
-    let passed : is_err c.answer.result ≡ false = search rules in
+    let passed : is_err c.answer_in_time.result ≡ false = search rules in
     record {
       trims = read.3 ∙ inv.trims;
       ready = inl (c.in-Ok-true.ensures.ready inv.trims);
       config = read.2 ∙ inv.config;
       few = omega arith;
       so_far = if_some _ _ _ (λ bytes so.
-          goes_on g.R.Read.remaining _ bytes c.loop-count.reader c.read_byte_record.new.self _ _ _ _ _ _ _ so inv.config _ c.in-Ok-true.field-0-test
-          (c.in-Ok-true.ensures.reads inv.trims inv.ready) (on_ok_is c.answer.result passed c.answer.ensures.ok)) inv.so_far;
+          goes_on (counted_remaining g.R.Read.remaining) _ bytes c.loop-count.reader c.read_byte_record.new.self _ _ _ _ _ _ _ so inv.config _ c.in-Ok-true.field-0-test
+          (c.in-Ok-true.ensures.reads inv.trims inv.ready) (on_ok_is c.answer_in_time.result passed c.answer_in_time.ensures.ok)) inv.so_far;
     }
