@@ -1,9 +1,10 @@
 -- The local law: what an owner has published of a cell and what it has not posted yet are the count over its own rows.
-use Rattle.std.specs.Prelude.{◌≡◌, ◌≢◌, Bool, true, false, Result, Ok, Err, slice_set, ℕ, ◌<◌, ◌≤◌, List, [], ◌∷◌, ℤ, pos, neg_ℤ, ◌+ℤ◌, ◌≤ℤ◌, slice_index_or}
+use Rattle.std.specs.Prelude.{◌≡◌, ◌≢◌, ◌+◌, Bool, true, false, Result, Ok, Err, slice_set, ℕ, ◌<◌, ◌≤◌, List, [], ◌∷◌, ℤ, pos, neg_ℤ, ◌+ℤ◌, ◌≤ℤ◌, slice_index_or}
 use Rattle.tatp_actions.specs.Cell.{cell}
 use Rattle.tatp_actions.specs.declared.cells.TheConstants.{CELLS}
 use Rattle.tatp_actions.specs.Part.{PartState, IsPart}
 use Rattle.tatp_rows.specs.declared.refusal.Refusal.{Refusal}
+use Rattle.tatp_rows.specs.declared.ranges.TheConstants.{LAST_SUBSCRIBER}
 use Rattle.tatp_rows.specs.declared.refusal.Refusal.TheVariants as refusal
 use Rattle.hlr_core.specs.Board.{IsBoard}
 use Rattle.hlr_core.specs.Post.{is_worn}
@@ -50,7 +51,7 @@ IsCellPosted slot c before words (Err why) after words' =
 -- the rules of one holding of all subscribers that has slot 0 of a board: the local law, and counts that fit for ever
 pub record AreHeld (holding : HoldingState) (words : List ℕ) : Type 0 where
   pub from_first : holding.part.lo ≡ 1
-  pub to_last : holding.part.hi ≡ 16777217
+  pub to_last : holding.part.hi ≡ LAST_SUBSCRIBER + 1
   pub rules : IsPart holding.part
   pub board : IsBoard words
   pub held : IsHeld (net words (0 ∷ [])) holding

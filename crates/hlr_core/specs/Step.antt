@@ -1,6 +1,7 @@
 -- Right steps: which reply an event may have, and the store after it. Memory is the one free choice.
 use Rattle.std.specs.Prelude.{◌≡◌, ℕ, ◌&&◌, Bool, true, false, List, [], ◌∷◌, Option, Some, None, option_map, is_some, Result, Ok, Err, if◌then◌else◌, ◌⊎◌}
 use Rattle.tatp_rows.specs.Rows.{SubscriberRow, is_between}
+use Rattle.tatp_rows.specs.declared.ranges.TheConstants.{LAST_SUBSCRIBER}
 use Rattle.tatp_rows.specs.declared.refusal.Refusal.{Refusal}
 use Rattle.tatp_rows.specs.declared.refusal.Refusal.TheVariants as refusal
 use Rattle.tatp_actions.specs.Action.{effect, adds_row}
@@ -70,7 +71,7 @@ IsPostStep (Some slots) part limit before answer after =
 
 -- from one store, an event may have this reply and lead to that store
 abbrev pub IsStep : Event → Store → Reply → Store → Type 0
-IsStep (SubscriberData s_id) before = IsRowStep (is_between 1 16777216 s_id) (Some (action.SubscriberData s_id)) before
+IsStep (SubscriberData s_id) before = IsRowStep (is_between 1 LAST_SUBSCRIBER s_id) (Some (action.SubscriberData s_id)) before
 IsStep (UpdateLocation sub_nbr vlr_location) before =
     IsRowStep (is_between 1 4294967295 vlr_location)
     (option_map (λ (row : SubscriberRow). action.UpdateLocation row.s_id vlr_location) (owner_of before.book.subscribers sub_nbr)) before

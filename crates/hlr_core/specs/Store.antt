@@ -1,6 +1,7 @@
 -- The store that a register is seen as: its book, the words of the board, the slots of each part, and the width of the zones.
-use Rattle.std.specs.Prelude.{◌≡◌, ℕ, List, [], ◌∷◌, map, Option, ℤ, pos, ◌-ℤ◌, slice_get}
+use Rattle.std.specs.Prelude.{◌≡◌, ℕ, ◌+◌, List, [], ◌∷◌, map, Option, ℤ, pos, ◌-ℤ◌, slice_get}
 use Rattle.std.specs.List.{range_with_len}
+use Rattle.tatp_rows.specs.declared.ranges.TheConstants.{LAST_SUBSCRIBER}
 use Rattle.tatp_actions.specs.Book.{Book, empty_book, rows_between}
 use Rattle.tatp_actions.specs.Cell.{cell}
 use Rattle.tatp_actions.specs.Part.{IsWidth}
@@ -31,7 +32,7 @@ unposted store c = pos (cell store.width c store.book) -ℤ published store c
 
 -- the rows of a part; as long as there is one part, these are the rows of all subscribers
 abbrev pub rows_of : Store → ℕ → Book
-rows_of store part = rows_between 1 16777217 store.book
+rows_of store part = rows_between 1 (LAST_SUBSCRIBER + 1) store.book
 
 -- the slots of a part, if there is such a part
 abbrev pub slots_of : Store → ℕ → Option (List ℕ)

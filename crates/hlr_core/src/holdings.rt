@@ -1,5 +1,5 @@
 //! All owners' holdings, and the board that they post to.
-ghost use Rattle.std.specs.Prelude.{◌≡◌, ℕ, ◌<◌, ◌≤◌, [], ◌∷◌, IfOk, IfSome, OnErr, option_map, is_some, slice_index_or, ℤ, pos};
+ghost use Rattle.std.specs.Prelude.{◌≡◌, ◌+◌, ℕ, ◌<◌, ◌≤◌, [], ◌∷◌, IfOk, IfSome, OnErr, option_map, is_some, slice_index_or, ℤ, pos};
 ghost use Rattle.tatp_rows.specs.Rows.{SubscriberRow};
 ghost use Rattle.tatp_actions.specs.Action.{s_id_of, IsOutcome};
 ghost use Rattle.tatp_actions.specs.Book.{IsWithin, subscriber_at};
@@ -14,10 +14,7 @@ use crate::holding::Holding;
 use std::alloc::Global;
 use std::marker::Model;
 use tatp_actions::{Action, CELLS, RowReply};
-use tatp_rows::{Number, Refusal};
-
-/// One past the last subscriber that there can be.
-const ALL_SUBSCRIBERS: u32 = 16_777_217;
+use tatp_rows::{LAST_SUBSCRIBER, Number, Refusal};
 
 /// The slot of the one part that there is until regions come.
 const SLOT: u8 = 0;
@@ -62,14 +59,14 @@ impl Holdings {
         ensures ok { IfOk result (λ holdings. holdings ≡ opening 1 width) }
         ensures err { OnErr result (result ≡ Err Refusal.Memory) }
     {
-        let holding = Holding::new(alloc, 1, ALL_SUBSCRIBERS, width)?;
+        let holding = Holding::new(alloc, 1, LAST_SUBSCRIBER + 1, width)?;
         let board = Board::open(alloc)?;
         Ok(Holdings { holding, board })
     }
 
     /// Does an action on the rows of its subscriber.
     pub fn act(&mut self, action: Action) -> RowReply
-        requires { IsWithin 1 16777217 (s_id_of action) }
+        requires { IsWithin 1 (LAST_SUBSCRIBER + 1) (s_id_of action) }
         ensures outcome { IsOutcome action self.old.book result self.new.book }
         ensures same { self.new ≡ record self.old { book = self.new.book } }
     {
@@ -108,7 +105,7 @@ impl Holdings {
     /// The subscriber who has a number, found by going through the Subscriber rows.
     pub fn find(&self, number: Number) -> Option<u32>
         ensures owner { result ≡ option_map (λ (row : SubscriberRow). row.s_id) (owner_of self.now.book.subscribers number) }
-        ensures within { IfSome result (λ s_id. IsWithin 1 16777217 s_id) }
+        ensures within { IfSome result (λ s_id. IsWithin 1 (LAST_SUBSCRIBER + 1) s_id) }
     {
         let mut next = 1u64;
         while let Some(row) = self.holding.first_sub_from(next) {

@@ -11,7 +11,7 @@ use crate::holdings::Holdings;
 use std::alloc::Global;
 use std::marker::Model;
 use tatp_actions::{Action, CELLS, RowReply};
-use tatp_rows::{Number, Refusal, Subscriber, in_range};
+use tatp_rows::{GREATEST_WIDTH, LAST_SUBSCRIBER, Number, Refusal, Subscriber, in_range};
 
 /// A home location register, seen as the store of the definitions: its rows, the words of the board, the slots of
 /// each part and the width of the zones.
@@ -53,7 +53,7 @@ impl Register {
         ensures field { (result ≡ Err Refusal.Field) ↔ ¬ (HasOpening parts width) }
         ensures other { OnErr result ((result ≡ Err Refusal.Field) ⊎ (result ≡ Err Refusal.Memory)) }
     {
-        if parts != 1 || width == 0 || width > 524_288 {
+        if parts != 1 || width == 0 || width > GREATEST_WIDTH {
             return Err(Refusal::Field);
         }
         let holdings = Holdings::open(alloc, width)?;
@@ -110,7 +110,7 @@ impl Register {
     fn subscriber_data(&mut self, s_id: u64) -> Reply
         ensures { IsStep (Event.SubscriberData s_id) self.old result self.new }
     {
-        let Ok(s_id) = in_range(s_id, 16_777_216) else {
+        let Ok(s_id) = in_range(s_id, LAST_SUBSCRIBER) else {
             return Reply::Refused(Refusal::Field);
         };
         reply_from(self.holdings.act(Action::SubscriberData { s_id }))

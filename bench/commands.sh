@@ -1,0 +1,75 @@
+#!/usr/bin/env bash
+# What a command costs: `hlr`, reading alone and the plain Rust program over the same bytes, in turn.
+#
+#   bash bench/commands.sh [RUNS]       at the repository's top, once crates/hlr/out/hlr is built; it works in /tmp/bench
+#
+# It prints user seconds (best of RUNS) and resident KB for a million records, and instructions a record, by callgrind on
+# 20,000 records, less those of the 1,000 subscribers alone; at last how long 1,000 `views` take, each of which waits for
+# the answer to the one before.
+set -eu
+runs=${1:-5}
+top=$PWD
+room=/tmp/bench
+mkdir -p "$room/crates/reading/src"
+
+[ -x "$room/baseline" ] || rustc --edition 2021 -O bench/baseline.rs -o "$room/baseline"
+cp bench/reading.txt "$room/crates/reading/src/main.rt"
+printf 'reading: csv\n' > "$room/crates.txt"
+[ -x "$room/crates/reading/out/reading" ] || (cd "$room" && git init -q . && cd crates/reading && rt run < /dev/null > /dev/null)
+reading=$room/crates/reading/out/reading
+
+rows() {
+  awk 'BEGIN { for (s = 1; s <= 1000; s++) printf "sub,%d,%015d,0101010101,0123456789,00112233445566778899,%d,%d\n", s, s, s, s * 4000000 }'
+}
+
+# written NAME: the records as they are, with CR LF at their ends, or with each field in quotes.
+written() {
+  case $1 in
+    found) cat ;;
+    ends) sed 's/$/\r/' ;;
+    quoted) sed 's/\(.*\),\(.*\)/"\1","\2"/' ;;
+  esac
+}
+
+# input NAME COUNT: the 1,000 subscribers and so many records of that kind.
+input() {
+  rows
+  case $1 in
+    found | ends | quoted) awk -v n="$2" 'BEGIN { srand(7); while (n--) printf "gsd,%d\n", 1 + int(rand() * 1000) }' | written "$1" ;;
+    refused) awk -v n="$2" 'BEGIN { srand(7); while (n--) printf "gsd,%d\n", 1 + int(rand() * 16777216) }' ;;
+    moved) awk -v n="$2" 'BEGIN { srand(7); while (n--) printf "ul,%015d,%d\n", 1 + int(rand() * 1000), 1 + int(rand() * 4294967295) }' ;;
+    views) awk -v n="$2" 'BEGIN { while (n--) print "views" }' ;;
+  esac
+}
+
+# seconds PROGRAM FILE: the best user time, and the resident memory of the last run.
+seconds() {
+  local turn
+  for turn in $(seq "$runs"); do
+    /usr/bin/time -f '%U %M' "$1" < "$2" 2>&1 > /dev/null
+  done | sort -n | awk 'NR == 1 { best = $1 } { memory = $2 } END { printf "%s s, %s KB", best, memory }'
+}
+
+instructions() {
+  valgrind --tool=callgrind --callgrind-out-file=/dev/null "$1" < "$2" 2>&1 > /dev/null | sed -n 's/.*Collected : //p'
+}
+
+rows > "$room/rows.csv"
+for kind in found ends quoted refused moved views; do
+  input $kind 1000000 > "$room/long.csv"
+  input $kind 20000 > "$room/short.csv"
+  for program in "$top/crates/hlr/out/hlr" "$reading" "$room/baseline"; do
+    before=$(instructions "$program" "$room/rows.csv")
+    after=$(instructions "$program" "$room/short.csv")
+    echo "$kind $(basename "$program"): $(seconds "$program" "$room/long.csv"), $(((after - before) / 20000)) instructions a record"
+  done
+done
+
+coproc "$top/crates/hlr/out/hlr"
+start=$(date +%s%N)
+for _ in $(seq 1000); do
+  echo views >&"${COPROC[1]}"
+  read -r line <&"${COPROC[0]}"
+  [ "$line" = views,0 ]
+done
+echo "1,000 views, each waited for: $((($(date +%s%N) - start) / 1000000)) ms"

@@ -1,0 +1,198 @@
+#!/usr/bin/env bash
+# All tests: the gate (every proof from nothing, the must-fail edits, the tests), then the built program from outside.
+#
+#   ./test.sh            both; the last line is 'N passed, N failed'
+#   ./test.sh program    the program alone, as it stands at crates/hlr/out/hlr
+#
+# The program's part takes less than a minute. Its scripts are examples/NAME.csv, each with what it must print beside
+# it (NAME.out) and its options (NAME.args, where it has any).
+set -u
+cd "$(dirname "$0")" || exit 1
+hlr=$PWD/crates/hlr/out/hlr
+room=$(mktemp -d)
+trap 'rm -rf "$room"' EXIT
+passed=0
+failed=0
+
+pass() { passed=$((passed + 1)); }
+
+fail() {
+  failed=$((failed + 1))
+  printf 'FAILED: %s\n' "$1"
+}
+
+# same NAME FILE FILE: the second file is what was wanted.
+same() {
+  if cmp -s "$2" "$3"; then pass; else
+    fail "$1"
+    diff "$3" "$2" | head -n 6
+  fi
+}
+
+# is NAME FOUND WANTED
+is() {
+  if [ "$2" = "$3" ]; then pass; else fail "$1: '$2', and not '$3'"; fi
+}
+
+# has NAME FILE TEXT: a line of the file has the text.
+has() {
+  if grep -qF -e "$3" "$2"; then pass; else fail "$1: nothing says '$3'"; fi
+}
+
+# hlr_on [OPTION ..]: runs the program; its answers, its complaints and its status are $room/out, $room/err and $status.
+hlr_on() {
+  "$hlr" "$@" > "$room/out" 2> "$room/err"
+  status=$?
+}
+
+# hlr_given BYTES: the same on these bytes, in which backslashes are read as printf reads them.
+hlr_given() {
+  printf '%b' "$1" > "$room/in"
+  hlr_on < "$room/in"
+}
+
+# ends NAME STATUS OUT ERR: how that run ended, with the whole of both streams.
+ends() {
+  is "$1: status" "$status" "$2"
+  printf '%s' "$3" > "$room/want"
+  same "$1: standard output" "$room/out" "$room/want"
+  printf '%s' "$4" > "$room/want"
+  same "$1: standard error" "$room/err" "$room/want"
+}
+
+examples() {
+  local script name words
+  for script in examples/*.csv; do
+    name=${script%.csv}
+    words=()
+    if [ -f "$name.args" ]; then read -r -a words < "$name.args"; fi
+    hlr_on ${words[@]+"${words[@]}"} < "$script"
+    is "$name: status" "$status" 0
+    same "$name" "$room/out" "$name.out"
+    is "$name: standard error" "$(wc -c < "$room/err")" 0
+  done
+}
+
+options() {
+  hlr_on --help < /dev/null
+  is '--help: status' "$status" 0
+  has '--help' "$room/out" 'Usage: hlr'
+  has '--help' "$room/out" '--zone'
+  is '--help: standard error' "$(wc -c < "$room/err")" 0
+  hlr_on --version < /dev/null
+  ends '--version' 0 $'hlr 0.1.0\n' ''
+  hlr_on --zone 524288 < /dev/null
+  ends '--zone 524288' 0 '' ''
+  hlr_on --zone 1 < /dev/null
+  ends '--zone 1' 0 '' ''
+  local zone
+  for zone in 0 524289 -1 x ''; do
+    hlr_on "--zone=$zone" < /dev/null
+    is "--zone=$zone: status" "$status" 2
+    has "--zone=$zone" "$room/err" "'--zone <"
+    is "--zone=$zone: standard output" "$(wc -c < "$room/out")" 0
+  done
+  hlr_on --nothing < /dev/null
+  is '--nothing: status' "$status" 2
+  has '--nothing' "$room/err" "'--nothing'"
+  is '--nothing: standard output' "$(wc -c < "$room/out")" 0
+  hlr_on $'--zone=\377' < /dev/null
+  ends 'an option that is no text' 2 '' $'hlr: an option is no text\n'
+}
+
+# What can go wrong with the streams.
+streams() {
+  local most=1048576
+  "$hlr" <<< views > /dev/full 2> "$room/err"
+  status=$?
+  : > "$room/out"
+  ends 'a full disk' 1 '' $'hlr: write fault\n'
+  (yes views | head -n 100000 | "$hlr" 2> "$room/err"; echo "${PIPESTATUS[2]}" > "$room/status") | head -n 1 > "$room/out"
+  status=$(cat "$room/status")
+  ends 'a closed pipe' 1 $'views,0\n' $'hlr: write fault\n'
+  hlr_on < /
+  ends 'a folder as input' 1 '' $'hlr: read fault\n'
+  hlr_on < /dev/null
+  ends 'an empty input' 0 '' ''
+  yes views | head -n "$most" > "$room/most"
+  yes views,0 | head -n "$most" > "$room/wanted"
+  hlr_on < "$room/most"
+  is 'the most records: status' "$status" 0
+  same 'the most records' "$room/out" "$room/wanted"
+  echo views >> "$room/most"
+  hlr_on < "$room/most"
+  is 'a record too many: status' "$status" 1
+  same 'a record too many' "$room/out" "$room/wanted"
+  is 'a record too many: standard error' "$(cat "$room/err")" 'hlr: read fault'
+}
+
+# Bytes that no one wrote with care.
+bytes() {
+  hlr_given 'views\r\n\r\ngs\r\nviews'
+  ends 'CR LF' 0 $'views,0\nrefused,19,Syntax\nviews,0\n' ''
+  hlr_given '\0357\0273\0277views\n'
+  ends 'a byte order mark' 0 $'views,0\n' ''
+  (printf 'gsd,' && head -c 4000000 /dev/zero | tr '\0' 7 && printf '\nviews\n') > "$room/in"
+  hlr_on < "$room/in"
+  ends 'a line of 4 MB' 0 $'refused,2,Field\nviews,0\n' ''
+  hlr_given '\0377\0376\n\0000\ngsd,7\0377\nviews\n'
+  ends 'bytes that are no text' 0 $'refused,19,Syntax\nrefused,19,Syntax\nrefused,2,Field\nviews,0\n' ''
+}
+
+# asks RECORD ANSWER: writes the record with its line end to the waiting program, and has the answer before writing on.
+asks() {
+  local answer=nothing
+  printf '%b' "$1" >&"${COPROC[1]}"
+  IFS= read -r -t 5 answer <&"${COPROC[0]}"
+  is "an answer to $1 before the next record" "$answer" "$2"
+}
+
+# A front end that waits for each answer.
+waiting() {
+  local turn
+  coproc "$hlr"
+  asks 'views\n' 'views,0'
+  asks 'sub,7,000000000000007,0000000000,0000000000,00000000000000000000,1,268435456\n' 'ok'
+  asks 'post,0,51\r\n' 'posted,2'
+  asks '\r\ngsd,8\r\n\r\n' 'refused,3,NoSubscriber'
+  asks '\n\ngsd,9\n\n\n' 'refused,3,NoSubscriber'
+  asks 'gsd,10\ngsd' 'refused,3,NoSubscriber'
+  asks ',11\n' 'refused,3,NoSubscriber'
+  for turn in 1 2 3 4 5 6 7 8 9 10; do
+    asks "number$turn\n" 'refused,19,Syntax'
+  done
+  exec {COPROC[1]}>&-
+  wait "$COPROC_PID"
+  is 'the end of the input ends the program' "$?" 0
+}
+
+program() {
+  if [ ! -x "$hlr" ]; then
+    fail "there is no program at $hlr: run rt run in crates/hlr"
+    return
+  fi
+  examples
+  options
+  streams
+  bytes
+  waiting
+}
+
+gate() {
+  local last
+  rt ci | tee "$room/gate"
+  last=$(tail -n 1 "$room/gate")
+  case $last in
+    *' passed, '*' failed')
+      passed=$((passed + ${last%% *}))
+      last=${last#*passed, }
+      failed=$((failed + ${last%% *}))
+      ;;
+    *) fail "rt ci ended with '$last'" ;;
+  esac
+}
+
+if [ "${1:-all}" = all ]; then gate; fi
+program
+echo "$passed passed, $failed failed"
+[ "$failed" = 0 ]
