@@ -12,6 +12,7 @@ use Rattle.csv.specs.declared.parser.State.TheVariants as st
 use Rattle.csv.specs.declared.reader.Reader.{Reader}
 use Rattle.csv.proofs.ReadFacts.{rows-more, rows-end}
 use Rattle.tatp_rows.specs.declared.refusal.Refusal.{Refusal}
+use Rattle.tatp_actions.specs.declared.cells.TheConstants.{CELLS}
 use Rattle.hlr_core.specs.Store.{Store, published, unposted}
 use Rattle.hlr.specs.Records.{command_of}
 use Rattle.hlr.specs.Views.{views_text}
@@ -200,7 +201,7 @@ views_answer fields s is = subst (λ (asked : Result Command Refusal). CommandTe
 
 -- the report was taken
 pub views_done : {T E : Type 0} (fields : List (List ℕ)) (s : Store) (shown kept : List ℤ) (old new : Option (List ℕ)) (r : Result T E) → Ok command.Views ≡ command_of fields
-    → ((c : ℕ) → c < 51 → slice_index_or shown c (pos 0) ≡ published s c) → ((c : ℕ) → c < 51 → slice_index_or kept c (pos 0) ≡ unposted s c)
+    → ((c : ℕ) → c < CELLS → slice_index_or shown c (pos 0) ≡ published s c) → ((c : ℕ) → c < CELLS → slice_index_or kept c (pos 0) ≡ unposted s c)
     → OnOk r (Appends old new (views_text (λ c. slice_index_or shown c (pos 0)) (λ c. slice_index_or kept c (pos 0)))) → OnOk r (RecordDone fields s s old new)
 views_done fields s shown kept old new r is first second took =
     let same = views_same (λ c. slice_index_or shown c (pos 0)) (published s) (λ c. slice_index_or kept c (pos 0)) (unposted s) first second in
@@ -212,7 +213,7 @@ views_done fields s shown kept old new r is first second took =
 
 -- a front of the report was taken
 pub views_cut : {T E : Type 0} (fields : List (List ℕ)) (s : Store) (shown kept : List ℤ) (old new : Option (List ℕ)) (r : Result T E) → Ok command.Views ≡ command_of fields
-    → ((c : ℕ) → c < 51 → slice_index_or shown c (pos 0) ≡ published s c) → ((c : ℕ) → c < 51 → slice_index_or kept c (pos 0) ≡ unposted s c)
+    → ((c : ℕ) → c < CELLS → slice_index_or shown c (pos 0) ≡ published s c) → ((c : ℕ) → c < CELLS → slice_index_or kept c (pos 0) ≡ unposted s c)
     → OnErr r (AppendsFront old new (views_text (λ c. slice_index_or shown c (pos 0)) (λ c. slice_index_or kept c (pos 0)))) → OnErr r (RecordCut fields s s old new)
 views_cut fields s shown kept old new r is first second took =
     let same = views_same (λ c. slice_index_or shown c (pos 0)) (published s) (λ c. slice_index_or kept c (pos 0)) (unposted s) first second in

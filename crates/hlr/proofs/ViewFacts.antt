@@ -3,6 +3,7 @@ use Rattle.std.proofs.Common.{◌≡◌, refl, sym, ap, ◌∙◌, subst, ℕ, z
 use Rattle.std.specs.Prelude.{ℤ, Result, OnOk, OnErr}
 use Rattle.std.proofs.lemmas.Result.{on_ok_weaker, on_err_weaker}
 use Rattle.std.specs.Io.KnownBytes.{Appends}
+use Rattle.tatp_actions.specs.declared.cells.TheConstants.{CELLS}
 use Rattle.hlr.specs.Lines.{views_line}
 use Rattle.hlr.specs.Sink.{Begins, AppendsFront}
 use Rattle.hlr.specs.Views.{cell_text, cell_lines, cell_texts, cell_count, views_text}
@@ -54,30 +55,30 @@ views_go_on p u old mid new lines more n a b to took more_is at_a at_b =
     }
 
 -- the sink failed in a cell's line
-pub views_stop : (p u : ℕ → ℤ) (old mid new : Option (List ℕ)) (lines n : ℕ) (a b : ℤ) → ViewsTo p u old mid lines n → n < 51 → AppendsFront mid new (cell_text n a b)
+pub views_stop : (p u : ℕ → ℤ) (old mid new : Option (List ℕ)) (lines n : ℕ) (a b : ℤ) → ViewsTo p u old mid lines n → n < CELLS → AppendsFront mid new (cell_text n a b)
     → a ≡ p n → b ≡ u n → AppendsFront old new (views_text p u)
 unfolding views_text
 views_stop p u old mid new lines n a b to below took at_a at_b =
     let here : AppendsFront old new (cell_texts p u (n + 1)) = rw (texts_more p u n) (front_after old mid new _ _ to.grew (rw (← at_a, ← at_b) took)) in
-    let begun = texts_begin p u (n + 1) (50 - n) 51 (omega arith) in
-    front_wider old new (cell_texts p u 51) _ (front_in old new _ _ begun here)
+    let begun = texts_begin p u (n + 1) (CELLS - 1 - n) CELLS (omega arith) in
+    front_wider old new (cell_texts p u CELLS) _ (front_in old new _ _ begun here)
 
 -- all lines were taken, and the last one
-pub views_end : {T E : Type 0} (p u : ℕ → ℤ) (old mid new : Option (List ℕ)) (lines n : ℕ) (bytes : List ℕ) (r : Result T E) → ViewsTo p u old mid lines n → n ≡ 51 → bytes ≡ views_line lines
+pub views_end : {T E : Type 0} (p u : ℕ → ℤ) (old mid new : Option (List ℕ)) (lines n : ℕ) (bytes : List ℕ) (r : Result T E) → ViewsTo p u old mid lines n → n ≡ CELLS → bytes ≡ views_line lines
     → OnOk r (Appends mid new bytes) → OnOk r (Appends old new (views_text p u))
 unfolding views_text
 views_end p u old mid new lines n bytes r to all is took =
     let grew = rw all at to.grew in
-    let count : lines ≡ cell_count p u 51 = to.count ∙ ap (cell_count p u) all in
-    on_ok_weaker r (λ (last : Appends mid new bytes). appends_both old mid new (cell_texts p u 51) (views_line (cell_count p u 51)) grew (rw (is, count) at last)) took
+    let count : lines ≡ cell_count p u CELLS = to.count ∙ ap (cell_count p u) all in
+    on_ok_weaker r (λ (last : Appends mid new bytes). appends_both old mid new (cell_texts p u CELLS) (views_line (cell_count p u CELLS)) grew (rw (is, count) at last)) took
 
-pub views_end_front : {T E : Type 0} (p u : ℕ → ℤ) (old mid new : Option (List ℕ)) (lines n : ℕ) (bytes : List ℕ) (r : Result T E) → ViewsTo p u old mid lines n → n ≡ 51 → bytes ≡ views_line lines
+pub views_end_front : {T E : Type 0} (p u : ℕ → ℤ) (old mid new : Option (List ℕ)) (lines n : ℕ) (bytes : List ℕ) (r : Result T E) → ViewsTo p u old mid lines n → n ≡ CELLS → bytes ≡ views_line lines
     → OnErr r (AppendsFront mid new bytes) → OnErr r (AppendsFront old new (views_text p u))
 unfolding views_text
 views_end_front p u old mid new lines n bytes r to all is took =
     let grew = rw all at to.grew in
-    let count : lines ≡ cell_count p u 51 = to.count ∙ ap (cell_count p u) all in
-    on_err_weaker r (λ (last : AppendsFront mid new bytes). front_after old mid new (cell_texts p u 51) (views_line (cell_count p u 51)) grew (rw (is, count) at last)) took
+    let count : lines ≡ cell_count p u CELLS = to.count ∙ ap (cell_count p u) all in
+    on_err_weaker r (λ (last : AppendsFront mid new bytes). front_after old mid new (cell_texts p u CELLS) (views_line (cell_count p u CELLS)) grew (rw (is, count) at last)) took
 
 -- the lines of counts that agree are the same
 pub texts_same : (p q u v : ℕ → ℤ) (n : ℕ) → ((c : ℕ) → c < n → p c ≡ q c) → ((c : ℕ) → c < n → u c ≡ v c) → cell_texts p u n ≡ cell_texts q v n
@@ -92,6 +93,6 @@ count_same p q u v zero first second = refl
 count_same p q u v (suc n) first second =
     rw (count_same p q u v n (λ c below. first c (omega arith)) (λ c below. second c (omega arith)), first n (omega arith), second n (omega arith)) refl
 
-pub views_same : (p q u v : ℕ → ℤ) → ((c : ℕ) → c < 51 → p c ≡ q c) → ((c : ℕ) → c < 51 → u c ≡ v c) → views_text p u ≡ views_text q v
+pub views_same : (p q u v : ℕ → ℤ) → ((c : ℕ) → c < CELLS → p c ≡ q c) → ((c : ℕ) → c < CELLS → u c ≡ v c) → views_text p u ≡ views_text q v
 unfolding views_text
-views_same p q u v first second = rw (texts_same p q u v 51 first second, count_same p q u v 51 first second) refl
+views_same p q u v first second = rw (texts_same p q u v CELLS first second, count_same p q u v CELLS first second) refl

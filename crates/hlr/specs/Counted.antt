@@ -1,4 +1,4 @@
--- What is said of a reader that knows how far it has handed on whole records.
+-- What is said of a reader that knows how far it has handed on whole lines.
 use Rattle.std.specs.Prelude.{ℕ, List, Option}
 use Rattle.hlr.specs.declared.counted.Counted.{Counted}
 

@@ -3,6 +3,7 @@ use Rattle.std.specs.Prelude.{◌≡◌, ◌≤◌, ℕ, true, List, [], ◌∷�
 use Rattle.std.specs.Str.Parse.{digits_value, without_leading_plus}
 use Rattle.clap.specs.Words.{App, Row, Rule, Text, new_app, new_rule, one_of, with_rule}
 use Rattle.clap.specs.declared.builder.value_parser.ValueParser.TheVariants as parser
+use Rattle.tatp_rows.specs.declared.ranges.TheConstants.{GREATEST_WIDTH}
 use Rattle.hlr.specs.declared.options.Options.{Options}
 
 -- `--zone W`: a number from 1 to 524,288, which is 524,288 where the option isn't given
@@ -10,7 +11,7 @@ abbrev pub zone_rule : Rule
 zone_rule = record (new_rule (codes "zone")) {
   long = Some (codes "zone");
   value_names = 1;
-  parser = Some (parser.Signed (pos 1) (pos 524288));
+  parser = Some (parser.Signed (pos 1) (pos GREATEST_WIDTH));
   defaults = codes "524288" ∷ [];
 }
 
@@ -32,4 +33,4 @@ OptionsOf rows options = Spells (one_of (codes "zone") rows) options.width
 
 -- the options are in range
 abbrev pub InRange : Options → Type 0
-InRange options = (1 ≤ options.width) × (options.width ≤ 524288)
+InRange options = (1 ≤ options.width) × (options.width ≤ GREATEST_WIDTH)

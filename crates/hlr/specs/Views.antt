@@ -1,5 +1,6 @@
 -- The report of the standing counts, over what is published and what is unposted of each cell.
 use Rattle.std.specs.Prelude.{ℕ, zero, suc, ◌+◌, ◌++◌, ◌&&◌, List, [], ℤ, if◌then◌else◌}
+use Rattle.tatp_actions.specs.declared.cells.TheConstants.{CELLS}
 use Rattle.hlr_core.specs.Post.{is_zero}
 use Rattle.hlr.specs.Lines.{cell_line, views_line}
 
@@ -21,6 +22,6 @@ unfoldable pub cell_count : (ℕ → ℤ) → (ℕ → ℤ) → ℕ → ℕ
 cell_count published unposted zero = 0
 cell_count published unposted (suc n) = cell_count published unposted n + cell_lines (published n) (unposted n)
 
--- the report: the lines of all 51 cells, and how many they are
+-- the report: the lines of all cells, and how many they are
 unfoldable pub views_text : (ℕ → ℤ) → (ℕ → ℤ) → List ℕ
-views_text published unposted = cell_texts published unposted 51 ++ views_line (cell_count published unposted 51)
+views_text published unposted = cell_texts published unposted CELLS ++ views_line (cell_count published unposted CELLS)

@@ -7,6 +7,7 @@ ghost use Rattle.hlr.specs.Options.{zone_rule, program, Spells, OptionsOf, InRan
 use clap::builder::ValueParser;
 use clap::{Arg, ArgMatches, Command, Error};
 use std::alloc::{AllocError, Global};
+use tatp_rows::GREATEST_WIDTH;
 
 /// The version that the program answers.
 const VERSION: &str = "0.1.0";
@@ -53,7 +54,7 @@ fn zone_arg<'a>(alloc: Global) -> Arg<'a>
         .long("zone")
         .value_name("W")
         .help("How many subscribers a zone has, 1 to 524288")
-        .value_parser(ValueParser::signed(1, 524_288))
+        .value_parser(ValueParser::signed(1, i64::from(GREATEST_WIDTH)))
         .default_value("524288")
 }
 
@@ -85,7 +86,7 @@ pub fn read_options<'a>(alloc: Global, words: &'a [&'a str]) -> Result<Options, 
     let command = program_command(alloc)?;
     let matches = command.try_get_matches_from(words)?;
     match read_zone(&matches) {
-        Some(width) if 1 <= width && width <= 524_288 => Ok(Options { width }),
+        Some(width) if 1 <= width && width <= GREATEST_WIDTH => Ok(Options { width }),
         _ => Err(Error::from(AllocError)),
     }
 }

@@ -57,8 +57,8 @@ fn answer<S: Sink>(
     }
 }
 
-/// Answers a record that was read last, and flushes the sink before the next read may wait: where no further whole
-/// record was handed on to this reader. Where the sink fails, a front of the answer was taken.
+/// Answers the record that was read last, and flushes the sink before a read that may wait: where no whole line is left
+/// of what was read. Where the sink fails, a front of the answer was taken.
 fn answer_in_time<R: Read, S: Sink>(
     reader: &Reader<Counted<R>>,
     row: &ByteRecord,
@@ -73,7 +73,7 @@ fn answer_in_time<R: Read, S: Sink>(
     if answer(row, register, line, sink).is_err() {
         return Err(Stalled);
     }
-    if reader.get_ref().has_record_from(reader.position().byte()) {
+    if reader.get_ref().has_line_from(reader.position().byte()) {
         return Ok(());
     }
     match sink.flush() {
@@ -186,8 +186,8 @@ fn refuse_start<S: Sink>(sink: &mut S, why: Refusal) -> Result<(), Fault>
 /// wanted to start or to read a record. `Read` where the reader fails, or gives more than 1,048,576 records. `Write`
 /// where the sink fails.
 ///
-/// The sink is flushed at the end, but after `Field` and `Write`, and after each record behind which the reader gave no
-/// further whole one so far: before a read that may wait, every answer is flushed.
+/// Every answer is flushed before a read that may wait: the sink is flushed after each record behind which the reader has
+/// given no whole line so far, and at the end, but after `Field` and `Write`.
 pub fn run_alone<R: Read + Drop, S: Sink>(
     alloc: Global,
     reader: R,

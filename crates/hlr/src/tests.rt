@@ -182,8 +182,9 @@ views,3
 /// Where the answer to each record of the script ends.
 const ENDS: [usize; 9] = [0, 3, 34, 43, 74, 158, 176, 179, 223];
 
-/// Texts with their answers, and how often the sink is flushed where the text comes in one piece after its first byte.
-const TEXTS: [(&[u8], &[u8], u32); 12] = [
+/// Texts with their answers, and how often the sink is flushed where the text comes in one piece, behind the first three
+/// bytes that may be a byte order mark: once for the piece and once at the end, where there is no quote in it.
+const TEXTS: [(&[u8], &[u8], u32); 13] = [
     (b"", b"", 1),
     (b"views\nviews\n", b"views,0\nviews,0\n", 2),
     (b"views\r\nviews\r\n", b"views,0\nviews,0\n", 2),
@@ -199,22 +200,23 @@ const TEXTS: [(&[u8], &[u8], u32); 12] = [
         b"views,0\nrefused,19,Syntax\nrefused,19,Syntax\n",
         3,
     ),
-    (b"\xef\xbb\xbf\"views\"\nviews\n", b"views,0\nviews,0\n", 2),
+    (b"\xef\xbb\xbfviews\nviews\n", b"views,0\nviews,0\n", 2),
+    (b"\xef\xbb\xbf\"views\"\nviews\n", b"views,0\nviews,0\n", 3),
     (b"\xef\"\nviews\n", b"refused,19,Syntax\nviews,0\n", 2),
     (
         b"views\n\"a\n\"\"b,\n\"\nviews\n",
         b"views,0\nrefused,19,Syntax\nviews,0\n",
-        2,
+        4,
     ),
     (
         b"views\nx\"\nviews\n\"views\n",
         b"views,0\nrefused,19,Syntax\nviews,0\nrefused,19,Syntax\n",
-        3,
+        5,
     ),
     (
         b"views,\"\"\n\"\"\n",
         b"refused,19,Syntax\nrefused,19,Syntax\n",
-        2,
+        3,
     ),
 ];
 
@@ -227,7 +229,11 @@ fn answers_come_before_a_read_may_wait(rt: HostRuntime) {
             let done = answer_feed(&rt, Feed::new(&pending, text, stride), &mut tape);
             assert_eq!(rt; done, Ok(()), "{stride} bytes at a time");
             assert_eq!(rt; tape.text(), wanted);
-            assert!(rt; stride < 24 || tape.flushes == flushes);
+            assert!(rt;
+                stride < 24 || tape.flushes == flushes,
+                "{flushes} flushes, not {}",
+                tape.flushes
+            );
         }
     }
 }

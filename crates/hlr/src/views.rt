@@ -6,6 +6,7 @@ ghost use Rattle.hlr.specs.Views.{cell_text, cell_lines, views_text};
 
 use crate::lines::{Line, build_cell, build_views};
 use crate::sink::{Sink, Stalled, put_all};
+use tatp_actions::CELLS;
 
 /// Writes the line of a cell, unless both of its counts are 0, and answers how many lines it wrote.
 #[tactic(auto, unfolding(crate::specs::Views::cell_text, crate::specs::Views::cell_lines))]
@@ -31,8 +32,8 @@ fn write_cell<S: Sink>(
 }
 
 /// The count of a cell.
-fn count_at(counts: &[i64; 51], cell: usize) -> i64
-    requires { cell < 51 }
+fn count_at(counts: &[i64; CELLS as usize], cell: usize) -> i64
+    requires { cell < CELLS }
     ensures { result ≡ slice_index_or counts.now cell (pos 0) }
 {
     counts[cell]
@@ -42,8 +43,8 @@ fn count_at(counts: &[i64; 51], cell: usize) -> i64
 /// then the line of how many they are. The line is the memory to build them in. Where the sink fails, a front of the
 /// report was taken.
 pub fn write_views<S: Sink>(
-    published: &[i64; 51],
-    unposted: &[i64; 51],
+    published: &[i64; CELLS as usize],
+    unposted: &[i64; CELLS as usize],
     line: &mut Line,
     sink: &mut S,
 ) -> Result<(), Stalled>
@@ -54,9 +55,14 @@ pub fn write_views<S: Sink>(
     ensures told { OnErr result (S.has_stalled sink.new ≡ true) }
 {
     let mut lines = 0u64;
-    for cell in 0..51usize {
-        let (held, loose) = (count_at(published, cell), count_at(unposted, cell));
-        lines += write_cell(cell as u64, held, loose, line, sink)?;
+    for cell in 0..CELLS as usize {
+        lines += write_cell(
+            cell as u64,
+            count_at(published, cell),
+            count_at(unposted, cell),
+            line,
+            sink,
+        )?;
     }
     build_views(line, lines);
     put_all(sink, line.as_slice())

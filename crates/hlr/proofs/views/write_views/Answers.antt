@@ -9,7 +9,7 @@ loop-cell-init g c = views_started _ _ _
 
 pub returns-in_err-lines-clause-err : goal.returns-in_err-lines-clause-err
 returns-in_err-lines-clause-err g c =
-    on_err_any _ (views_stop _ _ _ _ _ _ _ _ _ c.loop-cell.invariant c.loop-cell-test.true c.in_err-lines.ensures.err (grind (arith, ints, to_z-of_z)) (grind (arith, ints, to_z-of_z)))
+    on_err_any _ (views_stop _ _ _ _ _ _ _ _ _ c.loop-cell.invariant (omega arith) c.in_err-lines.ensures.err (grind (arith, ints, to_z-of_z)) (grind (arith, ints, to_z-of_z)))
 
 pub loop-cell-preserved : goal.loop-cell-preserved
 loop-cell-preserved g c =
