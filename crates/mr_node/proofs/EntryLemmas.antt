@@ -1,5 +1,5 @@
 -- What a leaf has at and round the place of a key.
-use Rattle.std.proofs.Common.{◌≡◌, ℕ, ◌+◌, ◌-◌, ◌<◌, ◌≤◌, suc, zero, List, [], ◌∷◌, ◌++◌, length, get_or, set, take, drop, true, false, Option, Some, None, IfSome, IsSome, Ok, Err, cond, ok_or, option_map, refl, sym, ap, subst, ◌∙◌, arith, add-one, inl, inr, eqb}
+use Rattle.std.proofs.Common.{◌≡◌, ℕ, ◌+◌, ◌-◌, ◌<◌, ◌≤◌, suc, zero, List, [], ◌∷◌, ◌++◌, length, get_or, set, take, drop, true, false, Option, Some, None, IsSome, Ok, Err, cond, ok_or, option_map, refl, sym, ap, subst, ◌∙◌, arith, add-one, inl, inr, eqb, ltb}
 use Rattle.std.specs.List.{insert, remove}
 use Rattle.std.proofs.lemmas.List.{drop_all, take_more, drop_more, get_or_default, length-set, length-append, length-take, length-drop, take-append-drop}
 use Rattle.std.proofs.lemmas.Bool.{cases_lt, cases_Bool, eqb-true}
@@ -10,7 +10,7 @@ use Rattle.tatp_rows.proofs.OrderedLemmas.{each-with_row, each-without_row, orde
 use Rattle.tatp_rows.proofs.SpanLemmas.{below-weaker, from-weaker, ordered_front, ordered_back, row_at-skip, row_at-absent, row_at-here, with_row_at-skip, with_row_at-absent, with_row_at-here, without_row-skip, without_row-absent, without_row-here, with_row-skip, with_row-front, every-with_row_at-same}
 use Rattle.mr_node.specs.Rows.{value_at, key_of_pair, somes, IsPacked, KeysBelow, KeysFrom, key_limit}
 use Rattle.mr_node.specs.Levels.{IsLeaf}
-use Rattle.mr_node.specs.Entries.{has_key, IsPlaced, replaced, handed_back}
+use Rattle.mr_node.specs.Entries.{entry_over, has_key, IsPlaced, replaced, handed_back}
 use Rattle.mr_node.proofs.PlaceLemmas.{packed_length, packed_within, packed_some, packed_read, packed_set, packed_insert, packed_remove, somes_split, somes_written, somes_insert, somes_remove}
 
 module _ {V : Type 0} where
@@ -39,20 +39,24 @@ module _ {V : Type 0} where
       let more : drop i rows ≡ p ∷ drop (i + 1) rows = drop_more rows i p (omega (arith, packed_length (length es) es leaf.packed, within)) ∙ ap (λ x. x ∷ drop (i + 1) rows) (packed_read (length es) i p es leaf.packed e) in
       subst (KeysFrom key) (sym more) (from_at key (take i rows) p (drop (i + 1) rows) (subst (IsOrderedBy key_of_pair) split leaf.ordered) le)
 
-  pub at_some : (P : ℕ × V → Type 0) (o : Option (ℕ × V)) (p : ℕ × V) → o ≡ Some p → IfSome o P → P p
-  at_some P o p e h = subst (λ x. IfSome x P) e h
+  -- an entry over which a search goes, and one over which it doesn't
+  over : (key : ℕ) (p : ℕ × V) (o : Option (ℕ × V)) → o ≡ Some p → entry_over key o ≡ true → p.0 < key
+  over key p o e h = let test : ltb p.0 key ≡ true = subst (λ x. entry_over key x ≡ true) e h in grind (arith, nat_tests)
+
+  pub not_over : (key : ℕ) (p : ℕ × V) (o : Option (ℕ × V)) → o ≡ Some p → entry_over key o ≡ false → key ≤ p.0
+  not_over key p o e h = let test : ltb p.0 key ≡ false = subst (λ x. entry_over key x ≡ false) e h in grind (arith, nat_tests)
 
   pub cut_below : (key i : ℕ) (es : List (Option (ℕ × V))) → IsLeaf es → IsPlaced key i es → KeysBelow key (take i (somes es))
   cut_below key zero es leaf at = tt
   cut_below key (suc i) es leaf at =
       let found = packed_some (length es) i es leaf.packed (omega (arith, at.within)) in
       let same : suc i - 1 ≡ i = omega arith in
-      let less : found.0.0 < key = at_some (λ p. p.0 < key) (get_or es (suc i - 1) None) found.0 (ap (λ j. get_or es j None) same ∙ found.1) (at.before (omega arith)) in
+      let less : found.0.0 < key = over key found.0 (get_or es (suc i - 1) None) (ap (λ j. get_or es j None) same ∙ found.1) (at.before (omega arith) None) in
       subst (λ j. KeysBelow key (take j (somes es))) (add-one i) (front_below key i found.0 es leaf found.1 less)
 
   cut_from : (key i : ℕ) (es : List (Option (ℕ × V))) → IsLeaf es → IsPlaced key i es → KeysFrom key (drop i (somes es))
   cut_from key i es leaf at = elim (cases_lt i (length es)) [
-    | inl lt ↦ let found = packed_some (length es) i es leaf.packed lt in back_from key i found.0 es leaf found.1 (at_some (λ p. key ≤ p.0) (get_or es i None) found.0 found.1 (at.here lt))
+    | inl lt ↦ let found = packed_some (length es) i es leaf.packed lt in back_from key i found.0 es leaf found.1 (not_over key found.0 (get_or es i None) found.1 (at.here lt None))
     | inr le ↦ subst (KeysFrom key) (sym (drop_all i (somes es) (omega (arith, packed_length (length es) es leaf.packed, le)))) tt
   ]
 
@@ -92,7 +96,7 @@ module _ {V : Type 0} where
 
   above_here : (key i : ℕ) (es : List (Option (ℕ × V))) → IsLeaf es → IsPlaced key i es → has_key key (get_or es i None) ≡ false → (o : Option (ℕ × V)) → get_or es i None ≡ o → KeysFrom (key + 1) (drop i (somes es))
   above_here key i es leaf at not (Some p) e =
-      let le = at_some (λ q. key ≤ q.0) (get_or es i None) p e (at.here (packed_within (length es) i p es leaf.packed e)) in
+      let le = not_over key p (get_or es i None) e (at.here (packed_within (length es) i p es leaf.packed e) None) in
       let other : eqb p.0 key ≡ false = subst (λ o. has_key key o ≡ false) e not in
       back_from (key + 1) i p es leaf e (grind (arith, nat_tests))
   above_here key i es leaf at not None e = elim (cases_lt i (length es)) [

@@ -9,7 +9,7 @@ use Rattle.mr_node.specs.Levels.{NodeKid, NodeBranch, rows_of, IsLeaf, IsKid, Is
 use Rattle.mr_node.specs.Entries.{IsPlaced}
 use Rattle.mr_node.specs.Kids.{IsKidPlace}
 use Rattle.mr_node.proofs.PlaceLemmas.{packed_length, packed_some, packed_read}
-use Rattle.mr_node.proofs.EntryLemmas.{cut_below, at_some}
+use Rattle.mr_node.proofs.EntryLemmas.{cut_below, not_over}
 use Rattle.mr_node.proofs.KidLemmas.{IsCutAt, cut_kid, at_kid}
 
 module _ {V : Type 0} where
@@ -27,7 +27,7 @@ module _ {V : Type 0} where
   first_here key i es leaf at lt =
       let found = packed_some (length es) i es leaf.packed lt in
       let p = found.0 in
-      let le = at_some (λ q. key ≤ q.0) (get_or es i None) p found.1 (at.here lt) in
+      let le = not_over key p (get_or es i None) found.1 (at.here lt None) in
       let more : drop i (somes es) ≡ p ∷ drop (i + 1) (somes es) = drop_more (somes es) i p (omega (arith, packed_length (length es) es leaf.packed, lt)) ∙ ap (λ x. x ∷ drop (i + 1) (somes es)) (packed_read (length es) i p es leaf.packed found.1) in
       first_drop key i es leaf at ∙ ap (first_row key) more ∙ find-head key_of_pair key p (drop (i + 1) (somes es)) le ∙ sym found.1
 

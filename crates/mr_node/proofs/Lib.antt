@@ -1,6 +1,7 @@
 pub mod EntryLemmas
 pub mod KidLemmas
 pub mod PlaceLemmas
+pub mod SearchLemmas
 pub mod SizeLemmas
 pub mod NodeLemmas
 pub mod MoveLemmas

@@ -7,4 +7,5 @@ pub mod Kids
 pub mod Levels
 pub mod Pairs
 pub mod Rows
+pub mod Search
 pub mod Steps

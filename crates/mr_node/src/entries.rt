@@ -4,79 +4,25 @@ ghost use Rattle.std.specs.List.{find};
 ghost use Rattle.tatp_rows.specs.Ordered.{row_at, with_row_at, without_row};
 ghost use Rattle.mr_node.specs.Rows.{key_limit, key_of_pair, value_at, somes, StartsWith};
 ghost use Rattle.mr_node.specs.Levels.{IsLeaf, seen_leaf};
-ghost use Rattle.mr_node.specs.Entries.{has_key, IsPlaced, replaced, handed_back};
+ghost use Rattle.mr_node.specs.Entries.{entry_over, has_key, IsPlaced, replaced, handed_back};
 ghost use Rattle.mr_node.specs.Folds.{FoldsRows};
 ghost use Rattle.mr_node.specs.Growth.{IsGrown, IsRoomAnswer};
 
 use crate::Room;
-use crate::kids::places_over;
+use crate::search::{Place, stop_of};
 use arrayvec::ArrayVec;
 use std::mem;
 
-// Whether the entry's key is below `key`.
-fn is_before<V>(entry: &Option<(u64, V)>, key: u64) -> bool
-    ensures { IfSome entry.now (λ p. result ≡ nat_lt p.0 key) }
-{
-    match entry {
-        Some(pair) => pair.0 < key,
-        None => false,
-    }
-}
+// A search goes over the entries with lesser keys.
+impl<V> Place for Option<(u64, V)> {
+    ghost is_over = { entry_over };
 
-// How many entries at the front have lesser keys, by fours.
-fn fours_before<V>(entries: &[Option<(u64, V)>], key: u64) -> usize
-    ensures within { result ≤ length entries.now }
-    ensures before { 0 < result → IfSome (slice_index_or entries.now (result - 1) None) (λ p. p.0 < key) }
-    ensures next { result + 3 < length entries.now → IfSome (slice_index_or entries.now (result + 3) None) (λ p. key ≤ p.0) }
-{
-    let mut low = 0;
-    while entries.len() - low > 3 {
-        if !is_before(&entries[low + 3], key) {
-            return low;
+    fn goes_over(&self, key: u64) -> bool {
+        match self {
+            Some(pair) => pair.0 < key,
+            None => false,
         }
-        low += 4;
     }
-    low
-}
-
-// How many entries at the front have lesser keys, where it is `low` to `low + 3`: three looks, and no branch on a key.
-fn place_of_three<V>(entries: &[Option<(u64, V)>], low: usize, key: u64) -> usize
-    requires within { low + 3 ≤ length entries.now }
-    requires before { 0 < low → IfSome (slice_index_or entries.now (low - 1) None) (λ p. p.0 < key) }
-    requires next { low + 3 < length entries.now → IfSome (slice_index_or entries.now (low + 3) None) (λ p. key ≤ p.0) }
-    ensures { IsPlaced key result entries.now }
-{
-    let first = is_before(&entries[low], key);
-    let second = is_before(&entries[low + 1], key);
-    let third = is_before(&entries[low + 2], key);
-    low + places_over(first, second, third)
-}
-
-// How many entries at the front have lesser keys, one by one from `low` on.
-fn place_from<V>(entries: &[Option<(u64, V)>], low: usize, key: u64) -> usize
-    requires within { low ≤ length entries.now }
-    requires before { 0 < low → IfSome (slice_index_or entries.now (low - 1) None) (λ p. p.0 < key) }
-    ensures { IsPlaced key result entries.now }
-{
-    let mut place = low;
-    while place < entries.len() {
-        if !is_before(&entries[place], key) {
-            return place;
-        }
-        place += 1;
-    }
-    place
-}
-
-// How many entries at the front have lesser keys: first by fours, then among the last three.
-fn entry_place<V>(entries: &[Option<(u64, V)>], key: u64) -> usize
-    ensures { IsPlaced key result entries.now }
-{
-    let low = fours_before(entries, key);
-    if entries.len() - low < 3 {
-        return place_from(entries, low, key);
-    }
-    place_of_three(entries, low, key)
 }
 
 // Whether the entry at this place has the key.
@@ -96,7 +42,7 @@ fn is_at<V>(entries: &[Option<(u64, V)>], place: usize, key: u64) -> bool
 fn place_in<V>(entries: &ArrayVec<Option<(u64, V)>, 32>, key: u64) -> usize
     ensures { IsPlaced key result entries.now.items }
 {
-    entry_place(entries.as_slice(), key)
+    stop_of(entries.as_slice(), key)
 }
 
 // Whether the entry of a leaf at this place has the key.

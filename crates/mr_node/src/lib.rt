@@ -12,6 +12,7 @@ mod meter;
 mod node;
 mod pairs;
 mod room;
+mod search;
 mod stock;
 #[cfg(test)]
 mod tests;

@@ -1,5 +1,4 @@
 use Rattle.std.proofs.Common.{arith, ◌-◌}
-use Rattle.mr_node.specs.Steps.{after_steps}
 use Rattle.mr_node.proofs.MendLemmas.{mended_next, mended_last, mended_same, never_thin, thin_or_not}
 use Rattle.mr_node.proofs.mending.mend.Goals as goal
 

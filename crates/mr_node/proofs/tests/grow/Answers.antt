@@ -1,4 +1,4 @@
-use Rattle.std.proofs.Common.{rules, arith, ◌≡◌, ◌+◌, ◌<◌, ◌≤◌, None, refl, sym, ap, subst, ◌∙◌}
+use Rattle.std.proofs.Common.{rules, arith, ◌≡◌, None, ap, ◌∙◌}
 use Rattle.tatp_rows.specs.Ordered.{row_at}
 use Rattle.mr_node.specs.Rows.{key_of_pair}
 use Rattle.mr_node.proofs.tests.grow.Goals as goal
