@@ -1,5 +1,5 @@
 -- What each action does to a part, from what it does to the rows.
-use Rattle.std.proofs.Common.{◌≡◌, ℕ, ◌+◌, ◌<◌, ◌≤◌, min, refl, arith, rules, true, false, List, [], Option, Some, None, IsSome, IsNone, nat_le, sym, ◌∙◌, subst, ap, inl, inr}
+use Rattle.std.proofs.Common.{◌≡◌, ℕ, ◌+◌, ◌<◌, ◌≤◌, min, refl, arith, rules, true, false, List, [], Option, Some, None, IsSome, nat_le, sym, ◌∙◌, subst, ap, inl, inr}
 use Rattle.std.specs.Prelude.{ℤ, option_map}
 use Rattle.std.proofs.lemmas.Bool.Decides.{nat_tests}
 use Rattle.std.proofs.lemmas.Int.{ints}

@@ -1,5 +1,5 @@
 -- A book cut between two subscribers: its two halves, and the counts of each.
-use Rattle.std.proofs.Common.{◌≡◌, ◌∙◌, refl, sym, ap, subst, ℕ, ◌+◌, ◌*◌, ◌<◌, ◌≤◌, arith, true, false, List, [], ◌∷◌, ◌++◌, IsSome, nat_lt}
+use Rattle.std.proofs.Common.{◌≡◌, ◌∙◌, sym, ap, subst, ℕ, ◌+◌, ◌*◌, ◌<◌, ◌≤◌, arith, true, List, IsSome}
 use Rattle.std.specs.List.{AllByRecursion}
 use Rattle.tatp_rows.proofs.AppendLemmas.{each-left, each-right, ordered-left, ordered-right}
 use Rattle.tatp_rows.proofs.HalfLemmas.{below_each, from_each, halves_joined, below_joined, from_joined}

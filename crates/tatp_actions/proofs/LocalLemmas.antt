@@ -1,6 +1,5 @@
 -- An action on a subscriber of one of two books does to their join what it does to that book.
-use Rattle.std.proofs.Common.{◌≡◌, ◌∙◌, refl, sym, ap, ℕ, ◌*◌, ◌<◌, ◌≤◌, arith, true, List, [], ◌∷◌, Option, Some, None, inl, inr}
-use Rattle.std.specs.List.{AllByRecursion}
+use Rattle.std.proofs.Common.{◌≡◌, ◌∙◌, refl, sym, ap, ℕ, ◌*◌, ◌<◌, ◌≤◌, arith, true, Option, Some, None, inl, inr}
 use Rattle.tatp_rows.proofs.AppendLemmas.{row_at-low, row_at-high, with_row_at-low, with_row_at-high, with_row-low, with_row-high}
 use Rattle.tatp_rows.proofs.KeyLemmas.{key_below, key_from}
 use Rattle.tatp_rows.proofs.OrderedLemmas.{each_from_two}

@@ -1,5 +1,5 @@
 -- What a walk over all rows of a part counts.
-use Rattle.std.proofs.Common.{◌≡◌, refl, sym, ◌∙◌, ap, ℕ, ◌+◌, ◌-◌, ◌*◌, ◌<◌, ◌≤◌, ◌==◌, ◌&&◌, arith, true, false, Bool, List, [], ◌∷◌, length, get_or, replicate, nat_lt, Bor, map, if◌then◌else◌}
+use Rattle.std.proofs.Common.{◌≡◌, refl, sym, ◌∙◌, ap, ℕ, ◌+◌, ◌-◌, ◌*◌, ◌<◌, ◌==◌, ◌&&◌, arith, true, false, Bool, List, [], ◌∷◌, length, get_or, replicate, nat_lt, Bor, if◌then◌else◌}
 use Rattle.std.specs.Prelude.{count_by}
 use Rattle.std.specs.List.{sum_by}
 use Rattle.std.specs.Option.{option_map_or}
@@ -12,12 +12,12 @@ use Rattle.tatp_rows.specs.Rows.{SubscriberRow, AccessInfoRow, SpecialFacilityRo
 use Rattle.tatp_rows.specs.Zones.{zone_of, area_of}
 use Rattle.tatp_rows.proofs.MapLemmas.{row_at-pairs}
 use Rattle.tatp_rows.proofs.OrderedLemmas.{by_test}
-use Rattle.tatp_actions.specs.Book.{Book, IsRowsOf}
+use Rattle.tatp_actions.specs.Book.{IsRowsOf}
 use Rattle.tatp_actions.specs.Cell.{cell, active_forwardings, in_area, in_zone, has_active_facility}
 use Rattle.tatp_actions.specs.Recount.{with_row_of, with_subscriber, is_active_in, with_forwarding}
 use Rattle.tatp_actions.specs.Tables.{Tables, AreKeyed, stored_book, values_of}
 use Rattle.tatp_actions.proofs.CountLemmas.{few_subscribers, few_access, few_facilities, few_forwardings}
-use Rattle.tatp_actions.proofs.CounterLemmas.{zone_in, subscriber_in, forwarding_in, IsCounted, counted_by_fold, row_counter, subscriber_counter, forwarding_counter}
+use Rattle.tatp_actions.proofs.CounterLemmas.{zone_in, subscriber_in, forwarding_in, counted_by_fold, row_counter, subscriber_counter, forwarding_counter}
 use Rattle.tatp_actions.specs.declared.cells.TheConstants.{CELLS, FIRST_AREA, FIRST_ZONE}
 
 -- sums over pairs

@@ -23,6 +23,7 @@ pub struct Part<R: Rows = Trees> {
     lo: u32,
     hi: u32,
     pub(crate) width: u32,
+    // What takes memory for the part as a whole takes it from here.
     alloc: Global,
 }
 
@@ -94,6 +95,7 @@ impl<R: Rows> Part<R> {
         ensures before { IsPart self.old }
         ensures after { IsPart self.new }
     {
+        // This opens the part, so that its rules are known as the action begins.
         let _ = &self.rows;
         let done = match action {
             Action::SubscriberData { s_id } => self.subscriber_data(s_id),
@@ -102,6 +104,7 @@ impl<R: Rows> Part<R> {
             }
             Action::AddSubscriber(row) => self.add_subscriber(row),
         };
+        // And so that they are known after it.
         let _ = &self.rows;
         done
     }

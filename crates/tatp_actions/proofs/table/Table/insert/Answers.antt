@@ -1,5 +1,5 @@
 use Rattle.std.proofs.Common.{◌≡◌, ◌∙◌, refl, sym, ap, subst, length, arith, rules}
-use Rattle.std.specs.Prelude.{None, Some, IsNone}
+use Rattle.std.specs.Prelude.{None, Some}
 use Rattle.std.specs.List.{insert}
 use Rattle.tatp_rows.specs.Ordered.{IsOrderedBy, row_at, with_row}
 use Rattle.tatp_rows.proofs.OrderedLemmas.{ordered-with_row}
