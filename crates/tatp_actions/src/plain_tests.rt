@@ -5,9 +5,10 @@ ghost use Rattle.tatp_actions.specs.Book.{IsWithin};
 
 use crate::plain::PlainRows;
 use crate::tests::row;
-use crate::{Action, Cells, Part};
+use crate::{Action, Cells, Change, Part, RowReply, Rows};
 use std::process::Abort;
 use std::test::Fail;
+use tatp_rows::Refusal;
 
 /// A linear congruential generator's next state.
 fn after(seed: u64) -> u64 {
@@ -31,6 +32,22 @@ fn draw(seed: u64) -> Result<Action, Fail>
     }
 }
 
+/// What an action drawn by a seed answers and notes, at the second try where a growth was refused at the first; and how
+/// often the first asked the rows.
+fn drawn<R: Rows>(part: &mut Part<R>, seed: u64) -> Result<(RowReply, Change, u64), Fail>
+    requires { (part.old.lo ≡ 1) × (part.old.hi ≡ 2001) }
+    ensures { (part.new.lo ≡ 1) × (part.new.hi ≡ 2001) }
+{
+    let before = part.asked();
+    let (reply, change) = part.act(draw(seed)?);
+    let asked = part.asked().wrapping_sub(before);
+    if reply == RowReply::Refused(Refusal::Memory) {
+        let (again, change) = part.act(draw(seed)?);
+        return Ok((again, change, asked));
+    }
+    Ok((reply, change, asked))
+}
+
 /// Asserts that two parts answer, note and ask alike, for 20,000 actions.
 fn expect_alike(rt: &impl Abort, part: &mut Part, plain: &mut Part<PlainRows>) -> Result<(), Fail>
     requires part { (part.old.lo ≡ 1) × (part.old.hi ≡ 2001) }
@@ -39,11 +56,11 @@ fn expect_alike(rt: &impl Abort, part: &mut Part, plain: &mut Part<PlainRows>) -
     let mut seed = 7u64;
     for turn in 0..20_000u32 {
         seed = after(seed);
-        let (reply, change) = part.act(draw(seed)?);
-        let (plain_reply, plain_change) = plain.act(draw(seed)?);
+        let (reply, change, asked) = drawn(part, seed)?;
+        let (plain_reply, plain_change, plain_asked) = drawn(plain, seed)?;
         assert_eq!(rt; reply, plain_reply, "at turn {turn}");
         assert_eq!(rt; change.notes(), plain_change.notes(), "at turn {turn}");
-        assert_eq!(rt; part.asked(), plain.asked());
+        assert_eq!(rt; asked, plain_asked, "at turn {turn}");
     }
     assert!(rt; part.recount() != Cells::zero());
     Ok(())
