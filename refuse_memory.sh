@@ -5,7 +5,7 @@
 #
 # The program runs a script in which each addition stands twice. With an allocation refused it answers all as it does
 # with memory, but for one addition that is refused,1,Memory and done where it stands again; or it ends with
-# 'hlr: no memory' after whole answers that are those.
+# 'hlr: no memory' after the whole answers to the first records, which are those.
 set -u
 cd "$(dirname "$0")" || exit 1
 room=$(mktemp -d)
@@ -65,15 +65,22 @@ script() {
   printf 'gsd,7\nul,000000000000007,5\ngsd,7\nviews\npost,0,51\nviews\ngsd,601\n'
 }
 
-# alike GOT WANTED: the answers are those wanted, or a front of them, but that an addition may have been refused.
+# alike GOT WANTED: the answers are those wanted, or those to the first records, but that one addition may have been
+# refused and then done. A report is whole: its last line is there.
 alike() {
   awk -v wanted="$2" '
     BEGIN { while ((getline line < wanted) > 0) want[++n] = line }
+    { last = $0 }
     again != "" { if ($0 != again) exit(bad = 1); again = ""; next }
     $0 == want[NR] { next }
-    $0 == "refused,1,Memory" && !refusals { refusals = 1; again = want[NR]; next }
+    $0 == "refused,1,Memory" && want[NR] == "ok" && !refusals { refusals = 1; again = want[NR]; next }
     { exit(bad = 1) }
-    END { exit bad || NR > n }' "$1"
+    END { exit bad || again != "" || NR > n || last ~ /^cell,/ }' "$1"
+}
+
+wrong() {
+  failed=$((failed + 1))
+  echo "FAILED: $1"
 }
 
 program() {
@@ -86,16 +93,20 @@ program() {
     local status=$?
     [ -f "$room/refused" ] || break
     if ! alike "$room/got" "$room/wanted"; then
-      echo "FAILED: the answers with allocation $call refused"
-      failed=$((failed + 1))
+      wrong "the answers with allocation $call refused"
     elif [ $status = 0 ]; then
       refused=$((refused + 1))
-      [ "$(wc -l < "$room/got")" = "$(wc -l < "$room/wanted")" ] && [ ! -s "$room/err" ] || failed=$((failed + 1))
+      [ "$(wc -l < "$room/got")" = "$(wc -l < "$room/wanted")" ] || wrong "answers are missing with allocation $call refused"
+      [ ! -s "$room/err" ] || wrong "a complaint with allocation $call refused: $(cat "$room/err")"
     else
       ended=$((ended + 1))
-      [ $status = 1 ] && [ "$(cat "$room/err")" = 'hlr: no memory' ] && [ -z "$(tail -c 1 "$room/got")" ] || failed=$((failed + 1))
+      [ $status = 1 ] || wrong "status $status with allocation $call refused"
+      [ "$(cat "$room/err")" = 'hlr: no memory' ] || wrong "with allocation $call refused it said '$(cat "$room/err")'"
+      [ -z "$(tail -c 1 "$room/got")" ] || wrong "half a line with allocation $call refused"
     fi
   done
+  [ $refused -gt 0 ] || wrong 'no addition was refused'
+  [ $ended -gt 0 ] || wrong 'no run was ended'
   echo "hlr: $((call - 1)) allocations refused: $refused times one addition, $ended times the run ended"
 }
 
@@ -108,17 +119,19 @@ tests_of() {
     while true; do
       call=$((call + 1))
       if ! refusing $call "crates/$crate/out/${crate}_tests" "$name" > "$room/got" 2>&1; then
-        echo "FAILED: $name of $crate with allocation $call refused: $(tail -n 1 "$room/got")"
-        failed=$((failed + 1))
+        wrong "$name of $crate with allocation $call refused: $(tail -n 1 "$room/got")"
       fi
       [ -f "$room/refused" ] || break
     done
+    [ $call -gt 1 ] || wrong "no allocation of $name was refused"
     echo "$crate $name: $((call - 1)) allocations refused"
   done
 }
 
 program
 tests_of mr_subtree tests::memory_refused
+tests_of tatp_actions tests::refused_nodes
 tests_of hlr_core tests::runs tests::drawn_events
+tests_of hlr tests::refused_memory_is_told
 echo "$failed failed"
 [ "$failed" = 0 ]

@@ -73,29 +73,42 @@ examples() {
   done
 }
 
+# refused_option WORD TEXT: the word is refused, with this text on standard error.
+refused_option() {
+  hlr_on "$1" < /dev/null
+  ends "$1" 2 '' "error: $2
+
+For more information, try '--help'.
+"
+}
+
 options() {
   hlr_on --help < /dev/null
   is '--help: status' "$status" 0
-  has '--help' "$room/out" 'Usage: hlr'
-  has '--help' "$room/out" '--zone'
+  has '--help' "$room/out" 'Usage: hlr [OPTIONS]'
+  has '--help' "$room/out" '--zone <W>'
   is '--help: standard error' "$(wc -c < "$room/err")" 0
+  # the example that it ends with does what it says
+  sed -n "s/^  [$] \(printf .*\) | hlr$/\1/p" "$room/out" > "$room/example"
+  sed -n '/^  [$] printf/,/^$/s/^  \([^$].*\)$/\1/p' "$room/out" > "$room/example.out"
+  is '--help: its example' "$(wc -l < "$room/example")" 1
+  sh "$room/example" > "$room/in"
+  hlr_on < "$room/in"
+  same '--help: its example' "$room/out" "$room/example.out"
   hlr_on --version < /dev/null
   ends '--version' 0 $'hlr 0.1.0\n' ''
   hlr_on --zone 524288 < /dev/null
   ends '--zone 524288' 0 '' ''
   hlr_on --zone 1 < /dev/null
   ends '--zone 1' 0 '' ''
-  local zone
-  for zone in 0 524289 -1 x ''; do
-    hlr_on "--zone=$zone" < /dev/null
-    is "--zone=$zone: status" "$status" 2
-    has "--zone=$zone" "$room/err" "'--zone <"
-    is "--zone=$zone: standard output" "$(wc -c < "$room/out")" 0
-  done
-  hlr_on --nothing < /dev/null
-  is '--nothing: status' "$status" 2
-  has '--nothing' "$room/err" "'--nothing'"
-  is '--nothing: standard output' "$(wc -c < "$room/out")" 0
+  refused_option --zone=0 "invalid value '0' for '--zone <W>': 0 is not in 1..=524288"
+  refused_option --zone=524289 "invalid value '524289' for '--zone <W>': 524289 is not in 1..=524288"
+  refused_option --zone=-1 "invalid value '-1' for '--zone <W>': -1 is not in 1..=524288"
+  refused_option --zone=x "invalid value 'x' for '--zone <W>': invalid digit found in string"
+  refused_option --zone= "invalid value '' for '--zone <W>': cannot parse integer from empty string"
+  refused_option --nothing "unexpected argument '--nothing' found
+
+Usage: hlr [OPTIONS]"
   hlr_on $'--zone=\377' < /dev/null
   ends 'an option that is no text' 2 '' $'hlr: an option is no text\n'
 }
@@ -104,9 +117,8 @@ options() {
 streams() {
   local most=1048576
   "$hlr" <<< views > /dev/full 2> "$room/err"
-  status=$?
-  : > "$room/out"
-  ends 'a full disk' 1 '' $'hlr: write fault\n'
+  is 'a full disk: status' "$?" 1
+  is 'a full disk: standard error' "$(cat "$room/err")" 'hlr: write fault'
   (yes views | head -n 100000 | "$hlr" 2> "$room/err"; echo "${PIPESTATUS[2]}" > "$room/status") | head -n 1 > "$room/out"
   status=$(cat "$room/status")
   ends 'a closed pipe' 1 $'views,0\n' $'hlr: write fault\n'
@@ -139,31 +151,36 @@ bytes() {
   ends 'bytes that are no text' 0 $'refused,19,Syntax\nrefused,19,Syntax\nrefused,2,Field\nviews,0\n' ''
 }
 
-# asks RECORD ANSWER: writes the record with its line end to the waiting program, and has the answer before writing on.
+# asks RECORD ANSWER: writes the record to the waiting program, and has the answer before it writes on.
 asks() {
   local answer=nothing
-  printf '%b' "$1" >&"${COPROC[1]}"
-  IFS= read -r -t 5 answer <&"${COPROC[0]}"
-  is "an answer to $1 before the next record" "$answer" "$2"
+  printf '%b' "$1" >&"$to" 2> /dev/null
+  IFS= read -r -t 5 answer <&"$from"
+  is "the answer to $1 before the next record" "$answer" "$2"
 }
 
 # A front end that waits for each answer.
 waiting() {
-  local turn
-  coproc "$hlr"
+  local turn from to ended
+  coproc HLR { "$hlr"; echo "status $?"; }
+  exec {from}<&"${HLR[0]}" {to}>&"${HLR[1]}"
+  exec {HLR[1]}>&-
+  trap '' PIPE
   asks 'views\n' 'views,0'
   asks 'sub,7,000000000000007,0000000000,0000000000,00000000000000000000,1,268435456\n' 'ok'
   asks 'post,0,51\r\n' 'posted,2'
   asks '\r\ngsd,8\r\n\r\n' 'refused,3,NoSubscriber'
   asks '\n\ngsd,9\n\n\n' 'refused,3,NoSubscriber'
-  asks 'gsd,10\ngsd' 'refused,3,NoSubscriber'
-  asks ',11\n' 'refused,3,NoSubscriber'
+  asks '"gsd","10"\n' 'refused,3,NoSubscriber'
+  asks 'gsd,10\n"a\n' 'refused,3,NoSubscriber'
+  asks '"\ngsd' 'refused,19,Syntax'
+  asks ',12\n' 'refused,3,NoSubscriber'
   for turn in 1 2 3 4 5 6 7 8 9 10; do
     asks "number$turn\n" 'refused,19,Syntax'
   done
-  exec {COPROC[1]}>&-
-  wait "$COPROC_PID"
-  is 'the end of the input ends the program' "$?" 0
+  exec {to}>&-
+  IFS= read -r -t 5 ended <&"$from"
+  is 'the end of the input ends the program' "$ended" 'status 0'
 }
 
 program() {

@@ -12,7 +12,7 @@ top=$PWD
 room=/tmp/bench
 mkdir -p "$room/crates/reading/src"
 
-[ -x "$room/baseline" ] || rustc --edition 2021 -O bench/baseline.rs -o "$room/baseline"
+[ "$room/baseline" -nt bench/baseline.rs ] || rustc --edition 2021 -O bench/baseline.rs -o "$room/baseline"
 cp bench/reading.txt "$room/crates/reading/src/main.rt"
 printf 'reading: csv\n' > "$room/crates.txt"
 [ -x "$room/crates/reading/out/reading" ] || (cd "$room" && git init -q . && cd crates/reading && rt run < /dev/null > /dev/null)
@@ -42,12 +42,12 @@ input() {
   esac
 }
 
-# seconds PROGRAM FILE: the best user time, and the resident memory of the last run.
+# seconds PROGRAM FILE: the best user time, and the most resident memory, of the runs.
 seconds() {
   local turn
   for turn in $(seq "$runs"); do
     /usr/bin/time -f '%U %M' "$1" < "$2" 2>&1 > /dev/null
-  done | sort -n | awk 'NR == 1 { best = $1 } { memory = $2 } END { printf "%s s, %s KB", best, memory }'
+  done | sort -n | awk 'NR == 1 { best = $1 } $2 > most { most = $2 } END { printf "%s s, %s KB", best, most }'
 }
 
 instructions() {

@@ -3,10 +3,12 @@
 
     python3 bench/gate_times.py [COMMAND ..]     at the top of a clean clone; without a command it runs `rt ci`
 
-It looks at the running provers some five times a second, so each of the numbers may be short by a second or so. The phases are
-the proof of a crate, the proof of its tests, and its must-fail edits. `rt ci` runs several of them side by side.
+The phases are the proof of a crate, the proof of its tests, and its must-fail edits; `rt ci` runs several of them side by
+side. It looks at the running provers some five times a second, so a crate's number may be short by some percent; the sum
+in the last line is the system's own count of all that the command and its children used, programs and tests too.
 """
 import os
+import resource
 import subprocess
 import sys
 import time
@@ -23,10 +25,11 @@ def words_of(pid):
 
 
 def numbers_of(pid):
-    """When a process began, by which it is told from others of its number, and the seconds that it has used by itself."""
+    """When a process began, by which it is told from others of its number, its parent, and the seconds that it and its
+    ended children have used."""
     with open(f"/proc/{pid}/stat", encoding="utf-8", errors="replace") as it:
         fields = it.read().rsplit(")", 1)[1].split()
-    return fields[19], sum(int(n) for n in fields[11:13]) / TICKS
+    return fields[19], fields[1], sum(int(n) for n in fields[11:15]) / TICKS
 
 
 def task_of(words, folder):
@@ -39,19 +42,37 @@ def task_of(words, folder):
     return crate, "tests" if any(word.endswith("_tests.o") for word in words) else "proof"
 
 
-def look(used, tasks, spans):
-    """Notes what each running prover has used so far, and from when to when each task was seen."""
+def first_prover(pid, running, tasks, gate):
+    """The topmost prover that a process is or was started by, or None where the gate didn't start it."""
+    first = None
+    while pid in running:
+        if tasks.get((pid, running[pid][0])):
+            first = pid
+        if pid == gate:
+            return first
+        pid = running[pid][1]
+    return None
+
+
+def look(gate, used, tasks, spans):
+    """Notes what the gate's provers have used so far, each first one with those below it, and when each task was seen."""
+    running = {}
     for pid in filter(str.isdigit, os.listdir("/proc")):
         try:
-            began, seconds = numbers_of(pid)
-            if (pid, began) not in tasks:
-                tasks[pid, began] = task_of(*words_of(pid))
+            running[pid] = numbers_of(pid)
+            key = pid, running[pid][0]
+            tasks[key] = tasks.get(key) or task_of(*words_of(pid))
         except OSError:
             continue
-        task = tasks[pid, began]
-        if task:
-            used[pid, began] = seconds, task
-            spans[task] = spans.get(task, (time.time(),))[0], time.time()
+    sums = {}
+    for pid, (_, _, seconds) in running.items():
+        first = first_prover(pid, running, tasks, gate)
+        if first:
+            sums[first] = sums.get(first, 0) + seconds
+    for pid, seconds in sums.items():
+        task = tasks[pid, running[pid][0]]
+        used[pid, running[pid][0]] = seconds, task
+        spans[task] = spans.get(task, (time.time(),))[0], time.time()
 
 
 def table(used, spans):
@@ -68,16 +89,17 @@ def table(used, spans):
             row.append(f"{seconds.get((crate, phase), 0) / 60:.1f} ({(last - first) / 60:.1f})")
         total = sum(seconds.get((crate, phase), 0) for phase in PHASES)
         yield f"| `{crate}` | " + " | ".join(row) + f" | {total / 60:.1f} |"
-    yield f"\n{sum(seconds.values()) / 60:.1f} processor minutes"
 
 
 def main():
     used, tasks, spans, begun = {}, {}, {}, time.time()
     gate = subprocess.Popen(sys.argv[1:] or ["rt", "ci"])
     while gate.poll() is None:
-        look(used, tasks, spans)
+        look(str(gate.pid), used, tasks, spans)
         time.sleep(0.2)
-    print("\n" + "\n".join(table(used, spans)) + f", {(time.time() - begun) / 60:.1f} minutes by the clock")
+    spent = resource.getrusage(resource.RUSAGE_CHILDREN)
+    print("\n" + "\n".join(table(used, spans)))
+    print(f"\n{(spent.ru_utime + spent.ru_stime) / 60:.1f} processor minutes in all, {(time.time() - begun) / 60:.1f} by the clock")
     return gate.returncode
 
 

@@ -1,4 +1,3 @@
-pub mod Counted
 pub mod Fault
 pub mod Fields
 pub mod Lines
@@ -7,3 +6,4 @@ pub mod Records
 pub mod Sink
 pub mod Text
 pub mod Views
+pub mod WholeRecords

@@ -9,6 +9,7 @@ use Rattle.hlr_core.specs.Step.{IsStep}
 use Rattle.hlr_core.specs.Store.{Store, published, unposted}
 use Rattle.hlr_core.specs.declared.event.Event.{Event}
 use Rattle.hlr_core.specs.declared.event.Reply.{Reply}
+use Rattle.hlr.specs.declared.run.TheConstants.{RECORDS}
 use Rattle.hlr.specs.Lines.{refused_line, reply_line}
 use Rattle.hlr.specs.Records.{command_of}
 use Rattle.hlr.specs.Sink.{Begins, AppendsFront}
@@ -64,7 +65,7 @@ WritesWhole fault.Read written text = written ≡ text
 -- records that a run answered, as many as it may at most, with their text and the store after them
 pub record AnsweredRecords (start : Store) : Type 0 where
   pub rows : List (List (List ℕ))
-  pub few : length rows ≤ 1048576
+  pub few : length rows ≤ RECORDS
   pub text : List ℕ
   pub end : Store
   pub answers : RecordsText rows start text end

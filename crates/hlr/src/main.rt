@@ -1,7 +1,6 @@
 //! A home location register: command records on standard input, an answer for each on standard output.
 #![tactic(auto)]
 
-mod counted;
 mod fault;
 mod fields;
 mod lines;
@@ -12,6 +11,7 @@ mod sink;
 #[cfg(test)]
 mod tests;
 mod views;
+mod whole_records;
 
 use clap::error::ErrorKind;
 use fault::Fault;

@@ -7,17 +7,17 @@ ghost use Rattle.csv.specs.Records.{fields_of};
 ghost use Rattle.csv.specs.declared.parser.State.TheVariants as state;
 ghost use Rattle.csv.specs.declared.reader.Trim.TheVariants as trim;
 ghost use Rattle.hlr_core.specs.Store.{HasOpening, opening};
-ghost use Rattle.hlr.specs.Counted.{counted_remaining};
+ghost use Rattle.hlr.specs.WholeRecords.{inner_remaining};
 ghost use Rattle.hlr.specs.Text.{IsFlushedAfter, Ran, RecordCut, RecordDone};
 ghost use Rattle.tatp_rows.specs.declared.refusal.Refusal.TheVariants as refusal;
 ghost use Rattle.hlr.specs.declared.fault.Fault.TheVariants as fault;
 
-use crate::counted::Counted;
 use crate::fault::{Fault, read_fault};
 use crate::lines::{Line, build_refused, build_reply, empty_line};
 use crate::records::{Command, read_command};
 use crate::sink::{Sink, Stalled, put_all};
 use crate::views::write_views;
+use crate::whole_records::WholeRecords;
 use csv::{ByteRecord, Reader, ReaderBuilder};
 use hlr_core::Register;
 use std::alloc::Global;
@@ -57,10 +57,10 @@ fn answer<S: Sink>(
     }
 }
 
-/// Answers the record that was read last, and flushes the sink before a read that may wait: where no whole line is left
-/// of what was read. Where the sink fails, a front of the answer was taken.
+/// Answers the record that was read last, and flushes the sink before a read that may wait: where no whole record is left
+/// of what was handed on to the reader. Where the sink fails, a front of the answer was taken.
 fn answer_in_time<R: Read, S: Sink>(
-    reader: &Reader<Counted<R>>,
+    reader: &Reader<WholeRecords<R>>,
     row: &ByteRecord,
     register: &mut Register,
     line: &mut Line,
@@ -73,7 +73,7 @@ fn answer_in_time<R: Read, S: Sink>(
     if answer(row, register, line, sink).is_err() {
         return Err(Stalled);
     }
-    if reader.get_ref().has_line_from(reader.position().byte()) {
+    if reader.get_ref().has_record_from(reader.position().byte()) {
         return Ok(());
     }
     match sink.flush() {
@@ -86,7 +86,7 @@ fn answer_in_time<R: Read, S: Sink>(
 /// more than 1,048,576 records, `Memory` where it wants memory, `Write` where the sink fails. The row is the memory to
 /// read records into.
 fn answer_all<R: Read, S: Sink>(
-    reader: &mut Reader<Counted<R>>,
+    reader: &mut Reader<WholeRecords<R>>,
     row: &mut ByteRecord,
     register: &mut Register,
     sink: &mut S,
@@ -95,7 +95,7 @@ fn answer_all<R: Read, S: Sink>(
     requires ready { Ready reader.old }
     requires config { reader_config reader.old ≡ default_config }
     requires start { reader_state reader.old ≡ state.StartRecord }
-    ensures text { IfSome (source_of (counted_remaining R.remaining) reader.old)
+    ensures text { IfSome (source_of (inner_remaining R.remaining) reader.old)
         (λ bytes. Ran register.old bytes (S.taken sink.old) (S.taken sink.new) result) }
     ensures write { result ≡ Err fault.Write → S.has_stalled sink.new ≡ true }
     ensures field { result ≢ Err fault.Field }
@@ -152,11 +152,11 @@ fn run_store<R: Read + Drop, S: Sink>(
     ensures thread { result ≢ Err fault.Thread }
     ensures flushed { IsFlushedAfter result (S.is_flushed sink.new) }
 {
-    let counted = Counted::new(reader);
+    let whole = WholeRecords::new(reader);
     let mut records = ReaderBuilder::new()
         .has_headers(false)
         .flexible(true)
-        .from_reader(alloc, counted);
+        .from_reader(alloc, whole);
     let mut row = ByteRecord::new(alloc);
     let done = answer_all(&mut records, &mut row, register, sink);
     finish(sink, done)
@@ -187,7 +187,7 @@ fn refuse_start<S: Sink>(sink: &mut S, why: Refusal) -> Result<(), Fault>
 /// where the sink fails.
 ///
 /// Every answer is flushed before a read that may wait: the sink is flushed after each record behind which the reader has
-/// given no whole line so far, and at the end, but after `Field` and `Write`.
+/// given no whole one so far, and at the end, but after `Field` and `Write`.
 pub fn run_alone<R: Read + Drop, S: Sink>(
     alloc: Global,
     reader: R,

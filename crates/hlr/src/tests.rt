@@ -181,8 +181,8 @@ views,3
 /// Where the answer to each record of the script ends.
 const ENDS: [usize; 9] = [0, 3, 34, 43, 74, 158, 176, 179, 223];
 
-/// Texts with their answers, and how often the sink is flushed where the text comes in one piece, behind the first three
-/// bytes that may be a byte order mark: once for the piece and once at the end, where there is no quote in it.
+/// Texts with their answers, and how often the sink is flushed where the text comes in one piece: at the end of the
+/// piece, and where the reader has to read on to know that a record ends.
 const TEXTS: [(&[u8], &[u8], u32); 13] = [
     (b"", b"", 1),
     (b"views\nviews\n", b"views,0\nviews,0\n", 2),
@@ -200,22 +200,22 @@ const TEXTS: [(&[u8], &[u8], u32); 13] = [
         3,
     ),
     (b"\xef\xbb\xbfviews\nviews\n", b"views,0\nviews,0\n", 2),
-    (b"\xef\xbb\xbf\"views\"\nviews\n", b"views,0\nviews,0\n", 3),
+    (b"\xef\xbb\xbf\"views\"\nviews\n", b"views,0\nviews,0\n", 2),
     (b"\xef\"\nviews\n", b"refused,19,Syntax\nviews,0\n", 2),
     (
         b"views\n\"a\n\"\"b,\n\"\nviews\n",
         b"views,0\nrefused,19,Syntax\nviews,0\n",
-        4,
+        2,
     ),
     (
         b"views\nx\"\nviews\n\"views\n",
         b"views,0\nrefused,19,Syntax\nviews,0\nrefused,19,Syntax\n",
-        5,
+        3,
     ),
     (
         b"views,\"\"\n\"\"\n",
         b"refused,19,Syntax\nrefused,19,Syntax\n",
-        3,
+        2,
     ),
 ];
 

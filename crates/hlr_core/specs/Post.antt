@@ -5,7 +5,7 @@ use Rattle.std.specs.List.{filter, range_with_len}
 use Rattle.tatp_rows.specs.declared.refusal.Refusal.{Refusal}
 use Rattle.tatp_rows.specs.declared.refusal.Refusal.TheVariants as refusal
 use Rattle.tatp_actions.specs.declared.cells.TheConstants.{CELLS}
-use Rattle.hlr_core.specs.declared.board.TheConstants.{LIMIT}
+use Rattle.hlr_core.specs.declared.board.TheConstants.{LIMIT, SLOTS}
 use Rattle.hlr_core.specs.Words.{net, raised, raised_word}
 
 -- the cells, ascending
@@ -14,7 +14,7 @@ all_cells = range_with_len 0 CELLS
 
 -- the least of a part's slots
 abbrev pub least : List ℕ → ℕ
-least [] = 16
+least [] = SLOTS
 least (slot ∷ slots) = min slot (least slots)
 
 -- an amount is 0

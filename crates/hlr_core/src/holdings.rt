@@ -88,7 +88,7 @@ impl Holdings {
     pub fn published(&self) -> [i64; CELLS as usize]
         ensures { (c : ℕ) → c < CELLS → slice_index_or result c (pos 0) ≡ published self.now c }
     {
-        let mut cells = [0; 51];
+        let mut cells = [0; CELLS as usize];
         for cell in 0..CELLS {
             cells[usize::from(cell)] = self.board.net(SLOT, cell);
         }

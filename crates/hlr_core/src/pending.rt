@@ -28,7 +28,9 @@ impl Pending {
     pub fn zero() -> Self
         ensures { result ≡ replicate CELLS (pos 0) }
     {
-        Pending { deltas: [0; 51] }
+        Pending {
+            deltas: [0; CELLS as usize],
+        }
     }
 
     /// The delta of a cell.

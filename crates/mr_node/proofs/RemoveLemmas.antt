@@ -4,7 +4,7 @@ use Rattle.std.specs.List.{AllByRecursion}
 use Rattle.std.proofs.lemmas.List.{get_or-set_same, take-set, drop-set-lt}
 use Rattle.tatp_rows.specs.Ordered.{IsOrderedBy, row_at, without_row}
 use Rattle.tatp_rows.proofs.AppendLemmas.{each-append}
-use Rattle.tatp_rows.proofs.OrderedLemmas.{each-weaker, each-without_row, ordered-without_row}
+use Rattle.tatp_rows.proofs.OrderedLemmas.{by_test, each-weaker, each-without_row, ordered-without_row}
 use Rattle.tatp_rows.proofs.SpanLemmas.{without_row-part}
 use Rattle.mr_node.specs.Rows.{Seen, key_of_pair, key_limit, value_at, somes, KeysBelow, StartsWith}
 use Rattle.mr_node.specs.Levels.{NodeKid, NodeBranch, rows_of, IsWell, IsKid, IsBranch, seen_branch}
@@ -14,19 +14,12 @@ use Rattle.mr_node.proofs.KidLemmas.{IsCutAt, rows_written}
 use Rattle.mr_node.proofs.SizeLemmas.{branch_well}
 use Rattle.mr_node.proofs.NodeLemmas.{branch_with}
 
--- a fact of a test, by its two answers
-by_test : (b : Bool) (P : Bool → Type 0) → P true → P false → P b
-by_test true P t f = t
-by_test false P t f = f
-
 module _ {V : Type 0} where
   -- a removal takes out one row, or none where the key isn't there
   count_without : (key : ℕ) (rows : List (ℕ × V)) → length (without_row key_of_pair key rows) + cond (is_some (value_at key rows)) 1 0 ≡ length rows
   count_without key [] = omega arith
   count_without key (p ∷ rows) =
-      by_test (eqb p.0 key) (λ b. length (cond b rows (p ∷ without_row key_of_pair key rows)) + cond (is_some (option_map (λ q. q.1) (cond b (Some p) (row_at key_of_pair key rows)))) 1 0 ≡ suc (length rows))
-      (omega arith)
-      (omega (arith, count_without key rows))
+      by_test (eqb p.0 key) (λ t. rw t (omega arith)) (λ t. rw t (omega (arith, count_without key rows)))
 
   pub count_gone : (key m n : ℕ) (b : Bool) (rows new : List (ℕ × V)) → new ≡ without_row key_of_pair key rows → m ≡ length rows → b ≡ is_some (value_at key rows) → n ≡ m - cond b 1 0 → n ≡ length new
   count_gone key m n b rows new e em eb en = omega (arith, count_without key rows, ap length e, em, ap {B = ℕ} (λ x. cond x 1 0) eb, en)

@@ -1,5 +1,5 @@
 //! Nodes that are joined, evened out or halved.
-ghost use Rattle.std.specs.Prelude.{◌≡◌, ◌+◌, ◌<◌, ◌≤◌, ℕ, ◌++◌};
+ghost use Rattle.std.specs.Prelude.{◌≡◌, ◌+◌, ◌<◌, ◌≤◌, ℕ, ◌++◌, is_some, if◌then◌else◌};
 ghost use Rattle.tatp_rows.specs.Ordered.{IsOrderedBy};
 ghost use Rattle.mr_node.specs.Rows.{key_of_pair, somes, IsPacked};
 ghost use Rattle.mr_node.specs.Levels.{IsBranch, IsKid, rows_of, seen_branch};
@@ -56,8 +56,7 @@ fn even_branches<V: Drop>(
     requires left_some { 15 ≤ left.len }
     requires right_some { 15 ≤ right.len }
     ensures nodes { IsEvened (seen_branch left) (seen_branch right) result.0.value result.1 }
-    ensures no_fewer { after_steps 1 meter.old ≤ meter.new }
-    ensures steps { meter.new ≤ meter.old + 2 }
+    ensures steps { meter.new ≡ after_steps (if is_some result.1 then 2 else 1) meter.old }
 {
     if even_kids(&mut left, &mut right) {
         return (build_inner(left, left_box, meter), None);
@@ -80,8 +79,7 @@ fn even_inner<V: Drop>(
     requires left_some { 15 ≤ left.value.width }
     requires right_some { 15 ≤ right.value.width }
     ensures nodes { IsEvened left.value right.value result.0.value result.1 }
-    ensures no_fewer { after_steps 3 meter.old ≤ meter.new }
-    ensures steps { meter.new ≤ meter.old + 4 }
+    ensures steps { meter.new ≡ after_steps (if is_some result.1 then 4 else 3) meter.old }
 {
     let (left, left_box) = open(left, meter);
     let (right, right_box) = open(right, meter);
@@ -106,6 +104,8 @@ pub(crate) fn even<V: Drop>(
     requires left_some { 15 ≤ left.value.width }
     requires right_some { 15 ≤ right.value.width }
     ensures nodes { IsEvened left.value right.value result.0.value result.1 }
+    ensures leaves { left.value.height ≡ 0 → meter.new ≡ after_steps 4 meter.old }
+    ensures inner { 0 < left.value.height → meter.new ≡ after_steps (if is_some result.1 then 4 else 3) meter.old }
     ensures no_fewer { after_steps 3 meter.old ≤ meter.new }
     ensures steps { meter.new ≤ meter.old + 4 }
 {

@@ -70,7 +70,7 @@ fn fall(rt: &impl Abort, tree: &mut SubTree<u64>) {
     assert_eq!(rt; (tree.len(), tree.height()), (0, 0));
 }
 
-// To be run with each allocation refused in turn (`rt try --test --fail-alloc N`).
+// Also run with each allocation refused in turn (`refuse_memory.sh`).
 #[test]
 fn memory_refused(rt: HostRuntime) -> Result<(), Fail> {
     let mut tree = SubTree::new(rt.alloc())?;

@@ -7,9 +7,6 @@ use std::marker::Model;
 /// rows by 32 zones.
 pub const CELLS: u8 = 51;
 
-/// The same, as a length.
-const COUNTS: usize = CELLS as usize;
-
 /// The cell of area 0; area a has cell `FIRST_AREA + a`.
 pub const FIRST_AREA: u8 = 3;
 
@@ -19,7 +16,7 @@ pub const FIRST_ZONE: u8 = 19;
 /// A count for each cell.
 #[derive(Clone, Copy, Debug, PartialEq, Eq)]
 pub struct Cells {
-    counts: [u64; COUNTS],
+    counts: [u64; CELLS as usize],
 }
 
 impl Model for Cells {
@@ -41,7 +38,7 @@ impl Cells {
         ensures { result ≡ replicate CELLS 0 }
     {
         Cells {
-            counts: [0; COUNTS],
+            counts: [0; CELLS as usize],
         }
     }
 

@@ -23,7 +23,7 @@ pub struct Part<R: Rows = Trees> {
     lo: u32,
     hi: u32,
     pub(crate) width: u32,
-    // What takes memory for the part as a whole takes it from here.
+    // Kept for the calls that cut and join parts; no call of today asks it.
     alloc: Global,
 }
 

@@ -148,7 +148,7 @@ fn actions(rt: HostRuntime) -> Result<(), Fail> {
     Ok(())
 }
 
-// With each allocation refused in turn (`rt try --test --fail-alloc N`): 32 rows fit the root, and more want nodes.
+/// Asserts that a hundred subscribers are added, of which 32 fit the root of their tree, and more want nodes.
 fn expect_hundred(rt: &impl Abort, part: &mut Part) -> Result<(), Fail>
     requires { (part.old.lo ≡ 1) × (part.old.hi ≡ 101) }
 {
@@ -161,6 +161,7 @@ fn expect_hundred(rt: &impl Abort, part: &mut Part) -> Result<(), Fail>
     Ok(())
 }
 
+// Also run with each allocation refused in turn (`refuse_memory.sh`).
 #[test]
 fn refused_nodes(rt: HostRuntime) -> Result<(), Fail> {
     let mut part = Part::new(rt.alloc(), 1, 101, 10)?;

@@ -1,6 +1,6 @@
 use Rattle.std.proofs.Common.{◌≡◌, ◌∙◌, true, false, inl, rules, arith}
 use Rattle.std.specs.Result.{is_err}
-use Rattle.hlr.specs.Counted.{counted_remaining}
+use Rattle.hlr.specs.WholeRecords.{inner_remaining}
 use Rattle.hlr.proofs.RunFacts.{if_some, if_known, on_err_is, on_ok_is, started, goes_on, ends, breaks, stops}
 use Rattle.hlr.proofs.run.answer_all.Goals as goal
 
@@ -17,7 +17,7 @@ pub returns-in-Ok-false-clause-text : goal.returns-in-Ok-false-clause-text
 returns-in-Ok-false-clause-text g c =
     let inv = c.loop-count.invariant in
     if_some _ _ _ (λ bytes so.
-    ends (counted_remaining g.R.Read.remaining) _ bytes c.loop-count.reader c.read_byte_record.new.self _ _ _ _ _ so inv.config _ c.in-Ok-false.field-0-test
+    ends (inner_remaining g.R.Read.remaining) _ bytes c.loop-count.reader c.read_byte_record.new.self _ _ _ _ _ so inv.config _ c.in-Ok-false.field-0-test
     (c.in-Ok-false.ensures.reads inv.trims inv.ready) (omega arith)) inv.so_far
 
 pub returns-then-is_err-clause-text : goal.returns-then-is_err-clause-text
@@ -25,7 +25,7 @@ returns-then-is_err-clause-text g c =
     let inv = c.loop-count.invariant in
     let failed : is_err c.answer_in_time.result ≡ true = search rules in
     if_some _ _ _ (λ bytes so.
-    breaks (counted_remaining g.R.Read.remaining) _ bytes c.loop-count.reader c.read_byte_record.new.self _ _ _ _ _ _ _ so inv.config _ c.in-Ok-true.field-0-test
+    breaks (inner_remaining g.R.Read.remaining) _ bytes c.loop-count.reader c.read_byte_record.new.self _ _ _ _ _ _ _ so inv.config _ c.in-Ok-true.field-0-test
     (c.in-Ok-true.ensures.reads inv.trims inv.ready) (on_err_is c.answer_in_time.result failed c.answer_in_time.ensures.err) (omega arith)) inv.so_far
 
 pub returns-in-Err-clause-text : goal.returns-in-Err-clause-text
@@ -46,6 +46,6 @@ loop-count-preserved g c =
       config = read.2 ∙ inv.config;
       few = omega arith;
       so_far = if_some _ _ _ (λ bytes so.
-          goes_on (counted_remaining g.R.Read.remaining) _ bytes c.loop-count.reader c.read_byte_record.new.self _ _ _ _ _ _ _ so inv.config _ c.in-Ok-true.field-0-test
+          goes_on (inner_remaining g.R.Read.remaining) _ bytes c.loop-count.reader c.read_byte_record.new.self _ _ _ _ _ _ _ so inv.config _ c.in-Ok-true.field-0-test
           (c.in-Ok-true.ensures.reads inv.trims inv.ready) (on_ok_is c.answer_in_time.result passed c.answer_in_time.ensures.ok)) inv.so_far;
     }

@@ -1,0 +1,7 @@
+-- What is said of a reader that knows how far it has handed on whole records.
+use Rattle.std.specs.Prelude.{ℕ, List, Option}
+use Rattle.hlr.specs.declared.whole_records.WholeRecords.{WholeRecords}
+
+-- the bytes that it has left are those of the reader underneath
+abbrev pub inner_remaining : {R : Type 0} → (R → Option (List ℕ)) → WholeRecords R → Option (List ℕ)
+inner_remaining rem s = rem s.reader
