@@ -168,3 +168,9 @@ module _ {X : Type 0} (test : X → Bool) where
   pub find-right : (a b : List X) → find test a ≡ None → find test (a ++ b) ≡ find test b
   find-right [] b h = refl
   find-right (y ∷ a) b h = by_test (test y) (λ t. let found : Some y ≡ None = rw t at h in absurd cc) (λ t. rw t (find-right a b (rw t at h)))
+
+  -- what holds of each element holds of the first that passes
+  pub each-first : (P : X → Type 0) (xs : List X) (x : X) → AllByRecursion P xs → find test xs ≡ Some x → P x
+  each-first P [] x all h = let wrong : ⊥ = cc in absurd wrong
+  each-first P (y ∷ xs) x all h =
+      by_test (test y) (λ t. let found : Some y ≡ Some x = rw t at h in let same : y ≡ x = cc in subst P same all.0) (λ t. each-first P xs x all.1 (rw t at h))

@@ -1,0 +1,114 @@
+//! The index of numbers, over a sub-tree from number to subscriber.
+ghost use Rattle.std.specs.Prelude.{◌≡◌, ◌<◌, ◌≤◌, ℕ, [], length, nat_le, option_map, IfOk, IfErr, Err};
+ghost use Rattle.std.specs.List.{find};
+ghost use Rattle.tatp_rows.specs.Ordered.{without_row};
+ghost use Rattle.tatp_rows.specs.Number.{IsNumber};
+ghost use Rattle.mr_node.specs.Rows.{key_of_pair};
+ghost use Rattle.number_index.specs.Pairs.{owner_in, IsAdded, IsRenamed};
+
+use mr_subtree::SubTree;
+use std::alloc::Global;
+use std::marker::Model;
+use tatp_rows::{Number, Refusal};
+
+/// Which subscriber has a number, seen as the list of pairs (number, s_id), whose numbers rise.
+#[derive(Drop)]
+pub struct NumberIndex {
+    tree: SubTree<u32>,
+}
+
+impl Model for NumberIndex {
+    ghost use Rattle.std.specs.Prelude.{ℕ, List};
+    ghost use Rattle.std.specs.List.{AllByRecursion};
+    ghost use Rattle.tatp_rows.specs.Number.{IsNumber};
+
+    ghost Value = { List (ℕ × ℕ) };
+
+    ghost view = { λ index. index.tree.rows };
+
+    ghost invariant = { λ index. AllByRecursion (λ pair. IsNumber pair.0) index.tree.rows };
+}
+
+impl NumberIndex {
+    /// An index without a pair. Its tree takes no memory, so this is always `Ok`.
+    pub fn new(alloc: Global) -> Result<Self, Refusal>
+        ensures index { IfOk result (λ index. index ≡ []) }
+        ensures ok { IfErr result (λ _. ⊥) }
+    {
+        let tree = SubTree::new(alloc)?;
+        Ok(NumberIndex { tree })
+    }
+
+    /// The subscriber who has a number, or `None`.
+    pub fn find(&self, number: Number) -> Option<u32>
+        ensures { result ≡ owner_in number self.now }
+    {
+        self.tree.get(number.value()).copied()
+    }
+
+    /// The number of pairs.
+    pub fn len(&self) -> u64
+        ensures { result ≡ length self.now }
+    {
+        self.tree.len()
+    }
+
+    /// The first pair from a number on, or `None`.
+    pub fn first_from(&self, number: u64) -> Option<(Number, u32)>
+        ensures { result ≡ find (λ pair. nat_le number pair.0) self.now }
+    {
+        let (value, s_id) = self.tree.first_from(number)?;
+        Some((number_of(value), *s_id))
+    }
+
+    /// Adds a pair. `NumberTaken` where a subscriber has the number, `Memory` where the index can't grow: then it is as
+    /// before.
+    pub fn add(&mut self, number: Number, s_id: u32) -> Result<(), Refusal>
+        ensures added { IsAdded number s_id self.old self.new result }
+        ensures memory { IfErr result (λ why. why ≡ Refusal.Memory → 32 ≤ length self.old) }
+    {
+        let Err(back) = self.tree.insert(number.value(), s_id) else {
+            return Ok(());
+        };
+        match back.why {
+            Refusal::Exists => Err(Refusal::NumberTaken),
+            _ => Err(Refusal::Memory),
+        }
+    }
+
+    /// Takes a number out, and gives the subscriber who had it. It takes no memory.
+    pub fn remove(&mut self, number: Number) -> Option<u32>
+        ensures pairs { self.new ≡ without_row key_of_pair number self.old }
+        ensures owner { result ≡ owner_in number self.old }
+    {
+        self.tree.remove(number.value())
+    }
+
+    /// Gives the subscriber who has a number another one; nothing changes where the two are equal. `NoNumber` where no
+    /// subscriber has the number, `NumberTaken` where one has the other, `Memory` where the index can't grow: then it is
+    /// as before, for the new pair goes in before the old one goes.
+    pub fn rename(&mut self, from: Number, to: Number) -> Result<(), Refusal>
+        ensures { IsRenamed from to self.old self.new result (owner_in from self.old) }
+    {
+        let Some(s_id) = self.find(from) else {
+            return Err(Refusal::NoNumber);
+        };
+        if from == to {
+            return Ok(());
+        }
+        self.add(to, s_id)?;
+        self.remove(from);
+        Ok(())
+    }
+}
+
+// The number of this value.
+fn number_of(value: u64) -> Number
+    requires { IsNumber value }
+    ensures { result ≡ value }
+{
+    match Number::try_new(value) {
+        Ok(number) => number,
+        Err(_) => unreachable!(),
+    }
+}
