@@ -1,0 +1,127 @@
+//! What an owner has not posted yet: a delta for each cell.
+ghost use Rattle.std.specs.Prelude.{◌≡◌, ℕ, ◌<◌, ◌≤◌, ◌↔◌, List, length, IsTrue, ℤ, pos, ◌+ℤ◌, ◌-ℤ◌, slice_index, slice_set, replicate};
+ghost use Rattle.std.specs.Int.RustNames.{FitsSigned};
+ghost use mir.Syntax.{w64};
+ghost use Rattle.tatp_actions.specs.Change.{change_at};
+ghost use Rattle.tatp_actions.specs.declared.cells.TheConstants.{CELLS};
+ghost use Rattle.view_delta.specs.Pending.{pending_at, NotesFit, SumsFit, DifferencesFit, AreZero, IsNextNonzero};
+
+use std::marker::Model;
+use tatp_actions::{CELLS, Cells, Change};
+
+/// A delta for each cell, seen as their list.
+#[derive(Clone, Copy, Debug, PartialEq, Eq)]
+pub struct Pending {
+    deltas: [i64; CELLS as usize],
+}
+
+impl Model for Pending {
+    ghost Value = { List ℤ };
+
+    ghost view = { λ p. p.deltas };
+
+    ghost invariant = { λ p. length p.deltas ≡ CELLS };
+
+    ghost inverse = { λ zs. record { deltas = zs } };
+}
+
+impl Pending {
+    /// A delta of 0 for each cell.
+    pub fn zero() -> Self
+        ensures { result ≡ replicate CELLS (pos 0) }
+    {
+        Pending {
+            deltas: [0; CELLS as usize],
+        }
+    }
+
+    /// The delta of a cell.
+    pub fn get(&self, cell: u8) -> i64
+        requires { cell < CELLS }
+        ensures { result ≡ pending_at self.now cell }
+    {
+        self.deltas[usize::from(cell)]
+    }
+
+    /// The deltas of all cells.
+    pub fn deltas(&self) -> [i64; CELLS as usize]
+        ensures { result ≡ self.now }
+    {
+        self.deltas
+    }
+
+    /// Sets the delta of a cell to 0.
+    pub fn clear(&mut self, cell: u8)
+        requires { cell < CELLS }
+        ensures { self.new ≡ slice_set self.old cell (pos 0) }
+    {
+        self.deltas[usize::from(cell)] = 0;
+    }
+
+    /// Whether each delta is 0.
+    pub fn is_zero(&self) -> bool
+        ensures { IsTrue result ↔ AreZero 0 CELLS self.now }
+    {
+        self.next_nonzero(0).is_none()
+    }
+
+    /// The first cell from this one on whose delta isn't 0, or `None`.
+    pub fn next_nonzero(&self, from: u8) -> Option<u8>
+        ensures { IsNextNonzero from self.now result }
+    {
+        for cell in from..CELLS {
+            if self.deltas[usize::from(cell)] != 0 {
+                return Some(cell);
+            }
+        }
+        None
+    }
+
+    /// Moves each cell's delta as a change says.
+    pub fn note(&mut self, change: &Change)
+        requires { NotesFit self.old change.now }
+        ensures { (c : ℕ) → c < CELLS → pending_at self.new c ≡ pending_at self.old c +ℤ change_at change.now c }
+    {
+        for (cell, amount) in change.notes() {
+            self.deltas[usize::from(*cell)] += *amount;
+        }
+    }
+
+    /// Raises each cell's delta by its count.
+    pub fn add(&mut self, counts: &Cells)
+        requires { SumsFit self.old counts.now }
+        ensures { (c : ℕ) → c < CELLS → pending_at self.new c ≡ pending_at self.old c +ℤ pos (slice_index counts.now c) }
+    {
+        for cell in 0..CELLS {
+            let delta = self.deltas[usize::from(cell)];
+            self.deltas[usize::from(cell)] = sum(delta, counts.get(cell));
+        }
+    }
+
+    /// Lowers each cell's delta by its count.
+    pub fn subtract(&mut self, counts: &Cells)
+        requires { DifferencesFit self.old counts.now }
+        ensures { (c : ℕ) → c < CELLS → pending_at self.new c ≡ pending_at self.old c -ℤ pos (slice_index counts.now c) }
+    {
+        for cell in 0..CELLS {
+            let delta = self.deltas[usize::from(cell)];
+            self.deltas[usize::from(cell)] = difference(delta, counts.get(cell));
+        }
+    }
+}
+
+// A delta and a count.
+fn sum(delta: i64, count: u64) -> i64
+    requires { FitsSigned w64 (delta +ℤ pos count) }
+    ensures { result ≡ delta +ℤ pos count }
+{
+    (i128::from(delta) + i128::from(count)) as i64
+}
+
+// A delta less a count.
+fn difference(delta: i64, count: u64) -> i64
+    requires { FitsSigned w64 (delta -ℤ pos count) }
+    ensures { result ≡ delta -ℤ pos count }
+{
+    (i128::from(delta) - i128::from(count)) as i64
+}
