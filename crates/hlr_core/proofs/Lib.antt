@@ -3,9 +3,9 @@ pub mod ChangeFacts
 pub mod NumbersLemmas
 pub mod PostLemmas
 pub mod RunLemmas
-pub mod WalkLemmas
 pub mod WordsLemmas
 pub mod HeldLemmas
 pub mod StoreLemmas
-pub mod OwnerLemmas
+pub mod FirstLemmas
+pub mod IndexLemmas
 pub mod RegisterLemmas

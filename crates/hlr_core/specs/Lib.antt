@@ -1,5 +1,6 @@
 pub mod Board
 pub mod Held
+pub mod Index
 pub mod Numbers
 pub mod Post
 pub mod Step

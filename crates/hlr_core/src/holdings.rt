@@ -1,10 +1,8 @@
 //! All owners' holdings, and the board that they post to.
-ghost use Rattle.std.specs.Prelude.{◌≡◌, ◌+◌, ℕ, ◌<◌, ◌≤◌, [], ◌∷◌, IfOk, IfSome, OnErr, option_map, is_some, slice_index_or, ℤ, pos};
-ghost use Rattle.tatp_rows.specs.Rows.{SubscriberRow};
+ghost use Rattle.std.specs.Prelude.{◌≡◌, ◌+◌, ℕ, ◌<◌, ◌≤◌, [], ◌∷◌, IfOk, OnErr, is_some, slice_index_or, ℤ, pos};
 ghost use Rattle.tatp_actions.specs.Action.{s_id_of, IsOutcome};
-ghost use Rattle.tatp_actions.specs.Book.{IsWithin, subscriber_at};
+ghost use Rattle.tatp_actions.specs.Book.{IsWithin, IsRowsOf, subscriber_at};
 ghost use Rattle.tatp_actions.specs.Part.{IsWidth};
-ghost use Rattle.hlr_core.specs.Numbers.{owner_of};
 ghost use Rattle.hlr_core.specs.Step.{IsPostStep, posted_reply};
 ghost use Rattle.hlr_core.specs.Store.{Store, opening, published, unposted, slots_of};
 
@@ -14,7 +12,7 @@ use crate::holding::Holding;
 use std::alloc::Global;
 use std::marker::Model;
 use tatp_actions::{Action, CELLS, RowReply};
-use tatp_rows::{LAST_SUBSCRIBER, Number, Refusal};
+use tatp_rows::{LAST_SUBSCRIBER, Refusal};
 
 /// The slot of the one part that there is until regions come.
 const SLOT: u8 = 0;
@@ -69,6 +67,7 @@ impl Holdings {
         requires { IsWithin 1 (LAST_SUBSCRIBER + 1) (s_id_of action) }
         ensures outcome { IsOutcome action self.old.book result self.new.book }
         ensures same { self.new ≡ record self.old { book = self.new.book } }
+        ensures rows { IsRowsOf 1 (LAST_SUBSCRIBER + 1) self.new.book }
     {
         self.holding.act(action)
     }
@@ -100,21 +99,6 @@ impl Holdings {
         ensures { (c : ℕ) → c < CELLS → slice_index_or result c (pos 0) ≡ unposted self.now c }
     {
         self.holding.deltas()
-    }
-
-    /// The subscriber who has a number, found by going through the Subscriber rows.
-    pub fn find(&self, number: Number) -> Option<u32>
-        ensures owner { result ≡ option_map (λ (row : SubscriberRow). row.s_id) (owner_of self.now.book.subscribers number) }
-        ensures within { IfSome result (λ s_id. IsWithin 1 (LAST_SUBSCRIBER + 1) s_id) }
-    {
-        let mut next = 1u64;
-        while let Some(row) = self.holding.first_sub_from(next) {
-            if row.sub_nbr() == number {
-                return Some(row.s_id());
-            }
-            next = u64::from(row.s_id()) + 1;
-        }
-        None
     }
 
     /// Tells whether a subscriber has a row.

@@ -2,12 +2,13 @@
 ghost use Rattle.std.specs.Prelude.{◌≡◌, ℕ, [], vec_len, vec_capacity, ◌<◌, ◌≤◌, ◌↔◌, ◌⊎◌, IfOk, OnErr, slice_index_or, option_map, ℤ, pos, ◌+ℤ◌};
 ghost use Rattle.tatp_actions.specs.Action.{s_id_of};
 ghost use Rattle.tatp_actions.specs.Cell.{cell};
-ghost use Rattle.hlr_core.specs.Numbers.{HasNoTwin};
+ghost use Rattle.hlr_core.specs.Index.{index_of};
 ghost use Rattle.hlr_core.specs.Step.{IsStep, IsRun, reply_of};
 ghost use Rattle.hlr_core.specs.Store.{Store, HasOpening, opening, published, unposted};
 
 use crate::event::{Event, Reply};
 use crate::holdings::Holdings;
+use number_index::NumberIndex;
 use std::alloc::Global;
 use std::marker::Model;
 use tatp_actions::{Action, CELLS, RowReply};
@@ -21,18 +22,19 @@ use tatp_rows::{GREATEST_WIDTH, LAST_SUBSCRIBER, Number, Refusal, Subscriber, in
 #[derive(Drop)]
 pub struct Register {
     holdings: Holdings,
+    index: NumberIndex,
     alloc: Global,
 }
 
 impl Model for Register {
     ghost use Rattle.hlr_core.specs.Store.{Store};
-    ghost use Rattle.hlr_core.specs.Numbers.{HasNoTwin};
+    ghost use Rattle.hlr_core.specs.Index.{IsRegister};
 
     ghost Value = { Store };
 
     ghost view = { λ r. r.holdings };
 
-    ghost invariant = { λ r. HasNoTwin r.holdings.book.subscribers };
+    ghost invariant = { λ r. IsRegister r.holdings.book r.index };
 }
 
 fn reply_from(answer: RowReply) -> Reply
@@ -57,7 +59,12 @@ impl Register {
             return Err(Refusal::Field);
         }
         let holdings = Holdings::open(alloc, width)?;
-        Ok(Register { holdings, alloc })
+        let index = NumberIndex::new(alloc)?;
+        Ok(Register {
+            holdings,
+            index,
+            alloc,
+        })
     }
 
     /// Applies an event, and replies to it.
@@ -107,6 +114,13 @@ impl Register {
         self.holdings.unposted()
     }
 
+    /// The index of numbers: for each Subscriber row the pair of its number and its s_id.
+    pub fn index(&self) -> &NumberIndex
+        ensures { result.now ≡ index_of self.now.book.subscribers }
+    {
+        &self.index
+    }
+
     fn subscriber_data(&mut self, s_id: u64) -> Reply
         ensures { IsStep (Event.SubscriberData s_id) self.old result self.new }
     {
@@ -122,7 +136,7 @@ impl Register {
         let Ok(vlr_location) = in_range(vlr_location, u32::MAX) else {
             return Reply::Refused(Refusal::Field);
         };
-        let Some(s_id) = self.holdings.find(sub_nbr) else {
+        let Some(s_id) = self.index.find(sub_nbr) else {
             return Reply::Refused(Refusal::NoNumber);
         };
         reply_from(
@@ -137,10 +151,17 @@ impl Register {
         if self.holdings.has(row.s_id()) {
             return Reply::Refused(Refusal::Exists);
         }
-        if self.holdings.find(row.sub_nbr()).is_some() {
-            return Reply::Refused(Refusal::NumberTaken);
+        let number = row.sub_nbr();
+        if let Err(why) = self.index.add(number, row.s_id()) {
+            return Reply::Refused(why);
         }
-        reply_from(self.holdings.act(Action::AddSubscriber(row)))
+        match self.holdings.act(Action::AddSubscriber(row)) {
+            RowReply::Done => Reply::Rows(RowReply::Done),
+            refused => {
+                self.index.remove(number);
+                reply_from(refused)
+            }
+        }
     }
 
     fn post(&mut self, part: u64, limit: u64) -> Reply

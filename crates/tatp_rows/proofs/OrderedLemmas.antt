@@ -170,6 +170,14 @@ module _ {X : Type 0} (key : X → ℕ) where
   with_row_at_twice k y z (x ∷ xs) at = grind (arith, nat_tests, with_row_at_twice k y z xs)
 
   -- a new element, taken out again
+  -- two elements of different keys go in in either order
+  pub with_row-either : (y z : X) (xs : List X) → key y ≢ key z → with_row key y (with_row key z xs) ≡ with_row key z (with_row key y xs)
+  with_row-either y z [] other =
+      by_test (nat_lt (key y) (key z))
+      (λ e. let f : nat_lt (key z) (key y) ≡ false = grind (arith, nat_tests) in rw (e, f) refl)
+      (λ e. let f : nat_lt (key z) (key y) ≡ true = grind (arith, nat_tests) in rw (e, f) refl)
+  with_row-either y z (x ∷ xs) other = ?
+
   pub without_row-with_row : (k : ℕ) (y : X) (xs : List X) → key y ≡ k → row_at key k xs ≡ None → without_row key k (with_row key y xs) ≡ xs
   without_row-with_row k y [] at absent = grind (arith, nat_tests)
   without_row-with_row k y (x ∷ xs) at absent = grind (arith, nat_tests, without_row-with_row k y xs)

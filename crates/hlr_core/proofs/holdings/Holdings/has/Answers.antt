@@ -1,5 +1,5 @@
 use Rattle.std.proofs.Common.{ap, ◌==◌, ℕ}
-use Rattle.hlr_core.proofs.OwnerLemmas.{has_row, has_no_row}
+use Rattle.hlr_core.proofs.FirstLemmas.{has_row, has_no_row}
 use Rattle.hlr_core.proofs.StoreLemmas.{all_rows}
 use Rattle.hlr_core.proofs.holdings.Holdings.has.Goals as goal
 

@@ -1,0 +1,96 @@
+-- What the rows' edits do to the index of numbers.
+use Rattle.std.proofs.Common.{◌≡◌, ◌≢◌, refl, sym, ap, subst, ◌∙◌, ℕ, ◌+◌, List, [], ◌∷◌, Some, None, arith, true, false}
+use Rattle.std.specs.Prelude.{◌==◌, nat_lt, Option, option_map, is_some}
+use Rattle.std.specs.List.{AllByRecursion}
+use Rattle.std.proofs.lemmas.Bool.Decides.{nat_tests}
+use Rattle.tatp_rows.proofs.OrderedLemmas.{by_test, row_at-with_row_same, row_at-with_row_other, with_row-either, absent_cons, each_found}
+use Rattle.tatp_rows.specs.Keys.{subscriber_key}
+use Rattle.tatp_rows.specs.Ordered.{row_at, with_row_at, with_row}
+use Rattle.tatp_rows.specs.Rows.{SubscriberRow}
+use Rattle.mr_node.specs.Rows.{key_of_pair}
+use Rattle.tatp_rows.specs.declared.ranges.TheConstants.{LAST_SUBSCRIBER}
+use Rattle.tatp_actions.specs.Book.{Book, IsWithin}
+use Rattle.number_index.specs.Pairs.{owner_in, pair_of}
+use Rattle.hlr_core.specs.Index.{number_pair, index_of, IsRegister}
+use Rattle.hlr_core.specs.Numbers.{owner_of, HasNoTwin}
+
+-- no row has the number where each has another
+pub no_owner : (rows : List SubscriberRow) (n : ℕ) → AllByRecursion (λ row. n ≢ row.sub_nbr) rows → owner_of rows n ≡ None
+no_owner [] n others = refl
+no_owner (row ∷ rows) n others =
+    let other : row.sub_nbr ≡ n → ⊥ = λ e. others.0 (sym e) in
+    let rest = no_owner rows n others.1 in
+    grind (arith, nat_tests)
+
+-- the pair of a number is that of its owner
+pub index_finds : (rows : List SubscriberRow) (n : ℕ) → HasNoTwin rows → row_at key_of_pair n (index_of rows) ≡ option_map number_pair (owner_of rows n)
+index_finds [] n single = refl
+index_finds (row ∷ rows) n single =
+    by_test (row.sub_nbr == n)
+    (λ e.
+    let same : row.sub_nbr ≡ n = grind (arith, nat_tests) in
+    let free : owner_of rows n ≡ None = rw same at (no_owner rows row.sub_nbr single.0) in
+    let absent : row_at key_of_pair n (index_of rows) ≡ None = index_finds rows n single.1 ∙ ap (option_map number_pair) free in
+    rw e (row_at-with_row_same key_of_pair n (number_pair row) (index_of rows) same absent))
+    (λ e.
+    let other : n ≢ row.sub_nbr = grind (arith, nat_tests) in
+    rw e (row_at-with_row_other key_of_pair n row.sub_nbr (number_pair row) (index_of rows) refl other ∙ index_finds rows n single.1))
+
+-- a row more, whose number no row has
+pub index-with_row : (row : SubscriberRow) (rows : List SubscriberRow) → owner_of rows row.sub_nbr ≡ None
+    → index_of (with_row subscriber_key row rows) ≡ with_row key_of_pair (number_pair row) (index_of rows)
+index-with_row row [] free = refl
+index-with_row row (x ∷ xs) free =
+    let rest = absent_cons (λ (r : SubscriberRow). r.sub_nbr) row.sub_nbr x xs free in
+    by_test (nat_lt (subscriber_key row) (subscriber_key x))
+    (λ e. rw e refl)
+    (λ e. rw (e, index-with_row row xs rest.1) (with_row-either key_of_pair (number_pair x) (number_pair row) (index_of xs) rest.0))
+
+-- a row replaced by one of the same number and subscriber
+pub index-with_row_at : (k : ℕ) (new old : SubscriberRow) (rows : List SubscriberRow) → row_at subscriber_key k rows ≡ Some old → number_pair new ≡ number_pair old
+    → index_of (with_row_at subscriber_key k new rows) ≡ index_of rows
+index-with_row_at k new old [] found same = refl
+index-with_row_at k new old (x ∷ xs) found same =
+    by_test (subscriber_key x == k)
+    (λ e.
+    let is : Some x ≡ Some old = rw e at found in
+    let at : x ≡ old = cc in
+    rw (e, same, at) refl)
+    (λ e.
+    let rest : row_at subscriber_key k xs ≡ Some old = rw e at found in
+    rw e (ap (with_row key_of_pair (number_pair x)) (index-with_row_at k new old xs rest same)))
+
+-- the subscriber who has a number in the index is the number's owner
+pub owner_indexed : (book : Book) (pairs : List (ℕ × ℕ)) (n : ℕ) → IsRegister book pairs → owner_in n pairs ≡ option_map (λ (row : SubscriberRow). row.s_id) (owner_of book.subscribers n)
+owner_indexed book pairs n register = rw (register.index, index_finds book.subscribers n register.alone) (cases (owner_of book.subscribers n))
+  where
+    cases : (o : Option SubscriberRow) → option_map (λ (pair : ℕ × ℕ). pair.1) (option_map number_pair o) ≡ option_map (λ (row : SubscriberRow). row.s_id) o
+    cases None = refl
+    cases (Some row) = refl
+
+-- the owner of a number is one of all subscribers
+pub owner_within : (book : Book) (pairs : List (ℕ × ℕ)) (n s : ℕ) → IsRegister book pairs → Some s ≡ owner_in n pairs → IsWithin 1 (LAST_SUBSCRIBER + 1) s
+owner_within book pairs n s register found = cases (owner_of book.subscribers n) refl
+  where
+    cases : (o : Option SubscriberRow) → owner_of book.subscribers n ≡ o → IsWithin 1 (LAST_SUBSCRIBER + 1) s
+    cases None e = let no : Some s ≡ None = found ∙ owner_indexed book pairs n register ∙ ap (option_map (λ (row : SubscriberRow). row.s_id)) e in absurd cc
+    cases (Some row) e =
+        let own : Some s ≡ Some row.s_id = found ∙ owner_indexed book pairs n register ∙ ap (option_map (λ (row : SubscriberRow). row.s_id)) e in
+        let same : row.s_id ≡ s = cc in
+        subst (λ (k : ℕ). IsWithin 1 (LAST_SUBSCRIBER + 1) k) same
+        (each_found (λ (r : SubscriberRow). r.sub_nbr) (λ (r : SubscriberRow). IsWithin 1 (LAST_SUBSCRIBER + 1) r.s_id) n book.subscribers row register.rows.subscribers e)
+
+-- a number that has no pair has no owner, and one that has a pair has one
+pub free_number : (book : Book) (pairs : List (ℕ × ℕ)) (n : ℕ) → IsRegister book pairs → pair_of n pairs ≡ None → owner_of book.subscribers n ≡ None
+free_number book pairs n register free = cases (owner_of book.subscribers n) (sym (index_finds book.subscribers n register.alone) ∙ rw register.index at free)
+  where
+    cases : (o : Option SubscriberRow) → option_map number_pair o ≡ None → o ≡ None
+    cases None e = refl
+    cases (Some row) e = absurd cc
+
+pub taken_number : (book : Book) (pairs : List (ℕ × ℕ)) (n : ℕ) (pair : ℕ × ℕ) → IsRegister book pairs → pair_of n pairs ≡ Some pair → is_some (owner_of book.subscribers n) ≡ true
+taken_number book pairs n pair register taken = cases (owner_of book.subscribers n) (sym (index_finds book.subscribers n register.alone) ∙ rw register.index at taken)
+  where
+    cases : (o : Option SubscriberRow) → option_map number_pair o ≡ Some pair → is_some o ≡ true
+    cases None e = absurd cc
+    cases (Some row) e = refl
