@@ -84,7 +84,7 @@ pub outcome_book : (act : Action) (before after : Book) (answer : RowReply) → 
 outcome_book act before after answer outcome =
     elim outcome [
       | inl field ↦ inl field.2
-      | inr in_range ↦ elim in_range [ | inl done ↦ inr done.1 | inr memory ↦ inl memory.4 ]
+      | inr in_range ↦ elim in_range [ inl done ↦ inr done.1 | inr memory ↦ inl memory.4 ]
     ]
 
 -- an index that stays beside a book
@@ -175,3 +175,20 @@ pub undone_registered : (row : SubscriberRow) (before after : Book) (answer : Ro
 undone_registered row before after answer pairs new last register unpaired grew shrunk same =
     let back : last ≡ pairs = shrunk ∙ ap (without_row key_of_pair row.sub_nbr) grew ∙ without_row-with_row key_of_pair row.sub_nbr (row.sub_nbr, row.s_id) pairs refl unpaired in
     rw (same, back) register
+
+-- a subscriber who isn't added leaves the book
+pub undone_same : (row : SubscriberRow) (before after : Book) (answer : RowReply) → is_some (subscriber_at before row.s_id) ≡ false → (answer ≡ row_reply.Done → ⊥)
+    → IsOutcome (action.AddSubscriber row) before answer after → after ≡ before
+undone_same row before after answer absent undone outcome =
+    elim (outcome_book (action.AddSubscriber row) before after answer outcome) [
+      | inl same ↦ same
+      | inr is ↦ cases (subscriber_at before row.s_id) refl is
+    ]
+  where
+    cases : (found : Option SubscriberRow) → subscriber_at before row.s_id ≡ found → (answer, after) ≡ add_subscriber before row (subscriber_at before row.s_id) → after ≡ before
+    cases None e is = let done : answer ≡ row_reply.Done = ap (λ (p : RowReply × Book). p.0) (rw e at is) in absurd (undone done)
+    cases (Some other) e is = let no : true ≡ false = rw e at absent in absurd cc
+
+-- a number without a pair is free to take
+pub free_to_take : (row : SubscriberRow) (book : Book) (pairs : List (ℕ × ℕ)) → IsRegister book pairs → pair_of row.sub_nbr pairs ≡ None → takes_number (action.AddSubscriber row) book ≡ false
+free_to_take row book pairs register unpaired = rw (free_number book pairs row.sub_nbr register unpaired) refl

@@ -176,7 +176,16 @@ module _ {X : Type 0} (key : X → ℕ) where
       by_test (nat_lt (key y) (key z))
       (λ e. let f : nat_lt (key z) (key y) ≡ false = grind (arith, nat_tests) in rw (e, f) refl)
       (λ e. let f : nat_lt (key z) (key y) ≡ true = grind (arith, nat_tests) in rw (e, f) refl)
-  with_row-either y z (x ∷ xs) other = ?
+  with_row-either y z (x ∷ xs) other =
+      by_test (nat_lt (key y) (key x))
+      (λ e. by_test (nat_lt (key z) (key x)) (λ f. both e f) (λ f. let g : nat_lt (key z) (key y) ≡ false = grind (arith, nat_tests) in rw (e, f, g, e) refl))
+      (λ e. by_test (nat_lt (key z) (key x)) (λ f. let g : nat_lt (key y) (key z) ≡ false = grind (arith, nat_tests) in rw (e, f, g, e) refl) (λ f. rw (e, f, e) (ap (λ l. x ∷ l) (with_row-either y z xs other))))
+    where
+      both : nat_lt (key y) (key x) ≡ true → nat_lt (key z) (key x) ≡ true → with_row key y (with_row key z (x ∷ xs)) ≡ with_row key z (with_row key y (x ∷ xs))
+      both e f =
+          by_test (nat_lt (key y) (key z))
+          (λ g. let h : nat_lt (key z) (key y) ≡ false = grind (arith, nat_tests) in rw (e, f, g, h) refl)
+          (λ g. let h : nat_lt (key z) (key y) ≡ true = grind (arith, nat_tests) in rw (e, f, g, h, e) refl)
 
   pub without_row-with_row : (k : ℕ) (y : X) (xs : List X) → key y ≡ k → row_at key k xs ≡ None → without_row key k (with_row key y xs) ≡ xs
   without_row-with_row k y [] at absent = grind (arith, nat_tests)

@@ -1,20 +1,35 @@
-use Rattle.std.proofs.Common.{sym, ◌∙◌}
+use Rattle.std.proofs.Common.{refl, sym, ◌∙◌}
 use Rattle.tatp_actions.specs.declared.action.Action.TheVariants as action
-use Rattle.hlr_core.proofs.NumbersLemmas.{no_twin_after}
-use Rattle.hlr_core.proofs.RegisterLemmas.{exists_step, taken_step, owner_some, acted_step}
+use Rattle.hlr_core.proofs.RegisterLemmas.{exists_step, refused_step, acted_step, added_registered, undone_registered, undone_same, free_to_take}
 use Rattle.hlr_core.proofs.register.Register.add_subscriber.Goals as goal
 
 pub returns-then-has : goal.returns-then-has
 returns-then-has c = rw (← c.self.view_is) (exists_step c.args.row _ (sym (rw c.s_id.ensures.value at c.if-has.ensures)))
 
-pub returns-then-is_some : goal.returns-then-is_some
-returns-then-is_some c = rw (← c.self.view_is) (taken_step c.args.row _ (sym (rw c.s_id.ensures.value at c.if-has.ensures))
-    (owner_some _ c.args.row.sub_nbr _ (rw c.sub_nbr.ensures at c.find.ensures.owner) ∙ sym c.if-is_some.ensures))
+pub returns-in-Err : goal.returns-in-Err
+returns-in-Err c =
+    let absent = sym (rw c.s_id.ensures.value at c.if-has.ensures) in
+    rw (← c.self.view_is) (refused_step c.args.row _ c.self.inside.index c.add.new.self _ c.self.invariant absent (rw c.sub_nbr-number.ensures at c.in-Err.ensures.added))
 
-pub invariant_of-self : goal.invariant_of-self
-invariant_of-self c = no_twin_after (action.AddSubscriber c.args.row) _ _ _ c.self.invariant
-    (owner_some _ c.args.row.sub_nbr _ (rw c.sub_nbr.ensures at c.find.ensures.owner) ∙ sym c.if-is_some.ensures) c.act.ensures.outcome
+pub invariant_of-self-in-Done : goal.invariant_of-self-in-Done
+invariant_of-self-in-Done c =
+    let absent = sym (rw c.s_id.ensures.value at c.if-has.ensures) in
+    let added = rw (c.sub_nbr-number.ensures, c.s_id-2.ensures.value) at c.in_default.ensures.added in
+    added_registered c.args.row _ _ _ _ c.self.invariant c.in-Done.ensures.rows absent added.0 added.1 c.in-Done.ensures.outcome
 
-pub returns : goal.returns
-returns c = rw (← c.self.view_is) (acted_step (action.AddSubscriber c.args.row) _ _ _ _ c.s_id.ensures.in_range
-    (owner_some _ c.args.row.sub_nbr _ (rw c.sub_nbr.ensures at c.find.ensures.owner) ∙ sym c.if-is_some.ensures) c.act.ensures.outcome c.act.ensures.same c.reply_from.ensures)
+pub invariant_of-self-in_default-act : goal.invariant_of-self-in_default-act
+invariant_of-self-in_default-act c =
+    let absent = sym (rw c.s_id.ensures.value at c.if-has.ensures) in
+    let added = rw (c.sub_nbr-number.ensures, c.s_id-2.ensures.value) at c.in_default.ensures.added in
+    let same = undone_same c.args.row _ _ _ absent c.in_default-act.not-Done c.act.ensures.outcome in
+    undone_registered c.args.row _ _ c.act.result _ _ _ c.self.invariant added.0 added.1 (rw c.sub_nbr-number.ensures at c.remove.ensures.pairs) same
+
+pub returns-in-Done : goal.returns-in-Done
+returns-in-Done c =
+    let added = rw (c.sub_nbr-number.ensures, c.s_id-2.ensures.value) at c.in_default.ensures.added in
+    rw (← c.self.view_is) (acted_step (action.AddSubscriber c.args.row) _ _ _ _ c.s_id.ensures.in_range (free_to_take c.args.row _ _ c.self.invariant added.0) c.in-Done.ensures.outcome c.in-Done.ensures.same refl)
+
+pub returns-in_default-act : goal.returns-in_default-act
+returns-in_default-act c =
+    let added = rw (c.sub_nbr-number.ensures, c.s_id-2.ensures.value) at c.in_default.ensures.added in
+    rw (← c.self.view_is) (acted_step (action.AddSubscriber c.args.row) _ _ _ _ c.s_id.ensures.in_range (free_to_take c.args.row _ _ c.self.invariant added.0) c.act.ensures.outcome c.act.ensures.same c.reply_from.ensures)
