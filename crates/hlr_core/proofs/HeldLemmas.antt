@@ -11,7 +11,8 @@ use Rattle.tatp_actions.specs.Part.{PartState, IsPart, IsWidth}
 use Rattle.tatp_actions.proofs.CountLemmas.{few_cells}
 use Rattle.tatp_actions.specs.declared.cells.TheConstants.{CELLS}
 use Rattle.hlr_core.specs.Board.{IsBoard}
-use Rattle.hlr_core.specs.Held.{HoldingState, pending_at, IsHeld, AreSmall, MovesWith, AreHeld}
+use Rattle.view_delta.specs.Pending.{pending_at}
+use Rattle.hlr_core.specs.Held.{HoldingState, IsHeld, AreSmall, MovesWith, AreHeld}
 use Rattle.hlr_core.specs.Words.{slot_net, net, blank_words}
 use Rattle.hlr_core.proofs.WordsLemmas.{blank_net}
 

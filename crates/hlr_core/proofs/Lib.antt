@@ -1,5 +1,4 @@
 pub mod BoardLemmas
-pub mod ChangeFacts
 pub mod NumbersLemmas
 pub mod PostLemmas
 pub mod RunLemmas

@@ -11,7 +11,8 @@ use Rattle.tatp_rows.specs.declared.refusal.Refusal.{Refusal}
 use Rattle.tatp_rows.specs.declared.refusal.Refusal.TheVariants as refusal
 use Rattle.tatp_actions.specs.declared.cells.TheConstants.{CELLS}
 use Rattle.hlr_core.specs.Board.{IsBoard}
-use Rattle.hlr_core.specs.Held.{HoldingState, pending_at, IsCellPosted}
+use Rattle.view_delta.specs.Pending.{pending_at}
+use Rattle.hlr_core.specs.Held.{HoldingState, IsCellPosted}
 use Rattle.hlr_core.specs.Post.{is_zero, is_worn, raise_cells, all_cells, post}
 use Rattle.hlr_core.specs.Words.{slot_net, net, raised}
 use Rattle.hlr_core.proofs.BoardLemmas.{raised_board}

@@ -7,7 +7,8 @@ use Rattle.tatp_actions.specs.Book.{IsRowsOf, rows_between}
 use Rattle.tatp_actions.specs.Cell.{cell}
 use Rattle.tatp_actions.proofs.BetweenLemmas.{own_rows}
 use Rattle.tatp_actions.specs.declared.cells.TheConstants.{CELLS}
-use Rattle.hlr_core.specs.Held.{HoldingState, pending_at, AreHeld}
+use Rattle.view_delta.specs.Pending.{pending_at}
+use Rattle.hlr_core.specs.Held.{HoldingState, AreHeld}
 use Rattle.hlr_core.specs.Post.{post}
 use Rattle.hlr_core.specs.Step.{IsPostStep, posted_reply}
 use Rattle.hlr_core.specs.Store.{Store, published, unposted, slots_of}

@@ -6,6 +6,7 @@ use Rattle.tatp_actions.specs.Part.{PartState, IsPart}
 use Rattle.tatp_rows.specs.declared.refusal.Refusal.{Refusal}
 use Rattle.tatp_rows.specs.declared.ranges.TheConstants.{LAST_SUBSCRIBER}
 use Rattle.tatp_rows.specs.declared.refusal.Refusal.TheVariants as refusal
+use Rattle.view_delta.specs.Pending.{pending_at}
 use Rattle.hlr_core.specs.Board.{IsBoard}
 use Rattle.hlr_core.specs.Post.{is_worn}
 use Rattle.hlr_core.specs.Words.{raised, net, slot_net}
@@ -14,10 +15,6 @@ use Rattle.hlr_core.specs.Words.{raised, net, slot_net}
 pub record HoldingState : Type 0 where
   pub part : PartState
   pub pending : List ℤ
-
--- the pending delta of a cell
-abbrev pub pending_at : List ℤ → ℕ → ℤ
-pending_at pending c = slice_index_or pending c (pos 0)
 
 -- the local law, for what is published by a given net
 abbrev pub IsHeld : (ℕ → ℤ) → HoldingState → Type 0

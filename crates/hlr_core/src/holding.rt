@@ -5,16 +5,17 @@ ghost use Rattle.tatp_actions.specs.Book.{IsWithin, empty_book, first_subscriber
 ghost use Rattle.tatp_actions.specs.Cell.{cell};
 ghost use Rattle.tatp_actions.specs.Part.{IsPart, IsRange, IsWidth};
 ghost use Rattle.hlr_core.specs.Board.{IsBoard};
-ghost use Rattle.hlr_core.specs.Held.{HoldingState, pending_at, AreSmall, IsHeld, IsCellPosted, MovesWith};
+ghost use Rattle.view_delta.specs.Pending.{pending_at};
+ghost use Rattle.hlr_core.specs.Held.{HoldingState, AreSmall, IsHeld, IsCellPosted, MovesWith};
 ghost use Rattle.hlr_core.specs.Post.{post};
 ghost use Rattle.hlr_core.specs.Words.{net, slot_net};
 
 use crate::board::{Board, SLOTS};
-use crate::pending::Pending;
 use std::alloc::Global;
 use std::marker::Model;
 use tatp_actions::{Action, CELLS, Part, RowReply};
 use tatp_rows::{Refusal, Subscriber};
+use view_delta::Pending;
 
 /// A part with what its owner has not posted yet: for each cell the delta that the actions since have left.
 #[derive(Drop)]
@@ -57,6 +58,8 @@ impl Holding {
         ensures after { IsPart self.new.part }
     {
         let (reply, change) = self.part.act(action);
+        // A change tells by its notes that they are few and small.
+        let _notes = change.notes();
         self.pending.note(&change);
         reply
     }

@@ -9,7 +9,6 @@ mod board;
 mod event;
 mod holding;
 mod holdings;
-mod pending;
 mod register;
 #[cfg(test)]
 mod tests;

@@ -1,9 +1,9 @@
 -- What more notes of a change do to a delta.
-use Rattle.std.proofs.Common.{◌≡◌, ℕ, ◌+◌, ◌<◌, ◌≤◌, ◌==◌, arith, zero, suc, List, [], ◌∷◌, ◌++◌, take, get_or, length, set, Bool, true, false, refl, ◌∙◌, ap, subst, sym, if◌then◌else◌, FitsSigned, w64, to_z, of_z}
-use Rattle.std.specs.Prelude.{ℤ, pos, ◌+ℤ◌}
+use Rattle.std.proofs.Common.{◌≡◌, ℕ, ◌+◌, ◌*◌, ◌<◌, ◌≤◌, ◌==◌, arith, zero, suc, List, [], ◌∷◌, ◌++◌, take, get_or, length, set, Bool, true, false, refl, ◌∙◌, ap, subst, sym, if◌then◌else◌, FitsSigned, w64, to_z, of_z}
+use Rattle.std.specs.Prelude.{ℤ, pos, neg_ℤ, ◌+ℤ◌, ◌≤ℤ◌}
 use Rattle.std.specs.List.{AllByRecursion}
 use Rattle.std.proofs.lemmas.Int.{ints, to_z-of_z}
-use Rattle.std.proofs.lemmas.List.{length-set, get_or-set_same, get_or-set_other, take_more}
+use Rattle.std.proofs.lemmas.List.{length-set, length-take, get_or-set_same, get_or-set_other, take_more}
 use Rattle.std.proofs.lemmas.Bool.Decides.{nat_tests}
 use Rattle.tatp_rows.proofs.OrderedLemmas.{by_test}
 use Rattle.tatp_actions.specs.Change.{change_at, IsNote}
@@ -83,3 +83,34 @@ one_noted start deltas notes i cell note value noted within which is at sum = re
         let other : c ≡ cell → ⊥ = grind (arith, nat_tests) in
         let was : pending_at deltas c ≡ pending_at start c +ℤ change_at (take i notes) c = noted.moved c below in
         rw (get_or-set_other deltas cell c value (pos 0) other, more c, e) (omega (arith, ints))
+
+-- the first notes of a change are notes
+each_note : (notes : List (ℕ × ℤ)) (i : ℕ) → AllByRecursion IsNote notes → AllByRecursion IsNote (take i notes)
+each_note notes zero each = tt
+each_note [] (suc i) each = tt
+each_note (note ∷ notes) (suc i) each = (each.0, each_note notes i each.1)
+
+-- notes move a cell by at most eight each
+pub notes_small : (notes : List (ℕ × ℤ)) (c : ℕ) → AllByRecursion IsNote notes → (neg_ℤ (pos (8 * length notes)) ≤ℤ change_at notes c) × (change_at notes c ≤ℤ pos (8 * length notes))
+notes_small [] c each = (omega (arith, ints), omega (arith, ints))
+notes_small (note ∷ notes) c each =
+    let rest = notes_small notes c each.1 in
+    let low = rest.0 in
+    let high = rest.1 in
+    let least = each.0.1 in
+    let most = each.0.2 in
+    by_test (note.0 == c)
+    (λ e. rw e (omega (arith, ints), omega (arith, ints)))
+    (λ e. rw e (omega (arith, ints), omega (arith, ints)))
+
+-- the notes of a change fit where the deltas are far from the limits
+pub notes_fit : (pending : List ℤ) (notes : List (ℕ × ℤ)) → AllByRecursion IsNote notes → length notes ≤ 8
+    → ((c : ℕ) → c < CELLS → (neg_ℤ (pos 1152921504606846976) ≤ℤ pending_at pending c) × (pending_at pending c ≤ℤ pos 1152921504606846976)) → NotesFit pending notes
+notes_fit pending notes each few small i c within below =
+    let bounds = notes_small (take i notes) c (each_note notes i each) in
+    let taken : length (take i notes) ≤ 8 = omega (arith, length-take {A = ℕ × ℤ}) in
+    let low = bounds.0 in
+    let high = bounds.1 in
+    let from = (small c below).0 in
+    let to = (small c below).1 in
+    omega (arith, ints)
