@@ -130,6 +130,7 @@ tests_of() {
 
 program
 tests_of mr_subtree tests::memory_refused
+tests_of number_index tests::numbers
 tests_of tatp_actions tests::refused_nodes
 tests_of hlr_core tests::runs tests::drawn_events
 tests_of hlr tests::refused_memory_is_told

@@ -2,20 +2,18 @@
 use Rattle.std.proofs.Common.{◌≡◌, ℕ, List, set, false, ◌+◌, ◌≤◌, refl, arith, replicate, length, get_or, ◌∙◌, inl, inr}
 use Rattle.std.specs.Prelude.{ℤ}
 use Rattle.std.specs.Int.RustNames.{unsigned_abs}
-use Rattle.std.proofs.lemmas.List.{length-replicate, get_or-replicate, get_or_past, length-set, get_or-set_same, get_or-set_other}
+use Rattle.std.proofs.lemmas.List.{length-replicate, get_or_past, length-set, get_or-set_same, get_or-set_other}
 use Rattle.std.proofs.lemmas.Bool.{cases_lt, cases_eq}
 use Rattle.std.proofs.lemmas.Bool.Decides.{nat_tests}
+use Rattle.tatp_rows.proofs.BlankLemmas.{blank_at}
 use Rattle.hlr_core.specs.declared.board.TheConstants.{WORDS}
 use Rattle.hlr_core.specs.Post.{is_worn}
 use Rattle.hlr_core.specs.Words.{raised, raised_word, blank_words}
 use Rattle.hlr_core.specs.Board.{IsBoard}
 
--- a word of a board of zeros is 0
-pub zero_word : (n w : ℕ) → get_or (replicate {A = ℕ} n 0) w 0 ≡ 0
-zero_word n w = elim (cases_lt w n) [ inl below ↦ get_or-replicate n w 0 0 below | inr past ↦ get_or_past (replicate n 0) w 0 (rw length-replicate past) ]
-
+-- a board of zeros
 pub zero_board : (n : ℕ) → n ≡ WORDS → IsBoard (replicate n 0)
-zero_board n is = record { wide = length-replicate n 0 ∙ is; small = λ w. let zero : get_or (replicate n 0) w 0 ≡ 0 = zero_word n w in omega arith }
+zero_board n is = record { wide = length-replicate n 0 ∙ is; small = λ w. let zero : get_or (replicate n 0) w 0 ≡ 0 = blank_at {A = ℕ} n w 0 in omega arith }
 
 -- a word at most the limit in place of another
 word_raised : (words : List ℕ) (w v : ℕ) → IsBoard words → v ≤ 9223372036854775807 → IsBoard (set words w v)

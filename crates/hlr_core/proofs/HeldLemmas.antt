@@ -1,9 +1,8 @@
 -- The local law of the one holding, through opening, actions and postings.
 use Rattle.std.proofs.Common.{◌≡◌, ℕ, ◌*◌, ◌-◌, ◌<◌, ◌≤◌, refl, arith, List, [], ◌∷◌, sym, ◌∙◌, ap, subst, replicate, inl, inr, ◌⊎◌, nat_lt}
 use Rattle.std.specs.Prelude.{pos, ◌+ℤ◌, ◌≤ℤ◌}
-use Rattle.std.proofs.lemmas.Bool.{cases_lt}
 use Rattle.std.proofs.lemmas.Int.{ints}
-use Rattle.std.proofs.lemmas.List.{length-replicate, get_or-replicate, get_or_past}
+use Rattle.tatp_rows.proofs.BlankLemmas.{blank_at}
 use Rattle.tatp_rows.proofs.OrderedLemmas.{by_test}
 use Rattle.tatp_actions.specs.Book.{empty_book, IsRowsOf}
 use Rattle.tatp_actions.specs.Cell.{cell, active_forwardings, in_area, in_zone}
@@ -56,13 +55,6 @@ empty_rows lo hi = record {
   forwardings = tt;
 }
 
--- deltas of 0
-zero_delta : (n c : ℕ) → pending_at (replicate n (pos 0)) c ≡ pos 0
-zero_delta n c = elim (cases_lt c n) [
-  | inl below ↦ get_or-replicate n c (pos 0) (pos 0) below
-  | inr past ↦ get_or_past (replicate n (pos 0)) c (pos 0) (rw length-replicate past)
-]
-
 -- the holding at opening, over blank words
 pub opened_held : (width : ℕ) (holding : HoldingState) (words : List ℕ) → IsWidth width
     → holding ≡ record { part = record { book = empty_book; asked = 0; lo = 1; hi = 16777217; width = width }; pending = replicate CELLS (pos 0) }
@@ -72,7 +64,7 @@ opened_held width holding words wide is blank board = rw (is, blank) (record {
   to_last = refl;
   rules = record { range = (omega arith, omega arith, omega arith); width = wide; rows = empty_rows 1 16777217 };
   board = subst IsBoard blank board;
-  held = λ c below. rw (blank_net c 0, zero_delta CELLS c, empty_cell width c) refl;
+  held = λ c below. rw (blank_net c 0, blank_at CELLS c (pos 0), empty_cell width c) refl;
   counted = λ c below. rw (blank_net c 0) (omega (arith, ints), omega (arith, ints));
   others = λ c slot below from. blank_net c slot;
 })

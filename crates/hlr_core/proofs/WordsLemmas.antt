@@ -7,7 +7,7 @@ use Rattle.std.proofs.lemmas.List.{get_or-set_same, get_or-set_other, length-set
 use Rattle.tatp_actions.specs.declared.cells.TheConstants.{CELLS}
 use Rattle.hlr_core.specs.declared.board.TheConstants.{WORDS}
 use Rattle.hlr_core.specs.Words.{plus_word, minus_word, slot_net, net, raised, all_slots, blank_words}
-use Rattle.hlr_core.proofs.BoardLemmas.{zero_word}
+use Rattle.tatp_rows.proofs.BlankLemmas.{blank_at}
 
 -- raising words keeps how many there are
 pub length-raised : (words : List ℕ) (slot c : ℕ) (amount : ℤ) → length (raised words slot c amount) ≡ length words
@@ -63,4 +63,4 @@ net_of_first words c none = let rest = net_none words c 1 15 none in rw rest ref
 -- blank words have no net
 pub blank_net : (c slot : ℕ) → slot_net blank_words c slot ≡ pos 0
 unfolding blank_words
-blank_net c slot = rw (zero_word WORDS (plus_word slot c), zero_word WORDS (minus_word slot c)) refl
+blank_net c slot = rw (blank_at {A = ℕ} WORDS (plus_word slot c) 0, blank_at {A = ℕ} WORDS (minus_word slot c) 0) refl

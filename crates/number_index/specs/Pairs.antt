@@ -1,5 +1,5 @@
 -- The index as a map: pairs of a number and a subscriber, by number, and what its changes answer and leave.
-use Rattle.std.specs.Prelude.{◌≡◌, ℕ, ◌==◌, List, Option, Some, None, option_map, Result, Ok, Err, IsSome, if◌then◌else◌, ◌⊎◌}
+use Rattle.std.specs.Prelude.{◌≡◌, ℕ, List, Option, Some, None, option_map, Result, Ok, Err, IsSome, ◌⊎◌}
 use Rattle.tatp_rows.specs.Ordered.{row_at, with_row, without_row}
 use Rattle.tatp_rows.specs.declared.refusal.Refusal.{Refusal}
 use Rattle.tatp_rows.specs.declared.refusal.Refusal.TheVariants.{Memory, NoNumber, NumberTaken}

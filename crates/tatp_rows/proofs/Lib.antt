@@ -1,4 +1,5 @@
 pub mod AppendLemmas
+pub mod BlankLemmas
 pub mod HalfLemmas
 pub mod KeyLemmas
 pub mod MapLemmas

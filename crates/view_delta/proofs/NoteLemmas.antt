@@ -1,5 +1,5 @@
 -- What more notes of a change do to a delta.
-use Rattle.std.proofs.Common.{◌≡◌, ℕ, ◌+◌, ◌*◌, ◌<◌, ◌≤◌, ◌==◌, arith, zero, suc, List, [], ◌∷◌, ◌++◌, take, get_or, length, set, Bool, true, false, refl, ◌∙◌, ap, subst, sym, if◌then◌else◌, FitsSigned, w64, to_z, of_z}
+use Rattle.std.proofs.Common.{◌≡◌, ℕ, ◌+◌, ◌*◌, ◌<◌, ◌≤◌, ◌==◌, arith, zero, suc, List, [], ◌∷◌, ◌++◌, take, get_or, length, set, true, false, refl, ◌∙◌, if◌then◌else◌, FitsSigned, w64, to_z, of_z}
 use Rattle.std.specs.Prelude.{ℤ, pos, neg_ℤ, ◌+ℤ◌, ◌≤ℤ◌}
 use Rattle.std.specs.List.{AllByRecursion}
 use Rattle.std.proofs.lemmas.Int.{ints, to_z-of_z}

@@ -1,12 +1,12 @@
 -- Deltas that are moved one cell after another.
-use Rattle.std.proofs.Common.{◌≡◌, ℕ, ◌+◌, ◌<◌, ◌≤◌, List, length, get_or, set, refl, sym, ◌∙◌, arith}
+use Rattle.std.proofs.Common.{◌≡◌, ℕ, ◌+◌, ◌<◌, ◌≤◌, List, length, get_or, set, refl, ◌∙◌, arith}
 use Rattle.std.proofs.Common.{◌==◌}
-use Rattle.std.proofs.lemmas.Bool.{cases_lt}
 use Rattle.std.proofs.lemmas.Bool.Decides.{nat_tests}
 use Rattle.std.specs.Prelude.{ℤ, pos, ◌+ℤ◌}
+use Rattle.tatp_rows.proofs.BlankLemmas.{blank_at}
 use Rattle.tatp_rows.proofs.OrderedLemmas.{by_test}
-use Rattle.std.proofs.Common.{inl, inr, replicate}
-use Rattle.std.proofs.lemmas.List.{length-set, length-replicate, get_or-replicate, get_or_past, get_or-set_same, get_or-set_other}
+use Rattle.std.proofs.Common.{replicate}
+use Rattle.std.proofs.lemmas.List.{length-set, length-replicate, get_or-set_same, get_or-set_other}
 use Rattle.tatp_actions.specs.declared.cells.TheConstants.{CELLS}
 use Rattle.view_delta.specs.Pending.{pending_at}
 
@@ -35,18 +35,8 @@ module _ (amount : ℕ → ℤ) (start : List ℤ) where
           (λ same. let here : c ≡ n = grind (arith, nat_tests) in rw here (get_or-set_same deltas n value (pos 0) (omega (arith, so_far.wide)) ∙ sum))
           (λ other. let apart : c ≡ n → ⊥ = grind (arith, nat_tests) in get_or-set_other deltas n c value (pos 0) apart ∙ so_far.moved c (grind (arith, nat_tests)))
 
--- a list of zeros
-pub zero_at : (n c : ℕ) → get_or (replicate {A = ℕ} n 0) c 0 ≡ 0
-zero_at n c = elim (cases_lt c n) [ | inl below ↦ get_or-replicate n c 0 0 below | inr past ↦ get_or_past (replicate n 0) c 0 (rw length-replicate past) ]
-
-pub zero_delta : (n c : ℕ) → pending_at (replicate n (pos 0)) c ≡ pos 0
-zero_delta n c = elim (cases_lt c n) [
-  | inl below ↦ get_or-replicate n c (pos 0) (pos 0) below
-  | inr past ↦ get_or_past (replicate n (pos 0)) c (pos 0) (rw length-replicate past)
-]
-
 -- zeros with a one among them
 pub one_at_most : (n i c : ℕ) → i < n → get_or (set (replicate {A = ℕ} n 0) i 1) c 0 ≤ 1
 one_at_most n i c below = by_test (c == i)
     (λ same. let here : c ≡ i = grind (arith, nat_tests) in rw (here, get_or-set_same (replicate {A = ℕ} n 0) i 1 0 (rw length-replicate below)) (omega arith))
-    (λ other. let apart : c ≡ i → ⊥ = grind (arith, nat_tests) in rw (get_or-set_other (replicate {A = ℕ} n 0) i c 1 0 apart, zero_at n c) (omega arith))
+    (λ other. let apart : c ≡ i → ⊥ = grind (arith, nat_tests) in rw (get_or-set_other (replicate {A = ℕ} n 0) i c 1 0 apart, blank_at {A = ℕ} n c 0) (omega arith))

@@ -3,8 +3,8 @@ use Rattle.std.specs.Prelude.{pos}
 use Rattle.std.proofs.lemmas.Int.{ints}
 use Rattle.tatp_actions.specs.declared.cells.TheConstants.{CELLS}
 use Rattle.view_delta.proofs.NoteLemmas.{notes_fit}
-use Rattle.view_delta.proofs.SumLemmas.{zero_delta}
+use Rattle.tatp_rows.proofs.BlankLemmas.{blank_at}
 use Rattle.view_delta.proofs.tests.expect_added.Goals as goal
 
 pub note-requires : goal.note-requires
-note-requires c = λ d. rw (← d.notes-notes.ensures.value, d.zero-pending.ensures) (notes_fit (replicate CELLS (pos 0)) _ d.notes-notes.ensures.small d.notes-notes.ensures.few (λ k below. rw (zero_delta CELLS k) (omega (arith, ints), omega (arith, ints))))
+note-requires c = λ d. rw (← d.notes-notes.ensures.value, d.zero-pending.ensures) (notes_fit (replicate CELLS (pos 0)) _ d.notes-notes.ensures.small d.notes-notes.ensures.few (λ k below. rw (blank_at CELLS k (pos 0)) (omega (arith, ints), omega (arith, ints))))

@@ -1,4 +1,4 @@
-use Rattle.std.proofs.Common.{refl, sym, ◌∙◌}
+use Rattle.std.proofs.Common.{refl, sym}
 use Rattle.tatp_actions.specs.declared.action.Action.TheVariants as action
 use Rattle.hlr_core.proofs.RegisterLemmas.{exists_step, refused_step, acted_step, added_registered, undone_registered, undone_same, free_to_take}
 use Rattle.hlr_core.proofs.register.Register.add_subscriber.Goals as goal

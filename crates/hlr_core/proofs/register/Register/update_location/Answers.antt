@@ -1,4 +1,4 @@
-use Rattle.std.proofs.Common.{◌∙◌, subst, sym, ℕ}
+use Rattle.std.proofs.Common.{◌∙◌, subst, ℕ}
 use Rattle.tatp_rows.proofs.RowLemmas.{between_ok}
 use Rattle.tatp_actions.specs.Action.{IsOutcome}
 use Rattle.tatp_actions.specs.declared.action.Action.TheVariants as action

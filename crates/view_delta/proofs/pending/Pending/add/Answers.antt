@@ -1,6 +1,6 @@
-use Rattle.std.proofs.Common.{get_or, ap, ◌≡◌, ◌∙◌, arith, rules, FitsSigned, w64}
-use Rattle.std.specs.Prelude.{pos, neg_ℤ, ◌+ℤ◌, ◌-ℤ◌}
-use Rattle.std.proofs.lemmas.Int.{ints, to_z-of_z}
+use Rattle.std.proofs.Common.{get_or, ◌≡◌, arith, rules, FitsSigned, w64}
+use Rattle.std.specs.Prelude.{pos, ◌+ℤ◌}
+use Rattle.std.proofs.lemmas.Int.{ints}
 use Rattle.view_delta.specs.Pending.{pending_at}
 use Rattle.view_delta.proofs.SumLemmas.{one_moved}
 use Rattle.view_delta.proofs.pending.Pending.add.Goals as goal

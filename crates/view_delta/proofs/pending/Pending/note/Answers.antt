@@ -1,7 +1,7 @@
-use Rattle.std.proofs.Common.{refl, sym, subst, get_or, arith, ◌+◌, ◌∙◌, length, FitsSigned, w64}
-use Rattle.std.specs.Prelude.{pos, ℤ}
-use Rattle.std.proofs.lemmas.Int.{ints, to_z-of_z}
-use Rattle.view_delta.proofs.NoteLemmas.{note_at, note_fits, one_noted, noted_sum, plain_sum}
+use Rattle.std.proofs.Common.{refl, get_or, w64}
+use Rattle.std.specs.Prelude.{pos}
+use Rattle.std.proofs.lemmas.Int.{to_z-of_z}
+use Rattle.view_delta.proofs.NoteLemmas.{note_at, note_fits, one_noted, plain_sum}
 use Rattle.view_delta.proofs.pending.Pending.note.Goals as goal
 
 pub overflow_add-self : goal.overflow_add-self
