@@ -54,7 +54,8 @@ refusing() {
   REFUSED_CALL=$call REFUSED_FILE=$room/refused LD_PRELOAD=$room/refuse.so "$@"
 }
 
-# 600 subscribers, so that the trees of rows grow twice, and every command; each addition stands twice.
+# 600 subscribers, so that their tree and the index grow twice, 48 rows in each other table, and every command; each
+# record that may want memory stands twice.
 script() {
   local s
   for s in $(seq 1 600); do
@@ -62,7 +63,14 @@ script() {
     row=$(printf 'sub,%d,%015d,0000000000,0000000000,00000000000000000000,1,%d' "$s" "$s" "$((s * 7000000))")
     printf '%s\n%s\n' "$row" "$row"
   done
-  printf 'gsd,7\nul,000000000000007,5\ngsd,7\nviews\npost,0,51\nviews\ngsd,601\n'
+  for s in $(seq 1 48); do
+    for row in "acc,$s,1,3,4,ABC,ABCDE" "fac,$s,2,1,0,0,ABCDE" "$(printf 'icf,%015d,2,8,16,%015d' "$s" "$s")" \
+      "$(printf 'number,%d,%015d' "$s" "$((s + 1000))")"; do
+      printf '%s\n%s\n' "$row" "$row"
+    done
+  done
+  printf 'gsd,7\nul,000000000001007,5\ngsd,7\ngad,7,1\nusd,7,2,1,9\ngnd,7,2,8,9\nactive,7,2,0\ngnd,7,2,8,9\n'
+  printf 'dcf,000000000001007,2,8\nviews\npost,0,51\nviews\nscan\nindex\ngsd,601\n'
 }
 
 # alike GOT WANTED: the answers are those wanted, or those to the first records, but that one addition may have been
@@ -75,7 +83,7 @@ alike() {
     $0 == want[NR] { next }
     $0 == "refused,1,Memory" && want[NR] == "ok" && !refusals { refusals = 1; again = want[NR]; next }
     { exit(bad = 1) }
-    END { exit bad || again != "" || NR > n || last ~ /^cell,/ }' "$1"
+    END { exit bad || again != "" || NR > n || last ~ /^(cell|number),/ }' "$1"
 }
 
 wrong() {
@@ -131,8 +139,8 @@ tests_of() {
 program
 tests_of mr_subtree tests::memory_refused
 tests_of number_index tests::numbers
-tests_of tatp_actions tests::refused_nodes
-tests_of hlr_core tests::runs tests::drawn_events
+tests_of tatp_actions tests::refused_nodes plain_tests::same_actions
+tests_of hlr_core tests::runs tests::additions_at_split tests::renamings_at_split plain_tests::drawn_events
 tests_of hlr tests::refused_memory_is_told
 echo "$failed failed"
 [ "$failed" = 0 ]

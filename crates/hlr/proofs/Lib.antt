@@ -1,5 +1,5 @@
 pub mod FieldFacts
 pub mod OptionFacts
+pub mod ReportFacts
 pub mod RunFacts
 pub mod SinkFacts
-pub mod ViewFacts

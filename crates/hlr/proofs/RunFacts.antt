@@ -1,7 +1,6 @@
 -- How the text of a run grows, record by record.
 use Rattle.std.proofs.Common.{◌≡◌, refl, sym, ap, ◌∙◌, subst, ℕ, ◌+◌, ◌≤◌, ◌<◌, List, [], ◌∷◌, ◌++◌, length, Option, Some, None, Bool, true, false, append_assoc, length-append, ◌⊎◌, inl, inr, arith}
-use Rattle.std.specs.Prelude.{IfSome, option_map, Result, Ok, Err, OnOk, OnErr, ℤ, pos, slice_index_or}
-use Rattle.std.proofs.lemmas.Result.{on_ok_weaker, on_err_weaker}
+use Rattle.std.specs.Prelude.{IfSome, option_map, Result, Ok, Err, OnOk, OnErr}
 use Rattle.std.specs.Result.{is_err}
 use Rattle.std.proofs.lemmas.Bool.{false≢true}
 use Rattle.std.proofs.lemmas.List.{append-nil}
@@ -11,18 +10,10 @@ use Rattle.csv.specs.declared.parser.State.{State}
 use Rattle.csv.specs.declared.parser.State.TheVariants as st
 use Rattle.csv.specs.declared.reader.Reader.{Reader}
 use Rattle.csv.proofs.ReadFacts.{rows-more, rows-end}
-use Rattle.tatp_rows.specs.declared.refusal.Refusal.{Refusal}
-use Rattle.tatp_actions.specs.declared.cells.TheConstants.{CELLS}
-use Rattle.hlr_core.specs.Store.{Store, published, unposted}
-use Rattle.hlr.specs.Records.{command_of}
-use Rattle.hlr.specs.Views.{views_text}
-use Rattle.hlr.specs.declared.records.Command.{Command}
-use Rattle.hlr.specs.declared.records.Command.TheVariants as command
-use Rattle.hlr.specs.Sink.{AppendsFront}
-use Rattle.hlr.specs.Text.{CommandText, RecordText, RecordsText, RecordDone, RecordCut, WritesWhole, AnsweredRecords, RanWhole, RanFront, Ran}
+use Rattle.hlr_core.specs.Store.{Store}
+use Rattle.hlr.specs.Text.{RecordText, RecordsText, RecordDone, RecordCut, WritesWhole, AnsweredRecords, RanWhole, RanFront, Ran}
 use Rattle.hlr.specs.declared.fault.Fault.{Fault}
 use Rattle.hlr.specs.declared.fault.Fault.TheVariants as fault
-use Rattle.hlr.proofs.ViewFacts.{views_same}
 use Rattle.hlr.proofs.SinkFacts.{appends_none, appends_both, appends_kept, begins_all, begins_after}
 
 -- one record more
@@ -194,34 +185,6 @@ ran_unflushed start bytes old mid new (Err why) ran kept = front_kept start byte
 pub if_some : {X : Type 0} (o : Option X) (P Q : X → Type 0) → ((x : X) → P x → Q x) → IfSome o P → IfSome o Q
 if_some None P Q step h = tt
 if_some (Some x) P Q step h = step x h
-
--- the report is the answer of its record
-views_answer : (fields : List (List ℕ)) (s : Store) → Ok command.Views ≡ command_of fields → RecordText fields s (views_text (published s) (unposted s)) s
-views_answer fields s is = subst (λ (asked : Result Command Refusal). CommandText asked s (views_text (published s) (unposted s)) s) is (refl, refl)
-
--- the report was taken
-pub views_done : {T E : Type 0} (fields : List (List ℕ)) (s : Store) (shown kept : List ℤ) (old new : Option (List ℕ)) (r : Result T E) → Ok command.Views ≡ command_of fields
-    → ((c : ℕ) → c < CELLS → slice_index_or shown c (pos 0) ≡ published s c) → ((c : ℕ) → c < CELLS → slice_index_or kept c (pos 0) ≡ unposted s c)
-    → OnOk r (Appends old new (views_text (λ c. slice_index_or shown c (pos 0)) (λ c. slice_index_or kept c (pos 0)))) → OnOk r (RecordDone fields s s old new)
-views_done fields s shown kept old new r is first second took =
-    let same = views_same (λ c. slice_index_or shown c (pos 0)) (published s) (λ c. slice_index_or kept c (pos 0)) (unposted s) first second in
-    on_ok_weaker r (λ (grew : Appends old new (views_text (λ c. slice_index_or shown c (pos 0)) (λ c. slice_index_or kept c (pos 0)))). record {
-      text = views_text (published s) (unposted s);
-      answer = views_answer fields s is;
-      grew = subst (λ (text : List ℕ). Appends old new text) same grew;
-    }) took
-
--- a front of the report was taken
-pub views_cut : {T E : Type 0} (fields : List (List ℕ)) (s : Store) (shown kept : List ℤ) (old new : Option (List ℕ)) (r : Result T E) → Ok command.Views ≡ command_of fields
-    → ((c : ℕ) → c < CELLS → slice_index_or shown c (pos 0) ≡ published s c) → ((c : ℕ) → c < CELLS → slice_index_or kept c (pos 0) ≡ unposted s c)
-    → OnErr r (AppendsFront old new (views_text (λ c. slice_index_or shown c (pos 0)) (λ c. slice_index_or kept c (pos 0)))) → OnErr r (RecordCut fields s s old new)
-views_cut fields s shown kept old new r is first second took =
-    let same = views_same (λ c. slice_index_or shown c (pos 0)) (published s) (λ c. slice_index_or kept c (pos 0)) (unposted s) first second in
-    on_err_weaker r (λ (grew : AppendsFront old new (views_text (λ c. slice_index_or shown c (pos 0)) (λ c. slice_index_or kept c (pos 0)))). record {
-      text = views_text (published s) (unposted s);
-      answer = views_answer fields s is;
-      grew = subst (λ (text : List ℕ). AppendsFront old new text) same grew;
-    }) took
 
 -- what holds of the known bytes
 pub if_known : {X : Type 0} (o : Option X) (Q : X → Type 0) → ((x : X) → o ≡ Some x → Q x) → IfSome o Q

@@ -3,6 +3,7 @@ use Rattle.std.specs.Prelude.{ℕ, ◌+◌, ◌*◌, ◌==◌, ◌&&◌, not, na
 use Rattle.std.specs.List.{list_all, range_with_len}
 use Rattle.std.specs.Char.{is_ascii_digit, digit_value}
 use Rattle.std.specs.Str.Parse.{digits_value}
+use Rattle.tatp_rows.specs.Rows.{between}
 use Rattle.tatp_rows.specs.declared.refusal.Refusal.{Refusal}
 use Rattle.tatp_rows.specs.declared.refusal.Refusal.TheVariants.{Field}
 
@@ -17,6 +18,12 @@ unfoldable pub number_field : List ℕ → Result ℕ Refusal
 number_field text =
     if not (length text == 0) && (list_all is_ascii_digit text && nat_lt (digits_value 10 text) 18446744073709551616)
     then Ok (digits_value 10 text) else Err Field
+
+-- a number that fits a byte
+abbrev pub byte_field : List ℕ → Result ℕ Refusal
+byte_field text = do
+  n ← number_field text
+  between 0 255 n
 
 -- that many digits, each with a value below the limit; the digits above 9 are letters of either case
 unfoldable pub digits_field : ℕ → ℕ → List ℕ → Result (List ℕ) Refusal

@@ -3,7 +3,7 @@ pub mod Fields
 pub mod Lines
 pub mod Options
 pub mod Records
+pub mod Reports
 pub mod Sink
 pub mod Text
-pub mod Views
 pub mod WholeRecords

@@ -39,27 +39,46 @@ subscriber_line row =
     ++ hexes_text row.bits ++ codes "," ++ hexes_text row.hexes ++ codes "," ++ bytes_text row.bytes ++ codes ","
     ++ decimal row.msc_location ++ codes "," ++ decimal row.vlr_location ++ codes "\n"
 
--- the line of how many cells were posted
-unfoldable pub posted_line : ℕ → List ℕ
-posted_line n = codes "posted," ++ decimal n ++ codes "\n"
+-- numbers, each after a comma
+abbrev pub numbers_text : List ℕ → List ℕ
+numbers_text ns = flat_map (λ n. codes "," ++ number_text n) ns
+
+-- the line of the numbers that were found
+unfoldable pub numbers_line : List ℕ → List ℕ
+numbers_line ns = codes "numbers" ++ numbers_text ns ++ codes "\n"
+
+-- the line of an access: data1 to data4
+unfoldable pub access_line : ℕ → ℕ → List ℕ → List ℕ → List ℕ
+access_line data1 data2 data3 data4 =
+    codes "access," ++ decimal data1 ++ codes "," ++ decimal data2 ++ codes "," ++ data3 ++ codes "," ++ data4 ++ codes "\n"
+
+-- the line of a word and a count
+unfoldable pub total_line : List ℕ → ℕ → List ℕ
+total_line word n = word ++ decimal n ++ codes "\n"
 
 -- the line of a cell: its published and its unposted count
 unfoldable pub cell_line : ℕ → ℤ → ℤ → List ℕ
 cell_line c published unposted =
     codes "cell," ++ decimal c ++ codes "," ++ signed_decimal published ++ codes "," ++ signed_decimal unposted ++ codes "\n"
 
--- the line of how many lines a report of cells has
-unfoldable pub views_line : ℕ → List ℕ
-views_line k = codes "views," ++ decimal k ++ codes "\n"
+-- the line of a cell counted over the rows
+unfoldable pub counted_line : ℕ → ℕ → List ℕ
+counted_line c n = codes "cell," ++ decimal c ++ codes "," ++ decimal n ++ codes "\n"
+
+-- the line of a number and the subscriber who has it
+unfoldable pub number_line : ℕ × ℕ → List ℕ
+number_line pair = codes "number," ++ number_text pair.0 ++ codes "," ++ decimal pair.1 ++ codes "\n"
 
 -- the line of the rows' answer
 abbrev pub row_reply_line : RowReply → List ℕ
 row_reply_line row_reply.Done = ok_line
 row_reply_line (row_reply.Row row) = subscriber_line row
+row_reply_line (row_reply.Numbers numbers) = numbers_line numbers.items
+row_reply_line (row_reply.AccessRow data1 data2 data3 data4) = access_line data1 data2 data3 data4
 row_reply_line (row_reply.Refused why) = refused_line why
 
 -- the line of a reply
 abbrev pub reply_line : Reply → List ℕ
 reply_line (reply.Rows answer) = row_reply_line answer
-reply_line (reply.Posted n) = posted_line n
+reply_line (reply.Posted n) = total_line (codes "posted,") n
 reply_line (reply.Refused why) = refused_line why

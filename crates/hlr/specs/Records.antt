@@ -4,11 +4,12 @@ use Rattle.std.specs.Str.{bytes_eq}
 use Rattle.std.specs.Option.{unwrap_or}
 use Rattle.csv.specs.Records.{field_at}
 use Rattle.tatp_rows.specs.Number.{number_in}
-use Rattle.tatp_rows.specs.Rows.{subscriber_of}
+use Rattle.tatp_rows.specs.Letters.{letters_in}
+use Rattle.tatp_rows.specs.Rows.{access_of, facility_of, subscriber_of}
 use Rattle.tatp_rows.specs.declared.refusal.Refusal.{Refusal}
 use Rattle.tatp_rows.specs.declared.refusal.Refusal.TheVariants.{Syntax}
 use Rattle.hlr_core.specs.declared.event.Event.TheVariants as event
-use Rattle.hlr.specs.Fields.{◌>>=◌, number_field, digits_field, bytes_field}
+use Rattle.hlr.specs.Fields.{◌>>=◌, number_field, byte_field, digits_field, bytes_field}
 use Rattle.hlr.specs.declared.records.Command.{Command}
 use Rattle.hlr.specs.declared.records.Command.TheVariants as command
 use Rattle.hlr.specs.declared.records.Word.{Word}
@@ -50,12 +51,55 @@ gsd_of fields = do
   s_id ← number_field (field fields 1)
   Ok (command.Ask (event.SubscriberData s_id))
 
+-- gnd,S,sf_type,start_time,end_time
+abbrev pub gnd_of : List (List ℕ) → Result Command Refusal
+gnd_of fields = do
+  s_id ← number_field (field fields 1)
+  sf_type ← number_field (field fields 2)
+  start_time ← number_field (field fields 3)
+  end_time ← number_field (field fields 4)
+  Ok (command.Ask (event.NewDestination s_id sf_type start_time end_time))
+
+-- gad,S,ai_type
+abbrev pub gad_of : List (List ℕ) → Result Command Refusal
+gad_of fields = do
+  s_id ← number_field (field fields 1)
+  ai_type ← number_field (field fields 2)
+  Ok (command.Ask (event.AccessData s_id ai_type))
+
+-- usd,S,sf_type,bit_1,data_a
+abbrev pub usd_of : List (List ℕ) → Result Command Refusal
+usd_of fields = do
+  s_id ← number_field (field fields 1)
+  sf_type ← number_field (field fields 2)
+  bit_1 ← number_field (field fields 3)
+  data_a ← number_field (field fields 4)
+  Ok (command.Ask (event.UpdateSubscriber s_id sf_type bit_1 data_a))
+
 -- ul,N,vlr
 abbrev pub ul_of : List (List ℕ) → Result Command Refusal
 ul_of fields = do
   sub_nbr ← number_in (field fields 1)
   vlr_location ← number_field (field fields 2)
   Ok (command.Ask (event.UpdateLocation sub_nbr vlr_location))
+
+-- icf,N,sf_type,start_time,end_time,numberx
+abbrev pub icf_of : List (List ℕ) → Result Command Refusal
+icf_of fields = do
+  sub_nbr ← number_in (field fields 1)
+  sf_type ← number_field (field fields 2)
+  start_time ← number_field (field fields 3)
+  end_time ← number_field (field fields 4)
+  numberx ← number_in (field fields 5)
+  Ok (command.Ask (event.InsertForwarding sub_nbr sf_type start_time end_time numberx))
+
+-- dcf,N,sf_type,start_time
+abbrev pub dcf_of : List (List ℕ) → Result Command Refusal
+dcf_of fields = do
+  sub_nbr ← number_in (field fields 1)
+  sf_type ← number_field (field fields 2)
+  start_time ← number_field (field fields 3)
+  Ok (command.Ask (event.DeleteForwarding sub_nbr sf_type start_time))
 
 -- sub,S,N,BITS,HEXES,BYTES,msc,vlr
 abbrev pub sub_of : List (List ℕ) → Result Command Refusal
@@ -78,6 +122,45 @@ sub_of fields = do
   })
   Ok (command.Ask (event.AddSubscriber row))
 
+-- acc,S,ai_type,data1,data2,data3,data4
+abbrev pub acc_of : List (List ℕ) → Result Command Refusal
+acc_of fields = do
+  s_id ← number_field (field fields 1)
+  ai_type ← number_field (field fields 2)
+  data1 ← byte_field (field fields 3)
+  data2 ← byte_field (field fields 4)
+  data3 ← letters_in 3 (field fields 5)
+  data4 ← letters_in 5 (field fields 6)
+  row ← access_of (record { s_id = s_id; ai_type = ai_type; data1 = data1; data2 = data2; data3 = data3; data4 = data4 })
+  Ok (command.Ask (event.AddAccess row))
+
+-- fac,S,sf_type,is_active,error_cntrl,data_a,data_b
+abbrev pub fac_of : List (List ℕ) → Result Command Refusal
+fac_of fields = do
+  s_id ← number_field (field fields 1)
+  sf_type ← number_field (field fields 2)
+  is_active ← number_field (field fields 3)
+  error_cntrl ← byte_field (field fields 4)
+  data_a ← byte_field (field fields 5)
+  data_b ← letters_in 5 (field fields 6)
+  row ← facility_of (record { s_id = s_id; sf_type = sf_type; is_active = is_active; error_cntrl = error_cntrl; data_a = data_a; data_b = data_b })
+  Ok (command.Ask (event.AddFacility row))
+
+-- active,S,sf_type,is_active
+abbrev pub active_of : List (List ℕ) → Result Command Refusal
+active_of fields = do
+  s_id ← number_field (field fields 1)
+  sf_type ← number_field (field fields 2)
+  is_active ← number_field (field fields 3)
+  Ok (command.Ask (event.SetActive s_id sf_type is_active))
+
+-- number,S,N
+abbrev pub number_of : List (List ℕ) → Result Command Refusal
+number_of fields = do
+  s_id ← number_field (field fields 1)
+  sub_nbr ← number_in (field fields 2)
+  Ok (command.Ask (event.SetNumber s_id sub_nbr))
+
 -- post,part,limit
 abbrev pub post_of : List (List ℕ) → Result Command Refusal
 post_of fields = do
@@ -92,10 +175,21 @@ with_fields n fields read = if length fields == n + 1 then read else Err Syntax
 -- the command of a word and its fields; words whose command this program doesn't know yet are Syntax
 abbrev pub command_named : Option Word → List (List ℕ) → Result Command Refusal
 command_named (Some word.Gsd) fields = with_fields 1 fields (gsd_of fields)
+command_named (Some word.Gnd) fields = with_fields 4 fields (gnd_of fields)
+command_named (Some word.Gad) fields = with_fields 2 fields (gad_of fields)
+command_named (Some word.Usd) fields = with_fields 4 fields (usd_of fields)
 command_named (Some word.Ul) fields = with_fields 2 fields (ul_of fields)
+command_named (Some word.Icf) fields = with_fields 5 fields (icf_of fields)
+command_named (Some word.Dcf) fields = with_fields 3 fields (dcf_of fields)
 command_named (Some word.Sub) fields = with_fields 7 fields (sub_of fields)
+command_named (Some word.Acc) fields = with_fields 6 fields (acc_of fields)
+command_named (Some word.Fac) fields = with_fields 6 fields (fac_of fields)
+command_named (Some word.Active) fields = with_fields 3 fields (active_of fields)
+command_named (Some word.Number) fields = with_fields 2 fields (number_of fields)
 command_named (Some word.Post) fields = with_fields 2 fields (post_of fields)
 command_named (Some word.Views) fields = with_fields 0 fields (Ok command.Views)
+command_named (Some word.Scan) fields = with_fields 0 fields (Ok command.Scan)
+command_named (Some word.Index) fields = with_fields 0 fields (Ok command.Index)
 command_named _ fields = Err Syntax
 
 -- the command of a record

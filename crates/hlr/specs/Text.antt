@@ -5,6 +5,8 @@ use Rattle.csv.specs.Reading.{AreRecords, Reached, default_config}
 use Rattle.csv.specs.declared.parser.State.{State}
 use Rattle.csv.specs.declared.parser.State.TheVariants as st
 use Rattle.tatp_rows.specs.declared.refusal.Refusal.{Refusal}
+use Rattle.tatp_actions.specs.Cell.{cell}
+use Rattle.hlr_core.specs.Index.{index_of}
 use Rattle.hlr_core.specs.Step.{IsStep}
 use Rattle.hlr_core.specs.Store.{Store, published, unposted}
 use Rattle.hlr_core.specs.declared.event.Event.{Event}
@@ -13,7 +15,7 @@ use Rattle.hlr.specs.declared.run.TheConstants.{RECORDS}
 use Rattle.hlr.specs.Lines.{refused_line, reply_line}
 use Rattle.hlr.specs.Records.{command_of}
 use Rattle.hlr.specs.Sink.{Begins, AppendsFront}
-use Rattle.hlr.specs.Views.{views_text}
+use Rattle.hlr.specs.Reports.{index_text, scan_text, views_text}
 use Rattle.hlr.specs.declared.fault.Fault.{Fault}
 use Rattle.hlr.specs.declared.fault.Fault.TheVariants as fault
 use Rattle.hlr.specs.declared.records.Command.{Command}
@@ -29,6 +31,8 @@ pub record Answered (before : Store) (event : Event) (text : List ℕ) (after : 
 abbrev pub CommandText : Result Command Refusal → Store → List ℕ → Store → Type 0
 CommandText (Ok (command.Ask event)) before text after = Answered before event text after
 CommandText (Ok command.Views) before text after = (text ≡ views_text (published before) (unposted before)) × (after ≡ before)
+CommandText (Ok command.Scan) before text after = (text ≡ scan_text (λ c. cell before.width c before.book)) × (after ≡ before)
+CommandText (Ok command.Index) before text after = (text ≡ index_text (index_of before.book.subscribers)) × (after ≡ before)
 CommandText (Err why) before text after = (text ≡ refused_line why) × (after ≡ before)
 
 -- a record is answered

@@ -3,7 +3,7 @@ ghost use Rattle.std.specs.Prelude.{◌≡◌, ℕ, ◌<◌};
 ghost use Rattle.std.specs.List.{EachIndex};
 ghost use Rattle.std.specs.Prelude.{slice_index};
 ghost use Rattle.std.specs.Char.{digit_value};
-ghost use Rattle.hlr.specs.Fields.{number_field, digits_field, bytes_of, bytes_field};
+ghost use Rattle.hlr.specs.Fields.{number_field, byte_field, digits_field, bytes_of, bytes_field};
 
 use tatp_rows::Refusal;
 
@@ -27,6 +27,16 @@ pub fn parse_number(text: &[u8]) -> Result<u64, Refusal>
         value = value * 10 + digit;
     }
     Ok(value)
+}
+
+/// The byte that a field spells: a number of at most 255. Anything else is `Field`.
+pub fn parse_byte(text: &[u8]) -> Result<u8, Refusal>
+    ensures { result ≡ byte_field text.now }
+{
+    match u8::try_from(parse_number(text)?) {
+        Ok(byte) => Ok(byte),
+        Err(_) => Err(Refusal::Field),
+    }
 }
 
 /// The value of a digit or a letter, from 0 for `0` to 35 for `z` and `Z`, and 36 for any other byte.

@@ -1,15 +1,16 @@
 //! The lines of the answers.
-ghost use Rattle.std.specs.Prelude.{◌≡◌, ◌≤◌, ◌<◌, ◌+◌, ◌*◌, ◌++◌, ◌∷◌, [], length, decimal, replicate};
+ghost use Rattle.std.specs.Prelude.{◌≡◌, ◌≤◌, ◌<◌, ◌+◌, ◌*◌, ◌++◌, ◌∷◌, [], length, codes, decimal, replicate};
+ghost use Rattle.std.specs.List.{flat_map};
 ghost use Rattle.std.specs.Fmt.{signed_decimal};
 ghost use Rattle.arrayvec.specs.ArrayVec.{array_vec_len};
 ghost use Rattle.tatp_rows.specs.Number.{number_text};
-ghost use Rattle.hlr.specs.Lines.{hex_digit, hexes_text, bytes_text, ok_line, refused_line, subscriber_line, posted_line, cell_line, views_line, row_reply_line, reply_line};
+ghost use Rattle.hlr.specs.Lines.{hex_digit, hexes_text, bytes_text, numbers_text, ok_line, refused_line, subscriber_line, numbers_line, access_line, total_line, cell_line, counted_line, number_line, row_reply_line, reply_line};
 
 use arrayvec::ArrayVec;
 use hlr_core::Reply;
 use itoa::Buffer;
 use tatp_actions::RowReply;
-use tatp_rows::{Number, Refusal, Subscriber};
+use tatp_rows::{Letters, Number, Refusal, Subscriber};
 
 /// A line while it is built. It takes no memory: its 256 bytes lie in the value itself.
 pub type Line = ArrayVec<u8, 256>;
@@ -153,14 +154,55 @@ pub fn build_subscriber(line: &mut Line, row: &Subscriber)
     push_bytes(line, b"\n");
 }
 
-/// Builds the line of how many cells were posted.
-#[tactic(auto, unfolding(crate::specs::Lines::posted_line))]
-pub fn build_posted(line: &mut Line, cells: u8)
-    ensures { line.new.items ≡ posted_line cells }
+/// Appends the numbers of a list, each after a comma.
+fn push_numbers(line: &mut Line, numbers: &[Number])
+    requires { array_vec_len line.old + 36 * length numbers.now ≤ 256 }
+    ensures bytes { line.new.items ≡ line.old.items ++ numbers_text numbers.now }
+    ensures len { array_vec_len line.new ≤ array_vec_len line.old + 36 * length numbers.now }
+{
+    for number in numbers {
+        push_bytes(line, b",");
+        push_number(line, *number);
+    }
+}
+
+/// Builds the line of the numbers that were found.
+#[tactic(auto, unfolding(crate::specs::Lines::numbers_line))]
+pub fn build_numbers(line: &mut Line, numbers: &ArrayVec<Number, 3>)
+    ensures { line.new.items ≡ numbers_line numbers.now.items }
 {
     line.clear();
-    push_bytes(line, b"posted,");
-    push_decimal(line, u64::from(cells));
+    push_bytes(line, b"numbers");
+    push_numbers(line, numbers.as_slice());
+    push_bytes(line, b"\n");
+}
+
+/// Builds the line of an access: data1 to data4.
+#[tactic(auto, unfolding(crate::specs::Lines::access_line))]
+pub fn build_access(line: &mut Line, data1: u8, data2: u8, data3: Letters<3>, data4: Letters<5>)
+    ensures { line.new.items ≡ access_line data1 data2 data3 data4 }
+{
+    line.clear();
+    push_bytes(line, b"access,");
+    push_decimal(line, u64::from(data1));
+    push_bytes(line, b",");
+    push_decimal(line, u64::from(data2));
+    push_bytes(line, b",");
+    push_bytes(line, &data3.bytes());
+    push_bytes(line, b",");
+    push_bytes(line, &data4.bytes());
+    push_bytes(line, b"\n");
+}
+
+/// Builds the line of a word, which ends with a comma, and a count.
+#[tactic(auto, unfolding(crate::specs::Lines::total_line))]
+pub fn build_total(line: &mut Line, word: &[u8], count: u64)
+    requires { length word.now ≤ 8 }
+    ensures { line.new.items ≡ total_line word.now count }
+{
+    line.clear();
+    push_bytes(line, word);
+    push_decimal(line, count);
     push_bytes(line, b"\n");
 }
 
@@ -179,14 +221,29 @@ pub fn build_cell(line: &mut Line, cell: u64, published: i64, unposted: i64)
     push_bytes(line, b"\n");
 }
 
-/// Builds the line of how many lines a report of cells has.
-#[tactic(auto, unfolding(crate::specs::Lines::views_line))]
-pub fn build_views(line: &mut Line, lines: u64)
-    ensures { line.new.items ≡ views_line lines }
+/// Builds the line of a cell counted over the rows.
+#[tactic(auto, unfolding(crate::specs::Lines::counted_line))]
+pub fn build_counted(line: &mut Line, cell: u64, count: u64)
+    ensures { line.new.items ≡ counted_line cell count }
 {
     line.clear();
-    push_bytes(line, b"views,");
-    push_decimal(line, lines);
+    push_bytes(line, b"cell,");
+    push_decimal(line, cell);
+    push_bytes(line, b",");
+    push_decimal(line, count);
+    push_bytes(line, b"\n");
+}
+
+/// Builds the line of a number and the subscriber who has it.
+#[tactic(auto, unfolding(crate::specs::Lines::number_line))]
+pub fn build_number(line: &mut Line, number: Number, s_id: u32)
+    ensures { line.new.items ≡ number_line (number, s_id) }
+{
+    line.clear();
+    push_bytes(line, b"number,");
+    push_number(line, number);
+    push_bytes(line, b",");
+    push_decimal(line, u64::from(s_id));
     push_bytes(line, b"\n");
 }
 
@@ -197,6 +254,13 @@ fn build_row_reply(line: &mut Line, reply: &RowReply)
     match reply {
         RowReply::Done => build_ok(line),
         RowReply::Row(row) => build_subscriber(line, row),
+        RowReply::Numbers(numbers) => build_numbers(line, numbers),
+        RowReply::AccessRow {
+            data1,
+            data2,
+            data3,
+            data4,
+        } => build_access(line, *data1, *data2, *data3, *data4),
         RowReply::Refused(why) => build_refused(line, *why),
     }
 }
@@ -207,7 +271,7 @@ pub fn build_reply(line: &mut Line, reply: &Reply)
 {
     match reply {
         Reply::Rows(rows) => build_row_reply(line, rows),
-        Reply::Posted(cells) => build_posted(line, *cells),
+        Reply::Posted(cells) => build_total(line, b"posted,", u64::from(*cells)),
         Reply::Refused(why) => build_refused(line, *why),
     }
 }

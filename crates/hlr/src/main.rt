@@ -6,11 +6,11 @@ mod fields;
 mod lines;
 mod options;
 mod records;
+mod reports;
 mod run;
 mod sink;
 #[cfg(test)]
 mod tests;
-mod views;
 mod whole_records;
 
 use clap::error::ErrorKind;

@@ -21,14 +21,26 @@ Standard input is CSV without a header row, a command a record. Each record is a
 the program waits for more input.
 
   sub,S,N,BITS,HEXES,BYTES,M,V   adds the subscriber S, 1 to 16777216, of number N, 15 digits: ok
+  acc,S,A,D,E,C,B                adds an access of type A: ok
+  fac,S,F,I,E,D,B                adds a facility of type F: ok
   gsd,S                          shows a subscriber: subscriber,S,N,BITS,HEXES,BYTES,M,V
+  gnd,S,F,T,U                    shows where calls are forwarded to by the hour T, beyond the hour U: numbers,N,..
+  gad,S,A                        shows an access: access,D,E,C,B
+  usd,S,F,I,D                    sets the first of BITS, and D of the facility: ok
   ul,N,V                         sets the location of the subscriber of number N: ok
+  icf,N,F,T,U,X                  forwards calls from the hour T to the hour U to the number X: ok
+  dcf,N,F,T                      ends that: ok
+  active,S,F,I                   switches a facility on or off: ok
+  number,S,N                     gives a subscriber another number: ok
   post,0,L                       publishes the changed counts of at most L cells: posted,CELLS
   views                          shows the counts that aren't 0: cell,C,PUBLISHED,UNPOSTED lines, then views,LINES
+  scan                           counts the rows anew: cell,C,COUNT lines, then scan,LINES
+  index                          shows all numbers: number,N,S lines, then index,LINES
 
-BITS are 10 digits 0 or 1, HEXES 10 and BYTES 20 hexadecimal digits, and the locations M and V 1 to 4294967295. Any
-other record, or one that can't be done, is answered refused,CODE,NAME. A run starts with no subscriber and keeps
-none. It ends with its input, or after 1048576 records.
+BITS are 10 digits 0 or 1, HEXES 10 and BYTES 20 hexadecimal digits, and the locations M and V 1 to 4294967295. The
+types A and F are 1 to 4, D and E 0 to 255, I is 0 or 1, T is 0, 8 or 16, U 1 to 24, X is a number as N, C is 3 and B
+5 letters A to Z. Any other record, or one that can't be done, is answered refused,CODE,NAME. A run starts with no
+subscriber and keeps none. It ends with its input, or after 1048576 records.
 
 Example:
 

@@ -1,12 +1,12 @@
 //! The commands that records are.
 ghost use Rattle.std.specs.Prelude.{◌≡◌, Some};
 ghost use Rattle.csv.specs.Records.{fields_of};
-ghost use Rattle.hlr.specs.Records.{field, word_named, gsd_of, ul_of, sub_of, post_of, with_fields, command_named, command_of};
+ghost use Rattle.hlr.specs.Records.{field, word_named, gsd_of, gnd_of, gad_of, usd_of, ul_of, icf_of, dcf_of, sub_of, acc_of, fac_of, active_of, number_of, post_of, with_fields, command_named, command_of};
 
-use crate::fields::{parse_bytes, parse_digits, parse_number};
+use crate::fields::{parse_byte, parse_bytes, parse_digits, parse_number};
 use csv::ByteRecord;
 use hlr_core::Event;
-use tatp_rows::{Number, Refusal, Subscriber};
+use tatp_rows::{Access, Facility, Letters, Number, Refusal, Subscriber};
 
 /// What a record asks for.
 #[derive(Clone, Copy, Debug, PartialEq, Eq)]
@@ -15,6 +15,10 @@ pub enum Command {
     Ask(Event),
     /// The report of the standing counts.
     Views,
+    /// The report of the counts over the rows.
+    Scan,
+    /// The report of the numbers.
+    Index,
 }
 
 /// The words that a record may begin with.
@@ -110,6 +114,47 @@ fn read_gsd(row: &ByteRecord) -> Result<Command, Refusal>
     Ok(Command::Ask(Event::SubscriberData { s_id }))
 }
 
+/// `gnd,S,sf_type,start_time,end_time`.
+fn read_gnd(row: &ByteRecord) -> Result<Command, Refusal>
+    ensures { result ≡ gnd_of (fields_of row.now) }
+{
+    let s_id = parse_number(field(row, 1))?;
+    let sf_type = parse_number(field(row, 2))?;
+    let start_time = parse_number(field(row, 3))?;
+    let end_time = parse_number(field(row, 4))?;
+    Ok(Command::Ask(Event::NewDestination {
+        s_id,
+        sf_type,
+        start_time,
+        end_time,
+    }))
+}
+
+/// `gad,S,ai_type`.
+fn read_gad(row: &ByteRecord) -> Result<Command, Refusal>
+    ensures { result ≡ gad_of (fields_of row.now) }
+{
+    let s_id = parse_number(field(row, 1))?;
+    let ai_type = parse_number(field(row, 2))?;
+    Ok(Command::Ask(Event::AccessData { s_id, ai_type }))
+}
+
+/// `usd,S,sf_type,bit_1,data_a`.
+fn read_usd(row: &ByteRecord) -> Result<Command, Refusal>
+    ensures { result ≡ usd_of (fields_of row.now) }
+{
+    let s_id = parse_number(field(row, 1))?;
+    let sf_type = parse_number(field(row, 2))?;
+    let bit_1 = parse_number(field(row, 3))?;
+    let data_a = parse_number(field(row, 4))?;
+    Ok(Command::Ask(Event::UpdateSubscriber {
+        s_id,
+        sf_type,
+        bit_1,
+        data_a,
+    }))
+}
+
 /// `ul,N,vlr`.
 fn read_ul(row: &ByteRecord) -> Result<Command, Refusal>
     ensures { result ≡ ul_of (fields_of row.now) }
@@ -119,6 +164,38 @@ fn read_ul(row: &ByteRecord) -> Result<Command, Refusal>
     Ok(Command::Ask(Event::UpdateLocation {
         sub_nbr,
         vlr_location,
+    }))
+}
+
+/// `icf,N,sf_type,start_time,end_time,numberx`.
+fn read_icf(row: &ByteRecord) -> Result<Command, Refusal>
+    ensures { result ≡ icf_of (fields_of row.now) }
+{
+    let sub_nbr = Number::from_digits(field(row, 1))?;
+    let sf_type = parse_number(field(row, 2))?;
+    let start_time = parse_number(field(row, 3))?;
+    let end_time = parse_number(field(row, 4))?;
+    let numberx = Number::from_digits(field(row, 5))?;
+    Ok(Command::Ask(Event::InsertForwarding {
+        sub_nbr,
+        sf_type,
+        start_time,
+        end_time,
+        numberx,
+    }))
+}
+
+/// `dcf,N,sf_type,start_time`.
+fn read_dcf(row: &ByteRecord) -> Result<Command, Refusal>
+    ensures { result ≡ dcf_of (fields_of row.now) }
+{
+    let sub_nbr = Number::from_digits(field(row, 1))?;
+    let sf_type = parse_number(field(row, 2))?;
+    let start_time = parse_number(field(row, 3))?;
+    Ok(Command::Ask(Event::DeleteForwarding {
+        sub_nbr,
+        sf_type,
+        start_time,
     }))
 }
 
@@ -145,6 +222,57 @@ fn read_sub(row: &ByteRecord) -> Result<Command, Refusal>
     Ok(Command::Ask(Event::AddSubscriber(row)))
 }
 
+/// `acc,S,ai_type,data1,data2,data3,data4`.
+fn read_acc(row: &ByteRecord) -> Result<Command, Refusal>
+    ensures { result ≡ acc_of (fields_of row.now) }
+{
+    let s_id = parse_number(field(row, 1))?;
+    let ai_type = parse_number(field(row, 2))?;
+    let data1 = parse_byte(field(row, 3))?;
+    let data2 = parse_byte(field(row, 4))?;
+    let data3 = Letters::<3>::from_bytes(field(row, 5))?;
+    let data4 = Letters::<5>::from_bytes(field(row, 6))?;
+    let row = Access::try_new(s_id, ai_type, data1, data2, data3, data4)?;
+    Ok(Command::Ask(Event::AddAccess(row)))
+}
+
+/// `fac,S,sf_type,is_active,error_cntrl,data_a,data_b`.
+fn read_fac(row: &ByteRecord) -> Result<Command, Refusal>
+    ensures { result ≡ fac_of (fields_of row.now) }
+{
+    let s_id = parse_number(field(row, 1))?;
+    let sf_type = parse_number(field(row, 2))?;
+    let is_active = parse_number(field(row, 3))?;
+    let error_cntrl = parse_byte(field(row, 4))?;
+    let data_a = parse_byte(field(row, 5))?;
+    let data_b = Letters::<5>::from_bytes(field(row, 6))?;
+    let row = Facility::try_new(s_id, sf_type, is_active, error_cntrl, data_a, data_b)?;
+    Ok(Command::Ask(Event::AddFacility(row)))
+}
+
+/// `active,S,sf_type,is_active`.
+fn read_active(row: &ByteRecord) -> Result<Command, Refusal>
+    ensures { result ≡ active_of (fields_of row.now) }
+{
+    let s_id = parse_number(field(row, 1))?;
+    let sf_type = parse_number(field(row, 2))?;
+    let is_active = parse_number(field(row, 3))?;
+    Ok(Command::Ask(Event::SetActive {
+        s_id,
+        sf_type,
+        is_active,
+    }))
+}
+
+/// `number,S,N`.
+fn read_number(row: &ByteRecord) -> Result<Command, Refusal>
+    ensures { result ≡ number_of (fields_of row.now) }
+{
+    let s_id = parse_number(field(row, 1))?;
+    let sub_nbr = Number::from_digits(field(row, 2))?;
+    Ok(Command::Ask(Event::SetNumber { s_id, sub_nbr }))
+}
+
 /// `post,part,limit`.
 fn read_post(row: &ByteRecord) -> Result<Command, Refusal>
     ensures { result ≡ post_of (fields_of row.now) }
@@ -161,10 +289,21 @@ fn read_fields(word: Word, row: &ByteRecord) -> Result<Command, Refusal>
 {
     match word {
         Word::Gsd if row.len() == 2 => read_gsd(row),
+        Word::Gnd if row.len() == 5 => read_gnd(row),
+        Word::Gad if row.len() == 3 => read_gad(row),
+        Word::Usd if row.len() == 5 => read_usd(row),
         Word::Ul if row.len() == 3 => read_ul(row),
+        Word::Icf if row.len() == 6 => read_icf(row),
+        Word::Dcf if row.len() == 4 => read_dcf(row),
         Word::Sub if row.len() == 8 => read_sub(row),
+        Word::Acc if row.len() == 7 => read_acc(row),
+        Word::Fac if row.len() == 7 => read_fac(row),
+        Word::Active if row.len() == 4 => read_active(row),
+        Word::Number if row.len() == 3 => read_number(row),
         Word::Post if row.len() == 3 => read_post(row),
         Word::Views if row.len() == 1 => Ok(Command::Views),
+        Word::Scan if row.len() == 1 => Ok(Command::Scan),
+        Word::Index if row.len() == 1 => Ok(Command::Index),
         _ => Err(Refusal::Syntax),
     }
 }

@@ -15,8 +15,8 @@ ghost use Rattle.hlr.specs.declared.fault.Fault.TheVariants as fault;
 use crate::fault::{Fault, read_fault};
 use crate::lines::{Line, build_refused, build_reply, empty_line};
 use crate::records::{Command, read_command};
+use crate::reports::{write_index, write_scan, write_views};
 use crate::sink::{Sink, Stalled, put_all};
-use crate::views::write_views;
 use crate::whole_records::WholeRecords;
 use csv::{ByteRecord, Reader, ReaderBuilder};
 use hlr_core::Register;
@@ -45,11 +45,9 @@ fn answer<S: Sink>(
             build_reply(line, &reply);
             put_all(sink, line.as_slice())
         }
-        Ok(Command::Views) => {
-            let published = register.published();
-            let unposted = register.unposted();
-            write_views(&published, &unposted, line, sink)
-        }
+        Ok(Command::Views) => write_views(register, line, sink),
+        Ok(Command::Scan) => write_scan(register, line, sink),
+        Ok(Command::Index) => write_index(register.index(), line, sink),
         Err(why) => {
             build_refused(line, why);
             put_all(sink, line.as_slice())

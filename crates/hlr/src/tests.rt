@@ -1,13 +1,13 @@
 //! What no clause says: readers and writers that are slow or fail, answers that come before a read may wait, the limit of
 //! records, and the options. Whole scripts lie in the repository's folder `examples`, each with its answers.
 use crate::fault::Fault;
-use crate::fields::{parse_bytes, parse_digits, parse_number};
-use crate::lines::{build_cell, build_reply, build_views, empty_line};
+use crate::fields::{parse_byte, parse_bytes, parse_digits, parse_number};
+use crate::lines::{build_cell, build_counted, build_reply, build_total, empty_line};
 use crate::options::read_options;
 use crate::records::{Word, word_of};
+use crate::reports::{Counts, write_cells};
 use crate::run::run_alone;
 use crate::sink::{Out, PutFault, Sink, put_all};
-use crate::views::write_views;
 use clap::error::ErrorKind as OptionFault;
 use hlr_core::Reply;
 use std::cell::Cell;
@@ -275,6 +275,77 @@ fn writers_may_be_slow_and_fail(rt: HostRuntime) {
     }
 }
 
+/// Each command on rows, and each report.
+const COMMANDS: &[u8] =
+    b"sub,7,000000000000007,0000000000,0000000000,00000000000000000000,1,268435456
+acc,7,4,255,0,ABC,VWXYZ
+gad,7,4
+fac,7,2,1,0,0,ABCDE
+icf,000000000000007,2,0,8,000000000000100
+icf,000000000000007,2,8,16,000000000000200
+gnd,7,2,8,7
+dcf,000000000000007,2,8
+usd,7,2,1,9
+gsd,7
+active,7,2,0
+number,7,000000000000009
+scan
+index
+views
+";
+
+/// The answers to the commands.
+const DONE: &[u8] = b"ok
+ok
+access,255,0,ABC,VWXYZ
+ok
+ok
+ok
+numbers,000000000000100,000000000000200
+ok
+ok
+subscriber,7,000000000000007,1000000000,0000000000,00000000000000000000,1,268435456
+ok
+ok
+cell,4,1
+cell,20,4
+scan,2
+number,000000000000009,7
+index,1
+cell,4,0,1
+cell,20,0,4
+views,2
+";
+
+#[test]
+fn each_command_is_answered(rt: HostRuntime) {
+    let pending = Cell::new(false);
+    let mut tape = Tape::new(&pending);
+    let done = answer_feed(&rt, Feed::new(&pending, COMMANDS, 8192), &mut tape);
+    assert_eq!(rt; done, Ok(()));
+    assert_eq!(rt; tape.text(), DONE);
+}
+
+#[test]
+fn a_writer_may_fail_in_a_report(rt: HostRuntime) {
+    let pending = Cell::new(false);
+    for (text, room, wanted) in [
+        (
+            b"views\nscan\nviews\n".as_slice(),
+            17,
+            b"views,0\nscan,0\nvi".as_slice(),
+        ),
+        (COMMANDS, DONE.len() - 60, &DONE[..DONE.len() - 60]),
+        (COMMANDS, DONE.len() - 40, &DONE[..DONE.len() - 40]),
+    ] {
+        let mut tape = Tape::new(&pending);
+        tape.room = room;
+        let done = answer_feed(&rt, Feed::new(&pending, text, 8192), &mut tape);
+        assert_eq!(rt; done, Err(Fault::Write));
+        assert_eq!(rt; tape.text(), wanted);
+    }
+}
+
 #[test]
 fn interrupted_writes_are_tried_again(rt: HostRuntime) {
     let pending = Cell::new(false);
@@ -364,12 +435,19 @@ fn lines_and_fields_are_as_told(rt: HostRuntime) {
         line.as_slice(),
         b"cell,50,-9223372036854775808,-1\n".as_slice()
     );
-    build_views(&mut line, 51);
+    build_counted(&mut line, 50, u64::MAX);
+    assert_eq!(rt;
+        line.as_slice(),
+        b"cell,50,18446744073709551615\n".as_slice()
+    );
+    build_total(&mut line, b"views,", 51);
     assert_eq!(rt; line.as_slice(), b"views,51\n".as_slice());
     build_reply(&mut line, &Reply::Refused(Refusal::Worn));
     assert_eq!(rt; line.as_slice(), b"refused,17,Worn\n".as_slice());
     assert_eq!(rt; word_of(b"recut"), Some(Word::Recut));
     assert_eq!(rt; parse_number(b"18446744073709551615"), Ok(u64::MAX));
+    assert_eq!(rt; parse_byte(b"00255"), Ok(255));
+    assert_eq!(rt; parse_byte(b"256"), Err(Refusal::Field));
     assert_eq!(rt; parse_digits::<3>(b"aF0", 16), Ok([10, 15, 0]));
     assert_eq!(rt;
         parse_bytes(b"00ff10A0000000000001"),
@@ -387,10 +465,11 @@ fn pieces_and_reports_are_put(rt: HostRuntime) {
     let mut published = [0i64; 51];
     published[50] = -3;
     let mut line = empty_line();
-    assert_eq!(rt;
-        write_views(&published, &[0; 51], &mut line, &mut sink),
-        Ok(())
-    );
+    let counts = Counts::Standing {
+        published: &published,
+        unposted: &[0; 51],
+    };
+    assert_eq!(rt; write_cells(&counts, &mut line, &mut sink), Ok(()));
     assert_eq!(rt; sink.flush(), Ok(()));
     assert_eq!(rt; tape.text(), b"abcdcell,50,-3,0\nviews,1\n".as_slice());
     let mut tape = Tape::new(&pending);

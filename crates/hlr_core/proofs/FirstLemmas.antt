@@ -1,6 +1,7 @@
--- Whether a subscriber has a row, by the first row from it on.
-use Rattle.std.proofs.Common.{◌≡◌, ◌≢◌, refl, sym, ℕ, ◌+◌, ◌<◌, ◌≤◌, ◌==◌, List, [], ◌∷◌, Bool, true, false, Some, None, inl, inr, arith}
-use Rattle.std.specs.Prelude.{nat_le, is_some}
+-- The row of a subscriber, by the first row from it on.
+use Rattle.std.proofs.Common.{◌≡◌, ◌≢◌, refl, sym, ℕ, ◌+◌, ◌<◌, ◌≤◌, ◌==◌, List, [], ◌∷◌, true, false, Some, None, inl, inr, arith}
+use Rattle.std.specs.Prelude.{nat_le, option_map}
+use Rattle.std.specs.Bool.{then_some}
 use Rattle.std.proofs.lemmas.Bool.{cases_eq}
 use Rattle.std.proofs.lemmas.Bool.Decides.{nat_tests}
 use Rattle.tatp_rows.proofs.OrderedLemmas.{by_test, each-weaker, absent_below}
@@ -65,13 +66,15 @@ first_is_none s (x ∷ xs) none =
     let test : (subscriber_key x == key_of s 0 0) ≡ false = grind (arith, nat_tests) in
     rw test (first_is_none s xs parts.2)
 
--- a subscriber has a row exactly where the first row from it on is its own
-pub has_row : (book : Book) (s : ℕ) (row : SubscriberRow) (answer : Bool) → IsRowsOf 1 (LAST_SUBSCRIBER + 1) book → Some row ≡ first_subscriber s book.subscribers → answer ≡ (row.s_id == s)
-    → answer ≡ is_some (subscriber_at book s)
-has_row book s row answer rows found is = elim (cases_eq row.s_id s) [
-  | inl same ↦ rw (is, first_is_row s book.subscribers row rows.rules.subscribers_ordered (sym found) same) (grind (arith, nat_tests))
-  | inr other ↦ rw (is, first_is_other s book.subscribers row rows.rules.subscribers_ordered (sym found) other) (grind (arith, nat_tests))
+-- the number of a subscriber is that of the first row from it on, where this is its own
+pub number_of_first : (book : Book) (s id n : ℕ) (row : SubscriberRow) → IsRowsOf 1 (LAST_SUBSCRIBER + 1) book → Some row ≡ first_subscriber s book.subscribers → id ≡ row.s_id → n ≡ row.sub_nbr
+    → then_some (id == s) n ≡ option_map (λ (r : SubscriberRow). r.sub_nbr) (subscriber_at book s)
+number_of_first book s id n row rows found same number = elim (cases_eq row.s_id s) [
+  | inl own ↦ (let test : (row.s_id == s) ≡ true = grind (arith, nat_tests) in
+      rw (same, number, first_is_row s book.subscribers row rows.rules.subscribers_ordered (sym found) own, test) refl)
+  | inr other ↦ (let test : (row.s_id == s) ≡ false = grind (arith, nat_tests) in
+      rw (same, first_is_other s book.subscribers row rows.rules.subscribers_ordered (sym found) other, test) refl)
 ]
 
-pub has_no_row : (book : Book) (s : ℕ) → None ≡ first_subscriber s book.subscribers → false ≡ is_some (subscriber_at book s)
-has_no_row book s none = rw (first_is_none s book.subscribers (sym none)) refl
+pub number_of_none : (book : Book) (s : ℕ) → None ≡ first_subscriber s book.subscribers → None ≡ option_map (λ (r : SubscriberRow). r.sub_nbr) (subscriber_at book s)
+number_of_none book s none = rw (first_is_none s book.subscribers (sym none)) refl

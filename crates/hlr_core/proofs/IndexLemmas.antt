@@ -3,16 +3,17 @@ use Rattle.std.proofs.Common.{◌≡◌, ◌≢◌, refl, sym, ap, subst, ◌∙
 use Rattle.std.specs.Prelude.{◌==◌, nat_lt, Option, option_map, is_some}
 use Rattle.std.specs.List.{AllByRecursion}
 use Rattle.std.proofs.lemmas.Bool.Decides.{nat_tests}
-use Rattle.tatp_rows.proofs.OrderedLemmas.{by_test, row_at-with_row_same, row_at-with_row_other, with_row-either, absent_cons, each_found}
+use Rattle.tatp_rows.proofs.OrderedLemmas.{by_test, row_at-with_row_same, row_at-with_row_other, with_row-either, without_row-with_row, with_row_at_same, absent_cons, each_found, each-without_row}
 use Rattle.tatp_rows.specs.Keys.{subscriber_key}
-use Rattle.tatp_rows.specs.Ordered.{row_at, with_row_at, with_row}
+use Rattle.tatp_rows.specs.Ordered.{row_at, with_row_at, with_row, without_row}
 use Rattle.tatp_rows.specs.Rows.{SubscriberRow}
 use Rattle.mr_node.specs.Rows.{key_of_pair}
 use Rattle.tatp_rows.specs.declared.ranges.TheConstants.{LAST_SUBSCRIBER}
 use Rattle.tatp_actions.specs.Book.{Book, IsWithin}
-use Rattle.number_index.specs.Pairs.{owner_in, pair_of}
+use Rattle.number_index.specs.Pairs.{owner_in, pair_of, renamed}
 use Rattle.hlr_core.specs.Index.{number_pair, index_of, IsRegister}
-use Rattle.hlr_core.specs.Numbers.{owner_of, HasNoTwin}
+use Rattle.hlr_core.specs.Numbers.{owner_of, owner_id, HasNoTwin}
+use Rattle.hlr_core.proofs.NumbersLemmas.{AllDiffer, other_numbers, others_differ}
 
 -- no row has the number where each has another
 pub no_owner : (rows : List SubscriberRow) (n : ℕ) → AllByRecursion (λ row. n ≢ row.sub_nbr) rows → owner_of rows n ≡ None
@@ -46,22 +47,54 @@ index-with_row row (x ∷ xs) free =
     (λ e. rw e refl)
     (λ e. rw (e, index-with_row row xs rest.1) (with_row-either key_of_pair (number_pair x) (number_pair row) (index_of xs) rest.0))
 
--- a row replaced by one of the same number and subscriber
-pub index-with_row_at : (k : ℕ) (new old : SubscriberRow) (rows : List SubscriberRow) → row_at subscriber_key k rows ≡ Some old → number_pair new ≡ number_pair old
-    → index_of (with_row_at subscriber_key k new rows) ≡ index_of rows
-index-with_row_at k new old [] found same = refl
-index-with_row_at k new old (x ∷ xs) found same =
+-- no pair has a number that no row has
+index_lacks : (rows : List SubscriberRow) (n : ℕ) → AllDiffer n rows → row_at key_of_pair n (index_of rows) ≡ None
+index_lacks [] n others = refl
+index_lacks (row ∷ rows) n others = row_at-with_row_other key_of_pair n row.sub_nbr (number_pair row) (index_of rows) refl others.0 ∙ index_lacks rows n others.1
+
+-- a row replaced by one whose number the others don't have: its pair beside the pairs of the others
+index-with_row_at : (k : ℕ) (new old : SubscriberRow) (rows : List SubscriberRow) → row_at subscriber_key k rows ≡ Some old → AllDiffer new.sub_nbr (without_row subscriber_key k rows)
+    → index_of (with_row_at subscriber_key k new rows) ≡ with_row key_of_pair (number_pair new) (index_of (without_row subscriber_key k rows))
+index-with_row_at k new old [] found others = absurd cc
+index-with_row_at k new old (x ∷ xs) found others =
     by_test (subscriber_key x == k)
-    (λ e.
-    let is : Some x ≡ Some old = rw e at found in
-    let at : x ≡ old = cc in
-    rw (e, same, at) refl)
+    (λ e. rw e refl)
     (λ e.
     let rest : row_at subscriber_key k xs ≡ Some old = rw e at found in
-    rw e (ap (with_row key_of_pair (number_pair x)) (index-with_row_at k new old xs rest same)))
+    let differ : AllDiffer new.sub_nbr (x ∷ without_row subscriber_key k xs) = rw e at others in
+    rw (e, index-with_row_at k new old xs rest differ.1)
+    (with_row-either key_of_pair (number_pair x) (number_pair new) (index_of (without_row subscriber_key k xs)) (λ twin. differ.0 (sym twin))))
+
+-- the pairs are that of a row beside those of the others
+index_parts : (k : ℕ) (row : SubscriberRow) (rows : List SubscriberRow) → HasNoTwin rows → row_at subscriber_key k rows ≡ Some row
+    → index_of rows ≡ with_row key_of_pair (number_pair row) (index_of (without_row subscriber_key k rows))
+index_parts k row rows single found =
+    sym (ap index_of (with_row_at_same subscriber_key k row rows found)) ∙ index-with_row_at k row row rows found (others_differ k row rows single found)
+
+-- a row replaced by one of the same number and subscriber
+pub index_kept : (k : ℕ) (new old : SubscriberRow) (rows : List SubscriberRow) → HasNoTwin rows → row_at subscriber_key k rows ≡ Some old → number_pair new ≡ number_pair old
+    → index_of (with_row_at subscriber_key k new rows) ≡ index_of rows
+index_kept k new old rows single found same =
+    let number : old.sub_nbr ≡ new.sub_nbr = sym (ap (λ (p : ℕ × ℕ). p.0) same) in
+    let others : AllDiffer new.sub_nbr (without_row subscriber_key k rows) = rw number at (others_differ k old rows single found) in
+    index-with_row_at k new old rows found others ∙ ap (λ (p : ℕ × ℕ). with_row key_of_pair p (index_of (without_row subscriber_key k rows))) same ∙ sym (index_parts k old rows single found)
+
+-- a row replaced by one of the same subscriber with a new number
+pub index_renamed : (k : ℕ) (new old : SubscriberRow) (rows : List SubscriberRow) → HasNoTwin rows → row_at subscriber_key k rows ≡ Some old → owner_of rows new.sub_nbr ≡ None
+    → index_of (with_row_at subscriber_key k new rows) ≡ renamed old.sub_nbr new.sub_nbr new.s_id (index_of rows)
+index_renamed k new old rows single found free =
+    let each = other_numbers rows new.sub_nbr free in
+    let apart : new.sub_nbr ≢ old.sub_nbr = each_found subscriber_key (λ (r : SubscriberRow). new.sub_nbr ≢ r.sub_nbr) k rows old each found in
+    let others = index_of (without_row subscriber_key k rows) in
+    let lacks : row_at key_of_pair old.sub_nbr others ≡ None = index_lacks (without_row subscriber_key k rows) old.sub_nbr (others_differ k old rows single found) in
+    let absent : row_at key_of_pair old.sub_nbr (with_row key_of_pair (number_pair new) others) ≡ None =
+    row_at-with_row_other key_of_pair old.sub_nbr new.sub_nbr (number_pair new) others refl (λ twin. apart (sym twin)) ∙ lacks in
+    index-with_row_at k new old rows found (each-without_row subscriber_key (λ (r : SubscriberRow). new.sub_nbr ≢ r.sub_nbr) k rows each)
+    ∙ sym (rw (index_parts k old rows single found, with_row-either key_of_pair (number_pair new) (number_pair old) others apart)
+    (without_row-with_row key_of_pair old.sub_nbr (number_pair old) (with_row key_of_pair (number_pair new) others) refl absent))
 
 -- the subscriber who has a number in the index is the number's owner
-pub owner_indexed : (book : Book) (pairs : List (ℕ × ℕ)) (n : ℕ) → IsRegister book pairs → owner_in n pairs ≡ option_map (λ (row : SubscriberRow). row.s_id) (owner_of book.subscribers n)
+pub owner_indexed : (book : Book) (pairs : List (ℕ × ℕ)) (n : ℕ) → IsRegister book pairs → owner_in n pairs ≡ owner_id book.subscribers n
 owner_indexed book pairs n register = rw (register.index, index_finds book.subscribers n register.alone) (cases (owner_of book.subscribers n))
   where
     cases : (o : Option SubscriberRow) → option_map (λ (pair : ℕ × ℕ). pair.1) (option_map number_pair o) ≡ option_map (λ (row : SubscriberRow). row.s_id) o

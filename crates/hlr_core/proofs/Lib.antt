@@ -7,4 +7,6 @@ pub mod HeldLemmas
 pub mod StoreLemmas
 pub mod FirstLemmas
 pub mod IndexLemmas
+pub mod KeptLemmas
 pub mod RegisterLemmas
+pub mod RenamedLemmas

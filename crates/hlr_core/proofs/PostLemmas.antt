@@ -1,5 +1,5 @@
 -- A posting, cell by cell.
-use Rattle.std.proofs.Common.{◌≡◌, ℕ, ◌+◌, ◌-◌, ◌<◌, ◌≤◌, refl, arith, zero, suc, Bool, true, false, not, List, [], ◌∷◌, take, set, length, sym, ◌∙◌, Ok, Err, ◌⊎◌, inl, inr, min, if◌then◌else◌}
+use Rattle.std.proofs.Common.{◌≡◌, ℕ, ◌+◌, ◌-◌, ◌<◌, ◌≤◌, refl, arith, zero, suc, true, false, not, List, [], ◌∷◌, take, set, length, sym, subst, ◌∙◌, Some, None, Ok, Err, ◌⊎◌, inl, inr, min}
 use Rattle.std.specs.Prelude.{ℤ, pos, negsuc, ◌+ℤ◌, ◌-ℤ◌}
 use Rattle.std.specs.List.{range_with_len, filter}
 use Rattle.std.proofs.Math.Seq.{take-nil}
@@ -11,7 +11,7 @@ use Rattle.tatp_rows.specs.declared.refusal.Refusal.{Refusal}
 use Rattle.tatp_rows.specs.declared.refusal.Refusal.TheVariants as refusal
 use Rattle.tatp_actions.specs.declared.cells.TheConstants.{CELLS}
 use Rattle.hlr_core.specs.Board.{IsBoard}
-use Rattle.view_delta.specs.Pending.{pending_at}
+use Rattle.view_delta.specs.Pending.{pending_at, AreZero, IsNextNonzero}
 use Rattle.hlr_core.specs.Held.{HoldingState, IsCellPosted}
 use Rattle.hlr_core.specs.Post.{is_zero, is_worn, raise_cells, all_cells, post}
 use Rattle.hlr_core.specs.Words.{slot_net, net, raised}
@@ -162,21 +162,41 @@ posting_stops count slot limit start c posted pending words below room some worn
     let first = rw (open_here (gap_of count slot start) c left gap, one_left) at was in
     sym (raise_none (gap_of count slot start) slot c (take (limit - (posted + 1)) (open_from (gap_of count slot start) (c + 1) left)) posted words worn') ∙ first
 
--- one turn of a posting: where it stands after a cell that was tried, and its answer where the cell was worn
-pub posting_turn : (count : ℕ → ℕ) (slot limit : ℕ) (start : List ℕ) (c posted next : ℕ) (before after : HoldingState) (words words' : List ℕ) (b : Bool) → slot < 16 → c < CELLS → (posted ≡ limit → ⊥)
-    → IsCellPosted slot c before words (Ok b) after words' → next ≡ (if b then posted + 1 else posted)
-    → IsPosting count slot limit start c posted before.pending words
-    → (after.part ≡ before.part) × IsPosting count slot limit start (c + 1) next after.pending words'
-posting_turn count slot limit start c posted next before after words words' true own below room done is now =
-    rw (done.2, done.3, is) (refl, posting_goes_on count slot limit start c posted before.pending words own below room done.0 done.1 now)
-posting_turn count slot limit start c posted next before after words words' false own below room done is now =
-    rw (done.1, done.2, is) (refl, posting_passes count slot limit start c posted before.pending words below done.0 now)
+-- the cells up to one, with nothing pending
+pub posting_skips : (count : ℕ → ℕ) (slot limit : ℕ) (start : List ℕ) (from c posted : ℕ) (pending : List ℤ) (words : List ℕ) → from ≤ c → c ≤ CELLS → AreZero from c pending
+    → IsPosting count slot limit start from posted pending words → IsPosting count slot limit start c posted pending words
+posting_skips count slot limit start from c posted pending words up within none now = steps (c - from) from (omega arith) none now
+  where
+    steps : (n from : ℕ) → from + n ≡ c → AreZero from c pending → IsPosting count slot limit start from posted pending words → IsPosting count slot limit start c posted pending words
+    steps zero from there none now = let same : from ≡ c = omega arith in subst (λ (k : ℕ). IsPosting count slot limit start k posted pending words) same now
+    steps (suc n) from there none now =
+        steps n (from + 1) (omega arith) (λ k ahead below. none k (omega arith) below)
+        (posting_passes count slot limit start from posted pending words (omega arith) (none from (omega arith) (omega arith)) now)
 
-pub posting_worn : (count : ℕ → ℕ) (slot limit : ℕ) (start : List ℕ) (c posted : ℕ) (before after : HoldingState) (words words' : List ℕ) (why : Refusal) → c < CELLS → (posted ≡ limit → ⊥)
-    → IsCellPosted slot c before words (Err why) after words'
-    → IsPosting count slot limit start c posted before.pending words → (Err why, words') ≡ post count (slot ∷ []) limit start
-posting_worn count slot limit start c posted before after words words' why below room done now =
-    rw (done.2, done.4) (posting_stops count slot limit start c posted before.pending words below room done.0 done.1 now)
+-- the next cell with something pending
+pub posting_next : (count : ℕ → ℕ) (slot limit : ℕ) (start : List ℕ) (from c posted : ℕ) (pending : List ℤ) (words : List ℕ) → IsNextNonzero from pending (Some c)
+    → IsPosting count slot limit start from posted pending words → IsPosting count slot limit start c posted pending words
+posting_next count slot limit start from c posted pending words found now = posting_skips count slot limit start from c posted pending words found.0 (omega (arith, found.1)) found.3 now
+
+-- no cell is left
+pub posting_done : (count : ℕ → ℕ) (slot limit : ℕ) (start : List ℕ) (from posted : ℕ) (pending : List ℤ) (words : List ℕ) → from ≤ CELLS → IsNextNonzero from pending None
+    → IsPosting count slot limit start from posted pending words → (Ok posted, words) ≡ post count (slot ∷ []) limit start
+posting_done count slot limit start from posted pending words within none now =
+    posting_ends count slot limit start CELLS posted pending words refl (posting_skips count slot limit start from CELLS posted pending words within (omega arith) none now)
+
+-- one turn of a posting: where it stands after a cell that was posted, and its answer where the cell was worn
+pub posting_turn : (count : ℕ → ℕ) (slot limit : ℕ) (start : List ℕ) (from c posted : ℕ) (before after : HoldingState) (words words' : List ℕ) → slot < 16 → (posted ≡ limit → ⊥)
+    → IsNextNonzero from before.pending (Some c) → IsCellPosted slot c before words (Ok tt) after words'
+    → IsPosting count slot limit start from posted before.pending words
+    → (after.part ≡ before.part) × IsPosting count slot limit start (c + 1) (posted + 1) after.pending words'
+posting_turn count slot limit start from c posted before after words words' own room found done now =
+    rw (done.1, done.2) (refl, posting_goes_on count slot limit start c posted before.pending words own found.1 room found.2 done.0 (posting_next count slot limit start from c posted before.pending words found now))
+
+pub posting_worn : (count : ℕ → ℕ) (slot limit : ℕ) (start : List ℕ) (from c posted : ℕ) (before after : HoldingState) (words words' : List ℕ) (why : Refusal) → (posted ≡ limit → ⊥)
+    → IsNextNonzero from before.pending (Some c) → IsCellPosted slot c before words (Err why) after words'
+    → IsPosting count slot limit start from posted before.pending words → (Err why, words') ≡ post count (slot ∷ []) limit start
+posting_worn count slot limit start from c posted before after words words' why room found done now =
+    rw (done.1, done.3) (posting_stops count slot limit start c posted before.pending words found.1 room found.2 done.0 (posting_next count slot limit start from c posted before.pending words found now))
 
 -- each delta is as it was before the posting, or posted
 pub either_old : (count : ℕ → ℕ) (slot : ℕ) (start : List ℕ) (old new : List ℤ)

@@ -1,5 +1,5 @@
 -- The local law: what an owner has published of a cell and what it has not posted yet are the count over its own rows.
-use Rattle.std.specs.Prelude.{◌≡◌, ◌≢◌, ◌+◌, Bool, true, false, Result, Ok, Err, slice_set, ℕ, ◌<◌, ◌≤◌, List, [], ◌∷◌, ℤ, pos, neg_ℤ, ◌+ℤ◌, ◌≤ℤ◌}
+use Rattle.std.specs.Prelude.{◌≡◌, ◌+◌, true, false, Result, Ok, Err, slice_set, ℕ, ◌<◌, ◌≤◌, List, [], ◌∷◌, ℤ, pos, neg_ℤ, ◌+ℤ◌, ◌≤ℤ◌}
 use Rattle.tatp_actions.specs.Cell.{cell}
 use Rattle.tatp_actions.specs.declared.cells.TheConstants.{CELLS}
 use Rattle.tatp_actions.specs.Part.{PartState, IsPart}
@@ -33,17 +33,14 @@ MovesWith before after =
     → pending_at after.pending c +ℤ pos (cell before.part.width c before.part.book)
     ≡ pending_at before.pending c +ℤ pos (cell before.part.width c after.part.book)
 
--- one cell of a posting: nothing where nothing is pending, else the word is raised by what is pending, unless it would be worn
-abbrev pub IsCellPosted : ℕ → ℕ → HoldingState → List ℕ → Result Bool Refusal → HoldingState → List ℕ → Type 0
-IsCellPosted slot c before words (Ok false) after words' =
-    (pending_at before.pending c ≡ pos 0) × (after ≡ before) × (words' ≡ words)
-IsCellPosted slot c before words (Ok true) after words' =
-    (pending_at before.pending c ≢ pos 0) × (is_worn words slot c (pending_at before.pending c) ≡ false)
+-- one cell of a posting: the word is raised by what is pending, unless it would be worn
+abbrev pub IsCellPosted : ℕ → ℕ → HoldingState → List ℕ → Result (Unit {0}) Refusal → HoldingState → List ℕ → Type 0
+IsCellPosted slot c before words (Ok done) after words' =
+    (is_worn words slot c (pending_at before.pending c) ≡ false)
     × (after ≡ record before { pending = slice_set before.pending c (pos 0) })
     × (words' ≡ raised words slot c (pending_at before.pending c))
 IsCellPosted slot c before words (Err why) after words' =
-    (pending_at before.pending c ≢ pos 0) × (is_worn words slot c (pending_at before.pending c) ≡ true)
-    × (why ≡ refusal.Worn) × (after ≡ before) × (words' ≡ words)
+    (is_worn words slot c (pending_at before.pending c) ≡ true) × (why ≡ refusal.Worn) × (after ≡ before) × (words' ≡ words)
 
 -- the rules of one holding of all subscribers that has slot 0 of a board: the local law, and counts that fit for ever
 pub record AreHeld (holding : HoldingState) (words : List ℕ) : Type 0 where

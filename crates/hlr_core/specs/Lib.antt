@@ -1,3 +1,4 @@
+pub mod Asked
 pub mod Board
 pub mod Held
 pub mod Index

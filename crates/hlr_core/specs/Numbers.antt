@@ -1,5 +1,5 @@
 -- Numbers of subscribers over a whole book: no number stands twice, and each leads to one row.
-use Rattle.std.specs.Prelude.{◌≢◌, ℕ, List, [], ◌∷◌, Option, ⊤}
+use Rattle.std.specs.Prelude.{◌≢◌, ℕ, List, [], ◌∷◌, Option, option_map, ⊤}
 use Rattle.std.specs.List.{AllByRecursion}
 use Rattle.tatp_rows.specs.Ordered.{row_at}
 use Rattle.tatp_rows.specs.Rows.{SubscriberRow}
@@ -7,6 +7,10 @@ use Rattle.tatp_rows.specs.Rows.{SubscriberRow}
 -- the Subscriber row with a number
 abbrev pub owner_of : List SubscriberRow → ℕ → Option SubscriberRow
 owner_of rows number = row_at (λ row. row.sub_nbr) number rows
+
+-- the subscriber with a number
+abbrev pub owner_id : List SubscriberRow → ℕ → Option ℕ
+owner_id rows number = option_map (λ row. row.s_id) (owner_of rows number)
 
 -- no number stands twice
 abbrev pub HasNoTwin : List SubscriberRow → Type 0

@@ -1,52 +1,77 @@
 -- Right steps: which reply an event may have, and the store after it. Memory is the one free choice.
-use Rattle.std.specs.Prelude.{◌≡◌, ℕ, ◌&&◌, Bool, true, false, List, [], ◌∷◌, Option, Some, None, option_map, is_some, Result, Ok, Err, if◌then◌else◌, ◌⊎◌}
-use Rattle.tatp_rows.specs.Rows.{SubscriberRow, is_between}
+use Rattle.std.specs.Prelude.{◌≡◌, ℕ, ◌==◌, ◌&&◌, ◌||◌, not, Bool, true, false, List, [], ◌∷◌, Option, Some, None, option_map, Result, Ok, Err, if◌then◌else◌, ◌⊎◌}
+use Rattle.tatp_rows.specs.Rows.{SubscriberRow, is_between, is_start_time}
 use Rattle.tatp_rows.specs.declared.ranges.TheConstants.{LAST_SUBSCRIBER}
 use Rattle.tatp_rows.specs.declared.refusal.Refusal.{Refusal}
 use Rattle.tatp_rows.specs.declared.refusal.Refusal.TheVariants as refusal
-use Rattle.tatp_actions.specs.Action.{effect, adds_row}
-use Rattle.tatp_actions.specs.Book.{Book}
+use Rattle.tatp_actions.specs.Action.{effect, adds_row, is_in_range}
+use Rattle.tatp_actions.specs.Book.{Book, subscriber_at}
 use Rattle.tatp_actions.specs.Cell.{cell}
 use Rattle.tatp_actions.specs.declared.action.Action.{Action}
 use Rattle.tatp_actions.specs.declared.action.Action.TheVariants as action
 use Rattle.tatp_actions.specs.declared.action.RowReply.{RowReply}
 use Rattle.tatp_actions.specs.declared.action.RowReply.TheVariants as row_reply
-use Rattle.hlr_core.specs.Numbers.{owner_of}
+use Rattle.hlr_core.specs.Numbers.{owner_of, owner_id}
 use Rattle.hlr_core.specs.Post.{post}
 use Rattle.hlr_core.specs.Store.{Store, rows_of, slots_of}
 use Rattle.hlr_core.specs.declared.event.Event.{Event}
-use Rattle.hlr_core.specs.declared.event.Event.TheVariants.{SubscriberData, UpdateLocation, AddSubscriber, Post}
+use Rattle.hlr_core.specs.declared.event.Event.TheVariants.{SubscriberData, NewDestination, AccessData, UpdateSubscriber, UpdateLocation, InsertForwarding, DeleteForwarding, AddSubscriber, AddAccess, AddFacility, SetActive, SetNumber, Post}
 use Rattle.hlr_core.specs.declared.event.Reply.{Reply}
 use Rattle.hlr_core.specs.declared.event.Reply.TheVariants as reply
 
--- the action adds a row with a number that a row of the book has
-abbrev pub takes_number : Action → Book → Bool
-takes_number (action.SubscriberData s_id) book = false
-takes_number (action.UpdateLocation s_id vlr_location) book = false
-takes_number (action.AddSubscriber row) book = is_some (owner_of book.subscribers row.sub_nbr)
+-- the subscriber that an action gives a number, and that number, if it gives one
+abbrev pub given_number : Action → Option (ℕ × ℕ)
+given_number (action.AddSubscriber row) = Some (row.s_id, row.sub_nbr)
+given_number (action.SetNumber s_id sub_nbr) = Some (s_id, sub_nbr)
+given_number _ = None
+
+-- the row that was found is another subscriber's
+abbrev pub is_anothers : ℕ → Option SubscriberRow → Bool
+is_anothers s_id None = false
+is_anothers s_id (Some row) = not (row.s_id == s_id)
+
+-- the row that was found has another number
+abbrev pub has_another : ℕ → Option SubscriberRow → Bool
+has_another sub_nbr None = false
+has_another sub_nbr (Some row) = not (row.sub_nbr == sub_nbr)
+
+-- the number that is given is another subscriber's
+abbrev pub takes_number : Option (ℕ × ℕ) → Book → Bool
+takes_number None book = false
+takes_number (Some given) book = is_anothers given.0 (owner_of book.subscribers given.1)
+
+-- the number that is given takes the place of another
+abbrev pub changes_number : Option (ℕ × ℕ) → Book → Bool
+changes_number None book = false
+changes_number (Some given) book = has_another given.1 (subscriber_at book given.0)
 
 -- the action was done
 abbrev pub is_done : RowReply → Bool
 is_done row_reply.Done = true
 is_done (row_reply.Row row) = false
+is_done (row_reply.Numbers numbers) = false
+is_done (row_reply.AccessRow data1 data2 data3 data4) = false
 is_done (row_reply.Refused why) = false
 
 -- the effect of an action on the whole book, where no number may be taken twice; that refusal comes after all others
 abbrev pub whole_effect : Action → Book → RowReply × Book
 whole_effect act book =
-    if takes_number act book && is_done (effect act book).0 then (row_reply.Refused refusal.NumberTaken, book) else effect act book
+    if takes_number (given_number act) book && is_done (effect act book).0 then (row_reply.Refused refusal.NumberTaken, book)
+    else effect act book
 
--- a right outcome on the whole book: the effect, or Memory in place of Done where a row is added
+-- a right outcome on the whole book: the effect, or Memory in place of Done where a row is added or a number changed
 abbrev pub IsWholeOutcome : Action → Book → RowReply → Book → Type 0
 IsWholeOutcome act before answer after =
     ((answer, after) ≡ whole_effect act before)
-    ⊎ ((adds_row act ≡ true) × ((whole_effect act before).0 ≡ row_reply.Done)
+    ⊎ ((adds_row act || changes_number (given_number act) before ≡ true) × ((whole_effect act before).0 ≡ row_reply.Done)
     × (answer ≡ row_reply.Refused refusal.Memory) × (after ≡ before))
 
 -- the reply that carries the rows' answer
 abbrev pub reply_of : RowReply → Reply
 reply_of row_reply.Done = reply.Rows row_reply.Done
 reply_of (row_reply.Row row) = reply.Rows (row_reply.Row row)
+reply_of (row_reply.Numbers numbers) = reply.Rows (row_reply.Numbers numbers)
+reply_of (row_reply.AccessRow data1 data2 data3 data4) = reply.Rows (row_reply.AccessRow data1 data2 data3 data4)
 reply_of (row_reply.Refused why) = reply.Refused why
 
 -- a right step of an event on rows: Field, then NoNumber, else a right outcome of its action
@@ -69,13 +94,33 @@ IsPostStep (Some slots) part limit before answer after =
     let done = post (λ c. cell before.width c (rows_of before part)) slots limit before.words in
     (answer ≡ posted_reply done.0) × (after ≡ record before { words = done.1 })
 
+-- the type and the hours of a forwarding are in range
+abbrev pub is_forwarding : ℕ → ℕ → Bool
+is_forwarding sf_type start_time = is_between 1 4 sf_type && is_start_time start_time
+
 -- from one store, an event may have this reply and lead to that store
 abbrev pub IsStep : Event → Store → Reply → Store → Type 0
 IsStep (SubscriberData s_id) before = IsRowStep (is_between 1 LAST_SUBSCRIBER s_id) (Some (action.SubscriberData s_id)) before
+IsStep (NewDestination s_id sf_type start_time end_time) before =
+    IsRowStep (is_in_range (action.NewDestination s_id sf_type start_time end_time)) (Some (action.NewDestination s_id sf_type start_time end_time)) before
+IsStep (AccessData s_id ai_type) before =
+    IsRowStep (is_in_range (action.AccessData s_id ai_type)) (Some (action.AccessData s_id ai_type)) before
+IsStep (UpdateSubscriber s_id sf_type bit_1 data_a) before =
+    IsRowStep (is_in_range (action.UpdateSubscriber s_id sf_type bit_1 data_a)) (Some (action.UpdateSubscriber s_id sf_type bit_1 data_a)) before
 IsStep (UpdateLocation sub_nbr vlr_location) before =
-    IsRowStep (is_between 1 4294967295 vlr_location)
-    (option_map (λ (row : SubscriberRow). action.UpdateLocation row.s_id vlr_location) (owner_of before.book.subscribers sub_nbr)) before
+    IsRowStep (is_between 1 4294967295 vlr_location) (option_map (λ s_id. action.UpdateLocation s_id vlr_location) (owner_id before.book.subscribers sub_nbr)) before
+IsStep (InsertForwarding sub_nbr sf_type start_time end_time numberx) before =
+    IsRowStep (is_forwarding sf_type start_time && is_between 1 24 end_time)
+    (option_map (λ s_id. action.InsertForwarding (record { s_id = s_id; sf_type = sf_type; start_time = start_time; end_time = end_time; numberx = numberx }))
+    (owner_id before.book.subscribers sub_nbr)) before
+IsStep (DeleteForwarding sub_nbr sf_type start_time) before =
+    IsRowStep (is_forwarding sf_type start_time) (option_map (λ s_id. action.DeleteForwarding s_id sf_type start_time) (owner_id before.book.subscribers sub_nbr)) before
 IsStep (AddSubscriber row) before = IsRowStep true (Some (action.AddSubscriber row)) before
+IsStep (AddAccess row) before = IsRowStep true (Some (action.AddAccess row)) before
+IsStep (AddFacility row) before = IsRowStep true (Some (action.AddFacility row)) before
+IsStep (SetActive s_id sf_type is_active) before =
+    IsRowStep (is_in_range (action.SetActive s_id sf_type is_active)) (Some (action.SetActive s_id sf_type is_active)) before
+IsStep (SetNumber s_id sub_nbr) before = IsRowStep (is_between 1 LAST_SUBSCRIBER s_id) (Some (action.SetNumber s_id sub_nbr)) before
 IsStep (Post part limit) before = IsPostStep (slots_of before part) part limit before
 
 -- the events may have these replies, one after another, and lead from one store to another

@@ -1,6 +1,6 @@
 //! The events that a register takes, and its replies.
 use tatp_actions::RowReply;
-use tatp_rows::{Number, Refusal, Subscriber};
+use tatp_rows::{Access, Facility, Number, Refusal, Subscriber};
 
 /// An event: a transaction, an administrative command, or a posting. Plain numbers are checked when the event is
 /// applied.
@@ -11,6 +11,35 @@ pub enum Event {
         /// The subscriber, 1..=16,777,216.
         s_id: u64,
     },
+    /// GET_NEW_DESTINATION (TATP, section 3.2): `Field`, `NoDestination`.
+    NewDestination {
+        /// The subscriber, 1..=16,777,216.
+        s_id: u64,
+        /// The type of the facility, 1..=4.
+        sf_type: u64,
+        /// The hour by which the forwardings start: 0, 8 or 16.
+        start_time: u64,
+        /// The hour after which they end, 1..=24.
+        end_time: u64,
+    },
+    /// GET_ACCESS_DATA (TATP, section 3.3): `Field`, `NoAccess`.
+    AccessData {
+        /// The subscriber, 1..=16,777,216.
+        s_id: u64,
+        /// The type of the access, 1..=4.
+        ai_type: u64,
+    },
+    /// UPDATE_SUBSCRIBER_DATA (TATP, section 3.4): `Field`, `NoSubscriber`, `NoFacility`.
+    UpdateSubscriber {
+        /// The subscriber, 1..=16,777,216.
+        s_id: u64,
+        /// The type of the facility, 1..=4.
+        sf_type: u64,
+        /// The new bit_1, 0 or 1.
+        bit_1: u64,
+        /// The new data_a, 0..=255.
+        data_a: u64,
+    },
     /// UPDATE_LOCATION (TATP, section 3.5): `Field`, `NoNumber`.
     UpdateLocation {
         /// The subscriber's number.
@@ -18,8 +47,51 @@ pub enum Event {
         /// The new location, 1..=4,294,967,295.
         vlr_location: u64,
     },
+    /// INSERT_CALL_FORWARDING (TATP, section 3.6): `Field`, `NoNumber`, `NoFacility`, `Exists`, `Memory`.
+    InsertForwarding {
+        /// The subscriber's number.
+        sub_nbr: Number,
+        /// The type of the facility, 1..=4.
+        sf_type: u64,
+        /// The hour from which calls are forwarded: 0, 8 or 16.
+        start_time: u64,
+        /// The hour at which that ends, 1..=24.
+        end_time: u64,
+        /// The number that calls are forwarded to.
+        numberx: Number,
+    },
+    /// DELETE_CALL_FORWARDING (TATP, section 3.7): `Field`, `NoNumber`, `NoForwarding`.
+    DeleteForwarding {
+        /// The subscriber's number.
+        sub_nbr: Number,
+        /// The type of the facility, 1..=4.
+        sf_type: u64,
+        /// The hour from which calls are forwarded: 0, 8 or 16.
+        start_time: u64,
+    },
     /// Adds a Subscriber row: `Exists`, `NumberTaken`, `Memory`.
     AddSubscriber(Subscriber),
+    /// Adds an Access_Info row: `NoSubscriber`, `Exists`, `Memory`.
+    AddAccess(Access),
+    /// Adds a Special_Facility row: `NoSubscriber`, `Exists`, `Memory`.
+    AddFacility(Facility),
+    /// Switches a facility on or off: `Field`, `NoFacility`.
+    SetActive {
+        /// The subscriber, 1..=16,777,216.
+        s_id: u64,
+        /// The type of the facility, 1..=4.
+        sf_type: u64,
+        /// The new is_active, 0 or 1.
+        is_active: u64,
+    },
+    /// Gives a subscriber another number; nothing changes where it is the one that stands: `Field`, `NoSubscriber`,
+    /// `NumberTaken`, `Memory`.
+    SetNumber {
+        /// The subscriber, 1..=16,777,216.
+        s_id: u64,
+        /// The new number.
+        sub_nbr: Number,
+    },
     /// Posts the first `limit` cells of a part that aren't posted, in ascending order: `NoPart`, `Worn`.
     Post {
         /// The part, from 0 on.
@@ -30,7 +102,7 @@ pub enum Event {
 }
 
 /// A register's reply to an event.
-#[derive(Clone, Copy, Debug, PartialEq, Eq)]
+#[derive(Debug, PartialEq, Eq, Drop)]
 pub enum Reply {
     /// What the rows answered, and no refusal.
     Rows(RowReply),

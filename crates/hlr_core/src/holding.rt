@@ -1,5 +1,5 @@
 //! A part with what its owner has not posted yet.
-ghost use Rattle.std.specs.Prelude.{◌≡◌, ℕ, ◌+◌, ◌<◌, ◌≤◌, [], ◌∷◌, Option, IfOk, IfErr, option_copied, ℤ, pos, ◌+ℤ◌, replicate, ◌⊎◌};
+ghost use Rattle.std.specs.Prelude.{◌≡◌, ◌≢◌, ℕ, ◌+◌, ◌<◌, ◌≤◌, [], ◌∷◌, Option, IfOk, IfErr, option_copied, slice_index, ℤ, pos, ◌+ℤ◌, replicate, ◌⊎◌};
 ghost use Rattle.tatp_actions.specs.Action.{s_id_of, IsOutcome};
 ghost use Rattle.tatp_actions.specs.Book.{IsWithin, empty_book, first_subscriber};
 ghost use Rattle.tatp_actions.specs.Cell.{cell};
@@ -13,7 +13,7 @@ ghost use Rattle.hlr_core.specs.Words.{net, slot_net};
 use crate::board::{Board, SLOTS};
 use std::alloc::Global;
 use std::marker::Model;
-use tatp_actions::{Action, CELLS, Part, RowReply};
+use tatp_actions::{Action, CELLS, Cells, Part, RowReply};
 use tatp_rows::{Refusal, Subscriber};
 use view_delta::Pending;
 
@@ -64,20 +64,16 @@ impl Holding {
         reply
     }
 
-    /// Posts the pending delta of a cell, where it isn't 0, and tells whether it was. `Worn` where the word would
-    /// pass its limit: then nothing is changed.
-    fn post_cell(&mut self, board: &mut Board, slot: u8, cell: u8) -> Result<bool, Refusal>
+    /// Posts the pending delta of a cell. `Worn` where the word would pass its limit: then nothing is changed.
+    fn post_cell(&mut self, board: &mut Board, slot: u8, cell: u8) -> Result<(), Refusal>
         requires slot { slot < SLOTS }
         requires cell { cell < CELLS }
+        requires delta { pending_at self.old.pending cell ≢ pos 0 }
         ensures { IsCellPosted slot cell self.old board.old result self.new board.new }
     {
-        let delta = self.pending.get(cell);
-        if delta == 0 {
-            return Ok(false);
-        }
-        board.add(slot, cell, delta)?;
+        board.add(slot, cell, self.pending.get(cell))?;
         self.pending.clear(cell);
-        Ok(true)
+        Ok(())
     }
 
     /// Posts pending deltas in a slot, cells ascending, each whole, until `limit` are posted or none is left; tells
@@ -97,13 +93,14 @@ impl Holding {
         ensures board { IsBoard board.new }
     {
         let mut posted = 0u8;
-        for cell in 0..CELLS {
+        let mut from = 0u8;
+        while let Some(cell) = self.pending.next_nonzero(from) {
             if u64::from(posted) == limit {
                 return Ok(posted);
             }
-            if self.post_cell(board, slot, cell)? {
-                posted += 1;
-            }
+            self.post_cell(board, slot, cell)?;
+            posted += 1;
+            from = cell + 1;
         }
         Ok(posted)
     }
@@ -113,6 +110,13 @@ impl Holding {
         ensures { result ≡ self.now.pending }
     {
         self.pending.deltas()
+    }
+
+    /// The count of each cell, taken by a walk over all rows.
+    pub fn recount(&self) -> Cells
+        ensures { (c : ℕ) → c < CELLS → slice_index result c ≡ cell self.now.part.width c self.now.part.book }
+    {
+        self.part.recount()
     }
 
     /// The first Subscriber row of the part from a subscriber on.

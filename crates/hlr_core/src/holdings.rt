@@ -1,7 +1,8 @@
 //! All owners' holdings, and the board that they post to.
-ghost use Rattle.std.specs.Prelude.{◌≡◌, ◌+◌, ℕ, ◌<◌, ◌≤◌, [], ◌∷◌, IfOk, OnErr, is_some, slice_index_or, ℤ, pos};
+ghost use Rattle.std.specs.Prelude.{◌≡◌, ◌+◌, ℕ, ◌<◌, ◌≤◌, [], ◌∷◌, IfOk, OnErr, is_some, option_map, slice_index, slice_index_or, ℤ, pos};
 ghost use Rattle.tatp_actions.specs.Action.{s_id_of, IsOutcome};
 ghost use Rattle.tatp_actions.specs.Book.{IsWithin, IsRowsOf, subscriber_at};
+ghost use Rattle.tatp_actions.specs.Cell.{cell};
 ghost use Rattle.tatp_actions.specs.Part.{IsWidth};
 ghost use Rattle.hlr_core.specs.Step.{IsPostStep, posted_reply};
 ghost use Rattle.hlr_core.specs.Store.{Store, opening, published, unposted, slots_of};
@@ -11,8 +12,8 @@ use crate::event::Reply;
 use crate::holding::Holding;
 use std::alloc::Global;
 use std::marker::Model;
-use tatp_actions::{Action, CELLS, RowReply};
-use tatp_rows::{LAST_SUBSCRIBER, Refusal};
+use tatp_actions::{Action, CELLS, Cells, RowReply};
+use tatp_rows::{LAST_SUBSCRIBER, Number, Refusal};
 
 /// The slot of the one part that there is until regions come.
 const SLOT: u8 = 0;
@@ -101,13 +102,25 @@ impl Holdings {
         self.holding.deltas()
     }
 
+    /// The count of each cell, taken by a walk over all rows.
+    pub fn recount(&self) -> Cells
+        ensures { (c : ℕ) → c < CELLS → slice_index result c ≡ cell self.now.width c self.now.book }
+    {
+        self.holding.recount()
+    }
+
+    /// The number of a subscriber, or `None` where there is no such row.
+    pub fn number_of(&self, s_id: u32) -> Option<Number>
+        ensures { result ≡ option_map (λ row. row.sub_nbr) (subscriber_at self.now.book s_id) }
+    {
+        let row = self.holding.first_sub_from(u64::from(s_id))?;
+        (row.s_id() == s_id).then_some(row.sub_nbr())
+    }
+
     /// Tells whether a subscriber has a row.
     pub fn has(&self, s_id: u32) -> bool
         ensures { result ≡ is_some (subscriber_at self.now.book s_id) }
     {
-        match self.holding.first_sub_from(u64::from(s_id)) {
-            Some(row) => row.s_id() == s_id,
-            None => false,
-        }
+        self.number_of(s_id).is_some()
     }
 }

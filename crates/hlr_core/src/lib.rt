@@ -6,9 +6,14 @@
 #![tactic(auto)]
 
 mod board;
+mod checked;
 mod event;
 mod holding;
 mod holdings;
+#[cfg(test)]
+mod plain;
+#[cfg(test)]
+mod plain_tests;
 mod register;
 #[cfg(test)]
 mod tests;

@@ -1,17 +1,18 @@
 //! The register: all rows under one roof, no number twice, and every cell as published with what is not posted yet.
-ghost use Rattle.std.specs.Prelude.{◌≡◌, ℕ, [], vec_len, vec_capacity, ◌<◌, ◌≤◌, ◌↔◌, ◌⊎◌, IfOk, OnErr, slice_index_or, option_map, ℤ, pos, ◌+ℤ◌};
-ghost use Rattle.tatp_actions.specs.Action.{s_id_of};
+ghost use Rattle.std.specs.Prelude.{◌≡◌, ℕ, [], vec_len, vec_capacity, ◌<◌, ◌≤◌, ◌↔◌, ◌⊎◌, IfOk, OnErr, slice_index, slice_index_or, option_map, Option, Bool, ◌+◌, ℤ, pos, ◌+ℤ◌};
+ghost use Rattle.hlr_core.specs.Asked.{IsAsked, LeavesNumbers};
 ghost use Rattle.tatp_actions.specs.Cell.{cell};
 ghost use Rattle.hlr_core.specs.Index.{index_of};
-ghost use Rattle.hlr_core.specs.Step.{IsStep, IsRun, reply_of};
+ghost use Rattle.hlr_core.specs.Step.{IsStep, IsRun, IsRowStep, reply_of};
 ghost use Rattle.hlr_core.specs.Store.{Store, HasOpening, opening, published, unposted};
 
+use crate::checked;
 use crate::event::{Event, Reply};
 use crate::holdings::Holdings;
 use number_index::NumberIndex;
 use std::alloc::Global;
 use std::marker::Model;
-use tatp_actions::{Action, CELLS, RowReply};
+use tatp_actions::{Action, CELLS, Cells, RowReply};
 use tatp_rows::{GREATEST_WIDTH, LAST_SUBSCRIBER, Number, Refusal, Subscriber, in_range};
 
 /// A home location register, seen as the store of the definitions: its rows, the words of the board, the slots of
@@ -41,9 +42,8 @@ fn reply_from(answer: RowReply) -> Reply
     ensures { result ≡ reply_of answer }
 {
     match answer {
-        RowReply::Done => Reply::Rows(RowReply::Done),
-        RowReply::Row(row) => Reply::Rows(RowReply::Row(row)),
         RowReply::Refused(why) => Reply::Refused(why),
+        answered => Reply::Rows(answered),
     }
 }
 
@@ -72,12 +72,54 @@ impl Register {
         ensures { IsStep event self.old result self.new }
     {
         match event {
-            Event::SubscriberData { s_id } => self.subscriber_data(s_id),
+            Event::SubscriberData { s_id } => self.ask(checked::subscriber_data(s_id)),
+            Event::NewDestination {
+                s_id,
+                sf_type,
+                start_time,
+                end_time,
+            } => self.ask(checked::new_destination(s_id, sf_type, start_time, end_time)),
+            Event::AccessData { s_id, ai_type } => self.ask(checked::access_data(s_id, ai_type)),
+            Event::UpdateSubscriber {
+                s_id,
+                sf_type,
+                bit_1,
+                data_a,
+            } => self.ask(checked::update_subscriber(s_id, sf_type, bit_1, data_a)),
             Event::UpdateLocation {
                 sub_nbr,
                 vlr_location,
-            } => self.update_location(sub_nbr, vlr_location),
+            } => {
+                let owner = self.index.find(sub_nbr);
+                self.ask(checked::update_location(owner, vlr_location))
+            }
+            Event::InsertForwarding {
+                sub_nbr,
+                sf_type,
+                start_time,
+                end_time,
+                numberx,
+            } => {
+                let owner = self.index.find(sub_nbr);
+                self.ask(checked::insert_forwarding(owner, sf_type, start_time, end_time, numberx))
+            }
+            Event::DeleteForwarding {
+                sub_nbr,
+                sf_type,
+                start_time,
+            } => {
+                let owner = self.index.find(sub_nbr);
+                self.ask(checked::delete_forwarding(owner, sf_type, start_time))
+            }
             Event::AddSubscriber(row) => self.add_subscriber(row),
+            Event::AddAccess(row) => self.ask(checked::add_access(row)),
+            Event::AddFacility(row) => self.ask(checked::add_facility(row)),
+            Event::SetActive {
+                s_id,
+                sf_type,
+                is_active,
+            } => self.ask(checked::set_active(s_id, sf_type, is_active)),
+            Event::SetNumber { s_id, sub_nbr } => self.set_number(s_id, sub_nbr),
             Event::Post { part, limit } => self.post(part, limit),
         }
     }
@@ -114,6 +156,13 @@ impl Register {
         self.holdings.unposted()
     }
 
+    /// The count of each cell over the rows now, taken by a walk over all of them.
+    pub fn recount(&self) -> Cells
+        ensures { (c : ℕ) → c < CELLS → slice_index result c ≡ cell self.now.width c self.now.book }
+    {
+        self.holdings.recount()
+    }
+
     /// The index of numbers: for each Subscriber row the pair of its number and its s_id.
     pub fn index(&self) -> &NumberIndex
         ensures { result.now ≡ index_of self.now.book.subscribers }
@@ -121,28 +170,33 @@ impl Register {
         &self.index
     }
 
-    fn subscriber_data(&mut self, s_id: u64) -> Reply
-        ensures { IsStep (Event.SubscriberData s_id) self.old result self.new }
+    // Does an action that leaves each subscriber's number as it is, unless a field was refused.
+    fn ask(&mut self, action: Result<Action, Refusal>) -> Reply
+        requires { IfOk action LeavesNumbers }
+        ensures { (fits : Bool) (wanted : Option Action) → IsAsked fits wanted action → IsRowStep fits wanted self.old result self.new }
+    {
+        match action {
+            Ok(action) => reply_from(self.holdings.act(action)),
+            Err(why) => Reply::Refused(why),
+        }
+    }
+
+    // The index gives the pair another number first: it may be refused, and the rows then can't be.
+    fn set_number(&mut self, s_id: u64, sub_nbr: Number) -> Reply
+        ensures { IsStep (Event.SetNumber s_id sub_nbr) self.old result self.new }
     {
         let Ok(s_id) = in_range(s_id, LAST_SUBSCRIBER) else {
             return Reply::Refused(Refusal::Field);
         };
-        reply_from(self.holdings.act(Action::SubscriberData { s_id }))
-    }
-
-    fn update_location(&mut self, sub_nbr: Number, vlr_location: u64) -> Reply
-        ensures { IsStep (Event.UpdateLocation sub_nbr vlr_location) self.old result self.new }
-    {
-        let Ok(vlr_location) = in_range(vlr_location, u32::MAX) else {
-            return Reply::Refused(Refusal::Field);
+        let Some(old) = self.holdings.number_of(s_id) else {
+            return Reply::Refused(Refusal::NoSubscriber);
         };
-        let Some(s_id) = self.index.find(sub_nbr) else {
-            return Reply::Refused(Refusal::NoNumber);
-        };
-        reply_from(
-            self.holdings
-                .act(Action::UpdateLocation { s_id, vlr_location }),
-        )
+        // A number tells by its value that it is in range.
+        let _value = sub_nbr.value();
+        if let Err(why) = self.index.rename(old, sub_nbr) {
+            return Reply::Refused(why);
+        }
+        reply_from(self.holdings.act(Action::SetNumber { s_id, sub_nbr }))
     }
 
     fn add_subscriber(&mut self, row: Subscriber) -> Reply

@@ -1,40 +1,52 @@
 use super::*;
+use arrayvec::ArrayVec;
+use std::alloc::Global;
 use std::process::Abort;
 use std::test::Fail;
 use tatp_actions::{CELLS, RowReply};
-use tatp_rows::{Number, Refusal, Subscriber};
+use tatp_rows::{Access, Facility, Letters, Number, Refusal, Subscriber};
 
-const DONE: Reply = Reply::Rows(RowReply::Done);
+pub const DONE: Reply = Reply::Rows(RowReply::Done);
 
-const MEMORY: Reply = Reply::Refused(Refusal::Memory);
+pub const MEMORY: Reply = Reply::Refused(Refusal::Memory);
 
-const EXISTS: Reply = Reply::Refused(Refusal::Exists);
+pub const FIELD: Reply = Reply::Refused(Refusal::Field);
 
-const TAKEN: Reply = Reply::Refused(Refusal::NumberTaken);
+pub const ABSENT: Reply = Reply::Refused(Refusal::NoSubscriber);
 
-const FIELD: Reply = Reply::Refused(Refusal::Field);
+pub const NO_NUMBER: Reply = Reply::Refused(Refusal::NoNumber);
 
-const ABSENT: Reply = Reply::Refused(Refusal::NoSubscriber);
+pub const NO_ACCESS: Reply = Reply::Refused(Refusal::NoAccess);
 
-const NO_NUMBER: Reply = Reply::Refused(Refusal::NoNumber);
+pub const NO_FACILITY: Reply = Reply::Refused(Refusal::NoFacility);
 
-const NO_PART: Reply = Reply::Refused(Refusal::NoPart);
+pub const NO_FORWARDING: Reply = Reply::Refused(Refusal::NoForwarding);
+
+pub const NO_DESTINATION: Reply = Reply::Refused(Refusal::NoDestination);
+
+pub const EXISTS: Reply = Reply::Refused(Refusal::Exists);
+
+pub const TAKEN: Reply = Reply::Refused(Refusal::NumberTaken);
+
+pub const NO_PART: Reply = Reply::Refused(Refusal::NoPart);
 
 /// A register of one part; where a growth was refused, from the second try.
-fn opened(rt: &HostRuntime, width: u32) -> Result<Register, Fail> {
-    let first = Register::open(rt.alloc(), 1, width);
+pub fn opened(alloc: Global, width: u32) -> Result<Register, Fail> {
+    let first = Register::open(alloc, 1, width);
     if let Err(Refusal::Memory) = first {
-        let second = Register::open(rt.alloc(), 1, width);
+        let second = Register::open(alloc, 1, width);
         return Ok(second.ok().ok_or("memory was refused twice")?);
     }
     Ok(first.ok().ok_or("the width is in range")?)
 }
 
-fn number(value: u64) -> Result<Number, Fail> {
+/// A number that is in range.
+pub fn number(value: u64) -> Result<Number, Fail> {
     Ok(Number::try_new(value).ok().ok_or("the number is in range")?)
 }
 
-fn row(s_id: u64, number_value: u64, vlr_location: u64) -> Result<Subscriber, Fail> {
+/// A row of the table Subscriber.
+pub fn row(s_id: u64, number_value: u64, vlr_location: u64) -> Result<Subscriber, Fail> {
     let row = Subscriber::try_new(
         s_id,
         number(number_value)?,
@@ -44,6 +56,21 @@ fn row(s_id: u64, number_value: u64, vlr_location: u64) -> Result<Subscriber, Fa
         9,
         vlr_location,
     );
+    Ok(row.ok().ok_or("the row is in range")?)
+}
+
+/// A row of the table Access_Info.
+pub fn access_row(s_id: u64, ai_type: u64, data1: u8) -> Result<Access, Fail> {
+    let three = Letters::try_new(*b"ABC").ok().ok_or("letters")?;
+    let five = Letters::try_new(*b"ABCDE").ok().ok_or("letters")?;
+    let row = Access::try_new(s_id, ai_type, data1, 4, three, five);
+    Ok(row.ok().ok_or("the row is in range")?)
+}
+
+/// A row of the table Special_Facility.
+pub fn facility_row(s_id: u64, sf_type: u64, is_active: u64) -> Result<Facility, Fail> {
+    let five = Letters::try_new(*b"ABCDE").ok().ok_or("letters")?;
+    let row = Facility::try_new(s_id, sf_type, is_active, 0, 0, five);
     Ok(row.ok().ok_or("the row is in range")?)
 }
 
@@ -63,37 +90,82 @@ fn stands(register: &Register, published: &[(u8, i64)], unposted: &[(u8, i64)]) 
     register.published() == counts(published) && register.unposted() == counts(unposted)
 }
 
-/// The subscriber that an event adds; 0 where it adds none.
-fn added(event: &Event) -> u64 {
-    match event {
-        Event::AddSubscriber(row) => u64::from(row.s_id()),
-        _ => 0,
+/// What a register shows of a subscriber and of numbers.
+#[derive(PartialEq, Drop)]
+struct Standing {
+    published: [i64; CELLS as usize],
+    unposted: [i64; CELLS as usize],
+    row: Reply,
+    owner: Option<u32>,
+    named: Option<u32>,
+    pairs: u64,
+}
+
+/// Whom a register finds by a number, if there is one.
+fn owner(register: &Register, sub_nbr: Option<Number>) -> Option<u32> {
+    register.index().find(sub_nbr?)
+}
+
+/// The number of the row that was read.
+fn number_read(reply: &Reply) -> Option<Number> {
+    match reply {
+        Reply::Rows(RowReply::Row(row)) => Some(row.sub_nbr()),
+        _ => None,
     }
+}
+
+/// The subscriber of an event that may want memory, and the number that it names.
+fn subject(register: &Register, event: &Event) -> Option<(u64, Option<Number>)> {
+    match *event {
+        Event::AddSubscriber(row) => Some((u64::from(row.s_id()), Some(row.sub_nbr()))),
+        Event::AddAccess(row) => Some((u64::from(row.s_id()), None)),
+        Event::AddFacility(row) => Some((u64::from(row.s_id()), None)),
+        Event::InsertForwarding { sub_nbr, .. } => {
+            let s_id = register.index().find(sub_nbr)?;
+            Some((u64::from(s_id), Some(sub_nbr)))
+        }
+        Event::SetNumber { s_id, sub_nbr } => Some((s_id, Some(sub_nbr))),
+        _ => None,
+    }
+}
+
+/// What a register shows around an event that may want memory: its cells, the row of the subscriber and who has its
+/// number, who has the number that the event names, and how many numbers there are.
+fn shown(register: &mut Register, event: &Event) -> Option<Standing> {
+    let (s_id, named) = subject(register, event)?;
+    let row = register.apply(read(s_id));
+    let own = number_read(&row);
+    Some(Standing {
+        published: register.published(),
+        unposted: register.unposted(),
+        row,
+        owner: owner(register, own),
+        named: owner(register, named),
+        pairs: register.index().len(),
+    })
 }
 
 /// Whether an event is replied to so; where a growth was refused, at the second try, with all as before in between.
-fn replies_to(register: &mut Register, event: &Event, reply: &Reply) -> bool {
-    let published = register.published();
-    let unposted = register.unposted();
+pub fn replies_to(register: &mut Register, event: &Event, reply: &Reply) -> bool {
+    let before = shown(register, event);
     let answer = register.apply(*event);
-    if answer != MEMORY {
+    if answer != MEMORY || before.is_none() {
         return answer == *reply;
     }
-    let s_id = added(event);
-    register.published() == published
-        && register.unposted() == unposted
-        && register.apply(Event::SubscriberData { s_id }) == ABSENT
-        && register.apply(*event) == *reply
+    shown(register, event) == before && register.apply(*event) == *reply
 }
 
+/// The same of values.
 fn replies(register: &mut Register, event: Event, reply: Reply) -> bool {
     replies_to(register, &event, &reply)
 }
 
+/// A read of a subscriber's row.
 fn read(s_id: u64) -> Event {
     Event::SubscriberData { s_id }
 }
 
+/// A change of the location of the subscriber who has a number.
 fn moved(sub_nbr: Number, vlr_location: u64) -> Event {
     Event::UpdateLocation {
         sub_nbr,
@@ -101,6 +173,7 @@ fn moved(sub_nbr: Number, vlr_location: u64) -> Event {
     }
 }
 
+/// A posting of at most so many cells.
 fn posting(part: u64, limit: u64) -> Event {
     Event::Post { part, limit }
 }
@@ -143,199 +216,158 @@ fn expect_runs(rt: &impl Abort, register: &mut Register) -> Result<(), Fail> {
     Ok(())
 }
 
+// Also run with each allocation refused in turn (`refuse_memory.sh`).
 #[test]
 fn runs(rt: HostRuntime) -> Result<(), Fail> {
-    let mut register = opened(&rt, 4)?;
+    let mut register = opened(rt.alloc(), 4)?;
     expect_runs(&rt, &mut register)
 }
 
-/// A plain register of the subscribers 1, 1 + stride, 1 + 2 * stride and so on, which counts its rows each time.
-#[derive(Drop)]
-struct Plain {
-    width: u32,
-    stride: u32,
-    rows: [Option<Subscriber>; 40],
-    published: [i64; CELLS as usize],
+/// Asserts that the subscribers 1 to `count` are added. Their numbers rise with them, so that the rows and the index
+/// split at the same ones.
+fn expect_additions(rt: &impl Abort, register: &mut Register, count: u64) -> Result<(), Fail> {
+    for s_id in 1..count.saturating_add(1) {
+        let row = row(s_id, s_id.saturating_mul(10), 1)?;
+        assert!(rt;
+            replies(register, Event::AddSubscriber(row), DONE),
+            "at {s_id}"
+        );
+    }
+    assert_eq!(rt; register.index().len(), count);
+    Ok(())
 }
 
-impl Plain {
-    fn place(&self, s_id: u64) -> usize {
-        (s_id.wrapping_sub(1) / u64::from(self.stride.max(1))) as usize
-    }
-
-    fn counted(&self) -> [i64; CELLS as usize] {
-        let mut cells = [0i64; CELLS as usize];
-        for row in self.rows.iter().flatten() {
-            let area = 3 + row.vlr_location() / 268_435_456;
-            let zone = 19 + ((row.s_id() - 1) / self.width.max(1)).min(31);
-            for cell in [area, zone] {
-                if let Some(count) = cells.get_mut(cell as usize) {
-                    *count = count.wrapping_add(1);
-                }
-            }
-        }
-        cells
-    }
-
-    fn owner(&self, sub_nbr: Number) -> Option<u64> {
-        for row in self.rows.iter().flatten() {
-            if row.sub_nbr() == sub_nbr {
-                return Some(u64::from(row.s_id()));
-            }
-        }
-        None
-    }
-
-    fn update(&mut self, sub_nbr: Number, vlr_location: u64) -> Reply {
-        if vlr_location == 0 || vlr_location > 4_294_967_295 {
-            return FIELD;
-        }
-        let Some(s_id) = self.owner(sub_nbr) else {
-            return NO_NUMBER;
-        };
-        let place = self.place(s_id);
-        let Some(Some(row)) = self.rows.get_mut(place) else {
-            return NO_NUMBER;
-        };
-        *row = row.with_vlr_location(vlr_location as u32);
-        DONE
-    }
-
-    fn add(&mut self, row: Subscriber) -> Reply {
-        let place = self.place(u64::from(row.s_id()));
-        let taken = self.owner(row.sub_nbr()).is_some();
-        match self.rows.get_mut(place) {
-            Some(Some(_)) => EXISTS,
-            _ if taken => TAKEN,
-            Some(free) => {
-                *free = Some(row);
-                DONE
-            }
-            None => MEMORY,
-        }
-    }
-
-    fn post(&mut self, part: u64, limit: u64) -> Reply {
-        if part != 0 {
-            return NO_PART;
-        }
-        let counted = self.counted();
-        let mut posted = 0u8;
-        for (count, published) in counted.iter().zip(self.published.iter_mut()) {
-            if *count != *published && u64::from(posted) < limit {
-                *published = *count;
-                posted = posted.wrapping_add(1);
-            }
-        }
-        Reply::Posted(posted)
-    }
-
-    fn apply(&mut self, event: Event) -> Reply {
-        match event {
-            Event::SubscriberData { s_id } => {
-                if s_id == 0 || s_id > 16_777_216 {
-                    return FIELD;
-                }
-                match self.rows.get(self.place(s_id)) {
-                    Some(Some(row)) => Reply::Rows(RowReply::Row(*row)),
-                    _ => ABSENT,
-                }
-            }
-            Event::UpdateLocation {
-                sub_nbr,
-                vlr_location,
-            } => self.update(sub_nbr, vlr_location),
-            Event::AddSubscriber(row) => self.add(row),
-            Event::Post { part, limit } => self.post(part, limit),
-        }
-    }
-
-    /// Whether a register has these cells, published and not.
-    fn agrees(&self, register: &Register) -> bool {
-        let mut rest = self.counted();
-        for (count, published) in rest.iter_mut().zip(self.published.iter()) {
-            *count = count.wrapping_sub(*published);
-        }
-        register.published() == self.published && register.unposted() == rest
-    }
-}
-
-/// The next of a row of numbers that look random (xorshift).
-fn drawn(seed: &mut u64) -> u64 {
-    let mut next = *seed;
-    next ^= next << 13;
-    next ^= next >> 7;
-    next ^= next << 17;
-    *seed = next;
-    next >> 16
-}
-
-fn drawn_location(seed: &mut u64) -> u64 {
-    match drawn(seed) % 16 {
-        0 => 0,
-        1 => 4_294_967_296,
-        2 => 4_294_967_295,
-        _ => drawn(seed) % 4_294_967_296,
-    }
-}
-
-fn drawn_event(seed: &mut u64, stride: u64) -> Result<Event, Fail> {
-    let s_id = (drawn(seed) % 40).wrapping_mul(stride).wrapping_add(1);
-    let sub_nbr = drawn(seed) % 60;
-    Ok(match drawn(seed) % 8 {
-        0 => read(s_id),
-        1 => read([0, 16_777_217][(s_id % 2) as usize]),
-        2 => Event::AddSubscriber(row(s_id, sub_nbr, drawn(seed) % 4_294_967_295 + 1)?),
-        3 => posting(drawn(seed) % 5 / 4, drawn(seed) % 7),
-        4 => posting(0, drawn(seed) % 60),
-        _ => moved(number(sub_nbr)?, drawn_location(seed)),
-    })
-}
-
-fn steps_alike(register: &mut Register, plain: &mut Plain, event: &Event) -> bool {
-    let want = plain.apply(*event);
-    replies_to(register, event, &want)
-}
-
-/// Applies so many drawn events to a register and to a plain one; tells the first at which they differ.
-fn first_difference(
-    register: &mut Register,
-    plain: &mut Plain,
-    count: u32,
-) -> Result<Option<u32>, Fail> {
-    let mut seed = 88_172_645_463_325_252u64;
-    for step in 0..count {
-        let event = drawn_event(&mut seed, u64::from(plain.stride))?;
-        if !steps_alike(register, plain, &event) || (step % 16 == 0 && !plain.agrees(register)) {
-            return Ok(Some(step));
-        }
-    }
-    Ok(None)
-}
-
-/// Applies 4,000 drawn events to both; tells the first at which they differ, or 4,000 where they do at the end.
-fn difference(register: &mut Register, plain: &mut Plain) -> Result<Option<u32>, Fail> {
-    let differs = first_difference(register, plain, 4_000)?;
-    if differs.is_none() && !plain.agrees(register) {
-        return Ok(Some(4_000));
-    }
-    Ok(differs)
-}
-
-fn difference_at(rt: &HostRuntime, width: u32, stride: u32) -> Result<Option<u32>, Fail> {
-    let mut register = opened(rt, width)?;
-    let mut plain = Plain {
-        width,
-        stride,
-        rows: [None; 40],
-        published: [0; CELLS as usize],
+/// Asserts that subscriber 1, whose number is the first, gets one after all others.
+fn expect_renamed(rt: &impl Abort, register: &mut Register) -> Result<(), Fail> {
+    let (first, last) = (number(10)?, number(999_999_999_999_999)?);
+    let renamed = Event::SetNumber {
+        s_id: 1,
+        sub_nbr: last,
     };
-    difference(&mut register, &mut plain)
+    let pairs = register.index().len();
+    assert!(rt; replies(register, renamed, DONE));
+    assert_eq!(rt; register.index().len(), pairs);
+    assert_eq!(rt; register.index().find(first), None);
+    assert_eq!(rt; register.index().find(last), Some(1));
+    let row = row(1, 999_999_999_999_999, 1)?;
+    assert!(rt; replies(register, read(1), Reply::Rows(RowReply::Row(row))));
+    Ok(())
+}
+
+// A full leaf has 32 rows, and leaves 16 behind where the rows rise: with 32 rows the root is a full leaf, with 48 the
+// last leaf is full and the root above it isn't, and with 528 both are. Also run with each allocation refused.
+#[test]
+fn additions_at_split(rt: HostRuntime) -> Result<(), Fail> {
+    let mut register = opened(rt.alloc(), 4)?;
+    expect_additions(&rt, &mut register, 560)
+}
+
+/// Asserts the same where the index has so many numbers, and splits.
+fn expect_renamed_at(rt: &impl Abort, alloc: Global, count: u64) -> Result<(), Fail> {
+    let mut register = opened(alloc, 4)?;
+    let added = expect_additions(rt, &mut register, count);
+    let renamed = added.and_then(|_| expect_renamed(rt, &mut register));
+    renamed
+}
+
+// Also run with each allocation refused.
+#[test]
+fn renamings_at_split(rt: HostRuntime) -> Result<(), Fail> {
+    expect_renamed_at(&rt, rt.alloc(), 32)?;
+    expect_renamed_at(&rt, rt.alloc(), 48)?;
+    expect_renamed_at(&rt, rt.alloc(), 528)
+}
+
+/// What the facility of type 2 of subscriber 7 forwards to by 8 o'clock.
+fn asked() -> Event {
+    Event::NewDestination {
+        s_id: 7,
+        sf_type: 2,
+        start_time: 8,
+        end_time: 1,
+    }
+}
+
+/// A forwarding of the facility of type 2 of whoever has a number, from 8 o'clock on.
+fn forwarded(sub_nbr: Number, numberx: Number) -> Event {
+    Event::InsertForwarding {
+        sub_nbr,
+        sf_type: 2,
+        start_time: 8,
+        end_time: 16,
+        numberx,
+    }
+}
+
+/// Asserts the replies to additions to subscriber 7 with the number 7, and to reads of them.
+fn expect_added(rt: &impl Abort, register: &mut Register) -> Result<(), Fail> {
+    let (seven, hundred) = (number(7)?, number(100)?);
+    let access = access_row(7, 1, 3)?;
+    let facility = Event::AddFacility(facility_row(7, 2, 1)?);
+    assert_eq!(rt; register.apply(Event::AddSubscriber(row(7, 7, 1)?)), DONE);
+    assert_eq!(rt; register.apply(Event::AddAccess(access)), DONE);
+    assert_eq!(rt; register.apply(facility), DONE);
+    assert_eq!(rt; register.apply(forwarded(seven, hundred)), DONE);
+    assert_eq!(rt; register.apply(forwarded(seven, hundred)), EXISTS);
+    let found = RowReply::AccessRow {
+        data1: 3,
+        data2: 4,
+        data3: access.data3(),
+        data4: access.data4(),
+    };
+    let read = Event::AccessData {
+        s_id: 7,
+        ai_type: 1,
+    };
+    assert_eq!(rt; register.apply(read), Reply::Rows(found));
+    let mut numbers = ArrayVec::new();
+    numbers.push(hundred);
+    let numbers = Reply::Rows(RowReply::Numbers(numbers));
+    assert_eq!(rt; register.apply(asked()), numbers);
+    Ok(())
+}
+
+/// Asserts the replies to changes of those rows.
+fn expect_changed(rt: &impl Abort, register: &mut Register) -> Result<(), Fail> {
+    let (seven, nine) = (number(7)?, number(9)?);
+    let off = Event::SetActive {
+        s_id: 7,
+        sf_type: 2,
+        is_active: 0,
+    };
+    assert_eq!(rt; register.apply(off), DONE);
+    assert_eq!(rt; register.apply(asked()), NO_DESTINATION);
+    let renamed = Event::SetNumber {
+        s_id: 7,
+        sub_nbr: nine,
+    };
+    assert_eq!(rt; register.apply(renamed), DONE);
+    assert_eq!(rt; register.apply(forwarded(seven, nine)), NO_NUMBER);
+    let away = Event::DeleteForwarding {
+        sub_nbr: nine,
+        sf_type: 2,
+        start_time: 8,
+    };
+    assert_eq!(rt; register.apply(away), DONE);
+    let updated = Event::UpdateSubscriber {
+        s_id: 7,
+        sf_type: 2,
+        bit_1: 0,
+        data_a: 255,
+    };
+    assert_eq!(rt; register.apply(updated), DONE);
+    let out_of_range = Event::AccessData {
+        s_id: 7,
+        ai_type: 256,
+    };
+    assert_eq!(rt; register.apply(out_of_range), FIELD);
+    Ok(())
 }
 
 #[test]
-fn drawn_events(rt: HostRuntime) -> Result<(), Fail> {
-    assert_eq!(rt; difference_at(&rt, 4, 1)?, None);
-    assert_eq!(rt; difference_at(&rt, 524_288, 419_430)?, None);
-    Ok(())
+fn each_event_is_answered(rt: HostRuntime) -> Result<(), Fail> {
+    let mut register = opened(rt.alloc(), 64)?;
+    let added = expect_added(&rt, &mut register);
+    let changed = added.and_then(|_| expect_changed(&rt, &mut register));
+    changed
 }

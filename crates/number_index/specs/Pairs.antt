@@ -1,9 +1,15 @@
 -- The index as a map: pairs of a number and a subscriber, by number, and what its changes answer and leave.
 use Rattle.std.specs.Prelude.{◌≡◌, ℕ, List, Option, Some, None, option_map, Result, Ok, Err, IsSome, ◌⊎◌}
-use Rattle.tatp_rows.specs.Ordered.{row_at, with_row, without_row}
+use Rattle.std.specs.List.{AllByRecursion}
+use Rattle.tatp_rows.specs.Number.{IsNumber}
+use Rattle.tatp_rows.specs.Ordered.{IsOrderedBy, row_at, with_row, without_row}
 use Rattle.tatp_rows.specs.declared.refusal.Refusal.{Refusal}
 use Rattle.tatp_rows.specs.declared.refusal.Refusal.TheVariants.{Memory, NoNumber, NumberTaken}
 use Rattle.mr_node.specs.Rows.{key_of_pair}
+
+-- the pairs of an index: numbers, which rise strictly
+abbrev pub ArePairs : List (ℕ × ℕ) → Type 0
+ArePairs pairs = IsOrderedBy key_of_pair pairs × AllByRecursion (λ pair. IsNumber pair.0) pairs
 
 -- the pair of a number
 abbrev pub pair_of : ℕ → List (ℕ × ℕ) → Option (ℕ × ℕ)

@@ -4,7 +4,7 @@ ghost use Rattle.std.specs.List.{find};
 ghost use Rattle.tatp_rows.specs.Ordered.{without_row};
 ghost use Rattle.tatp_rows.specs.Number.{IsNumber};
 ghost use Rattle.mr_node.specs.Rows.{key_of_pair};
-ghost use Rattle.number_index.specs.Pairs.{owner_in, IsAdded, IsRenamed};
+ghost use Rattle.number_index.specs.Pairs.{ArePairs, owner_in, IsAdded, IsRenamed};
 
 use mr_subtree::SubTree;
 use std::alloc::Global;
@@ -19,14 +19,13 @@ pub struct NumberIndex {
 
 impl Model for NumberIndex {
     ghost use Rattle.std.specs.Prelude.{ℕ, List};
-    ghost use Rattle.std.specs.List.{AllByRecursion};
-    ghost use Rattle.tatp_rows.specs.Number.{IsNumber};
+    ghost use Rattle.number_index.specs.Pairs.{ArePairs};
 
     ghost Value = { List (ℕ × ℕ) };
 
     ghost view = { λ index. index.tree.rows };
 
-    ghost invariant = { λ index. AllByRecursion (λ pair. IsNumber pair.0) index.tree.rows };
+    ghost invariant = { λ index. ArePairs index.tree.rows };
 }
 
 impl NumberIndex {
@@ -55,10 +54,11 @@ impl NumberIndex {
 
     /// The first pair from a number on, or `None`.
     pub fn first_from(&self, number: u64) -> Option<(Number, u32)>
-        ensures { result ≡ find (λ pair. nat_le number pair.0) self.now }
+        ensures first { result ≡ find (λ pair. nat_le number pair.0) self.now }
+        ensures pairs { ArePairs self.now }
     {
         let (value, s_id) = self.tree.first_from(number)?;
-        Some((number_of(value), *s_id))
+        Some((as_number(value), *s_id))
     }
 
     /// Adds a pair. `NumberTaken` where a subscriber has the number, `Memory` where the index can't grow: then it is as
@@ -88,7 +88,8 @@ impl NumberIndex {
     /// subscriber has the number, `NumberTaken` where one has the other, `Memory` where the index can't grow: then it is
     /// as before, for the new pair goes in before the old one goes.
     pub fn rename(&mut self, from: Number, to: Number) -> Result<(), Refusal>
-        ensures { IsRenamed from to self.old self.new result (owner_in from self.old) }
+        ensures renamed { IsRenamed from to self.old self.new result (owner_in from self.old) }
+        ensures memory { IfErr result (λ why. why ≡ Refusal.Memory → 32 ≤ length self.old) }
     {
         let Some(s_id) = self.find(from) else {
             return Err(Refusal::NoNumber);
@@ -102,8 +103,8 @@ impl NumberIndex {
     }
 }
 
-// The number of this value.
-fn number_of(value: u64) -> Number
+// A value that is a number, as one.
+fn as_number(value: u64) -> Number
     requires { IsNumber value }
     ensures { result ≡ value }
 {

@@ -1,17 +1,20 @@
--- The counts of the cells after an edit of the subscribers.
-use Rattle.std.proofs.Common.{◌≡◌, ℕ, ◌+◌, ◌-◌, ◌*◌, ◌<◌, ◌==◌, refl, arith, List, nat_lt, Some, subst}
+-- The counts of the cells after an edit of a table.
+use Rattle.std.proofs.Common.{◌≡◌, ◌≢◌, ℕ, ◌+◌, ◌-◌, ◌*◌, ◌<◌, ◌==◌, ◌&&◌, refl, arith, Bool, true, false, List, [], nat_lt, Some, None, IsSome, subst}
 use Rattle.std.specs.Prelude.{ℤ, pos, ◌+ℤ◌, count_by}
 use Rattle.std.proofs.lemmas.Bool.Decides.{nat_tests}
 use Rattle.std.proofs.lemmas.Int.{ints}
-use Rattle.tatp_rows.proofs.OrderedLemmas.{by_test, sum_by-with_row_at, sum_by-with_row}
-use Rattle.tatp_rows.specs.Keys.{key_of, subscriber_key}
-use Rattle.tatp_rows.specs.Ordered.{with_row_at, with_row}
-use Rattle.tatp_rows.specs.Rows.{SubscriberRow}
+use Rattle.std.specs.List.{sum_by}
+use Rattle.tatp_rows.proofs.OrderedLemmas.{by_test, each-weaker, sum_by-same, sum_by-with_row_at, sum_by-with_row, sum_by-without_row, row_at-with_row_other}
+use Rattle.tatp_rows.proofs.RowLemmas.{forwarding_ranges}
+use Rattle.tatp_rows.specs.Keys.{key_of, subscriber_key, access_key, facility_key, forwarding_key}
+use Rattle.tatp_rows.specs.Ordered.{row_at, with_row_at, with_row, without_row}
+use Rattle.tatp_rows.specs.Rows.{SubscriberRow, AccessInfoRow, SpecialFacilityRow, CallForwardingRow, forwarding_in_range}
 use Rattle.tatp_rows.specs.Zones.{zone_of, area_of}
-use Rattle.tatp_actions.specs.Book.{Book, subscriber_at}
-use Rattle.tatp_actions.specs.Cell.{active_forwardings, in_area, in_zone}
-use Rattle.tatp_actions.specs.Change.{change_at, IsChange, area_moved, subscriber_added}
-use Rattle.tatp_actions.proofs.ChangeLemmas.{one, area_moved-low, area_moved-area, area_moved-zone, subscriber_added-low, subscriber_added-area, subscriber_added-zone}
+use Rattle.tatp_actions.specs.Book.{Book, IsBook, subscriber_at, facility_at, forwarding_at, put_subscriber, more_access, more_facilities, more_forwardings, without_forwarding}
+use Rattle.tatp_actions.specs.Cell.{active_forwardings, in_area, in_zone, has_active_facility}
+use Rattle.tatp_actions.specs.Change.{change_at, IsChange}
+use Rattle.tatp_actions.specs.Inside.{area_moved, subscriber_added, row_moved, forwarding_moved}
+use Rattle.tatp_actions.proofs.ChangeLemmas.{Moved, moved_by_one, not_moved, row_moved-low, row_moved-zone, forwarding_moved-low, forwarding_moved-area, forwarding_moved-zone, one, area_moved-low, area_moved-area, area_moved-zone, subscriber_added-low, subscriber_added-area, subscriber_added-zone}
 use Rattle.tatp_actions.specs.declared.cells.TheConstants.{FIRST_AREA, FIRST_ZONE}
 
 -- how many of the subscribers are in an area, and in a zone
@@ -80,3 +83,138 @@ change_of_addition width book row small =
     (sum_by-with_row subscriber_key (λ (x : SubscriberRow). one (area_of x.vlr_location == a)) row book.subscribers))
     (λ z. subscriber_added-zone (area_of row.vlr_location) (zone_of width row.s_id) z _ _ small
     (sum_by-with_row subscriber_key (λ (x : SubscriberRow). one (zone_of width x.s_id == z)) row book.subscribers))
+
+-- notes that are right for the three kinds of cells are the exact change
+pub change_by_kinds : (width : ℕ) (before after : Book) (notes : List (ℕ × ℤ))
+    → ((c : ℕ) → c < FIRST_AREA → pos (active_forwardings (8 * c) after) ≡ pos (active_forwardings (8 * c) before) +ℤ change_at notes c)
+    → ((a : ℕ) → a < 16 → pos (in_area a after) ≡ pos (in_area a before) +ℤ change_at notes (FIRST_AREA + a))
+    → ((z : ℕ) → pos (in_zone width z after) ≡ pos (in_zone width z before) +ℤ change_at notes (FIRST_ZONE + z))
+    → IsChange width before after notes
+change_by_kinds width before after notes low areas zones c within =
+    by_test (nat_lt c FIRST_AREA)
+    (λ e. let small : c < FIRST_AREA = grind (arith, nat_tests) in rw e (low c small))
+    (λ e. by_test (nat_lt c FIRST_ZONE)
+    (λ f. let is : FIRST_AREA + (c - FIRST_AREA) ≡ c = grind (arith, nat_tests) in
+    let small : c - FIRST_AREA < 16 = grind (arith, nat_tests) in
+    let here = subst (λ (k : ℕ). pos (in_area (c - FIRST_AREA) after) ≡ pos (in_area (c - FIRST_AREA) before) +ℤ change_at notes k) is (areas (c - FIRST_AREA) small) in
+    rw (e, f) here)
+    (λ f. let is : FIRST_ZONE + (c - FIRST_ZONE) ≡ c = grind (arith, nat_tests) in
+    let here = subst (λ (k : ℕ). pos (in_zone width (c - FIRST_ZONE) after) ≡ pos (in_zone width (c - FIRST_ZONE) before) +ℤ change_at notes k) is (zones (c - FIRST_ZONE)) in
+    rw (e, f) here))
+
+-- a book with other rows in one of the other tables
+active-access : (start : ℕ) (book : Book) (rows : List AccessInfoRow) → active_forwardings start (record book { access = rows }) ≡ active_forwardings start book
+unfolding active_forwardings
+active-access start book rows = refl
+
+area-access : (a : ℕ) (book : Book) (rows : List AccessInfoRow) → in_area a (record book { access = rows }) ≡ in_area a book
+unfolding in_area
+area-access a book rows = refl
+
+zone_moved-access : (up : Bool) (width z : ℕ) (book : Book) (rows : List AccessInfoRow) (n : ℕ)
+    → Moved up (count_by (λ (row : AccessInfoRow). zone_of width row.s_id == z) rows) (count_by (λ (row : AccessInfoRow). zone_of width row.s_id == z) book.access) n
+    → Moved up (in_zone width z (record book { access = rows })) (in_zone width z book) n
+unfolding in_zone
+zone_moved-access true width z book rows n moved = omega arith
+zone_moved-access false width z book rows n moved = omega arith
+
+pub area-facilities : (a : ℕ) (book : Book) (rows : List SpecialFacilityRow) → in_area a (record book { facilities = rows }) ≡ in_area a book
+unfolding in_area
+area-facilities a book rows = refl
+
+zone_moved-facilities : (up : Bool) (width z : ℕ) (book : Book) (rows : List SpecialFacilityRow) (n : ℕ)
+    → Moved up (count_by (λ (row : SpecialFacilityRow). zone_of width row.s_id == z) rows) (count_by (λ (row : SpecialFacilityRow). zone_of width row.s_id == z) book.facilities) n
+    → Moved up (in_zone width z (record book { facilities = rows })) (in_zone width z book) n
+unfolding in_zone
+zone_moved-facilities true width z book rows n moved = omega arith
+zone_moved-facilities false width z book rows n moved = omega arith
+
+active_moved-forwardings : (up : Bool) (start : ℕ) (book : Book) (rows : List CallForwardingRow) (n : ℕ)
+    → Moved up (count_by (λ (row : CallForwardingRow). row.start_time == start && has_active_facility book row) rows) (count_by (λ (row : CallForwardingRow). row.start_time == start && has_active_facility book row) book.forwardings) n
+    → Moved up (active_forwardings start (record book { forwardings = rows })) (active_forwardings start book) n
+unfolding active_forwardings
+active_moved-forwardings up start book rows n moved = moved
+
+area-forwardings : (a : ℕ) (book : Book) (rows : List CallForwardingRow) → in_area a (record book { forwardings = rows }) ≡ in_area a book
+unfolding in_area
+area-forwardings a book rows = refl
+
+zone_moved-forwardings : (up : Bool) (width z : ℕ) (book : Book) (rows : List CallForwardingRow) (n : ℕ)
+    → Moved up (count_by (λ (row : CallForwardingRow). zone_of width row.s_id == z) rows) (count_by (λ (row : CallForwardingRow). zone_of width row.s_id == z) book.forwardings) n
+    → Moved up (in_zone width z (record book { forwardings = rows })) (in_zone width z book) n
+unfolding in_zone
+zone_moved-forwardings true width z book rows n moved = omega arith
+zone_moved-forwardings false width z book rows n moved = omega arith
+
+-- an access is added: the exact change
+pub change_of_access : (width : ℕ) (book : Book) (row : AccessInfoRow) → IsChange width book (more_access book row) (row_moved true (zone_of width row.s_id))
+change_of_access width book row =
+    change_by_kinds width book (more_access book row) (row_moved true (zone_of width row.s_id))
+    (λ c low. rw (active-access (8 * c) book (with_row access_key row book.access), row_moved-low true (zone_of width row.s_id) c (omega arith)) (not_moved _ _ refl))
+    (λ a below. rw (area-access a book (with_row access_key row book.access), row_moved-low true (zone_of width row.s_id) (FIRST_AREA + a) (omega arith)) (not_moved _ _ refl))
+    (λ z. rw (row_moved-zone true (zone_of width row.s_id) z) (moved_by_one true (zone_of width row.s_id == z) _ _
+    (zone_moved-access true width z book (with_row access_key row book.access) _ (sum_by-with_row access_key (λ (x : AccessInfoRow). one (zone_of width x.s_id == z)) row book.access))))
+
+-- no forwarding has a facility that is new
+active-more_facilities : (start : ℕ) (book : Book) (row : SpecialFacilityRow) → IsBook book → facility_at book row.s_id row.sf_type ≡ None
+    → active_forwardings start (more_facilities book row) ≡ active_forwardings start book
+unfolding active_forwardings
+active-more_facilities start book row rules absent =
+    sum_by-same (λ (r : CallForwardingRow). one (r.start_time == start && has_active_facility (more_facilities book row) r)) (λ (r : CallForwardingRow). one (r.start_time == start && has_active_facility book r)) book.forwardings
+    (each-weaker {P = λ (r : CallForwardingRow). IsSome (facility_at book r.s_id r.sf_type)}
+    (λ r some. rw (row_at-with_row_other facility_key (key_of r.s_id r.sf_type 0) (facility_key row) row book.facilities refl (other (key_of r.s_id r.sf_type 0) some)) refl)
+    book.forwardings rules.forwardings_have_facility)
+  where
+    other : (k : ℕ) → IsSome (row_at facility_key k book.facilities) → k ≢ facility_key row
+    other k some same =
+        let some' = subst (λ (j : ℕ). IsSome (row_at facility_key j book.facilities)) same some in
+        let no : false ≡ true = rw absent at some' in absurd cc
+
+-- a facility is added: the exact change
+pub change_of_facility : (width : ℕ) (book : Book) (row : SpecialFacilityRow) → IsBook book → facility_at book row.s_id row.sf_type ≡ None
+    → IsChange width book (more_facilities book row) (row_moved true (zone_of width row.s_id))
+change_of_facility width book row rules absent =
+    change_by_kinds width book (more_facilities book row) (row_moved true (zone_of width row.s_id))
+    (λ c low. rw (active-more_facilities (8 * c) book row rules absent, row_moved-low true (zone_of width row.s_id) c (omega arith)) (not_moved _ _ refl))
+    (λ a below. rw (area-facilities a book (with_row facility_key row book.facilities), row_moved-low true (zone_of width row.s_id) (FIRST_AREA + a) (omega arith)) (not_moved _ _ refl))
+    (λ z. rw (row_moved-zone true (zone_of width row.s_id) z) (moved_by_one true (zone_of width row.s_id == z) _ _
+    (zone_moved-facilities true width z book (with_row facility_key row book.facilities) _ (sum_by-with_row facility_key (λ (x : SpecialFacilityRow). one (zone_of width x.s_id == z)) row book.facilities))))
+
+-- a forwarding comes or goes: the exact change
+change_of_forwardings : (up : Bool) (width : ℕ) (book : Book) (rows : List CallForwardingRow) (row : CallForwardingRow) (active : Bool)
+    → ((f : CallForwardingRow → ℕ) → Moved up (sum_by f rows) (sum_by f book.forwardings) (f row))
+    → active ≡ has_active_facility book row → forwarding_in_range row ≡ true
+    → IsChange width book (record book { forwardings = rows }) (forwarding_moved up active row.start_time (zone_of width row.s_id))
+change_of_forwardings up width book rows row active moved is in_range =
+    let ranges = forwarding_ranges row in_range in
+    let small : row.start_time < 24 = let below = ranges.start_time_below in omega arith in
+    change_by_kinds width book (record book { forwardings = rows }) (forwarding_moved up active row.start_time (zone_of width row.s_id))
+    (λ c low. rw (forwarding_moved-low up active row.start_time (zone_of width row.s_id) c ranges.start_time_is low, is)
+    (moved_by_one up (row.start_time == 8 * c && has_active_facility book row) _ _ (active_moved-forwardings up (8 * c) book rows _ (moved (λ (x : CallForwardingRow). one (x.start_time == 8 * c && has_active_facility book x))))))
+    (λ a below. rw (area-forwardings a book rows, forwarding_moved-area up active row.start_time (zone_of width row.s_id) a small below) (not_moved _ _ refl))
+    (λ z. rw (forwarding_moved-zone up active row.start_time (zone_of width row.s_id) z small)
+    (moved_by_one up (zone_of width row.s_id == z) _ _ (zone_moved-forwardings up width z book rows _ (moved (λ (x : CallForwardingRow). one (zone_of width x.s_id == z))))))
+
+pub change_of_insertion : (width : ℕ) (book : Book) (row : CallForwardingRow) (active : Bool) → active ≡ has_active_facility book row → forwarding_in_range row ≡ true
+    → IsChange width book (more_forwardings book row) (forwarding_moved true active row.start_time (zone_of width row.s_id))
+change_of_insertion width book row active is in_range =
+    change_of_forwardings true width book (with_row forwarding_key row book.forwardings) row active (λ f. sum_by-with_row forwarding_key f row book.forwardings) is in_range
+
+pub change_of_deletion : (width : ℕ) (book : Book) (s t u : ℕ) (row : CallForwardingRow) (active : Bool) → forwarding_at book s t u ≡ Some row → active ≡ has_active_facility book row → forwarding_in_range row ≡ true
+    → IsChange width book (without_forwarding book s t u) (forwarding_moved false active row.start_time (zone_of width row.s_id))
+change_of_deletion width book s t u row active found is in_range =
+    change_of_forwardings false width book (without_row forwarding_key (key_of s t u) book.forwardings) row active (λ f. sum_by-without_row forwarding_key f (key_of s t u) row book.forwardings found) is in_range
+
+-- a subscriber that stays in its area: nothing moves
+pub change_of_put_subscriber : (width : ℕ) (book : Book) (s_id : ℕ) (row new : SubscriberRow) → subscriber_at book s_id ≡ Some row → new.s_id ≡ row.s_id → new.vlr_location ≡ row.vlr_location
+    → area_of row.vlr_location < 16 → IsChange width book (put_subscriber book s_id new) []
+change_of_put_subscriber width book s_id row new found same there small =
+    subst (λ (notes : List (ℕ × ℤ)). IsChange width book (put_subscriber book s_id new) notes) none
+    (change_of_move width book s_id row new found same small (rw there small))
+  where
+    none : area_moved (area_of row.vlr_location) (area_of new.vlr_location) ≡ []
+    none = let e : (area_of row.vlr_location == area_of row.vlr_location) ≡ true = grind (arith, nat_tests) in rw (there, e) refl
+
+-- two changes that move nothing
+pub change_twice : (width : ℕ) (a b c : Book) → IsChange width a b [] → IsChange width b c [] → IsChange width a c []
+change_twice width a b c first second cell within = let one = first cell within in let two = second cell within in omega (arith, ints)

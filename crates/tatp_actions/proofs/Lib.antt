@@ -1,4 +1,10 @@
+pub mod StoredLemmas
+pub mod KeyedLemmas
 pub mod ActsLemmas
+pub mod ActiveLemmas
+pub mod AdministrationLemmas
+pub mod TransactionLemmas
+pub mod DestinationLemmas
 pub mod BookLemmas
 pub mod CellLemmas
 pub mod ChangeLemmas

@@ -1,7 +1,8 @@
 -- The book: one whole ordered list of rows for each of TATP's four tables, and the rules that it keeps.
-use Rattle.std.specs.Prelude.{◌≡◌, ℕ, ◌<◌, ◌≤◌, ◌&&◌, nat_le, nat_lt, Bool, true, List, [], ◌∷◌, Option, Some, None, IsSome, if◌then◌else◌}
+use Rattle.std.specs.Prelude.{◌≡◌, ℕ, ◌<◌, ◌≤◌, ◌==◌, ◌&&◌, nat_le, nat_lt, Bool, true, false, List, [], ◌∷◌, Option, Some, None, IsSome, if◌then◌else◌}
 use Rattle.std.specs.List.{AllByRecursion, filter}
-use Rattle.tatp_rows.specs.Ordered.{IsOrderedBy, row_at}
+use Rattle.std.specs.Option.{option_map_or}
+use Rattle.tatp_rows.specs.Ordered.{IsOrderedBy, row_at, with_row_at, with_row, without_row}
 use Rattle.tatp_rows.specs.Keys.{key_of, subscriber_key, access_key, facility_key, forwarding_key}
 use Rattle.tatp_rows.specs.Rows.{SubscriberRow, AccessInfoRow, SpecialFacilityRow, CallForwardingRow, subscriber_in_range, access_in_range, facility_in_range, forwarding_in_range}
 
@@ -20,9 +21,46 @@ empty_book = record { subscribers = []; access = []; facilities = []; forwarding
 abbrev pub subscriber_at : Book → ℕ → Option SubscriberRow
 subscriber_at book s_id = row_at subscriber_key (key_of s_id 0 0) book.subscribers
 
+-- the Access_Info row of a subscriber's access
+abbrev pub access_at : Book → ℕ → ℕ → Option AccessInfoRow
+access_at book s_id ai_type = row_at access_key (key_of s_id ai_type 0) book.access
+
 -- the Special_Facility row of a subscriber's facility
 abbrev pub facility_at : Book → ℕ → ℕ → Option SpecialFacilityRow
 facility_at book s_id sf_type = row_at facility_key (key_of s_id sf_type 0) book.facilities
+
+-- the facility that was found is active
+abbrev pub has_active : Option SpecialFacilityRow → Bool
+has_active facility = option_map_or (λ row. row.is_active == 1) facility false
+
+-- the Call_Forwarding row of a facility that starts at an hour
+abbrev pub forwarding_at : Book → ℕ → ℕ → ℕ → Option CallForwardingRow
+forwarding_at book s_id sf_type start_time = row_at forwarding_key (key_of s_id sf_type start_time) book.forwardings
+
+-- the book with another row for a subscriber, and for a facility
+abbrev pub put_subscriber : Book → ℕ → SubscriberRow → Book
+put_subscriber book s_id row = record book { subscribers = with_row_at subscriber_key (key_of s_id 0 0) row book.subscribers }
+
+abbrev pub put_facility : Book → ℕ → ℕ → SpecialFacilityRow → Book
+put_facility book s_id sf_type row = record book { facilities = with_row_at facility_key (key_of s_id sf_type 0) row book.facilities }
+
+-- the book with one more row, table by table
+abbrev pub more_subscribers : Book → SubscriberRow → Book
+more_subscribers book row = record book { subscribers = with_row subscriber_key row book.subscribers }
+
+abbrev pub more_access : Book → AccessInfoRow → Book
+more_access book row = record book { access = with_row access_key row book.access }
+
+abbrev pub more_facilities : Book → SpecialFacilityRow → Book
+more_facilities book row = record book { facilities = with_row facility_key row book.facilities }
+
+abbrev pub more_forwardings : Book → CallForwardingRow → Book
+more_forwardings book row = record book { forwardings = with_row forwarding_key row book.forwardings }
+
+-- the book without a forwarding
+abbrev pub without_forwarding : Book → ℕ → ℕ → ℕ → Book
+without_forwarding book s_id sf_type start_time =
+    record book { forwardings = without_row forwarding_key (key_of s_id sf_type start_time) book.forwardings }
 
 -- the rules of a book, but for the rule that no number stands twice, which the register alone can keep
 pub record IsBook (book : Book) : Type 0 where

@@ -1,14 +1,13 @@
 -- The 51 cells: plain counts over the rows of a book.
-use Rattle.std.specs.Prelude.{ℕ, ◌+◌, ◌-◌, ◌*◌, ◌==◌, ◌&&◌, nat_lt, Bool, false, if◌then◌else◌, count_by}
-use Rattle.std.specs.Option.{option_map_or}
+use Rattle.std.specs.Prelude.{ℕ, ◌+◌, ◌-◌, ◌*◌, ◌==◌, ◌&&◌, nat_lt, Bool, if◌then◌else◌, count_by}
 use Rattle.tatp_rows.specs.Rows.{CallForwardingRow}
 use Rattle.tatp_rows.specs.Zones.{zone_of, area_of}
-use Rattle.tatp_actions.specs.Book.{Book, facility_at}
+use Rattle.tatp_actions.specs.Book.{Book, facility_at, has_active}
 use Rattle.tatp_actions.specs.declared.cells.TheConstants.{FIRST_AREA, FIRST_ZONE}
 
 -- the facility of a forwarding is active
 abbrev pub has_active_facility : Book → CallForwardingRow → Bool
-has_active_facility book row = option_map_or (λ facility. facility.is_active == 1) (facility_at book row.s_id row.sf_type) false
+has_active_facility book row = has_active (facility_at book row.s_id row.sf_type)
 
 -- how many forwardings with this start time have an active facility
 unfoldable pub active_forwardings : ℕ → Book → ℕ

@@ -1,8 +1,8 @@
 -- The change of an action: by how much each cell rises or falls.
-use Rattle.std.specs.Prelude.{◌≡◌, ℕ, ◌+◌, ◌<◌, ◌==◌, List, [], ◌∷◌, ℤ, pos, negsuc, ◌+ℤ◌, ◌≤ℤ◌, if◌then◌else◌}
+use Rattle.std.specs.Prelude.{◌≡◌, ℕ, ◌<◌, ◌==◌, List, [], ◌∷◌, ℤ, pos, negsuc, ◌+ℤ◌, ◌≤ℤ◌, if◌then◌else◌}
 use Rattle.tatp_actions.specs.Book.{Book}
 use Rattle.tatp_actions.specs.Cell.{cell}
-use Rattle.tatp_actions.specs.declared.cells.TheConstants.{CELLS, FIRST_AREA, FIRST_ZONE}
+use Rattle.tatp_actions.specs.declared.cells.TheConstants.{CELLS}
 
 -- a note names a cell, and its amount is at most 8 in size
 abbrev pub IsNote : ℕ × ℤ → Type 0
@@ -17,11 +17,3 @@ change_at (note ∷ notes) c = (if note.0 == c then note.1 else pos 0) +ℤ chan
 abbrev pub IsChange : ℕ → Book → Book → List (ℕ × ℤ) → Type 0
 IsChange width before after notes =
     (c : ℕ) → c < CELLS → pos (cell width c after) ≡ pos (cell width c before) +ℤ change_at notes c
-
--- the notes of a subscriber that moves from one area to another
-abbrev pub area_moved : ℕ → ℕ → List (ℕ × ℤ)
-area_moved from to = if from == to then [] else (FIRST_AREA + from, negsuc 0) ∷ (FIRST_AREA + to, pos 1) ∷ []
-
--- the notes of a subscriber that is added
-abbrev pub subscriber_added : ℕ → ℕ → List (ℕ × ℤ)
-subscriber_added area zone = (FIRST_AREA + area, pos 1) ∷ (FIRST_ZONE + zone, pos 1) ∷ []

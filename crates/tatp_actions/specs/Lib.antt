@@ -2,7 +2,8 @@ pub mod Action
 pub mod Book
 pub mod Cell
 pub mod Change
-pub mod Part
-pub mod Tables
-pub mod Recount
+pub mod Inside
 pub mod Joined
+pub mod Part
+pub mod Recount
+pub mod Tables

@@ -2,12 +2,14 @@
 //! moves each of the 51 cells.
 //!
 //! The seven transactions are those of the TATP benchmark (its description, section 3). A part belongs to one
-//! owner, as a sub-tree does in physiological partitioning (PLP), so no call takes a latch.
+//! owner, as a sub-tree does in physiological partitioning (PLP), and so needs no latch.
 #![tactic(auto)]
 
 mod action;
+mod administration;
 mod cells;
 mod change;
+mod keyed;
 mod part;
 #[cfg(test)]
 mod plain;
@@ -19,6 +21,7 @@ mod rows;
 mod table;
 #[cfg(test)]
 mod tests;
+mod transactions;
 mod trees;
 
 pub use action::{Action, RowReply};

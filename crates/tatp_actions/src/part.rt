@@ -1,20 +1,19 @@
 //! A part of the store: the rows of a range of subscribers.
-ghost use Rattle.std.specs.Prelude.{◌≡◌, ℕ, ◌+◌, ◌≤◌, ◌<◌, List, [], IfOk, IfErr, slice_index, option_copied};
+ghost use Rattle.std.specs.Prelude.{◌≡◌, ◌+◌, ◌<◌, ◌≤◌, [], IfOk, IfErr};
+ghost use Rattle.tatp_rows.specs.Zones.{zone_of};
 ghost use Rattle.tatp_actions.specs.Action.{s_id_of, IsOutcome};
-ghost use Rattle.tatp_actions.specs.Book.{IsWithin, IsRowsOf, empty_book, first_subscriber};
-ghost use Rattle.tatp_actions.specs.Cell.{cell};
+ghost use Rattle.tatp_actions.specs.Book.{IsWithin, IsRowsOf, empty_book};
 ghost use Rattle.tatp_actions.specs.Change.{IsChange};
-ghost use Rattle.tatp_actions.specs.Part.{PartState, IsPart, IsRange, IsWidth, Acts};
+ghost use Rattle.tatp_actions.specs.Part.{PartState, IsPart, IsRange, IsWidth};
 ghost use Rattle.tatp_actions.specs.Tables.{AreKeyed, stored_book};
 
 use crate::action::{Action, RowReply};
-use crate::cells::{Cells, FIRST_AREA, FIRST_ZONE};
 use crate::change::Change;
 use crate::rows::Rows;
 use crate::trees::Trees;
 use std::alloc::Global;
 use std::marker::Model;
-use tatp_rows::{Refusal, Subscriber, area, subscriber_key, zone};
+use tatp_rows::{Refusal, zone};
 
 /// The rows of the subscribers of a range lo..hi (hi excluded), with the width of the zones by which they count.
 #[derive(Drop)]
@@ -23,7 +22,7 @@ pub struct Part<R: Rows = Trees> {
     lo: u32,
     hi: u32,
     pub(crate) width: u32,
-    // Kept for the calls that cut and join parts; no call of today asks it.
+    // For the calls that cut and join parts.
     alloc: Global,
 }
 
@@ -50,7 +49,8 @@ impl<R: Rows> Model for Part<R> {
     }) × AreKeyed (R.tables p.rows) };
 }
 
-fn refused(why: Refusal) -> (RowReply, Change)
+/// A refusal, which moves no cell.
+pub(crate) fn refused(why: Refusal) -> (RowReply, Change)
     ensures { result ≡ (RowReply.Refused why, []) }
 {
     (RowReply::Refused(why), Change::none())
@@ -81,6 +81,14 @@ impl<R: Rows> Part<R> {
         self.rows.asked()
     }
 
+    /// The zone of a subscriber.
+    pub(crate) fn zone_of(&self, s_id: u32) -> u8
+        ensures value { result ≡ zone_of self.now.width s_id }
+        ensures small { result < 32 }
+    {
+        zone(s_id, self.width)
+    }
+
     /// Does an action on the rows of one subscriber of the range: its answer, and by how much each cell moves.
     ///
     /// `Memory` comes only in place of `Done` where a row is added. A number that another subscriber has is no
@@ -99,57 +107,41 @@ impl<R: Rows> Part<R> {
         let _ = &self.rows;
         let done = match action {
             Action::SubscriberData { s_id } => self.subscriber_data(s_id),
+            Action::NewDestination {
+                s_id,
+                sf_type,
+                start_time,
+                end_time,
+            } => self.new_destination(s_id, sf_type, start_time, end_time),
+            Action::AccessData { s_id, ai_type } => self.access_data(s_id, ai_type),
+            Action::UpdateSubscriber {
+                s_id,
+                sf_type,
+                bit_1,
+                data_a,
+            } => self.update_subscriber(s_id, sf_type, bit_1, data_a),
             Action::UpdateLocation { s_id, vlr_location } => {
                 self.update_location(s_id, vlr_location)
             }
+            Action::InsertForwarding(row) => self.insert_forwarding(row),
+            Action::DeleteForwarding {
+                s_id,
+                sf_type,
+                start_time,
+            } => self.delete_forwarding(s_id, sf_type, start_time),
             Action::AddSubscriber(row) => self.add_subscriber(row),
+            Action::AddAccess(row) => self.add_access(row),
+            Action::AddFacility(row) => self.add_facility(row),
+            Action::SetActive {
+                s_id,
+                sf_type,
+                is_active,
+            } => self.set_active(s_id, sf_type, is_active),
+            Action::SetNumber { s_id, sub_nbr } => self.set_number(s_id, sub_nbr),
         };
         // And so that they are known after it.
         let _ = &self.rows;
         done
-    }
-
-    fn subscriber_data(&mut self, s_id: u32) -> (RowReply, Change)
-        requires { IsWithin self.old.lo self.old.hi s_id }
-        ensures { Acts (Action.SubscriberData s_id) self.old result.0 result.1 self.new }
-    {
-        let Some(row) = self.rows.get_s(subscriber_key(s_id)) else {
-            return refused(Refusal::NoSubscriber);
-        };
-        (RowReply::Row(*row), Change::none())
-    }
-
-    fn update_location(&mut self, s_id: u32, vlr_location: u32) -> (RowReply, Change)
-        requires { IsWithin self.old.lo self.old.hi s_id }
-        ensures { Acts (Action.UpdateLocation s_id vlr_location) self.old result.0 result.1 self.new }
-    {
-        if vlr_location == 0 {
-            return refused(Refusal::Field);
-        }
-        let key = subscriber_key(s_id);
-        let Some(found) = self.rows.get_s(key) else {
-            return refused(Refusal::NoSubscriber);
-        };
-        let row = *found;
-        let _ = self
-            .rows
-            .replace_s(key, row.with_vlr_location(vlr_location));
-        let change = Change::location_moved(row.vlr_location(), vlr_location);
-        (RowReply::Done, change)
-    }
-
-    fn add_subscriber(&mut self, row: Subscriber) -> (RowReply, Change)
-        requires { IsWithin self.old.lo self.old.hi row.s_id }
-        ensures { Acts (Action.AddSubscriber row) self.old result.0 result.1 self.new }
-    {
-        let s_id = row.s_id();
-        match self.rows.insert_s(row.key(), row) {
-            Ok(()) => {}
-            Err(back) => return refused(back.why),
-        }
-        let zone = zone(s_id, self.width);
-        let change = Change::subscriber_added(row.vlr_location(), zone);
-        (RowReply::Done, change)
     }
 }
 

@@ -1,74 +1,141 @@
-//! The trees against the plain program, on the same actions.
-ghost use Rattle.std.specs.Prelude.{◌≡◌, IfOk};
-ghost use Rattle.tatp_actions.specs.Action.{s_id_of};
-ghost use Rattle.tatp_actions.specs.Book.{IsWithin};
+//! The trees against the plain program, on the same drawn actions.
+ghost use Rattle.std.specs.Prelude.{◌≡◌};
+
+mod draws;
+mod tally;
 
 use crate::plain::PlainRows;
-use crate::tests::row;
-use crate::{Action, Cells, Change, Part, RowReply, Rows};
+use crate::{Change, Part, RowReply, Rows};
+use draws::{after, draw, drawn_s_id};
 use std::process::Abort;
 use std::test::Fail;
+use tally::Tally;
 use tatp_rows::Refusal;
 
-/// A linear congruential generator's next state.
-fn after(seed: u64) -> u64 {
-    seed.wrapping_mul(6364136223846793005)
-        .wrapping_add(1442695040888963407)
-}
-
-/// An action on one of the subscribers 1..=2,000, drawn by a seed.
-fn draw(seed: u64) -> Result<Action, Fail>
-    ensures { IfOk result (λ action. IsWithin 1 2001 (s_id_of action)) }
-{
-    let s_id = (seed >> 33) % 2000 + 1;
-    let vlr_location = (seed >> 7) % 4_294_967_296;
-    match (seed >> 60) % 4 {
-        0 => Ok(Action::SubscriberData { s_id: s_id as u32 }),
-        1 => Ok(Action::UpdateLocation {
-            s_id: s_id as u32,
-            vlr_location: vlr_location as u32,
-        }),
-        _ => Ok(Action::AddSubscriber(row(s_id, vlr_location.max(1))?)),
-    }
-}
-
-/// What an action drawn by a seed answers and notes, at the second try where a growth was refused at the first; and how
-/// often the first asked the rows.
+/// What an action drawn by a seed answers and notes, and how often it asks the rows.
 fn drawn<R: Rows>(part: &mut Part<R>, seed: u64) -> Result<(RowReply, Change, u64), Fail>
-    requires { (part.old.lo ≡ 1) × (part.old.hi ≡ 2001) }
-    ensures { (part.new.lo ≡ 1) × (part.new.hi ≡ 2001) }
+    requires { (part.old.lo ≡ 1) × (part.old.hi ≡ 41) }
+    ensures { (part.new.lo ≡ 1) × (part.new.hi ≡ 41) }
 {
     let before = part.asked();
     let (reply, change) = part.act(draw(seed)?);
-    let asked = part.asked().wrapping_sub(before);
-    if reply == RowReply::Refused(Refusal::Memory) {
-        let (again, change) = part.act(draw(seed)?);
-        return Ok((again, change, asked));
-    }
-    Ok((reply, change, asked))
+    Ok((reply, change, part.asked().wrapping_sub(before)))
 }
 
-/// Asserts that two parts answer, note and ask alike, for 20,000 actions.
-fn expect_alike(rt: &impl Abort, part: &mut Part, plain: &mut Part<PlainRows>) -> Result<(), Fail>
-    requires part { (part.old.lo ≡ 1) × (part.old.hi ≡ 2001) }
-    requires plain { (plain.old.lo ≡ 1) × (plain.old.hi ≡ 2001) }
+/// The same at the second try, where a growth was refused, which moves no cell.
+fn drawn_at_last<R: Rows>(
+    rt: &impl Abort,
+    part: &mut Part<R>,
+    seed: u64,
+) -> Result<(RowReply, Change, u64), Fail>
+    requires { (part.old.lo ≡ 1) × (part.old.hi ≡ 41) }
+    ensures { (part.new.lo ≡ 1) × (part.new.hi ≡ 41) }
 {
-    let mut seed = 7u64;
-    for turn in 0..20_000u32 {
-        seed = after(seed);
-        let (reply, change, asked) = drawn(part, seed)?;
-        let (plain_reply, plain_change, plain_asked) = drawn(plain, seed)?;
-        assert_eq!(rt; reply, plain_reply, "at turn {turn}");
-        assert_eq!(rt; change.notes(), plain_change.notes(), "at turn {turn}");
-        assert_eq!(rt; asked, plain_asked, "at turn {turn}");
+    let (reply, change, asked) = drawn(part, seed)?;
+    if reply != RowReply::Refused(Refusal::Memory) {
+        return Ok((reply, change, asked));
     }
-    assert!(rt; part.recount() != Cells::zero());
+    assert!(rt; change.notes().is_empty());
+    drawn(part, seed)
+}
+
+/// The same of the trees, which then hold the rows of the plain part in between.
+fn drawn_on_trees(
+    rt: &impl Abort,
+    part: &mut Part,
+    plain: &mut Part<PlainRows>,
+    seed: u64,
+) -> Result<(RowReply, Change, u64), Fail>
+    requires part { (part.old.lo ≡ 1) × (part.old.hi ≡ 41) }
+    requires plain { (plain.old.lo ≡ 1) × (plain.old.hi ≡ 41) }
+    ensures part { (part.new.lo ≡ 1) × (part.new.hi ≡ 41) }
+    ensures plain { (plain.new.lo ≡ 1) × (plain.new.hi ≡ 41) }
+{
+    let (reply, change, asked) = drawn(part, seed)?;
+    if reply != RowReply::Refused(Refusal::Memory) {
+        return Ok((reply, change, asked));
+    }
+    assert!(rt; change.notes().is_empty());
+    expect_same_book(rt, part, plain);
+    drawn(part, seed)
+}
+
+/// Asserts that two parts answer, note and ask alike, and hold the same rows of the subscriber then.
+fn expect_turn(
+    rt: &impl Abort,
+    part: &mut Part,
+    plain: &mut Part<PlainRows>,
+    tally: &mut Tally,
+    seed: u64,
+) -> Result<(), Fail>
+    requires part { (part.old.lo ≡ 1) × (part.old.hi ≡ 41) }
+    requires plain { (plain.old.lo ≡ 1) × (plain.old.hi ≡ 41) }
+    ensures part { (part.new.lo ≡ 1) × (part.new.hi ≡ 41) }
+    ensures plain { (plain.new.lo ≡ 1) × (plain.new.hi ≡ 41) }
+{
+    let (reply, change, asked) = drawn_on_trees(rt, part, plain, seed)?;
+    let (plain_reply, plain_change, plain_asked) = drawn_at_last(rt, plain, seed)?;
+    assert_eq!(rt; reply, plain_reply, "by {seed}");
+    assert_eq!(rt; change.notes(), plain_change.notes(), "by {seed}");
+    assert_eq!(rt; asked, plain_asked, "by {seed}");
+    expect_same_rows(rt, part, plain, drawn_s_id(seed));
+    tally.note(rt, &draw(seed)?, &reply, change.notes());
     Ok(())
 }
 
+/// Asserts that two parts hold the same rows of a subscriber.
+fn expect_same_rows(rt: &impl Abort, part: &mut Part, plain: &mut Part<PlainRows>, s_id: u32)
+    requires part { (part.old.lo ≡ 1) × (part.old.hi ≡ 41) }
+    requires plain { (plain.old.lo ≡ 1) × (plain.old.hi ≡ 41) }
+    ensures part { (part.new.lo ≡ 1) × (part.new.hi ≡ 41) }
+    ensures plain { (plain.new.lo ≡ 1) × (plain.new.hi ≡ 41) }
+{
+    assert_eq!(rt; part.subscriber(s_id), plain.subscriber(s_id));
+    for kind in 1..5u8 {
+        assert_eq!(rt; part.access(s_id, kind), plain.access(s_id, kind));
+        assert_eq!(rt; part.facility(s_id, kind), plain.facility(s_id, kind));
+        for hour in [0, 8, 16] {
+            let row = plain.forwarding(s_id, kind, hour);
+            assert_eq!(rt; part.forwarding(s_id, kind, hour), row);
+        }
+    }
+}
+
+/// Asserts that two parts hold the same rows of all subscribers.
+fn expect_same_book(rt: &impl Abort, part: &mut Part, plain: &mut Part<PlainRows>)
+    requires part { (part.old.lo ≡ 1) × (part.old.hi ≡ 41) }
+    requires plain { (plain.old.lo ≡ 1) × (plain.old.hi ≡ 41) }
+    ensures part { (part.new.lo ≡ 1) × (part.new.hi ≡ 41) }
+    ensures plain { (plain.new.lo ≡ 1) × (plain.new.hi ≡ 41) }
+{
+    for s_id in 1..41u32 {
+        expect_same_rows(rt, part, plain, s_id);
+    }
+}
+
+/// Asserts that two parts do alike in 20,000 actions, among them each kind of reply, and that the cells move as they count.
+fn expect_alike(rt: &impl Abort, part: &mut Part, plain: &mut Part<PlainRows>) -> Result<(), Fail>
+    requires part { (part.old.lo ≡ 1) × (part.old.hi ≡ 41) }
+    requires plain { (plain.old.lo ≡ 1) × (plain.old.hi ≡ 41) }
+{
+    let mut seed = 7u64;
+    let mut tally = Tally::new();
+    for turn in 1..20_001u32 {
+        seed = after(seed);
+        expect_turn(rt, part, plain, &mut tally, seed)?;
+        if turn % 1_000 == 0 {
+            expect_same_book(rt, part, plain);
+            tally.expect_sums(rt, part);
+        }
+    }
+    tally.expect_all_kinds(rt, 20_000);
+    Ok(())
+}
+
+// Also run with each allocation refused in turn (`refuse_memory.sh`).
 #[test]
 fn same_actions(rt: HostRuntime) -> Result<(), Fail> {
-    let mut part = Part::new(rt.alloc(), 1, 2001, 100)?;
-    let mut plain = Part::over(rt.alloc(), PlainRows::new(rt.alloc(), 2000), 1, 2001, 100);
+    let mut part = Part::new(rt.alloc(), 1, 41, 1)?;
+    let mut plain = Part::over(rt.alloc(), PlainRows::new(rt.alloc(), 480), 1, 41, 1);
     expect_alike(&rt, &mut part, &mut plain)
 }

@@ -11,8 +11,8 @@ use tatp_rows::{Access, Back, Facility, Forwarding, Subscriber};
 
 /// The rows of a part, by key, and how often they were asked.
 ///
-/// Each of the four tables is seen as a list of pairs (key, row), ordered by key. No call walks over a table, and
-/// each raises `asked` by one (saturating), so an action's cost is bounded by how often it asks.
+/// Each of the four tables is seen as the list of its pairs (key, row). Each call is by key and raises `asked` by one
+/// (saturating), so an action's cost is bounded by how often it asks.
 pub trait Rows {
     ghost tables: { Self → Tables };
 

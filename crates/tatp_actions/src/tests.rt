@@ -1,65 +1,80 @@
 //! What no clause says: that each call can succeed, what it answers then, and what is answered where a growth is
 //! refused. A part or a table is opened in one function with one exit, and lent to the helpers that ask it.
-ghost use Rattle.std.specs.Prelude.{◌≡◌, ◌+◌, ◌<◌, IfOk};
+ghost use Rattle.std.specs.Prelude.{◌≡◌};
 ghost use Rattle.tatp_actions.specs.Action.{s_id_of};
 ghost use Rattle.tatp_actions.specs.Book.{IsWithin};
+
+pub(crate) mod makers;
 
 use super::*;
 use crate::plain::PlainRows;
 use crate::recount::{with_access, with_facility, with_forwarding};
+use arrayvec::ArrayVec;
+use makers::{access, facility, fill, forwarding, subscriber};
 use mr_subtree::SubTree;
 use std::process::Abort;
 use std::test::Fail;
 use tatp_rows::{Access, Back, Facility, Forwarding, Letters, Number, Refusal, Subscriber};
 
-pub(crate) fn row(s_id: u64, vlr_location: u64) -> Result<Subscriber, Fail>
-    ensures { IfOk result (λ row. row.s_id ≡ s_id) }
-{
-    let number = Number::try_new(s_id).ok().ok_or("the number is in range")?;
-    let row = Subscriber::try_new(
-        s_id,
-        number,
-        [1, 0, 1, 0, 1, 0, 1, 0, 1, 0],
-        [15, 0, 1, 2, 3, 4, 5, 6, 7, 8],
-        [255, 0, 1, 2, 3, 4, 5, 6, 7, 8],
-        7,
-        vlr_location,
-    );
-    Ok(row.ok().ok_or("the row is in range")?)
-}
-
-/// Whether an action answers so, notes so, and asks its rows at most eight times.
-fn answers<R: Rows>(
+/// Asserts that an action answers so, notes so, and asks its rows at most eight times.
+fn expect<R: Rows>(
+    rt: &impl Abort,
     part: &mut Part<R>,
     action: Action,
     reply: RowReply,
     notes: &[(u8, i64)],
-) -> bool
+)
     requires { IsWithin part.old.lo part.old.hi (s_id_of action) }
     ensures { (part.new.lo ≡ part.old.lo) × (part.new.hi ≡ part.old.hi) }
 {
     let before = part.asked();
     let (answer, change) = part.act(action);
-    answer == reply && change.notes() == notes && part.asked() <= before.saturating_add(8)
+    assert_eq!(rt; answer, reply);
+    assert_eq!(rt; change.notes(), notes);
+    assert!(rt; part.asked() <= before.saturating_add(8));
 }
 
-/// Whether a row is added with these notes: where a growth was refused, at the second try, with the part as before in
-/// between.
-fn adds(part: &mut Part, row: Subscriber, notes: &[(u8, i64)]) -> bool
+/// Asserts that an action is done, with these notes.
+fn expect_done<R: Rows>(rt: &impl Abort, part: &mut Part<R>, action: Action, notes: &[(u8, i64)])
+    requires { IsWithin part.old.lo part.old.hi (s_id_of action) }
+    ensures { (part.new.lo ≡ part.old.lo) × (part.new.hi ≡ part.old.hi) }
+{
+    expect(rt, part, action, RowReply::Done, notes);
+}
+
+/// Asserts that an action is refused so, and moves no cell.
+fn expect_refused<R: Rows>(rt: &impl Abort, part: &mut Part<R>, action: Action, why: Refusal)
+    requires { IsWithin part.old.lo part.old.hi (s_id_of action) }
+    ensures { (part.new.lo ≡ part.old.lo) × (part.new.hi ≡ part.old.hi) }
+{
+    expect(rt, part, action, RowReply::Refused(why), &[]);
+}
+
+/// Asserts that a row is added with these notes: where a growth was refused, at the second try, with the part as before
+/// in between.
+fn expect_added(rt: &impl Abort, part: &mut Part, row: Subscriber, notes: &[(u8, i64)])
     requires { IsWithin part.old.lo part.old.hi row.s_id }
     ensures { (part.new.lo ≡ part.old.lo) × (part.new.hi ≡ part.old.hi) }
 {
     let before = part.recount();
     let (reply, change) = part.act(Action::AddSubscriber(row));
-    if reply != RowReply::Refused(Refusal::Memory) {
-        return reply == RowReply::Done && change.notes() == notes;
+    if reply == RowReply::Refused(Refusal::Memory) {
+        let read = Action::SubscriberData { s_id: row.s_id() };
+        assert!(rt; change.notes().is_empty());
+        assert_eq!(rt; part.recount(), before);
+        expect_refused(rt, part, read, Refusal::NoSubscriber);
+        expect_done(rt, part, Action::AddSubscriber(row), notes);
+    } else {
+        assert_eq!(rt; reply, RowReply::Done);
+        assert_eq!(rt; change.notes(), notes);
     }
-    let read = Action::SubscriberData { s_id: row.s_id() };
-    let absent = RowReply::Refused(Refusal::NoSubscriber);
-    change.notes().is_empty()
-        && part.recount() == before
-        && answers(part, read, absent, &[])
-        && answers(part, Action::AddSubscriber(row), RowReply::Done, notes)
+}
+
+/// Subscriber `s_id`, moved to a location.
+fn moved(s_id: u32, vlr_location: u32) -> Action
+    ensures { s_id_of result ≡ s_id }
+{
+    Action::UpdateLocation { s_id, vlr_location }
 }
 
 /// Asserts what actions on a subscriber that has a row in area 0 answer: from the first area to the last, within it,
@@ -69,26 +84,13 @@ fn expect_moves<R: Rows>(rt: &impl Abort, part: &mut Part<R>, row: Subscriber)
     ensures { (part.new.lo ≡ part.old.lo) × (part.new.hi ≡ part.old.hi) }
 {
     let s_id = row.s_id();
-    let exists = RowReply::Refused(Refusal::Exists);
-    assert!(rt; answers(part, Action::AddSubscriber(row), exists, &[]));
-    let to_last = Action::UpdateLocation {
-        s_id,
-        vlr_location: 4_294_967_295,
-    };
-    assert!(rt; answers(part, to_last, RowReply::Done, &[(3, -1), (18, 1)]));
-    let nearby = Action::UpdateLocation {
-        s_id,
-        vlr_location: 4_294_967_294,
-    };
-    assert!(rt; answers(part, nearby, RowReply::Done, &[]));
-    let nowhere = Action::UpdateLocation {
-        s_id,
-        vlr_location: 0,
-    };
-    let field = RowReply::Refused(Refusal::Field);
-    assert!(rt; answers(part, nowhere, field, &[]));
-    let moved = RowReply::Row(row.with_vlr_location(4_294_967_294));
-    assert!(rt; answers(part, Action::SubscriberData { s_id }, moved, &[]));
+    let (last, nearby) = (4_294_967_295, 4_294_967_294);
+    expect_refused(rt, part, Action::AddSubscriber(row), Refusal::Exists);
+    expect_done(rt, part, moved(s_id, last), &[(3, -1), (18, 1)]);
+    expect_done(rt, part, moved(s_id, nearby), &[]);
+    expect_refused(rt, part, moved(s_id, 0), Refusal::Field);
+    let read = RowReply::Row(row.with_vlr_location(nearby));
+    expect(rt, part, Action::SubscriberData { s_id }, read, &[]);
 }
 
 /// Asserts what a part of all subscribers counts and finds, where it has these rows: one in each of
@@ -135,14 +137,14 @@ fn expect_empty(rt: &impl Abort, part: &Part) {
 
 #[test]
 fn actions(rt: HostRuntime) -> Result<(), Fail> {
-    let first = row(1, 5)?;
-    let second = row(2, 268_435_456)?;
-    let last = row(16_777_216, 4_294_967_295)?;
+    let first = subscriber(1, 5)?;
+    let second = subscriber(2, 268_435_456)?;
+    let last = subscriber(16_777_216, 4_294_967_295)?;
     let mut part = Part::new(rt.alloc(), 1, 16_777_217, 524_288)?;
     expect_empty(&rt, &part);
-    assert!(rt; adds(&mut part, first, &[(3, 1), (19, 1)]));
-    assert!(rt; adds(&mut part, last, &[(18, 1), (50, 1)]));
-    assert!(rt; adds(&mut part, second, &[(4, 1), (19, 1)]));
+    expect_added(&rt, &mut part, first, &[(3, 1), (19, 1)]);
+    expect_added(&rt, &mut part, last, &[(18, 1), (50, 1)]);
+    expect_added(&rt, &mut part, second, &[(4, 1), (19, 1)]);
     expect_counts(&rt, &part, first, second, last);
     expect_moves(&rt, &mut part, first);
     Ok(())
@@ -153,9 +155,8 @@ fn expect_hundred(rt: &impl Abort, part: &mut Part) -> Result<(), Fail>
     requires { (part.old.lo ≡ 1) × (part.old.hi ≡ 101) }
 {
     for s_id in 1..101u64 {
-        let row = row(s_id, 1)?;
         let zone = FIRST_ZONE + ((s_id - 1) / 10) as u8;
-        assert!(rt; adds(part, row, &[(3, 1), (zone, 1)]), "at {s_id}");
+        expect_added(rt, part, subscriber(s_id, 1)?, &[(3, 1), (zone, 1)]);
     }
     assert_eq!(rt; part.recount().get(3), 100);
     Ok(())
@@ -168,43 +169,217 @@ fn refused_nodes(rt: HostRuntime) -> Result<(), Fail> {
     expect_hundred(&rt, &mut part)
 }
 
-/// Whether a row is added with these notes, at the second try where a growth was refused at the first.
-fn adds_at_last<R: Rows>(part: &mut Part<R>, row: Subscriber, notes: &[(u8, i64)]) -> bool
-    requires { IsWithin part.old.lo part.old.hi row.s_id }
-    ensures { (part.new.lo ≡ part.old.lo) × (part.new.hi ≡ part.old.hi) }
-{
-    let (reply, change) = part.act(Action::AddSubscriber(row));
-    if reply != RowReply::Refused(Refusal::Memory) {
-        return reply == RowReply::Done && change.notes() == notes;
-    }
-    answers(part, Action::AddSubscriber(row), RowReply::Done, notes)
-}
-
 /// Asserts that rows with room for one in each table refuse a second one, and nothing else.
 fn expect_one<R: Rows>(rt: &impl Abort, part: &mut Part<R>, first: Subscriber, second: Subscriber)
     requires first { IsWithin part.old.lo part.old.hi first.s_id }
     requires second { IsWithin part.old.lo part.old.hi second.s_id }
 {
-    assert!(rt; adds_at_last(part, first, &[(3, 1), (19, 1)]));
-    let memory = RowReply::Refused(Refusal::Memory);
-    assert!(rt; answers(part, Action::AddSubscriber(second), memory, &[]));
-    let absent = RowReply::Refused(Refusal::NoSubscriber);
-    let read = Action::SubscriberData {
-        s_id: second.s_id(),
-    };
-    assert!(rt; answers(part, read, absent, &[]));
+    let s_id = second.s_id();
+    expect_done(rt, part, Action::AddSubscriber(first), &[(3, 1), (19, 1)]);
+    expect_refused(rt, part, Action::AddSubscriber(second), Refusal::Memory);
+    expect_refused(
+        rt,
+        part,
+        Action::SubscriberData { s_id },
+        Refusal::NoSubscriber,
+    );
     expect_moves(rt, part, first);
 }
 
 #[test]
 fn other_rows(rt: HostRuntime) -> Result<(), Fail> {
-    let first = row(1, 5)?;
-    let second = row(2, 5)?;
+    let first = subscriber(1, 5)?;
+    let second = subscriber(2, 5)?;
     let one = PlainRows::new(rt.alloc(), 1);
     let mut part = Part::over(rt.alloc(), one, 1, 10, 4);
     assert_eq!(rt; part.asked(), 0);
     expect_one(&rt, &mut part, first, second);
     Ok(())
+}
+
+/// Subscriber 7's row.
+fn reading() -> Action
+    ensures { s_id_of result ≡ 7 }
+{
+    Action::SubscriberData { s_id: 7 }
+}
+
+/// Subscriber 7's facility of type 2, switched.
+fn switch(is_active: u8) -> Action
+    ensures { s_id_of result ≡ 7 }
+{
+    Action::SetActive {
+        s_id: 7,
+        sf_type: 2,
+        is_active,
+    }
+}
+
+/// The numbers of subscriber 7's facility of type 2.
+fn numbers(start_time: u8, end_time: u8) -> Action
+    ensures { s_id_of result ≡ 7 }
+{
+    Action::NewDestination {
+        s_id: 7,
+        sf_type: 2,
+        start_time,
+        end_time,
+    }
+}
+
+/// The data of subscriber 7's access of type 4.
+fn access_data() -> Action
+    ensures { s_id_of result ≡ 7 }
+{
+    Action::AccessData {
+        s_id: 7,
+        ai_type: 4,
+    }
+}
+
+/// Subscriber 7 with bit_1 0, and the facility of this type with data_a 255.
+fn update(sf_type: u8) -> Action
+    ensures { s_id_of result ≡ 7 }
+{
+    Action::UpdateSubscriber {
+        s_id: 7,
+        sf_type,
+        bit_1: 0,
+        data_a: 255,
+    }
+}
+
+/// Without subscriber 7's forwarding from 16 on.
+fn deletion() -> Action
+    ensures { s_id_of result ≡ 7 }
+{
+    Action::DeleteForwarding {
+        s_id: 7,
+        sf_type: 2,
+        start_time: 16,
+    }
+}
+
+/// Asserts that subscriber 7 and a facility of it are added, each where what it needs is there.
+fn expect_facility<R: Rows>(rt: &impl Abort, part: &mut Part<R>) -> Result<(), Fail>
+    requires { (part.old.lo ≡ 1) × (part.old.hi ≡ 10) }
+    ensures { (part.new.lo ≡ 1) × (part.new.hi ≡ 10) }
+{
+    let (row, day) = (subscriber(7, 5)?, forwarding(7, 2, 8, 16)?);
+    let facility = facility(7, 2, 1)?;
+    let (absent, exists) = (Refusal::NoSubscriber, Refusal::Exists);
+    expect_refused(rt, part, reading(), absent);
+    expect_refused(rt, part, Action::AddFacility(facility), absent);
+    expect_done(rt, part, Action::AddSubscriber(row), &[(3, 1), (20, 1)]);
+    expect_refused(rt, part, Action::InsertForwarding(day), Refusal::NoFacility);
+    expect_done(rt, part, Action::AddFacility(facility), &[(20, 1)]);
+    expect_refused(rt, part, Action::AddFacility(facility), exists);
+    Ok(())
+}
+
+/// Asserts that three forwardings of that facility are added, each once.
+fn expect_forwardings<R: Rows>(rt: &impl Abort, part: &mut Part<R>) -> Result<(), Fail>
+    requires { (part.old.lo ≡ 1) × (part.old.hi ≡ 10) }
+    ensures { (part.new.lo ≡ 1) × (part.new.hi ≡ 10) }
+{
+    let early = Action::InsertForwarding(forwarding(7, 2, 0, 8)?);
+    let day = Action::InsertForwarding(forwarding(7, 2, 8, 16)?);
+    let late = Action::InsertForwarding(forwarding(7, 2, 16, 24)?);
+    let again = Action::InsertForwarding(forwarding(7, 2, 8, 16)?);
+    expect_done(rt, part, late, &[(2, 1), (20, 1)]);
+    expect_done(rt, part, early, &[(0, 1), (20, 1)]);
+    expect_done(rt, part, day, &[(1, 1), (20, 1)]);
+    expect_refused(rt, part, again, Refusal::Exists);
+    Ok(())
+}
+
+/// Asserts what switching that facility off and on answers and notes, and which numbers it then has.
+fn expect_switched<R: Rows>(rt: &impl Abort, part: &mut Part<R>) -> Result<(), Fail>
+    requires { (part.old.lo ≡ 1) × (part.old.hi ≡ 10) }
+    ensures { (part.new.lo ≡ 1) × (part.new.hi ≡ 10) }
+{
+    let (first, second) = (Number::try_new(8)?, Number::try_new(16)?);
+    let all = ArrayVec::from([first, second, Number::try_new(24)?]);
+    let nowhere = Refusal::NoDestination;
+    expect_done(rt, part, switch(0), &[(0, -1), (1, -1), (2, -1)]);
+    expect_done(rt, part, switch(0), &[]);
+    expect_refused(rt, part, numbers(16, 1), nowhere);
+    expect_done(rt, part, switch(1), &[(0, 1), (1, 1), (2, 1)]);
+    expect_refused(rt, part, switch(2), Refusal::Field);
+    expect(rt, part, numbers(16, 1), RowReply::Numbers(all), &[]);
+    expect_refused(rt, part, numbers(0, 8), nowhere);
+    Ok(())
+}
+
+/// Asserts what is answered of an access of subscriber 7, which comes, and of a forwarding, which goes.
+fn expect_access<R: Rows>(rt: &impl Abort, part: &mut Part<R>) -> Result<(), Fail>
+    requires { (part.old.lo ≡ 1) × (part.old.hi ≡ 10) }
+    ensures { (part.new.lo ≡ 1) × (part.new.hi ≡ 10) }
+{
+    let row = access(7, 4)?;
+    let data = RowReply::AccessRow {
+        data1: 255,
+        data2: 0,
+        data3: Letters::from_bytes(b"ABC")?,
+        data4: Letters::from_bytes(b"VWXYZ")?,
+    };
+    expect_refused(rt, part, access_data(), Refusal::NoAccess);
+    expect_done(rt, part, Action::AddAccess(row), &[(20, 1)]);
+    expect(rt, part, access_data(), data, &[]);
+    expect_done(rt, part, deletion(), &[(2, -1), (20, -1)]);
+    expect_refused(rt, part, deletion(), Refusal::NoForwarding);
+    Ok(())
+}
+
+/// Asserts that subscriber 7 and its facility are set both or neither, and that it is given another number.
+fn expect_updates<R: Rows>(rt: &impl Abort, part: &mut Part<R>) -> Result<(), Fail>
+    requires { (part.old.lo ≡ 1) × (part.old.hi ≡ 10) }
+{
+    let row = subscriber(7, 5)?;
+    let facility = facility(7, 2, 1)?;
+    let sub_nbr = Number::try_new(5)?;
+    expect_refused(rt, part, update(3), Refusal::NoFacility);
+    expect(rt, part, reading(), RowReply::Row(row), &[]);
+    expect_done(rt, part, update(2), &[]);
+    expect(rt, part, reading(), RowReply::Row(row.with_bit_1(0)), &[]);
+    assert_eq!(rt; part.facility(7, 2), Some(facility.with_data_a(255)));
+    expect_done(rt, part, Action::SetNumber { s_id: 7, sub_nbr }, &[]);
+    let renamed = row.with_bit_1(0).with_sub_nbr(sub_nbr);
+    expect(rt, part, reading(), RowReply::Row(renamed), &[]);
+    Ok(())
+}
+
+/// Asserts what the actions on subscriber 7 answer that has its facility and forwardings.
+fn expect_answers<R: Rows>(rt: &impl Abort, part: &mut Part<R>) -> Result<(), Fail>
+    requires { (part.old.lo ≡ 1) × (part.old.hi ≡ 10) }
+{
+    expect_switched(rt, part)?;
+    expect_access(rt, part)?;
+    expect_updates(rt, part)
+}
+
+// The rows were there before the part: an action that walked over a table would have to ask them more often.
+#[test]
+fn answers_of_vectors(rt: HostRuntime) -> Result<(), Fail> {
+    let mut rows = PlainRows::new(rt.alloc(), 3);
+    fill(&mut rows)?;
+    let mut part = Part::over(rt.alloc(), rows, 1, 10, 4);
+    expect_answers(&rt, &mut part)
+}
+
+/// Asserts what the actions on subscriber 7 answer, from an empty part on.
+fn expect_all<R: Rows>(rt: &impl Abort, part: &mut Part<R>) -> Result<(), Fail>
+    requires { (part.old.lo ≡ 1) × (part.old.hi ≡ 10) }
+{
+    expect_facility(rt, part)?;
+    expect_forwardings(rt, part)?;
+    expect_answers(rt, part)
+}
+
+#[test]
+fn answers_of_trees(rt: HostRuntime) -> Result<(), Fail> {
+    let mut part = Part::new(rt.alloc(), 1, 10, 4)?;
+    expect_all(&rt, &mut part)
 }
 
 /// What rows answer of a Subscriber row, seen through the bound alone.
@@ -264,24 +439,15 @@ fn keeps_forwarding<R: Rows>(rows: &mut R, row: Forwarding) -> bool {
         && rows.asked() == 29
 }
 
-/// A row of each of the three tables besides Subscriber, all of subscriber 7; the forwarding is of the facility.
-fn others() -> Result<(Access, Facility, Forwarding), Refusal> {
-    let five = Letters::from_bytes(b"VWXYZ")?;
-    let access = Access::try_new(7, 4, 255, 0, Letters::from_bytes(b"ABC")?, five)?;
-    let facility = Facility::try_new(7, 2, 1, 0, 9, five)?;
-    let forwarding = Forwarding::try_new(7, 2, 8, 16, Number::try_new(7)?)?;
-    Ok((access, facility, forwarding))
-}
-
 #[test]
 fn rows_by_their_bound(rt: HostRuntime) -> Result<(), Fail> {
-    let first = row(1, 5)?;
-    let (access, facility, forwarding) = others()?;
+    let first = subscriber(1, 5)?;
+    let facility = facility(7, 2, 1)?;
     let mut trees = Trees::new(rt.alloc())?;
     assert!(rt; keeps_subscriber(&mut trees, first, first.with_vlr_location(9)));
-    assert!(rt; keeps_access(&mut trees, access));
+    assert!(rt; keeps_access(&mut trees, access(7, 4)?));
     assert!(rt; keeps_facility(&mut trees, facility));
-    assert!(rt; keeps_forwarding(&mut trees, forwarding));
+    assert!(rt; keeps_forwarding(&mut trees, forwarding(7, 2, 8, 16)?));
     Ok(())
 }
 
@@ -309,7 +475,9 @@ fn expect_counted(
 
 #[test]
 fn counted_rows(rt: HostRuntime) -> Result<(), Fail> {
-    let (access, facility, forwarding) = others()?;
+    let access = access(7, 4)?;
+    let facility = facility(7, 2, 1)?;
+    let forwarding = forwarding(7, 2, 8, 16)?;
     let mut facilities = SubTree::new(rt.alloc())?;
     expect_counted(&rt, &mut facilities, &access, facility, &forwarding);
     let mut one = Cells::zero();

@@ -1,6 +1,6 @@
 -- Lists that are ordered by a key: what is found, what an edit keeps, and what it does to sums.
 use Rattle.std.proofs.Common.{◌≡◌, ◌∙◌, refl, sym, ap, subst, ℕ, suc, ◌+◌, ◌<◌, ◌≤◌, ◌≢◌, ◌-◌, List, [], ◌∷◌, Bool, true, false, length, Option, IsSome, arith}
-use Rattle.std.specs.Prelude.{◌==◌, nat_lt, Some, None, if◌then◌else◌}
+use Rattle.std.specs.Prelude.{◌==◌, ◌&&◌, nat_lt, Some, None, if◌then◌else◌}
 use Rattle.std.specs.List.{AllByRecursion, filter, sum_by, count_by}
 use Rattle.std.specs.Option.{is_some}
 use Rattle.std.proofs.lemmas.Bool.Decides.{nat_tests}
@@ -35,6 +35,11 @@ filter_all p (x ∷ xs) each = rw each.0 (ap (λ rest. x ∷ rest) (filter_all p
 pub filter_none : {X : Type 0} (p : X → Bool) (xs : List X) → AllByRecursion (λ x. p x ≡ false) xs → filter p xs ≡ []
 filter_none p [] each = refl
 filter_none p (x ∷ xs) each = rw each.0 (filter_none p xs each.1)
+
+-- a test that never holds counts nothing
+pub count_of_none : {X : Type 0} (xs : List X) → count_by (λ (x : X). false) xs ≡ 0
+count_of_none [] = refl
+count_of_none {X} (x ∷ xs) = grind (arith, sum_by-cons, count_of_none xs)
 
 module _ {X : Type 0} (key : X → ℕ) where
   -- the element that is found has the key
@@ -220,6 +225,11 @@ module _ {X : Type 0} (key : X → ℕ) where
       let rest = count_of_absent k xs (absent_below k xs (each-weaker {P = λ z. key x < key z} {Q = λ z. k < key z} (λ z below. omega arith) xs ordered.0)) in
       rw (sum_by-cons, e) (omega (arith, rest)))
       (λ e. rw (sum_by-cons, e) (omega (arith, count_of_key k xs ordered.1)))
+
+  -- the same, under a test that doesn't look at the elements
+  pub count_of_key_if : (test : Bool) (k : ℕ) (xs : List X) → IsOrderedBy key xs → count_by (λ x. test && (key x == k)) xs ≡ (if test && is_some (row_at key k xs) then 1 else 0)
+  count_of_key_if true k xs ordered = count_of_key k xs ordered
+  count_of_key_if false k xs ordered = count_of_none xs
 
   -- an ordered list has no more elements than there are keys for it
   pub length-ordered : (low high : ℕ) (xs : List X) → IsOrderedBy key xs → AllByRecursion (λ x. low ≤ key x) xs → AllByRecursion (λ x. key x < high) xs → length xs ≤ high - low

@@ -1,5 +1,5 @@
 -- What the ranges of a row's fields say, one by one.
-use Rattle.std.proofs.Common.{◌≡◌, refl, subst, sym, ℕ, zero, suc, ◌+◌, ◌<◌, ◌≤◌, Bool, true, false, List, [], ◌∷◌, length, get_or, ◌↔◌, ◌⊎◌, inl, inr, IsTrue, arith}
+use Rattle.std.proofs.Common.{◌≡◌, refl, subst, sym, ℕ, zero, suc, ◌+◌, ◌<◌, ◌≤◌, Bool, true, false, List, [], ◌∷◌, length, get_or, set, ◌↔◌, ◌⊎◌, inl, inr, IsTrue, arith}
 use Rattle.std.specs.Prelude.{◌==◌, ◌&&◌, ◌||◌, nat_lt, nat_le, Ok, Err}
 use Rattle.std.specs.List.{EachIndex, list_all}
 use Rattle.std.proofs.lemmas.Bool.Decides.{nat_tests}
@@ -115,6 +115,49 @@ relocated_in_range row v from below holds =
       msc_location_below = ranges.msc_location_below;
       vlr_location_from = from;
       vlr_location_below = below;
+    })
+
+-- numbers in a range, with another one in front
+front_between : (size low high b : ℕ) (ns : List ℕ) → low ≤ b → b ≤ high → 0 < size → are_between size low high ns ≡ true → are_between size low high (set ns 0 b) ≡ true
+front_between size low high b [] from to some holds = absurd (let none = length-are_between size low high [] holds in omega arith)
+front_between size low high b (n ∷ ns) from to some holds =
+    let parts = both (length (n ∷ ns) == size) (list_all (is_between low high) (n ∷ ns)) holds in
+    let rest = (both (is_between low high n) (list_all (is_between low high) ns) parts.1).1 in
+    both_from (length (b ∷ ns) == size) (list_all (is_between low high) (b ∷ ns)) parts.0
+    (both_from (is_between low high b) (list_all (is_between low high) ns) (between_from low high b from to) rest)
+
+-- the row with another bit_1
+pub bit_1_in_range : (row : SubscriberRow) (b : ℕ) → b ≤ 1 → subscriber_in_range row ≡ true → subscriber_in_range (record row { bits = set row.bits 0 b }) ≡ true
+bit_1_in_range row b small holds =
+    let ranges = subscriber_ranges row holds in
+    subscriber_from_ranges (record row { bits = set row.bits 0 b }) (record {
+      s_id_from = ranges.s_id_from;
+      s_id_below = ranges.s_id_below;
+      sub_nbr_below = ranges.sub_nbr_below;
+      bits_between = front_between 10 0 1 b row.bits (omega arith) small (omega arith) ranges.bits_between;
+      hexes_between = ranges.hexes_between;
+      bytes_between = ranges.bytes_between;
+      msc_location_from = ranges.msc_location_from;
+      msc_location_below = ranges.msc_location_below;
+      vlr_location_from = ranges.vlr_location_from;
+      vlr_location_below = ranges.vlr_location_below;
+    })
+
+-- the row with another number
+pub renumbered_in_range : (row : SubscriberRow) (n : ℕ) → n < 1000000000000000 → subscriber_in_range row ≡ true → subscriber_in_range (record row { sub_nbr = n }) ≡ true
+renumbered_in_range row n below holds =
+    let ranges = subscriber_ranges row holds in
+    subscriber_from_ranges (record row { sub_nbr = n }) (record {
+      s_id_from = ranges.s_id_from;
+      s_id_below = ranges.s_id_below;
+      sub_nbr_below = below;
+      bits_between = ranges.bits_between;
+      hexes_between = ranges.hexes_between;
+      bytes_between = ranges.bytes_between;
+      msc_location_from = ranges.msc_location_from;
+      msc_location_below = ranges.msc_location_below;
+      vlr_location_from = ranges.vlr_location_from;
+      vlr_location_below = ranges.vlr_location_below;
     })
 
 -- the subscriber of a row in the other tables

@@ -1,5 +1,5 @@
 -- Numbers of subscribers: 15 decimal digits.
-use Rattle.std.specs.Prelude.{ℕ, ◌-◌, ◌<◌, ◌==◌, ◌&&◌, ◌++◌, nat_lt, List, length, if◌then◌else◌, Result, Ok, Err, decimal, replicate}
+use Rattle.std.specs.Prelude.{ℕ, ◌-◌, ◌<◌, ◌==◌, ◌&&◌, ◌++◌, nat_lt, Bool, List, length, if◌then◌else◌, Result, Ok, Err, decimal, replicate}
 use Rattle.std.specs.List.{list_all}
 use Rattle.std.specs.Char.{is_ascii_digit}
 use Rattle.std.specs.Str.Parse.{digits_value}
@@ -10,9 +10,12 @@ use Rattle.tatp_rows.specs.declared.refusal.Refusal.TheVariants.{Field}
 abbrev pub IsNumber : ℕ → Type 0
 IsNumber n = n < 1000000000000000
 
+abbrev pub is_number : ℕ → Bool
+is_number n = nat_lt n 1000000000000000
+
 -- the number of a value, where it is one
 abbrev pub number_of : ℕ → Result ℕ Refusal
-number_of n = if nat_lt n 1000000000000000 then Ok n else Err Field
+number_of n = if is_number n then Ok n else Err Field
 
 -- the number that a text spells: exactly 15 digits
 abbrev pub number_in : List ℕ → Result ℕ Refusal

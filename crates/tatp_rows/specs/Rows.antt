@@ -1,6 +1,7 @@
 -- The rows of the four tables (TATP, sections 2.1 to 2.4), and the ranges of their fields, which are this project's choice.
-use Rattle.std.specs.Prelude.{ℕ, ◌==◌, ◌&&◌, ◌||◌, nat_lt, nat_le, Bool, List, length, if◌then◌else◌, Result, Ok, Err}
+use Rattle.std.specs.Prelude.{ℕ, ◌==◌, ◌&&◌, ◌||◌, nat_le, Bool, List, length, if◌then◌else◌, Result, Ok, Err}
 use Rattle.std.specs.List.{list_all}
+use Rattle.tatp_rows.specs.Number.{is_number}
 use Rattle.tatp_rows.specs.declared.ranges.TheConstants.{LAST_SUBSCRIBER}
 use Rattle.tatp_rows.specs.declared.refusal.Refusal.{Refusal}
 use Rattle.tatp_rows.specs.declared.refusal.Refusal.TheVariants.{Field}
@@ -56,7 +57,7 @@ are_between size low high ns = (length ns == size) && list_all (is_between low h
 -- the fields of a Subscriber row are in range
 abbrev pub subscriber_in_range : SubscriberRow → Bool
 subscriber_in_range row =
-    is_between 1 LAST_SUBSCRIBER row.s_id && (nat_lt row.sub_nbr 1000000000000000
+    is_between 1 LAST_SUBSCRIBER row.s_id && (is_number row.sub_nbr
     && (are_between 10 0 1 row.bits && (are_between 10 0 15 row.hexes && (are_between 10 0 255 row.bytes
     && (is_between 1 4294967295 row.msc_location && is_between 1 4294967295 row.vlr_location)))))
 
@@ -72,12 +73,15 @@ facility_in_range row =
     is_between 1 LAST_SUBSCRIBER row.s_id && (is_between 1 4 row.sf_type && (is_between 0 1 row.is_active
     && (is_between 0 255 row.error_cntrl && (is_between 0 255 row.data_a && are_between 5 65 90 row.data_b))))
 
+-- the hours at which a forwarding may start
+abbrev pub is_start_time : ℕ → Bool
+is_start_time n = n == 0 || (n == 8 || n == 16)
+
 -- the fields of a Call_Forwarding row are in range; its end may lie before its start
 abbrev pub forwarding_in_range : CallForwardingRow → Bool
 forwarding_in_range row =
     is_between 1 LAST_SUBSCRIBER row.s_id && (is_between 1 4 row.sf_type
-    && ((row.start_time == 0 || (row.start_time == 8 || row.start_time == 16))
-    && (is_between 1 24 row.end_time && nat_lt row.numberx 1000000000000000)))
+    && (is_start_time row.start_time && (is_between 1 24 row.end_time && is_number row.numberx)))
 
 -- the Subscriber row of these fields, where they are in range
 abbrev pub subscriber_of : SubscriberRow → Result SubscriberRow Refusal

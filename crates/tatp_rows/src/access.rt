@@ -88,7 +88,8 @@ impl Access {
 
     /// The row's key.
     pub fn key(&self) -> u64
-        ensures { result ≡ access_key self.now }
+        ensures key { result ≡ access_key self.now }
+        ensures in_range { IsTrue (access_in_range self.now) }
     {
         row_key(self.s_id, self.ai_type, 0)
     }

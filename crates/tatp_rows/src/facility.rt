@@ -107,7 +107,8 @@ impl Facility {
 
     /// The row's key.
     pub fn key(&self) -> u64
-        ensures { result ≡ facility_key self.now }
+        ensures key { result ≡ facility_key self.now }
+        ensures in_range { IsTrue (facility_in_range self.now) }
     {
         row_key(self.s_id, self.sf_type, 0)
     }

@@ -5,7 +5,7 @@ ghost use Rattle.tatp_rows.specs.Keys.{forwarding_key};
 
 use crate::keys::row_key;
 use crate::number::Number;
-use crate::ranges::{LAST_SUBSCRIBER, byte_in_range, in_range};
+use crate::ranges::{LAST_SUBSCRIBER, byte_in_range, in_range, is_start_time};
 use crate::refusal::Refusal;
 use std::marker::Model;
 
@@ -67,7 +67,7 @@ impl Forwarding {
     {
         let s_id = in_range(s_id, LAST_SUBSCRIBER)?;
         let sf_type = byte_in_range(sf_type, 4)?;
-        if start_time != 0 && start_time != 8 && start_time != 16 {
+        if !is_start_time(start_time) {
             return Err(Refusal::Field);
         }
         let end_time = byte_in_range(end_time, 24)?;
@@ -84,7 +84,8 @@ impl Forwarding {
 
     /// The row's key.
     pub fn key(&self) -> u64
-        ensures { result ≡ forwarding_key self.now }
+        ensures key { result ≡ forwarding_key self.now }
+        ensures in_range { IsTrue (forwarding_in_range self.now) }
     {
         row_key(self.s_id, self.sf_type, self.start_time)
     }

@@ -7,8 +7,8 @@ use std::fmt;
 use std::marker::Model;
 
 /// A subscriber's number (TATP's sub_nbr and numberx, sections 2.1 and 2.4): 15 decimal digits.
-/// Its `Display` writes all 15, with leading zeros.
-#[derive(Clone, Copy, Debug, PartialEq, Eq, PartialOrd, Ord)]
+/// Its `Display` writes all 15, with leading zeros, and its default is 15 zeros.
+#[derive(Clone, Copy, Debug, Default, PartialEq, Eq, PartialOrd, Ord)]
 pub struct Number {
     value: u64,
 }

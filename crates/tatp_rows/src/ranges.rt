@@ -1,6 +1,6 @@
 //! The greatest numbers of a store, and the tests of the fields' ranges.
 ghost use Rattle.std.specs.Prelude.{◌≡◌};
-ghost use Rattle.tatp_rows.specs.Rows.{between, are_between};
+ghost use Rattle.tatp_rows.specs.Rows.{between, is_between, are_between, is_start_time};
 
 use crate::refusal::Refusal;
 
@@ -27,9 +27,23 @@ pub fn byte_in_range(value: u64, high: u8) -> Result<u8, Refusal>
     Ok(in_range(value, u32::from(high))? as u8)
 }
 
+/// Whether a value lies in `low`..=`high`.
+pub fn is_between(value: u8, low: u8, high: u8) -> bool
+    ensures { result ≡ is_between low high value }
+{
+    low <= value && value <= high
+}
+
+/// Whether a forwarding may start at an hour: at 0, 8 or 16.
+pub fn is_start_time(hour: u64) -> bool
+    ensures { result ≡ is_start_time hour }
+{
+    hour == 0 || hour == 8 || hour == 16
+}
+
 /// Whether each of the values lies in `low`..=`high`.
 pub fn all_between<const N: usize>(values: &[u8; N], low: u8, high: u8) -> bool
     ensures { result ≡ are_between N low high values.now }
 {
-    values.iter().all(|value| low <= *value && *value <= high)
+    values.iter().all(|value| is_between(*value, low, high))
 }

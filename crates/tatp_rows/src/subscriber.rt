@@ -1,5 +1,5 @@
 //! Rows of the table Subscriber.
-ghost use Rattle.std.specs.Prelude.{◌≡◌, ◌≤◌, IsTrue};
+ghost use Rattle.std.specs.Prelude.{◌≡◌, ◌≤◌, IsTrue, slice_set};
 ghost use Rattle.tatp_rows.specs.Rows.{SubscriberRow, subscriber_in_range, subscriber_of};
 ghost use Rattle.tatp_rows.specs.Keys.{subscriber_key};
 
@@ -124,9 +124,62 @@ impl Subscriber {
         }
     }
 
+    /// The row with another bit_1, 0 or 1.
+    pub fn with_bit_1(self, bit_1: u8) -> Self
+        requires { bit_1 ≤ 1 }
+        ensures { result ≡ record self { bits = slice_set self.bits 0 bit_1 } }
+    {
+        let Subscriber {
+            s_id,
+            sub_nbr,
+            mut bits,
+            hexes,
+            bytes,
+            msc_location,
+            vlr_location,
+        } = self;
+        bits[0] = bit_1;
+        Subscriber {
+            s_id,
+            sub_nbr,
+            bits,
+            hexes,
+            bytes,
+            msc_location,
+            vlr_location,
+        }
+    }
+
+    /// The row with another number.
+    pub fn with_sub_nbr(self, sub_nbr: Number) -> Self
+        ensures { result ≡ record self { sub_nbr = sub_nbr } }
+    {
+        let Subscriber {
+            s_id,
+            bits,
+            hexes,
+            bytes,
+            msc_location,
+            vlr_location,
+            ..
+        } = self;
+        // A number is in range, as its reader says.
+        let _number = sub_nbr.value();
+        Subscriber {
+            s_id,
+            sub_nbr,
+            bits,
+            hexes,
+            bytes,
+            msc_location,
+            vlr_location,
+        }
+    }
+
     /// The row's key.
     pub fn key(&self) -> u64
-        ensures { result ≡ subscriber_key self.now }
+        ensures key { result ≡ subscriber_key self.now }
+        ensures in_range { IsTrue (subscriber_in_range self.now) }
     {
         keys::subscriber_key(self.s_id)
     }

@@ -10,6 +10,7 @@ fn numbers(rt: HostRuntime) -> Result<(), Fail> {
     assert_eq!(rt; forty_two.value(), 42);
     assert_eq!(rt; Number::from_digits(&TEXT), Ok(forty_two));
     assert!(rt; Number::try_new(41)? < forty_two);
+    assert_eq!(rt; Number::default(), Number::try_new(0)?);
     assert_eq!(rt;
         format!(in rt.alloc(); "{forty_two}")?.as_bytes(),
         TEXT.as_slice()
@@ -67,6 +68,9 @@ fn subscribers(rt: HostRuntime) -> Result<(), Fail> {
         (7, 4_294_967_295)
     );
     assert_eq!(rt; row.with_vlr_location(9).vlr_location(), 9);
+    assert_eq!(rt; row.with_bit_1(0).bits(), [0, 0, 1, 0, 1, 0, 1, 0, 1, 0]);
+    let other = Number::try_new(43)?;
+    assert_eq!(rt; row.with_sub_nbr(other).sub_nbr(), other);
     Ok(())
 }
 
@@ -122,6 +126,14 @@ fn forwardings(rt: HostRuntime) -> Result<(), Fail> {
 fn keys_zones_and_areas(rt: HostRuntime) {
     assert_eq!(rt; in_range(16_777_216, LAST_SUBSCRIBER), Ok(16_777_216));
     assert_eq!(rt; in_range(16_777_217, LAST_SUBSCRIBER), Err(Refusal::Field));
+    assert_eq!(rt;
+        [0, 1, 4, 5].map(|value| is_between(value, 1, 4)),
+        [false, true, true, false]
+    );
+    assert_eq!(rt;
+        [0, 8, 16, 24].map(|hour| is_start_time(hour)),
+        [true, true, true, false]
+    );
     assert_eq!(rt; row_key(16_777_216, 255, 255), 1_099_511_693_311);
     assert_eq!(rt; subscriber_key(2), 131_072);
     for (s_id, width, want) in [

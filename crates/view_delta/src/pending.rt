@@ -77,7 +77,8 @@ impl Pending {
         None
     }
 
-    /// Moves each cell's delta as a change says.
+    /// Moves each cell's delta as a change says. Its notes are taken in one after another, and each sum on the way has to
+    /// fit 64 bits.
     pub fn note(&mut self, change: &Change)
         requires { NotesFit self.old change.now }
         ensures { (c : ℕ) → c < CELLS → pending_at self.new c ≡ pending_at self.old c +ℤ change_at change.now c }
@@ -87,7 +88,7 @@ impl Pending {
         }
     }
 
-    /// Raises each cell's delta by its count.
+    /// Raises each cell's delta by its count; each sum has to fit 64 bits.
     pub fn add(&mut self, counts: &Cells)
         requires { SumsFit self.old counts.now }
         ensures { (c : ℕ) → c < CELLS → pending_at self.new c ≡ pending_at self.old c +ℤ pos (slice_index counts.now c) }
@@ -98,7 +99,7 @@ impl Pending {
         }
     }
 
-    /// Lowers each cell's delta by its count.
+    /// Lowers each cell's delta by its count; each difference has to fit 64 bits.
     pub fn subtract(&mut self, counts: &Cells)
         requires { DifferencesFit self.old counts.now }
         ensures { (c : ℕ) → c < CELLS → pending_at self.new c ≡ pending_at self.old c -ℤ pos (slice_index counts.now c) }

@@ -1,6 +1,6 @@
 use Rattle.std.proofs.Common.{refl, sym}
 use Rattle.tatp_actions.specs.declared.action.Action.TheVariants as action
-use Rattle.hlr_core.proofs.RegisterLemmas.{exists_step, refused_step, acted_step, added_registered, undone_registered, undone_same, free_to_take}
+use Rattle.hlr_core.proofs.RegisterLemmas.{exists_step, unadded_step, acted_step, added_registered, undone_registered, undone_same, free_to_take}
 use Rattle.hlr_core.proofs.register.Register.add_subscriber.Goals as goal
 
 pub returns-then-has : goal.returns-then-has
@@ -9,7 +9,7 @@ returns-then-has c = rw (← c.self.view_is) (exists_step c.args.row _ (sym (rw 
 pub returns-in-Err : goal.returns-in-Err
 returns-in-Err c =
     let absent = sym (rw c.s_id.ensures.value at c.if-has.ensures) in
-    rw (← c.self.view_is) (refused_step c.args.row _ c.self.inside.index c.add.new.self _ c.self.invariant absent (rw c.sub_nbr-number.ensures at c.in-Err.ensures.added))
+    rw (← c.self.view_is) (unadded_step c.args.row _ c.self.inside.index c.add.new.self _ c.self.invariant absent (rw c.sub_nbr-number.ensures at c.in-Err.ensures.added))
 
 pub invariant_of-self-in-Done : goal.invariant_of-self-in-Done
 invariant_of-self-in-Done c =
@@ -27,9 +27,9 @@ invariant_of-self-in_default-act c =
 pub returns-in-Done : goal.returns-in-Done
 returns-in-Done c =
     let added = rw (c.sub_nbr-number.ensures, c.s_id-2.ensures.value) at c.in_default.ensures.added in
-    rw (← c.self.view_is) (acted_step (action.AddSubscriber c.args.row) _ _ _ _ c.s_id.ensures.in_range (free_to_take c.args.row _ _ c.self.invariant added.0) c.in-Done.ensures.outcome c.in-Done.ensures.same refl)
+    rw (← c.self.view_is) (acted_step (action.AddSubscriber c.args.row) _ _ _ _ c.s_id.ensures.in_range (free_to_take (action.AddSubscriber c.args.row) _ _ _ _ c.self.invariant refl added.0) c.in-Done.ensures.outcome c.in-Done.ensures.same refl)
 
 pub returns-in_default-act : goal.returns-in_default-act
 returns-in_default-act c =
     let added = rw (c.sub_nbr-number.ensures, c.s_id-2.ensures.value) at c.in_default.ensures.added in
-    rw (← c.self.view_is) (acted_step (action.AddSubscriber c.args.row) _ _ _ _ c.s_id.ensures.in_range (free_to_take c.args.row _ _ c.self.invariant added.0) c.act.ensures.outcome c.act.ensures.same c.reply_from.ensures)
+    rw (← c.self.view_is) (acted_step (action.AddSubscriber c.args.row) _ _ _ _ c.s_id.ensures.in_range (free_to_take (action.AddSubscriber c.args.row) _ _ _ _ c.self.invariant refl added.0) c.act.ensures.outcome c.act.ensures.same c.reply_from.ensures)

@@ -1,0 +1,132 @@
+-- A subscriber's number becomes another one, in the index first and then in the row.
+use Rattle.std.proofs.Common.{◌≡◌, ◌≢◌, ℕ, ◌+◌, refl, arith, List, true, false, Option, Some, None, Ok, Err, sym, ap, ◌∙◌, inl, inr}
+use Rattle.std.specs.Prelude.{option_map, nat_lt, Result}
+use Rattle.std.proofs.lemmas.Bool.Decides.{nat_tests}
+use Rattle.tatp_rows.specs.Number.{IsNumber}
+use Rattle.tatp_rows.specs.Rows.{SubscriberRow, is_between}
+use Rattle.tatp_rows.specs.declared.refusal.Refusal.TheVariants as refusal
+use Rattle.tatp_rows.specs.Keys.{key_of, subscriber_key}
+use Rattle.tatp_rows.specs.declared.ranges.TheConstants.{LAST_SUBSCRIBER}
+use Rattle.tatp_rows.specs.declared.refusal.Refusal.{Refusal}
+use Rattle.tatp_rows.proofs.OrderedLemmas.{key_found, each-without_row}
+use Rattle.number_index.specs.Pairs.{owner_in, renamed, IsRenamed}
+use Rattle.tatp_actions.specs.Action.{is_in_range, effect, IsOutcome}
+use Rattle.tatp_actions.specs.Book.{Book, IsRowsOf, subscriber_at, put_subscriber}
+use Rattle.tatp_actions.specs.declared.action.Action.TheVariants as action
+use Rattle.tatp_actions.specs.declared.action.RowReply.{RowReply}
+use Rattle.tatp_actions.specs.declared.action.RowReply.TheVariants as row_reply
+use Rattle.hlr_core.specs.Index.{index_of, IsRegister}
+use Rattle.hlr_core.specs.Step.{IsRowStep, given_number, takes_number, reply_of}
+use Rattle.hlr_core.specs.Store.{Store}
+use Rattle.hlr_core.specs.declared.event.Reply.{Reply}
+use Rattle.hlr_core.specs.declared.event.Reply.TheVariants as reply
+use Rattle.hlr_core.proofs.NumbersLemmas.{other_numbers, owner_found, no_twin-with_row_at}
+use Rattle.hlr_core.proofs.IndexLemmas.{index_renamed, owner_indexed, free_number}
+use Rattle.hlr_core.proofs.KeptLemmas.{swapped_registered}
+use Rattle.hlr_core.proofs.RegisterLemmas.{acted_step, refused_step, unpaired_step, free_to_take}
+
+-- a subscriber's row and the renaming of its number in the index
+record IsRenaming (s n : ℕ) (book : Book) (pairs new : List (ℕ × ℕ)) (result : Result (Unit {0}) Refusal) : Type 0 where
+  row : SubscriberRow
+  found : subscriber_at book s ≡ Some row
+  own : row.s_id ≡ s
+  answer : IsRenamed row.sub_nbr n pairs new result (Some s)
+
+-- the row whose number is renamed
+renaming : (s old n : ℕ) (book : Book) (pairs new : List (ℕ × ℕ)) (result : Result (Unit {0}) Refusal) → IsRegister book pairs
+    → Some old ≡ option_map (λ (row : SubscriberRow). row.sub_nbr) (subscriber_at book s) → IsRenamed old n pairs new result (owner_in old pairs)
+    → IsRenaming s n book pairs new result
+renaming s old n book pairs new result register number result_is = cases (subscriber_at book s) refl number
+  where
+    cases : (o : Option SubscriberRow) → subscriber_at book s ≡ o → Some old ≡ option_map (λ (row : SubscriberRow). row.sub_nbr) o → IsRenaming s n book pairs new result
+    cases None e is = absurd cc
+    cases (Some row) e is =
+        let same : old ≡ row.sub_nbr = cc in
+        let key : subscriber_key row ≡ key_of s 0 0 = key_found subscriber_key (key_of s 0 0) book.subscribers row e in
+        let own : row.s_id ≡ s = omega arith in
+        let owner : owner_in row.sub_nbr pairs ≡ Some s =
+        owner_indexed book pairs row.sub_nbr register ∙ ap (option_map (λ (r : SubscriberRow). r.s_id)) (owner_found (key_of s 0 0) row book.subscribers register.alone e) ∙ ap (λ (k : ℕ). Some k) own in
+        record { row = row; found = e; own = own; answer = rw (same, owner) at result_is }
+
+-- a subscriber without a row
+pub unnumbered_step : (s n : ℕ) (before : Store) → None ≡ option_map (λ (row : SubscriberRow). row.sub_nbr) (subscriber_at before.book s)
+    → IsRowStep true (Some (action.SetNumber s n)) before (reply.Refused refusal.NoSubscriber) before
+unnumbered_step s n before none = refused_step (action.SetNumber s n) before refusal.NoSubscriber (cases (subscriber_at before.book s) refl none)
+  where
+    cases : (o : Option SubscriberRow) → subscriber_at before.book s ≡ o → None ≡ option_map (λ (row : SubscriberRow). row.sub_nbr) o
+        → effect (action.SetNumber s n) before.book ≡ (row_reply.Refused refusal.NoSubscriber, before.book)
+    cases None e is = rw e refl
+    cases (Some row) e is = absurd cc
+
+-- a number that the index refuses
+pub unrenamed_step : (s old n : ℕ) (before : Store) (pairs new : List (ℕ × ℕ)) (why : Refusal) → IsRegister before.book pairs
+    → Some old ≡ option_map (λ (row : SubscriberRow). row.sub_nbr) (subscriber_at before.book s) → IsRenamed old n pairs new (Err why) (owner_in old pairs)
+    → IsRowStep true (Some (action.SetNumber s n)) before (reply.Refused why) before
+unrenamed_step s old n before pairs new why register number changed =
+    let found = renaming s old n before.book pairs new (Err why) register number changed in
+    elim (found.answer) [
+      | inl same ↦ (let clash : Err why ≡ Ok tt = same.1 in absurd cc)
+      | inr refused ↦ (let other : found.row.sub_nbr ≢ n = refused.0 in
+          unpaired_step (action.SetNumber s n) s n before pairs why register refl (λ row is. let at : row ≡ found.row = one row found.row (sym is ∙ found.found) in rw at other)
+          (rw (found.found) refl) (rw (found.found) (grind (arith, nat_tests))) refused.1.1 refused.1.2)
+    ]
+  where
+    one : (x y : SubscriberRow) → Some x ≡ Some y → x ≡ y
+    one x y is = cc
+
+-- the fields of a renaming are in range
+pub renaming_in_range : (s n value : ℕ) → is_between 1 LAST_SUBSCRIBER s ≡ true → value ≡ n → IsNumber value → is_in_range (action.SetNumber s n) ≡ true
+renaming_in_range s n value own is number = let below : nat_lt n 1000000000000000 ≡ true = grind (arith, nat_tests) in rw (own, below) refl
+
+-- a number that the row has now
+numbered_book : (s n : ℕ) (row : SubscriberRow) (before after : Book) (answer : RowReply) → is_in_range (action.SetNumber s n) ≡ true → subscriber_at before s ≡ Some row
+    → IsOutcome (action.SetNumber s n) before answer after → after ≡ put_subscriber before s (record row { sub_nbr = n })
+numbered_book s n row before after answer fits found outcome =
+    elim outcome [
+      | inl field ↦ (let clash : true ≡ false = sym fits ∙ field.0 in absurd cc)
+      | inr in_range ↦ elim in_range [
+        | inl done ↦ ap (λ (p : RowReply × Book). p.1) (rw found at done.1)
+        | inr memory ↦ (let clash : false ≡ true = memory.1 in absurd cc)
+      ]
+    ]
+
+pub renamed_registered : (s old n : ℕ) (before after : Book) (pairs new : List (ℕ × ℕ)) (answer : RowReply) → IsRegister before pairs → IsRowsOf 1 (LAST_SUBSCRIBER + 1) after
+    → Some old ≡ option_map (λ (row : SubscriberRow). row.sub_nbr) (subscriber_at before s) → IsRenamed old n pairs new (Ok tt) (owner_in old pairs)
+    → is_in_range (action.SetNumber s n) ≡ true → IsOutcome (action.SetNumber s n) before answer after → IsRegister after new
+renamed_registered s old n before after pairs new answer register rows number changed fits outcome =
+    let found = renaming s old n before pairs new (Ok tt) register number changed in
+    let is = numbered_book s n found.row before after answer fits found.found outcome in
+    elim (found.answer) [
+      | inl same ↦ rw (same.2) (swapped_registered before after pairs register rows (inr (record {
+        key = key_of s 0 0;
+        new = record found.row { sub_nbr = n };
+        old = found.row;
+        found = found.found;
+        same = ap (λ (k : ℕ). (k, found.row.s_id)) (sym same.0);
+        is = ap (λ (b : Book). b.subscribers) is;
+      })))
+      | inr other ↦ (let free = free_number before pairs n register other.1.0 in
+          rw is (record {
+            rows = rw is at rows;
+            alone = no_twin-with_row_at (key_of s 0 0) (record found.row { sub_nbr = n }) before.subscribers register.alone
+                (each-without_row subscriber_key (λ (r : SubscriberRow). n ≢ r.sub_nbr) (key_of s 0 0) before.subscribers (other_numbers before.subscribers n free));
+            index = other.1.1 ∙ ap (renamed found.row.sub_nbr n s) register.index ∙ ap (λ (k : ℕ). renamed found.row.sub_nbr n k (index_of before.subscribers)) (sym found.own)
+                ∙ sym (index_renamed (key_of s 0 0) (record found.row { sub_nbr = n }) found.row before.subscribers register.alone found.found free);
+          }))
+    ]
+
+-- a number that is given is a right step
+pub renamed_step : (s old n : ℕ) (before after : Store) (pairs new : List (ℕ × ℕ)) (rows : RowReply) (answer : Reply) → IsRegister before.book pairs
+    → Some old ≡ option_map (λ (row : SubscriberRow). row.sub_nbr) (subscriber_at before.book s) → IsRenamed old n pairs new (Ok tt) (owner_in old pairs)
+    → is_in_range (action.SetNumber s n) ≡ true → IsOutcome (action.SetNumber s n) before.book rows after.book → after ≡ record before { book = after.book } → answer ≡ reply_of rows
+    → IsRowStep true (Some (action.SetNumber s n)) before answer after
+renamed_step s old n before after pairs new rows answer register number changed fits outcome same is =
+    let found = renaming s old n before.book pairs new (Ok tt) register number changed in
+    acted_step (action.SetNumber s n) before after rows answer fits (takes found (found.answer)) outcome same is
+  where
+    takes : (found : IsRenaming s n before.book pairs new (Ok tt)) → IsRenamed found.row.sub_nbr n pairs new (Ok tt) (Some s) → takes_number (given_number (action.SetNumber s n)) before.book ≡ false
+    takes found changed = elim changed [
+      | inl kept ↦ (let owner = owner_found (key_of s 0 0) found.row before.book.subscribers register.alone found.found in
+          rw (← kept.0, owner, found.own) (grind (arith, nat_tests)))
+      | inr other ↦ free_to_take (action.SetNumber s n) s n before.book pairs register refl other.1.0
+    ]

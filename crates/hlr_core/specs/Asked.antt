@@ -1,0 +1,21 @@
+-- What an event on rows asks for, once its plain numbers are checked.
+use Rattle.std.specs.Prelude.{◌≡◌, ◌+◌, Bool, true, false, Option, Some, None, Result, Ok, Err}
+use Rattle.tatp_rows.specs.declared.refusal.Refusal.{Refusal}
+use Rattle.tatp_rows.specs.declared.refusal.Refusal.TheVariants as refusal
+use Rattle.tatp_rows.specs.declared.ranges.TheConstants.{LAST_SUBSCRIBER}
+use Rattle.tatp_actions.specs.Action.{is_in_range, s_id_of}
+use Rattle.tatp_actions.specs.Book.{IsWithin}
+use Rattle.tatp_actions.specs.declared.action.Action.{Action}
+use Rattle.hlr_core.specs.Step.{given_number}
+
+-- an action on the rows of a subscriber that gives no number
+abbrev pub LeavesNumbers : Action → Type 0
+LeavesNumbers act = IsWithin 1 (LAST_SUBSCRIBER + 1) (s_id_of act) × (given_number act ≡ None)
+
+-- an event whose fields are in range or not, and that wants an action or finds no subscriber, asks for that action, or
+-- is refused; the action may still find a field out of range
+abbrev pub IsAsked : Bool → Option Action → Result Action Refusal → Type 0
+IsAsked fits wanted (Ok act) = (wanted ≡ Some act) × (fits ≡ is_in_range act)
+IsAsked false wanted (Err why) = why ≡ refusal.Field
+IsAsked true None (Err why) = why ≡ refusal.NoNumber
+IsAsked true (Some act) (Err why) = ⊥

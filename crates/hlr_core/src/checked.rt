@@ -1,0 +1,155 @@
+//! An event's plain numbers, checked, as the action that it asks for.
+ghost use Rattle.std.specs.Prelude.{◌≡◌, ◌&&◌, ◌<◌, ◌≤◌, ◌+◌, ℕ, Some, IfOk, OnErr, true, Option, option_map};
+ghost use Rattle.tatp_rows.specs.Rows.{is_between};
+ghost use Rattle.tatp_rows.specs.declared.ranges.TheConstants.{LAST_SUBSCRIBER};
+ghost use Rattle.tatp_actions.specs.Action.{is_in_range};
+ghost use Rattle.tatp_actions.specs.Book.{IsWithin};
+ghost use Rattle.hlr_core.specs.Asked.{IsAsked, LeavesNumbers};
+ghost use Rattle.hlr_core.specs.Step.{is_forwarding};
+
+use tatp_actions::Action;
+use tatp_rows::{
+    Access, Facility, Forwarding, LAST_SUBSCRIBER, Number, Refusal, in_range, is_between,
+    is_start_time,
+};
+
+// A byte. What is above 255 is out of each range.
+fn byte(value: u64) -> Result<u8, Refusal>
+    ensures { (IfOk result (λ small. small ≡ value)) × OnErr result ((256 ≤ value) × (result ≡ Err Refusal.Field)) }
+{
+    u8::try_from(value).map_err(|_| Refusal::Field)
+}
+
+pub(crate) fn subscriber_data(s_id: u64) -> Result<Action, Refusal>
+    ensures action { IfOk result LeavesNumbers }
+    ensures asked { IsAsked (is_between 1 LAST_SUBSCRIBER s_id) (Some (Action.SubscriberData s_id)) result }
+{
+    let s_id = in_range(s_id, LAST_SUBSCRIBER)?;
+    Ok(Action::SubscriberData { s_id })
+}
+
+pub(crate) fn new_destination(
+    s_id: u64,
+    sf_type: u64,
+    start_time: u64,
+    end_time: u64,
+) -> Result<Action, Refusal>
+    ensures action { IfOk result LeavesNumbers }
+    ensures asked { IsAsked (is_in_range (Action.NewDestination s_id sf_type start_time end_time)) (Some (Action.NewDestination s_id sf_type start_time end_time)) result }
+{
+    Ok(Action::NewDestination {
+        s_id: in_range(s_id, LAST_SUBSCRIBER)?,
+        sf_type: byte(sf_type)?,
+        start_time: byte(start_time)?,
+        end_time: byte(end_time)?,
+    })
+}
+
+pub(crate) fn access_data(s_id: u64, ai_type: u64) -> Result<Action, Refusal>
+    ensures action { IfOk result LeavesNumbers }
+    ensures asked { IsAsked (is_in_range (Action.AccessData s_id ai_type)) (Some (Action.AccessData s_id ai_type)) result }
+{
+    Ok(Action::AccessData {
+        s_id: in_range(s_id, LAST_SUBSCRIBER)?,
+        ai_type: byte(ai_type)?,
+    })
+}
+
+pub(crate) fn update_subscriber(
+    s_id: u64,
+    sf_type: u64,
+    bit_1: u64,
+    data_a: u64,
+) -> Result<Action, Refusal>
+    ensures action { IfOk result LeavesNumbers }
+    ensures asked { IsAsked (is_in_range (Action.UpdateSubscriber s_id sf_type bit_1 data_a)) (Some (Action.UpdateSubscriber s_id sf_type bit_1 data_a)) result }
+{
+    Ok(Action::UpdateSubscriber {
+        s_id: in_range(s_id, LAST_SUBSCRIBER)?,
+        sf_type: byte(sf_type)?,
+        bit_1: byte(bit_1)?,
+        data_a: byte(data_a)?,
+    })
+}
+
+pub(crate) fn set_active(s_id: u64, sf_type: u64, is_active: u64) -> Result<Action, Refusal>
+    ensures action { IfOk result LeavesNumbers }
+    ensures asked { IsAsked (is_in_range (Action.SetActive s_id sf_type is_active)) (Some (Action.SetActive s_id sf_type is_active)) result }
+{
+    Ok(Action::SetActive {
+        s_id: in_range(s_id, LAST_SUBSCRIBER)?,
+        sf_type: byte(sf_type)?,
+        is_active: byte(is_active)?,
+    })
+}
+
+pub(crate) fn update_location(owner: Option<u32>, vlr_location: u64) -> Result<Action, Refusal>
+    requires { (s_id : ℕ) → owner ≡ Some s_id → IsWithin 1 (LAST_SUBSCRIBER + 1) s_id }
+    ensures action { IfOk result LeavesNumbers }
+    ensures asked { IsAsked (is_between 1 4294967295 vlr_location) (option_map (λ s_id. Action.UpdateLocation s_id vlr_location) owner) result }
+{
+    let vlr_location = in_range(vlr_location, u32::MAX)?;
+    let s_id = owner.ok_or(Refusal::NoNumber)?;
+    Ok(Action::UpdateLocation { s_id, vlr_location })
+}
+
+pub(crate) fn insert_forwarding(
+    owner: Option<u32>,
+    sf_type: u64,
+    start_time: u64,
+    end_time: u64,
+    numberx: Number,
+) -> Result<Action, Refusal>
+    requires { (s_id : ℕ) → owner ≡ Some s_id → IsWithin 1 (LAST_SUBSCRIBER + 1) s_id }
+    ensures action { IfOk result LeavesNumbers }
+    ensures asked { IsAsked (is_forwarding sf_type start_time && is_between 1 24 end_time)
+        (option_map (λ s_id. Action.InsertForwarding (record { s_id = s_id; sf_type = sf_type; start_time = start_time; end_time = end_time; numberx = numberx })) owner) result }
+{
+    let Some(s_id) = owner else {
+        // The fields are looked at first, whoever the subscriber would be.
+        Forwarding::try_new(1, sf_type, start_time, end_time, numberx)?;
+        return Err(Refusal::NoNumber);
+    };
+    let row = Forwarding::try_new(u64::from(s_id), sf_type, start_time, end_time, numberx)?;
+    Ok(Action::InsertForwarding(row))
+}
+
+pub(crate) fn delete_forwarding(
+    owner: Option<u32>,
+    sf_type: u64,
+    start_time: u64,
+) -> Result<Action, Refusal>
+    requires { (s_id : ℕ) → owner ≡ Some s_id → IsWithin 1 (LAST_SUBSCRIBER + 1) s_id }
+    ensures action { IfOk result LeavesNumbers }
+    ensures asked { IsAsked (is_forwarding sf_type start_time) (option_map (λ s_id. Action.DeleteForwarding s_id sf_type start_time) owner) result }
+{
+    let sf_type = byte(sf_type)?;
+    let start_time = byte(start_time)?;
+    if !is_between(sf_type, 1, 4) || !is_start_time(u64::from(start_time)) {
+        return Err(Refusal::Field);
+    }
+    let s_id = owner.ok_or(Refusal::NoNumber)?;
+    Ok(Action::DeleteForwarding {
+        s_id,
+        sf_type,
+        start_time,
+    })
+}
+
+pub(crate) fn add_access(row: Access) -> Result<Action, Refusal>
+    ensures action { IfOk result LeavesNumbers }
+    ensures asked { IsAsked true (Some (Action.AddAccess row)) result }
+{
+    // The reader says that the row is in range.
+    let _s_id = row.s_id();
+    Ok(Action::AddAccess(row))
+}
+
+pub(crate) fn add_facility(row: Facility) -> Result<Action, Refusal>
+    ensures action { IfOk result LeavesNumbers }
+    ensures asked { IsAsked true (Some (Action.AddFacility row)) result }
+{
+    // The reader says that the row is in range.
+    let _s_id = row.s_id();
+    Ok(Action::AddFacility(row))
+}

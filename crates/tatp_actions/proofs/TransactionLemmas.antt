@@ -1,0 +1,174 @@
+-- What the transactions do to a part.
+use Rattle.std.proofs.Common.{◌≡◌, refl, sym, ◌∙◌, ap, subst, ℕ, ◌<◌, ◌≤◌, arith, Bool, true, false, List, [], set, Option, Some, None, if◌then◌else◌}
+use Rattle.std.specs.Prelude.{ℤ, ◌==◌, is_some}
+use Rattle.tatp_rows.proofs.FilterLemmas.{kept}
+use Rattle.tatp_rows.proofs.OrderedLemmas.{each_found, without_row_absent}
+use Rattle.tatp_rows.proofs.RowLemmas.{both_from, between_from}
+use Rattle.tatp_rows.specs.Keys.{key_of, facility_key, forwarding_key}
+use Rattle.tatp_rows.specs.Rows.{SubscriberRow, SpecialFacilityRow, CallForwardingRow, is_between, is_start_time, forwarding_in_range}
+use Rattle.tatp_rows.specs.Zones.{zone_of, area_of}
+use Rattle.tatp_rows.specs.declared.refusal.Refusal.{Refusal}
+use Rattle.tatp_rows.specs.declared.refusal.Refusal.TheVariants as refusal
+use Rattle.tatp_actions.specs.Action.{effect}
+use Rattle.tatp_actions.specs.Book.{Book, IsWithin, subscriber_at, facility_at, has_active, forwarding_at, put_subscriber, put_facility, more_forwardings, without_forwarding}
+use Rattle.tatp_actions.specs.Change.{IsChange}
+use Rattle.tatp_actions.specs.Part.{PartState, IsPart}
+use Rattle.tatp_actions.specs.Inside.{area_moved, forwarding_moved, Acts, asked_once, changed_once}
+use Rattle.tatp_actions.specs.Tables.{once_more}
+use Rattle.tatp_actions.specs.declared.action.Action.TheVariants.{UpdateSubscriber, UpdateLocation, InsertForwarding, DeleteForwarding}
+use Rattle.tatp_actions.specs.declared.action.RowReply.TheVariants as reply
+use Rattle.tatp_actions.proofs.ActiveLemmas.{change_of_put_facility}
+use Rattle.tatp_actions.proofs.ActsLemmas.{acts_done, acts_refused, addition_refused, by_effect, few_1, few_2, few_4, is_subscriber, is_typed_from, none_from, area_below, area_found, put_after}
+use Rattle.tatp_actions.proofs.BookLemmas.{s_id_found, facility_found, forwarding_found}
+use Rattle.tatp_actions.proofs.CellLemmas.{change_of_move, change_of_put_subscriber, change_of_insertion, change_of_deletion, change_twice}
+
+-- UpdateLocation
+pub location_moved : (before found after : PartState) (s v : ℕ) (row made : SubscriberRow) (notes : List (ℕ × ℤ)) → IsPart before → IsWithin before.lo before.hi s → 1 ≤ v → v < 4294967296
+    → found ≡ asked_once before → Some row ≡ subscriber_at before.book s → made ≡ record row { vlr_location = v } → after ≡ changed_once found (put_subscriber found.book made.s_id made)
+    → notes ≡ area_moved (area_of row.vlr_location) (area_of v)
+    → Acts (UpdateLocation s v) before reply.Done notes after
+location_moved before found after s v row made notes rules within from below kept is same put noted =
+    acts_done (UpdateLocation s v) before after notes (put_subscriber before.book s (record row { vlr_location = v })) (once_more (once_more before.asked))
+    (put_after before found after s row made (record row { vlr_location = v }) kept (sym is) same refl put) (few_2 before.asked)
+    (both_from _ _ (is_subscriber before s rules within) (between_from 1 4294967295 v from (omega arith)))
+    (rw (← is) refl)
+    (subst (λ (ns : List (ℕ × ℤ)). IsChange before.width before.book (put_subscriber before.book s (record row { vlr_location = v })) ns) (sym noted)
+    (change_of_move before.width before.book s row (record row { vlr_location = v }) (sym is) refl (area_found before.book s row rules.rows.rules (sym is)) (area_below v below)))
+
+-- UpdateSubscriber
+pub subscriber_updated : (p0 p1 p2 p3 p4 : PartState) (s t b d : ℕ) (row made : SubscriberRow) (facility made' : SpecialFacilityRow) → IsPart p0 → IsWithin p0.lo p0.hi s
+    → is_between 1 4 t ≡ true → t < 256 → b ≤ 1 → d < 256
+    → p1 ≡ asked_once p0 → Some row ≡ subscriber_at p0.book s → p2 ≡ asked_once p1 → Some facility ≡ facility_at p1.book s t
+    → made ≡ record row { bits = set row.bits 0 b } → p3 ≡ changed_once p2 (put_subscriber p2.book made.s_id made)
+    → made' ≡ record facility { data_a = d } → p4 ≡ changed_once p3 (put_facility p3.book made'.s_id made'.sf_type made')
+    → Acts (UpdateSubscriber s t b d) p0 reply.Done [] p4
+subscriber_updated p0 p1 p2 p3 p4 s t b d row made facility made' rules within kind small bit byte kept1 is kept2 is' same put same' put' =
+    acts_done (UpdateSubscriber s t b d) p0 p4 [] (put_facility one s t facility1) (once_more (once_more (once_more (once_more p0.asked))))
+    fourth (few_4 p0.asked)
+    (both_from _ _ (is_typed_from p0 s t rules within kind) (both_from _ _ (between_from 0 1 b (omega arith) bit) (between_from 0 255 d (omega arith) (omega arith))))
+    (rw (← is, there) refl)
+    (change_twice p0.width p0.book (put_facility p0.book s t facility1) (put_facility one s t facility1)
+    (change_of_put_facility p0.book s t facility facility1 there key p0.width rules.rows.rules refl refl)
+    (change_of_put_subscriber p0.width (put_facility p0.book s t facility1) s row row1 (sym is) refl refl (area_found p0.book s row rules.rows.rules (sym is))))
+  where
+    row1 : SubscriberRow
+    row1 = record row { bits = set row.bits 0 b }
+
+    facility1 : SpecialFacilityRow
+    facility1 = record facility { data_a = d }
+
+    one : Book
+    one = put_subscriber p0.book s row1
+
+    there : facility_at p0.book s t ≡ Some facility
+    there = sym (is' ∙ ap (λ (p : PartState). facility_at p.book s t) kept1)
+
+    parts : (facility.s_id ≡ s) × (facility.sf_type ≡ t)
+    parts = facility_found p0.book s t facility rules.rows.rules small there
+
+    key : facility_key facility1 ≡ key_of s t 0
+    key = let first = parts.0 in let second = parts.1 in omega arith
+
+    third : p3 ≡ record p0 { book = one; asked = once_more (once_more (once_more p0.asked)) }
+    third =
+        put
+        ∙ ap (λ (p : PartState). changed_once p (put_subscriber p.book made.s_id made)) (kept2 ∙ ap asked_once kept1)
+        ∙ ap (λ (r : SubscriberRow). changed_once (asked_once (asked_once p0)) (put_subscriber p0.book r.s_id r)) same
+        ∙ ap (λ (n : ℕ). changed_once (asked_once (asked_once p0)) (put_subscriber p0.book n row1)) (s_id_found p0.book s row (sym is))
+
+    fourth : p4 ≡ record p0 { book = put_facility one s t facility1; asked = once_more (once_more (once_more (once_more p0.asked))) }
+    fourth =
+        put'
+        ∙ ap (λ (p : PartState). changed_once p (put_facility p.book made'.s_id made'.sf_type made')) third
+        ∙ ap (λ (f : SpecialFacilityRow). changed_once (record p0 { book = one; asked = once_more (once_more (once_more p0.asked)) }) (put_facility one f.s_id f.sf_type f)) same'
+        ∙ ap (λ (n : ℕ). changed_once (record p0 { book = one; asked = once_more (once_more (once_more p0.asked)) }) (put_facility one n facility.sf_type facility1)) parts.0
+        ∙ ap (λ (n : ℕ). changed_once (record p0 { book = one; asked = once_more (once_more (once_more p0.asked)) }) (put_facility one s n facility1)) parts.1
+
+-- InsertForwarding
+pub forwarding_inserted : (before found after : PartState) (s t u zone : ℕ) (active : Bool) (row : CallForwardingRow) (facility : SpecialFacilityRow) (notes : List (ℕ × ℤ))
+    → s ≡ row.s_id → t ≡ row.sf_type → u ≡ row.start_time → forwarding_in_range row ≡ true
+    → found ≡ asked_once before → Some facility ≡ facility_at before.book s t
+    → (is_some (forwarding_at found.book row.s_id row.sf_type row.start_time) ≡ false) × (after.book ≡ more_forwardings found.book row) → after ≡ changed_once found after.book
+    → active ≡ (facility.is_active == 1) → zone ≡ zone_of after.width s → notes ≡ forwarding_moved true active u zone
+    → Acts (InsertForwarding row) before reply.Done notes after
+forwarding_inserted before found after s t u zone active row facility notes own own' own'' in_range kept is added changed switched zoned noted =
+    acts_done (InsertForwarding row) before after notes (more_forwardings before.book row) (once_more (once_more before.asked))
+    settled (few_2 before.asked) in_range
+    (rw (here, none_from (forwarding_at before.book row.s_id row.sf_type row.start_time) added'.0) refl)
+    (subst (λ (ns : List (ℕ × ℤ)). IsChange before.width before.book (more_forwardings before.book row) ns) (sym noted_so)
+    (change_of_insertion before.width before.book row active (switched ∙ ap has_active (sym here)) in_range))
+  where
+    here : facility_at before.book row.s_id row.sf_type ≡ Some facility
+    here = sym (is ∙ ap (λ (n : ℕ). facility_at before.book n t) own ∙ ap (λ (n : ℕ). facility_at before.book row.s_id n) own')
+
+    added' : (is_some (forwarding_at before.book row.s_id row.sf_type row.start_time) ≡ false) × (after.book ≡ more_forwardings before.book row)
+    added' = subst (λ (p : PartState). (is_some (forwarding_at p.book row.s_id row.sf_type row.start_time) ≡ false) × (after.book ≡ more_forwardings p.book row)) kept added
+
+    settled : after ≡ record before { book = more_forwardings before.book row; asked = once_more (once_more before.asked) }
+    settled = changed ∙ ap (λ (p : PartState). changed_once p after.book) kept ∙ ap (λ (b : Book). changed_once (asked_once before) b) added'.1
+
+    noted_so : notes ≡ forwarding_moved true active row.start_time (zone_of before.width row.s_id)
+    noted_so = noted ∙ ap (λ (n : ℕ). forwarding_moved true active n zone) own''
+        ∙ ap (λ (z : ℕ). forwarding_moved true active row.start_time z) (zoned ∙ ap (λ (n : ℕ). zone_of after.width n) own ∙ ap (λ (p : PartState). zone_of p.width row.s_id) settled)
+
+pub insertion_refused : (before found after : PartState) (s t : ℕ) (row : CallForwardingRow) (facility : SpecialFacilityRow) (why : Refusal)
+    → s ≡ row.s_id → t ≡ row.sf_type → forwarding_in_range row ≡ true → found ≡ asked_once before → Some facility ≡ facility_at before.book s t
+    → (after.book ≡ found.book) × (why ≡ (if is_some (forwarding_at found.book row.s_id row.sf_type row.start_time) then refusal.Exists else refusal.Memory)) → after ≡ changed_once found after.book
+    → Acts (InsertForwarding row) before (reply.Refused why) [] after
+insertion_refused before found after s t row facility why own own' in_range kept is refused changed =
+    acts_refused (InsertForwarding row) before after why (once_more (once_more before.asked))
+    (changed ∙ ap (λ (p : PartState). changed_once p after.book) kept ∙ ap (λ (b : Book). changed_once (asked_once before) b) refused'.0) (few_2 before.asked)
+    (addition_refused (InsertForwarding row) before.book (more_forwardings before.book row) (is_some (forwarding_at before.book row.s_id row.sf_type row.start_time)) why in_range refl
+    (taken (forwarding_at before.book row.s_id row.sf_type row.start_time) refl) (λ absent. rw (here, none_from (forwarding_at before.book row.s_id row.sf_type row.start_time) absent) refl) refused'.1)
+  where
+    here : facility_at before.book row.s_id row.sf_type ≡ Some facility
+    here = sym (is ∙ ap (λ (n : ℕ). facility_at before.book n t) own ∙ ap (λ (n : ℕ). facility_at before.book row.s_id n) own')
+
+    refused' : (after.book ≡ before.book) × (why ≡ (if is_some (forwarding_at before.book row.s_id row.sf_type row.start_time) then refusal.Exists else refusal.Memory))
+    refused' = subst (λ (p : PartState). (after.book ≡ p.book) × (why ≡ (if is_some (forwarding_at p.book row.s_id row.sf_type row.start_time) then refusal.Exists else refusal.Memory))) kept refused
+
+    taken : (o : Option CallForwardingRow) → forwarding_at before.book row.s_id row.sf_type row.start_time ≡ o → is_some (forwarding_at before.book row.s_id row.sf_type row.start_time) ≡ true
+        → effect (InsertForwarding row) before.book ≡ (reply.Refused refusal.Exists, before.book)
+    taken None e there = let no : false ≡ true = rw e at there in absurd cc
+    taken (Some other) e there = rw (here, e) refl
+
+-- DeleteForwarding
+pub forwarding_deleted : (before removed after : PartState) (s t u zone : ℕ) (active : Bool) (row : CallForwardingRow) (notes : List (ℕ × ℤ)) → IsPart before → IsWithin before.lo before.hi s
+    → is_between 1 4 t ≡ true → is_start_time u ≡ true → t < 256 → u < 256
+    → Some row ≡ forwarding_at before.book s t u → removed ≡ changed_once before (without_forwarding before.book s t u)
+    → active ≡ has_active (facility_at removed.book s t) → after ≡ asked_once removed
+    → zone ≡ zone_of after.width s → notes ≡ forwarding_moved false active u zone
+    → Acts (DeleteForwarding s t u) before reply.Done notes after
+forwarding_deleted before removed after s t u zone active row notes rules within kind start small small' is kept switched asked zoned noted =
+    acts_done (DeleteForwarding s t u) before after notes (without_forwarding before.book s t u) (once_more (once_more before.asked))
+    settled (few_2 before.asked)
+    (both_from _ _ (is_typed_from before s t rules within kind) start)
+    (rw (← is) refl)
+    (subst (λ (ns : List (ℕ × ℤ)). IsChange before.width before.book (without_forwarding before.book s t u) ns) (sym noted_so)
+    (change_of_deletion before.width before.book s t u row active (sym is) active_so in_range))
+  where
+    settled : after ≡ record before { book = without_forwarding before.book s t u; asked = once_more (once_more before.asked) }
+    settled = asked ∙ ap asked_once kept
+
+    in_range : forwarding_in_range row ≡ true
+    in_range = each_found forwarding_key (λ (r : CallForwardingRow). forwarding_in_range r ≡ true) (key_of s t u) before.book.forwardings row rules.rows.rules.forwardings_in_range (sym is)
+
+    parts : (row.s_id ≡ s) × (row.sf_type ≡ t) × (row.start_time ≡ u)
+    parts = forwarding_found before.book s t u row rules.rows.rules small small' (sym is)
+
+    active_so : active ≡ has_active (facility_at before.book row.s_id row.sf_type)
+    active_so = switched ∙ ap (λ (p : PartState). has_active (facility_at p.book s t)) kept
+        ∙ ap (λ (n : ℕ). has_active (facility_at before.book n t)) (sym parts.0) ∙ ap (λ (n : ℕ). has_active (facility_at before.book row.s_id n)) (sym parts.1)
+
+    noted_so : notes ≡ forwarding_moved false active row.start_time (zone_of before.width row.s_id)
+    noted_so = noted ∙ ap (λ (n : ℕ). forwarding_moved false active n zone) (sym parts.2)
+        ∙ ap (λ (z : ℕ). forwarding_moved false active row.start_time z) (zoned ∙ ap (λ (n : ℕ). zone_of after.width n) (sym parts.0) ∙ ap (λ (p : PartState). zone_of p.width row.s_id) settled)
+
+pub no_forwarding : (before removed : PartState) (s t u : ℕ) → IsPart before → IsWithin before.lo before.hi s → is_between 1 4 t ≡ true → is_start_time u ≡ true
+    → None ≡ forwarding_at before.book s t u → removed ≡ changed_once before (without_forwarding before.book s t u)
+    → Acts (DeleteForwarding s t u) before (reply.Refused refusal.NoForwarding) [] removed
+no_forwarding before removed s t u rules within kind start is kept =
+    acts_refused (DeleteForwarding s t u) before removed refusal.NoForwarding (once_more before.asked)
+    (kept ∙ ap (λ (rows : List CallForwardingRow). changed_once before (record before.book { forwardings = rows })) (without_row_absent forwarding_key (key_of s t u) before.book.forwardings (sym is)))
+    (few_1 before.asked)
+    (by_effect (DeleteForwarding s t u) before.book before.book (reply.Refused refusal.NoForwarding) (both_from _ _ (is_typed_from before s t rules within kind) start) (rw (← is) refl))

@@ -1,0 +1,140 @@
+//! The rows of a part by their keys. Each call asks the rows once, and keeps the rules of the part.
+ghost use Rattle.std.specs.Prelude.{◌≡◌, IsSome, is_some};
+ghost use Rattle.tatp_actions.specs.Book.{IsWithin, has_active, subscriber_at, access_at, facility_at, forwarding_at, put_subscriber, put_facility, more_subscribers, more_access, more_facilities, more_forwardings, without_forwarding};
+ghost use Rattle.tatp_actions.specs.Part.{IsPart};
+ghost use Rattle.tatp_actions.specs.Inside.{asked_once, changed_once, IsAdded};
+
+use crate::part::Part;
+use crate::rows::Rows;
+use tatp_rows::{Access, Facility, Forwarding, Refusal, Subscriber, row_key, subscriber_key};
+
+impl<R: Rows> Part<R> {
+    /// The Subscriber row of a subscriber.
+    pub(crate) fn subscriber(&mut self, s_id: u32) -> Option<Subscriber>
+        ensures found { result ≡ subscriber_at self.old.book s_id }
+        ensures kept { self.new ≡ asked_once self.old }
+        ensures rules { IsPart self.old }
+    {
+        self.rows.get_s(subscriber_key(s_id)).copied()
+    }
+
+    /// The Access_Info row of a subscriber's access.
+    pub(crate) fn access(&mut self, s_id: u32, ai_type: u8) -> Option<Access>
+        ensures found { result ≡ access_at self.old.book s_id ai_type }
+        ensures kept { self.new ≡ asked_once self.old }
+        ensures rules { IsPart self.old }
+    {
+        self.rows.get_a(row_key(s_id, ai_type, 0)).copied()
+    }
+
+    /// The Special_Facility row of a subscriber's facility.
+    pub(crate) fn facility(&mut self, s_id: u32, sf_type: u8) -> Option<Facility>
+        ensures found { result ≡ facility_at self.old.book s_id sf_type }
+        ensures kept { self.new ≡ asked_once self.old }
+        ensures rules { IsPart self.old }
+    {
+        self.rows.get_f(row_key(s_id, sf_type, 0)).copied()
+    }
+
+    /// Whether a subscriber has an active facility of a type.
+    pub(crate) fn has_active(&mut self, s_id: u32, sf_type: u8) -> bool
+        ensures value { result ≡ has_active (facility_at self.old.book s_id sf_type) }
+        ensures kept { self.new ≡ asked_once self.old }
+        ensures rules { IsPart self.old }
+    {
+        match self.facility(s_id, sf_type) {
+            Some(facility) => facility.is_active(),
+            None => false,
+        }
+    }
+
+    /// The Call_Forwarding row of a facility that starts at an hour.
+    pub(crate) fn forwarding(
+        &mut self,
+        s_id: u32,
+        sf_type: u8,
+        start_time: u8,
+    ) -> Option<Forwarding>
+        ensures found { result ≡ forwarding_at self.old.book s_id sf_type start_time }
+        ensures kept { self.new ≡ asked_once self.old }
+        ensures rules { IsPart self.old }
+    {
+        self.rows.get_c(row_key(s_id, sf_type, start_time)).copied()
+    }
+
+    /// Puts a Subscriber row in the place of the one with its key, where there is one.
+    pub(crate) fn put_subscriber(&mut self, row: Subscriber)
+        ensures { self.new ≡ changed_once self.old (put_subscriber self.old.book row.s_id row) }
+    {
+        let _ = self.rows.replace_s(row.key(), row);
+    }
+
+    /// Puts a Special_Facility row in the place of the one with its key, where there is one.
+    pub(crate) fn put_facility(&mut self, row: Facility)
+        ensures { self.new ≡ changed_once self.old (put_facility self.old.book row.s_id row.sf_type row) }
+    {
+        let _ = self.rows.replace_f(row.key(), row);
+    }
+
+    /// Adds a Subscriber row of the part's range: `Exists`, `Memory`.
+    pub(crate) fn more_subscribers(&mut self, row: Subscriber) -> Result<(), Refusal>
+        requires { IsWithin self.old.lo self.old.hi row.s_id }
+        ensures added { IsAdded (is_some (subscriber_at self.old.book row.s_id)) self.old.book (more_subscribers self.old.book row) self.new.book result }
+        ensures kept { self.new ≡ changed_once self.old self.new.book }
+    {
+        if let Err(back) = self.rows.insert_s(row.key(), row) {
+            return Err(back.why);
+        }
+        Ok(())
+    }
+
+    /// Adds an Access_Info row of a subscriber: `Exists`, `Memory`.
+    pub(crate) fn more_access(&mut self, row: Access) -> Result<(), Refusal>
+        requires { IsSome (subscriber_at self.old.book row.s_id) }
+        ensures added { IsAdded (is_some (access_at self.old.book row.s_id row.ai_type)) self.old.book (more_access self.old.book row) self.new.book result }
+        ensures kept { self.new ≡ changed_once self.old self.new.book }
+    {
+        if let Err(back) = self.rows.insert_a(row.key(), row) {
+            return Err(back.why);
+        }
+        Ok(())
+    }
+
+    /// Adds a Special_Facility row of a subscriber: `Exists`, `Memory`.
+    pub(crate) fn more_facilities(&mut self, row: Facility) -> Result<(), Refusal>
+        requires { IsSome (subscriber_at self.old.book row.s_id) }
+        ensures added { IsAdded (is_some (facility_at self.old.book row.s_id row.sf_type)) self.old.book (more_facilities self.old.book row) self.new.book result }
+        ensures kept { self.new ≡ changed_once self.old self.new.book }
+    {
+        if let Err(back) = self.rows.insert_f(row.key(), row) {
+            return Err(back.why);
+        }
+        Ok(())
+    }
+
+    /// Adds a Call_Forwarding row of a facility: `Exists`, `Memory`.
+    pub(crate) fn more_forwardings(&mut self, row: Forwarding) -> Result<(), Refusal>
+        requires { IsSome (facility_at self.old.book row.s_id row.sf_type) }
+        ensures added { IsAdded (is_some (forwarding_at self.old.book row.s_id row.sf_type row.start_time)) self.old.book (more_forwardings self.old.book row) self.new.book result }
+        ensures kept { self.new ≡ changed_once self.old self.new.book }
+    {
+        if let Err(back) = self.rows.insert_c(row.key(), row) {
+            return Err(back.why);
+        }
+        Ok(())
+    }
+
+    /// Takes the Call_Forwarding row of a facility that starts at an hour away, where there is one.
+    pub(crate) fn remove_forwarding(
+        &mut self,
+        s_id: u32,
+        sf_type: u8,
+        start_time: u8,
+    ) -> Option<Forwarding>
+        ensures found { result ≡ forwarding_at self.old.book s_id sf_type start_time }
+        ensures kept { self.new ≡ changed_once self.old (without_forwarding self.old.book s_id sf_type start_time) }
+        ensures rules { IsPart self.old }
+    {
+        self.rows.remove_c(row_key(s_id, sf_type, start_time))
+    }
+}

@@ -1,0 +1,208 @@
+//! The seven transactions of TATP on a part.
+ghost use Rattle.std.specs.Prelude.{◌≡◌, ◌+◌, ◌<◌, ◌≤◌, ◌++◌};
+ghost use Rattle.std.specs.Option.{option_to_list};
+ghost use Rattle.arrayvec.specs.ArrayVec.{array_vec_len};
+ghost use Rattle.tatp_actions.specs.Book.{IsWithin, forwarding_at};
+ghost use Rattle.tatp_actions.specs.Inside.{destination, Acts};
+ghost use Rattle.tatp_actions.specs.declared.action.Action.{Action};
+
+use crate::action::RowReply;
+use crate::change::Change;
+use crate::part::{Part, refused};
+use crate::rows::Rows;
+use arrayvec::ArrayVec;
+use tatp_rows::{Forwarding, Number, Refusal, is_between, is_start_time};
+
+/// The numbers that were found, in order.
+fn numbers_of(
+    first: Option<Number>,
+    second: Option<Number>,
+    third: Option<Number>,
+) -> ArrayVec<Number, 3>
+    ensures { result.items ≡ (option_to_list first ++ option_to_list second) ++ option_to_list third }
+{
+    let mut numbers = ArrayVec::new();
+    push_found(&mut numbers, first);
+    push_found(&mut numbers, second);
+    push_found(&mut numbers, third);
+    numbers
+}
+
+/// Appends a number, where one was found.
+fn push_found(numbers: &mut ArrayVec<Number, 3>, found: Option<Number>)
+    requires { array_vec_len numbers.old < 3 }
+    ensures { numbers.new.items ≡ numbers.old.items ++ option_to_list found }
+{
+    if let Some(number) = found {
+        numbers.push(number);
+    }
+}
+
+impl<R: Rows> Part<R> {
+    /// GET_SUBSCRIBER_DATA: `NoSubscriber`.
+    pub(crate) fn subscriber_data(&mut self, s_id: u32) -> (RowReply, Change)
+        requires { IsWithin self.old.lo self.old.hi s_id }
+        ensures { Acts (Action.SubscriberData s_id) self.old result.0 result.1 self.new }
+    {
+        let Some(row) = self.subscriber(s_id) else {
+            return refused(Refusal::NoSubscriber);
+        };
+        (RowReply::Row(row), Change::none())
+    }
+
+    /// GET_NEW_DESTINATION: `Field`, `NoDestination`.
+    pub(crate) fn new_destination(
+        &mut self,
+        s_id: u32,
+        sf_type: u8,
+        start_time: u8,
+        end_time: u8,
+    ) -> (RowReply, Change)
+        requires { IsWithin self.old.lo self.old.hi s_id }
+        ensures { Acts (Action.NewDestination s_id sf_type start_time end_time) self.old result.0 result.1 self.new }
+    {
+        if !is_between(sf_type, 1, 4)
+            || !is_start_time(u64::from(start_time))
+            || !is_between(end_time, 1, 24)
+        {
+            return refused(Refusal::Field);
+        }
+        if !self.has_active(s_id, sf_type) {
+            return refused(Refusal::NoDestination);
+        }
+        let first = self.destination(s_id, sf_type, 0, start_time, end_time);
+        let second = self.destination(s_id, sf_type, 8, start_time, end_time);
+        let third = self.destination(s_id, sf_type, 16, start_time, end_time);
+        let numbers = numbers_of(first, second, third);
+        if numbers.is_empty() {
+            return refused(Refusal::NoDestination);
+        }
+        (RowReply::Numbers(numbers), Change::none())
+    }
+
+    /// The number of the forwarding that starts at an hour, where it starts no later than the call and ends after it.
+    fn destination(
+        &mut self,
+        s_id: u32,
+        sf_type: u8,
+        hour: u8,
+        start_time: u8,
+        end_time: u8,
+    ) -> Option<Number>
+        ensures found { result ≡ destination s_id sf_type start_time end_time (forwarding_at self.old.book s_id sf_type hour) }
+        ensures kept { self.new ≡ record self.old { asked = self.new.asked } }
+        ensures asked { self.new.asked ≤ self.old.asked + 1 }
+    {
+        // This opens the part, so that its rules are known.
+        let _ = &self.rows;
+        if start_time < hour {
+            return None;
+        }
+        let row = self.forwarding(s_id, sf_type, hour)?;
+        if end_time < row.end_time() {
+            Some(row.numberx())
+        } else {
+            None
+        }
+    }
+
+    /// GET_ACCESS_DATA: `Field`, `NoAccess`.
+    pub(crate) fn access_data(&mut self, s_id: u32, ai_type: u8) -> (RowReply, Change)
+        requires { IsWithin self.old.lo self.old.hi s_id }
+        ensures { Acts (Action.AccessData s_id ai_type) self.old result.0 result.1 self.new }
+    {
+        if !is_between(ai_type, 1, 4) {
+            return refused(Refusal::Field);
+        }
+        let Some(row) = self.access(s_id, ai_type) else {
+            return refused(Refusal::NoAccess);
+        };
+        let reply = RowReply::AccessRow {
+            data1: row.data1(),
+            data2: row.data2(),
+            data3: row.data3(),
+            data4: row.data4(),
+        };
+        (reply, Change::none())
+    }
+
+    /// UPDATE_SUBSCRIBER_DATA: `Field`, `NoSubscriber`, `NoFacility`.
+    pub(crate) fn update_subscriber(
+        &mut self,
+        s_id: u32,
+        sf_type: u8,
+        bit_1: u8,
+        data_a: u8,
+    ) -> (RowReply, Change)
+        requires { IsWithin self.old.lo self.old.hi s_id }
+        ensures { Acts (Action.UpdateSubscriber s_id sf_type bit_1 data_a) self.old result.0 result.1 self.new }
+    {
+        if !is_between(sf_type, 1, 4) || bit_1 > 1 {
+            return refused(Refusal::Field);
+        }
+        let Some(row) = self.subscriber(s_id) else {
+            return refused(Refusal::NoSubscriber);
+        };
+        let Some(facility) = self.facility(s_id, sf_type) else {
+            return refused(Refusal::NoFacility);
+        };
+        self.put_subscriber(row.with_bit_1(bit_1));
+        self.put_facility(facility.with_data_a(data_a));
+        (RowReply::Done, Change::none())
+    }
+
+    /// The body of UPDATE_LOCATION: `Field`, `NoSubscriber`.
+    pub(crate) fn update_location(&mut self, s_id: u32, vlr_location: u32) -> (RowReply, Change)
+        requires { IsWithin self.old.lo self.old.hi s_id }
+        ensures { Acts (Action.UpdateLocation s_id vlr_location) self.old result.0 result.1 self.new }
+    {
+        if vlr_location == 0 {
+            return refused(Refusal::Field);
+        }
+        let Some(row) = self.subscriber(s_id) else {
+            return refused(Refusal::NoSubscriber);
+        };
+        self.put_subscriber(row.with_vlr_location(vlr_location));
+        let change = Change::location_moved(row.vlr_location(), vlr_location);
+        (RowReply::Done, change)
+    }
+
+    /// The body of INSERT_CALL_FORWARDING: `NoFacility`, `Exists`, `Memory`.
+    pub(crate) fn insert_forwarding(&mut self, row: Forwarding) -> (RowReply, Change)
+        requires { IsWithin self.old.lo self.old.hi row.s_id }
+        ensures { Acts (Action.InsertForwarding row) self.old result.0 result.1 self.new }
+    {
+        let s_id = row.s_id();
+        let Some(facility) = self.facility(s_id, row.sf_type()) else {
+            return refused(Refusal::NoFacility);
+        };
+        if let Err(why) = self.more_forwardings(row) {
+            return refused(why);
+        }
+        let zone = self.zone_of(s_id);
+        let change = Change::forwarding_moved(true, facility.is_active(), row.start_time(), zone);
+        (RowReply::Done, change)
+    }
+
+    /// The body of DELETE_CALL_FORWARDING: `Field`, `NoForwarding`.
+    pub(crate) fn delete_forwarding(
+        &mut self,
+        s_id: u32,
+        sf_type: u8,
+        start_time: u8,
+    ) -> (RowReply, Change)
+        requires { IsWithin self.old.lo self.old.hi s_id }
+        ensures { Acts (Action.DeleteForwarding s_id sf_type start_time) self.old result.0 result.1 self.new }
+    {
+        if !is_between(sf_type, 1, 4) || !is_start_time(u64::from(start_time)) {
+            return refused(Refusal::Field);
+        }
+        let Some(_row) = self.remove_forwarding(s_id, sf_type, start_time) else {
+            return refused(Refusal::NoForwarding);
+        };
+        let active = self.has_active(s_id, sf_type);
+        let zone = self.zone_of(s_id);
+        let change = Change::forwarding_moved(false, active, start_time, zone);
+        (RowReply::Done, change)
+    }
+}
