@@ -1,0 +1,114 @@
+#!/usr/bin/env python3
+"""Runs `hlr` and the plain Rust program (bench/baseline.rs, `rustc --edition 2021 -O`) on loads of the TATP benchmark, in turns, and counts instructions a command.
+usage: tatp.py HLR BASELINE [RUNS [loads|commands]]     at the repository's top; it works in /tmp/bench
+
+For each load: processor seconds and resident KB of each program, medians of the runs, commands a second, and the ratios; the two programs have to answer the same bytes. For each command: instructions, by callgrind, of 20,000 records of
+it after a store that is made for it, less those of the store alone."""
+import hashlib, os, random, statistics, subprocess, sys
+
+LOADS = [("1000", "400000"), ("50000", "500000"), ("100000", "0")]
+ZONE = ["--zone", "4096"]
+ROOM = "/tmp/bench"
+
+
+def run(program, records):
+    """Seconds of the processor (user and system), resident KB, and the answers' sum."""
+    with open(records, "rb") as lines, open(ROOM + "/answers", "wb") as answers:
+        told = subprocess.run(["/usr/bin/time", "-f", "%U %S %M", program] + ZONE, stdin=lines, stdout=answers, stderr=subprocess.PIPE, text=True, check=True).stderr
+    user, system, resident = told.split()
+    with open(ROOM + "/answers", "rb") as answers:
+        return float(user) + float(system), int(resident), hashlib.sha256(answers.read()).hexdigest()
+
+
+def measure_loads(programs, runs):
+    for load in LOADS:
+        records = f"{ROOM}/load_{'_'.join(load)}.csv"
+        with open(records, "wb") as lines:
+            subprocess.run([sys.executable, "bench/tatp_load.py", *load], stdout=lines, check=True)
+        count = sum(1 for _ in open(records, "rb"))
+        found = {name: [] for name in programs}
+        for _ in range(runs):
+            for name, path in programs.items():
+                found[name].append(run(path, records))
+        sums = {result[2] for results in found.values() for result in results}
+        medians = {name: statistics.median(result[0] for result in results) for name, results in found.items()}
+        memory = {name: statistics.median(result[1] for result in results) for name, results in found.items()}
+        print(f"{' '.join(load)}: {count} records, answers {'alike' if len(sums) == 1 else 'DIFFER'}")
+        for name in programs:
+            print(f"  {name}: {medians[name]:.3f} s, {count / medians[name] / 1e6:.2f} million a second, {memory[name]} KB")
+        hlr, plain = programs
+        print(f"  ratio {medians[plain] / medians[hlr]:.2f}, memory {memory[hlr] / memory[plain]:.2f}", flush=True)
+
+
+def sub(s):
+    return f"sub,{s},{s:015},0101010101,0123456789,00112233445566778899,{s},{s * 40000}"
+
+
+def acc(s, kind):
+    return f"acc,{s},{kind},3,4,ABC,ABCDE"
+
+
+def fac(s, kind):
+    return f"fac,{s},{kind},1,0,0,ABCDE"
+
+
+def icf(s, kind, start):
+    return f"icf,{s:015},{kind},{start},{start + 8},{s:015}"
+
+
+def commands():
+    """For each command its store and 20,000 records, most of which are done."""
+    drawn = random.Random(7)
+    few, many, hours = range(1, 1001), range(1, 6668), (0, 8, 16)
+    subscribers = [sub(s) for s in few]
+    accesses = subscribers + [acc(s, kind) for s in few for kind in range(1, 5)]
+    facilities = subscribers + [fac(s, kind) for s in few for kind in range(1, 5)]
+    forwardings = facilities + [icf(s, kind, start) for s in few for kind in range(1, 5) for start in hours]
+    drawn_of = lambda make: [make(drawn.randint(1, 1000), drawn.randint(1, 4)) for _ in range(20_000)]
+    one = [sub(s) for s in many] + [fac(s, 1) for s in many]
+    calls = [icf(s, 1, start) for s in many for start in hours][:20_000]
+    yield "sub", subscribers, [sub(s) for s in range(1001, 21_001)]
+    yield "acc", [sub(s) for s in range(1, 5001)], [acc(s, kind) for s in range(1, 5001) for kind in range(1, 5)]
+    yield "fac", [sub(s) for s in range(1, 5001)], [fac(s, kind) for s in range(1, 5001) for kind in range(1, 5)]
+    yield "active", forwardings, [f"active,{s},{kind},{up}" for up in (0, 1, 0, 1, 0) for s in few for kind in range(1, 5)]
+    yield "number", subscribers, [f"number,{s},{turn * 1000 + s:015}" for turn in range(1, 21) for s in few]
+    yield "gsd", subscribers, drawn_of(lambda s, kind: f"gsd,{s}")
+    yield "gnd", forwardings, drawn_of(lambda s, kind: f"gnd,{s},{kind},{drawn.choice(hours)},{drawn.randint(1, 24)}")
+    yield "gad", accesses, drawn_of(lambda s, kind: f"gad,{s},{kind}")
+    yield "usd", facilities, drawn_of(lambda s, kind: f"usd,{s},{kind},{drawn.randint(0, 1)},{drawn.randrange(256)}")
+    yield "ul", subscribers, drawn_of(lambda s, kind: f"ul,{s:015},{drawn.randint(1, 4_294_967_295)}")
+    yield "icf", one, calls
+    yield "dcf", one + calls, [f"dcf,{s:015},1,{start}" for s in many for start in hours][:20_000]
+
+
+def instructions(program, records):
+    path = ROOM + "/counted.csv"
+    with open(path, "w") as lines:
+        lines.write("\n".join(records) + "\n")
+    told = subprocess.run(
+        ["valgrind", "--tool=callgrind", "--callgrind-out-file=/dev/null", program] + ZONE,
+        stdin=open(path, "rb"), stdout=subprocess.DEVNULL, stderr=subprocess.PIPE, text=True, check=True,
+    ).stderr
+    return int(told.split("Collected : ")[1].split()[0])
+
+
+def measure_commands(programs):
+    for name, store, records in commands():
+        counts = []
+        for path in programs.values():
+            counts.append((instructions(path, store + records) - instructions(path, store)) // len(records))
+        print(f"{name}: " + ", ".join(f"{program} {count}" for program, count in zip(programs, counts)), flush=True)
+
+
+def main():
+    programs = {"hlr": sys.argv[1], "baseline": sys.argv[2]}
+    runs = int(sys.argv[3]) if len(sys.argv) > 3 else 5
+    part = sys.argv[4] if len(sys.argv) > 4 else "both"
+    os.makedirs(ROOM, exist_ok=True)
+    if part != "commands":
+        measure_loads(programs, runs)
+    if part != "loads":
+        measure_commands(programs)
+
+
+main()
