@@ -1,5 +1,6 @@
 pub mod Fault
 pub mod Fields
+pub mod Inside
 pub mod Lines
 pub mod Options
 pub mod Records

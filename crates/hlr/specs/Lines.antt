@@ -1,4 +1,4 @@
--- The lines of the answers. A line is ASCII, ends with a line feed, and has fewer than 256 bytes.
+-- The lines of the answers. A line is ASCII, and ends with a line feed.
 use Rattle.std.specs.Prelude.{ℕ, ◌/◌, ◌%◌, ◌++◌, List, [], ◌∷◌, map, codes, decimal, ℤ}
 use Rattle.std.specs.List.{flat_map}
 use Rattle.std.specs.Char.{digit_char}

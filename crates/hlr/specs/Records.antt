@@ -155,8 +155,8 @@ active_of fields = do
   Ok (command.Ask (event.SetActive s_id sf_type is_active))
 
 -- number,S,N
-abbrev pub number_of : List (List ℕ) → Result Command Refusal
-number_of fields = do
+abbrev pub renaming_of : List (List ℕ) → Result Command Refusal
+renaming_of fields = do
   s_id ← number_field (field fields 1)
   sub_nbr ← number_in (field fields 2)
   Ok (command.Ask (event.SetNumber s_id sub_nbr))
@@ -185,7 +185,7 @@ command_named (Some word.Sub) fields = with_fields 7 fields (sub_of fields)
 command_named (Some word.Acc) fields = with_fields 6 fields (acc_of fields)
 command_named (Some word.Fac) fields = with_fields 6 fields (fac_of fields)
 command_named (Some word.Active) fields = with_fields 3 fields (active_of fields)
-command_named (Some word.Number) fields = with_fields 2 fields (number_of fields)
+command_named (Some word.Number) fields = with_fields 2 fields (renaming_of fields)
 command_named (Some word.Post) fields = with_fields 2 fields (post_of fields)
 command_named (Some word.Views) fields = with_fields 0 fields (Ok command.Views)
 command_named (Some word.Scan) fields = with_fields 0 fields (Ok command.Scan)

@@ -1,11 +1,9 @@
 -- The reports: a line for each thing that they show, and then how many these are.
-use Rattle.std.specs.Prelude.{ℕ, ◌==◌, ◌++◌, ◌&&◌, not, Bool, List, length, codes, ℤ, pos, slice_index, slice_index_or}
+use Rattle.std.specs.Prelude.{ℕ, ◌==◌, ◌++◌, ◌&&◌, not, Bool, List, length, codes, ℤ}
 use Rattle.std.specs.List.{filter, flat_map, range_with_len}
 use Rattle.tatp_actions.specs.declared.cells.TheConstants.{CELLS}
 use Rattle.hlr_core.specs.Post.{is_zero}
 use Rattle.hlr.specs.Lines.{cell_line, counted_line, number_line, total_line}
-use Rattle.hlr.specs.declared.reports.Counts.{Counts}
-use Rattle.hlr.specs.declared.reports.Counts.TheVariants as counts
 
 -- a report: the line of each thing, one after another, and then a word with how many they are
 unfoldable pub report_text : {X : Type 0} → List ℕ → (X → List ℕ) → List X → List ℕ
@@ -42,26 +40,3 @@ scan_text count = report_text (codes "scan,") (rows_line count) (cells_where (is
 -- `index`, the report of the pairs of a number and a subscriber
 abbrev pub index_text : List (ℕ × ℕ) → List ℕ
 index_text pairs = report_text (codes "index,") number_line pairs
-
--- the count of a cell in an array of them
-abbrev pub signed_at : List ℤ → ℕ → ℤ
-signed_at counts c = slice_index_or counts c (pos 0)
-
--- the word of a report of the cells
-abbrev pub word_of : Counts → List ℕ
-word_of (counts.Standing published unposted) = codes "views,"
-word_of (counts.Rows cells) = codes "scan,"
-
--- the report shows the cell
-abbrev pub is_shown : Counts → ℕ → Bool
-is_shown (counts.Standing published unposted) = is_standing (signed_at published.now) (signed_at unposted.now)
-is_shown (counts.Rows cells) = is_counted (slice_index cells.now)
-
--- the line of a cell in the report
-abbrev pub shown_line : Counts → ℕ → List ℕ
-shown_line (counts.Standing published unposted) = standing_line (signed_at published.now) (signed_at unposted.now)
-shown_line (counts.Rows cells) = rows_line (slice_index cells.now)
-
--- the report, which is that of `views` or of `scan`
-abbrev pub cells_text : Counts → List ℕ
-cells_text counts = report_text (word_of counts) (shown_line counts) (cells_where (is_shown counts))

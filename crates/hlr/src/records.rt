@@ -1,7 +1,7 @@
 //! The commands that records are.
 ghost use Rattle.std.specs.Prelude.{◌≡◌, Some};
 ghost use Rattle.csv.specs.Records.{fields_of};
-ghost use Rattle.hlr.specs.Records.{field, word_named, gsd_of, gnd_of, gad_of, usd_of, ul_of, icf_of, dcf_of, sub_of, acc_of, fac_of, active_of, number_of, post_of, with_fields, command_named, command_of};
+ghost use Rattle.hlr.specs.Records.{field, word_named, gsd_of, gnd_of, gad_of, usd_of, ul_of, icf_of, dcf_of, sub_of, acc_of, fac_of, active_of, renaming_of, post_of, with_fields, command_named, command_of};
 
 use crate::fields::{parse_byte, parse_bytes, parse_digits, parse_number};
 use csv::ByteRecord;
@@ -266,7 +266,7 @@ fn read_active(row: &ByteRecord) -> Result<Command, Refusal>
 
 /// `number,S,N`.
 fn read_number(row: &ByteRecord) -> Result<Command, Refusal>
-    ensures { result ≡ number_of (fields_of row.now) }
+    ensures { result ≡ renaming_of (fields_of row.now) }
 {
     let s_id = parse_number(field(row, 1))?;
     let sub_nbr = Number::from_digits(field(row, 2))?;

@@ -4,7 +4,8 @@ ghost use Rattle.std.specs.Io.KnownBytes.{Appends};
 ghost use Rattle.tatp_actions.specs.Cell.{cell};
 ghost use Rattle.hlr_core.specs.Store.{published, unposted};
 ghost use Rattle.hlr.specs.Sink.{AppendsFront};
-ghost use Rattle.hlr.specs.Reports.{cells_text, index_text, is_shown, scan_text, shown_line, views_text, word_of};
+ghost use Rattle.hlr.specs.Reports.{index_text, scan_text, views_text};
+ghost use Rattle.hlr.specs.Inside.{cells_text, is_shown, shown_line, total_word};
 
 use crate::lines::{Line, build_cell, build_counted, build_number, build_total};
 use crate::sink::{Sink, Stalled, put_all};
@@ -45,12 +46,12 @@ fn build_shown(counts: &Counts<'_>, cell: u8, line: &mut Line) -> bool
             published,
             unposted,
         } => {
-            let shown = count_at(published, cell);
-            let kept = count_at(unposted, cell);
-            if shown == 0 && kept == 0 {
+            let published = count_at(published, cell);
+            let unposted = count_at(unposted, cell);
+            if published == 0 && unposted == 0 {
                 return false;
             }
-            build_cell(line, u64::from(cell), shown, kept);
+            build_cell(line, u64::from(cell), published, unposted);
             true
         }
         Counts::Rows(cells) => {
@@ -65,8 +66,8 @@ fn build_shown(counts: &Counts<'_>, cell: u8, line: &mut Line) -> bool
 }
 
 /// The word of a report of the cells, with which its last line begins.
-fn word_of(counts: &Counts<'_>) -> &'static [u8]
-    ensures word { result.now ≡ word_of counts.now }
+fn total_word(counts: &Counts<'_>) -> &'static [u8]
+    ensures word { result.now ≡ total_word counts.now }
     ensures short { length result.now ≤ 6 }
 {
     match counts {
@@ -94,13 +95,13 @@ pub fn write_cells<S: Sink>(
             lines += 1;
         }
     }
-    build_total(line, word_of(counts), lines);
+    build_total(line, total_word(counts), lines);
     put_all(sink, line.as_slice())
 }
 
 /// Writes the report of a register's standing counts, as published and not posted yet.
 ///
-/// The reports stand beside the answers to events, which would pay for the room that these take.
+/// It is not inlined: its arrays would be filled with zeros in each answer to an event.
 #[inline(never)]
 pub fn write_views<S: Sink>(
     register: &Register,

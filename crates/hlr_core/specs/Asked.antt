@@ -1,4 +1,4 @@
--- What an event on rows asks for, once its plain numbers are checked.
+-- What an event on rows asks for, once its plain numbers are checked. No clause of a public call cites this.
 use Rattle.std.specs.Prelude.{◌≡◌, ◌+◌, Bool, true, false, Option, Some, None, Result, Ok, Err}
 use Rattle.tatp_rows.specs.declared.refusal.Refusal.{Refusal}
 use Rattle.tatp_rows.specs.declared.refusal.Refusal.TheVariants as refusal
@@ -8,9 +8,9 @@ use Rattle.tatp_actions.specs.Book.{IsWithin}
 use Rattle.tatp_actions.specs.declared.action.Action.{Action}
 use Rattle.hlr_core.specs.Step.{given_number}
 
--- an action on the rows of a subscriber that gives no number
-abbrev pub LeavesNumbers : Action → Type 0
-LeavesNumbers act = IsWithin 1 (LAST_SUBSCRIBER + 1) (s_id_of act) × (given_number act ≡ None)
+-- an action on the rows of one of all subscribers, that gives no number
+abbrev pub IsRowAction : Action → Type 0
+IsRowAction act = IsWithin 1 (LAST_SUBSCRIBER + 1) (s_id_of act) × (given_number act ≡ None)
 
 -- an event whose fields are in range or not, and that wants an action or finds no subscriber, asks for that action, or
 -- is refused; the action may still find a field out of range
@@ -19,3 +19,7 @@ IsAsked fits wanted (Ok act) = (wanted ≡ Some act) × (fits ≡ is_in_range ac
 IsAsked false wanted (Err why) = why ≡ refusal.Field
 IsAsked true None (Err why) = why ≡ refusal.NoNumber
 IsAsked true (Some act) (Err why) = ⊥
+
+-- an event that names its subscriber asks for its action
+abbrev pub IsAskedAlone : Action → Result Action Refusal → Type 0
+IsAskedAlone act = IsAsked (is_in_range act) (Some act)

@@ -48,10 +48,7 @@ changes_number (Some given) book = has_another given.1 (subscriber_at book given
 -- the action was done
 abbrev pub is_done : RowReply → Bool
 is_done row_reply.Done = true
-is_done (row_reply.Row row) = false
-is_done (row_reply.Numbers numbers) = false
-is_done (row_reply.AccessRow data1 data2 data3 data4) = false
-is_done (row_reply.Refused why) = false
+is_done _ = false
 
 -- the effect of an action on the whole book, where no number may be taken twice; that refusal comes after all others
 abbrev pub whole_effect : Action → Book → RowReply × Book
@@ -68,11 +65,8 @@ IsWholeOutcome act before answer after =
 
 -- the reply that carries the rows' answer
 abbrev pub reply_of : RowReply → Reply
-reply_of row_reply.Done = reply.Rows row_reply.Done
-reply_of (row_reply.Row row) = reply.Rows (row_reply.Row row)
-reply_of (row_reply.Numbers numbers) = reply.Rows (row_reply.Numbers numbers)
-reply_of (row_reply.AccessRow data1 data2 data3 data4) = reply.Rows (row_reply.AccessRow data1 data2 data3 data4)
 reply_of (row_reply.Refused why) = reply.Refused why
+reply_of answer = reply.Rows answer
 
 -- a right step of an event on rows: Field, then NoNumber, else a right outcome of its action
 abbrev pub IsRowStep : Bool → Option Action → Store → Reply → Store → Type 0
@@ -81,6 +75,10 @@ IsRowStep true None before answer after = (answer ≡ reply.Refused refusal.NoNu
 IsRowStep true (Some act) before answer after =
     (rows : RowReply) × (book : Book)
     × IsWholeOutcome act before.book rows book × (answer ≡ reply_of rows) × (after ≡ record before { book = book })
+
+-- a right step of an event that names its subscriber
+abbrev pub IsActionStep : Action → Store → Reply → Store → Type 0
+IsActionStep act = IsRowStep (is_in_range act) (Some act)
 
 -- the reply of a posting
 abbrev pub posted_reply : Result ℕ Refusal → Reply
@@ -94,32 +92,28 @@ IsPostStep (Some slots) part limit before answer after =
     let done = post (λ c. cell before.width c (rows_of before part)) slots limit before.words in
     (answer ≡ posted_reply done.0) × (after ≡ record before { words = done.1 })
 
--- the type and the hours of a forwarding are in range
-abbrev pub is_forwarding : ℕ → ℕ → Bool
-is_forwarding sf_type start_time = is_between 1 4 sf_type && is_start_time start_time
+-- the type and the start time of a forwarding are in range
+abbrev pub has_forwarding_key : ℕ → ℕ → Bool
+has_forwarding_key sf_type start_time = is_between 1 4 sf_type && is_start_time start_time
 
 -- from one store, an event may have this reply and lead to that store
 abbrev pub IsStep : Event → Store → Reply → Store → Type 0
-IsStep (SubscriberData s_id) before = IsRowStep (is_between 1 LAST_SUBSCRIBER s_id) (Some (action.SubscriberData s_id)) before
-IsStep (NewDestination s_id sf_type start_time end_time) before =
-    IsRowStep (is_in_range (action.NewDestination s_id sf_type start_time end_time)) (Some (action.NewDestination s_id sf_type start_time end_time)) before
-IsStep (AccessData s_id ai_type) before =
-    IsRowStep (is_in_range (action.AccessData s_id ai_type)) (Some (action.AccessData s_id ai_type)) before
-IsStep (UpdateSubscriber s_id sf_type bit_1 data_a) before =
-    IsRowStep (is_in_range (action.UpdateSubscriber s_id sf_type bit_1 data_a)) (Some (action.UpdateSubscriber s_id sf_type bit_1 data_a)) before
+IsStep (SubscriberData s_id) before = IsActionStep (action.SubscriberData s_id) before
+IsStep (NewDestination s_id sf_type start_time end_time) before = IsActionStep (action.NewDestination s_id sf_type start_time end_time) before
+IsStep (AccessData s_id ai_type) before = IsActionStep (action.AccessData s_id ai_type) before
+IsStep (UpdateSubscriber s_id sf_type bit_1 data_a) before = IsActionStep (action.UpdateSubscriber s_id sf_type bit_1 data_a) before
 IsStep (UpdateLocation sub_nbr vlr_location) before =
     IsRowStep (is_between 1 4294967295 vlr_location) (option_map (λ s_id. action.UpdateLocation s_id vlr_location) (owner_id before.book.subscribers sub_nbr)) before
 IsStep (InsertForwarding sub_nbr sf_type start_time end_time numberx) before =
-    IsRowStep (is_forwarding sf_type start_time && is_between 1 24 end_time)
+    IsRowStep (has_forwarding_key sf_type start_time && is_between 1 24 end_time)
     (option_map (λ s_id. action.InsertForwarding (record { s_id = s_id; sf_type = sf_type; start_time = start_time; end_time = end_time; numberx = numberx }))
     (owner_id before.book.subscribers sub_nbr)) before
 IsStep (DeleteForwarding sub_nbr sf_type start_time) before =
-    IsRowStep (is_forwarding sf_type start_time) (option_map (λ s_id. action.DeleteForwarding s_id sf_type start_time) (owner_id before.book.subscribers sub_nbr)) before
+    IsRowStep (has_forwarding_key sf_type start_time) (option_map (λ s_id. action.DeleteForwarding s_id sf_type start_time) (owner_id before.book.subscribers sub_nbr)) before
 IsStep (AddSubscriber row) before = IsRowStep true (Some (action.AddSubscriber row)) before
 IsStep (AddAccess row) before = IsRowStep true (Some (action.AddAccess row)) before
 IsStep (AddFacility row) before = IsRowStep true (Some (action.AddFacility row)) before
-IsStep (SetActive s_id sf_type is_active) before =
-    IsRowStep (is_in_range (action.SetActive s_id sf_type is_active)) (Some (action.SetActive s_id sf_type is_active)) before
+IsStep (SetActive s_id sf_type is_active) before = IsActionStep (action.SetActive s_id sf_type is_active) before
 IsStep (SetNumber s_id sub_nbr) before = IsRowStep (is_between 1 LAST_SUBSCRIBER s_id) (Some (action.SetNumber s_id sub_nbr)) before
 IsStep (Post part limit) before = IsPostStep (slots_of before part) part limit before
 

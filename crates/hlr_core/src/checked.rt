@@ -4,8 +4,8 @@ ghost use Rattle.tatp_rows.specs.Rows.{is_between};
 ghost use Rattle.tatp_rows.specs.declared.ranges.TheConstants.{LAST_SUBSCRIBER};
 ghost use Rattle.tatp_actions.specs.Action.{is_in_range};
 ghost use Rattle.tatp_actions.specs.Book.{IsWithin};
-ghost use Rattle.hlr_core.specs.Asked.{IsAsked, LeavesNumbers};
-ghost use Rattle.hlr_core.specs.Step.{is_forwarding};
+ghost use Rattle.hlr_core.specs.Asked.{IsAsked, IsAskedAlone, IsRowAction};
+ghost use Rattle.hlr_core.specs.Step.{has_forwarding_key};
 
 use tatp_actions::Action;
 use tatp_rows::{
@@ -13,7 +13,7 @@ use tatp_rows::{
     is_start_time,
 };
 
-// A byte. What is above 255 is out of each range.
+/// A byte. What is above 255 is out of each range.
 fn byte(value: u64) -> Result<u8, Refusal>
     ensures { (IfOk result (λ small. small ≡ value)) × OnErr result ((256 ≤ value) × (result ≡ Err Refusal.Field)) }
 {
@@ -21,8 +21,8 @@ fn byte(value: u64) -> Result<u8, Refusal>
 }
 
 pub(crate) fn subscriber_data(s_id: u64) -> Result<Action, Refusal>
-    ensures action { IfOk result LeavesNumbers }
-    ensures asked { IsAsked (is_between 1 LAST_SUBSCRIBER s_id) (Some (Action.SubscriberData s_id)) result }
+    ensures action { IfOk result IsRowAction }
+    ensures asked { IsAskedAlone (Action.SubscriberData s_id) result }
 {
     let s_id = in_range(s_id, LAST_SUBSCRIBER)?;
     Ok(Action::SubscriberData { s_id })
@@ -34,8 +34,8 @@ pub(crate) fn new_destination(
     start_time: u64,
     end_time: u64,
 ) -> Result<Action, Refusal>
-    ensures action { IfOk result LeavesNumbers }
-    ensures asked { IsAsked (is_in_range (Action.NewDestination s_id sf_type start_time end_time)) (Some (Action.NewDestination s_id sf_type start_time end_time)) result }
+    ensures action { IfOk result IsRowAction }
+    ensures asked { IsAskedAlone (Action.NewDestination s_id sf_type start_time end_time) result }
 {
     Ok(Action::NewDestination {
         s_id: in_range(s_id, LAST_SUBSCRIBER)?,
@@ -46,8 +46,8 @@ pub(crate) fn new_destination(
 }
 
 pub(crate) fn access_data(s_id: u64, ai_type: u64) -> Result<Action, Refusal>
-    ensures action { IfOk result LeavesNumbers }
-    ensures asked { IsAsked (is_in_range (Action.AccessData s_id ai_type)) (Some (Action.AccessData s_id ai_type)) result }
+    ensures action { IfOk result IsRowAction }
+    ensures asked { IsAskedAlone (Action.AccessData s_id ai_type) result }
 {
     Ok(Action::AccessData {
         s_id: in_range(s_id, LAST_SUBSCRIBER)?,
@@ -61,8 +61,8 @@ pub(crate) fn update_subscriber(
     bit_1: u64,
     data_a: u64,
 ) -> Result<Action, Refusal>
-    ensures action { IfOk result LeavesNumbers }
-    ensures asked { IsAsked (is_in_range (Action.UpdateSubscriber s_id sf_type bit_1 data_a)) (Some (Action.UpdateSubscriber s_id sf_type bit_1 data_a)) result }
+    ensures action { IfOk result IsRowAction }
+    ensures asked { IsAskedAlone (Action.UpdateSubscriber s_id sf_type bit_1 data_a) result }
 {
     Ok(Action::UpdateSubscriber {
         s_id: in_range(s_id, LAST_SUBSCRIBER)?,
@@ -73,8 +73,8 @@ pub(crate) fn update_subscriber(
 }
 
 pub(crate) fn set_active(s_id: u64, sf_type: u64, is_active: u64) -> Result<Action, Refusal>
-    ensures action { IfOk result LeavesNumbers }
-    ensures asked { IsAsked (is_in_range (Action.SetActive s_id sf_type is_active)) (Some (Action.SetActive s_id sf_type is_active)) result }
+    ensures action { IfOk result IsRowAction }
+    ensures asked { IsAskedAlone (Action.SetActive s_id sf_type is_active) result }
 {
     Ok(Action::SetActive {
         s_id: in_range(s_id, LAST_SUBSCRIBER)?,
@@ -85,7 +85,7 @@ pub(crate) fn set_active(s_id: u64, sf_type: u64, is_active: u64) -> Result<Acti
 
 pub(crate) fn update_location(owner: Option<u32>, vlr_location: u64) -> Result<Action, Refusal>
     requires { (s_id : ℕ) → owner ≡ Some s_id → IsWithin 1 (LAST_SUBSCRIBER + 1) s_id }
-    ensures action { IfOk result LeavesNumbers }
+    ensures action { IfOk result IsRowAction }
     ensures asked { IsAsked (is_between 1 4294967295 vlr_location) (option_map (λ s_id. Action.UpdateLocation s_id vlr_location) owner) result }
 {
     let vlr_location = in_range(vlr_location, u32::MAX)?;
@@ -101,8 +101,8 @@ pub(crate) fn insert_forwarding(
     numberx: Number,
 ) -> Result<Action, Refusal>
     requires { (s_id : ℕ) → owner ≡ Some s_id → IsWithin 1 (LAST_SUBSCRIBER + 1) s_id }
-    ensures action { IfOk result LeavesNumbers }
-    ensures asked { IsAsked (is_forwarding sf_type start_time && is_between 1 24 end_time)
+    ensures action { IfOk result IsRowAction }
+    ensures asked { IsAsked (has_forwarding_key sf_type start_time && is_between 1 24 end_time)
         (option_map (λ s_id. Action.InsertForwarding (record { s_id = s_id; sf_type = sf_type; start_time = start_time; end_time = end_time; numberx = numberx })) owner) result }
 {
     let Some(s_id) = owner else {
@@ -120,8 +120,8 @@ pub(crate) fn delete_forwarding(
     start_time: u64,
 ) -> Result<Action, Refusal>
     requires { (s_id : ℕ) → owner ≡ Some s_id → IsWithin 1 (LAST_SUBSCRIBER + 1) s_id }
-    ensures action { IfOk result LeavesNumbers }
-    ensures asked { IsAsked (is_forwarding sf_type start_time) (option_map (λ s_id. Action.DeleteForwarding s_id sf_type start_time) owner) result }
+    ensures action { IfOk result IsRowAction }
+    ensures asked { IsAsked (has_forwarding_key sf_type start_time) (option_map (λ s_id. Action.DeleteForwarding s_id sf_type start_time) owner) result }
 {
     let sf_type = byte(sf_type)?;
     let start_time = byte(start_time)?;
@@ -137,7 +137,7 @@ pub(crate) fn delete_forwarding(
 }
 
 pub(crate) fn add_access(row: Access) -> Result<Action, Refusal>
-    ensures action { IfOk result LeavesNumbers }
+    ensures action { IfOk result IsRowAction }
     ensures asked { IsAsked true (Some (Action.AddAccess row)) result }
 {
     // The reader says that the row is in range.
@@ -146,7 +146,7 @@ pub(crate) fn add_access(row: Access) -> Result<Action, Refusal>
 }
 
 pub(crate) fn add_facility(row: Facility) -> Result<Action, Refusal>
-    ensures action { IfOk result LeavesNumbers }
+    ensures action { IfOk result IsRowAction }
     ensures asked { IsAsked true (Some (Action.AddFacility row)) result }
 {
     // The reader says that the row is in range.

@@ -1,8 +1,8 @@
 //! A plain register of forty subscribers, for tests: rows in arrays, a map of numbers beside them, and counts that are
 //! taken anew each time.
 use crate::tests::{
-    ABSENT, DONE, EXISTS, FIELD, MEMORY, NO_ACCESS, NO_DESTINATION, NO_FACILITY, NO_FORWARDING,
-    NO_NUMBER, NO_PART, TAKEN,
+    DONE, EXISTS, FIELD, MEMORY, NO_ACCESS, NO_DESTINATION, NO_FACILITY, NO_FORWARDING, NO_NUMBER,
+    NO_PART, NO_SUBSCRIBER, TAKEN,
 };
 use crate::{Event, Register, Reply};
 use arrayvec::ArrayVec;
@@ -201,7 +201,7 @@ impl Plain {
         }
         match self.subscriber(s_id) {
             Some(row) => Reply::Rows(RowReply::Row(row)),
-            None => ABSENT,
+            None => NO_SUBSCRIBER,
         }
     }
 
@@ -250,7 +250,7 @@ impl Plain {
             return FIELD;
         }
         let Some(subscriber) = self.subscriber(s_id) else {
-            return ABSENT;
+            return NO_SUBSCRIBER;
         };
         let Some(facility) = self.facility(s_id, sf_type) else {
             return NO_FACILITY;
@@ -339,7 +339,7 @@ impl Plain {
     fn add_access(&mut self, row: Access) -> Reply {
         let s_id = u64::from(row.s_id());
         if self.subscriber(s_id).is_none() {
-            return ABSENT;
+            return NO_SUBSCRIBER;
         }
         let place = self.typed_place(s_id, u64::from(row.ai_type()));
         put(&mut self.access, place, row)
@@ -349,7 +349,7 @@ impl Plain {
     fn add_facility(&mut self, row: Facility) -> Reply {
         let s_id = u64::from(row.s_id());
         if self.subscriber(s_id).is_none() {
-            return ABSENT;
+            return NO_SUBSCRIBER;
         }
         let place = self.typed_place(s_id, u64::from(row.sf_type()));
         put(&mut self.facilities, place, row)
@@ -378,7 +378,7 @@ impl Plain {
             return FIELD;
         }
         let Some(row) = self.subscriber(s_id) else {
-            return ABSENT;
+            return NO_SUBSCRIBER;
         };
         if self.owner(sub_nbr).is_some() && !self.is_own(s_id, sub_nbr) {
             return TAKEN;

@@ -1,6 +1,6 @@
 //! The register: all rows under one roof, no number twice, and every cell as published with what is not posted yet.
 ghost use Rattle.std.specs.Prelude.{◌≡◌, ℕ, [], vec_len, vec_capacity, ◌<◌, ◌≤◌, ◌↔◌, ◌⊎◌, IfOk, OnErr, slice_index, slice_index_or, option_map, Option, Bool, ◌+◌, ℤ, pos, ◌+ℤ◌};
-ghost use Rattle.hlr_core.specs.Asked.{IsAsked, LeavesNumbers};
+ghost use Rattle.hlr_core.specs.Asked.{IsAsked, IsRowAction};
 ghost use Rattle.tatp_actions.specs.Cell.{cell};
 ghost use Rattle.hlr_core.specs.Index.{index_of};
 ghost use Rattle.hlr_core.specs.Step.{IsStep, IsRun, IsRowStep, reply_of};
@@ -170,9 +170,9 @@ impl Register {
         &self.index
     }
 
-    // Does an action that leaves each subscriber's number as it is, unless a field was refused.
+    /// Does an action that gives no number, unless a field was refused.
     fn ask(&mut self, action: Result<Action, Refusal>) -> Reply
-        requires { IfOk action LeavesNumbers }
+        requires { IfOk action IsRowAction }
         ensures { (fits : Bool) (wanted : Option Action) → IsAsked fits wanted action → IsRowStep fits wanted self.old result self.new }
     {
         match action {
@@ -181,7 +181,8 @@ impl Register {
         }
     }
 
-    // The index gives the pair another number first: it may be refused, and the rows then can't be.
+    /// Gives a subscriber another number: the pair in the index first, which may be refused, and then the row, which
+    /// can't be.
     fn set_number(&mut self, s_id: u64, sub_nbr: Number) -> Reply
         ensures { IsStep (Event.SetNumber s_id sub_nbr) self.old result self.new }
     {

@@ -12,7 +12,7 @@ pub const MEMORY: Reply = Reply::Refused(Refusal::Memory);
 
 pub const FIELD: Reply = Reply::Refused(Refusal::Field);
 
-pub const ABSENT: Reply = Reply::Refused(Refusal::NoSubscriber);
+pub const NO_SUBSCRIBER: Reply = Reply::Refused(Refusal::NoSubscriber);
 
 pub const NO_NUMBER: Reply = Reply::Refused(Refusal::NoNumber);
 
@@ -192,7 +192,7 @@ fn expect_runs(rt: &impl Abort, register: &mut Register) -> Result<(), Fail> {
     let all = match register.apply_all(&events) {
         Err(Refusal::Memory) => {
             assert!(rt; stands(register, &[], &[(3, 1), (19, 1)]));
-            assert!(rt; replies(register, read(7), ABSENT));
+            assert!(rt; replies(register, read(7), NO_SUBSCRIBER));
             register.apply_all(&events)
         }
         other => other,

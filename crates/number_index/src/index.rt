@@ -103,7 +103,7 @@ impl NumberIndex {
     }
 }
 
-// A value that is a number, as one.
+/// A value that is a number, as one.
 fn as_number(value: u64) -> Number
     requires { IsNumber value }
     ensures { result ≡ value }

@@ -143,18 +143,11 @@ effect (SetNumber s_id sub_nbr) book = set_number book s_id sub_nbr (subscriber_
 
 -- the action adds a row, so that memory may be wanted
 abbrev pub adds_row : Action → Bool
-adds_row (SubscriberData s_id) = false
-adds_row (NewDestination s_id sf_type start_time end_time) = false
-adds_row (AccessData s_id ai_type) = false
-adds_row (UpdateSubscriber s_id sf_type bit_1 data_a) = false
-adds_row (UpdateLocation s_id vlr_location) = false
 adds_row (InsertForwarding row) = true
-adds_row (DeleteForwarding s_id sf_type start_time) = false
 adds_row (AddSubscriber row) = true
 adds_row (AddAccess row) = true
 adds_row (AddFacility row) = true
-adds_row (SetActive s_id sf_type is_active) = false
-adds_row (SetNumber s_id sub_nbr) = false
+adds_row _ = false
 
 -- a right outcome: Field where a field is out of range, else the effect, or Memory in place of Done where a row is added
 abbrev pub IsOutcome : Action → Book → RowReply → Book → Type 0

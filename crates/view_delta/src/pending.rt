@@ -111,7 +111,7 @@ impl Pending {
     }
 }
 
-// A delta and a count.
+/// A delta and a count.
 fn sum(delta: i64, count: u64) -> i64
     requires { FitsSigned w64 (delta +ℤ pos count) }
     ensures { result ≡ delta +ℤ pos count }
@@ -119,7 +119,7 @@ fn sum(delta: i64, count: u64) -> i64
     (i128::from(delta) + i128::from(count)) as i64
 }
 
-// A delta less a count.
+/// A delta less a count.
 fn difference(delta: i64, count: u64) -> i64
     requires { FitsSigned w64 (delta -ℤ pos count) }
     ensures { result ≡ delta -ℤ pos count }

@@ -1,5 +1,5 @@
 use Rattle.std.proofs.Common.{sym, ap, ◌∙◌, length, arith}
-use Rattle.hlr.specs.Reports.{is_shown}
+use Rattle.hlr.specs.Inside.{is_shown}
 use Rattle.hlr.proofs.SinkFacts.{on_err_any}
 use Rattle.hlr.proofs.ReportFacts.{cells_all, cells_next, cells_skip, cells_done, report_started, report_goes_on, report_stops, report_ends, report_ends_front}
 use Rattle.hlr.proofs.reports.write_cells.Goals.{then-build_shown+in_ok-put_all, else-build_shown}
@@ -39,9 +39,9 @@ loop-cell-preserved g c =
 pub returns-clause-ok : goal.returns-clause-ok
 returns-clause-ok g c =
     let done = cells_done (is_shown c.args.counts.now) c.loop-cell.cell c.loop-cell.lines (omega arith) c.loop-cell.invariant.many in
-    report_ends _ _ _ _ _ _ _ _ _ c.put_all-2.result c.loop-cell.invariant.shown done.0 done.1 (c.as_slice-2.ensures.value ∙ rw c.word_of.ensures.word at c.build_total.ensures) c.put_all-2.ensures.ok
+    report_ends _ _ _ _ _ _ _ _ _ c.put_all-2.result c.loop-cell.invariant.shown done.0 done.1 (c.as_slice-2.ensures.value ∙ rw c.total_word.ensures.word at c.build_total.ensures) c.put_all-2.ensures.ok
 
 pub returns-clause-err : goal.returns-clause-err
 returns-clause-err g c =
     let done = cells_done (is_shown c.args.counts.now) c.loop-cell.cell c.loop-cell.lines (omega arith) c.loop-cell.invariant.many in
-    report_ends_front _ _ _ _ _ _ _ _ _ c.put_all-2.result c.loop-cell.invariant.shown done.0 done.1 (c.as_slice-2.ensures.value ∙ rw c.word_of.ensures.word at c.build_total.ensures) c.put_all-2.ensures.err
+    report_ends_front _ _ _ _ _ _ _ _ _ c.put_all-2.result c.loop-cell.invariant.shown done.0 done.1 (c.as_slice-2.ensures.value ∙ rw c.total_word.ensures.word at c.build_total.ensures) c.put_all-2.ensures.err

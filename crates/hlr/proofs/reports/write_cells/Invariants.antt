@@ -1,5 +1,6 @@
 use Rattle.std.proofs.Common.{◌≡◌, ◌≤◌, ◌+◌, length}
-use Rattle.hlr.specs.Reports.{cells_where, is_shown, shown_line}
+use Rattle.hlr.specs.Reports.{cells_where}
+use Rattle.hlr.specs.Inside.{is_shown, shown_line}
 use Rattle.hlr.proofs.ReportFacts.{ReportTo, cells_left}
 use Rattle.hlr.proofs.reports.write_cells.Given as goal
 

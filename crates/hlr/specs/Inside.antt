@@ -1,0 +1,28 @@
+-- What the calls that write a report of the cells say of the counts that they are given; no clause of `run_alone` cites this.
+use Rattle.std.specs.Prelude.{ℕ, Bool, List, codes, ℤ, pos, slice_index, slice_index_or}
+use Rattle.hlr.specs.Reports.{report_text, cells_where, is_standing, standing_line, is_counted, rows_line}
+use Rattle.hlr.specs.declared.reports.Counts.{Counts}
+use Rattle.hlr.specs.declared.reports.Counts.TheVariants as counts
+
+-- the count of a cell in an array of them
+abbrev pub signed_at : List ℤ → ℕ → ℤ
+signed_at counts c = slice_index_or counts c (pos 0)
+
+-- the word of a report of the cells
+abbrev pub total_word : Counts → List ℕ
+total_word (counts.Standing published unposted) = codes "views,"
+total_word (counts.Rows cells) = codes "scan,"
+
+-- the report shows the cell
+abbrev pub is_shown : Counts → ℕ → Bool
+is_shown (counts.Standing published unposted) = is_standing (signed_at published.now) (signed_at unposted.now)
+is_shown (counts.Rows cells) = is_counted (slice_index cells.now)
+
+-- the line of a cell in the report
+abbrev pub shown_line : Counts → ℕ → List ℕ
+shown_line (counts.Standing published unposted) = standing_line (signed_at published.now) (signed_at unposted.now)
+shown_line (counts.Rows cells) = rows_line (slice_index cells.now)
+
+-- the report, which is that of `views` or of `scan`
+abbrev pub cells_text : Counts → List ℕ
+cells_text counts = report_text (total_word counts) (shown_line counts) (cells_where (is_shown counts))
