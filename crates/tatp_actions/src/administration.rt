@@ -41,8 +41,8 @@ impl<R: Rows> Part<R> {
         (RowReply::Done, Change::row_added(zone))
     }
 
-    /// Adds a Special_Facility row: `NoSubscriber`, `Exists`, `Memory`. No forwarding can have the new facility, so it moves its
-    /// zone alone.
+    /// Adds a Special_Facility row: `NoSubscriber`, `Exists`, `Memory`. No forwarding can have the new facility, so its
+    /// zone alone moves.
     pub(crate) fn add_facility(&mut self, row: Facility) -> (RowReply, Change)
         requires { IsWithin self.old.lo self.old.hi row.s_id }
         ensures { Acts (Action.AddFacility row) self.old result.0 result.1 self.new }

@@ -104,23 +104,9 @@ impl Subscriber {
         requires { 1 ≤ vlr_location }
         ensures { result ≡ record self { vlr_location = vlr_location } }
     {
-        let Subscriber {
-            s_id,
-            sub_nbr,
-            bits,
-            hexes,
-            bytes,
-            msc_location,
-            ..
-        } = self;
         Subscriber {
-            s_id,
-            sub_nbr,
-            bits,
-            hexes,
-            bytes,
-            msc_location,
             vlr_location,
+            ..self
         }
     }
 
@@ -129,51 +115,18 @@ impl Subscriber {
         requires { bit_1 ≤ 1 }
         ensures { result ≡ record self { bits = slice_set self.bits 0 bit_1 } }
     {
-        let Subscriber {
-            s_id,
-            sub_nbr,
-            mut bits,
-            hexes,
-            bytes,
-            msc_location,
-            vlr_location,
-        } = self;
+        let mut bits = self.bits;
         bits[0] = bit_1;
-        Subscriber {
-            s_id,
-            sub_nbr,
-            bits,
-            hexes,
-            bytes,
-            msc_location,
-            vlr_location,
-        }
+        Subscriber { bits, ..self }
     }
 
     /// The row with another number.
     pub fn with_sub_nbr(self, sub_nbr: Number) -> Self
         ensures { result ≡ record self { sub_nbr = sub_nbr } }
     {
-        let Subscriber {
-            s_id,
-            bits,
-            hexes,
-            bytes,
-            msc_location,
-            vlr_location,
-            ..
-        } = self;
         // A number is in range, as its reader says.
         let _number = sub_nbr.value();
-        Subscriber {
-            s_id,
-            sub_nbr,
-            bits,
-            hexes,
-            bytes,
-            msc_location,
-            vlr_location,
-        }
+        Subscriber { sub_nbr, ..self }
     }
 
     /// The row's key.
