@@ -1,46 +1,48 @@
 -- A full child that is cut in two halves.
-use Rattle.std.proofs.Common.{◌≡◌, ℕ, ◌+◌, ◌-◌, ◌<◌, ◌≤◌, List, [], ◌∷◌, ◌++◌, length, get_or, take, drop, Option, Some, None, IfSome, refl, sym, ap, subst, ◌∙◌, arith, take_at}
+use Rattle.std.proofs.Common.{◌≡◌, ℕ, ◌+◌, ◌-◌, ◌<◌, ◌≤◌, List, [], ◌∷◌, ◌++◌, length, get_or, set, take, drop, Option, Some, None, IsSome, IfSome, min, refl, sym, ap, subst, ◌∙◌, arith, take_at}
 use Rattle.std.specs.List.{AllByRecursion}
 use Rattle.std.proofs.lemmas.List.{append_assoc, drop_at, length-take-le, length-append, get_or_at}
-use Rattle.tatp_rows.specs.Ordered.{IsOrderedBy}
+use Rattle.tatp_rows.specs.Ordered.{IsOrderedBy, row_at, with_row}
 use Rattle.tatp_rows.proofs.AppendLemmas.{each-append, each-left, each-right, ordered-right}
 use Rattle.tatp_rows.proofs.SpanLemmas.{below-weaker, from-weaker, below_start, from_start, starts_left}
-use Rattle.mr_node.specs.Rows.{Seen, key_of_pair, key_limit, somes, IsPacked, KeysBelow, KeysFrom}
-use Rattle.mr_node.specs.Levels.{NodeKid, NodeBranch, rows_of, IsKid, IsBranch}
-use Rattle.mr_node.specs.Kids.{IsKidPlace}
+use Rattle.mr_node.specs.Rows.{Seen, key_of_pair, key_limit, KeysBelow, KeysFrom, StartsWith}
+use Rattle.mr_node.specs.Runs.{IsRun}
+use Rattle.mr_node.specs.Levels.{NodePart, NodeKid, NodeBranch, kids_of, rows_of, IsKid, IsBranch, seen_branch}
+use Rattle.mr_node.specs.Growth.{IsGrown}
+use Rattle.mr_node.specs.Search.{IsKidPlace}
 use Rattle.mr_node.specs.Pairs.{IsHalved}
-use Rattle.mr_node.specs.Changes.{IsRoomMade, IsRoomAt}
-use Rattle.mr_node.proofs.PlaceLemmas.{packed_length, packed_get, packed_some, somes_split}
-use Rattle.mr_node.proofs.KidLemmas.{IsCutAt, rows_of-append, cut_kid}
-use Rattle.mr_node.proofs.MendLemmas.{put_at, kid_at}
-
-module _ {X : Type 0} where
-  -- what stands at the place of an element that was taken out
-  pub got_taken : (n i : ℕ) (x : X) (ks : List (Option X)) → IsPacked n ks → i < n → somes ks ≡ take i (somes ks) ++ (x ∷ drop (i + 1) (somes ks)) → get_or ks i None ≡ Some x
-  got_taken n i x ks packed lt e =
-      let len = length-take-le i (somes ks) (omega (arith, packed_length n ks packed, lt)) in
-      packed_get n i x ks packed lt ∙ ap Some (ap (λ s. get_or s i x) e ∙ get_or_at (take i (somes ks)) x (drop (i + 1) (somes ks)) x i len)
-
-  got_part : (n i : ℕ) (x : X) (p q : List X) (ks : List (Option X)) → IsPacked n ks → i < n → somes ks ≡ p ++ (x ∷ q) → length p ≡ i → get_or ks i None ≡ Some x
-  got_part n i x p q ks packed lt e len = packed_get n i x ks packed lt ∙ ap Some (ap (λ s. get_or s i x) e ∙ get_or_at p x q x i len)
+use Rattle.mr_node.specs.Changes.{IsRoomMade, IsRoomAt, IsSplitAt}
+use Rattle.mr_node.proofs.PlaceLemmas.{packed_some}
+use Rattle.mr_node.proofs.RunLemmas.{run_length, run_read, run_split, run_written}
+use Rattle.mr_node.proofs.KidLemmas.{IsCutAt, rows_of-append, kid_at, cut_kid}
+use Rattle.mr_node.proofs.NodeLemmas.{branch_set, part_grown, find_cut, grown_branch}
+use Rattle.mr_node.proofs.MendLemmas.{some_rows, starts_front, kid_of_node, node_at}
 
 module _ {V : Type 0} where
-  pub room_at_of : (key i : ℕ) (b : NodeBranch V) (p : List (NodeKid V)) (m : NodeKid V) (q : List (NodeKid V)) → IsPacked b.len b.kids → somes b.kids ≡ p ++ (m ∷ q) → length p ≡ i → KeysBelow key (rows_of p) → KeysFrom (key + 1) (rows_of q) → m.node.value.width < 32 → IsRoomAt key i b
-  room_at_of key i b p m q packed e len below above room =
-      let lt : i < b.len = omega (arith, packed_length b.len b.kids packed, ap length e, length-append p (m ∷ q), len) in
-      let front : take i (somes b.kids) ≡ p = ap (take i) e ∙ take_at p (m ∷ q) i len in
-      let back : drop (i + 1) (somes b.kids) ≡ q = ap (drop (i + 1)) (e ∙ sym (append_assoc p (m ∷ []) q)) ∙ drop_at (p ++ (m ∷ [])) q (i + 1) (omega (arith, length-append p (m ∷ []), len)) in
+  -- what stands in the place of a child that is known by the list
+  got_part : (i : ℕ) (b : NodeBranch V) (p q : List (NodeKid V)) (m : NodeKid V) → IsRun b.len b.leasts b.kids → kids_of b ≡ p ++ (m ∷ q) → length p ≡ i → get_or b.kids i None ≡ Some m.1
+  got_part i b p q m run e len =
+      let lt : i < b.len = omega (arith, run_length b.len b.leasts b.kids run, ap length e, length-append p (m ∷ q), len) in
+      let some = packed_some b.len i b.kids run.packed lt in
+      let same : (get_or b.leasts i 0, some.0) ≡ m = sym (run_read b.len i some.0 b.leasts b.kids run some.1) ∙ ap (λ l. get_or l i (0, some.0)) e ∙ get_or_at p m q (0, some.0) i len in
+      some.1 ∙ ap Some (ap (λ k. k.1) same)
+
+  room_at_of : (key i : ℕ) (b : NodeBranch V) (p q : List (NodeKid V)) (m : NodeKid V) → IsRun b.len b.leasts b.kids → kids_of b ≡ p ++ (m ∷ q) → length p ≡ i → KeysBelow key (rows_of p) → KeysFrom (key + 1) (rows_of q) → m.1.node.value.width < 32 → IsRoomAt key i b
+  room_at_of key i b p q m run e len below above room =
+      let lt : i < b.len = omega (arith, run_length b.len b.leasts b.kids run, ap length e, length-append p (m ∷ q), len) in
+      let front : take i (kids_of b) ≡ p = ap (take i) e ∙ take_at p (m ∷ q) i len in
+      let back : drop (i + 1) (kids_of b) ≡ q = ap (drop (i + 1)) (e ∙ sym (append_assoc p (m ∷ []) q)) ∙ drop_at (p ++ (m ∷ [])) q (i + 1) (omega (arith, length-append p (m ∷ []), len)) in
       record {
         within = lt;
         below = subst (λ x. KeysBelow key (rows_of x)) (sym front) below;
         above = subst (λ x. KeysFrom (key + 1) (rows_of x)) (sym back) above;
-        room = subst (λ o. IfSome o (λ k. k.node.value.width < 32)) (sym (got_part b.len i m p q b.kids packed lt e len)) room;
+        room = subst (λ o. IfSome o (λ k. k.node.value.width < 32)) (sym (got_part i b p q m run e len)) room;
       }
 
   -- a child that has room is found where the key belongs
-  pub room_found : (key i w : ℕ) (b : NodeBranch V) → IsBranch b → IsKidPlace key i b.len b.kids → IfSome (get_or b.kids i None) (λ k. w ≡ k.node.value.width) → w < 32 → IsRoomAt key i b
+  pub room_found : (key i w : ℕ) (b : NodeBranch V) → IsBranch b → IsKidPlace key i b.len b.leasts → IfSome (get_or b.kids i None) (λ k. w ≡ k.node.value.width) → w < 32 → IsRoomAt key i b
   room_found key i w b branch at width small =
-      let some = packed_some b.len i b.kids branch.packed at.within in
+      let some = packed_some b.len i b.kids branch.run.packed at.within in
       let cut = cut_kid key i b some.0 branch at some.1 in
       let wide : w ≡ some.0.node.value.width = subst (λ o. IfSome o (λ k. w ≡ k.node.value.width)) some.1 width in
       record { within = at.within; below = cut.below; above = cut.above; room = subst (λ o. IfSome o (λ k. k.node.value.width < 32)) (sym some.1) (omega (arith, wide)) }
@@ -49,105 +51,127 @@ module _ {V : Type 0} where
   same_alone b branch = record { height = refl; len = omega arith; rows = refl; whole = branch }
 
   -- a full child is 32 wide
-  pub full_width : (key i w : ℕ) (b : NodeBranch V) (k : NodeKid V) → IsBranch b → IsKidPlace key i b.len b.kids → get_or b.kids i None ≡ Some k → IfSome (get_or b.kids i None) (λ j. w ≡ j.node.value.width) → 32 ≤ w → k.node.value.width ≡ 32
-  full_width key i w b k branch at got width big =
-      let cut = cut_kid key i b k branch at got in
-      let wide : w ≡ k.node.value.width = subst (λ o. IfSome o (λ j. w ≡ j.node.value.width)) got width in
-      omega (arith, wide, cut.kid.well.fits)
+  pub full_width : (key i w : ℕ) (b : NodeBranch V) → IsBranch b → IsKidPlace key i b.len b.leasts → IfSome (get_or b.kids i None) (λ k. w ≡ k.node.value.width) → 32 ≤ w → IfSome (get_or b.kids i None) (λ k. k.node.value.width ≡ 32)
+  full_width key i w b branch at width big =
+      let some = packed_some b.len i b.kids branch.run.packed at.within in
+      let cut = cut_kid key i b some.0 branch at some.1 in
+      let wide : w ≡ some.0.node.value.width = subst (λ o. IfSome o (λ k. w ≡ k.node.value.width)) some.1 width in
+      subst (λ o. IfSome o (λ k. k.node.value.width ≡ 32)) (sym some.1) (omega (arith, wide, big, cut.kid.well.fits))
 
-  -- an inner node in which a child was cut in two
-  pub record IsKidSplit (i : ℕ) (b new : NodeBranch V) (k low high : NodeKid V) : Type 0 where
-    pub len : length (take i (somes b.kids)) ≡ i
-    pub list : somes new.kids ≡ take i (somes b.kids) ++ (low ∷ (high ∷ drop (i + 1) (somes b.kids)))
-    pub height : new.height ≡ b.height
-    pub lens : new.len ≡ b.len + 1
-    pub packed : IsPacked new.len new.kids
-    pub rows : low.node.value.rows ++ high.node.value.rows ≡ k.node.value.rows
-    pub lower : IsKid (b.height - 1) low
-    pub upper : IsKid (b.height - 1) high
-    pub lower_width : low.node.value.width ≡ 16
-    pub upper_width : high.node.value.width ≡ 16
-
-  pub kid_split : (key i : ℕ) (b new : NodeBranch V) (k low high : NodeKid V) (s t : List (NodeKid V)) (x y : Seen V) → IsBranch b → IsCutAt key (b.height - 1) i (somes b.kids) k → i < b.len → s ≡ take i (somes b.kids) ++ drop (i + 1) (somes b.kids) → t ≡ take i s ++ (high ∷ drop i s) → somes new.kids ≡ take i t ++ (low ∷ drop i t) → new.height ≡ b.height → new.len ≡ b.len + 1 → IsPacked new.len new.kids → IsHalved k.node.value x y → low.node.value ≡ x → high.node.value ≡ y → IsKid x.height low → IsKid y.height high → IsKidSplit i b new k low high
-  kid_split key i b new k low high s t x y branch cut lt es et en height lens packed halved el eh lowkid highkid =
-      let a = take i (somes b.kids) in
-      let c = drop (i + 1) (somes b.kids) in
-      let len = length-take-le i (somes b.kids) (omega (arith, packed_length b.len b.kids branch.packed, lt)) in
-      let half : t ≡ a ++ (high ∷ c) = put_at i high a c s t len es et in
+  -- a child was halved, and its upper half put behind it
+  pub split_at : (i least : ℕ) (b mid new : NodeBranch V) (k low high : NodePart V) (x z : Seen V) → IsBranch b → i < b.len → get_or b.kids i None ≡ Some k → mid ≡ record b { kids = set b.kids i (Some low) } → kids_of new ≡ take (i + 1) (kids_of mid) ++ ((least, high) ∷ drop (i + 1) (kids_of mid)) → new.height ≡ mid.height → new.len ≡ mid.len + 1 → IsRun new.len new.leasts new.kids
+      → IsHalved k.node.value x z → low.node.value ≡ x → low.count ≡ length x.rows → high.node.value ≡ z → high.count ≡ length z.rows → (0 < z.width → StartsWith least z.rows) → IsSplitAt i least b new
+  split_at i least b mid new k low high x z branch lt got em en height len run halved el cl eh ch starts =
+      let e = kids_of b in
+      let h = b.height - 1 in
+      let old = run_split b.len i k b.leasts b.kids branch.run got in
+      let kid = (each-right (IsKid h) (take i e) (kid_at b i k ∷ drop (i + 1) e) (subst (AllByRecursion (IsKid h)) old branch.kids)).0 in
+      let written = run_written b.len i low b.leasts b.kids branch.run lt in
+      let long = length-take-le i e (omega (arith, run_length b.len b.leasts b.kids branch.run, lt)) in
+      let front = take i e ++ (kid_at b i low ∷ []) in
+      let cut : kids_of mid ≡ front ++ drop (i + 1) e = ap kids_of em ∙ written.1 ∙ sym (append_assoc (take i e) (kid_at b i low ∷ []) (drop (i + 1) e)) in
+      let wide : length front ≡ i + 1 = omega (arith, length-append (take i e) (kid_at b i low ∷ []), long) in
+      let list : kids_of new ≡ take i e ++ (kid_at b i low ∷ ((least, high) ∷ drop (i + 1) e)) =
+      en ∙ ap (λ r. r ++ ((least, high) ∷ drop (i + 1) (kids_of mid))) (ap (take (i + 1)) cut ∙ take_at front (drop (i + 1) e) (i + 1) wide)
+      ∙ ap (λ r. front ++ ((least, high) ∷ r)) (ap (drop (i + 1)) cut ∙ drop_at front (drop (i + 1) e) (i + 1) wide)
+      ∙ append_assoc (take i e) (kid_at b i low ∷ []) ((least, high) ∷ drop (i + 1) e) in
+      let one = node_at h k.node.value.height x kid.level halved.low in
+      let two = node_at h k.node.value.height z kid.level halved.high in
+      let tail = rows_of (drop (i + 1) e) in
       record {
-        len = len;
-        list = put_at i low a (high ∷ c) t (somes new.kids) len half en;
-        height = height;
-        lens = lens;
-        packed = packed;
-        rows = ap (λ n. n.rows ++ high.node.value.rows) el ∙ ap (λ n. x.rows ++ n.rows) eh ∙ halved.rows;
-        lower = kid_at (b.height - 1) x.height low (halved.low.level ∙ cut.kid.level) lowkid;
-        upper = kid_at (b.height - 1) y.height high (halved.high.level ∙ cut.kid.level) highkid;
-        lower_width = ap (λ n. n.width) el ∙ halved.low_width;
-        upper_width = ap (λ n. n.width) eh ∙ halved.high_width;
+        low = kid_at b i low;
+        high = (least, high);
+        list = list;
+        height = height ∙ ap (λ n. n.height) em;
+        len = len ∙ ap (λ n. n.len + 1) em;
+        run = run;
+        rows = ap rows_of list ∙ rows_of-append (take i e) (kid_at b i low ∷ ((least, high) ∷ drop (i + 1) e))
+            ∙ ap (λ r. rows_of (take i e) ++ r) (ap (λ s. s.rows ++ (high.node.value.rows ++ tail)) el ∙ ap (λ s. x.rows ++ (s.rows ++ tail)) eh ∙ sym (append_assoc x.rows z.rows tail) ∙ ap (λ r. r ++ tail) halved.rows)
+            ∙ sym (ap rows_of old ∙ rows_of-append (take i e) (kid_at b i k ∷ drop (i + 1) e));
+        lower = kid_of_node h (get_or b.leasts i 0) low x one el cl (starts_front (get_or b.leasts i 0) x.rows z.rows (some_rows h x one) (subst (StartsWith (get_or b.leasts i 0)) (sym halved.rows) kid.first));
+        upper = kid_of_node h least high z two eh ch (starts (omega (arith, two.enough)));
+        lower_width = ap (λ s. s.width) el ∙ halved.low_width;
+        upper_width = ap (λ s. s.width) eh ∙ halved.high_width;
+        first = refl;
       }
 
-  split_rows : (key i : ℕ) (b new : NodeBranch V) (k low high : NodeKid V) → IsCutAt key (b.height - 1) i (somes b.kids) k → IsKidSplit i b new k low high → rows_of (take i (somes b.kids)) ++ (low.node.value.rows ++ (high.node.value.rows ++ rows_of (drop (i + 1) (somes b.kids)))) ≡ rows_of (somes b.kids)
-  split_rows key i b new k low high cut sp =
-      let a = rows_of (take i (somes b.kids)) in
-      let c = rows_of (drop (i + 1) (somes b.kids)) in
-      ap (λ r. a ++ r) (sym (append_assoc low.node.value.rows high.node.value.rows c) ∙ ap (λ r. r ++ c) sp.rows) ∙ sym cut.rows
-
-  pub split_same : (key i : ℕ) (b new : NodeBranch V) (k low high : NodeKid V) → IsBranch b → b.len < 32 → IsCutAt key (b.height - 1) i (somes b.kids) k → IsKidSplit i b new k low high → IsRoomMade b new
-  split_same key i b new k low high branch room cut sp =
-      let a = take i (somes b.kids) in
-      let c = drop (i + 1) (somes b.kids) in
-      let rows : rows_of (somes new.kids) ≡ rows_of (somes b.kids) = ap rows_of sp.list ∙ rows_of-append a (low ∷ (high ∷ c)) ∙ split_rows key i b new k low high cut sp in
+  pub split_same : (i least : ℕ) (b new : NodeBranch V) (key : ℕ) (k : NodeKid V) → IsBranch b → IsCutAt key (b.height - 1) i (kids_of b) k → IsSplitAt i least b new → IsRoomMade b new
+  split_same i least b new key k branch cut sp =
+      let a = take i (kids_of b) in
+      let d = drop (i + 1) (kids_of b) in
       record {
         height = sp.height;
-        len = omega (arith, sp.lens);
-        rows = rows;
+        len = omega (arith, sp.len);
+        rows = sp.rows;
         whole = record {
           inner = omega (arith, sp.height, branch.inner);
-          some = omega (arith, sp.lens);
-          fits = omega (arith, sp.lens);
-          packed = sp.packed;
-          kids = subst (λ h. AllByRecursion (IsKid (h - 1)) (somes new.kids)) (sym sp.height) (subst (AllByRecursion (IsKid (b.height - 1))) (sym sp.list) (each-append (IsKid (b.height - 1)) a (low ∷ (high ∷ c)) cut.before (sp.lower, (sp.upper, cut.after))));
-          ordered = subst (IsOrderedBy key_of_pair) (sym rows) branch.ordered;
-          keys = subst (KeysBelow key_limit) (sym rows) branch.keys;
+          some = omega (arith, sp.len);
+          run = sp.run;
+          kids = subst (λ h. AllByRecursion (IsKid (h - 1)) (kids_of new)) (sym sp.height) (subst (AllByRecursion (IsKid (b.height - 1))) (sym sp.list) (each-append (IsKid (b.height - 1)) a (sp.low ∷ (sp.high ∷ d)) cut.before (sp.lower, (sp.upper, cut.after))));
+          ordered = subst (IsOrderedBy key_of_pair) (sym sp.rows) branch.ordered;
+          keys = subst (KeysBelow key_limit) (sym sp.rows) branch.keys;
         };
       }
 
-  ordered_tail : (key i : ℕ) (b new : NodeBranch V) (k low high : NodeKid V) → IsBranch b → IsCutAt key (b.height - 1) i (somes b.kids) k → IsKidSplit i b new k low high → IsOrderedBy key_of_pair (low.node.value.rows ++ (high.node.value.rows ++ rows_of (drop (i + 1) (somes b.kids))))
-  ordered_tail key i b new k low high branch cut sp =
-      ordered-right key_of_pair (rows_of (take i (somes b.kids))) (low.node.value.rows ++ (high.node.value.rows ++ rows_of (drop (i + 1) (somes b.kids)))) (subst (IsOrderedBy key_of_pair) (sym (split_rows key i b new k low high cut sp)) branch.ordered)
+  ordered_tail : (i least : ℕ) (b new : NodeBranch V) → IsBranch b → (sp : IsSplitAt i least b new) → IsOrderedBy key_of_pair (sp.low.1.node.value.rows ++ (sp.high.1.node.value.rows ++ rows_of (drop (i + 1) (kids_of b))))
+  ordered_tail i least b new branch sp =
+      let a = take i (kids_of b) in
+      let d = drop (i + 1) (kids_of b) in
+      ordered-right key_of_pair (rows_of a) (sp.low.1.node.value.rows ++ (sp.high.1.node.value.rows ++ rows_of d)) (subst (IsOrderedBy key_of_pair) (sym sp.rows ∙ ap rows_of sp.list ∙ rows_of-append a (sp.low ∷ (sp.high ∷ d))) branch.ordered)
 
-  pub split_low : (key i : ℕ) (b new : NodeBranch V) (k low high : NodeKid V) → IsBranch b → IsCutAt key (b.height - 1) i (somes b.kids) k → IsKidSplit i b new k low high → key < high.least → IsRoomAt key i new
-  split_low key i b new k low high branch cut sp lt =
-      let c = drop (i + 1) (somes b.kids) in
-      let o = ordered-right key_of_pair low.node.value.rows (high.node.value.rows ++ rows_of c) (ordered_tail key i b new k low high branch cut sp) in
-      room_at_of key i new (take i (somes b.kids)) low (high ∷ c) sp.packed sp.list sp.len cut.below
-      (from-weaker key_of_pair (key + 1) high.least (high.node.value.rows ++ rows_of c) (omega arith) (from_start key_of_pair high.least (high.node.value.rows ++ rows_of c) (starts_left key_of_pair high.least high.node.value.rows (rows_of c) sp.upper.first) o))
+  pub split_low : (i least : ℕ) (b new : NodeBranch V) (key : ℕ) (k : NodeKid V) → i < b.len → IsBranch b → IsCutAt key (b.height - 1) i (kids_of b) k → IsSplitAt i least b new → key < least → IsRoomAt key i new
+  split_low i least b new key k lt branch cut sp less =
+      let d = drop (i + 1) (kids_of b) in
+      let low = sp.low.1.node.value.rows in
+      let high = sp.high.1.node.value.rows in
+      let o = ordered-right key_of_pair low (high ++ rows_of d) (ordered_tail i least b new branch sp) in
+      room_at_of key i new (take i (kids_of b)) (sp.high ∷ d) sp.low sp.run sp.list (length-take-le i (kids_of b) (omega (arith, run_length b.len b.leasts b.kids branch.run, lt))) cut.below
+      (from-weaker key_of_pair (key + 1) sp.high.0 (high ++ rows_of d) (omega (arith, less, sp.first)) (from_start key_of_pair sp.high.0 (high ++ rows_of d) (starts_left key_of_pair sp.high.0 high (rows_of d) sp.upper.first) o))
       (omega (arith, sp.lower_width))
 
-  pub split_high : (key i : ℕ) (b new : NodeBranch V) (k low high : NodeKid V) → IsBranch b → IsCutAt key (b.height - 1) i (somes b.kids) k → IsKidSplit i b new k low high → high.least ≤ key → IsRoomAt key (i + 1) new
-  split_high key i b new k low high branch cut sp le =
-      let a = take i (somes b.kids) in
-      let c = drop (i + 1) (somes b.kids) in
-      let lows = below-weaker key_of_pair high.least key low.node.value.rows le (below_start key_of_pair high.least low.node.value.rows high.node.value.rows (rows_of c) sp.upper.first (ordered_tail key i b new k low high branch cut sp)) in
-      let below = subst (KeysBelow key) (sym (rows_of-append a (low ∷ []))) (each-append (λ p. p.0 < key) (rows_of a) (low.node.value.rows ++ []) cut.below (each-append (λ p. p.0 < key) low.node.value.rows [] lows tt)) in
-      room_at_of key (i + 1) new (a ++ (low ∷ [])) high c sp.packed (sp.list ∙ sym (append_assoc a (low ∷ []) (high ∷ c))) (omega (arith, length-append a (low ∷ []), sp.len)) below cut.above (omega (arith, sp.upper_width))
+  pub split_high : (i least : ℕ) (b new : NodeBranch V) (key : ℕ) (k : NodeKid V) → i < b.len → IsBranch b → IsCutAt key (b.height - 1) i (kids_of b) k → IsSplitAt i least b new → least ≤ key → IsRoomAt key (i + 1) new
+  split_high i least b new key k lt branch cut sp le =
+      let a = take i (kids_of b) in
+      let d = drop (i + 1) (kids_of b) in
+      let low = sp.low.1.node.value.rows in
+      let high = sp.high.1.node.value.rows in
+      let lows = below-weaker key_of_pair sp.high.0 key low (omega (arith, le, sp.first)) (below_start key_of_pair sp.high.0 low high (rows_of d) sp.upper.first (ordered_tail i least b new branch sp)) in
+      let below = subst (KeysBelow key) (sym (rows_of-append a (sp.low ∷ []))) (each-append (λ p. p.0 < key) (rows_of a) (low ++ []) cut.below (each-append (λ p. p.0 < key) low [] lows tt)) in
+      let long = length-take-le i (kids_of b) (omega (arith, run_length b.len b.leasts b.kids branch.run, lt)) in
+      room_at_of key (i + 1) new (a ++ (sp.low ∷ [])) d sp.high sp.run (sp.list ∙ sym (append_assoc a (sp.low ∷ []) (sp.high ∷ d))) (omega (arith, length-append a (sp.low ∷ []), long)) below cut.above (omega (arith, sp.upper_width))
 
   -- the place with room as a cut
-  pub cut_of_room : (key i : ℕ) (b : NodeBranch V) (k : NodeKid V) → IsBranch b → IsRoomAt key i b → get_or b.kids i None ≡ Some k → (IsCutAt key (b.height - 1) i (somes b.kids) k) × (k.node.value.width < 32)
+  pub cut_of_room : (key i : ℕ) (b : NodeBranch V) (k : NodePart V) → IsBranch b → IsRoomAt key i b → get_or b.kids i None ≡ Some k → (IsCutAt key (b.height - 1) i (kids_of b) (kid_at b i k)) × (k.node.value.width < 32)
   cut_of_room key i b k branch at got =
-      let kids = somes b.kids in
-      let split = somes_split b.len i k b.kids branch.packed got in
+      let kids = kids_of b in
+      let x = kid_at b i k in
+      let split = run_split b.len i k b.leasts b.kids branch.run got in
       let all = subst (AllByRecursion (IsKid (b.height - 1))) split branch.kids in
-      let back = each-right (IsKid (b.height - 1)) (take i kids) (k ∷ drop (i + 1) kids) all in (
+      let back = each-right (IsKid (b.height - 1)) (take i kids) (x ∷ drop (i + 1) kids) all in (
         record {
           list = split;
           kid = back.0;
-          before = each-left (IsKid (b.height - 1)) (take i kids) (k ∷ drop (i + 1) kids) all;
+          before = each-left (IsKid (b.height - 1)) (take i kids) (x ∷ drop (i + 1) kids) all;
           after = back.1;
           below = at.below;
           above = at.above;
-          rows = ap rows_of split ∙ rows_of-append (take i kids) (k ∷ drop (i + 1) kids);
+          rows = ap rows_of split ∙ rows_of-append (take i kids) (x ∷ drop (i + 1) kids);
         },
         subst (λ o. IfSome o (λ j. j.node.value.width < 32)) got at.room,
+      )
+
+  -- a row that came in after room was made
+  pub grown_after : (key : ℕ) (o : Option V) (b mid : NodeBranch V) (k : NodePart V) (child n now : Seen V) (i least count : ℕ) → now ≡ seen_branch b → IsRoomMade b mid → i < mid.len → IsCutAt key (mid.height - 1) i (kids_of mid) (kid_at mid i k) → child ≡ k.node.value → key < key_limit → row_at key_of_pair key now.rows ≡ None → IfSome o (λ v. IsGrown key v child n) → IsSome o → least ≡ min (get_or mid.leasts i 0) key → count ≡ k.count + 1
+      → (IsBranch (branch_set mid i least (part_grown k count n))) × IfSome o (λ v. IsGrown key v now (seen_branch (branch_set mid i least (part_grown k count n))))
+  grown_after key None b mid k child n now i least count e same lt cut ec small none grown some el en = let wrong : ⊥ = cc in absurd wrong
+  grown_after key (Some v) b mid k child n now i least count e same lt cut ec small none grown some el en =
+      let absent : row_at key_of_pair key k.node.value.rows ≡ None = sym (find_cut key i (mid.height - 1) (kids_of mid) (kid_at mid i k) cut) ∙ ap (row_at key_of_pair key) same.rows ∙ ap (λ s. row_at key_of_pair key s.rows) (sym e) ∙ none in
+      let all = grown_branch key i v mid k n least count same.whole lt cut small absent (subst (λ s. IsGrown key v s n) ec grown) el en in (
+        all.0,
+        subst (λ s. IsGrown key v s (seen_branch (branch_set mid i least (part_grown k count n)))) (sym e) (record {
+          rows = all.2.rows ∙ ap (with_row key_of_pair (key, v)) same.rows;
+          level = all.2.level ∙ same.height;
+          width = omega (arith, all.2.width, same.len);
+          well = all.2.well;
+        }),
       )

@@ -1,19 +1,42 @@
 -- What a leaf has at and round the place of a key.
-use Rattle.std.proofs.Common.{◌≡◌, ℕ, ◌+◌, ◌-◌, ◌<◌, ◌≤◌, suc, zero, List, [], ◌∷◌, ◌++◌, length, get_or, set, take, drop, true, false, Option, Some, None, IsSome, Ok, Err, cond, ok_or, option_map, refl, sym, ap, subst, ◌∙◌, arith, add-one, inl, inr, eqb, ltb}
+use Rattle.std.proofs.Common.{◌≡◌, ◌≢◌, ℕ, ◌+◌, ◌-◌, ◌<◌, ◌≤◌, suc, zero, List, [], ◌∷◌, ◌++◌, length, get_or, set, take, drop, Option, Some, None, IsSome, IfSome, option_map, refl, sym, ap, subst, ◌∙◌, arith, add-one, inl, inr}
 use Rattle.std.specs.List.{insert, remove}
-use Rattle.std.proofs.lemmas.List.{drop_all, take_more, drop_more, get_or_default, length-set, length-append, length-take, length-drop, take-append-drop}
-use Rattle.std.proofs.lemmas.Bool.{cases_lt, cases_Bool, eqb-true}
-use Rattle.std.proofs.lemmas.Bool.Decides.{nat_tests}
+use Rattle.std.proofs.lemmas.List.{drop_all, get_or_default, length-set, length-append, length-take, length-drop, take-append-drop}
+use Rattle.std.proofs.lemmas.Bool.{cases_lt}
 use Rattle.tatp_rows.specs.Ordered.{IsOrderedBy, row_at, with_row_at, with_row, without_row}
 use Rattle.tatp_rows.proofs.AppendLemmas.{each-append}
 use Rattle.tatp_rows.proofs.OrderedLemmas.{each-with_row, each-without_row, ordered-with_row, ordered-with_row_at, ordered-without_row}
 use Rattle.tatp_rows.proofs.SpanLemmas.{below-weaker, from-weaker, ordered_front, ordered_back, row_at-skip, row_at-absent, row_at-here, with_row_at-skip, with_row_at-absent, with_row_at-here, without_row-skip, without_row-absent, without_row-here, with_row-skip, with_row-front, every-with_row_at-same}
-use Rattle.mr_node.specs.Rows.{value_at, key_of_pair, somes, IsPacked, KeysBelow, KeysFrom, key_limit}
-use Rattle.mr_node.specs.Levels.{IsLeaf}
-use Rattle.mr_node.specs.Entries.{entry_over, has_key, IsPlaced, replaced, handed_back}
-use Rattle.mr_node.proofs.PlaceLemmas.{packed_length, packed_within, packed_some, packed_read, packed_set, packed_insert, packed_remove, somes_split, somes_written, somes_insert, somes_remove}
+use Rattle.mr_node.specs.declared.body.Leaf.{Leaf}
+use Rattle.mr_node.specs.Rows.{value_at, key_of_pair, KeysBelow, KeysFrom, key_limit}
+use Rattle.mr_node.specs.Runs.{no_key, somes, IsRun}
+use Rattle.mr_node.specs.Search.{IsRising, IsStop}
+use Rattle.mr_node.specs.Levels.{IsLeaf, pairs_of, seen_leaf}
+use Rattle.mr_node.specs.Entries.{IsThere, IsFree}
+use Rattle.mr_node.specs.Growth.{IsGrown, IsRoomAnswer}
+use Rattle.mr_node.specs.declared.room.Room.TheVariants.{Done, Exists, Full}
+use Rattle.mr_node.proofs.PlaceLemmas.{packed_some, packed_insert, packed_remove, somes_insert, somes_remove}
+use Rattle.mr_node.proofs.SizeLemmas.{leaf_well}
+use Rattle.mr_node.proofs.RunLemmas.{run_length, run_split, run_written, run_inserted, run_removed, run_behind, run_rises, run_next, run_rest}
 
 module _ {V : Type 0} where
+  -- what a search among the keys asks for
+  pub leaf_rises : (leaf : Leaf V) → IsLeaf leaf → IsRising leaf.keys
+  leaf_rises leaf h = run_rises (length leaf.values.items) leaf.keys leaf.values.items h.run h.ordered h.keys
+
+  pub leaf_length : (leaf : Leaf V) → IsLeaf leaf → length (pairs_of leaf) ≡ length leaf.values.items
+  leaf_length leaf h = run_length (length leaf.values.items) leaf.keys leaf.values.items h.run
+
+  pub leaf_some : (i : ℕ) (leaf : Leaf V) → IsLeaf leaf → i < length leaf.values.items → (x : V) × (get_or leaf.values.items i None ≡ Some x)
+  leaf_some i leaf h lt = packed_some (length leaf.values.items) i leaf.values.items h.run.packed lt
+
+  -- a search for a key of 64 bits stops behind the last entry at most
+  stop_fits : (key i : ℕ) (leaf : Leaf V) → IsLeaf leaf → key ≤ no_key → IsStop key i leaf.keys → i ≤ length leaf.values.items
+  stop_fits key i leaf h small stop = elim (cases_lt (length leaf.values.items) i) [
+    | inl more ↦ absurd (omega (arith, small, stop.before (omega (arith, more)), run_behind (length leaf.values.items) (i - 1) leaf.keys leaf.values.items h.run (omega (arith, more)) (omega (arith, more, stop.within))))
+    | inr le ↦ le
+  ]
+
   below_at : (key : ℕ) (a : List (ℕ × V)) (p : ℕ × V) (b : List (ℕ × V)) → IsOrderedBy key_of_pair (a ++ (p ∷ b)) → p.0 < key → KeysBelow key (a ++ (p ∷ []))
   below_at key a p b o lt =
       each-append (λ q. q.0 < key) a (p ∷ []) (below-weaker key_of_pair p.0 key a (omega arith) (ordered_front key_of_pair a p b o)) (lt, tt)
@@ -21,68 +44,82 @@ module _ {V : Type 0} where
   from_at : (key : ℕ) (a : List (ℕ × V)) (p : ℕ × V) (b : List (ℕ × V)) → IsOrderedBy key_of_pair (a ++ (p ∷ b)) → key ≤ p.0 → KeysFrom key (p ∷ b)
   from_at key a p b o le = (le, from-weaker key_of_pair key (p.0 + 1) b (omega arith) (ordered_back key_of_pair a p b o))
 
-  -- the front of an ordered list, up to a used place with a lesser key
-  front_below : (key i : ℕ) (p : ℕ × V) (es : List (Option (ℕ × V))) → IsLeaf es → get_or es i None ≡ Some p → p.0 < key → KeysBelow key (take (i + 1) (somes es))
-  front_below key i p es leaf e lt =
-      let rows = somes es in
-      let split = somes_split (length es) i p es leaf.packed e in
-      let within = packed_within (length es) i p es leaf.packed e in
-      let more : take (i + 1) rows ≡ take i rows ++ (p ∷ []) = take_more rows i p (omega (arith, packed_length (length es) es leaf.packed, within)) ∙ ap (λ x. take i rows ++ (x ∷ [])) (packed_read (length es) i p es leaf.packed e) in
-      subst (KeysBelow key) (sym more) (below_at key (take i rows) p (drop (i + 1) rows) (subst (IsOrderedBy key_of_pair) split leaf.ordered) lt)
+  -- the pairs, cut at one of them
+  leaf_split : (i : ℕ) (x : V) (leaf : Leaf V) → IsLeaf leaf → get_or leaf.values.items i None ≡ Some x → pairs_of leaf ≡ take i (pairs_of leaf) ++ ((get_or leaf.keys i 0, x) ∷ drop (i + 1) (pairs_of leaf))
+  leaf_split i x leaf h e = run_split (length leaf.values.items) i x leaf.keys leaf.values.items h.run e
 
-  -- the back of an ordered list, from a used place on
-  back_from : (key i : ℕ) (p : ℕ × V) (es : List (Option (ℕ × V))) → IsLeaf es → get_or es i None ≡ Some p → key ≤ p.0 → KeysFrom key (drop i (somes es))
-  back_from key i p es leaf e le =
-      let rows = somes es in
-      let split = somes_split (length es) i p es leaf.packed e in
-      let within = packed_within (length es) i p es leaf.packed e in
-      let more : drop i rows ≡ p ∷ drop (i + 1) rows = drop_more rows i p (omega (arith, packed_length (length es) es leaf.packed, within)) ∙ ap (λ x. x ∷ drop (i + 1) rows) (packed_read (length es) i p es leaf.packed e) in
-      subst (KeysFrom key) (sym more) (from_at key (take i rows) p (drop (i + 1) rows) (subst (IsOrderedBy key_of_pair) split leaf.ordered) le)
+  -- the front of the pairs, up to a lesser key
+  front_below : (key i : ℕ) (x : V) (leaf : Leaf V) → IsLeaf leaf → get_or leaf.values.items i None ≡ Some x → get_or leaf.keys i 0 < key → KeysBelow key (take (i + 1) (pairs_of leaf))
+  front_below key i x leaf h e lt =
+      let rows = pairs_of leaf in
+      let more = run_next (length leaf.values.items) i x leaf.keys leaf.values.items h.run e in
+      subst (KeysBelow key) (sym more) (below_at key (take i rows) (get_or leaf.keys i 0, x) (drop (i + 1) rows) (subst (IsOrderedBy key_of_pair) (leaf_split i x leaf h e) h.ordered) lt)
 
-  -- an entry over which a search goes, and one over which it doesn't
-  over : (key : ℕ) (p : ℕ × V) (o : Option (ℕ × V)) → o ≡ Some p → entry_over key o ≡ true → p.0 < key
-  over key p o e h = let test : ltb p.0 key ≡ true = subst (λ x. entry_over key x ≡ true) e h in grind (arith, nat_tests)
+  -- the back of the pairs, from a key on
+  back_from : (key i : ℕ) (x : V) (leaf : Leaf V) → IsLeaf leaf → get_or leaf.values.items i None ≡ Some x → key ≤ get_or leaf.keys i 0 → KeysFrom key (drop i (pairs_of leaf))
+  back_from key i x leaf h e le =
+      let rows = pairs_of leaf in
+      let rest = run_rest (length leaf.values.items) i x leaf.keys leaf.values.items h.run e in
+      subst (KeysFrom key) (sym rest) (from_at key (take i rows) (get_or leaf.keys i 0, x) (drop (i + 1) rows) (subst (IsOrderedBy key_of_pair) (leaf_split i x leaf h e) h.ordered) le)
 
-  pub not_over : (key : ℕ) (p : ℕ × V) (o : Option (ℕ × V)) → o ≡ Some p → entry_over key o ≡ false → key ≤ p.0
-  not_over key p o e h = let test : ltb p.0 key ≡ false = subst (λ x. entry_over key x ≡ false) e h in grind (arith, nat_tests)
-
-  pub cut_below : (key i : ℕ) (es : List (Option (ℕ × V))) → IsLeaf es → IsPlaced key i es → KeysBelow key (take i (somes es))
-  cut_below key zero es leaf at = tt
-  cut_below key (suc i) es leaf at =
-      let found = packed_some (length es) i es leaf.packed (omega (arith, at.within)) in
+  cut_at : (key i : ℕ) (leaf : Leaf V) → IsLeaf leaf → i ≤ length leaf.values.items → (0 < i → get_or leaf.keys (i - 1) 0 < key) → KeysBelow key (take i (pairs_of leaf))
+  cut_at key zero leaf h le before = tt
+  cut_at key (suc i) leaf h le before =
+      let found = leaf_some i leaf h (omega (arith, le)) in
       let same : suc i - 1 ≡ i = omega arith in
-      let less : found.0.0 < key = over key found.0 (get_or es (suc i - 1) None) (ap (λ j. get_or es j None) same ∙ found.1) (at.before (omega arith) None) in
-      subst (λ j. KeysBelow key (take j (somes es))) (add-one i) (front_below key i found.0 es leaf found.1 less)
+      let less : get_or leaf.keys i 0 < key = subst (λ j. get_or leaf.keys j 0 < key) same (before (omega arith)) in
+      subst (λ j. KeysBelow key (take j (pairs_of leaf))) (add-one i) (front_below key i found.0 leaf h found.1 less)
 
-  cut_from : (key i : ℕ) (es : List (Option (ℕ × V))) → IsLeaf es → IsPlaced key i es → KeysFrom key (drop i (somes es))
-  cut_from key i es leaf at = elim (cases_lt i (length es)) [
-    | inl lt ↦ let found = packed_some (length es) i es leaf.packed lt in back_from key i found.0 es leaf found.1 (not_over key found.0 (get_or es i None) found.1 (at.here lt None))
-    | inr le ↦ subst (KeysFrom key) (sym (drop_all i (somes es) (omega (arith, packed_length (length es) es leaf.packed, le)))) tt
-  ]
+  -- in front of where a search stops are lesser keys alone
+  pub cut_below : (key i : ℕ) (leaf : Leaf V) → IsLeaf leaf → key ≤ no_key → IsStop key i leaf.keys → KeysBelow key (take i (pairs_of leaf))
+  cut_below key i leaf h small stop = cut_at key i leaf h (stop_fits key i leaf h small stop) stop.before
+
+  -- behind the last entry the key would stand at the end
+  pub free_last : (key i n : ℕ) (leaf : Leaf V) → IsLeaf leaf → key ≤ no_key → IsStop key i leaf.keys → n ≡ length leaf.values.items → n ≤ i → IsFree key n leaf
+  free_last key i n leaf h small stop e le =
+      let same : i ≡ n = omega (arith, e, le, stop_fits key i leaf h small stop) in
+      record {
+        within = omega (arith, e);
+        below = subst (λ j. KeysBelow key (take j (pairs_of leaf))) same (cut_below key i leaf h small stop);
+        above = subst (KeysFrom (key + 1)) (sym (drop_all n (pairs_of leaf) (omega (arith, e, leaf_length leaf h)))) tt;
+      }
+
+  -- at another key it would stand in front of it
+  pub free_here : (key i : ℕ) (leaf : Leaf V) → IsLeaf leaf → key ≤ no_key → IsStop key i leaf.keys → i < length leaf.values.items → i < length leaf.keys → get_or leaf.keys i 0 ≢ key → IsFree key i leaf
+  free_here key i leaf h small stop lt long other =
+      let some = leaf_some i leaf h lt in
+      record {
+        within = omega (arith, lt);
+        below = cut_below key i leaf h small stop;
+        above = back_from (key + 1) i some.0 leaf h some.1 (omega (arith, stop.here long, other));
+      }
 
   -- what holds of a key that stands at a place
-  pub record IsFound (key i : ℕ) (p : ℕ × V) (rows : List (ℕ × V)) : Type 0 where
-    pub row : row_at key_of_pair key rows ≡ Some p
-    pub written : (value : V) → with_row_at key_of_pair key (key, value) rows ≡ take i rows ++ ((key, value) ∷ drop (i + 1) rows)
-    pub removed : without_row key_of_pair key rows ≡ remove rows i
+  pub record IsFound (key i : ℕ) (value : V) (rows : List (ℕ × V)) : Type 0 where
+    pub row : row_at key_of_pair key rows ≡ Some (key, value)
+    pub written : (new : V) → with_row_at key_of_pair key (key, new) rows ≡ take i rows ++ ((key, new) ∷ drop (i + 1) rows)
+    pub removed : without_row key_of_pair key rows ≡ take i rows ++ drop (i + 1) rows
 
   -- what holds of a key that stands nowhere, and would at a place
   pub record IsMissing (key i : ℕ) (rows : List (ℕ × V)) : Type 0 where
     pub row : row_at key_of_pair key rows ≡ None
     pub written : (y : ℕ × V) → with_row_at key_of_pair key y rows ≡ rows
     pub removed : without_row key_of_pair key rows ≡ rows
-    pub inserted : (value : V) → with_row key_of_pair (key, value) rows ≡ insert rows i (key, value)
+    pub inserted : (value : V) → with_row key_of_pair (key, value) rows ≡ take i rows ++ ((key, value) ∷ drop i rows)
 
-  pub found_at : (key i : ℕ) (p : ℕ × V) (es : List (Option (ℕ × V))) → IsLeaf es → IsPlaced key i es → get_or es i None ≡ Some p → p.0 ≡ key → IsFound key i p (somes es)
-  found_at key i p es leaf at e same =
-      let rows = somes es in
-      let split = somes_split (length es) i p es leaf.packed e in
-      let below = cut_below key i es leaf at in
+  found : (key i : ℕ) (x : V) (rows : List (ℕ × V)) → IsOrderedBy key_of_pair rows → rows ≡ take i rows ++ ((key, x) ∷ drop (i + 1) rows) → IsFound key i x rows
+  found key i x rows o split =
+      let below = ordered_front key_of_pair (take i rows) (key, x) (drop (i + 1) rows) (subst (IsOrderedBy key_of_pair) split o) in
       record {
-        row = ap (row_at key_of_pair key) split ∙ row_at-here key_of_pair key (take i rows) p (drop (i + 1) rows) below same;
-        written = λ value. ap (with_row_at key_of_pair key (key, value)) split ∙ with_row_at-here key_of_pair key (key, value) (take i rows) p (drop (i + 1) rows) below same;
-        removed = ap (without_row key_of_pair key) split ∙ without_row-here key_of_pair key (take i rows) p (drop (i + 1) rows) below same ∙ ap (λ j. take i rows ++ drop j rows) (add-one i);
+        row = ap (row_at key_of_pair key) split ∙ row_at-here key_of_pair key (take i rows) (key, x) (drop (i + 1) rows) below refl;
+        written = λ new. ap (with_row_at key_of_pair key (key, new)) split ∙ with_row_at-here key_of_pair key (key, new) (take i rows) (key, x) (drop (i + 1) rows) below refl;
+        removed = ap (without_row key_of_pair key) split ∙ without_row-here key_of_pair key (take i rows) (key, x) (drop (i + 1) rows) below refl;
       }
+
+  found_at : (key i : ℕ) (x : V) (leaf : Leaf V) → IsLeaf leaf → IsThere key i leaf → get_or leaf.values.items i None ≡ Some x → IsFound key i x (pairs_of leaf)
+  found_at key i x leaf h there e =
+      let rows = pairs_of leaf in
+      found key i x rows h.ordered (subst (λ k. rows ≡ take i rows ++ ((k, x) ∷ drop (i + 1) rows)) there.same (leaf_split i x leaf h e))
 
   missing : (key i : ℕ) (rows : List (ℕ × V)) → KeysBelow key (take i rows) → KeysFrom (key + 1) (drop i rows) → IsMissing key i rows
   missing key i rows below above =
@@ -94,100 +131,114 @@ module _ {V : Type 0} where
         inserted = λ value. ap (with_row key_of_pair (key, value)) parts ∙ with_row-skip key_of_pair (key, value) (take i rows) (drop i rows) below ∙ ap (λ r. take i rows ++ r) (with_row-front key_of_pair (key, value) (drop i rows) above);
       }
 
-  above_here : (key i : ℕ) (es : List (Option (ℕ × V))) → IsLeaf es → IsPlaced key i es → has_key key (get_or es i None) ≡ false → (o : Option (ℕ × V)) → get_or es i None ≡ o → KeysFrom (key + 1) (drop i (somes es))
-  above_here key i es leaf at not (Some p) e =
-      let le = not_over key p (get_or es i None) e (at.here (packed_within (length es) i p es leaf.packed e) None) in
-      let other : eqb p.0 key ≡ false = subst (λ o. has_key key o ≡ false) e not in
-      back_from (key + 1) i p es leaf e (grind (arith, nat_tests))
-  above_here key i es leaf at not None e = elim (cases_lt i (length es)) [
-    | inl lt ↦ let some = packed_some (length es) i es leaf.packed lt in let wrong : ⊥ = cc (some.1, e) in absurd wrong
-    | inr le ↦ subst (KeysFrom (key + 1)) (sym (drop_all i (somes es) (omega (arith, packed_length (length es) es leaf.packed, le)))) tt
-  ]
+  pub missing_at : (key i : ℕ) (leaf : Leaf V) → IsFree key i leaf → IsMissing key i (pairs_of leaf)
+  missing_at key i leaf free = missing key i (pairs_of leaf) free.below free.above
 
-  pub missing_at : (key i : ℕ) (es : List (Option (ℕ × V))) → IsLeaf es → IsPlaced key i es → has_key key (get_or es i None) ≡ false → IsMissing key i (somes es)
-  missing_at key i es leaf at not = missing key i (somes es) (cut_below key i es leaf at) (above_here key i es leaf at not (get_or es i None) refl)
+  -- the value beside a key
+  pub found_value : (key i : ℕ) (leaf : Leaf V) → IsLeaf leaf → IsThere key i leaf → get_or leaf.values.items i None ≡ value_at key (pairs_of leaf)
+  found_value key i leaf h there =
+      let some = leaf_some i leaf h there.within in
+      some.1 ∙ sym (ap (option_map (λ p. p.1)) (found_at key i some.0 leaf h there some.1).row)
 
-  -- an entry that has the key
-  pub keyed : (key : ℕ) (o : Option (ℕ × V)) → has_key key o ≡ true → (p : ℕ × V) × (o ≡ Some p) × (p.0 ≡ key)
-  keyed key None h = let wrong : ⊥ = cc in absurd wrong
-  keyed key (Some p) h = (p, refl, eqb-true p.0 key h)
+  -- what was read at the place of a key
+  pub read_value : (key i : ℕ) (r : Option V) (leaf : Leaf V) → IsLeaf leaf → IsThere key i leaf → r ≡ get_or leaf.values.items i r → r ≡ value_at key (pairs_of leaf)
+  read_value key i r leaf h there e = e ∙ get_or_default leaf.values.items i r None there.within ∙ found_value key i leaf h there
 
-  leaf_of : (es : List (Option (ℕ × V))) (rows : List (ℕ × V)) → length es ≤ 32 → IsPacked (length es) es → somes es ≡ rows → IsOrderedBy key_of_pair rows → KeysBelow key_limit rows → IsLeaf es
-  leaf_of es rows fits packed e ordered keys = record { fits = fits; packed = packed; ordered = subst (IsOrderedBy key_of_pair) (sym e) ordered; keys = subst (KeysBelow key_limit) (sym e) keys }
+  pub missing_value : (key i : ℕ) (leaf : Leaf V) → IsFree key i leaf → value_at key (pairs_of leaf) ≡ None
+  missing_value key i leaf free = ap (option_map (λ p. p.1)) (missing_at key i leaf free).row
 
-  pub leaf_written : (key i : ℕ) (p : ℕ × V) (value : V) (es : List (Option (ℕ × V))) → IsLeaf es → IsPlaced key i es → get_or es i None ≡ Some p → p.0 ≡ key → (IsLeaf (set es i (Some (key, value)))) × (somes (set es i (Some (key, value))) ≡ with_row_at key_of_pair key (key, value) (somes es))
-  leaf_written key i p value es leaf at e same =
-      let within = packed_within (length es) i p es leaf.packed e in
-      let len = length-set es i (Some (key, value)) in
-      let rows : somes (set es i (Some (key, value))) ≡ with_row_at key_of_pair key (key, value) (somes es) = somes_written (length es) i (key, value) es leaf.packed within ∙ sym ((found_at key i p es leaf at e same).written value) in (
-        leaf_of _ _ (omega (arith, len, leaf.fits)) (subst (λ n. IsPacked n (set es i (Some (key, value)))) (sym len) (packed_set (length es) i (key, value) es leaf.packed within)) rows
-            (ordered-with_row_at key_of_pair key (key, value) (somes es) refl leaf.ordered) (every-with_row_at-same key_of_pair (λ n. n < key_limit) key (key, value) (somes es) refl leaf.keys),
-        rows,
-      )
+  found_some : (key i : ℕ) (leaf : Leaf V) → IsLeaf leaf → IsThere key i leaf → IsSome (row_at key_of_pair key (pairs_of leaf))
+  found_some key i leaf h there =
+      let some = leaf_some i leaf h there.within in
+      subst (λ o. IsSome o) (sym (found_at key i some.0 leaf h there some.1).row) refl
 
-  pub leaf_inserted : (key i : ℕ) (value : V) (es : List (Option (ℕ × V))) → IsLeaf es → IsMissing key i (somes es) → i ≤ length es → length es < 32 → key < key_limit → (IsLeaf (insert es i (Some (key, value)))) × (somes (insert es i (Some (key, value))) ≡ with_row key_of_pair (key, value) (somes es)) × (length (insert es i (Some (key, value))) ≡ length es + 1)
-  leaf_inserted key i value es leaf miss within room small =
-      let len : length (insert es i (Some (key, value))) ≡ length es + 1 = omega (arith, length-append (take i es) (Some (key, value) ∷ drop i es), length-take i es, length-drop i es) in
-      let rows : somes (insert es i (Some (key, value))) ≡ with_row key_of_pair (key, value) (somes es) = somes_insert (length es) i (key, value) es leaf.packed within ∙ sym (miss.inserted value) in (
-        leaf_of _ _ (omega (arith, len)) (subst (λ n. IsPacked n (insert es i (Some (key, value)))) (sym len) (packed_insert (length es) i (key, value) es leaf.packed within)) rows
-            (ordered-with_row key_of_pair (key, value) (somes es) miss.row leaf.ordered) (each-with_row key_of_pair (λ q. q.0 < key_limit) (key, value) (somes es) small leaf.keys),
+  -- a key of which there is no row stands nowhere
+  pub never_there : (key i : ℕ) (leaf : Leaf V) → IsLeaf leaf → IsThere key i leaf → row_at key_of_pair key (pairs_of leaf) ≡ None → ⊥
+  never_there key i leaf h there none =
+      let some = leaf_some i leaf h there.within in
+      let row = (found_at key i some.0 leaf h there some.1).row in
+      cc (row, none)
+
+  leaf_of : (n : ℕ) (leaf : Leaf V) (rows : List (ℕ × V)) → length leaf.values.items ≡ n → IsRun n leaf.keys leaf.values.items → pairs_of leaf ≡ rows → IsOrderedBy key_of_pair rows → KeysBelow key_limit rows → IsLeaf leaf
+  leaf_of n leaf rows len run e ordered keys = record {
+    run = subst (λ m. IsRun m leaf.keys leaf.values.items) (sym len) run;
+    ordered = subst (IsOrderedBy key_of_pair) (sym e) ordered;
+    keys = subst (KeysBelow key_limit) (sym e) keys;
+  }
+
+  -- a leaf after the value beside a key was written
+  pub leaf_written : (key i : ℕ) (value : V) (leaf new : Leaf V) → IsLeaf leaf → IsThere key i leaf → new.keys ≡ leaf.keys → new.values.items ≡ set leaf.values.items i (Some value)
+      → (IsLeaf new) × (pairs_of new ≡ with_row_at key_of_pair key (key, value) (pairs_of leaf)) × (length new.values.items ≡ length leaf.values.items)
+  leaf_written key i value leaf new h there ek ev =
+      let n = length leaf.values.items in
+      let all = pairs_of leaf in
+      let some = leaf_some i leaf h there.within in
+      let both = run_written n i value leaf.keys leaf.values.items h.run there.within in
+      let len : length new.values.items ≡ n = ap length ev ∙ length-set leaf.values.items i (Some value) in
+      let run : IsRun n new.keys new.values.items = rw (ek, ev) both.0 in
+      let rows : pairs_of new ≡ with_row_at key_of_pair key (key, value) all =
+      rw (ek, ev) both.1 ∙ ap (λ k. take i all ++ ((k, value) ∷ drop (i + 1) all)) there.same ∙ sym ((found_at key i some.0 leaf h there some.1).written value) in (
+        leaf_of n new _ len run rows (ordered-with_row_at key_of_pair key (key, value) all refl h.ordered) (every-with_row_at-same key_of_pair (λ m. m < key_limit) key (key, value) all refl h.keys),
         rows,
         len,
       )
 
-  pub leaf_removed : (key i : ℕ) (p : ℕ × V) (es : List (Option (ℕ × V))) → IsLeaf es → IsPlaced key i es → get_or es i None ≡ Some p → p.0 ≡ key → (IsLeaf (remove es i)) × (somes (remove es i) ≡ without_row key_of_pair key (somes es)) × (length (remove es i) + 1 ≡ length es)
-  leaf_removed key i p es leaf at e same =
-      let within = packed_within (length es) i p es leaf.packed e in
-      let len : length (remove es i) + 1 ≡ length es = omega (arith, length-append (take i es) (drop (suc i) es), length-take i es, length-drop (suc i) es) in
-      let rows : somes (remove es i) ≡ without_row key_of_pair key (somes es) = somes_remove (length es) i es leaf.packed within ∙ sym (found_at key i p es leaf at e same).removed in (
-        leaf_of _ _ (omega (arith, len, leaf.fits)) (subst (λ n. IsPacked n (remove es i)) (omega (arith, len)) (packed_remove (length es) i es leaf.packed within)) rows
-            (ordered-without_row key_of_pair key (somes es) leaf.ordered) (each-without_row key_of_pair (λ q. q.0 < key_limit) key (somes es) leaf.keys),
+  -- a leaf after an entry went in
+  leaf_inserted : (key i : ℕ) (value : V) (leaf new : Leaf V) → IsLeaf leaf → IsFree key i leaf → length leaf.keys ≡ 32 → length leaf.values.items < 32 → key < key_limit → new.keys ≡ insert (take 31 leaf.keys) i key → new.values.items ≡ insert leaf.values.items i (Some value)
+      → (IsLeaf new) × (IsGrown key value (seen_leaf leaf) (seen_leaf new))
+  leaf_inserted key i value leaf new h free long room small ek ev =
+      let n = length leaf.values.items in
+      let items = leaf.values.items in
+      let all = pairs_of leaf in
+      let miss = missing_at key i leaf free in
+      let both = run_inserted n i key value leaf.keys items (insert items i (Some value)) h.run long room free.within (packed_insert n i value items h.run.packed free.within) (somes_insert n i value items h.run.packed free.within) in
+      let len : length new.values.items ≡ n + 1 = omega (arith, ap length ev, length-append (take i items) (Some value ∷ drop i items), length-take i items, length-drop i items, free.within) in
+      let run : IsRun (n + 1) new.keys new.values.items = rw (ek, ev) both.0 in
+      let rows : pairs_of new ≡ with_row key_of_pair (key, value) all = rw (ek, ev) both.1 ∙ sym (miss.inserted value) in
+      let leaf_new = leaf_of (n + 1) new _ len run rows (ordered-with_row key_of_pair (key, value) all miss.row h.ordered) (each-with_row key_of_pair (λ q. q.0 < key_limit) (key, value) all small h.keys) in (
+        leaf_new,
+        record { rows = rows; level = refl; width = omega (arith, len); well = leaf_well new leaf_new },
+      )
+
+  -- a leaf after an entry was taken out
+  pub leaf_removed : (key i : ℕ) (leaf new : Leaf V) → IsLeaf leaf → IsThere key i leaf → new.keys ≡ remove leaf.keys i ++ (no_key ∷ []) → new.values.items ≡ remove leaf.values.items i
+      → (IsLeaf new) × (pairs_of new ≡ without_row key_of_pair key (pairs_of leaf)) × (length new.values.items + 1 ≡ length leaf.values.items)
+  leaf_removed key i leaf new h there ek ev =
+      let n = length leaf.values.items in
+      let items = leaf.values.items in
+      let all = pairs_of leaf in
+      let some = leaf_some i leaf h there.within in
+      let somes_left : somes (remove items i) ≡ take i (somes items) ++ drop (i + 1) (somes items) = somes_remove n i items h.run.packed there.within ∙ ap (λ j. take i (somes items) ++ drop j (somes items)) (sym (add-one i)) in
+      let both = run_removed n i leaf.keys items (remove items i) h.run there.within (packed_remove n i items h.run.packed there.within) somes_left in
+      let len : length new.values.items + 1 ≡ n = omega (arith, ap length ev, length-append (take i items) (drop (suc i) items), length-take i items, length-drop (suc i) items, there.within) in
+      let run : IsRun (n - 1) new.keys new.values.items = rw (ek, ev) both.0 in
+      let rows : pairs_of new ≡ without_row key_of_pair key all = rw (ek, ev) both.1 ∙ sym (found_at key i some.0 leaf h there some.1).removed in (
+        leaf_of (n - 1) new _ (omega (arith, len)) run rows (ordered-without_row key_of_pair key all h.ordered) (each-without_row key_of_pair (λ q. q.0 < key_limit) key all h.keys),
         rows,
         len,
       )
 
-  -- what was read at the place of a key that is there
-  pub read_keyed : (key i : ℕ) (r : Option (ℕ × V)) (es : List (Option (ℕ × V))) → IsLeaf es → has_key key (get_or es i None) ≡ true → r ≡ get_or es i r → r ≡ get_or es i None
-  read_keyed key i r es leaf h e =
-      let k = keyed key (get_or es i None) h in
-      let within = packed_within (length es) i k.0 es leaf.packed k.1 in
-      e ∙ get_or_default es i r None within
+  -- the same of a value in an Option
+  pub leaf_put : (key i : ℕ) (o : Option V) (leaf new : Leaf V) → IsLeaf leaf → IsFree key i leaf → length leaf.keys ≡ 32 → length leaf.values.items < 32 → key < key_limit → IsSome o → new.keys ≡ insert (take 31 leaf.keys) i key → new.values.items ≡ insert leaf.values.items i o
+      → (IsLeaf new) × (IfSome o (λ v. IsGrown key v (seen_leaf leaf) (seen_leaf new)))
+  leaf_put key i None leaf new h free long room small some ek ev = let wrong : ⊥ = cc in absurd wrong
+  leaf_put key i (Some value) leaf new h free long room small some ek ev = leaf_inserted key i value leaf new h free long room small ek ev
 
-  pub keyed_within : (key i : ℕ) (es : List (Option (ℕ × V))) → IsLeaf es → has_key key (get_or es i None) ≡ true → i < length es
-  keyed_within key i es leaf h = let k = keyed key (get_or es i None) h in packed_within (length es) i k.0 es leaf.packed k.1
+  -- what was read at the place of a key is a value
+  pub there_some : (key i : ℕ) (leaf : Leaf V) → IsLeaf leaf → IsThere key i leaf → IsSome (get_or leaf.values.items i None)
+  there_some key i leaf h there = let some = leaf_some i leaf h there.within in rw some.1 refl
 
-  pub found_value : (key i : ℕ) (es : List (Option (ℕ × V))) → IsLeaf es → IsPlaced key i es → has_key key (get_or es i None) ≡ true → option_map (λ p. p.1) (get_or es i None) ≡ value_at key (somes es)
-  found_value key i es leaf at h =
-      let k = keyed key (get_or es i None) h in
-      ap (option_map (λ p. p.1)) (k.1 ∙ sym (found_at key i k.0 es leaf at k.1 k.2).row)
+  -- what an insertion answers that finds the key
+  pub room_exists : (key i : ℕ) (o : Option V) (leaf : Leaf V) → IsLeaf leaf → IsThere key i leaf → IsSome o → IfSome o (λ v. IsRoomAnswer key v (seen_leaf leaf) (seen_leaf leaf) Exists)
+  room_exists key i None leaf h there some = let wrong : ⊥ = cc in absurd wrong
+  room_exists key i (Some v) leaf h there some = (found_some key i leaf h there, refl)
 
-  pub found_some : (key i : ℕ) (es : List (Option (ℕ × V))) → IsLeaf es → IsPlaced key i es → has_key key (get_or es i None) ≡ true → IsSome (row_at key_of_pair key (somes es))
-  found_some key i es leaf at h =
-      let k = keyed key (get_or es i None) h in
-      subst (λ o. IsSome o) (sym (found_at key i k.0 es leaf at k.1 k.2).row) refl
+  -- and one that finds no room
+  pub room_full : (key i : ℕ) (o : Option V) (leaf : Leaf V) → IsLeaf leaf → IsFree key i leaf → 32 ≤ length leaf.values.items → IsSome o → IfSome o (λ v. IsRoomAnswer key v (seen_leaf leaf) (seen_leaf leaf) Full)
+  room_full key i None leaf h free many some = let wrong : ⊥ = cc in absurd wrong
+  room_full key i (Some v) leaf h free many some = ((missing_at key i leaf free).row, refl, omega (arith, leaf_length leaf h, many))
 
-  pub replaced_keyed : (key : ℕ) (value : V) (o : Option (ℕ × V)) → has_key key o ≡ true → replaced key value o ≡ Some (key, value)
-  replaced_keyed key value None h = let wrong : ⊥ = cc in absurd wrong
-  replaced_keyed key value (Some p) h = ap (λ b. cond b (Some (key, value)) (Some p)) h
-
-  pub handed_keyed : (key : ℕ) (value : V) (o : Option (ℕ × V)) → has_key key o ≡ true → handed_back key value o ≡ ok_or (option_map (λ p. p.1) o) value
-  handed_keyed key value None h = let wrong : ⊥ = cc in absurd wrong
-  handed_keyed key value (Some p) h = ap (λ b. cond b (Ok p.1) (Err value)) h
-
-  pub leaf_replaced : (key i : ℕ) (value : V) (es : List (Option (ℕ × V))) → IsLeaf es → IsPlaced key i es → has_key key (get_or es i None) ≡ true → (IsLeaf (set es i (replaced key value (get_or es i None)))) × (somes (set es i (replaced key value (get_or es i None))) ≡ with_row_at key_of_pair key (key, value) (somes es))
-  leaf_replaced key i value es leaf at h =
-      let k = keyed key (get_or es i None) h in
-      subst (λ x. (IsLeaf (set es i x)) × (somes (set es i x) ≡ with_row_at key_of_pair key (key, value) (somes es))) (sym (replaced_keyed key value (get_or es i None) h)) (leaf_written key i k.0 value es leaf at k.1 k.2)
-
-  pub leaf_left : (key i : ℕ) (es : List (Option (ℕ × V))) → IsLeaf es → IsPlaced key i es → has_key key (get_or es i None) ≡ true → (IsLeaf (remove es i)) × (somes (remove es i) ≡ without_row key_of_pair key (somes es)) × (length (remove es i) + 1 ≡ length es)
-  leaf_left key i es leaf at h = let k = keyed key (get_or es i None) h in leaf_removed key i k.0 es leaf at k.1 k.2
-
-  no_row : (P : Type 0) (o : Option (ℕ × V)) → o ≡ None → IsSome o → P
-  no_row P o e h = let none : IsSome {T = ℕ × V} None = subst (λ x. IsSome x) e h in let wrong : ⊥ = cc in absurd wrong
-
-  -- a key of which there is no row
-  pub missing_absent : (key i : ℕ) (es : List (Option (ℕ × V))) → IsLeaf es → IsPlaced key i es → row_at key_of_pair key (somes es) ≡ None → IsMissing key i (somes es)
-  missing_absent key i es leaf at none = elim (cases_Bool (has_key key (get_or es i None))) [
-    | inl there ↦ no_row (IsMissing key i (somes es)) (row_at key_of_pair key (somes es)) none (found_some key i es leaf at there)
-    | inr missing ↦ missing_at key i es leaf at missing
-  ]
+  -- and one that puts the row in
+  pub room_done : (key i : ℕ) (o : Option V) (leaf new : Leaf V) → IsFree key i leaf → IfSome o (λ v. IsGrown key v (seen_leaf leaf) (seen_leaf new)) → IfSome o (λ v. IsRoomAnswer key v (seen_leaf leaf) (seen_leaf new) Done)
+  room_done key i None leaf new free grown = grown
+  room_done key i (Some v) leaf new free grown = ((missing_at key i leaf free).row, grown)

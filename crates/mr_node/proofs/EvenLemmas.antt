@@ -1,163 +1,229 @@
 -- Two neighbours that share their rows anew.
-use Rattle.std.proofs.Common.{◌≡◌, ℕ, ◌-◌, ◌<◌, ◌≤◌, List, [], ◌++◌, length, Option, None, refl, sym, ap, subst, ◌∙◌, arith, append-nil, Bool, true, false}
+use Rattle.std.proofs.Common.{◌≡◌, ℕ, ◌-◌, ◌<◌, List, [], ◌++◌, length, refl, sym, ap, subst, ◌∙◌, arith, append-nil, length-append, Bool, true, false}
 use Rattle.std.specs.List.{AllByRecursion}
 use Rattle.std.proofs.lemmas.List.{nil_from_length}
 use Rattle.tatp_rows.specs.Ordered.{IsOrderedBy}
 use Rattle.tatp_rows.proofs.AppendLemmas.{each-append, each-left, each-right, ordered-left, ordered-right}
-use Rattle.mr_node.specs.Rows.{Seen, key_of_pair, key_limit, somes, IsPacked}
-use Rattle.mr_node.specs.Levels.{NodeBranch, rows_of, IsLeaf, IsKid, IsBranch, seen_leaf, seen_branch}
-use Rattle.mr_node.specs.Pairs.{IsMoved, AreEvenWidths, IsKidNode, IsEvened, AreEvened, IsHalved}
-use Rattle.mr_node.proofs.PlaceLemmas.{somes_append, packed_left, packed_right, packed_join, packed_length}
+use Rattle.mr_node.specs.declared.body.Leaf.{Leaf}
+use Rattle.mr_node.specs.Rows.{Seen, key_of_pair, key_limit}
+use Rattle.mr_node.specs.declared.body.Body.TheVariants.{Inner as AsInner}
+use Rattle.mr_node.specs.Runs.{IsRun}
+use Rattle.mr_node.specs.Levels.{NodeBody, NodeBranch, IsNode, pairs_of, kids_of, rows_of, IsWell, IsLeaf, IsKid, IsBranch, seen_leaf, seen_branch}
+use Rattle.mr_node.specs.Pairs.{AreEvenWidths, IsKidNode, AreEvened, IsHalved}
+use Rattle.mr_node.proofs.RunLemmas.{run_length}
 use Rattle.mr_node.proofs.KidLemmas.{rows_of-append}
 use Rattle.mr_node.proofs.SizeLemmas.{leaf_well, branch_well}
 
-pub even_fits : (r : Bool) (c d : ℕ) → AreEvenWidths r c d → (c ≤ 32) × (d ≤ 32)
-even_fits true c d even = (even.1, omega (arith, even.2))
-even_fits false c d even = (even.1, even.3)
+-- the same of widths that are equal
+even_by : (r : Bool) (c d m n : ℕ) → c ≡ m → d ≡ n → AreEvenWidths r c d → AreEvenWidths r m n
+even_by r c d m n e f even = subst (AreEvenWidths r m) f (subst (λ k. AreEvenWidths r k d) e even)
+
+even_left : (r : Bool) (c d : ℕ) → AreEvenWidths r c d → 0 < c
+even_left true c d even = omega (arith, even.0)
+even_left false c d even = omega (arith, even.0)
+
+even_right : (r : Bool) (c d : ℕ) → AreEvenWidths r c d → r ≡ false → 0 < d
+even_right true c d even e = let wrong : ⊥ = cc in absurd wrong
+even_right false c d even e = omega (arith, even.2)
+
+module _ {X : Type 0} where
+  -- the other half
+  rest_length : (a b c d : List X) → c ++ d ≡ a ++ b → length a ≡ 32 → b ≡ [] → length c ≡ 16 → length d ≡ 16
+  rest_length a b c d e la nb lc = omega (arith, ap length e, length-append c d, length-append a b, la, ap length nb, lc)
+
+  no_more : (a b c d : List X) → c ++ d ≡ a ++ b → b ≡ [] → c ++ d ≡ a
+  no_more a b c d e nb = e ∙ ap (λ r. a ++ r) nb ∙ append-nil a
 
 module _ {V : Type 0} where
-  shared_entries : (a b c d : List (Option (ℕ × V))) → c ++ d ≡ a ++ b → somes c ++ somes d ≡ somes a ++ somes b
-  shared_entries a b c d e = sym (somes_append c d) ∙ ap somes e ∙ somes_append a b
+  abbrev pub blank : Seen V
+  blank = record { height = 0; width = 0; rows = [] }
 
-  pub left_leaf : (a b c d : List (Option (ℕ × V))) → IsLeaf a → IsLeaf b → c ++ d ≡ a ++ b → IsOrderedBy key_of_pair (somes a ++ somes b) → length c ≤ 32 → IsLeaf c
-  left_leaf a b c d la lb e o fits =
-      let same = sym (shared_entries a b c d e) in
-      record {
-        fits = fits;
-        packed = packed_left c d (subst (λ l. IsPacked (length l) l) (sym e) (packed_join a b la.packed lb.packed));
-        ordered = ordered-left key_of_pair (somes c) (somes d) (subst (IsOrderedBy key_of_pair) same o);
-        keys = each-left (λ p. p.0 < key_limit) (somes c) (somes d) (subst (AllByRecursion (λ p. p.0 < key_limit)) same (each-append (λ p. p.0 < key_limit) (somes a) (somes b) la.keys lb.keys));
-      }
+  abbrev seen_wide : List (ℕ × V) → ℕ → Seen V
+  seen_wide rows n = record { height = 0; width = n; rows = rows }
 
-  pub right_leaf : (a b c d : List (Option (ℕ × V))) → IsLeaf a → IsLeaf b → c ++ d ≡ a ++ b → IsOrderedBy key_of_pair (somes a ++ somes b) → length d ≤ 32 → IsLeaf d
-  right_leaf a b c d la lb e o fits =
-      let same = sym (shared_entries a b c d e) in
-      record {
-        fits = fits;
-        packed = packed_right c d (subst (λ l. IsPacked (length l) l) (sym e) (packed_join a b la.packed lb.packed));
-        ordered = ordered-right key_of_pair (somes c) (somes d) (subst (IsOrderedBy key_of_pair) same o);
-        keys = each-right (λ p. p.0 < key_limit) (somes c) (somes d) (subst (AllByRecursion (λ p. p.0 < key_limit)) same (each-append (λ p. p.0 < key_limit) (somes a) (somes b) la.keys lb.keys));
-      }
+  -- a leaf without entries
+  pub blank_leaf : (leaf : Leaf V) → IsLeaf leaf → leaf.values.items ≡ [] → seen_leaf leaf ≡ blank
+  blank_leaf leaf is none =
+      let long : length leaf.values.items ≡ 0 = ap length none in
+      let rows : pairs_of leaf ≡ [] = nil_from_length (pairs_of leaf) (run_length (length leaf.values.items) leaf.keys leaf.values.items is.run ∙ long) in
+      ap (seen_wide (pairs_of leaf)) long ∙ ap (λ r. seen_wide r 0) rows
 
-  pub one_leaf : (a b c d : List (Option (ℕ × V))) → IsLeaf a → IsLeaf b → c ++ d ≡ a ++ b → IsOrderedBy key_of_pair (somes a ++ somes b) → AreEvenWidths true (length c) (length d) → (s : Seen V) → s ≡ seen_leaf c → IsEvened (seen_leaf a) (seen_leaf b) s None
-  one_leaf a b c d la lb e o even s es =
-      let leaf = left_leaf a b c d la lb e o even.1 in
-      let none : somes d ≡ [] = ap somes (nil_from_length d even.2) in
-      subst (λ x. IsEvened (seen_leaf a) (seen_leaf b) x None) (sym es)
-      (record { level = refl; enough = even.0; well = leaf_well c leaf }, sym (append-nil (somes c)) ∙ ap (λ r. somes c ++ r) (sym none) ∙ shared_entries a b c d e)
+  -- one has all rows, or both are half full
+  evened : (r : Bool) (a b x y z : Seen V) → x.rows ++ y.rows ≡ a.rows ++ b.rows → x.height ≡ a.height → y.height ≡ a.height → IsWell x → (0 < y.width → IsWell y) → (y.width ≡ 0 → y.rows ≡ []) → AreEvenWidths r x.width y.width → (r ≡ false → z ≡ y) → AreEvened r a b x z
+  evened true a b x y z rows low high well more none even same =
+      (record { level = low; enough = even.0; well = well }, sym (append-nil x.rows) ∙ ap (λ r. x.rows ++ r) (sym (none even.2)) ∙ rows)
+  evened false a b x y z rows low high well more none even same = (
+    record { level = low; enough = even.0; well = well },
+    subst (IsKidNode a.height) (sym (same refl)) (record { level = high; enough = even.2; well = more (omega (arith, even.2)) }),
+    ap (λ s. x.rows ++ s.rows) (same refl) ∙ rows,
+  )
 
-  pub two_leaves : (a b c d : List (Option (ℕ × V))) → IsLeaf a → IsLeaf b → c ++ d ≡ a ++ b → IsOrderedBy key_of_pair (somes a ++ somes b) → AreEvenWidths false (length c) (length d) → (s t : Seen V) → s ≡ seen_leaf c → t ≡ seen_leaf d → (IsKidNode 0 s) × (IsKidNode 0 t) × (s.rows ++ t.rows ≡ somes a ++ somes b)
-  two_leaves a b c d la lb e o even s t es et =
-      let low = left_leaf a b c d la lb e o even.1 in
-      let high = right_leaf a b c d la lb e o even.3 in (
-        subst (IsKidNode 0) (sym es) (record { level = refl; enough = even.0; well = leaf_well c low }),
-        subst (IsKidNode 0) (sym et) (record { level = refl; enough = even.2; well = leaf_well d high }),
-        ap (λ x. x.rows ++ t.rows) es ∙ ap (λ x. somes c ++ x.rows) et ∙ shared_entries a b c d e,
-      )
-
-  pub evened_leaves : (r : Bool) (a b c d : List (Option (ℕ × V))) → IsLeaf a → IsLeaf b → c ++ d ≡ a ++ b → IsOrderedBy key_of_pair (somes a ++ somes b) → AreEvenWidths r (length c) (length d) → AreEvened r (seen_leaf a) (seen_leaf b) (seen_leaf c) (seen_leaf d)
-  evened_leaves true a b c d la lb e o even = one_leaf a b c d la lb e o even (seen_leaf c) refl
-  evened_leaves false a b c d la lb e o even = two_leaves a b c d la lb e o even (seen_leaf c) (seen_leaf d) refl refl
-
-  shared_kids : (a b c d : NodeBranch V) → IsMoved a b c d → rows_of (somes c.kids) ++ rows_of (somes d.kids) ≡ rows_of (somes a.kids) ++ rows_of (somes b.kids)
-  shared_kids a b c d m = sym (rows_of-append (somes c.kids) (somes d.kids)) ∙ ap rows_of m.kids ∙ rows_of-append (somes a.kids) (somes b.kids)
-
-  -- what is asked of two inner nodes that share their children: a second one may be empty
-  pub record IsShared (a b : NodeBranch V) : Type 0 where
-    pub inner : 0 < a.height
-    pub level : b.height ≡ a.height
-    pub kids : AllByRecursion (IsKid (a.height - 1)) (somes a.kids ++ somes b.kids)
-    pub ordered : IsOrderedBy key_of_pair (rows_of (somes a.kids) ++ rows_of (somes b.kids))
-    pub keys : AllByRecursion (λ p. p.0 < key_limit) (rows_of (somes a.kids) ++ rows_of (somes b.kids))
-
-  pub shared_of : (a b : NodeBranch V) → IsBranch a → IsBranch b → a.height ≡ b.height → IsOrderedBy key_of_pair (rows_of (somes a.kids) ++ rows_of (somes b.kids)) → IsShared a b
-  shared_of a b ba bb level o = record {
-    inner = ba.inner;
-    level = sym level;
-    kids = each-append (IsKid (a.height - 1)) (somes a.kids) (somes b.kids) ba.kids (subst (λ h. AllByRecursion (IsKid (h - 1)) (somes b.kids)) (sym level) bb.kids);
-    ordered = o;
-    keys = each-append (λ p. p.0 < key_limit) (rows_of (somes a.kids)) (rows_of (somes b.kids)) ba.keys bb.keys;
+  halved : (a x y : Seen V) → x.rows ++ y.rows ≡ a.rows → x.height ≡ a.height → y.height ≡ a.height → IsWell x → IsWell y → x.width ≡ 16 → y.width ≡ 16 → IsHalved a x y
+  halved a x y rows low high left right lx ly = record {
+    low = record { level = low; enough = omega (arith, lx); well = left };
+    high = record { level = high; enough = omega (arith, ly); well = right };
+    rows = rows;
+    low_width = lx;
+    high_width = ly;
   }
 
-  pub left_branch : (a b c d : NodeBranch V) → IsShared a b → IsMoved a b c d → 0 < c.len → c.len ≤ 32 → IsBranch c
-  left_branch a b c d s m some fits =
-      let same = sym (shared_kids a b c d m) in
-      record {
-        inner = omega (arith, m.left_height, s.inner);
-        some = some;
-        fits = fits;
-        packed = m.left;
-        kids = subst (λ h. AllByRecursion (IsKid (h - 1)) (somes c.kids)) (sym m.left_height) (each-left (IsKid (a.height - 1)) (somes c.kids) (somes d.kids) (subst (AllByRecursion (IsKid (a.height - 1))) (sym m.kids) s.kids));
-        ordered = ordered-left key_of_pair (rows_of (somes c.kids)) (rows_of (somes d.kids)) (subst (IsOrderedBy key_of_pair) same s.ordered);
-        keys = each-left (λ p. p.0 < key_limit) (rows_of (somes c.kids)) (rows_of (somes d.kids)) (subst (AllByRecursion (λ p. p.0 < key_limit)) same s.keys);
-      }
+  -- two leaves whose rows rise one after another
+  pub record AreLeaves (a b : Leaf V) : Type 0 where
+    pub left : IsLeaf a
+    pub right : IsLeaf b
+    pub ordered : IsOrderedBy key_of_pair (pairs_of a ++ pairs_of b)
 
-  pub right_branch : (a b c d : NodeBranch V) → IsShared a b → IsMoved a b c d → 0 < d.len → d.len ≤ 32 → IsBranch d
-  right_branch a b c d s m some fits =
-      let same = sym (shared_kids a b c d m) in
-      let height : d.height ≡ a.height = m.right_height ∙ s.level in
-      record {
-        inner = omega (arith, height, s.inner);
-        some = some;
-        fits = fits;
-        packed = m.right;
-        kids = subst (λ h. AllByRecursion (IsKid (h - 1)) (somes d.kids)) (sym height) (each-right (IsKid (a.height - 1)) (somes c.kids) (somes d.kids) (subst (AllByRecursion (IsKid (a.height - 1))) (sym m.kids) s.kids));
-        ordered = ordered-right key_of_pair (rows_of (somes c.kids)) (rows_of (somes d.kids)) (subst (IsOrderedBy key_of_pair) same s.ordered);
-        keys = each-right (λ p. p.0 < key_limit) (rows_of (somes c.kids)) (rows_of (somes d.kids)) (subst (AllByRecursion (λ p. p.0 < key_limit)) same s.keys);
-      }
+  -- their entries shared anew
+  pub record AreMovedLeaves (a b c d : Leaf V) : Type 0 where
+    pub left : IsRun (length c.values.items) c.keys c.values.items
+    pub right : IsRun (length d.values.items) d.keys d.values.items
+    pub list : pairs_of c ++ pairs_of d ≡ pairs_of a ++ pairs_of b
 
-  pub one_branch : (a b c d : NodeBranch V) → IsShared a b → IsMoved a b c d → AreEvenWidths true c.len d.len → (s : Seen V) → s ≡ seen_branch c → IsEvened (seen_branch a) (seen_branch b) s None
-  one_branch a b c d sh m even s es =
-      let whole = left_branch a b c d sh m (omega (arith, even.0)) even.1 in
-      let none : rows_of (somes d.kids) ≡ [] = ap rows_of (nil_from_length (somes d.kids) (packed_length d.len d.kids m.right ∙ even.2)) in
-      subst (λ x. IsEvened (seen_branch a) (seen_branch b) x None) (sym es)
-      (record { level = m.left_height; enough = even.0; well = branch_well c whole }, sym (append-nil (rows_of (somes c.kids))) ∙ ap (λ r. rows_of (somes c.kids) ++ r) (sym none) ∙ shared_kids a b c d m)
+  pub leaves_of : (a b : Leaf V) (m n : Seen V) → IsLeaf a → IsLeaf b → seen_leaf a ≡ m → seen_leaf b ≡ n → IsOrderedBy key_of_pair (m.rows ++ n.rows) → AreLeaves a b
+  leaves_of a b m n la lb em en o = record {
+    left = la;
+    right = lb;
+    ordered = subst (λ s. IsOrderedBy key_of_pair (pairs_of a ++ s.rows)) (sym en) (subst (λ s. IsOrderedBy key_of_pair (s.rows ++ n.rows)) (sym em) o);
+  }
 
-  pub two_branches : (a b c d : NodeBranch V) → IsShared a b → IsMoved a b c d → AreEvenWidths false c.len d.len → (s t : Seen V) → s ≡ seen_branch c → t ≡ seen_branch d → (IsKidNode a.height s) × (IsKidNode a.height t) × (s.rows ++ t.rows ≡ rows_of (somes a.kids) ++ rows_of (somes b.kids))
-  two_branches a b c d sh m even s t es et =
-      let low = left_branch a b c d sh m (omega (arith, even.0)) even.1 in
-      let high = right_branch a b c d sh m (omega (arith, even.2)) even.3 in (
-        subst (IsKidNode a.height) (sym es) (record { level = m.left_height; enough = even.0; well = branch_well c low }),
-        subst (IsKidNode a.height) (sym et) (record { level = m.right_height ∙ sh.level; enough = even.2; well = branch_well d high }),
-        ap (λ x. x.rows ++ t.rows) es ∙ ap (λ x. rows_of (somes c.kids) ++ x.rows) et ∙ shared_kids a b c d m,
-      )
+  shared_keys : (a b : Leaf V) → AreLeaves a b → AllByRecursion (λ p. p.0 < key_limit) (pairs_of a ++ pairs_of b)
+  shared_keys a b two = each-append (λ p. p.0 < key_limit) (pairs_of a) (pairs_of b) two.left.keys two.right.keys
 
-  empty_leaf : IsLeaf {V = V} []
-  empty_leaf = record { fits = omega arith; packed = refl; ordered = tt; keys = tt }
+  pub left_leaf : (a b c d : Leaf V) → AreLeaves a b → AreMovedLeaves a b c d → IsLeaf c
+  left_leaf a b c d two m = record {
+    run = m.left;
+    ordered = ordered-left key_of_pair (pairs_of c) (pairs_of d) (subst (IsOrderedBy key_of_pair) (sym m.list) two.ordered);
+    keys = each-left (λ p. p.0 < key_limit) (pairs_of c) (pairs_of d) (subst (AllByRecursion (λ p. p.0 < key_limit)) (sym m.list) (shared_keys a b two));
+  }
+
+  pub right_leaf : (a b c d : Leaf V) → AreLeaves a b → AreMovedLeaves a b c d → IsLeaf d
+  right_leaf a b c d two m = record {
+    run = m.right;
+    ordered = ordered-right key_of_pair (pairs_of c) (pairs_of d) (subst (IsOrderedBy key_of_pair) (sym m.list) two.ordered);
+    keys = each-right (λ p. p.0 < key_limit) (pairs_of c) (pairs_of d) (subst (AllByRecursion (λ p. p.0 < key_limit)) (sym m.list) (shared_keys a b two));
+  }
+
+  pub leaf_length : (leaf : Leaf V) → IsRun (length leaf.values.items) leaf.keys leaf.values.items → length (pairs_of leaf) ≡ length leaf.values.items
+  leaf_length leaf run = run_length (length leaf.values.items) leaf.keys leaf.values.items run
+
+  pub evened_leaves : (r : Bool) (a b c d : Leaf V) → AreLeaves a b → AreMovedLeaves a b c d → AreEvenWidths r (length (pairs_of c)) (length (pairs_of d)) → AreEvened r (seen_leaf a) (seen_leaf b) (seen_leaf c) (seen_leaf d)
+  evened_leaves r a b c d two m even =
+      let left = leaf_length c m.left in
+      let right = leaf_length d m.right in
+      evened r (seen_leaf a) (seen_leaf b) (seen_leaf c) (seen_leaf d) (seen_leaf d) m.list refl refl (leaf_well c (left_leaf a b c d two m)) (λ h. leaf_well d (right_leaf a b c d two m)) (λ h. nil_from_length (pairs_of d) (right ∙ h)) (even_by r _ _ _ _ left right even) (λ h. refl)
 
   alone : (rows : List (ℕ × V)) → IsOrderedBy key_of_pair rows → IsOrderedBy key_of_pair (rows ++ [])
   alone rows = subst (IsOrderedBy key_of_pair) (sym (append-nil rows))
 
-  pub halved_leaf : (a b c d : List (Option (ℕ × V))) → IsLeaf a → b ≡ [] → c ++ d ≡ a ++ b → length c ≡ 16 → length d ≡ 16 → (IsLeaf c) × (IsLeaf d)
-  halved_leaf a b c d leaf eb e lc ld =
-      let both : c ++ d ≡ a ++ [] = e ∙ ap (λ x. a ++ x) eb in
-      let o = alone (somes a) leaf.ordered in
-      (left_leaf a [] c d leaf empty_leaf both o (omega (arith, lc)), right_leaf a [] c d leaf empty_leaf both o (omega (arith, ld)))
+  pub halved_leaf : (a b c d : Leaf V) → IsLeaf a → IsLeaf b → pairs_of b ≡ [] → AreMovedLeaves a b c d → length a.values.items ≡ 32 → length (pairs_of c) ≡ 16 → (IsLeaf c) × (IsLeaf d) × IsHalved (seen_leaf a) (seen_leaf c) (seen_leaf d)
+  halved_leaf a b c d whole blank nb m la lc =
+      let two : AreLeaves a b = record { left = whole; right = blank; ordered = subst (λ r. IsOrderedBy key_of_pair (pairs_of a ++ r)) (sym nb) (alone (pairs_of a) whole.ordered) } in
+      let low = left_leaf a b c d two m in
+      let high = right_leaf a b c d two m in
+      let ld = rest_length (pairs_of a) (pairs_of b) (pairs_of c) (pairs_of d) m.list (leaf_length a whole.run ∙ la) nb lc in
+      (low, high, halved (seen_leaf a) (seen_leaf c) (seen_leaf d) (no_more (pairs_of a) (pairs_of b) (pairs_of c) (pairs_of d) m.list nb) refl refl (leaf_well c low) (leaf_well d high) (sym (leaf_length c m.left) ∙ lc) (sym (leaf_length d m.right) ∙ ld))
 
-  pub halves_of_leaf : (a b c d : List (Option (ℕ × V))) → IsLeaf a → b ≡ [] → c ++ d ≡ a ++ b → length c ≡ 16 → length d ≡ 16 → (n s t : Seen V) → seen_leaf a ≡ n → s ≡ seen_leaf c → t ≡ seen_leaf d → IsHalved n s t
-  halves_of_leaf a b c d leaf eb e lc ld n s t en es et =
-      let both : c ++ d ≡ a ++ [] = e ∙ ap (λ x. a ++ x) eb in
-      let all = two_leaves a [] c d leaf empty_leaf both (alone (somes a) leaf.ordered) (omega (arith, lc), omega (arith, lc), omega (arith, ld), omega (arith, ld)) s t es et in
-      subst (λ m. IsHalved m s t) en (record { low = all.0; high = all.1; rows = all.2 ∙ append-nil (somes a); low_width = ap (λ x. x.width) es ∙ lc; high_width = ap (λ x. x.width) et ∙ ld })
+  -- two inner nodes whose rows rise one after another: the second may be empty
+  pub record AreBranches (a b : NodeBranch V) : Type 0 where
+    pub inner : 0 < a.height
+    pub level : b.height ≡ a.height
+    pub kids : AllByRecursion (IsKid (a.height - 1)) (kids_of a ++ kids_of b)
+    pub ordered : IsOrderedBy key_of_pair (rows_of (kids_of a ++ kids_of b))
+    pub keys : AllByRecursion (λ p. p.0 < key_limit) (rows_of (kids_of a ++ kids_of b))
 
-  shared_alone : (a b : NodeBranch V) → IsBranch a → b.height ≡ a.height → IsPacked 0 b.kids → IsShared a b
-  shared_alone a b branch level packed =
-      let none : somes b.kids ≡ [] = nil_from_length (somes b.kids) (packed_length 0 b.kids packed) in
+  -- their children shared anew
+  pub record AreMovedKids (a b c d : NodeBranch V) : Type 0 where
+    pub left : IsRun c.len c.leasts c.kids
+    pub right : IsRun d.len d.leasts d.kids
+    pub list : kids_of c ++ kids_of d ≡ kids_of a ++ kids_of b
+    pub left_height : c.height ≡ a.height
+    pub right_height : d.height ≡ b.height
+
+  two_branches : (a b : NodeBranch V) → IsBranch a → IsBranch b → a.height ≡ b.height → IsOrderedBy key_of_pair (rows_of (kids_of a) ++ rows_of (kids_of b)) → AreBranches a b
+  two_branches a b ba bb level o =
+      let rows = sym (rows_of-append (kids_of a) (kids_of b)) in
       record {
-        inner = branch.inner;
-        level = level;
-        kids = subst (λ l. AllByRecursion (IsKid (a.height - 1)) (somes a.kids ++ l)) (sym none) (subst (AllByRecursion (IsKid (a.height - 1))) (sym (append-nil (somes a.kids))) branch.kids);
-        ordered = subst (λ l. IsOrderedBy key_of_pair (rows_of (somes a.kids) ++ rows_of l)) (sym none) (alone (rows_of (somes a.kids)) branch.ordered);
-        keys = subst (λ l. AllByRecursion (λ p. p.0 < key_limit) (rows_of (somes a.kids) ++ rows_of l)) (sym none) (subst (AllByRecursion (λ p. p.0 < key_limit)) (sym (append-nil (rows_of (somes a.kids)))) branch.keys);
+        inner = ba.inner;
+        level = sym level;
+        kids = each-append (IsKid (a.height - 1)) (kids_of a) (kids_of b) ba.kids (subst (λ h. AllByRecursion (IsKid (h - 1)) (kids_of b)) (sym level) bb.kids);
+        ordered = subst (IsOrderedBy key_of_pair) rows o;
+        keys = subst (AllByRecursion (λ p. p.0 < key_limit)) rows (each-append (λ p. p.0 < key_limit) (rows_of (kids_of a)) (rows_of (kids_of b)) ba.keys bb.keys);
       }
 
-  pub halved_branch : (a b c d : NodeBranch V) → IsBranch a → b.height ≡ a.height → IsPacked 0 b.kids → IsMoved a b c d → c.len ≡ 16 → d.len ≡ 16 → (IsBranch c) × (IsBranch d)
-  halved_branch a b c d branch level packed m lc ld =
-      let sh = shared_alone a b branch level packed in
-      (left_branch a b c d sh m (omega (arith, lc)) (omega (arith, lc)), right_branch a b c d sh m (omega (arith, ld)) (omega (arith, ld)))
+  pub branches_of : (a b : NodeBranch V) (m n : Seen V) → IsBranch a → IsBranch b → seen_branch a ≡ m → seen_branch b ≡ n → m.height ≡ n.height → IsOrderedBy key_of_pair (m.rows ++ n.rows) → AreBranches a b
+  branches_of a b m n ba bb em en level o =
+      two_branches a b ba bb (ap (λ s. s.height) em ∙ level ∙ sym (ap (λ s. s.height) en))
+      (subst (λ s. IsOrderedBy key_of_pair (rows_of (kids_of a) ++ s.rows)) (sym en) (subst (λ s. IsOrderedBy key_of_pair (s.rows ++ n.rows)) (sym em) o))
 
-  pub halves_of_branch : (a b c d : NodeBranch V) → IsBranch a → b.height ≡ a.height → IsPacked 0 b.kids → IsMoved a b c d → c.len ≡ 16 → d.len ≡ 16 → (n s t : Seen V) → seen_branch a ≡ n → s ≡ seen_branch c → t ≡ seen_branch d → IsHalved n s t
-  halves_of_branch a b c d branch level packed m lc ld n s t en es et =
-      let all = two_branches a b c d (shared_alone a b branch level packed) m (omega (arith, lc), omega (arith, lc), omega (arith, ld), omega (arith, ld)) s t es et in
-      let none : rows_of (somes b.kids) ≡ [] = ap rows_of (nil_from_length (somes b.kids) (packed_length 0 b.kids packed)) in
-      subst (λ x. IsHalved x s t) en (record { low = all.0; high = all.1; rows = all.2 ∙ ap (λ l. rows_of (somes a.kids) ++ l) none ∙ append-nil (rows_of (somes a.kids)); low_width = ap (λ x. x.width) es ∙ lc; high_width = ap (λ x. x.width) et ∙ ld })
+  shared_rows : (a b c d : NodeBranch V) → AreMovedKids a b c d → rows_of (kids_of a ++ kids_of b) ≡ rows_of (kids_of c) ++ rows_of (kids_of d)
+  shared_rows a b c d m = ap rows_of (sym m.list) ∙ rows_of-append (kids_of c) (kids_of d)
+
+  left_branch : (a b c d : NodeBranch V) → AreBranches a b → AreMovedKids a b c d → 0 < c.len → IsBranch c
+  left_branch a b c d two m some =
+      let rows = shared_rows a b c d m in
+      record {
+        inner = omega (arith, m.left_height, two.inner);
+        some = some;
+        run = m.left;
+        kids = subst (λ h. AllByRecursion (IsKid (h - 1)) (kids_of c)) (sym m.left_height) (each-left (IsKid (a.height - 1)) (kids_of c) (kids_of d) (subst (AllByRecursion (IsKid (a.height - 1))) (sym m.list) two.kids));
+        ordered = ordered-left key_of_pair (rows_of (kids_of c)) (rows_of (kids_of d)) (subst (IsOrderedBy key_of_pair) rows two.ordered);
+        keys = each-left (λ p. p.0 < key_limit) (rows_of (kids_of c)) (rows_of (kids_of d)) (subst (AllByRecursion (λ p. p.0 < key_limit)) rows two.keys);
+      }
+
+  right_branch : (a b c d : NodeBranch V) → AreBranches a b → AreMovedKids a b c d → 0 < d.len → IsBranch d
+  right_branch a b c d two m some =
+      let rows = shared_rows a b c d m in
+      let height : d.height ≡ a.height = m.right_height ∙ two.level in
+      record {
+        inner = omega (arith, height, two.inner);
+        some = some;
+        run = m.right;
+        kids = subst (λ h. AllByRecursion (IsKid (h - 1)) (kids_of d)) (sym height) (each-right (IsKid (a.height - 1)) (kids_of c) (kids_of d) (subst (AllByRecursion (IsKid (a.height - 1))) (sym m.list) two.kids));
+        ordered = ordered-right key_of_pair (rows_of (kids_of c)) (rows_of (kids_of d)) (subst (IsOrderedBy key_of_pair) rows two.ordered);
+        keys = each-right (λ p. p.0 < key_limit) (rows_of (kids_of c)) (rows_of (kids_of d)) (subst (AllByRecursion (λ p. p.0 < key_limit)) rows two.keys);
+      }
+
+  pub branch_length : (b : NodeBranch V) → IsRun b.len b.leasts b.kids → length (kids_of b) ≡ b.len
+  branch_length b run = run_length b.len b.leasts b.kids run
+
+  pub evened_branches : (r : Bool) (a b c d : NodeBranch V) (z : Seen V) → AreBranches a b → AreMovedKids a b c d → AreEvenWidths r (length (kids_of c)) (length (kids_of d)) → (r ≡ false → z ≡ seen_branch d) → (IsBranch c) × (r ≡ false → IsBranch d) × AreEvened r (seen_branch a) (seen_branch b) (seen_branch c) z
+  evened_branches r a b c d z two m even same =
+      let left = branch_length c m.left in
+      let right = branch_length d m.right in
+      let widths = even_by r _ _ _ _ left right even in
+      let low = left_branch a b c d two m (even_left r c.len d.len widths) in (
+        low,
+        λ e. right_branch a b c d two m (even_right r c.len d.len widths e),
+        evened r (seen_branch a) (seen_branch b) (seen_branch c) (seen_branch d) z (sym (shared_rows a b c d m) ∙ rows_of-append (kids_of a) (kids_of b)) m.left_height (m.right_height ∙ two.level) (branch_well c low) (λ some. branch_well d (right_branch a b c d two m some)) (λ none. ap rows_of (nil_from_length (kids_of d) (right ∙ none))) widths same,
+      )
+
+  pub halved_branch : (a b c d : NodeBranch V) → IsBranch a → IsRun 0 b.leasts b.kids → b.height ≡ a.height → AreMovedKids a b c d → a.len ≡ 32 → length (kids_of c) ≡ 16 → (IsBranch c) × (IsBranch d) × IsHalved (seen_branch a) (seen_branch c) (seen_branch d)
+  halved_branch a b c d whole run level m la lc =
+      let none : kids_of b ≡ [] = nil_from_length (kids_of b) (run_length 0 b.leasts b.kids run) in
+      let same : kids_of a ++ kids_of b ≡ kids_of a = ap (λ l. kids_of a ++ l) none ∙ append-nil (kids_of a) in
+      let two : AreBranches a b = record {
+        inner = whole.inner;
+        level = level;
+        kids = subst (AllByRecursion (IsKid (a.height - 1))) (sym same) whole.kids;
+        ordered = subst (λ l. IsOrderedBy key_of_pair (rows_of l)) (sym same) whole.ordered;
+        keys = subst (λ l. AllByRecursion (λ p. p.0 < key_limit) (rows_of l)) (sym same) whole.keys;
+      } in
+      let ld = rest_length (kids_of a) (kids_of b) (kids_of c) (kids_of d) m.list (branch_length a whole.run ∙ la) none lc in
+      let wc : c.len ≡ 16 = sym (branch_length c m.left) ∙ lc in
+      let wd : d.len ≡ 16 = sym (branch_length d m.right) ∙ ld in
+      let low = left_branch a b c d two m (omega (arith, wc)) in
+      let high = right_branch a b c d two m (omega (arith, wd)) in
+      (low, high, halved (seen_branch a) (seen_branch c) (seen_branch d) (sym (shared_rows a b c d m) ∙ ap rows_of same) m.left_height (m.right_height ∙ level) (branch_well c low) (branch_well d high) wc wd)
+
+  -- the same of the nodes themselves
+  pub halved_by : (a x y n s t : Seen V) → IsHalved a x y → a ≡ n → s ≡ x → t ≡ y → IsHalved n s t
+  halved_by a x y n s t half en es et = subst (λ m. IsHalved m s t) en (subst (λ m. IsHalved a m t) (sym es) (subst (IsHalved a x) (sym et) half))
+
+  pub evened_by : (r q : Bool) (a b x y m n s t : Seen V) → AreEvened r a b x y → q ≡ r → a ≡ m → b ≡ n → s ≡ x → t ≡ y → AreEvened q m n s t
+  evened_by r q a b x y m n s t even eq em en es et =
+      subst (λ z. AreEvened z m n s t) (sym eq) (subst (λ z. AreEvened r z n s t) em (subst (λ z. AreEvened r a z s t) en (subst (λ z. AreEvened r a b z t) (sym es) (subst (AreEvened r a b x) (sym et) even))))
+
+  -- a second node whose part was let go, where it had no child left
+  pub kept_node : (r : Bool) (body : NodeBody V) (d : NodeBranch V) → (r ≡ true → IsNode body) → (r ≡ false → body ≡ AsInner d) → (r ≡ false → IsBranch d) → IsNode body
+  kept_node true body d gone kept whole = gone refl
+  kept_node false body d gone kept whole = subst IsNode (sym (kept refl)) (whole refl)

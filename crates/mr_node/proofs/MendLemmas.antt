@@ -1,123 +1,176 @@
--- Inner nodes that lose or get a child.
-use Rattle.std.proofs.Common.{◌≡◌, ℕ, ◌+◌, ◌-◌, ◌<◌, ◌≤◌, List, [], ◌∷◌, ◌++◌, length, get_or, take, drop, Option, Some, None, IfSome, refl, sym, ap, subst, ◌∙◌, arith, take_at}
+-- Inner nodes two of whose children are evened out.
+use Rattle.std.proofs.Common.{◌≡◌, ℕ, ◌+◌, ◌-◌, ◌*◌, ◌^◌, ◌<◌, ◌≤◌, List, [], ◌∷◌, ◌++◌, length, get_or, set, take, drop, Option, Some, None, IfSome, Bool, true, false, refl, sym, ap, subst, ◌∙◌, arith, lit<, append-nil, take_at}
 use Rattle.std.specs.List.{AllByRecursion}
-use Rattle.std.proofs.lemmas.List.{append_assoc, append_cancel_left, drop-drop, drop_at, length-take-le, take-append-drop, take-take}
-use Rattle.std.specs.declared.boxed.Box.{Box}
-use Rattle.std.specs.declared.alloc.Global.{Global}
+use Rattle.std.proofs.Math.Nat.{mul-le-mul_right, pow-le-pow_right}
+use Rattle.std.proofs.lemmas.List.{append_assoc, drop-drop, drop_at, length-append, length-take-le, set-set, set_comm, take-append-drop, take-take}
 use Rattle.tatp_rows.specs.Ordered.{IsOrderedBy}
 use Rattle.tatp_rows.proofs.AppendLemmas.{each-append, each-left, each-right, ordered-left, ordered-right}
-use Rattle.mr_node.specs.Rows.{Seen, key_of_pair, key_limit, somes, IsPacked, KeysBelow, StartsWith}
-use Rattle.mr_node.specs.Levels.{NodeKid, NodeBranch, rows_of, IsKid}
-use Rattle.mr_node.specs.Pairs.{IsKidNode, IsEvened}
-use Rattle.mr_node.specs.Changes.{IsLoose, IsLooseBranch, AreKidsBeside, IsLooseAt, IsSplicedAt, IsMended}
-use Rattle.mr_node.proofs.PlaceLemmas.{packed_some, somes_split}
-use Rattle.mr_node.proofs.KidLemmas.{rows_of-append}
+use Rattle.tatp_rows.proofs.SpanLemmas.{starts_left}
+use Rattle.mr_node.specs.Rows.{Seen, key_of_pair, key_limit, KeysBelow, StartsWith}
+use Rattle.mr_node.specs.Runs.{entries, IsRun}
+use Rattle.mr_node.specs.Levels.{NodePart, NodeKid, NodeBranch, kids_of, rows_of, IsWell, IsKid, IsKidOf, IsBranchOf}
+use Rattle.mr_node.specs.Pairs.{IsKidNode, AreEvened}
+use Rattle.mr_node.specs.Changes.{AreKidsBeside, IsLooseAt, ArePairKids, IsPairAt, IsSplicedAt, IsMended}
+use Rattle.mr_node.proofs.PlaceLemmas.{packed_some}
+use Rattle.mr_node.proofs.RunLemmas.{run_length, run_split, run_rest, run_written, run_both}
+use Rattle.mr_node.proofs.KidLemmas.{rows_of-append, kid_at}
 
 module _ {X : Type 0} where
-  -- two elements taken out at one place
-  pub record IsPairTaken (l : ℕ) (low high : X) (s t : List X) : Type 0 where
-    pub len : length (take l s) ≡ l
-    pub whole : s ≡ take l s ++ (low ∷ (high ∷ drop (l + 2) s))
-    pub rest : t ≡ take l s ++ drop (l + 2) s
+  -- what is written last stays
+  over : (p : ℕ) (y a b : Option X) (ps : List (Option X)) → set (set ps p a) (p + 1) b ≡ set (set (set ps (p + 1) y) p a) (p + 1) b
+  over p y a b ps =
+      let apart : p ≡ p + 1 → ⊥ = λ e. omega (arith, e) in
+      set_comm ps p (p + 1) a b apart ∙ ap (λ l. set l p a) (sym (set-set ps (p + 1) y b)) ∙ sym (set_comm (set ps (p + 1) y) p (p + 1) a b apart)
 
-  pub pair_taken : (l : ℕ) (low high : X) (s t u : List X) → l + 1 < length s → s ≡ take l s ++ (low ∷ drop (l + 1) s) → t ≡ take l s ++ drop (l + 1) s → t ≡ take l t ++ (high ∷ drop (l + 1) t) → u ≡ take l t ++ drop (l + 1) t → IsPairTaken l low high s u
-  pair_taken l low high s t u lt es et eh eu =
-      let len = length-take-le l s (omega arith) in
-      let front : take l t ≡ take l s = ap (take l) et ∙ take_at (take l s) (drop (l + 1) s) l len in
-      let behind : drop l t ≡ drop (l + 1) s = ap (drop l) et ∙ drop_at (take l s) (drop (l + 1) s) l len in
-      let last : drop (l + 1) t ≡ drop (l + 2) s = sym (drop-drop 1 l t) ∙ ap (drop 1) behind ∙ drop-drop 1 (l + 1) s ∙ ap (λ j. drop j s) (omega arith) in
-      let second : drop (l + 1) s ≡ high ∷ drop (l + 2) s = append_cancel_left (take l s) (drop (l + 1) s) (high ∷ drop (l + 2) s) (sym et ∙ eh ∙ ap (λ a. a ++ (high ∷ drop (l + 1) t)) front ∙ ap (λ d. take l s ++ (high ∷ d)) last) in
-      record {
-        len = len;
-        whole = es ∙ ap (λ d. take l s ++ (low ∷ d)) second;
-        rest = eu ∙ ap (λ a. a ++ drop (l + 1) t) front ∙ ap (λ d. take l s ++ d) last;
-      }
+  -- two neighbours written, the second one with its key
+  pub pair_written : (n p l : ℕ) (y : Option X) (a b : X) (ks : List ℕ) (ps : List (Option X)) → IsRun n ks ps → p + 1 < n
+      → (IsRun n (set ks (p + 1) l) (set (set (set ps (p + 1) y) p (Some a)) (p + 1) (Some b))) × (entries (set ks (p + 1) l) (set (set (set ps (p + 1) y) p (Some a)) (p + 1) (Some b)) ≡ take p (entries ks ps) ++ ((get_or ks p 0, a) ∷ ((l, b) ∷ drop (p + 2) (entries ks ps))))
+  pair_written n p l y a b ks ps run lt =
+      let e = entries ks ps in
+      let first = run_written n p a ks ps run (omega (arith, lt)) in
+      let both = run_both n (p + 1) l b ks (set ps p (Some a)) first.0 lt in
+      let len = length-take-le p e (omega (arith, run_length n ks ps run, lt)) in
+      let mid = entries ks (set ps p (Some a)) in
+      let cut : mid ≡ (take p e ++ ((get_or ks p 0, a) ∷ [])) ++ drop (p + 1) e = first.1 ∙ sym (append_assoc (take p e) ((get_or ks p 0, a) ∷ []) (drop (p + 1) e)) in
+      let long : length (take p e ++ ((get_or ks p 0, a) ∷ [])) ≡ p + 1 = omega (arith, length-append (take p e) ((get_or ks p 0, a) ∷ []), len) in
+      let front : take (p + 1) mid ≡ take p e ++ ((get_or ks p 0, a) ∷ []) = ap (take (p + 1)) cut ∙ take_at (take p e ++ ((get_or ks p 0, a) ∷ [])) (drop (p + 1) e) (p + 1) long in
+      let back : drop (p + 1 + 1) mid ≡ drop (p + 2) e =
+      sym (drop-drop 1 (p + 1) mid) ∙ ap (drop 1) (ap (drop (p + 1)) cut ∙ drop_at (take p e ++ ((get_or ks p 0, a) ∷ [])) (drop (p + 1) e) (p + 1) long) ∙ drop-drop 1 (p + 1) e ∙ ap (λ j. drop j e) (omega arith) in
+      let list = both.1 ∙ ap (λ r. r ++ ((l, b) ∷ drop (p + 1 + 1) mid)) front ∙ ap (λ r. (take p e ++ ((get_or ks p 0, a) ∷ [])) ++ ((l, b) ∷ r)) back ∙ append_assoc (take p e) ((get_or ks p 0, a) ∷ []) ((l, b) ∷ drop (p + 2) e) in
+      subst (λ q. (IsRun n (set ks (p + 1) l) q) × (entries (set ks (p + 1) l) q ≡ take p e ++ ((get_or ks p 0, a) ∷ ((l, b) ∷ drop (p + 2) e)))) (over p y (Some a) (Some b) ps) (both.0, list)
 
-  pub put_at : (l : ℕ) (x : X) (a d t u : List X) → length a ≡ l → t ≡ a ++ d → u ≡ take l t ++ (x ∷ drop l t) → u ≡ a ++ (x ∷ d)
-  put_at l x a d t u len et eu =
-      eu ∙ ap (λ r. r ++ (x ∷ drop l t)) (ap (take l) et ∙ take_at a d l len) ∙ ap (λ r. a ++ (x ∷ r)) (ap (drop l) et ∙ drop_at a d l len)
+  -- a list cut round two neighbours
+  pub two_apart : (p : ℕ) (xs : List X) → xs ≡ take p xs ++ (take 2 (drop p xs) ++ drop (p + 2) xs)
+  two_apart p xs = sym (take-append-drop p xs) ∙ ap (λ r. take p xs ++ r) (sym (take-append-drop 2 (drop p xs)) ∙ ap (λ r. take 2 (drop p xs) ++ r) (drop-drop 2 p xs))
 
 module _ {V : Type 0} where
-  pub own_height : (h : ℕ) (s : Seen V) → IsKidNode h s → IsKidNode s.height s
-  own_height h s fit = record { level = refl; enough = fit.enough; well = fit.well }
+  -- the rows round two neighbours
+  rows_apart : (p : ℕ) (kids : List (NodeKid V)) → rows_of kids ≡ rows_of (take p kids) ++ (rows_of (take 2 (drop p kids)) ++ rows_of (drop (p + 2) kids))
+  rows_apart p kids = ap rows_of (two_apart p kids) ∙ rows_of-append (take p kids) (take 2 (drop p kids) ++ drop (p + 2) kids) ∙ ap (λ r. rows_of (take p kids) ++ r) (rows_of-append (take 2 (drop p kids)) (drop (p + 2) kids))
 
-  pub kid_at : (h j : ℕ) (k : NodeKid V) → j ≡ h → IsKid j k → IsKid h k
-  kid_at h j k e = subst (λ n. IsKid n k) e
-
-  -- what `even` asks of two loose neighbours
-  pub record IsLoosePair (h : ℕ) (low high : NodeKid V) : Type 0 where
-    pub first : IsLoose h low
-    pub second : IsLoose h high
+  -- two neighbours of an inner node
+  pub record ArePair (w p : ℕ) (b : NodeBranch V) (low high : NodePart V) : Type 0 where
+    pub list : take 2 (drop p (kids_of b)) ≡ kid_at b p low ∷ (kid_at b (p + 1) high ∷ [])
+    pub first : IsKidOf w (b.height - 1) (kid_at b p low)
+    pub second : IsKidOf w (b.height - 1) (kid_at b (p + 1) high)
     pub ordered : IsOrderedBy key_of_pair (low.node.value.rows ++ high.node.value.rows)
 
-  pub loose_pair : (l : ℕ) (b : NodeBranch V) (low high : NodeKid V) (t : List (NodeKid V)) → IsLooseBranch b → IsPairTaken l low high (somes b.kids) t → IsLoosePair (b.height - 1) low high
-  loose_pair l b low high t loose pair =
-      let a = take l (somes b.kids) in
-      let d = drop (l + 2) (somes b.kids) in
-      let all = each-right (IsLoose (b.height - 1)) a (low ∷ (high ∷ d)) (subst (AllByRecursion (IsLoose (b.height - 1))) pair.whole loose.kids) in
-      let rows = ap rows_of pair.whole ∙ rows_of-append a (low ∷ (high ∷ d)) in
-      let o = ordered-right key_of_pair (rows_of a) (low.node.value.rows ++ (high.node.value.rows ++ rows_of d)) (subst (IsOrderedBy key_of_pair) rows loose.ordered) in
+  pub pair_at : (w p : ℕ) (b : NodeBranch V) (low high : NodePart V) → IsBranchOf w b → get_or b.kids p None ≡ Some low → get_or b.kids (p + 1) None ≡ Some high → ArePair w p b low high
+  pair_at w p b low high branch got next =
+      let e = kids_of b in
+      let h = b.height - 1 in
+      let one = run_rest b.len p low b.leasts b.kids branch.run got in
+      let two = run_rest b.len (p + 1) high b.leasts b.kids branch.run next in
+      let list : take 2 (drop p e) ≡ kid_at b p low ∷ (kid_at b (p + 1) high ∷ []) = ap (take 2) (one ∙ ap (λ r. kid_at b p low ∷ r) two) in
+      let mid = each-left (IsKidOf w h) (take 2 (drop p e)) (drop (p + 2) e) (each-right (IsKidOf w h) (take p e) (take 2 (drop p e) ++ drop (p + 2) e) (subst (AllByRecursion (IsKidOf w h)) (two_apart p e) branch.kids)) in
+      let both = subst (AllByRecursion (IsKidOf w h)) list mid in
+      let o = ordered-left key_of_pair (rows_of (take 2 (drop p e))) (rows_of (drop (p + 2) e)) (ordered-right key_of_pair (rows_of (take p e)) (rows_of (take 2 (drop p e)) ++ rows_of (drop (p + 2) e)) (subst (IsOrderedBy key_of_pair) (rows_apart p e) branch.ordered)) in
       record {
-        first = all.0;
-        second = all.1.0;
-        ordered = ordered-left key_of_pair (low.node.value.rows ++ high.node.value.rows) (rows_of d) (subst (IsOrderedBy key_of_pair) (sym (append_assoc low.node.value.rows high.node.value.rows (rows_of d))) o);
+        list = list;
+        first = both.0;
+        second = both.1.0;
+        ordered = subst (IsOrderedBy key_of_pair) (ap rows_of list ∙ ap (λ r. low.node.value.rows ++ r) (append-nil high.node.value.rows)) o;
       }
 
-  beside_parts : (l : ℕ) (b : NodeBranch V) → AreKidsBeside l (l + 2) b → (m : List (NodeKid V)) → AllByRecursion (IsKid (b.height - 1)) m → AllByRecursion (IsKid (b.height - 1)) (take l (somes b.kids) ++ (m ++ drop (l + 2) (somes b.kids)))
-  beside_parts l b beside m h = each-append (IsKid (b.height - 1)) (take l (somes b.kids)) (m ++ drop (l + 2) (somes b.kids)) beside.before (each-append (IsKid (b.height - 1)) m (drop (l + 2) (somes b.kids)) h beside.after)
+  -- a node that is half full has rows
+  pub some_rows : (h : ℕ) (s : Seen V) → IsKidNode h s → 0 < length s.rows
+  some_rows h s node =
+      let low : 0 ≤ s.height = omega arith in
+      let power : 16 ^ 0 ≤ 16 ^ s.height = pow-le-pow_right (lit< tt) low in
+      let wide : 16 * 16 ^ s.height ≤ s.width * 16 ^ s.height = mul-le-mul_right (16 ^ s.height) node.enough in
+      omega (arith, power, wide, node.well.at_least)
 
-  pub spliced_one : (l : ℕ) (b new : NodeBranch V) (low high k : NodeKid V) (t : List (NodeKid V)) (x : Seen V) → IsLooseBranch b → l + 1 < b.len → IsPairTaken l low high (somes b.kids) t → new.height ≡ b.height → new.len + 1 ≡ b.len → IsPacked new.len new.kids → somes new.kids ≡ take l t ++ (k ∷ drop l t) → IsEvened low.node.value high.node.value x None → k.node.value ≡ x → IsKid x.height k → IsSplicedAt l b new
-  spliced_one l b new low high k t x loose lt pair height len packed kids evened ek kid =
-      let a = take l (somes b.kids) in
-      let d = drop (l + 2) (somes b.kids) in
-      let now : somes new.kids ≡ a ++ (k ∷ d) = put_at l k a d t (somes new.kids) pair.len pair.rest kids in
-      let good : IsKid (b.height - 1) k = kid_at (b.height - 1) x.height k (evened.0.level ∙ (loose_pair l b low high t loose pair).first.level) kid in
+  pub starts_front : (k : ℕ) (a b : List (ℕ × V)) → 0 < length a → StartsWith k (a ++ b) → StartsWith k a
+  starts_front k [] b some h = absurd (omega (arith, some))
+  starts_front k (p ∷ a) b some h = h
+
+  pub kid_of_node : (h least : ℕ) (k : NodePart V) (x : Seen V) → IsKidNode h x → k.node.value ≡ x → k.count ≡ length x.rows → StartsWith least x.rows → IsKid h (least, k)
+  kid_of_node h least k x node e count first = record {
+    level = ap (λ s. s.height) e ∙ node.level;
+    enough = omega (arith, ap (λ s. s.width) e, node.enough);
+    well = subst IsWell (sym e) node.well;
+    first = subst (λ s. StartsWith least s.rows) (sym e) first;
+    counted = count ∙ ap (λ s. length s.rows) (sym e);
+  }
+
+  pub node_at : (h j : ℕ) (s : Seen V) → j ≡ h → IsKidNode j s → IsKidNode h s
+  node_at h j s e = subst (λ n. IsKidNode n s) e
+
+  pair_kids : (h : ℕ) (joined : Bool) (first least : ℕ) (low high a b : NodePart V) (x z : Seen V) (rows : List (ℕ × V)) → IsKidOf 15 h (first, low) → AreEvened joined low.node.value high.node.value x z → low.node.value.rows ++ high.node.value.rows ≡ rows → a.node.value ≡ x → a.count ≡ length x.rows → b.node.value ≡ z → b.count ≡ length z.rows → (0 < z.width → StartsWith least z.rows) → ArePairKids h joined rows (first, a) (least, b)
+  pair_kids h true first least low high a b x z rows kid evened er ea ca eb cb starts = (
+    kid_of_node h first a x (node_at h low.node.value.height x kid.level evened.0) ea ca (subst (StartsWith first) (sym evened.1) (starts_left key_of_pair first low.node.value.rows high.node.value.rows kid.first)),
+    ap (λ s. s.rows) ea ∙ evened.1 ∙ er,
+  )
+  pair_kids h false first least low high a b x z rows kid evened er ea ca eb cb starts =
+      let one = node_at h low.node.value.height x kid.level evened.0 in
+      let two = node_at h low.node.value.height z kid.level evened.1 in (
+        kid_of_node h first a x one ea ca (starts_front first x.rows z.rows (some_rows h x one) (subst (StartsWith first) (sym evened.2) (starts_left key_of_pair first low.node.value.rows high.node.value.rows kid.first))),
+        kid_of_node h least b z two eb cb (starts (omega (arith, two.enough))),
+        ap (λ s. s.rows ++ b.node.value.rows) ea ∙ ap (λ s. x.rows ++ s.rows) eb ∙ evened.2 ∙ er,
+      )
+
+  pub pair_evened : (p : ℕ) (joined : Bool) (b : NodeBranch V) (y : Option (NodePart V)) (low high a c : NodePart V) (least : ℕ) (x z : Seen V) → IsBranchOf 15 b → p + 1 < b.len → ArePair 15 p b low high → AreEvened joined low.node.value high.node.value x z → a.node.value ≡ x → a.count ≡ length x.rows → c.node.value ≡ z → c.count ≡ length z.rows → (0 < z.width → StartsWith least z.rows)
+      → IsPairAt p joined b (record b { leasts = set b.leasts (p + 1) least; kids = set (set (set b.kids (p + 1) y) p (Some a)) (p + 1) (Some c) })
+  pair_evened p joined b y low high a c least x z branch lt pair evened ea ca ec cc starts =
+      let all = pair_written b.len p least y a c b.leasts b.kids branch.run lt in
+      let rows = sym (ap rows_of pair.list ∙ ap (λ r. low.node.value.rows ++ r) (append-nil high.node.value.rows)) in
+      record {
+        low = kid_at b p a;
+        high = (least, c);
+        list = all.1;
+        height = refl;
+        len = refl;
+        run = all.0;
+        kids = pair_kids (b.height - 1) joined (get_or b.leasts p 0) least low high a c x z (rows_of (take 2 (drop p (kids_of b)))) pair.first evened rows ea ca ec cc starts;
+      }
+
+  -- an inner node with other children in the place of two
+  spliced_of : (p : ℕ) (b new : NodeBranch V) (m : List (NodeKid V)) → 0 < new.len → b.len ≤ new.len + 1 → new.height ≡ b.height → IsRun new.len new.leasts new.kids → kids_of new ≡ take p (kids_of b) ++ (m ++ drop (p + 2) (kids_of b)) → rows_of m ≡ rows_of (take 2 (drop p (kids_of b))) → AllByRecursion (IsKid (b.height - 1)) m → IsSplicedAt p b new
+  spliced_of p b new m some len height run list rows whole =
+      let e = kids_of b in
       record {
         height = height;
-        len = omega (arith, len);
-        some = omega (arith, len, lt);
-        fits = omega (arith, len, loose.fits);
-        packed = packed;
-        rows = ap rows_of now ∙ rows_of-append a (k ∷ d) ∙ ap (λ r. rows_of a ++ (r ++ rows_of d)) (ap (λ s. s.rows) ek ∙ evened.1) ∙ ap (λ r. rows_of a ++ r) (append_assoc low.node.value.rows high.node.value.rows (rows_of d)) ∙ sym (ap rows_of pair.whole ∙ rows_of-append a (low ∷ (high ∷ d)));
-        kids = λ beside. subst (AllByRecursion (IsKid (b.height - 1))) (sym now) (beside_parts l b beside (k ∷ []) (good, tt));
+        len = len;
+        some = some;
+        run = run;
+        rows = ap rows_of list ∙ rows_of-append (take p e) (m ++ drop (p + 2) e) ∙ ap (λ r. rows_of (take p e) ++ r) (rows_of-append m (drop (p + 2) e) ∙ ap (λ r. r ++ rows_of (drop (p + 2) e)) rows) ∙ sym (rows_apart p e);
+        kids = λ beside. subst (AllByRecursion (IsKid (b.height - 1))) (sym list) (each-append (IsKid (b.height - 1)) (take p e) (m ++ drop (p + 2) e) beside.before (each-append (IsKid (b.height - 1)) m (drop (p + 2) e) whole beside.after));
       }
 
-  pub spliced_two : (l : ℕ) (b new : NodeBranch V) (low high k j : NodeKid V) (t u : List (NodeKid V)) (x : Seen V) (y : Box (Seen V) Global) → IsLooseBranch b → l + 1 < b.len → IsPairTaken l low high (somes b.kids) t → new.height ≡ b.height → new.len ≡ b.len → IsPacked new.len new.kids → u ≡ take l t ++ (j ∷ drop l t) → somes new.kids ≡ take l u ++ (k ∷ drop l u) → IsEvened low.node.value high.node.value x (Some y) → k.node.value ≡ x → j.node.value ≡ y.value → IsKid x.height k → IsKid y.value.height j → IsSplicedAt l b new
-  spliced_two l b new low high k j t u x y loose lt pair height len packed mid kids evened ek ej kid jid =
-      let a = take l (somes b.kids) in
-      let d = drop (l + 2) (somes b.kids) in
-      let half : u ≡ a ++ (j ∷ d) = put_at l j a d t u pair.len pair.rest mid in
-      let now : somes new.kids ≡ a ++ (k ∷ (j ∷ d)) = put_at l k a (j ∷ d) u (somes new.kids) pair.len half kids in
-      let level = (loose_pair l b low high t loose pair).first.level in
-      let good : IsKid (b.height - 1) k = kid_at (b.height - 1) x.height k (evened.0.level ∙ level) kid in
-      let fine : IsKid (b.height - 1) j = kid_at (b.height - 1) y.value.height j (evened.1.level ∙ level) jid in
-      let shared : k.node.value.rows ++ j.node.value.rows ≡ low.node.value.rows ++ high.node.value.rows = ap (λ s. s.rows ++ j.node.value.rows) ek ∙ ap (λ s. x.rows ++ s.rows) ej ∙ evened.2 in
-      record {
-        height = height;
-        len = omega (arith, len);
-        some = omega (arith, len, lt);
-        fits = omega (arith, len, loose.fits);
-        packed = packed;
-        rows = ap rows_of now ∙ rows_of-append a (k ∷ (j ∷ d)) ∙ ap (λ r. rows_of a ++ r) (sym (append_assoc k.node.value.rows j.node.value.rows (rows_of d)) ∙ ap (λ r. r ++ rows_of d) shared ∙ append_assoc low.node.value.rows high.node.value.rows (rows_of d)) ∙ sym (ap rows_of pair.whole ∙ rows_of-append a (low ∷ (high ∷ d)));
-        kids = λ beside. subst (AllByRecursion (IsKid (b.height - 1))) (sym now) (beside_parts l b beside (k ∷ (j ∷ [])) (good, (fine, tt)));
-      }
+  -- both stay
+  pub spliced_two : (p : ℕ) (b new : NodeBranch V) → IsBranchOf 15 b → IsPairAt p false b new → IsSplicedAt p b new
+  spliced_two p b new branch at =
+      spliced_of p b new (at.low ∷ (at.high ∷ [])) (omega (arith, at.len, branch.some)) (omega (arith, at.len)) at.height at.run at.list (ap (λ r. at.low.1.node.value.rows ++ r) (append-nil at.high.1.node.value.rows) ∙ at.kids.2) (at.kids.0, (at.kids.1, tt))
+
+  -- the second one went
+  pub spliced_one : (p : ℕ) (b mid new : NodeBranch V) → p + 1 < b.len → IsBranchOf 15 b → IsPairAt p true b mid → new.height ≡ mid.height → new.len + 1 ≡ mid.len → IsRun new.len new.leasts new.kids → kids_of new ≡ take (p + 1) (kids_of mid) ++ drop (p + 1 + 1) (kids_of mid) → IsSplicedAt p b new
+  spliced_one p b mid new lt branch at height len run rest =
+      let e = kids_of b in
+      let long = length-take-le p e (omega (arith, run_length b.len b.leasts b.kids branch.run, lt)) in
+      let front = take p e ++ (at.low ∷ []) in
+      let cut : kids_of mid ≡ front ++ (at.high ∷ drop (p + 2) e) = at.list ∙ sym (append_assoc (take p e) (at.low ∷ []) (at.high ∷ drop (p + 2) e)) in
+      let wide : length front ≡ p + 1 = omega (arith, length-append (take p e) (at.low ∷ []), long) in
+      let one : take (p + 1) (kids_of mid) ≡ front = ap (take (p + 1)) cut ∙ take_at front (at.high ∷ drop (p + 2) e) (p + 1) wide in
+      let two : drop (p + 1 + 1) (kids_of mid) ≡ drop (p + 2) e = sym (drop-drop 1 (p + 1) (kids_of mid)) ∙ ap (drop 1) (ap (drop (p + 1)) cut ∙ drop_at front (at.high ∷ drop (p + 2) e) (p + 1) wide) in
+      let list : kids_of new ≡ take p e ++ ((at.low ∷ []) ++ drop (p + 2) e) = rest ∙ ap (λ r. r ++ drop (p + 1 + 1) (kids_of mid)) one ∙ ap (λ r. front ++ r) two ∙ append_assoc (take p e) (at.low ∷ []) (drop (p + 2) e) in
+      spliced_of p b new (at.low ∷ []) (omega (arith, len, at.len, lt)) (omega (arith, len, at.len)) (height ∙ at.height) run list (append-nil at.low.1.node.value.rows ∙ at.kids.1) (at.kids.0, tt)
 
   -- from the children beside a loose one to those beside a pair that has it
   beside_next : (l : ℕ) (b : NodeBranch V) → AreKidsBeside l (l + 1) b → AreKidsBeside l (l + 2) b
   beside_next l b beside = record {
     before = beside.before;
-    after = subst (AllByRecursion (IsKid (b.height - 1))) (drop-drop 1 (l + 1) (somes b.kids) ∙ ap (λ j. drop j (somes b.kids)) (omega arith))
-        (each-right (IsKid (b.height - 1)) (take 1 (drop (l + 1) (somes b.kids))) (drop 1 (drop (l + 1) (somes b.kids))) (subst (AllByRecursion (IsKid (b.height - 1))) (sym (take-append-drop 1 (drop (l + 1) (somes b.kids)))) beside.after));
+    after = subst (AllByRecursion (IsKid (b.height - 1))) (drop-drop 1 (l + 1) (kids_of b) ∙ ap (λ j. drop j (kids_of b)) (omega arith))
+        (each-right (IsKid (b.height - 1)) (take 1 (drop (l + 1) (kids_of b))) (drop 1 (drop (l + 1) (kids_of b))) (subst (AllByRecursion (IsKid (b.height - 1))) (sym (take-append-drop 1 (drop (l + 1) (kids_of b)))) beside.after));
   }
 
   beside_last : (l m : ℕ) (b : NodeBranch V) → l ≡ m + 1 → AreKidsBeside l (l + 1) b → AreKidsBeside m (m + 2) b
   beside_last l m b e beside = record {
-    before = subst (AllByRecursion (IsKid (b.height - 1))) (take-take m l (somes b.kids) (omega (arith, e)))
-        (each-left (IsKid (b.height - 1)) (take m (take l (somes b.kids))) (drop m (take l (somes b.kids))) (subst (AllByRecursion (IsKid (b.height - 1))) (sym (take-append-drop m (take l (somes b.kids)))) beside.before));
-    after = subst (λ j. AllByRecursion (IsKid (b.height - 1)) (drop j (somes b.kids))) (omega (arith, e)) beside.after;
+    before = subst (AllByRecursion (IsKid (b.height - 1))) (take-take m l (kids_of b) (omega (arith, e)))
+        (each-left (IsKid (b.height - 1)) (take m (take l (kids_of b))) (drop m (take l (kids_of b))) (subst (AllByRecursion (IsKid (b.height - 1))) (sym (take-append-drop m (take l (kids_of b)))) beside.before));
+    after = subst (λ j. AllByRecursion (IsKid (b.height - 1)) (drop j (kids_of b))) (omega (arith, e)) beside.after;
   }
 
-  mended_of : (l : ℕ) (b new : NodeBranch V) → IsLooseBranch b → IsSplicedAt l b new → AreKidsBeside l (l + 2) b → IsMended b new
+  mended_of : (l : ℕ) (b new : NodeBranch V) → IsBranchOf 15 b → IsSplicedAt l b new → AreKidsBeside l (l + 2) b → IsMended b new
   mended_of l b new loose sp beside = record {
     height = sp.height;
     len = sp.len;
@@ -125,9 +178,8 @@ module _ {V : Type 0} where
     whole = record {
       inner = omega (arith, sp.height, loose.inner);
       some = sp.some;
-      fits = sp.fits;
-      packed = sp.packed;
-      kids = subst (λ h. AllByRecursion (IsKid (h - 1)) (somes new.kids)) (sym sp.height) (sp.kids beside);
+      run = sp.run;
+      kids = subst (λ h. AllByRecursion (IsKid (h - 1)) (kids_of new)) (sym sp.height) (sp.kids beside);
       ordered = subst (IsOrderedBy key_of_pair) (sym sp.rows) loose.ordered;
       keys = subst (KeysBelow key_limit) (sym sp.rows) loose.keys;
     };
@@ -142,36 +194,37 @@ module _ {V : Type 0} where
   -- a child that is half full after all
   pub mended_same : (l w : ℕ) (b : NodeBranch V) → IsLooseAt l b → l < b.len → IfSome (get_or b.kids l None) (λ k. w ≡ k.node.value.width) → 16 ≤ w → IsMended b b
   mended_same l w b loose lt width enough =
-      let kids = somes b.kids in
+      let kids = kids_of b in
       let branch = loose.branch in
-      let some = packed_some b.len l b.kids branch.packed lt in
-      let k = some.0 in
-      let split = somes_split b.len l k b.kids branch.packed some.1 in
-      let mid = (each-right (IsLoose (b.height - 1)) (take l kids) (k ∷ drop (l + 1) kids) (subst (AllByRecursion (IsLoose (b.height - 1))) split branch.kids)).0 in
-      let here = subst (λ o. IfSome o (λ j. (StartsWith j.least j.node.value.rows) × (j.count ≡ length j.node.value.rows))) some.1 loose.here in
-      let wide : w ≡ k.node.value.width = subst (λ o. IfSome o (λ j. w ≡ j.node.value.width)) some.1 width in
-      let good : IsKid (b.height - 1) k = record { level = mid.level; enough = omega (arith, wide); well = mid.well; first = here.0; counted = here.1 } in
+      let some = packed_some b.len l b.kids branch.run.packed lt in
+      let k = kid_at b l some.0 in
+      let split = run_split b.len l some.0 b.leasts b.kids branch.run some.1 in
+      let mid = (each-right (IsKidOf 15 (b.height - 1)) (take l kids) (k ∷ drop (l + 1) kids) (subst (AllByRecursion (IsKidOf 15 (b.height - 1))) split branch.kids)).0 in
+      let wide : w ≡ some.0.node.value.width = subst (λ o. IfSome o (λ j. w ≡ j.node.value.width)) some.1 width in
+      let good : IsKid (b.height - 1) k = record { level = mid.level; enough = omega (arith, wide, enough); well = mid.well; first = mid.first; counted = mid.counted } in
       record {
         height = refl;
         len = omega arith;
         rows = refl;
         whole = record {
           inner = branch.inner;
-          some = omega arith;
-          fits = branch.fits;
-          packed = branch.packed;
+          some = branch.some;
+          run = branch.run;
           kids = subst (AllByRecursion (IsKid (b.height - 1))) (sym split) (each-append (IsKid (b.height - 1)) (take l kids) (k ∷ drop (l + 1) kids) loose.beside.before (good, loose.beside.after));
           ordered = branch.ordered;
           keys = branch.keys;
         };
       }
 
-  -- a child that is half full isn't thin
-  pub never_thin : (w : ℕ) (o : Option (NodeKid V)) (P : Type 0) → IfSome o (λ k. w ≡ k.node.value.width) → 16 ≤ w → IfSome o (λ k. k.node.value.width < 16 → P)
-  never_thin w None P width enough = tt
-  never_thin w (Some k) P width enough = λ thin. absurd (omega (arith, width, enough, thin))
+  -- what holds of a child in any case, and of one whose width is known
+  pub if_thin : (o : Option (NodePart V)) (P : Type 0) → P → IfSome o (λ k. k.node.value.width < 16 → P)
+  if_thin None P p = tt
+  if_thin (Some k) P p = λ thin. p
 
-  -- what holds in any case
-  pub thin_or_not : (o : Option (NodeKid V)) (P : Type 0) → P → IfSome o (λ k. k.node.value.width < 16 → P)
-  thin_or_not None P p = tt
-  thin_or_not (Some k) P p = λ thin. p
+  pub if_enough : (o : Option (NodePart V)) (P : Type 0) → P → IfSome o (λ k. 16 ≤ k.node.value.width → P)
+  if_enough None P p = tt
+  if_enough (Some k) P p = λ enough. p
+
+  pub with_width : (o : Option (NodePart V)) (w : ℕ) (P : NodePart V → Type 0) → IfSome o (λ k. w ≡ k.node.value.width) → ((k : NodePart V) → w ≡ k.node.value.width → P k) → IfSome o P
+  with_width None w P width p = tt
+  with_width (Some k) w P width p = p k width

@@ -1,12 +1,26 @@
 -- Places of which the first ones are used: what they hold after a write, an insertion and a removal.
-use Rattle.std.proofs.Common.{◌≡◌, ℕ, ◌+◌, ◌-◌, ◌<◌, ◌≤◌, suc, zero, List, [], ◌∷◌, ◌++◌, length, get_or, set, take, drop, Option, Some, None, refl, sym, ap, subst, ◌∙◌, arith, append-nil, add-one, inl, inr}
-use Rattle.std.proofs.lemmas.List.{get_or_default, nil_from_length, set_split, set-get_or}
+use Rattle.std.proofs.Common.{◌≡◌, ℕ, ◌+◌, ◌-◌, ◌<◌, ◌≤◌, suc, zero, List, [], ◌∷◌, ◌++◌, length, get_or, set, take, drop, slice_range, Option, Some, None, refl, sym, ap, subst, ◌∙◌, arith, append-nil, add-one, inl, inr}
+use Rattle.std.proofs.lemmas.List.{get_or_default, nil_from_length, set_split, set-get_or, drop_all, take-set, drop-set, drop-set-lt}
 use Rattle.std.proofs.Math.Seq.{split_at}
 use Rattle.std.proofs.lemmas.Bool.{cases_lt}
-use Rattle.std.specs.List.{insert, remove}
-use Rattle.mr_node.specs.Rows.{somes, IsPacked}
+use Rattle.std.specs.List.{insert, remove, remove_range}
+use Rattle.mr_node.specs.Runs.{somes, IsPacked}
 
 module _ {X : Type 0} where
+  -- a write of the last of 32
+  pub last_set : (x : X) (xs : List X) → length xs ≡ 32 → set xs 31 x ≡ take 31 xs ++ (x ∷ [])
+  last_set x xs len = set_split xs 31 x (omega (arith, len)) ∙ ap (λ r. take 31 xs ++ (x ∷ r)) (drop_all 32 xs (omega (arith, len)))
+
+  -- an element written, and moved behind the others
+  pub moved_behind : (p : ℕ) (y : X) (xs : List X) → p < length xs → remove_range (set xs p y) p (p + 1) ++ slice_range (set xs p y) p (p + 1) ≡ remove xs p ++ (y ∷ [])
+  moved_behind p y xs lt =
+      let one : p + 1 - p ≡ 1 = omega arith in
+      let mid : slice_range (set xs p y) p (p + 1) ≡ y ∷ [] = ap (λ j. take j (drop p (set xs p y))) one ∙ ap (take 1) (drop-set xs p y lt) in
+      ap (λ a. (a ++ drop (p + 1) (set xs p y)) ++ slice_range (set xs p y) p (p + 1)) (take-set xs p y)
+      ∙ ap (λ b. (take p xs ++ b) ++ slice_range (set xs p y) p (p + 1)) (drop-set-lt (p + 1) xs p y (omega arith))
+      ∙ ap (λ m. (take p xs ++ drop (p + 1) xs) ++ m) mid
+      ∙ ap (λ j. (take p xs ++ drop j xs) ++ (y ∷ [])) (add-one p)
+
   pub somes_append : (a b : List (Option X)) → somes (a ++ b) ≡ somes a ++ somes b
   somes_append [] b = refl
   somes_append (None ∷ a) b = somes_append a b

@@ -1,29 +1,140 @@
--- Where a search stops among children.
-use Rattle.std.proofs.Common.{◌≡◌, ℕ, ◌+◌, ◌-◌, ◌<◌, ◌≤◌, List, length, get_or, drop, slice_range, Option, Some, None, IfSome, true, false, sym, ap, ◌∙◌, arith}
+-- Where a search among rising keys stops.
+use Rattle.std.proofs.Common.{◌≡◌, ℕ, ◌+◌, ◌-◌, ◌*◌, ◌<◌, ◌≤◌, suc, zero, List, length, get_or, min, cond, ltb, true, false, Option, sym, ap, subst, ◌∙◌, arith, inl, inr}
+use Rattle.std.proofs.lemmas.Bool.{cases_lt}
 use Rattle.std.proofs.lemmas.Bool.Decides.{nat_tests}
-use Rattle.std.proofs.lemmas.List.{get_or-take, get_or-drop, length-take-le, length-drop}
-use Rattle.mr_node.specs.declared.body.Kid.{Kid}
-use Rattle.mr_node.specs.Search.{IsStop}
-use Rattle.mr_node.specs.Kids.{kid_over, IsKidPlace}
+use Rattle.tatp_rows.specs.Ordered.{IsOrderedBy}
+use Rattle.mr_node.specs.Rows.{key_of_pair, key_limit, KeysBelow}
+use Rattle.mr_node.specs.Runs.{no_key, entries, IsRun}
+use Rattle.mr_node.specs.Search.{IsRising, IsStop, IsKidPlace}
+use Rattle.mr_node.proofs.RunLemmas.{run_behind, run_below, run_rises}
 
-module _ {B : Type 0} where
-  reached : (key : ℕ) (o : Option (Kid B)) → kid_over key o ≡ true → IfSome o (λ k. k.least ≤ key)
-  reached key None h = tt
-  reached key (Some k) h = grind (arith, nat_tests)
+-- the sum of the first n
+abbrev pub sum_to : (ℕ → ℕ) → ℕ → ℕ
+sum_to t zero = 0
+sum_to t (suc n) = sum_to t n + t n
 
-  not_reached : (key : ℕ) (o : Option (Kid B)) → kid_over key o ≡ false → IfSome o (λ k. key < k.least)
-  not_reached key None h = tt
-  not_reached key (Some k) h = grind (arith, nat_tests)
+-- m of the first n are 1, and they stand in front
+pub record AreOnes (t : ℕ → ℕ) (m n : ℕ) : Type 0 where
+  pub within : m ≤ n
+  pub ones : (i : ℕ) → i < m → t i ≡ 1
+  pub zeros : (i : ℕ) → m ≤ i → i < n → t i ≡ 0
 
-  -- the children but the first
-  shifted : (i j n : ℕ) (ks : List (Option (Kid B))) → j ≡ i + 1 → j < n → get_or ks j None ≡ get_or (slice_range ks 1 n) i None
-  shifted i j n ks e lt = ap (λ m. get_or ks m None) (omega (arith, e)) ∙ sym (get_or-drop 1 ks i None) ∙ sym (get_or-take (n - 1) (drop 1 ks) i None (omega (arith, e)))
-
-  pub kid_placed : (key i n : ℕ) (ks : List (Option (Kid B))) → 0 < n → n ≤ length ks → IsStop (kid_over key) i (slice_range ks 1 n) → IsKidPlace key i n ks
-  kid_placed key i n ks some fits stop =
-      let len : length (slice_range ks 1 n) ≡ n - 1 = length-take-le (n - 1) (drop 1 ks) (omega (arith, length-drop 1 ks)) in
+one_more : (t : ℕ → ℕ) (m n : ℕ) → t n ≤ 1 → ((i : ℕ) → i ≤ n → t n ≤ t i) → ((i : ℕ) → i ≤ n → t i ≤ 1) → AreOnes t m n → AreOnes t (m + t n) (suc n)
+one_more t m n small falls each h = elim (cases_lt (t n) 1) [
+  | inl none ↦ record {
+    within = omega (arith, none, h.within);
+    ones = λ i lt. h.ones i (omega (arith, none, lt));
+    zeros = λ i le lt. elim (cases_lt i n) [
+      | inl front ↦ h.zeros i (omega (arith, none, le)) front
+      | inr back ↦ let same : i ≡ n = omega (arith, back, lt) in ap t same ∙ omega (arith, none)
+    ];
+  }
+  | inr one ↦
+      let all : m ≡ n = elim (cases_lt m n) [
+        | inl front ↦ absurd (omega (arith, h.zeros m (omega arith) front, falls m (omega (arith, front)), one))
+        | inr back ↦ omega (arith, back, h.within)
+      ] in
       record {
-        within = omega (arith, stop.within, len);
-        here = λ lt. reached key (get_or ks i None) (ap (kid_over key) (shifted (i - 1) i n ks (omega arith) (omega (arith, stop.within, len))) ∙ stop.before lt None);
-        next = λ lt. not_reached key (get_or ks (i + 1) None) (ap (kid_over key) (shifted i (i + 1) n ks (omega arith) lt) ∙ stop.here (omega (arith, len)) None);
+        within = omega (arith, small, h.within);
+        ones = λ i lt. omega (arith, falls i (omega (arith, lt, all, small)), each i (omega (arith, lt, all, small)), one);
+        zeros = λ i le lt. absurd (omega (arith, le, lt, all, one));
       }
+]
+
+-- falling bits: their sum says where they fall
+pub ones_of : (t : ℕ → ℕ) (n : ℕ) → ((i j : ℕ) → i ≤ j → j < n → t j ≤ t i) → ((i : ℕ) → i < n → t i ≤ 1) → AreOnes t (sum_to t n) n
+ones_of t zero falls small = record { within = omega arith; ones = λ i lt. absurd (omega (arith, lt)); zeros = λ i le lt. absurd (omega (arith, lt)) }
+ones_of t (suc n) falls small =
+    one_more t (sum_to t n) n (small n (omega arith)) (λ i le. falls i n le (omega arith)) (λ i le. small i (omega (arith, le)))
+    (ones_of t n (λ i j le lt. falls i j le (omega (arith, lt))) (λ i lt. small i (omega (arith, lt))))
+
+-- 1 where a number is less than a key
+abbrev bit : ℕ → ℕ → ℕ
+bit n key = cond (ltb n key) 1 0
+
+-- 1 where the key at a place is less
+abbrev pub less_at : ℕ → List ℕ → ℕ → ℕ
+less_at key ks i = bit (get_or ks i 0) key
+
+less : (x y : ℕ) → x < y → ltb x y ≡ true
+less x y h = grind (arith, nat_tests)
+
+not_less : (x y : ℕ) → y ≤ x → ltb x y ≡ false
+not_less x y h = grind (arith, nat_tests)
+
+bit_small : (a key : ℕ) → bit a key ≤ 1
+bit_small a key = elim (cases_lt a key) [ inl lt ↦ rw (less a key lt) (omega arith) | inr ge ↦ rw (not_less a key ge) (omega arith) ]
+
+bit_falls : (a b key : ℕ) → a ≤ b → bit b key ≤ bit a key
+bit_falls a b key le = elim (cases_lt b key) [
+  | inl lt ↦ rw (less b key lt, less a key (omega (arith, le, lt))) (omega arith)
+  | inr ge ↦ rw (not_less b key ge) (omega arith)
+]
+
+bit_one : (a key : ℕ) → bit a key ≡ 1 → a < key
+bit_one a key h = elim (cases_lt a key) [ inl lt ↦ lt | inr ge ↦ absurd (omega (arith, h, ap {B = ℕ} (λ b. cond b 1 0) (not_less a key ge))) ]
+
+bit_none : (a key : ℕ) → bit a key ≡ 0 → key ≤ a
+bit_none a key h = elim (cases_lt a key) [ inl lt ↦ absurd (omega (arith, h, ap {B = ℕ} (λ b. cond b 1 0) (less a key lt))) | inr ge ↦ ge ]
+
+-- looks at places that rise
+abbrev pub looks : ℕ → List ℕ → (ℕ → ℕ) → ℕ → ℕ
+looks key ks place i = less_at key ks (place i)
+
+looked : (key : ℕ) (ks : List ℕ) (place : ℕ → ℕ) (n : ℕ) → IsRising ks → ((i j : ℕ) → i ≤ j → j < n → place i ≤ place j) → ((i : ℕ) → i < n → place i < length ks) → AreOnes (looks key ks place) (sum_to (looks key ks place) n) n
+looked key ks place n rising rises within =
+    ones_of (looks key ks place) n
+    (λ i j le lt. bit_falls (get_or ks (place i) 0) (get_or ks (place j) 0) key (rising (place i) (place j) (rises i j le lt) (within j lt)))
+    (λ i lt. bit_small (get_or ks (place i) 0) key)
+
+-- the seven looks that stand four places apart
+pub record IsFour (key m : ℕ) (ks : List ℕ) : Type 0 where
+  pub within : m < 8
+  pub before : 0 < m → get_or ks (4 * m - 1) 0 < key
+  pub next : m < 7 → key ≤ get_or ks (4 * m + 3) 0
+
+pub four_of : (key m : ℕ) (ks : List ℕ) → length ks ≡ 32 → IsRising ks → m ≡ sum_to (looks key ks (λ i. 4 * i + 3)) 7 → IsFour key m ks
+four_of key m ks long rising e =
+    let all = subst (λ j. AreOnes (looks key ks (λ i. 4 * i + 3)) j 7) (sym e) (looked key ks (λ i. 4 * i + 3) 7 rising (λ i j le lt. omega (arith, le)) (λ i lt. omega (arith, lt, long))) in
+    record {
+      within = omega (arith, all.within);
+      before = λ some. subst (λ j. get_or ks j 0 < key) (omega (arith, some)) (bit_one (get_or ks (4 * (m - 1) + 3) 0) key (all.ones (m - 1) (omega (arith, some))));
+      next = λ lt. bit_none (get_or ks (4 * m + 3) 0) key (all.zeros m (omega arith) lt);
+    }
+
+-- and the four places between
+pub stop_of : (key m r : ℕ) (ks : List ℕ) → length ks ≡ 32 → IsRising ks → IsFour key m ks → r ≡ 4 * m + sum_to (looks key ks (λ i. 4 * m + i)) 4 → IsStop key r ks
+stop_of key m r ks long rising four e =
+    let s = sum_to (looks key ks (λ i. 4 * m + i)) 4 in
+    let all = looked key ks (λ i. 4 * m + i) 4 rising (λ i j le lt. omega (arith, le)) (λ i lt. omega (arith, lt, long, four.within)) in
+    record {
+      within = omega (arith, e, all.within, four.within, long);
+      before = λ some. elim (cases_lt 0 s) [
+        | inl lt ↦ subst (λ j. get_or ks j 0 < key) (omega (arith, lt, e)) (bit_one (get_or ks (4 * m + (s - 1)) 0) key (all.ones (s - 1) (omega (arith, lt))))
+        | inr none ↦ subst (λ j. get_or ks j 0 < key) (omega (arith, none, e)) (four.before (omega (arith, none, e, some)))
+      ];
+      here = λ lt. elim (cases_lt s 4) [
+        | inl less ↦ subst (λ j. key ≤ get_or ks j 0) (sym e) (bit_none (get_or ks (4 * m + s) 0) key (all.zeros s (omega arith) less))
+        | inr full ↦ absurd (omega (arith, four.next (omega (arith, full, all.within, e, lt, long)), bit_one (get_or ks (4 * m + 3) 0) key (all.ones 3 (omega (arith, full)))))
+      ];
+    }
+
+-- the place of a child, from the number of least keys that are not above the key
+pub kid_placed : {X : Type 0} (key least n r : ℕ) (ks : List ℕ) (ps : List (Option X)) → length ks ≡ 32 → 0 < n → IsRun n ks ps → IsOrderedBy key_of_pair (entries ks ps) → KeysBelow key_limit (entries ks ps) → least ≡ min (key + 1) no_key → IsStop least r ks → IsKidPlace key (r - 1) n ks
+kid_placed key least n r ks ps long some run ordered below e stop =
+    let few : r ≤ n = elim (cases_lt n r) [
+      | inl more ↦ absurd (omega (arith, stop.before (omega (arith, more)), run_behind n (r - 1) ks ps run (omega (arith, more)) (omega (arith, more, stop.within)), e))
+      | inr le ↦ le
+    ] in
+    record {
+      within = omega (arith, few, some);
+      here = λ front. omega (arith, stop.before (omega (arith, front)), e);
+      next = λ more. elim (cases_lt 0 r) [
+        | inl lt ↦
+            let same : r - 1 + 1 ≡ r = omega (arith, lt) in
+            subst (λ j. key < get_or ks j 0) (sym same) (omega (arith, stop.here (omega (arith, same, more, run.fits, long)), e, run_below n r ks ps run below (omega (arith, same, more))))
+        | inr none ↦
+            let front : get_or ks r 0 ≡ get_or ks 0 0 = ap (λ j. get_or ks j 0) (omega (arith, none)) in
+            omega (arith, stop.here (omega (arith, none, long)), front, e, run_below n 0 ks ps run below some, run_rises n ks ps run ordered below 0 (r - 1 + 1) (omega arith) (omega (arith, more, run.fits, long)))
+      ];
+    }

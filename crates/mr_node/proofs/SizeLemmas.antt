@@ -1,47 +1,67 @@
 -- How many rows a node of a height has.
-use Rattle.std.proofs.Common.{◌≡◌, ℕ, ◌-◌, ◌*◌, ◌^◌, ◌<◌, ◌≤◌, suc, List, [], ◌∷◌, length, Option, subst, arith, lit<, inl, inr, length-append}
+use Rattle.std.proofs.Common.{◌≡◌, ℕ, ◌-◌, ◌*◌, ◌^◌, ◌<◌, ◌≤◌, suc, List, [], ◌∷◌, length, get_or, refl, sym, ap, subst, ◌∙◌, arith, lit<, inl, inr, length-append}
 use Rattle.std.proofs.lemmas.Bool.{cases_lt}
 use Rattle.std.specs.List.{AllByRecursion}
 use Rattle.std.proofs.Math.Nat.{mul-le-mul_right, pow-suc, pow-le-pow_right}
 use Rattle.tatp_rows.proofs.OrderedLemmas.{each-weaker}
 use Rattle.tatp_rows.proofs.SpanLemmas.{few_between}
-use Rattle.mr_node.specs.Rows.{Seen, key_of_pair, key_limit, somes}
-use Rattle.mr_node.specs.Levels.{NodeKid, NodeBranch, NodeBody, seen, IsNode, rows_of, IsWell, IsKid, IsLeaf, IsBranch, seen_leaf, seen_branch}
-use Rattle.mr_node.specs.declared.body.Body.TheVariants.{Leaf, Inner}
-use Rattle.mr_node.proofs.PlaceLemmas.{packed_length}
+use Rattle.mr_node.specs.Rows.{Seen, key_of_pair, key_limit, StartsWith}
+use Rattle.mr_node.specs.Levels.{NodeKid, NodeBranch, NodeBody, pairs_of, kids_of, seen, IsNode, rows_of, IsWell, IsKid, IsLeaf, IsBranch, seen_leaf, seen_branch}
+use Rattle.mr_node.specs.declared.body.Leaf.{Leaf}
+use Rattle.mr_node.specs.declared.body.Body.TheVariants.{Leaf as AsLeaf, Inner as AsInner}
+use Rattle.mr_node.proofs.PlaceLemmas.{packed_some}
+use Rattle.mr_node.proofs.RunLemmas.{run_length, run_split}
 
 module _ {V : Type 0} where
-  pub leaf_well : (es : List (Option (ℕ × V))) → IsLeaf es → IsWell (seen_leaf es)
-  leaf_well es leaf =
-      let len = packed_length (length es) es leaf.packed in
-      record { fits = leaf.fits; ordered = leaf.ordered; keys = leaf.keys; at_least = omega (arith, len); at_most = omega (arith, len) }
+  pub leaf_well : (leaf : Leaf V) → IsLeaf leaf → IsWell (seen_leaf leaf)
+  leaf_well leaf is =
+      let len = run_length (length leaf.values.items) leaf.keys leaf.values.items is.run in
+      record { fits = is.run.fits; ordered = is.ordered; keys = is.keys; at_least = omega (arith, len); at_most = omega (arith, len) }
 
-  each_least : (m : ℕ) (kids : List (NodeKid V)) → AllByRecursion (λ k. m ≤ length k.node.value.rows) kids → length kids * m ≤ length (rows_of kids)
+  -- the first key of a leaf
+  pub least_leaf : (leaf : Leaf V) → IsLeaf leaf → 0 < length leaf.values.items → StartsWith (get_or leaf.keys 0 0) (pairs_of leaf)
+  least_leaf leaf is lt =
+      let some = packed_some (length leaf.values.items) 0 leaf.values.items is.run.packed lt in
+      subst (StartsWith (get_or leaf.keys 0 0)) (sym (run_split (length leaf.values.items) 0 some.0 leaf.keys leaf.values.items is.run some.1)) refl
+
+  -- what is seen of a leaf by its parts, and with other rows
+  abbrev seen_of : ℕ → List (ℕ × V) → Seen V
+  seen_of width l = record { height = 0; width = width; rows = l }
+
+  abbrev with_rows : (List (ℕ × V) → List (ℕ × V)) → Seen V → Seen V
+  with_rows rows s = record s { rows = rows s.rows }
+
+  -- a leaf with other rows
+  pub leaf_with : (now : Seen V) (leaf new : Leaf V) (rows : List (ℕ × V) → List (ℕ × V)) → now ≡ seen_leaf leaf → length new.values.items ≡ length leaf.values.items → pairs_of new ≡ rows (pairs_of leaf) → seen_leaf new ≡ record now { rows = rows now.rows }
+  leaf_with now leaf new rows e len list =
+      ap (λ w. seen_of w (pairs_of new)) len ∙ ap (seen_of (length leaf.values.items)) list ∙ sym (ap (with_rows rows) e)
+
+  each_least : (m : ℕ) (kids : List (NodeKid V)) → AllByRecursion (λ k. m ≤ length k.1.node.value.rows) kids → length kids * m ≤ length (rows_of kids)
   each_least m [] h = omega arith
-  each_least m (k ∷ kids) h = omega (arith, each_least m kids h.1, h.0, length-append k.node.value.rows (rows_of kids))
+  each_least m (k ∷ kids) h = omega (arith, each_least m kids h.1, h.0, length-append k.1.node.value.rows (rows_of kids))
 
-  each_most : (m : ℕ) (kids : List (NodeKid V)) → AllByRecursion (λ k. length k.node.value.rows ≤ m) kids → length (rows_of kids) ≤ length kids * m
+  each_most : (m : ℕ) (kids : List (NodeKid V)) → AllByRecursion (λ k. length k.1.node.value.rows ≤ m) kids → length (rows_of kids) ≤ length kids * m
   each_most m [] h = omega arith
-  each_most m (k ∷ kids) h = omega (arith, each_most m kids h.1, h.0, length-append k.node.value.rows (rows_of kids))
+  each_most m (k ∷ kids) h = omega (arith, each_most m kids h.1, h.0, length-append k.1.node.value.rows (rows_of kids))
 
-  kid_least : (h : ℕ) (k : NodeKid V) → IsKid h k → 16 ^ suc h ≤ length k.node.value.rows
+  kid_least : (h : ℕ) (k : NodeKid V) → IsKid h k → 16 ^ suc h ≤ length k.1.node.value.rows
   kid_least h k i =
-      let level = subst (λ n. k.node.value.width * 16 ^ n ≤ length k.node.value.rows) i.level i.well.at_least in
+      let level = subst (λ n. k.1.node.value.width * 16 ^ n ≤ length k.1.node.value.rows) i.level i.well.at_least in
       omega (arith, level, pow-suc 16 h, mul-le-mul_right (16 ^ h) i.enough)
 
-  kid_most : (h : ℕ) (k : NodeKid V) → IsKid h k → length k.node.value.rows ≤ 32 ^ suc h
+  kid_most : (h : ℕ) (k : NodeKid V) → IsKid h k → length k.1.node.value.rows ≤ 32 ^ suc h
   kid_most h k i =
-      let level = subst (λ n. length k.node.value.rows ≤ k.node.value.width * 32 ^ n) i.level i.well.at_most in
+      let level = subst (λ n. length k.1.node.value.rows ≤ k.1.node.value.width * 32 ^ n) i.level i.well.at_most in
       omega (arith, level, pow-suc 32 h, mul-le-mul_right (32 ^ h) i.well.fits)
 
   pub branch_well : (b : NodeBranch V) → IsBranch b → IsWell (seen_branch b)
   branch_well b branch =
-      let kids = somes b.kids in
-      let len = packed_length b.len b.kids branch.packed in
+      let kids = kids_of b in
+      let len = run_length b.len b.leasts b.kids branch.run in
       let height : suc (b.height - 1) ≡ b.height = omega (arith, branch.inner) in
-      let least = subst (λ n. length kids * 16 ^ n ≤ length (rows_of kids)) height (each_least (16 ^ suc (b.height - 1)) kids (each-weaker {P = IsKid (b.height - 1)} {Q = λ k. 16 ^ suc (b.height - 1) ≤ length k.node.value.rows} (kid_least (b.height - 1)) kids branch.kids)) in
-      let most = subst (λ n. length (rows_of kids) ≤ length kids * 32 ^ n) height (each_most (32 ^ suc (b.height - 1)) kids (each-weaker {P = IsKid (b.height - 1)} {Q = λ k. length k.node.value.rows ≤ 32 ^ suc (b.height - 1)} (kid_most (b.height - 1)) kids branch.kids)) in
-      record { fits = branch.fits; ordered = branch.ordered; keys = branch.keys; at_least = subst (λ n. n * 16 ^ b.height ≤ length (rows_of kids)) len least; at_most = subst (λ n. length (rows_of kids) ≤ n * 32 ^ b.height) len most }
+      let least = subst (λ n. length kids * 16 ^ n ≤ length (rows_of kids)) height (each_least (16 ^ suc (b.height - 1)) kids (each-weaker {P = IsKid (b.height - 1)} {Q = λ k. 16 ^ suc (b.height - 1) ≤ length k.1.node.value.rows} (kid_least (b.height - 1)) kids branch.kids)) in
+      let most = subst (λ n. length (rows_of kids) ≤ length kids * 32 ^ n) height (each_most (32 ^ suc (b.height - 1)) kids (each-weaker {P = IsKid (b.height - 1)} {Q = λ k. length k.1.node.value.rows ≤ 32 ^ suc (b.height - 1)} (kid_most (b.height - 1)) kids branch.kids)) in
+      record { fits = branch.run.fits; ordered = branch.ordered; keys = branch.keys; at_least = subst (λ n. n * 16 ^ b.height ≤ length (rows_of kids)) len least; at_most = subst (λ n. length (rows_of kids) ≤ n * 32 ^ b.height) len most }
 
   -- rows in order below the limit are few enough for a count, and for one more
   pub few_rows : (s : Seen V) → IsWell s → length s.rows ≤ key_limit
@@ -59,5 +79,5 @@ module _ {V : Type 0} where
 
   -- what is seen of a node meets the rules
   pub node_well : (body : NodeBody V) → IsNode body → IsWell (seen body)
-  node_well (Leaf entries) h = leaf_well entries.items h
-  node_well (Inner b) h = branch_well b h
+  node_well (AsLeaf leaf) h = leaf_well leaf h
+  node_well (AsInner b) h = branch_well b h

@@ -1,5 +1,5 @@
 -- What an insertion makes of a node.
-use Rattle.std.specs.Prelude.{◌≡◌, ℕ, ◌+◌, ◌≤◌, min, length, None, IsSome}
+use Rattle.std.specs.Prelude.{◌≡◌, ℕ, ◌≤◌, min, length, Option, None, IsSome}
 use Rattle.tatp_rows.specs.Ordered.{row_at, with_row}
 use Rattle.mr_node.specs.declared.room.Room.{Room}
 use Rattle.mr_node.specs.declared.room.Room.TheVariants.{Done, Exists, Full}
@@ -14,13 +14,25 @@ pub record IsGrown {V : Type 0} (key : ℕ) (value : V) (old new : Seen V) : Typ
   pub well : IsWell new
 
 -- the answer of an insertion that takes no memory: the row went in, or the key is there, or the leaf is full, and so has 32 rows
-abbrev pub IsRoomAnswer : {V : Type 0} → ℕ → V → Seen V → Seen V → Room V → Type 0
+abbrev pub IsRoomAnswer : {V : Type 0} → ℕ → V → Seen V → Seen V → Room → Type 0
 IsRoomAnswer key value old new Done = (row_at key_of_pair key old.rows ≡ None) × IsGrown key value old new
-IsRoomAnswer key value old new (Exists v) = IsSome (row_at key_of_pair key old.rows) × (v ≡ value) × (new ≡ old)
-IsRoomAnswer key value old new (Full v) = (row_at key_of_pair key old.rows ≡ None) × (v ≡ value) × (new ≡ old) × (32 ≤ length old.rows)
+IsRoomAnswer key value old new Exists = IsSome (row_at key_of_pair key old.rows) × (new ≡ old)
+IsRoomAnswer key value old new Full = (row_at key_of_pair key old.rows ≡ None) × (new ≡ old) × (32 ≤ length old.rows)
 
--- the least key and the count of a child after such an insertion
-abbrev pub IsNoted : {V : Type 0} → ℕ → Room V → ℕ → ℕ → ℕ → ℕ → Type 0
-IsNoted key Done least count least' count' = (least' ≡ min least key) × (count' ≡ count + 1)
-IsNoted key (Exists v) least count least' count' = (least' ≡ least) × (count' ≡ count)
-IsNoted key (Full v) least count least' count' = (least' ≡ least) × (count' ≡ count)
+-- what such an insertion leaves of the value that it was given
+abbrev pub left_of : {V : Type 0} → Room → Option V → Option V
+left_of Done value = None
+left_of Exists value = value
+left_of Full value = value
+
+-- how many rows more there are
+abbrev pub gained : Room → ℕ
+gained Done = 1
+gained Exists = 0
+gained Full = 0
+
+-- the least key of a child after such an insertion below it
+abbrev pub least_with : ℕ → Room → ℕ → ℕ
+least_with key Done least = min least key
+least_with key Exists least = least
+least_with key Full least = least

@@ -3,9 +3,9 @@ pub mod Entries
 pub mod Falls
 pub mod Folds
 pub mod Growth
-pub mod Kids
 pub mod Levels
 pub mod Pairs
 pub mod Rows
+pub mod Runs
 pub mod Search
 pub mod Steps

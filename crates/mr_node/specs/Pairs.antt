@@ -1,19 +1,7 @@
--- Two neighbours: what is moved from one to the other, and how they become one node or two half full ones.
-use Rattle.std.specs.Prelude.{◌≡◌, ℕ, ◌+◌, ◌≤◌, Bool, true, false, ◌++◌, Option, Some, None}
-use Rattle.std.specs.declared.boxed.Box.{Box}
-use Rattle.std.specs.declared.alloc.Global.{Global}
-use Rattle.mr_node.specs.declared.body.Branch.{Branch}
-use Rattle.mr_node.specs.Rows.{Seen, somes, IsPacked}
+-- Two neighbours: how they become one node, or two half full ones.
+use Rattle.std.specs.Prelude.{◌≡◌, ℕ, ◌≤◌, Bool, true, false, ◌++◌}
+use Rattle.mr_node.specs.Rows.{Seen}
 use Rattle.mr_node.specs.Levels.{IsWell}
-
--- the parts of two inner nodes after moves of children between them
-pub record IsMoved {B : Type 0} (a b c d : Branch B) : Type 0 where
-  pub kids : somes c.kids ++ somes d.kids ≡ somes a.kids ++ somes b.kids
-  pub lens : c.len + d.len ≡ a.len + b.len
-  pub left : IsPacked c.len c.kids
-  pub right : IsPacked d.len d.kids
-  pub left_height : c.height ≡ a.height
-  pub right_height : d.height ≡ b.height
 
 -- the widths of two neighbours that are evened out: the left one has all, or both have 16 or more
 abbrev pub AreEvenWidths : Bool → ℕ → ℕ → Type 0
@@ -26,12 +14,7 @@ pub record IsKidNode {V : Type 0} (h : ℕ) (s : Seen V) : Type 0 where
   pub enough : 16 ≤ s.width
   pub well : IsWell s
 
--- two neighbours made into one node, or into two, with the same rows
-abbrev pub IsEvened : {V : Type 0} → Seen V → Seen V → Seen V → Option (Box (Seen V) Global) → Type 0
-IsEvened a b x None = IsKidNode a.height x × (x.rows ≡ a.rows ++ b.rows)
-IsEvened a b x (Some y) = IsKidNode a.height x × IsKidNode a.height y.value × (x.rows ++ y.value.rows ≡ a.rows ++ b.rows)
-
--- two neighbours evened out in place: the first has all rows, or both are half full
+-- two neighbours evened out: the first has all rows, or both are half full
 abbrev pub AreEvened : {V : Type 0} → Bool → Seen V → Seen V → Seen V → Seen V → Type 0
 AreEvened true a b x y = IsKidNode a.height x × (x.rows ≡ a.rows ++ b.rows)
 AreEvened false a b x y = IsKidNode a.height x × IsKidNode a.height y × (x.rows ++ y.rows ≡ a.rows ++ b.rows)

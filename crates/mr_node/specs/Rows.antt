@@ -1,5 +1,5 @@
 -- What is seen of a node: its height, its width and its rows.
-use Rattle.std.specs.Prelude.{◌≡◌, ℕ, ◌-◌, ◌<◌, List, [], ◌∷◌, Option, Some, None, option_map, refl}
+use Rattle.std.specs.Prelude.{ℕ, List, Option, option_map, refl}
 use Rattle.std.specs.Coded.{Coded, code_by, coded×, coded_ℕ, coded_list}
 use Rattle.tatp_rows.specs.Ordered.{row_at}
 use Rattle.tatp_rows.specs.Spans.{AllBelow, AllFrom, StartsAt}
@@ -38,15 +38,3 @@ StartsWith k xs = StartsAt key_of_pair k xs
 -- the value at a key
 abbrev pub value_at : {V : Type 0} → ℕ → List (ℕ × V) → Option V
 value_at key rows = option_map (λ p. p.1) (row_at key_of_pair key rows)
-
--- what the used places hold, in order
-abbrev pub somes : {X : Type 0} → List (Option X) → List X
-somes [] = []
-somes (None ∷ xs) = somes xs
-somes (Some x ∷ xs) = x ∷ somes xs
-
--- the first n places are used, and no other
-abbrev pub IsPacked : {X : Type 0} → ℕ → List (Option X) → Type 0
-IsPacked n [] = n ≡ 0
-IsPacked n (None ∷ xs) = (n ≡ 0) × IsPacked 0 xs
-IsPacked n (Some x ∷ xs) = (0 < n) × IsPacked (n - 1) xs

@@ -1,12 +1,18 @@
--- Where a search stops.
-use Rattle.std.specs.Prelude.{◌≡◌, ℕ, ◌-◌, ◌<◌, ◌≤◌, Bool, true, false, List, length, slice_index_or}
+-- Where a search among the keys of a node stops.
+use Rattle.std.specs.Prelude.{ℕ, ◌+◌, ◌-◌, ◌<◌, ◌≤◌, List, length, slice_index_or}
 
--- what a test says of the element at a place
-abbrev pub IsTold : {X : Type 0} → (X → Bool) → Bool → ℕ → List X → Type 0
-IsTold {X} test answer place xs = (default : X) → test (slice_index_or xs place default) ≡ answer
+-- no key is less than one in front of it
+abbrev pub IsRising : List ℕ → Type 0
+IsRising keys = (i j : ℕ) → i ≤ j → j < length keys → slice_index_or keys i 0 ≤ slice_index_or keys j 0
 
--- the test holds of the element in front of a place, and not of the one there
-pub record IsStop {X : Type 0} (test : X → Bool) (place : ℕ) (xs : List X) : Type 0 where
-  pub within : place ≤ length xs
-  pub before : 0 < place → IsTold test true (place - 1) xs
-  pub here : place < length xs → IsTold test false place xs
+-- the key in front of a place is less than this one, and the one there is not
+pub record IsStop (key place : ℕ) (keys : List ℕ) : Type 0 where
+  pub within : place ≤ length keys
+  pub before : 0 < place → slice_index_or keys (place - 1) 0 < key
+  pub here : place < length keys → key ≤ slice_index_or keys place 0
+
+-- the place of the child to which a key belongs, of n: the last whose least key isn't above the key, or the first
+pub record IsKidPlace (key place n : ℕ) (leasts : List ℕ) : Type 0 where
+  pub within : place < n
+  pub here : 0 < place → slice_index_or leasts place 0 ≤ key
+  pub next : place + 1 < n → key < slice_index_or leasts (place + 1) 0

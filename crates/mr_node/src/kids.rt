@@ -1,62 +1,108 @@
 //! The children of an inner node.
-ghost use Rattle.std.specs.Prelude.{◌≡◌, ◌+◌, ◌<◌, ◌≤◌, ℕ, IfSome, nat_le, slice_index_or, if◌then◌else◌};
+ghost use Rattle.std.specs.Prelude.{◌≡◌, ◌+◌, ◌-◌, ◌<◌, ◌≤◌, ℕ, None, IfSome, ◌∷◌, ◌++◌, length, take, drop, slice_index_or};
 ghost use Rattle.std.specs.List.{sum_by};
-ghost use Rattle.mr_node.specs.Rows.{somes};
-ghost use Rattle.mr_node.specs.Kids.{kid_over, IsKidPlace, count_of};
+ghost use Rattle.mr_node.specs.Runs.{entries, IsRun, IsPacked};
+ghost use Rattle.tatp_rows.specs.Ordered.{IsOrderedBy};
+ghost use Rattle.mr_node.specs.Rows.{key_of_pair, key_limit, KeysBelow};
+ghost use Rattle.mr_node.specs.Search.{IsKidPlace};
 
-use crate::Kid;
-use crate::search::{Place, stop_of};
+use crate::keys::{NO_KEY, count_below, put_key, take_key};
+use crate::places::{last_to, move_to_end};
+use crate::{Branch, Kid};
 
-// A search goes over the children whose least key isn't above the key.
-impl<B> Place for Option<Kid<B>> {
-    ghost is_over = { kid_over };
+// Thirty-two places for children, none used.
+fn no_kids<B>() -> [Option<Kid<B>>; 32]
+    ensures { IsPacked 0 result }
+{
+    [
+        None, None, None, None, None, None, None, None, None, None, None, None, None, None, None,
+        None, None, None, None, None, None, None, None, None, None, None, None, None, None, None,
+        None, None,
+    ]
+}
 
-    fn goes_over(&self, key: u64) -> bool {
-        match self {
-            Some(kid) => kid.least <= key,
-            None => false,
-        }
+// The part of an inner node of a height, without children.
+pub(crate) fn no_branch<B>(height: u64) -> Branch<B>
+    ensures height { result.height ≡ height }
+    ensures len { result.len ≡ 0 }
+    ensures run { IsRun 0 result.leasts result.kids }
+{
+    let kids = no_kids();
+    Branch {
+        height,
+        len: 0,
+        leasts: [NO_KEY; 32],
+        kids,
     }
 }
 
-// The place of the child to which a key belongs: that of the last one over which a search goes, or the first.
-pub(crate) fn place_of<B>(kids: &[Option<Kid<B>>; 32], len: usize, key: u64) -> usize
-    requires some { 0 < len }
-    requires fits { len ≤ 32 }
-    ensures { IsKidPlace key result len kids.now }
+// The place of the child to which a key belongs: the last whose least key isn't above the key, or the first.
+pub(crate) fn place_of<B>(branch: &Branch<B>, key: u64) -> usize
+    requires some { 0 < branch.now.len }
+    requires run { IsRun branch.now.len branch.now.leasts branch.now.kids }
+    requires ordered { IsOrderedBy key_of_pair (entries branch.now.leasts branch.now.kids) }
+    requires below { KeysBelow key_limit (entries branch.now.leasts branch.now.kids) }
+    ensures { IsKidPlace key result branch.now.len branch.now.leasts }
 {
-    let places = &kids[..];
-    stop_of(&places[1..len], key)
+    count_below(&branch.leasts, key.saturating_add(1)).saturating_sub(1)
 }
 
-// The least key of the first child, or 0 where there is none.
-pub(crate) fn least_kid<B>(kids: &[Option<Kid<B>>; 32]) -> u64
-    ensures { IfSome (slice_index_or kids.now 0 None) (λ k. k.least ≡ result) }
+// The count of the child at a place, or 0 where there is none.
+fn count_at<B>(branch: &Branch<B>, place: usize) -> u64
+    requires { place < 32 }
+    ensures { IfSome (slice_index_or branch.now.kids place None) (λ k. result ≡ k.count) }
 {
-    match &kids[0] {
-        Some(kid) => kid.least,
+    match &branch.kids[place] {
+        Some(kid) => kid.count,
         None => 0,
     }
 }
 
 // The sum of the children's counts.
-pub(crate) fn sum_counts<B>(kids: &[Option<Kid<B>>; 32]) -> u64
-    requires { sum_by (λ k. k.count) (somes kids.now) < 18446744073709551616 }
-    ensures { result ≡ sum_by (λ k. k.count) (somes kids.now) }
+pub(crate) fn sum_counts<B>(branch: &Branch<B>) -> u64
+    requires run { IsRun branch.now.len branch.now.leasts branch.now.kids }
+    requires fits { sum_by (λ k. k.1.count) (entries branch.now.leasts branch.now.kids) < 18446744073709551616 }
+    ensures { result ≡ sum_by (λ k. k.1.count) (entries branch.now.leasts branch.now.kids) }
 {
     let mut total = 0;
-    for place in kids {
-        total += count_in(place);
+    for place in 0..branch.len {
+        total += count_at(branch, place);
     }
     total
 }
 
-// The count of a child, or 0 where the place is empty.
-fn count_in<B>(place: &Option<Kid<B>>) -> u64
-    ensures { result ≡ count_of place.now }
+// Takes the child at a place out of an inner node's part.
+pub(crate) fn take_kid<B>(branch: &mut Branch<B>, place: usize) -> Kid<B>
+    requires run { IsRun branch.old.len branch.old.leasts branch.old.kids }
+    requires within { place < branch.old.len }
+    ensures height { branch.new.height ≡ branch.old.height }
+    ensures len { branch.new.len + 1 ≡ branch.old.len }
+    ensures run { IsRun branch.new.len branch.new.leasts branch.new.kids }
+    ensures rest { entries branch.new.leasts branch.new.kids ≡ take place (entries branch.old.leasts branch.old.kids) ++ drop (place + 1) (entries branch.old.leasts branch.old.kids) }
+    ensures kid { entries branch.old.leasts branch.old.kids ≡ take place (entries branch.old.leasts branch.old.kids) ++ ((slice_index_or branch.old.leasts place 0, result) ∷ drop (place + 1) (entries branch.old.leasts branch.old.kids)) }
 {
-    match place {
-        Some(kid) => kid.count,
-        None => 0,
+    let kid = branch.kids[place].take();
+    move_to_end(&mut branch.kids, place, place + 1);
+    take_key(&mut branch.leasts, place);
+    branch.len -= 1;
+    match kid {
+        Some(kid) => kid,
+        None => unreachable!(),
     }
+}
+
+// Puts a child into an inner node's part at a place.
+pub(crate) fn put_kid<B: Drop>(branch: &mut Branch<B>, place: usize, least: u64, kid: Kid<B>)
+    requires run { IsRun branch.old.len branch.old.leasts branch.old.kids }
+    requires room { branch.old.len < 32 }
+    requires within { place ≤ branch.old.len }
+    ensures height { branch.new.height ≡ branch.old.height }
+    ensures len { branch.new.len ≡ branch.old.len + 1 }
+    ensures run { IsRun branch.new.len branch.new.leasts branch.new.kids }
+    ensures kids { entries branch.new.leasts branch.new.kids ≡ take place (entries branch.old.leasts branch.old.kids) ++ ((least, kid) ∷ drop place (entries branch.old.leasts branch.old.kids)) }
+{
+    branch.kids[31] = Some(kid);
+    last_to(&mut branch.kids, place);
+    put_key(&mut branch.leasts, place, least);
+    branch.len += 1;
 }

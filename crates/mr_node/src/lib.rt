@@ -3,21 +3,20 @@
 #![tactic(auto)]
 
 mod body;
-mod branch;
 mod entries;
-mod halves;
+mod keys;
 mod kids;
 mod mending;
 mod meter;
 mod node;
-mod pairs;
+mod places;
 mod room;
-mod search;
+mod runs;
 mod stock;
 #[cfg(test)]
 mod tests;
 
-pub use body::{Body, Branch, Kid};
+pub use body::{Body, Branch, Kid, Leaf};
 pub use meter::Meter;
 pub use node::{Node, build_inner, build_leaf, open};
 pub use room::Room;

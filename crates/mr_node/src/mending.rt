@@ -1,24 +1,11 @@
 //! Inner nodes that lose or get a child.
-ghost use Rattle.std.specs.Prelude.{◌≡◌, ◌+◌, ◌-◌, ◌*◌, ◌<◌, ◌≤◌, ℕ, None, IfSome, slice_index_or, if◌then◌else◌};
-ghost use Rattle.mr_node.specs.Rows.{StartsWith};
-ghost use Rattle.mr_node.specs.Levels.{IsBranch};
-ghost use Rattle.mr_node.specs.Changes.{IsLooseBranch, IsLooseAt, IsSplicedAt, IsMended, IsRoomMade, IsRoomAt};
+ghost use Rattle.std.specs.Prelude.{◌≡◌, ◌+◌, ◌-◌, ◌*◌, ◌<◌, ◌≤◌, ℕ, None, IfSome, length, slice_index_or};
+ghost use Rattle.mr_node.specs.Levels.{IsBranch, IsBranchOf};
+ghost use Rattle.mr_node.specs.Changes.{IsLooseAt, IsPairAt, IsSplicedAt, IsMended, IsSplitAt, IsRoomMade, IsRoomAt};
 ghost use Rattle.mr_node.specs.Steps.{after_steps};
 
-use crate::branch::{put_kid, take_kid};
-use crate::halves::{even, halve, kid_of};
-use crate::kids::place_of;
+use crate::kids::{place_of, put_kid, take_kid};
 use crate::{Branch, Kid, Meter, Node, Stock};
-
-// The least key and the count of a child, after a removal in its node that took a row out or not.
-pub(crate) fn note_gone<V>(kid: &mut Kid<Box<Node<V>>>, is_gone: bool)
-    ensures node { kid.new.node ≡ kid.old.node }
-    ensures least { 0 < kid.old.node.value.width → StartsWith kid.new.least kid.old.node.value.rows }
-    ensures count { kid.new.count ≡ kid.old.count - (if is_gone then 1 else 0) }
-{
-    kid.least = kid.node.least();
-    kid.count = kid.count.saturating_sub(u64::from(is_gone));
-}
 
 // The width of the child at a place.
 fn kid_width<V>(kids: &[Option<Kid<Box<Node<V>>>>; 32], place: usize) -> usize
@@ -31,35 +18,57 @@ fn kid_width<V>(kids: &[Option<Kid<Box<Node<V>>>>; 32], place: usize) -> usize
     }
 }
 
-// Evens out the child at `place` and the next one. Three or four steps.
-fn join_pair<V: Drop>(branch: &mut Branch<Box<Node<V>>>, place: usize, meter: &mut Meter)
-    requires loose { IsLooseBranch branch.old }
-    requires within { place + 1 < branch.old.len }
-    ensures spliced { IsSplicedAt place branch.old branch.new }
-    ensures no_fewer { after_steps 3 meter.old ≤ meter.new }
-    ensures steps { meter.new ≤ meter.old + 4 }
+// Counts the rows of a child anew.
+fn count_anew<V>(kid: &mut Kid<Box<Node<V>>>)
+    ensures node { kid.new.node ≡ kid.old.node }
+    ensures count { kid.new.count ≡ length kid.old.node.value.rows }
 {
-    let low = take_kid(branch, place);
-    let high = take_kid(branch, place);
-    let (one, two) = even(low.node, high.node, meter);
-    match two {
-        None => put_kid(branch, place, kid_of(one)),
-        Some(two) => {
-            put_kid(branch, place, kid_of(two));
-            put_kid(branch, place, kid_of(one));
+    kid.count = kid.node.len();
+}
+
+// Evens out the child at `place` and the next one in place: true where the next one is empty now. Four steps.
+fn even_pair<V: Drop>(branch: &mut Branch<Box<Node<V>>>, place: usize, meter: &mut Meter) -> bool
+    requires loose { IsBranchOf 15 branch.old }
+    requires within { place + 1 < branch.old.len }
+    ensures pair { IsPairAt place result branch.old branch.new }
+    ensures steps { meter.new ≡ after_steps 4 meter.old }
+{
+    let Some(mut high) = branch.kids[place + 1].take() else {
+        unreachable!()
+    };
+    match &mut branch.kids[place] {
+        Some(low) => {
+            let joined = low.node.even_with(&mut *high.node, meter);
+            count_anew(low);
+            count_anew(&mut high);
+            branch.leasts[place + 1] = high.node.least();
+            branch.kids[place + 1] = Some(high);
+            joined
         }
+        None => unreachable!(),
     }
 }
 
-// Mends an inner node whose child at `place` may be one short of half full: three or four steps where it is, else none.
+// Evens out the child at `place` and the next one; one that is empty then is let go. Four steps.
+fn join_pair<V: Drop>(branch: &mut Branch<Box<Node<V>>>, place: usize, meter: &mut Meter)
+    requires loose { IsBranchOf 15 branch.old }
+    requires within { place + 1 < branch.old.len }
+    ensures spliced { IsSplicedAt place branch.old branch.new }
+    ensures steps { meter.new ≡ after_steps 4 meter.old }
+{
+    if even_pair(branch, place, meter) {
+        let _ = take_kid(branch, place + 1);
+    }
+}
+
+// Mends an inner node whose child at `place` may be one short of half full: four steps where it is, else none.
 pub(crate) fn mend<V: Drop>(branch: &mut Branch<Box<Node<V>>>, place: usize, meter: &mut Meter)
     requires loose { IsLooseAt place branch.old }
     requires two { 2 ≤ branch.old.len }
     requires within { place < branch.old.len }
     ensures mended { IsMended branch.old branch.new }
-    ensures no_fewer { after_steps 0 meter.old ≤ meter.new }
-    ensures thin { IfSome (slice_index_or branch.old.kids place None) (λ k. k.node.value.width < 16 → after_steps 3 meter.old ≤ meter.new) }
-    ensures steps { meter.new ≤ meter.old + 4 }
+    ensures thin { IfSome (slice_index_or branch.old.kids place None) (λ k. k.node.value.width < 16 → meter.new ≡ after_steps 4 meter.old) }
+    ensures enough { IfSome (slice_index_or branch.old.kids place None) (λ k. 16 ≤ k.node.value.width → meter.new ≡ meter.old) }
 {
     if kid_width(&branch.kids, place) >= 16 {
         return;
@@ -69,6 +78,32 @@ pub(crate) fn mend<V: Drop>(branch: &mut Branch<Box<Node<V>>>, place: usize, met
         return;
     }
     join_pair(branch, place - 1, meter);
+}
+
+// Halves the full child at a place: its upper half goes into the blank node, behind it. The least key of that half.
+fn split_kid<V: Drop>(
+    branch: &mut Branch<Box<Node<V>>>,
+    place: usize,
+    mut blank: Box<Node<V>>,
+) -> u64
+    requires branch { IsBranch branch.old }
+    requires room { branch.old.len < 32 }
+    requires within { place < branch.old.len }
+    requires full { IfSome (slice_index_or branch.old.kids place None) (λ k. k.node.value.width ≡ 32) }
+    ensures { IsSplitAt place result branch.old branch.new }
+{
+    match &mut branch.kids[place] {
+        Some(kid) => {
+            let node = &mut *kid.node;
+            node.halve_into(&mut *blank);
+            count_anew(kid);
+        }
+        None => unreachable!(),
+    }
+    let least = blank.least();
+    let count = blank.len();
+    put_kid(branch, place + 1, least, Kid { count, node: blank });
+    least
 }
 
 // Finds the child to which a key belongs, and halves it first where it is full: three steps, and one blank.
@@ -88,18 +123,12 @@ pub(crate) fn make_room<V: Drop>(
     ensures no_fewer { after_steps (3 * (stock.old - stock.new)) meter.old ≤ meter.new }
     ensures steps { meter.new ≤ meter.old + 3 * (stock.old - stock.new) }
 {
-    let place = place_of(&branch.kids, branch.len, key);
+    let place = place_of(branch, key);
     if kid_width(&branch.kids, place) < 32 {
         return place;
     }
-    let kid = take_kid(branch, place);
-    let blank = stock.give();
-    let (low, high) = halve(kid.node, blank, meter);
-    let low = kid_of(low);
-    let high = kid_of(high);
-    let least = high.least;
-    put_kid(branch, place, high);
-    put_kid(branch, place, low);
+    meter.tick(3);
+    let least = split_kid(branch, place, stock.give());
     if least <= key {
         return place + 1;
     }

@@ -1,26 +1,24 @@
 //! Nodes.
-ghost use Rattle.std.specs.Prelude.{◌≡◌, ◌+◌, ◌-◌, ◌*◌, ◌<◌, ◌≤◌, ℕ, None, min, [], ◌++◌, length, nat_le, option_map, ok_or, Ok, Err, if◌then◌else◌};
+ghost use Rattle.std.specs.Prelude.{◌≡◌, ◌+◌, ◌-◌, ◌*◌, ◌<◌, ◌≤◌, ℕ, None, IsSome, IfSome, min, [], ◌++◌, length, nat_le, option_map, ok_or, Ok, Err, if◌then◌else◌, true, false};
 ghost use Rattle.std.specs.List.{find};
 ghost use Rattle.tatp_rows.specs.Ordered.{IsOrderedBy, row_at, with_row_at};
 ghost use Rattle.mr_node.specs.Rows.{key_limit, key_of_pair, value_at, StartsWith};
 ghost use Rattle.mr_node.specs.Levels.{seen, IsNode, IsWell, IsLeaf, IsBranch, seen_leaf, seen_branch};
 ghost use Rattle.mr_node.specs.Folds.{FoldsRows};
-ghost use Rattle.mr_node.specs.Growth.{IsGrown, IsRoomAnswer, IsNoted};
-ghost use Rattle.mr_node.specs.Pairs.{IsHalved, AreEvened};
-ghost use Rattle.mr_node.specs.Changes.{IsShrunk, IsHeightened, IsLowered};
+ghost use Rattle.mr_node.specs.Runs.{IsRun};
+ghost use Rattle.mr_node.specs.Growth.{IsGrown, IsRoomAnswer, left_of, gained, least_with};
+ghost use Rattle.mr_node.specs.Pairs.{IsKidNode, IsHalved, AreEvened};
+ghost use Rattle.mr_node.specs.Changes.{IsShrunk, IsHung, IsHeightened, IsLowered};
 ghost use Rattle.mr_node.specs.Steps.{after_steps};
 
-use crate::branch::{put_kid, take_kid};
 use crate::entries::{
-    find_entry, first_entry, fold_entries, insert_entry, insert_new, least_entry, remove_entry,
+    find_entry, first_entry, fold_entries, insert_entry, insert_new, no_leaf, remove_entry,
     replace_entry,
 };
-use crate::halves::{halve, kid_of, no_kids};
-use crate::kids::{least_kid, place_of, sum_counts};
-use crate::mending::{make_room, mend, note_gone};
-use crate::pairs::{even_entries, halve_entries, halve_kids};
-use crate::{Body, Branch, Meter, Room, Stock};
-use arrayvec::ArrayVec;
+use crate::kids::{no_branch, place_of, put_kid, sum_counts, take_kid};
+use crate::mending::{make_room, mend};
+use crate::runs::{even, share};
+use crate::{Body, Branch, Kid, Leaf, Meter, Room, Stock};
 use std::marker::Model;
 use std::mem;
 
@@ -56,7 +54,7 @@ impl<V> Node<V> {
         ensures { result ≡ record { height = 0; width = 0; rows = [] } }
     {
         Node {
-            body: Body::Leaf(ArrayVec::new()),
+            body: Body::Leaf(no_leaf()),
         }
     }
 
@@ -77,7 +75,7 @@ impl<V> Node<V> {
         ensures well { IsWell self.now }
     {
         match &self.body {
-            Body::Leaf(entries) => entries.len(),
+            Body::Leaf(leaf) => leaf.values.len(),
             Body::Inner(branch) => branch.len,
         }
     }
@@ -87,8 +85,8 @@ impl<V> Node<V> {
         ensures { result ≡ length self.now.rows }
     {
         match &self.body {
-            Body::Leaf(entries) => entries.len() as u64,
-            Body::Inner(branch) => sum_counts(&branch.kids),
+            Body::Leaf(leaf) => leaf.values.len() as u64,
+            Body::Inner(branch) => sum_counts(branch),
         }
     }
 
@@ -97,8 +95,8 @@ impl<V> Node<V> {
         ensures { 0 < self.now.width → StartsWith result self.now.rows }
     {
         match &self.body {
-            Body::Leaf(entries) => least_entry(entries),
-            Body::Inner(branch) => least_kid(&branch.kids),
+            Body::Leaf(leaf) => leaf.keys[0],
+            Body::Inner(branch) => branch.leasts[0],
         }
     }
 
@@ -107,9 +105,9 @@ impl<V> Node<V> {
         ensures { option_map (λ r. r.now) result ≡ value_at key self.now.rows }
     {
         match &self.body {
-            Body::Leaf(entries) => find_entry(entries, key),
+            Body::Leaf(leaf) => find_entry(leaf, key),
             Body::Inner(branch) => {
-                let place = place_of(&branch.kids, branch.len, key);
+                let place = place_of(branch, key);
                 match &branch.kids[place] {
                     Some(kid) => kid.node.find(key),
                     None => unreachable!(),
@@ -123,9 +121,9 @@ impl<V> Node<V> {
         ensures { option_map (λ r. (r.0, r.1.now)) result ≡ find (λ p. nat_le key p.0) self.now.rows }
     {
         match &self.body {
-            Body::Leaf(entries) => first_entry(entries, key),
+            Body::Leaf(leaf) => first_entry(leaf, key),
             Body::Inner(branch) => {
-                let place = place_of(&branch.kids, branch.len, key);
+                let place = place_of(branch, key);
                 match &branch.kids[place] {
                     Some(kid) => match kid.node.first_from(key) {
                         Some(row) => Some(row),
@@ -151,15 +149,15 @@ impl<V> Node<V> {
         ensures { FoldsRows (λ a k r b. F.post f.now a k r b) init self.now.rows result }
     {
         match &self.body {
-            Body::Leaf(entries) => fold_entries(entries.as_slice(), init, f),
+            Body::Leaf(leaf) => fold_entries(leaf, init, f),
             Body::Inner(branch) => {
                 let mut folded = init;
-                for place in &branch.kids {
-                    match place {
+                for place in 0..branch.len {
+                    match &branch.kids[place] {
                         Some(kid) => {
                             folded = kid.node.fold(folded, f);
                         }
-                        None => {}
+                        None => unreachable!(),
                     }
                 }
                 folded
@@ -196,9 +194,9 @@ impl<V: Drop> Node<V> {
         ensures value { (if result then Ok value.new else Err value.new) ≡ ok_or (value_at key self.old.rows) value.old }
     {
         match &mut self.body {
-            Body::Leaf(entries) => replace_entry(entries, key, value),
+            Body::Leaf(leaf) => replace_entry(leaf, key, value),
             Body::Inner(branch) => {
-                let place = place_of(&branch.kids, branch.len, key);
+                let place = place_of(branch, key);
                 match &mut branch.kids[place] {
                     Some(kid) => {
                         let node = &mut *kid.node;
@@ -210,8 +208,8 @@ impl<V: Drop> Node<V> {
         }
     }
 
-    /// Takes the row at a key out in place, and evens out what is less than half full. Two steps a level, and three or
-    /// four for each two neighbours that are evened out. A root may be left with one child.
+    /// Takes the row at a key out in place, and evens out what is less than half full. Two steps a level, and four for
+    /// each two neighbours that are evened out. A root may be left with one child.
     pub fn remove(&mut self, key: u64, meter: &mut Meter) -> Option<V>
         requires { 0 < self.old.height → 2 ≤ self.old.width }
         ensures new { IsShrunk key self.old self.new }
@@ -219,18 +217,31 @@ impl<V: Drop> Node<V> {
         ensures no_fewer { after_steps (2 * (self.old.height + 1)) meter.old ≤ meter.new }
         ensures steps { meter.new ≤ meter.old + 6 * (self.old.height + 1) }
     {
+        let mut gone = None;
+        self.take_at(key, &mut gone, meter);
+        gone
+    }
+
+    // Takes the row at a key out in place, and puts its value into `gone`. The value moves but once.
+    fn take_at(&mut self, key: u64, gone: &mut Option<V>, meter: &mut Meter)
+        requires { 0 < self.old.height → 2 ≤ self.old.width }
+        ensures new { IsShrunk key self.old self.new }
+        ensures value { gone.new ≡ value_at key self.old.rows }
+        ensures no_fewer { after_steps (2 * (self.old.height + 1)) meter.old ≤ meter.new }
+        ensures steps { meter.new ≤ meter.old + 6 * (self.old.height + 1) }
+    {
         meter.tick(2);
         match &mut self.body {
-            Body::Leaf(entries) => remove_entry(entries, key),
+            Body::Leaf(leaf) => put(gone, remove_entry(leaf, key)),
             Body::Inner(branch) => {
-                let place = place_of(&branch.kids, branch.len, key);
+                let place = place_of(branch, key);
                 match &mut branch.kids[place] {
                     Some(kid) => {
                         let node = &mut *kid.node;
-                        let gone = node.remove(key, meter);
-                        note_gone(kid, gone.is_some());
+                        node.take_at(key, gone, meter);
+                        let least = note_gone(kid, gone.is_some());
+                        branch.leasts[place] = least;
                         mend(branch, place, meter);
-                        gone
                     }
                     None => unreachable!(),
                 }
@@ -240,12 +251,20 @@ impl<V: Drop> Node<V> {
 
     /// Puts a row whose key isn't there in place, and halves each full node on its way first. Two steps a level,
     /// and three for each node that is halved, which takes one blank node.
-    pub fn insert_split(&mut self, key: u64, value: V, stock: &mut Stock<V>, meter: &mut Meter)
+    pub fn insert_split(
+        &mut self,
+        key: u64,
+        value: &mut Option<V>,
+        stock: &mut Stock<V>,
+        meter: &mut Meter,
+    )
         requires small { key < key_limit }
+        requires some { IsSome value.old }
         requires missing { row_at key_of_pair key self.old.rows ≡ None }
         requires room { self.old.width < 32 }
         requires stock { self.old.height ≤ stock.old }
-        ensures grown { IsGrown key value self.old self.new }
+        ensures grown { IfSome value.old (λ v. IsGrown key v self.old self.new) }
+        ensures value { value.new ≡ None }
         ensures stock { stock.new ≤ stock.old }
         ensures used { stock.old ≤ stock.new + self.old.height }
         ensures no_fewer { after_steps (2 * (self.old.height + 1) + 3 * (stock.old - stock.new)) meter.old ≤ meter.new }
@@ -253,14 +272,15 @@ impl<V: Drop> Node<V> {
     {
         meter.tick(2);
         match &mut self.body {
-            Body::Leaf(entries) => insert_new(entries, key, value),
+            Body::Leaf(leaf) => insert_new(leaf, key, value),
             Body::Inner(branch) => {
                 let place = make_room(branch, key, stock, meter);
                 match &mut branch.kids[place] {
                     Some(kid) => {
                         let node = &mut *kid.node;
                         node.insert_split(key, value, stock, meter);
-                        note_new(&mut kid.least, &mut kid.count, key);
+                        kid.count += 1;
+                        branch.leasts[place] = branch.leasts[place].min(key);
                     }
                     None => unreachable!(),
                 }
@@ -308,56 +328,63 @@ impl<V: Drop> Node<V> {
         requires { self.old.width ≡ 32 }
         ensures { IsHalved self.old self.new high.new }
     {
+        make_blank(high);
         match &mut self.body {
-            Body::Leaf(left) => {
-                let mut right = ArrayVec::new();
-                halve_entries(left, &mut right);
-                put_leaf(high, right)
-            }
+            Body::Leaf(left) => match &mut high.body {
+                Body::Leaf(right) => share(left, right, 16),
+                Body::Inner(_) => unreachable!(),
+            },
             Body::Inner(left) => {
-                let mut right = Branch {
-                    height: left.height,
-                    len: 0,
-                    kids: no_kids(),
-                };
-                halve_kids(left, &mut right);
+                let mut right = no_branch(left.height);
+                share(left, &mut right, 16);
                 put_inner(high, right)
             }
         }
     }
 
-    // Evens out a leaf and the next one in place: true where the first has all rows now.
-    pub(crate) fn even_leaf(&mut self, next: &mut Node<V>) -> bool
-        requires leaf { self.old.height ≡ 0 }
-        requires next_leaf { next.old.height ≡ 0 }
+    // Evens out a node and its next neighbour in place: true where the first has all rows now. Four steps.
+    pub(crate) fn even_with(&mut self, next: &mut Node<V>, meter: &mut Meter) -> bool
+        requires level { self.old.height ≡ next.old.height }
         requires ordered { IsOrderedBy key_of_pair (self.old.rows ++ next.old.rows) }
         requires some { 15 ≤ self.old.width }
         requires next_some { 15 ≤ next.old.width }
-        ensures { AreEvened result self.old next.old self.new next.new }
+        ensures nodes { AreEvened result self.old next.old self.new next.new }
+        ensures steps { meter.new ≡ after_steps 4 meter.old }
     {
+        meter.tick(4);
         match &mut self.body {
             Body::Leaf(left) => match &mut next.body {
-                Body::Leaf(right) => even_entries(left, right),
+                Body::Leaf(right) => even(left, right),
                 Body::Inner(_) => unreachable!(),
             },
-            Body::Inner(_) => unreachable!(),
+            Body::Inner(left) => match &mut next.body {
+                Body::Leaf(_) => unreachable!(),
+                Body::Inner(right) => {
+                    let all = even(left, right);
+                    let_go(&mut next.body, all);
+                    all
+                }
+            },
         }
     }
 
-    /// Puts a row in place where its leaf has room, with no new node.
-    pub fn insert_room(&mut self, key: u64, value: V) -> Room<V>
-        requires { key < key_limit }
-        ensures { IsRoomAnswer key value self.old self.new result }
+    /// Puts a row in place where its leaf has room, with no new node: the value is taken where it went in.
+    pub fn insert_room(&mut self, key: u64, value: &mut Option<V>) -> Room
+        requires small { key < key_limit }
+        requires some { IsSome value.old }
+        ensures answer { IfSome value.old (λ v. IsRoomAnswer key v self.old self.new result) }
+        ensures value { value.new ≡ left_of result value.old }
     {
         match &mut self.body {
-            Body::Leaf(entries) => insert_entry(entries, key, value),
+            Body::Leaf(leaf) => insert_entry(leaf, key, value),
             Body::Inner(branch) => {
-                let place = place_of(&branch.kids, branch.len, key);
+                let place = place_of(branch, key);
                 match &mut branch.kids[place] {
                     Some(kid) => {
                         let node = &mut *kid.node;
                         let answer = node.insert_room(key, value);
-                        note_row(&mut kid.least, &mut kid.count, key, &answer);
+                        kid.count += rows_gained(&answer);
+                        branch.leasts[place] = least_after(branch.leasts[place], key, &answer);
                         answer
                     }
                     None => unreachable!(),
@@ -367,38 +394,73 @@ impl<V: Drop> Node<V> {
     }
 }
 
-// Takes the answer of an insertion into a child into the child's least key and count.
-fn note_row<V>(least: &mut u64, count: &mut u64, key: u64, answer: &Room<V>)
-    requires { count.old < 18446744073709551615 }
-    ensures { IsNoted key answer.now least.old count.old least.new count.new }
+// Puts a value in the place of what was there.
+fn put<V: Drop>(gone: &mut Option<V>, value: Option<V>)
+    ensures { gone.new ≡ value }
+{
+    *gone = value;
+}
+
+// Takes a removal below a child, which took a row out or not, into the child's count. Its least key.
+fn note_gone<V>(kid: &mut Kid<Box<Node<V>>>, is_gone: bool) -> u64
+    ensures node { kid.new.node ≡ kid.old.node }
+    ensures least { 0 < kid.old.node.value.width → StartsWith result kid.old.node.value.rows }
+    ensures count { kid.new.count ≡ kid.old.count - (if is_gone then 1 else 0) }
+{
+    kid.count = kid.count.saturating_sub(u64::from(is_gone));
+    kid.node.least()
+}
+
+// How many rows an insertion added.
+fn rows_gained(answer: &Room) -> u64
+    ensures { result ≡ gained answer.now }
 {
     match answer {
-        Room::Done => {
-            *least = (*least).min(key);
-            *count += 1;
-        }
-        Room::Exists(_) => {}
-        Room::Full(_) => {}
+        Room::Done => 1,
+        Room::Exists => 0,
+        Room::Full => 0,
     }
 }
 
-// Takes a new row of a child into the child's least key and count.
-fn note_new(least: &mut u64, count: &mut u64, key: u64)
-    requires { count.old < 18446744073709551615 }
-    ensures least { least.new ≡ min least.old key }
-    ensures count { count.new ≡ count.old + 1 }
+// The least key of a child after an insertion below it.
+fn least_after(least: u64, key: u64, answer: &Room) -> u64
+    ensures { result ≡ least_with key answer.now least }
 {
-    *least = (*least).min(key);
-    *count += 1;
+    match answer {
+        Room::Done => least.min(key),
+        Room::Exists => least,
+        Room::Full => least,
+    }
+}
+
+// Makes a node a leaf without entries, where it isn't one.
+fn make_blank<V: Drop>(node: &mut Node<V>)
+    ensures { node.new ≡ record { height = 0; width = 0; rows = [] } }
+{
+    if node.height() == 0 && node.width() == 0 {
+        return;
+    }
+    *node = Node::new();
+}
+
+// Makes a node's parts those of a leaf without entries, where it has none left.
+fn let_go<V: Drop>(body: &mut Body<V, Box<Node<V>>>, none: bool)
+    ensures gone { none ≡ true → IsNode body.new }
+    ensures kept { none ≡ false → body.new ≡ body.old }
+{
+    if !none {
+        return;
+    }
+    *body = Body::Leaf(no_leaf());
 }
 
 // Makes a node a leaf of these entries.
-fn put_leaf<V: Drop>(node: &mut Node<V>, entries: ArrayVec<Option<(u64, V)>, 32>)
-    requires { IsLeaf entries.items }
-    ensures { node.new ≡ seen_leaf entries.items }
+fn put_leaf<V: Drop>(node: &mut Node<V>, leaf: Leaf<V>)
+    requires { IsLeaf leaf }
+    ensures { node.new ≡ seen_leaf leaf }
 {
     *node = Node {
-        body: Body::Leaf(entries),
+        body: Body::Leaf(leaf),
     };
 }
 
@@ -412,23 +474,34 @@ fn put_inner<V: Drop>(node: &mut Node<V>, branch: Branch<Box<Node<V>>>)
     };
 }
 
+// Puts a node into an inner node's part behind its children, with its least key and its count.
+fn hang<V: Drop>(branch: &mut Branch<Box<Node<V>>>, node: Box<Node<V>>)
+    requires run { IsRun branch.old.len branch.old.leasts branch.old.kids }
+    requires room { branch.old.len < 32 }
+    requires node { IsKidNode node.value.height node.value }
+    ensures height { branch.new.height ≡ branch.old.height }
+    ensures len { branch.new.len ≡ branch.old.len + 1 }
+    ensures run { IsRun branch.new.len branch.new.leasts branch.new.kids }
+    ensures kids { IsHung node.value branch.old branch.new }
+{
+    let least = node.least();
+    let count = node.len();
+    let end = branch.len;
+    put_kid(branch, end, least, Kid { count, node });
+}
+
 // A new root over the halves of a full node.
-fn root_over<V: Drop>(node: Box<Node<V>>, blank: Box<Node<V>>, meter: &mut Meter) -> Node<V>
+fn root_over<V: Drop>(mut node: Box<Node<V>>, mut blank: Box<Node<V>>, meter: &mut Meter) -> Node<V>
     requires full { node.value.width ≡ 32 }
     requires well { IsWell node.value }
     ensures root { IsHeightened node.value result }
     ensures steps { meter.new ≡ after_steps 4 meter.old }
 {
-    let height = node.height() + 1;
-    let (low, high) = halve(node, blank, meter);
-    let mut root = Branch {
-        height,
-        len: 0,
-        kids: no_kids(),
-    };
-    put_kid(&mut root, 0, kid_of(high));
-    put_kid(&mut root, 0, kid_of(low));
-    meter.tick(1);
+    meter.tick(4);
+    let mut root = no_branch(node.height() + 1);
+    node.halve_into(&mut *blank);
+    hang(&mut root, node);
+    hang(&mut root, blank);
     Node {
         body: Body::Inner(root),
     }
@@ -485,16 +558,16 @@ pub fn open<V: Drop>(
 
 /// Builds a leaf of these entries in a box. One step.
 pub fn build_leaf<V: Drop>(
-    entries: ArrayVec<Option<(u64, V)>, 32>,
+    leaf: Leaf<V>,
     mut blank: Box<Node<V>>,
     meter: &mut Meter,
 ) -> Box<Node<V>>
-    requires { IsLeaf entries.items }
-    ensures seen { result.value ≡ seen_leaf entries.items }
+    requires { IsLeaf leaf }
+    ensures seen { result.value ≡ seen_leaf leaf }
     ensures steps { meter.new ≡ after_steps 1 meter.old }
 {
     meter.tick(1);
-    put_leaf(&mut *blank, entries);
+    put_leaf(&mut *blank, leaf);
     blank
 }
 

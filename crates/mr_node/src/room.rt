@@ -2,11 +2,11 @@
 
 /// What became of a row that was to go into a node without any new node.
 #[derive(Drop)]
-pub enum Room<V> {
+pub enum Room {
     /// It went in.
     Done,
-    /// A row with the key is there; this is the value handed back.
-    Exists(V),
-    /// The leaf to which the key belongs is full; this is the value handed back.
-    Full(V),
+    /// A row with the key is there.
+    Exists,
+    /// The leaf to which the key belongs is full.
+    Full,
 }

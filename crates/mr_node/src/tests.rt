@@ -1,7 +1,6 @@
 ghost use Rattle.std.specs.Prelude.{◌≤◌};
 
 use super::*;
-use arrayvec::ArrayVec;
 use std::process::Abort;
 use std::test::*;
 use tatp_rows::Refusal;
@@ -10,7 +9,7 @@ use tatp_rows::Refusal;
 fn rebuilt(node: Box<Node<u64>>, meter: &mut Meter) -> Box<Node<u64>> {
     let (body, blank) = open(node, meter);
     match body {
-        Body::Leaf(entries) => build_leaf(entries, blank, meter),
+        Body::Leaf(leaf) => build_leaf(leaf, blank, meter),
         Body::Inner(branch) => build_inner(branch, blank, meter),
     }
 }
@@ -18,9 +17,13 @@ fn rebuilt(node: Box<Node<u64>>, meter: &mut Meter) -> Box<Node<u64>> {
 // A leaf gets the keys 1 to 32.
 fn fill(rt: &impl Abort, node: &mut Node<u64>) {
     for key in 1..33u64 {
-        assert!(rt; matches!(node.insert_room(key, key * 2), Room::Done));
+        let mut value = Some(key * 2);
+        assert!(rt; matches!(node.insert_room(key, &mut value), Room::Done));
+        assert_eq!(rt; value, None);
     }
-    assert!(rt; matches!(node.insert_room(7, 0), Room::Exists(0)));
+    let mut value = Some(0);
+    assert!(rt; matches!(node.insert_room(7, &mut value), Room::Exists));
+    assert_eq!(rt; value, Some(0));
     assert_eq!(rt; node.find(7), Some(&14));
     assert_eq!(rt; node.replace(7, 15).ok(), Some(14));
     assert_eq!(rt; node.replace(77, 15).err(), Some(15));
@@ -31,17 +34,18 @@ fn fill(rt: &impl Abort, node: &mut Node<u64>) {
 fn grow(rt: &impl Abort, node: &mut Node<u64>, stock: &mut Stock<u64>, meter: &mut Meter)
     requires { 3 ≤ stock.old }
 {
-    match node.insert_room(33, 66) {
-        Room::Full(value) => {
+    let mut value = Some(66);
+    match node.insert_room(33, &mut value) {
+        Room::Full => {
             assert_eq!(rt; node.height(), 0);
             assert_eq!(rt; node.width(), 32);
             node.heighten(stock, meter);
-            node.insert_split(33, value, stock, meter);
+            node.insert_split(33, &mut value, stock, meter);
         }
         _ => assert!(rt; false),
     }
     assert_eq!(rt; (node.height(), node.width(), node.len()), (1, 2, 33));
-    assert_eq!(rt; (stock.count(), meter.steps()), (2, 11));
+    assert_eq!(rt; (stock.count(), meter.steps()), (2, 10));
     assert_eq!(rt; node.first_from(16).map(|row| row.0), Some(16));
     assert_eq!(rt;
         node.fold(0u64, &|sum, key, _value| sum.wrapping_add(key)),
@@ -57,7 +61,7 @@ fn fall(rt: &impl Abort, node: &mut Node<u64>, meter: &mut Meter) {
     node.lower(meter);
     assert_eq!(rt; (node.height(), node.width()), (0, 32));
     assert_eq!(rt; node.remove(6, meter), Some(12));
-    assert_eq!(rt; (node.height(), node.len(), meter.steps()), (0, 31, 24));
+    assert_eq!(rt; (node.height(), node.len(), meter.steps()), (0, 31, 23));
 }
 
 #[test]
@@ -66,8 +70,7 @@ fn a_root_grows_and_falls(rt: HostRuntime) -> Result<(), Fail> {
     assert_eq!(rt; refused, Some(Refusal::Memory));
     let mut stock = Stock::take(rt.alloc(), 5)?;
     let mut meter = Meter::new();
-    let leaf = build_leaf(ArrayVec::new(), stock.give(), &mut meter);
-    let mut node = rebuilt(leaf, &mut meter);
+    let mut node = rebuilt(stock.give(), &mut meter);
     fill(&rt, &mut *node);
     grow(&rt, &mut *node, &mut stock, &mut meter);
     let mut node = rebuilt(node, &mut meter);

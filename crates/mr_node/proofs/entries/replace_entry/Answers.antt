@@ -1,36 +1,22 @@
-use Rattle.std.proofs.Common.{rules, None, option_map, ok_or, get_or, sym, ap, subst, ◌∙◌}
-use Rattle.mr_node.specs.Rows.{somes}
-use Rattle.mr_node.specs.Levels.{IsLeaf}
-use Rattle.mr_node.proofs.EntryLemmas.{missing_at, keyed_within, found_value, handed_keyed, leaf_replaced}
+use Rattle.std.proofs.Common.{rules, ok_or, sym, ap, ◌∙◌, refl}
+use Rattle.mr_node.proofs.EntryLemmas.{missing_at, missing_value, found_value, there_some, leaf_written}
 use Rattle.mr_node.proofs.entries.replace_entry.Goals as goal
 
-pub returns-then-not-has_entry-clause-rows : goal.returns-then-not-has_entry-clause-rows
-returns-then-not-has_entry-clause-rows g c =
-    let not = sym c.has_entry.ensures ∙ c.if-not-has_entry.true in
-    sym ((missing_at c.args.key c.place_in-place.result c.args.entries.now.items c.requires c.place_in-place.ensures not).written _)
+pub write_value-requires : goal.write_value-requires
+write_value-requires g c = (search rules, (c.in-Ok.ensures.within, there_some c.args.key c.in-Ok.place c.args.leaf.now c.requires c.in-Ok.ensures))
 
-pub returns-then-not-has_entry-clause-value : goal.returns-then-not-has_entry-clause-value
-returns-then-not-has_entry-clause-value g c =
-    let not = sym c.has_entry.ensures ∙ c.if-not-has_entry.true in
-    sym (ap (λ o. ok_or (option_map (λ p. p.1) o) c.args.value.now) (missing_at c.args.key c.place_in-place.result c.args.entries.now.items c.requires c.place_in-place.ensures not).row)
+pub returns-in-Ok-clause-rows : goal.returns-in-Ok-clause-rows
+returns-in-Ok-clause-rows g c = (leaf_written c.args.key c.in-Ok.place c.args.value.now c.args.leaf.now _ c.requires c.in-Ok.ensures refl c.write_value.ensures.items).1
 
-pub write_entry-requires : goal.write_entry-requires
-write_entry-requires g c = (search rules, keyed_within c.args.key c.place_in-place.result c.args.entries.now.items c.requires (sym c.has_entry.ensures ∙ c.if-not-has_entry.false))
+pub returns-in-Ok-clause-leaf : goal.returns-in-Ok-clause-leaf
+returns-in-Ok-clause-leaf g c = (leaf_written c.args.key c.in-Ok.place c.args.value.now c.args.leaf.now _ c.requires c.in-Ok.ensures refl c.write_value.ensures.items).0
 
-pub returns-clause-rows : goal.returns-clause-rows
-returns-clause-rows g c =
-    let h = sym c.has_entry.ensures ∙ c.if-not-has_entry.false in
-    let all = leaf_replaced c.args.key c.place_in-place.result c.args.value.now c.args.entries.now.items c.requires c.place_in-place.ensures h in
-    ap somes c.write_entry.ensures.items ∙ all.1
+pub returns-in-Ok-clause-value : goal.returns-in-Ok-clause-value
+returns-in-Ok-clause-value g c =
+    ap (λ o. ok_or o c.args.value.now) (sym c.write_value.ensures.value ∙ found_value c.args.key c.in-Ok.place c.args.leaf.now c.requires c.in-Ok.ensures)
 
-pub returns-clause-leaf : goal.returns-clause-leaf
-returns-clause-leaf g c =
-    let h = sym c.has_entry.ensures ∙ c.if-not-has_entry.false in
-    let all = leaf_replaced c.args.key c.place_in-place.result c.args.value.now c.args.entries.now.items c.requires c.place_in-place.ensures h in
-    subst IsLeaf (sym c.write_entry.ensures.items) all.0
+pub returns-in-Err-clause-rows : goal.returns-in-Err-clause-rows
+returns-in-Err-clause-rows g c = sym ((missing_at c.args.key c.in-Err.field-0 c.args.leaf.now c.in-Err.ensures).written _)
 
-pub returns-clause-value : goal.returns-clause-value
-returns-clause-value g c =
-    let h = sym c.has_entry.ensures ∙ c.if-not-has_entry.false in
-    let es = c.args.entries.now.items in
-    c.write_entry.ensures.value ∙ handed_keyed c.args.key c.args.value.now (get_or es c.place_in-place.result None) h ∙ ap (λ o. ok_or o c.args.value.now) (found_value c.args.key c.place_in-place.result es c.requires c.place_in-place.ensures h)
+pub returns-in-Err-clause-value : goal.returns-in-Err-clause-value
+returns-in-Err-clause-value g c = sym (ap (λ o. ok_or o c.args.value.now) (missing_value c.args.key c.in-Err.field-0 c.args.leaf.now c.in-Err.ensures))

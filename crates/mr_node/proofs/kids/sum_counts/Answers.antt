@@ -1,18 +1,24 @@
-use Rattle.std.proofs.Common.{rules, arith, ◌+◌, ◌<◌, length, sym, ap, ◌∙◌}
-use Rattle.mr_node.specs.Kids.{count_of}
+use Rattle.std.proofs.Common.{arith, ◌+◌, ap, ◌∙◌}
+use Rattle.std.specs.List.{sum_by}
+use Rattle.std.proofs.lemmas.List.{take_all}
+use Rattle.mr_node.specs.Runs.{entries}
+use Rattle.mr_node.proofs.RunLemmas.{run_length}
 use Rattle.mr_node.proofs.KidLemmas.{counts_more, counts_within}
 use Rattle.mr_node.proofs.kids.sum_counts.Goals as goal
 
 pub overflow_add-total : goal.overflow_add-total
 overflow_add-total g c =
-    let long : c.loop-place.place-index < length c.args.kids.now = search rules in
-    let more = counts_more c.loop-place.place-index c.place-item.result c.args.kids.now long c.place-item.is in
-    let same = c.count_in-total.ensures ∙ ap count_of (sym c.place-item.is) in
-    omega (arith, more, same, counts_within (c.loop-place.place-index + 1) c.args.kids.now, c.loop-place.invariant, c.requires)
+    let b = c.args.branch.now in
+    let more = counts_more b.len c.loop-place.place c.count_at-total.result b.leasts b.kids c.requires.run c.loop-place-test.true c.count_at-total.ensures in
+    omega (arith, more, counts_within (c.loop-place.place + 1) (entries b.leasts b.kids), c.loop-place.invariant, c.requires.fits)
 
 pub loop-place-preserved : goal.loop-place-preserved
 loop-place-preserved g c =
-    let long : c.loop-place.place-index < length c.args.kids.now = search rules in
-    let more = counts_more c.loop-place.place-index c.place-item.result c.args.kids.now long c.place-item.is in
-    let same = c.count_in-total.ensures ∙ ap count_of (sym c.place-item.is) in
-    omega (arith, more, same, c.loop-place.invariant)
+    let b = c.args.branch.now in
+    let more = counts_more b.len c.loop-place.place c.count_at-total.result b.leasts b.kids c.requires.run c.loop-place-test.true c.count_at-total.ensures in
+    omega (arith, more, c.loop-place.invariant)
+
+pub returns : goal.returns
+returns g c =
+    let b = c.args.branch.now in
+    c.loop-place.invariant ∙ ap (sum_by (λ k. k.1.count)) (take_all c.loop-place.place (entries b.leasts b.kids) (omega (arith, run_length b.len b.leasts b.kids c.requires.run, c.loop-place-test.false)))

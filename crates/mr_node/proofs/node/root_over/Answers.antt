@@ -1,20 +1,24 @@
-use Rattle.std.proofs.Common.{arith, ◌+◌, ap, ◌∙◌}
-use Rattle.mr_node.specs.Rows.{somes}
+use Rattle.std.proofs.Common.{arith, ◌+◌, ap, subst, ◌∙◌}
+use Rattle.mr_node.specs.Pairs.{IsHalved}
 use Rattle.mr_node.proofs.SizeLemmas.{low_tree}
-use Rattle.mr_node.proofs.RootLemmas.{root_branch, no_places}
+use Rattle.mr_node.proofs.RootLemmas.{root_branch}
 use Rattle.mr_node.proofs.node.root_over.Goals as goal
 
 pub overflow_add-height : goal.overflow_add-height
-overflow_add-height g c = omega (arith, low_tree c.args.node.value c.requires.well (omega (arith, c.requires.full)), c.height-height.ensures.value, ap (λ s. s.height) c.deref.ensures)
+overflow_add-height g c = omega (arith, low_tree c.args.node.value c.requires.well (omega (arith, c.requires.full)), c.height.ensures.value, ap (λ s. s.height) c.deref.ensures)
 
 pub invariant_of-result : goal.invariant_of-result
 invariant_of-result g c =
-    let all = root_branch c.args.node.value c.put_kid-2.new.branch c.kid_of-2.result c.kid_of.result (somes c.no_kids.result) (somes c.put_kid.new.branch.kids) c.halve-low.result.0.value c.halve-low.result.1.value c.requires.well
-    (c.put_kid-2.ensures.height ∙ c.put_kid.ensures.height ∙ ap (λ n. n + 1) (c.height-height.ensures.value ∙ ap (λ s. s.height) c.deref.ensures)) (omega (arith, c.put_kid-2.ensures.len, c.put_kid.ensures.len)) c.put_kid-2.ensures.packed (no_places c.no_kids.result c.no_kids.ensures) c.put_kid.ensures.kids c.put_kid-2.ensures.kids c.halve-low.ensures.halves (ap (λ n. n.value) c.kid_of-2.ensures.node) (ap (λ n. n.value) c.kid_of.ensures.node) c.kid_of-2.ensures.kid c.kid_of.ensures.kid in
-    all.0
+    let low = c.halve_into.new.self in
+    let high = c.halve_into.new.high in
+    let half = subst (λ s. IsHalved s low high) c.deref_mut.ensures.value c.halve_into.ensures in
+    (root_branch c.args.node.value low high c.no_branch-root.result c.hang.new.branch c.hang-2.new.branch c.requires.well half
+    (c.no_branch-root.ensures.height ∙ ap (λ n. n + 1) (c.height.ensures.value ∙ ap (λ s. s.height) c.deref.ensures)) c.no_branch-root.ensures.len c.no_branch-root.ensures.run c.hang.ensures.height c.hang.ensures.len c.hang-2.ensures.height c.hang-2.ensures.len c.hang-2.ensures.run c.hang.ensures.kids c.hang-2.ensures.kids).0
 
 pub returns-clause-root : goal.returns-clause-root
 returns-clause-root g c =
-    let all = root_branch c.args.node.value c.put_kid-2.new.branch c.kid_of-2.result c.kid_of.result (somes c.no_kids.result) (somes c.put_kid.new.branch.kids) c.halve-low.result.0.value c.halve-low.result.1.value c.requires.well
-    (c.put_kid-2.ensures.height ∙ c.put_kid.ensures.height ∙ ap (λ n. n + 1) (c.height-height.ensures.value ∙ ap (λ s. s.height) c.deref.ensures)) (omega (arith, c.put_kid-2.ensures.len, c.put_kid.ensures.len)) c.put_kid-2.ensures.packed (no_places c.no_kids.result c.no_kids.ensures) c.put_kid.ensures.kids c.put_kid-2.ensures.kids c.halve-low.ensures.halves (ap (λ n. n.value) c.kid_of-2.ensures.node) (ap (λ n. n.value) c.kid_of.ensures.node) c.kid_of-2.ensures.kid c.kid_of.ensures.kid in
-    all.1
+    let low = c.halve_into.new.self in
+    let high = c.halve_into.new.high in
+    let half = subst (λ s. IsHalved s low high) c.deref_mut.ensures.value c.halve_into.ensures in
+    (root_branch c.args.node.value low high c.no_branch-root.result c.hang.new.branch c.hang-2.new.branch c.requires.well half
+    (c.no_branch-root.ensures.height ∙ ap (λ n. n + 1) (c.height.ensures.value ∙ ap (λ s. s.height) c.deref.ensures)) c.no_branch-root.ensures.len c.no_branch-root.ensures.run c.hang.ensures.height c.hang.ensures.len c.hang-2.ensures.height c.hang-2.ensures.len c.hang-2.ensures.run c.hang.ensures.kids c.hang-2.ensures.kids).1

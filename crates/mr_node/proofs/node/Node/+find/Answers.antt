@@ -1,8 +1,8 @@
-use Rattle.std.proofs.Common.{◌≡◌, option_map, sym, ap, subst, ◌∙◌}
+use Rattle.std.proofs.Common.{rules, ◌≡◌, option_map, sym, ap, subst, ◌∙◌}
 use Rattle.mr_node.specs.Rows.{value_at}
 use Rattle.mr_node.specs.Levels.{IsNode, IsBranch, seen, seen_branch}
 use Rattle.mr_node.proofs.PlaceLemmas.{got_used, never_none}
-use Rattle.mr_node.proofs.NodeLemmas.{find_branch}
+use Rattle.mr_node.proofs.NodeLemmas.{find_branch, kids_rise, kids_below}
 use Rattle.mr_node.proofs.node.Node.+find.Goals as goal
 
 pub unreachable-requires : goal.unreachable-requires
@@ -10,14 +10,20 @@ unreachable-requires g t c =
     let branch = c.in-Inner.branch in
     let whole : IsBranch branch = subst IsNode c.in-Inner.is c.self.invariant in
     let at = c.place_of-place.ensures in
-    never_none branch.len c.place_of-place.result c.index-branch-place.result branch.kids whole.packed at.within c.in-None.is
+    never_none branch.len c.place_of-place.result c.index-branch-place.result branch.kids whole.run.packed at.within c.in-None.is
 
 pub returns-in-Some : goal.returns-in-Some
 returns-in-Some g t c =
     let branch = c.in-Inner.branch in
     let whole : IsBranch branch = subst IsNode c.in-Inner.is c.self.invariant in
     let at = c.place_of-place.ensures in
-    let got = got_used branch.len c.place_of-place.result c.index-branch-place.result c.in-Some.kid branch.kids whole.packed at.within c.in-Some.is in
+    let got = got_used branch.len c.place_of-place.result c.index-branch-place.result c.in-Some.kid branch.kids whole.run.packed at.within c.in-Some.is in
     let now : c.args.self.now ≡ seen_branch branch = sym c.self.view_is ∙ ap seen c.in-Inner.is in
     let below = find_branch c.args.key c.place_of-place.result branch c.in-Some.kid whole at got in
     c.find.ensures ∙ ap (λ s. value_at c.args.key s.rows) c.deref.ensures ∙ sym (ap (option_map (λ p. p.1)) below) ∙ sym (ap (λ s. value_at c.args.key s.rows) now)
+
+pub place_of-place-requires : goal.place_of-place-requires
+place_of-place-requires g t c =
+    let branch = c.in-Inner.branch in
+    let whole : IsBranch branch = subst IsNode c.in-Inner.is c.self.invariant in
+    (search rules, (whole.some, (whole.run, (kids_rise branch whole, kids_below branch whole))))

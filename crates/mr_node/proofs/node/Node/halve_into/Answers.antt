@@ -1,37 +1,80 @@
-use Rattle.std.proofs.Common.{rules, refl, sym, ap, subst, ◌∙◌}
-use Rattle.mr_node.specs.Levels.{seen, IsNode, IsLeaf, IsBranch}
-use Rattle.mr_node.proofs.EvenLemmas.{halved_leaf, halves_of_leaf, halved_branch, halves_of_branch}
-use Rattle.mr_node.proofs.node.Node.halve_into.Goals.{in-Leaf, in-Inner}
+use Rattle.std.proofs.Common.{rules, ◌≡◌, [], arith, sym, ap, subst, ◌∙◌, length}
+use Rattle.mr_node.specs.Levels.{seen, pairs_of, IsNode, IsLeaf, IsBranch, seen_leaf, seen_branch}
+use Rattle.mr_node.proofs.RunLemmas.{run_length}
+use Rattle.mr_node.proofs.EvenLemmas.{leaf_length, branch_length, halved_leaf, halved_branch, halved_by}
+use Rattle.mr_node.proofs.node.Node.halve_into.Goals.{in-Leaf+in-Leaf-body, in-Inner}
 use Rattle.mr_node.proofs.node.Node.halve_into.Goals as goal
 
-pub put_leaf-requires : goal.put_leaf-requires
-put_leaf-requires g c =
-    let leaf : IsLeaf c.in-Leaf.left.items = subst IsNode c.in-Leaf.is c.self.invariant in
-    (search rules, (search rules, (halved_leaf c.in-Leaf.left.items c.new-right.result.items c.halve_entries.new.left.items c.halve_entries.new.right.items leaf c.new-right.ensures c.halve_entries.ensures.entries c.halve_entries.ensures.left_len c.halve_entries.ensures.right_len).1))
+pub share-requires-clause-enough : goal.share-requires-clause-enough
+share-requires-clause-enough g c =
+    let leaf : IsLeaf c.in-Leaf.left = subst IsNode c.in-Leaf.is c.self.invariant in
+    let now : seen_leaf c.in-Leaf.left ≡ c.args.self.now = sym (ap seen c.in-Leaf.is) ∙ c.self.view_is in
+    omega (arith, leaf_length c.in-Leaf.left leaf.run, ap (λ s. s.width) now, c.requires)
+
+pub share-requires-clause-room : goal.share-requires-clause-room
+share-requires-clause-room g c =
+    let leaf : IsLeaf c.in-Leaf.left = subst IsNode c.in-Leaf.is c.self.invariant in
+    let none : pairs_of c.in-Leaf-body.right ≡ [] = ap (λ s. s.rows) (sym (ap seen c.in-Leaf-body.is) ∙ c.high.view_is ∙ c.make_blank.ensures) in
+    omega (arith, leaf_length c.in-Leaf.left leaf.run, leaf.run.fits, ap length none)
+
+pub invariant_of-high : goal.invariant_of-high
+invariant_of-high g c =
+    let a = c.in-Leaf.left in
+    let b = c.in-Leaf-body.right in
+    let now : seen_leaf a ≡ c.args.self.now = sym (ap seen c.in-Leaf.is) ∙ c.self.view_is in
+    let none : pairs_of b ≡ [] = ap (λ s. s.rows) (sym (ap seen c.in-Leaf-body.is) ∙ c.high.view_is ∙ c.make_blank.ensures) in
+    (halved_leaf a b c.share.new.left c.share.new.right (subst IsNode c.in-Leaf.is c.self.invariant) (subst IsNode c.in-Leaf-body.is c.high.invariant) none (record { left = c.share.ensures.left_run; right = c.share.ensures.right_run; list = c.share.ensures.list }) (ap (λ s. s.width) now ∙ c.requires) c.share.ensures.len).1
+
+pub share-requires-in-Inner-clause-enough : goal.share-requires-in-Inner-clause-enough
+share-requires-in-Inner-clause-enough g c =
+    let branch : IsBranch c.in-Inner.left = subst IsNode c.in-Inner.is c.self.invariant in
+    let now : seen_branch c.in-Inner.left ≡ c.args.self.now = sym (ap seen c.in-Inner.is) ∙ c.self.view_is in
+    omega (arith, branch_length c.in-Inner.left branch.run, ap (λ s. s.width) now, c.requires)
+
+pub share-requires-in-Inner-clause-room : goal.share-requires-in-Inner-clause-room
+share-requires-in-Inner-clause-room g c =
+    let branch : IsBranch c.in-Inner.left = subst IsNode c.in-Inner.is c.self.invariant in
+    let right = c.no_branch-right.result in
+    omega (arith, branch_length c.in-Inner.left branch.run, branch.run.fits, run_length 0 right.leasts right.kids c.no_branch-right.ensures.run)
 
 pub put_inner-requires : goal.put_inner-requires
 put_inner-requires g c =
-    let branch : IsBranch c.in-Inner.left = subst IsNode c.in-Inner.is c.self.invariant in
-    (search rules, (search rules, (halved_branch c.in-Inner.left (record { height = c.in-Inner.left.height; len = 0; kids = c.no_kids.result }) c.halve_kids.new.left c.halve_kids.new.right branch refl c.no_kids.ensures c.halve_kids.ensures.moved c.halve_kids.ensures.left_len c.halve_kids.ensures.right_len).1))
+    let a = c.in-Inner.left in
+    let branch : IsBranch a = subst IsNode c.in-Inner.is c.self.invariant in
+    let now : seen_branch a ≡ c.args.self.now = sym (ap seen c.in-Inner.is) ∙ c.self.view_is in
+    let share = c.share-in-Inner in
+    (search rules, (search rules, (halved_branch a c.no_branch-right.result share.new.left share.new.right branch c.no_branch-right.ensures.run c.no_branch-right.ensures.height (record { left = share.ensures.left_run; right = share.ensures.right_run; list = share.ensures.list; left_height = share.ensures.left_height; right_height = share.ensures.right_height }) (ap (λ s. s.width) now ∙ c.requires) share.ensures.len).1))
 
 pub invariant_of-self : goal.invariant_of-self
 invariant_of-self g c = elim c.match-self.branch [
-  | in-Leaf w ↦
-      let leaf : IsLeaf w.in-Leaf.left.items = subst IsNode w.in-Leaf.is c.self.invariant in
-      subst (λ i. IsNode i.body) (sym w.self-inside-is) (halved_leaf w.in-Leaf.left.items w.new-right.result.items w.halve_entries.new.left.items w.halve_entries.new.right.items leaf w.new-right.ensures w.halve_entries.ensures.entries w.halve_entries.ensures.left_len w.halve_entries.ensures.right_len).0
+  | in-Leaf+in-Leaf-body w ↦
+      let a = w.in-Leaf.left in
+      let b = w.in-Leaf-body.right in
+      let now : seen_leaf a ≡ c.args.self.now = sym (ap seen w.in-Leaf.is) ∙ c.self.view_is in
+      let none : pairs_of b ≡ [] = ap (λ s. s.rows) (sym (ap seen w.in-Leaf-body.is) ∙ w.high.view_is ∙ c.make_blank.ensures) in
+      subst (λ i. IsNode i.body) (sym w.self-inside-is)
+      (halved_leaf a b w.share.new.left w.share.new.right (subst IsNode w.in-Leaf.is c.self.invariant) (subst IsNode w.in-Leaf-body.is w.high.invariant) none (record { left = w.share.ensures.left_run; right = w.share.ensures.right_run; list = w.share.ensures.list }) (ap (λ s. s.width) now ∙ c.requires) w.share.ensures.len).0
   | in-Inner w ↦
-      let branch : IsBranch w.in-Inner.left = subst IsNode w.in-Inner.is c.self.invariant in
-      subst (λ i. IsNode i.body) (sym w.self-inside-is) (halved_branch w.in-Inner.left (record { height = w.in-Inner.left.height; len = 0; kids = w.no_kids.result }) w.halve_kids.new.left w.halve_kids.new.right branch refl w.no_kids.ensures w.halve_kids.ensures.moved w.halve_kids.ensures.left_len w.halve_kids.ensures.right_len).0
+      let a = w.in-Inner.left in
+      let now : seen_branch a ≡ c.args.self.now = sym (ap seen w.in-Inner.is) ∙ c.self.view_is in
+      let share = w.share-in-Inner in
+      subst (λ i. IsNode i.body) (sym w.self-inside-is)
+      (halved_branch a w.no_branch-right.result share.new.left share.new.right (subst IsNode w.in-Inner.is c.self.invariant) w.no_branch-right.ensures.run w.no_branch-right.ensures.height (record { left = share.ensures.left_run; right = share.ensures.right_run; list = share.ensures.list; left_height = share.ensures.left_height; right_height = share.ensures.right_height }) (ap (λ s. s.width) now ∙ c.requires) share.ensures.len).0
 ]
 
 pub returns : goal.returns
 returns g c = elim c.match-self.branch [
-  | in-Leaf w ↦
-      let leaf : IsLeaf w.in-Leaf.left.items = subst IsNode w.in-Leaf.is c.self.invariant in
-      let now = sym (ap seen w.in-Leaf.is) ∙ c.self.view_is in
-      halves_of_leaf w.in-Leaf.left.items w.new-right.result.items w.halve_entries.new.left.items w.halve_entries.new.right.items leaf w.new-right.ensures w.halve_entries.ensures.entries w.halve_entries.ensures.left_len w.halve_entries.ensures.right_len c.args.self.now (seen c.match-self.self-inside.body) c.match-self.high now (ap (λ i. seen i.body) w.self-inside-is) (w.high-is ∙ w.put_leaf.ensures)
+  | in-Leaf+in-Leaf-body w ↦
+      let a = w.in-Leaf.left in
+      let b = w.in-Leaf-body.right in
+      let now : seen_leaf a ≡ c.args.self.now = sym (ap seen w.in-Leaf.is) ∙ c.self.view_is in
+      let none : pairs_of b ≡ [] = ap (λ s. s.rows) (sym (ap seen w.in-Leaf-body.is) ∙ w.high.view_is ∙ c.make_blank.ensures) in
+      let all = halved_leaf a b w.share.new.left w.share.new.right (subst IsNode w.in-Leaf.is c.self.invariant) (subst IsNode w.in-Leaf-body.is w.high.invariant) none (record { left = w.share.ensures.left_run; right = w.share.ensures.right_run; list = w.share.ensures.list }) (ap (λ s. s.width) now ∙ c.requires) w.share.ensures.len in
+      halved_by (seen_leaf a) (seen_leaf w.share.new.left) (seen_leaf w.share.new.right) c.args.self.now (seen c.match-self.self-inside.body) c.match-self.high all.2 now (ap (λ i. seen i.body) w.self-inside-is) w.high-is
   | in-Inner w ↦
-      let branch : IsBranch w.in-Inner.left = subst IsNode w.in-Inner.is c.self.invariant in
-      let now = sym (ap seen w.in-Inner.is) ∙ c.self.view_is in
-      halves_of_branch w.in-Inner.left (record { height = w.in-Inner.left.height; len = 0; kids = w.no_kids.result }) w.halve_kids.new.left w.halve_kids.new.right branch refl w.no_kids.ensures w.halve_kids.ensures.moved w.halve_kids.ensures.left_len w.halve_kids.ensures.right_len c.args.self.now (seen c.match-self.self-inside.body) c.match-self.high now (ap (λ i. seen i.body) w.self-inside-is) (w.high-is ∙ w.put_inner.ensures)
+      let a = w.in-Inner.left in
+      let now : seen_branch a ≡ c.args.self.now = sym (ap seen w.in-Inner.is) ∙ c.self.view_is in
+      let share = w.share-in-Inner in
+      let all = halved_branch a w.no_branch-right.result share.new.left share.new.right (subst IsNode w.in-Inner.is c.self.invariant) w.no_branch-right.ensures.run w.no_branch-right.ensures.height (record { left = share.ensures.left_run; right = share.ensures.right_run; list = share.ensures.list; left_height = share.ensures.left_height; right_height = share.ensures.right_height }) (ap (λ s. s.width) now ∙ c.requires) share.ensures.len in
+      halved_by (seen_branch a) (seen_branch share.new.left) (seen_branch share.new.right) c.args.self.now (seen c.match-self.self-inside.body) c.match-self.high all.2 now (ap (λ i. seen i.body) w.self-inside-is) (w.high-is ∙ w.put_inner.ensures)
 ]

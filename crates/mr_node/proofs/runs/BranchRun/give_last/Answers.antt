@@ -1,0 +1,58 @@
+use Rattle.std.proofs.Common.{rules, arith, ◌≡◌, ◌-◌, length}
+use Rattle.mr_node.proofs.RunLemmas.{run_length}
+use Rattle.mr_node.proofs.ShareLemmas.{branch_given}
+use Rattle.mr_node.proofs.runs.BranchRun.give_last.Goals as goal
+
+pub overflow_sub-self : goal.overflow_sub-self
+overflow_sub-self g c = omega (arith, run_length _ _ _ c.requires.run, c.requires.some)
+
+pub bounds-to-to : goal.bounds-to-to
+bounds-to-to g c = omega (arith, run_length _ _ _ c.requires.to_run, c.requires.room)
+
+pub listed-2 : goal.listed-2
+listed-2 g c =
+    let wide : length c.args.to.now.kids ≡ 32 = search rules in
+    omega (arith, run_length _ _ _ c.requires.to_run, c.requires.room, wide)
+
+pub way_replace-to : goal.way_replace-to
+way_replace-to g c = omega (arith, run_length _ _ _ c.requires.to_run, c.requires.room)
+
+pub returns-clause-run : goal.returns-clause-run
+returns-clause-run g c =
+    let b = c.args.self.now in
+    let t = c.args.to.now in
+    let long : length t.leasts ≡ 32 = search rules in
+    let wide : length t.kids ≡ 32 = search rules in
+    let len = run_length _ _ _ c.requires.run in
+    let room = run_length _ _ _ c.requires.to_run in
+    (branch_given b.len (b.len - 1) t.len c.index-self-last.result c.take.new.self c.take.result b.leasts t.leasts b.kids t.kids (omega (arith, len, c.requires.some)) c.requires.run c.requires.to_run long wide (omega (arith, room, c.requires.room)) c.take.ensures.value c.take.ensures.after).0
+
+pub returns-clause-to_run : goal.returns-clause-to_run
+returns-clause-to_run g c =
+    let b = c.args.self.now in
+    let t = c.args.to.now in
+    let long : length t.leasts ≡ 32 = search rules in
+    let wide : length t.kids ≡ 32 = search rules in
+    let len = run_length _ _ _ c.requires.run in
+    let room = run_length _ _ _ c.requires.to_run in
+    (branch_given b.len (b.len - 1) t.len c.index-self-last.result c.take.new.self c.take.result b.leasts t.leasts b.kids t.kids (omega (arith, len, c.requires.some)) c.requires.run c.requires.to_run long wide (omega (arith, room, c.requires.room)) c.take.ensures.value c.take.ensures.after).1
+
+pub returns-clause-rest : goal.returns-clause-rest
+returns-clause-rest g c =
+    let b = c.args.self.now in
+    let t = c.args.to.now in
+    let long : length t.leasts ≡ 32 = search rules in
+    let wide : length t.kids ≡ 32 = search rules in
+    let len = run_length _ _ _ c.requires.run in
+    let room = run_length _ _ _ c.requires.to_run in
+    (branch_given b.len (b.len - 1) t.len c.index-self-last.result c.take.new.self c.take.result b.leasts t.leasts b.kids t.kids (omega (arith, len, c.requires.some)) c.requires.run c.requires.to_run long wide (omega (arith, room, c.requires.room)) c.take.ensures.value c.take.ensures.after).2
+
+pub returns-clause-moved : goal.returns-clause-moved
+returns-clause-moved g c =
+    let b = c.args.self.now in
+    let t = c.args.to.now in
+    let long : length t.leasts ≡ 32 = search rules in
+    let wide : length t.kids ≡ 32 = search rules in
+    let len = run_length _ _ _ c.requires.run in
+    let room = run_length _ _ _ c.requires.to_run in
+    (branch_given b.len (b.len - 1) t.len c.index-self-last.result c.take.new.self c.take.result b.leasts t.leasts b.kids t.kids (omega (arith, len, c.requires.some)) c.requires.run c.requires.to_run long wide (omega (arith, room, c.requires.room)) c.take.ensures.value c.take.ensures.after).3

@@ -1,0 +1,63 @@
+//! The keys of a node: a plain array of 32 in rising order, with the greatest number behind the last key.
+ghost use Rattle.std.specs.Prelude.{◌≡◌, ◌+◌, ◌-◌, ◌*◌, ◌<◌, ◌≤◌, [], ◌∷◌, ◌++◌, insert, remove, take, slice_index_or, slice_set, nat_lt, if◌then◌else◌};
+ghost use Rattle.mr_node.specs.Runs.{no_key};
+ghost use Rattle.mr_node.specs.Search.{IsRising, IsStop};
+
+use crate::places::{last_to, move_to_end};
+
+/// What stands behind the last key.
+pub(crate) const NO_KEY: u64 = u64::MAX;
+
+// 1 where the key at a place is less than this one, else 0.
+fn is_less(keys: &[u64; 32], place: usize, key: u64) -> usize
+    requires { place < 32 }
+    ensures { result ≡ (if nat_lt (slice_index_or keys.now place 0) key then 1 else 0) }
+{
+    usize::from(keys[place] < key)
+}
+
+// How many of the seven keys that stand four places apart are less than a key.
+fn fours_below(keys: &[u64; 32], key: u64) -> usize
+    requires { IsRising keys.now }
+    ensures within { result < 8 }
+    ensures before { 0 < result → slice_index_or keys.now (4 * result - 1) 0 < key }
+    ensures next { result < 7 → key ≤ slice_index_or keys.now (4 * result + 3) 0 }
+{
+    is_less(keys, 3, key)
+        + is_less(keys, 7, key)
+        + is_less(keys, 11, key)
+        + is_less(keys, 15, key)
+        + is_less(keys, 19, key)
+        + is_less(keys, 23, key)
+        + is_less(keys, 27, key)
+}
+
+/// How many of the keys are less than a key: eleven looks that are added up, with no branch on a key.
+pub(crate) fn count_below(keys: &[u64; 32], key: u64) -> usize
+    requires { IsRising keys.now }
+    ensures { IsStop key result keys.now }
+{
+    let low = 4 * fours_below(keys, key);
+    low + is_less(keys, low, key)
+        + is_less(keys, low + 1, key)
+        + is_less(keys, low + 2, key)
+        + is_less(keys, low + 3, key)
+}
+
+// Puts a key among the others; what stands in the last place is let go.
+pub(crate) fn put_key(keys: &mut [u64; 32], place: usize, key: u64)
+    requires { place < 32 }
+    ensures { keys.new ≡ insert (take 31 keys.old) place key }
+{
+    keys[31] = key;
+    last_to(keys, place);
+}
+
+// Takes the key at a place out, and closes the gap.
+pub(crate) fn take_key(keys: &mut [u64; 32], place: usize)
+    requires { place < 32 }
+    ensures { keys.new ≡ remove keys.old place ++ no_key ∷ [] }
+{
+    keys[place] = NO_KEY;
+    move_to_end(keys, place, place + 1);
+}

@@ -1,0 +1,28 @@
+//! Arrays of 32 places, of which the first ones are used.
+ghost use Rattle.std.specs.Prelude.{◌≡◌, ◌+◌, ◌<◌, ◌≤◌, List, [], ◌∷◌, ◌++◌, length, reverse, take, drop, slice_range, insert};
+ghost use Rattle.std.specs.List.{remove_range};
+
+// Moves the last element to `place`, and the elements from there on up.
+pub(crate) fn last_to<T>(items: &mut [T], place: usize)
+    requires { place < length items.old }
+    ensures { (front : List T) (last : T) → items.old ≡ front ++ last ∷ [] → items.new ≡ insert front place last }
+{
+    items[place..].rotate_right(1);
+}
+
+// Moves the elements from `start` up to `end` behind the others.
+pub(crate) fn move_to_end<T>(items: &mut [T], start: usize, end: usize)
+    requires start_le_end { start ≤ end }
+    requires in_bounds { end ≤ length items.old }
+    ensures { items.new ≡ remove_range items.old start end ++ slice_range items.old start end }
+{
+    items[start..].rotate_left(end - start);
+}
+
+// Turns the order of the first `len` elements round.
+pub(crate) fn turn_front<T>(items: &mut [T], len: usize)
+    requires { len ≤ length items.old }
+    ensures { items.new ≡ reverse (take len items.old) ++ drop len items.old }
+{
+    items[..len].reverse();
+}

@@ -1,0 +1,188 @@
+//! Two neighbours that share their entries or children anew.
+ghost use Rattle.std.specs.Prelude.{◌≡◌, ◌+◌, ◌-◌, ◌*◌, ◌<◌, ◌≤◌, ℕ, List, ◌++◌, length, reverse, take, drop, min, max};
+ghost use Rattle.mr_node.specs.Runs.{IsRun, entries};
+ghost use Rattle.mr_node.specs.Levels.{pairs_of};
+ghost use Rattle.mr_node.specs.Pairs.{AreEvenWidths};
+
+use crate::keys::NO_KEY;
+use crate::places::turn_front;
+use crate::{Branch, Kid, Leaf};
+
+// A leaf or an inner node's part, as a list of entries that gives and takes at its end.
+pub(crate) trait Run {
+    type Item;
+
+    ghost list: { Self → List (ℕ × Self.Item) };
+
+    ghost is_run: { Self → Type 0 };
+
+    ghost height: { Self → ℕ };
+
+    // The number of entries.
+    fn width(&self) -> usize
+        requires { is_run self.now }
+        ensures { result ≡ length (list self.now) };
+
+    // Moves the last entry behind those of another one.
+    fn give_last(&mut self, to: &mut Self)
+        requires run { is_run self.old }
+        requires to_run { is_run to.old }
+        requires some { 0 < length (list self.old) }
+        requires room { length (list to.old) < 32 }
+        ensures run { is_run self.new }
+        ensures to_run { is_run to.new }
+        ensures rest { list self.new ≡ take (length (list self.old) - 1) (list self.old) }
+        ensures moved { list to.new ≡ list to.old ++ drop (length (list self.old) - 1) (list self.old) }
+        ensures height { height self.new ≡ height self.old }
+        ensures to_height { height to.new ≡ height to.old };
+
+    // Turns the order of the entries round.
+    fn turn(&mut self)
+        requires { is_run self.old }
+        ensures run { is_run self.new }
+        ensures turned { list self.new ≡ reverse (list self.old) }
+        ensures height { height self.new ≡ height self.old };
+}
+
+impl<V: Drop> Run for Leaf<V> {
+    type Item = V;
+
+    ghost list = { pairs_of };
+
+    ghost is_run = { λ leaf. IsRun (length leaf.values.items) leaf.keys leaf.values.items };
+
+    ghost height = { λ leaf. 0 };
+
+    fn width(&self) -> usize {
+        self.values.len()
+    }
+
+    fn give_last(&mut self, to: &mut Self) {
+        let last = self.values.len() - 1;
+        to.keys[to.values.len()] = self.keys[last];
+        self.keys[last] = NO_KEY;
+        match self.values.pop() {
+            Some(value) => to.values.push(value),
+            None => unreachable!(),
+        }
+    }
+
+    fn turn(&mut self) {
+        turn_front(&mut self.keys, self.values.len());
+        self.values.as_mut_slice().reverse();
+    }
+}
+
+impl<B: Drop> Run for Branch<B> {
+    type Item = Kid<B>;
+
+    ghost list = { λ branch. entries branch.leasts branch.kids };
+
+    ghost is_run = { λ branch. IsRun branch.len branch.leasts branch.kids };
+
+    ghost height = { λ branch. branch.height };
+
+    fn width(&self) -> usize {
+        self.len
+    }
+
+    fn give_last(&mut self, to: &mut Self) {
+        self.len -= 1;
+        let last = self.len;
+        to.leasts[to.len] = self.leasts[last];
+        self.leasts[last] = NO_KEY;
+        to.kids[to.len] = self.kids[last].take();
+        to.len += 1;
+    }
+
+    fn turn(&mut self) {
+        turn_front(&mut self.leasts, self.len);
+        turn_front(&mut self.kids, self.len);
+    }
+}
+
+// Moves entries from the end of the right one to that of the left one, until it has `low`.
+fn fill<R: Run>(left: &mut R, right: &mut R, low: usize)
+    requires left_run { R.is_run left.old }
+    requires right_run { R.is_run right.old }
+    requires fits { low ≤ 32 }
+    requires enough { low ≤ length (R.list left.old) + length (R.list right.old) }
+    ensures left_run { R.is_run left.new }
+    ensures right_run { R.is_run right.new }
+    ensures list { R.list left.new ++ reverse (R.list right.new) ≡ R.list left.old ++ reverse (R.list right.old) }
+    ensures len { length (R.list left.new) ≡ max (length (R.list left.old)) low }
+    ensures left_height { R.height left.new ≡ R.height left.old }
+    ensures right_height { R.height right.new ≡ R.height right.old }
+{
+    while left.width() < low {
+        right.give_last(left);
+    }
+}
+
+// Moves entries from the end of the left one to that of the right one, until the left one has `low`.
+fn spill<R: Run>(left: &mut R, right: &mut R, low: usize)
+    requires left_run { R.is_run left.old }
+    requires right_run { R.is_run right.old }
+    requires room { length (R.list left.old) + length (R.list right.old) ≤ low + 32 }
+    ensures left_run { R.is_run left.new }
+    ensures right_run { R.is_run right.new }
+    ensures list { R.list left.new ++ reverse (R.list right.new) ≡ R.list left.old ++ reverse (R.list right.old) }
+    ensures len { length (R.list left.new) ≡ min (length (R.list left.old)) low }
+    ensures left_height { R.height left.new ≡ R.height left.old }
+    ensures right_height { R.height right.new ≡ R.height right.old }
+{
+    while left.width() > low {
+        left.give_last(right);
+    }
+}
+
+/// Moves entries between two neighbours until the left one has `low` of them.
+pub(crate) fn share<R: Run>(left: &mut R, right: &mut R, low: usize)
+    requires left_run { R.is_run left.old }
+    requires right_run { R.is_run right.old }
+    requires fits { low ≤ 32 }
+    requires enough { low ≤ length (R.list left.old) + length (R.list right.old) }
+    requires room { length (R.list left.old) + length (R.list right.old) ≤ low + 32 }
+    ensures left_run { R.is_run left.new }
+    ensures right_run { R.is_run right.new }
+    ensures list { R.list left.new ++ R.list right.new ≡ R.list left.old ++ R.list right.old }
+    ensures len { length (R.list left.new) ≡ low }
+    ensures left_height { R.height left.new ≡ R.height left.old }
+    ensures right_height { R.height right.new ≡ R.height right.old }
+{
+    right.turn();
+    fill(left, right, low);
+    spill(left, right, low);
+    right.turn();
+}
+
+// How many of so many entries the left one of two neighbours gets: all where they fit, else half of them.
+fn low_of(both: usize) -> usize
+    ensures all { both ≤ 32 → result ≡ both }
+    ensures half { 32 < both → (2 * result ≤ both) × (both ≤ 2 * result + 1) }
+{
+    if both <= 32 {
+        return both;
+    }
+    both / 2
+}
+
+/// Makes two neighbours into one where their entries fit one, else into two half full ones: true where it is one.
+pub(crate) fn even<R: Run>(left: &mut R, right: &mut R) -> bool
+    requires left_run { R.is_run left.old }
+    requires right_run { R.is_run right.old }
+    requires left_some { 15 ≤ length (R.list left.old) }
+    requires right_some { 15 ≤ length (R.list right.old) }
+    requires left_fits { length (R.list left.old) ≤ 32 }
+    requires right_fits { length (R.list right.old) ≤ 32 }
+    ensures left_run { R.is_run left.new }
+    ensures right_run { R.is_run right.new }
+    ensures list { R.list left.new ++ R.list right.new ≡ R.list left.old ++ R.list right.old }
+    ensures even { AreEvenWidths result (length (R.list left.new)) (length (R.list right.new)) }
+    ensures left_height { R.height left.new ≡ R.height left.old }
+    ensures right_height { R.height right.new ≡ R.height right.old }
+{
+    let both = left.width() + right.width();
+    share(left, right, low_of(both));
+    both <= 32
+}
