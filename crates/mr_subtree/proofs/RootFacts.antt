@@ -1,14 +1,15 @@
 -- What the rules of a root say of its height.
-use Rattle.std.proofs.Common.{◌≡◌, ℕ, ◌^◌, ◌<◌, ◌≤◌, length, Result, Ok, Err, IfErr, sym, subst, arith, inl, inr, add-one}
+use Rattle.std.proofs.Common.{◌≡◌, ℕ, ◌^◌, ◌<◌, ◌≤◌, length, List, Option, Some, None, IsSome, IfSome, Result, Ok, Err, IfErr, refl, sym, ap, subst, ◌∙◌, arith, inl, inr, add-one}
 use Rattle.tatp_rows.specs.declared.refusal.Back.{Back}
 use Rattle.tatp_rows.specs.declared.refusal.Refusal.TheVariants.{Memory}
 use Rattle.std.proofs.Math.Nat.{mul-le-mul_right, pow-suc}
 use Rattle.std.proofs.lemmas.Bool.{cases_lt}
-use Rattle.mr_node.specs.Rows.{Seen}
+use Rattle.tatp_rows.specs.Ordered.{row_at, with_row}
+use Rattle.mr_node.specs.Rows.{Seen, key_of_pair}
 use Rattle.mr_node.specs.Growth.{IsGrown}
 use Rattle.mr_node.specs.Changes.{IsHeightened}
 use Rattle.mr_node.proofs.SizeLemmas.{low_tree}
-use Rattle.mr_subtree.specs.Trees.{IsRoot, IsHeightOf}
+use Rattle.mr_subtree.specs.Trees.{IsRoot, IsHeightOf, IsInserted}
 
 module _ {V : Type 0} where
   height_bounds : (s : Seen V) → IsRoot s → IsHeightOf s.height (length s.rows)
@@ -27,11 +28,30 @@ module _ {V : Type 0} where
     | inr leaf ↦ omega (arith, leaf)
   ]
 
-  pub grown_root : (key : ℕ) (value : V) (s new : Seen V) → IsRoot s → IsGrown key value s new → IsRoot new
-  grown_root key value s new root grown = record { well = grown.well; two = λ h. omega (arith, root.two (omega (arith, h, grown.level)), grown.width) }
+  -- a row that came in: the root stays one, and its rows are those of before and one more
+  pub grown_root : (key : ℕ) (item : Option V) (s new now : Seen V) → s ≡ now → IsRoot s → IsSome item → IfSome item (λ value. IsGrown key value s new) → (IsRoot new) × IfSome item (λ value. new.rows ≡ with_row key_of_pair (key, value) now.rows)
+  grown_root key None s new now e root some grown = let wrong : ⊥ = cc in absurd wrong
+  grown_root key (Some value) s new now e root some grown = (
+    record { well = grown.well; two = λ h. omega (arith, root.two (omega (arith, h, grown.level)), grown.width) },
+    grown.rows ∙ ap (λ x. with_row key_of_pair (key, value) x.rows) e,
+  )
 
-  pub higher_root : (key : ℕ) (value : V) (s mid new : Seen V) → IsHeightened s mid → IsGrown key value mid new → IsRoot new
-  higher_root key value s mid new high grown = record { well = grown.well; two = λ h. omega (arith, high.width, grown.width) }
+  pub higher_root : (key : ℕ) (item : Option V) (s mid new now : Seen V) → s ≡ now → IsHeightened s mid → IsSome item → IfSome item (λ value. IsGrown key value mid new) → (IsRoot new) × IfSome item (λ value. new.rows ≡ with_row key_of_pair (key, value) now.rows)
+  higher_root key None s mid new now e high some grown = let wrong : ⊥ = cc in absurd wrong
+  higher_root key (Some value) s mid new now e high some grown = (
+    record { well = grown.well; two = λ h. omega (arith, high.width, grown.width) },
+    grown.rows ∙ ap (with_row key_of_pair (key, value)) (high.rows ∙ ap (λ x. x.rows) e),
+  )
+
+  -- an insertion whose row went in
+  pub inserted : (key : ℕ) (item : Option V) (old new : List (ℕ × V)) → row_at key_of_pair key old ≡ None → IfSome item (λ value. new ≡ with_row key_of_pair (key, value) old) → IfSome item (λ value. IsInserted key value old new (Ok tt))
+  inserted key None old new none rows = tt
+  inserted key (Some value) old new none rows = (none, rows)
+
+  -- one that was refused for want of memory
+  pub no_memory : (key : ℕ) (item : Option V) (answer : Result (Unit {0}) (Back V)) (old new : List (ℕ × V)) → row_at key_of_pair key old ≡ None → new ≡ old → IfSome item (λ value. answer ≡ Err (record { why = Memory; item = value })) → IfSome item (λ value. IsInserted key value old new answer)
+  no_memory key None answer old new none same e = tt
+  no_memory key (Some value) answer old new none same e = subst (IsInserted key value old new) (sym e) (refl, same, (λ some. let there = subst (λ o. IsSome o) none some in let wrong : ⊥ = cc in absurd wrong), (λ none. refl))
 
 -- where there are 32 rows or more, the answer says nothing new
 pub memory_wanted : {V : Type 0} (answer : Result (Unit {0}) (Back V)) (n : ℕ) → 32 ≤ n → IfErr answer (λ back. back.why ≡ Memory → 32 ≤ n)

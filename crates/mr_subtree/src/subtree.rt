@@ -1,5 +1,5 @@
 //! The tree over the nodes of `mr_node`.
-ghost use Rattle.std.specs.Prelude.{◌≡◌, ◌+◌, ◌<◌, ◌≤◌, ℕ, None, [], length, nat_le, option_map, ok_or, IfOk, IfErr, OnErr};
+ghost use Rattle.std.specs.Prelude.{◌≡◌, ◌+◌, ◌<◌, ◌≤◌, ℕ, None, [], length, nat_le, option_map, ok_or, Err, IsSome, IfSome, IfOk, IfErr, OnErr};
 ghost use Rattle.std.specs.List.{find};
 ghost use Rattle.tatp_rows.specs.Ordered.{row_at, with_row, with_row_at, without_row};
 ghost use Rattle.mr_node.specs.Rows.{key_limit, key_of_pair, value_at};
@@ -112,13 +112,11 @@ impl<V: Drop> SubTree<V> {
         ensures kept { OnErr result (self.new ≡ self.old) }
         ensures memory { IfErr result (λ back. back.why ≡ Refusal.Memory → 32 ≤ length self.old.rows) }
     {
-        match self.root.insert_room(key, value) {
+        let mut item = Some(value);
+        match self.root.insert_room(key, &mut item) {
             Room::Done => Ok(()),
-            Room::Exists(item) => Err(Back {
-                why: Refusal::Exists,
-                item,
-            }),
-            Room::Full(item) => self.insert_full(key, item),
+            Room::Exists => refused(Refusal::Exists, item),
+            Room::Full => self.insert_full(key, item),
         }
     }
 
@@ -137,36 +135,46 @@ impl<V: Drop> SubTree<V> {
     // Puts a row in whose leaf is full: all blank nodes are taken before the tree changes.
     #[cold]
     #[inline(never)]
-    fn insert_full(&mut self, key: u64, value: V) -> Result<(), Back<V>>
+    fn insert_full(&mut self, key: u64, mut item: Option<V>) -> Result<(), Back<V>>
         requires small { key < key_limit }
+        requires some { IsSome item }
         requires missing { row_at key_of_pair key self.old.rows ≡ None }
-        ensures answer { IsInserted key value self.old.rows self.new.rows result }
+        ensures answer { IfSome item (λ value. IsInserted key value self.old.rows self.new.rows result) }
         ensures kept { OnErr result (self.new ≡ self.old) }
     {
         let Ok(mut stock) = Stock::take(self.alloc, self.blanks_wanted()) else {
-            return Err(Back {
-                why: Refusal::Memory,
-                item: value,
-            });
+            return refused(Refusal::Memory, item);
         };
-        self.grow(key, value, &mut stock);
+        self.grow(key, &mut item, &mut stock);
         Ok(())
     }
 
     // Puts a row in whose leaf is full, where the blank nodes for it are there.
-    fn grow(&mut self, key: u64, value: V, stock: &mut Stock<V>)
+    fn grow(&mut self, key: u64, item: &mut Option<V>, stock: &mut Stock<V>)
         requires small { key < key_limit }
+        requires some { IsSome item.old }
         requires missing { row_at key_of_pair key self.old.rows ≡ None }
         requires each { self.old.height ≤ stock.old }
         requires full { self.old.width ≡ 32 → self.old.height + 3 ≤ stock.old }
-        ensures { self.new.rows ≡ with_row key_of_pair (key, value) self.old.rows }
+        ensures { IfSome item.old (λ value. self.new.rows ≡ with_row key_of_pair (key, value) self.old.rows) }
     {
         let mut meter = Meter::new();
         if self.root.width() == 32 {
             self.root.heighten(stock, &mut meter);
-            self.root.insert_split(key, value, stock, &mut meter);
+            self.root.insert_split(key, item, stock, &mut meter);
             return;
         }
-        self.root.insert_split(key, value, stock, &mut meter);
+        self.root.insert_split(key, item, stock, &mut meter);
+    }
+}
+
+// The answer that a row was refused, with its value.
+fn refused<V>(why: Refusal, item: Option<V>) -> Result<(), Back<V>>
+    requires { IsSome item }
+    ensures { IfSome item (λ value. result ≡ Err (record { why = why; item = value })) }
+{
+    match item {
+        Some(item) => Err(Back { why, item }),
+        None => unreachable!(),
     }
 }
