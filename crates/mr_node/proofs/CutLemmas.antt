@@ -11,7 +11,7 @@ use Rattle.mr_node.specs.Levels.{NodePart, NodeKid, NodeBranch, kids_of, rows_of
 use Rattle.mr_node.specs.Growth.{IsGrown}
 use Rattle.mr_node.specs.Search.{IsKidPlace}
 use Rattle.mr_node.specs.Pairs.{IsHalved}
-use Rattle.mr_node.specs.Changes.{IsRoomMade, IsRoomAt, IsSplitAt}
+use Rattle.mr_node.specs.Inside.{IsRoomMade, IsRoomAt, IsSplitAt}
 use Rattle.mr_node.proofs.PlaceLemmas.{packed_some}
 use Rattle.mr_node.proofs.RunLemmas.{run_length, run_read, run_split, run_written}
 use Rattle.mr_node.proofs.KidLemmas.{IsCutAt, rows_of-append, kid_at, cut_kid}

@@ -10,7 +10,7 @@ use Rattle.mr_node.specs.Rows.{Seen, key_of_pair, key_limit, KeysBelow, StartsWi
 use Rattle.mr_node.specs.Runs.{entries, IsRun}
 use Rattle.mr_node.specs.Levels.{NodePart, NodeKid, NodeBranch, kids_of, rows_of, IsWell, IsKid, IsKidOf, IsBranchOf}
 use Rattle.mr_node.specs.Pairs.{IsKidNode, AreEvened}
-use Rattle.mr_node.specs.Changes.{AreKidsBeside, IsLooseAt, ArePairKids, IsPairAt, IsSplicedAt, IsMended}
+use Rattle.mr_node.specs.Inside.{AreKidsBeside, IsLooseAt, ArePairKids, IsPairAt, IsSplicedAt, IsMended}
 use Rattle.mr_node.proofs.PlaceLemmas.{packed_some}
 use Rattle.mr_node.proofs.RunLemmas.{run_length, run_split, run_rest, run_written, run_both}
 use Rattle.mr_node.proofs.KidLemmas.{rows_of-append, kid_at}

@@ -9,7 +9,8 @@ use Rattle.tatp_rows.proofs.OrderedLemmas.{by_test, each-weaker, each-without_ro
 use Rattle.tatp_rows.proofs.SpanLemmas.{without_row-part}
 use Rattle.mr_node.specs.Rows.{Seen, key_of_pair, key_limit, value_at, KeysBelow, StartsWith}
 use Rattle.mr_node.specs.Levels.{NodePart, NodeKid, NodeBranch, kids_of, rows_of, IsWell, IsKid, IsKidOf, IsBranch, seen_branch}
-use Rattle.mr_node.specs.Changes.{IsLooseAt, IsMended, IsShrunk}
+use Rattle.mr_node.specs.Changes.{IsShrunk}
+use Rattle.mr_node.specs.Inside.{IsLooseAt, IsMended}
 use Rattle.mr_node.specs.Steps.{after_steps}
 use Rattle.mr_node.proofs.PlaceLemmas.{packed_fits}
 use Rattle.mr_node.proofs.RunLemmas.{run_length, run_both}

@@ -7,7 +7,8 @@ use Rattle.mr_node.specs.Rows.{Seen, key_of_pair, key_limit, KeysBelow, StartsWi
 use Rattle.mr_node.specs.Runs.{IsRun}
 use Rattle.mr_node.specs.Levels.{NodeKid, NodeBranch, kids_of, rows_of, IsWell, IsKid, IsBranch, seen_branch}
 use Rattle.mr_node.specs.Pairs.{IsKidNode, IsHalved}
-use Rattle.mr_node.specs.Changes.{IsHung, IsHeightened}
+use Rattle.mr_node.specs.Changes.{IsHeightened}
+use Rattle.mr_node.specs.Inside.{IsHung}
 use Rattle.mr_node.proofs.RunLemmas.{run_length}
 use Rattle.mr_node.proofs.SizeLemmas.{branch_well}
 

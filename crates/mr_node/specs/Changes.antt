@@ -1,36 +1,8 @@
--- What a removal, a halving of a child, and a new or collapsed root make of a node.
-use Rattle.std.specs.Prelude.{◌≡◌, ℕ, ◌+◌, ◌-◌, ◌<◌, ◌≤◌, Bool, true, false, List, [], ◌∷◌, ◌++◌, take, drop, None, slice_index_or, IfSome}
-use Rattle.std.specs.List.{AllByRecursion}
+-- What a removal, and a new or collapsed root, make of a node.
+use Rattle.std.specs.Prelude.{◌≡◌, ℕ, ◌+◌, ◌<◌, ◌≤◌}
 use Rattle.tatp_rows.specs.Ordered.{without_row}
-use Rattle.mr_node.specs.Rows.{Seen, key_of_pair, KeysBelow, KeysFrom}
-use Rattle.mr_node.specs.Runs.{IsRun}
-use Rattle.mr_node.specs.Levels.{NodeKid, NodeBranch, kids_of, rows_of, IsWell, IsKid, IsBranchOf, IsBranch}
-
--- the children in front of a place and from another on are as they should be
-pub record AreKidsBeside {V : Type 0} (from to : ℕ) (b : NodeBranch V) : Type 0 where
-  pub before : AllByRecursion (IsKid (b.height - 1)) (take from (kids_of b))
-  pub after : AllByRecursion (IsKid (b.height - 1)) (drop to (kids_of b))
-
--- an inner node whose child at a place alone may be one short of half full
-pub record IsLooseAt {V : Type 0} (place : ℕ) (b : NodeBranch V) : Type 0 where
-  pub branch : IsBranchOf 15 b
-  pub beside : AreKidsBeside place (place + 1) b
-
--- an inner node after two neighbours from a place on were evened out
-pub record IsSplicedAt {V : Type 0} (place : ℕ) (old new : NodeBranch V) : Type 0 where
-  pub height : new.height ≡ old.height
-  pub len : old.len ≤ new.len + 1
-  pub some : 0 < new.len
-  pub run : IsRun new.len new.leasts new.kids
-  pub rows : rows_of (kids_of new) ≡ rows_of (kids_of old)
-  pub kids : AreKidsBeside place (place + 2) old → AllByRecursion (IsKid (old.height - 1)) (kids_of new)
-
--- an inner node that is whole again, with the same rows
-pub record IsMended {V : Type 0} (old new : NodeBranch V) : Type 0 where
-  pub height : new.height ≡ old.height
-  pub len : old.len ≤ new.len + 1
-  pub rows : rows_of (kids_of new) ≡ rows_of (kids_of old)
-  pub whole : IsBranch new
+use Rattle.mr_node.specs.Rows.{Seen, key_of_pair}
+use Rattle.mr_node.specs.Levels.{IsWell}
 
 -- the node without a row, at the same height
 pub record IsShrunk {V : Type 0} (key : ℕ) (old new : Seen V) : Type 0 where
@@ -38,20 +10,6 @@ pub record IsShrunk {V : Type 0} (key : ℕ) (old new : Seen V) : Type 0 where
   pub level : new.height ≡ old.height
   pub width : old.width ≤ new.width + 1
   pub well : IsWell new
-
--- an inner node in which room was made: the same rows in as many children, or in one more
-pub record IsRoomMade {V : Type 0} (old new : NodeBranch V) : Type 0 where
-  pub height : new.height ≡ old.height
-  pub len : old.len ≤ new.len
-  pub rows : rows_of (kids_of new) ≡ rows_of (kids_of old)
-  pub whole : IsBranch new
-
--- the key belongs to the child at this place, which has room
-pub record IsRoomAt {V : Type 0} (key place : ℕ) (b : NodeBranch V) : Type 0 where
-  pub within : place < b.len
-  pub below : KeysBelow key (rows_of (take place (kids_of b)))
-  pub above : KeysFrom (key + 1) (rows_of (drop (place + 1) (kids_of b)))
-  pub room : IfSome (slice_index_or b.kids place None) (λ k. k.node.value.width < 32)
 
 -- the same rows under a new root of two children
 pub record IsHeightened {V : Type 0} (old new : Seen V) : Type 0 where
@@ -65,40 +23,3 @@ pub record IsLowered {V : Type 0} (old new : Seen V) : Type 0 where
   pub rows : new.rows ≡ old.rows
   pub well : IsWell new
   pub two : 0 < new.height → 2 ≤ new.width
-
--- two children at height h with these rows: the first has all of them, or both are half full
-abbrev pub ArePairKids : {V : Type 0} → ℕ → Bool → List (ℕ × V) → NodeKid V → NodeKid V → Type 0
-ArePairKids h true rows low high = IsKid h low × (low.1.node.value.rows ≡ rows)
-ArePairKids h false rows low high = IsKid h low × IsKid h high × (low.1.node.value.rows ++ high.1.node.value.rows ≡ rows)
-
--- an inner node with two neighbours from a place on evened out, of which the second may be empty
-pub record IsPairAt {V : Type 0} (place : ℕ) (joined : Bool) (old new : NodeBranch V) : Type 0 where
-  pub low : NodeKid V
-  pub high : NodeKid V
-  pub list : kids_of new ≡ take place (kids_of old) ++ (low ∷ (high ∷ drop (place + 2) (kids_of old)))
-  pub height : new.height ≡ old.height
-  pub len : new.len ≡ old.len
-  pub run : IsRun new.len new.leasts new.kids
-  pub kids : ArePairKids (old.height - 1) joined (rows_of (take 2 (drop place (kids_of old)))) low high
-
--- an inner node with one node more behind its children
-pub record IsHung {V : Type 0} (node : Seen V) (old new : NodeBranch V) : Type 0 where
-  pub kid : NodeKid V
-  pub list : kids_of new ≡ kids_of old ++ kid ∷ []
-  pub same : kid.1.node.value ≡ node
-  pub whole : IsKid node.height kid
-
--- an inner node whose child at a place was halved
-pub record IsSplitAt {V : Type 0} (place least : ℕ) (old new : NodeBranch V) : Type 0 where
-  pub low : NodeKid V
-  pub high : NodeKid V
-  pub list : kids_of new ≡ take place (kids_of old) ++ (low ∷ (high ∷ drop (place + 1) (kids_of old)))
-  pub height : new.height ≡ old.height
-  pub len : new.len ≡ old.len + 1
-  pub run : IsRun new.len new.leasts new.kids
-  pub rows : rows_of (kids_of new) ≡ rows_of (kids_of old)
-  pub lower : IsKid (old.height - 1) low
-  pub upper : IsKid (old.height - 1) high
-  pub lower_width : low.1.node.value.width ≡ 16
-  pub upper_width : high.1.node.value.width ≡ 16
-  pub first : least ≡ high.0

@@ -3,6 +3,7 @@ pub mod Entries
 pub mod Falls
 pub mod Folds
 pub mod Growth
+pub mod Inside
 pub mod Levels
 pub mod Pairs
 pub mod Rows

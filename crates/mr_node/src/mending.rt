@@ -1,7 +1,7 @@
 //! Inner nodes that lose or get a child.
 ghost use Rattle.std.specs.Prelude.{◌≡◌, ◌+◌, ◌-◌, ◌*◌, ◌<◌, ◌≤◌, ℕ, None, IfSome, length, slice_index_or};
 ghost use Rattle.mr_node.specs.Levels.{IsBranch, IsBranchOf};
-ghost use Rattle.mr_node.specs.Changes.{IsLooseAt, IsPairAt, IsSplicedAt, IsMended, IsSplitAt, IsRoomMade, IsRoomAt};
+ghost use Rattle.mr_node.specs.Inside.{IsLooseAt, IsPairAt, IsSplicedAt, IsMended, IsSplitAt, IsRoomMade, IsRoomAt};
 ghost use Rattle.mr_node.specs.Steps.{after_steps};
 
 use crate::kids::{place_of, put_kid, take_kid};

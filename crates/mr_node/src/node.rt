@@ -8,7 +8,8 @@ ghost use Rattle.mr_node.specs.Folds.{FoldsRows};
 ghost use Rattle.mr_node.specs.Runs.{IsRun};
 ghost use Rattle.mr_node.specs.Growth.{IsGrown, IsRoomAnswer, left_of, gained, least_with};
 ghost use Rattle.mr_node.specs.Pairs.{IsKidNode, IsHalved, AreEvened};
-ghost use Rattle.mr_node.specs.Changes.{IsShrunk, IsHung, IsHeightened, IsLowered};
+ghost use Rattle.mr_node.specs.Changes.{IsShrunk, IsHeightened, IsLowered};
+ghost use Rattle.mr_node.specs.Inside.{IsHung};
 ghost use Rattle.mr_node.specs.Steps.{after_steps};
 
 use crate::entries::{

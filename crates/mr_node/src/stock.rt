@@ -1,5 +1,5 @@
 //! Blank nodes, taken ahead of a change.
-ghost use Rattle.std.specs.Prelude.{◌≡◌, ◌+◌, ◌<◌, ◌≤◌, ℕ, MatchResult};
+ghost use Rattle.std.specs.Prelude.{◌≡◌, ◌+◌, ◌<◌, ◌≤◌, ℕ, max, MatchResult};
 
 use crate::Node;
 use std::alloc::Global;
@@ -23,23 +23,44 @@ impl<N> Model for Blanks<N> {
     ghost view = { λ a. vec_len a.boxes };
 }
 
+impl<N> Blanks<N> {
+    /// No blank nodes. It takes no memory.
+    pub fn none(alloc: Global) -> Self
+        ensures { result ≡ 0 }
+    {
+        Blanks {
+            boxes: Vec::new(alloc),
+        }
+    }
+}
+
 impl<V: Drop> Blanks<Node<V>> {
     /// `count` blank nodes. Memory where they can't be had: then none is kept.
     pub fn take(alloc: Global, count: usize) -> Result<Stock<V>, Refusal>
         ensures { MatchResult result (λ stock. stock ≡ count) (λ why. why ≡ Refusal.Memory) }
     {
-        let Ok(mut boxes) = Vec::with_capacity(alloc, count) else {
+        let mut stock = Stock::none(alloc);
+        stock.fill(alloc, count)?;
+        Ok(stock)
+    }
+
+    /// Takes blank nodes until there are `count`. Memory where they can't be had: those that were taken stay.
+    pub fn fill(&mut self, alloc: Global, count: usize) -> Result<(), Refusal>
+        ensures { MatchResult result (λ _. self.new ≡ max self.old count) (λ why. why ≡ Refusal.Memory) }
+    {
+        let missing = count.saturating_sub(self.boxes.len());
+        if self.boxes.reserve(missing).is_err() {
             return Err(Refusal::Memory);
-        };
-        for _ in 0..count {
+        }
+        while self.boxes.len() < count {
             let Ok(blank) = Box::new(alloc, Node::new()) else {
                 return Err(Refusal::Memory);
             };
-            if boxes.push(blank).is_err() {
+            if self.boxes.push(blank).is_err() {
                 return Err(Refusal::Memory);
             }
         }
-        Ok(Blanks { boxes })
+        Ok(())
     }
 
     /// The number of blank nodes.

@@ -1,5 +1,5 @@
 use Rattle.std.proofs.Common.{subst}
-use Rattle.mr_node.specs.Changes.{IsPairAt}
+use Rattle.mr_node.specs.Inside.{IsPairAt}
 use Rattle.mr_node.proofs.MendLemmas.{spliced_one, spliced_two}
 use Rattle.mr_node.proofs.mending.join_pair.Goals as goal
 
