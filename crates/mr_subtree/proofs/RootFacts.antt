@@ -1,6 +1,7 @@
 -- What the rules of a root say of its height.
-use Rattle.std.proofs.Common.{◌≡◌, ℕ, ◌^◌, ◌<◌, ◌≤◌, length, List, Option, Some, None, IsSome, IfSome, Result, Ok, Err, IfErr, refl, sym, ap, subst, ◌∙◌, arith, inl, inr, add-one}
+use Rattle.std.proofs.Common.{◌≡◌, ℕ, ◌^◌, ◌<◌, ◌≤◌, length, List, Option, Some, None, IsSome, IfSome, Result, Ok, Err, IfErr, MatchResult, is_err, false, max, refl, sym, ap, subst, ◌∙◌, arith, inl, inr, add-one}
 use Rattle.tatp_rows.specs.declared.refusal.Back.{Back}
+use Rattle.tatp_rows.specs.declared.refusal.Refusal.{Refusal}
 use Rattle.tatp_rows.specs.declared.refusal.Refusal.TheVariants.{Memory}
 use Rattle.std.proofs.Math.Nat.{mul-le-mul_right, pow-suc}
 use Rattle.std.proofs.lemmas.Bool.{cases_lt}
@@ -57,3 +58,8 @@ module _ {V : Type 0} where
 pub memory_wanted : {V : Type 0} (answer : Result (Unit {0}) (Back V)) (n : ℕ) → 32 ≤ n → IfErr answer (λ back. back.why ≡ Memory → 32 ≤ n)
 memory_wanted (Ok u) n enough = tt
 memory_wanted (Err back) n enough = λ wanted. enough
+
+-- blank nodes that were had are enough
+pub filled : (answer : Result (Unit {0}) Refusal) (old count new : ℕ) → MatchResult answer (λ _. new ≡ max old count) (λ why. why ≡ Memory) → is_err answer ≡ false → count ≤ new
+filled (Ok u) old count new h e = omega (arith, h)
+filled (Err why) old count new h e = let wrong : ⊥ = cc in absurd wrong

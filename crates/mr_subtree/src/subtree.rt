@@ -4,7 +4,7 @@ ghost use Rattle.std.specs.List.{find};
 ghost use Rattle.tatp_rows.specs.Ordered.{row_at, with_row, with_row_at, without_row};
 ghost use Rattle.mr_node.specs.Rows.{key_limit, key_of_pair, value_at};
 ghost use Rattle.mr_node.specs.Folds.{FoldsRows};
-ghost use Rattle.mr_subtree.specs.Trees.{IsHeightOf, IsInserted};
+ghost use Rattle.mr_subtree.specs.Trees.{IsRoot, IsHeightOf, IsInserted};
 
 use mr_node::{Meter, Node, Room, Stock};
 use std::alloc::Global;
@@ -16,6 +16,8 @@ use tatp_rows::{Back, Refusal};
 #[derive(Drop)]
 pub struct SubTree<V> {
     root: Node<V>,
+    // Blank nodes that splits took and didn't use, for the next one.
+    spare: Stock<V>,
     alloc: Global,
 }
 
@@ -41,6 +43,7 @@ impl<V> SubTree<V> {
     {
         Ok(SubTree {
             root: Node::new(),
+            spare: Stock::none(alloc),
             alloc,
         })
     }
@@ -120,18 +123,6 @@ impl<V: Drop> SubTree<V> {
         }
     }
 
-    // How many blank nodes a row takes whose leaf is full: one a level, and three more under a full root.
-    fn blanks_wanted(&self) -> usize
-        ensures each { self.now.height ≤ result }
-        ensures full { self.now.width ≡ 32 → self.now.height + 3 ≤ result }
-    {
-        let levels = self.root.height() as usize;
-        if self.root.width() == 32 {
-            return levels + 3;
-        }
-        levels
-    }
-
     // Puts a row in whose leaf is full: all blank nodes are taken before the tree changes.
     #[cold]
     #[inline(never)]
@@ -142,30 +133,46 @@ impl<V: Drop> SubTree<V> {
         ensures answer { IfSome item (λ value. IsInserted key value self.old.rows self.new.rows result) }
         ensures kept { OnErr result (self.new ≡ self.old) }
     {
-        let Ok(mut stock) = Stock::take(self.alloc, self.blanks_wanted()) else {
+        let wanted = blanks_wanted(&self.root);
+        if self.spare.fill(self.alloc, wanted).is_err() {
             return refused(Refusal::Memory, item);
-        };
-        self.grow(key, &mut item, &mut stock);
+        }
+        grow(&mut self.root, key, &mut item, &mut self.spare);
         Ok(())
     }
+}
 
-    // Puts a row in whose leaf is full, where the blank nodes for it are there.
-    fn grow(&mut self, key: u64, item: &mut Option<V>, stock: &mut Stock<V>)
-        requires small { key < key_limit }
-        requires some { IsSome item.old }
-        requires missing { row_at key_of_pair key self.old.rows ≡ None }
-        requires each { self.old.height ≤ stock.old }
-        requires full { self.old.width ≡ 32 → self.old.height + 3 ≤ stock.old }
-        ensures { IfSome item.old (λ value. self.new.rows ≡ with_row key_of_pair (key, value) self.old.rows) }
-    {
-        let mut meter = Meter::new();
-        if self.root.width() == 32 {
-            self.root.heighten(stock, &mut meter);
-            self.root.insert_split(key, item, stock, &mut meter);
-            return;
-        }
-        self.root.insert_split(key, item, stock, &mut meter);
+// How many blank nodes a row takes whose leaf is full: one a level, and three more under a full root.
+fn blanks_wanted<V>(root: &Node<V>) -> usize
+    requires { IsRoot root.now }
+    ensures each { root.now.height ≤ result }
+    ensures full { root.now.width ≡ 32 → root.now.height + 3 ≤ result }
+{
+    let levels = root.height() as usize;
+    if root.width() == 32 {
+        return levels + 3;
     }
+    levels
+}
+
+// Puts a row in whose leaf is full, where the blank nodes for it are there.
+fn grow<V: Drop>(root: &mut Node<V>, key: u64, item: &mut Option<V>, stock: &mut Stock<V>)
+    requires root { IsRoot root.old }
+    requires small { key < key_limit }
+    requires some { IsSome item.old }
+    requires missing { row_at key_of_pair key root.old.rows ≡ None }
+    requires each { root.old.height ≤ stock.old }
+    requires full { root.old.width ≡ 32 → root.old.height + 3 ≤ stock.old }
+    ensures root { IsRoot root.new }
+    ensures rows { IfSome item.old (λ value. root.new.rows ≡ with_row key_of_pair (key, value) root.old.rows) }
+{
+    let mut meter = Meter::new();
+    if root.width() == 32 {
+        root.heighten(stock, &mut meter);
+        root.insert_split(key, item, stock, &mut meter);
+        return;
+    }
+    root.insert_split(key, item, stock, &mut meter);
 }
 
 // The answer that a row was refused, with its value.

@@ -78,3 +78,135 @@ fn memory_refused(rt: HostRuntime) -> Result<(), Fail> {
     fall(&rt, &mut tree);
     Ok(())
 }
+
+// Keys at both ends, and looks for keys that no row may have.
+fn reach_ends(rt: &impl Abort, tree: &mut SubTree<u64>) {
+    let last = u64::MAX - 2;
+    assert!(rt; tree.insert(0, 1).is_ok());
+    assert!(rt; tree.insert(last, 2).is_ok());
+    for key in 1..100u64 {
+        assert!(rt; tree.insert(key * 1000, key).is_ok());
+    }
+    assert_eq!(rt; (tree.get(0), tree.get(last)), (Some(&1), Some(&2)));
+    assert_eq!(rt; (tree.get(last + 1), tree.get(last + 2)), (None, None));
+    assert_eq!(rt; tree.first_from(99_001).map(|row| row.0), Some(last));
+    assert_eq!(rt; tree.first_from(last + 1).map(|row| row.0), None);
+    assert_eq!(rt; tree.first_from(u64::MAX).map(|row| row.0), None);
+    assert_eq!(rt; tree.replace(u64::MAX, 3).err(), Some(3));
+    assert_eq!(rt; tree.remove(u64::MAX), None);
+    assert_eq!(rt; (tree.remove(last), tree.remove(0)), (Some(2), Some(1)));
+    assert_eq!(rt;
+        (tree.len(), tree.first_from(0).map(|row| row.0)),
+        (99, Some(1000))
+    );
+}
+
+#[test]
+fn ends(rt: HostRuntime) -> Result<(), Fail> {
+    let mut tree = SubTree::new(rt.alloc())?;
+    reach_ends(&rt, &mut tree);
+    Ok(())
+}
+
+// A value of some size that tells the number of which it was made.
+trait Told {
+    fn of(number: u32) -> Self;
+
+    fn number(&self) -> u32;
+}
+
+impl Told for u32 {
+    fn of(number: u32) -> u32 {
+        number
+    }
+
+    fn number(&self) -> u32 {
+        *self
+    }
+}
+
+impl Told for [u64; 3] {
+    fn of(number: u32) -> [u64; 3] {
+        [7, u64::from(number), 9]
+    }
+
+    fn number(&self) -> u32 {
+        (self[1] % 4_294_967_296) as u32
+    }
+}
+
+// How far the keys of a drawn tree stand apart: 2,000 of them reach over the greater part of all keys.
+const APART: u64 = 9_000_000_000_000_000;
+
+// A number drawn by a turn (splitmix).
+fn drawn(turn: u64) -> u64 {
+    let start = turn.wrapping_mul(0x9E3779B97F4A7C15);
+    let first = (start ^ (start >> 30)).wrapping_mul(0xBF58476D1CE4E5B9);
+    let second = (first ^ (first >> 27)).wrapping_mul(0x94D049BB133111EB);
+    second ^ (second >> 31)
+}
+
+// One drawn change of a tree and of a plain table of numbers, where 0 is none: they have to answer alike.
+fn change<V: Told + Drop>(
+    rt: &impl Abort,
+    tree: &mut SubTree<V>,
+    table: &mut [u32; 2000],
+    turn: u64,
+) {
+    let word = drawn(turn);
+    let place = (word % 2000) as usize;
+    let key = (place as u64) * APART;
+    let number = 1 + (word >> 40) as u32;
+    let was = table[place];
+    let insertions = if turn % 8_000 < 4_000 { 6 } else { 2 };
+    let kind = (word >> 20) % 8;
+    if kind < insertions {
+        assert_eq!(rt; tree.insert(key, V::of(number)).is_ok(), was == 0);
+        if was == 0 {
+            table[place] = number;
+        }
+        return;
+    }
+    if kind == 6 {
+        let old = tree
+            .replace(key, V::of(number))
+            .ok()
+            .map(|value| value.number());
+        assert_eq!(rt; old.unwrap_or(0), was);
+        if was > 0 {
+            table[place] = number;
+        }
+        return;
+    }
+    let gone = tree.remove(key).map(|value| value.number());
+    assert_eq!(rt; gone.unwrap_or(0), was);
+    table[place] = 0;
+}
+
+// The rows of a tree are those of the table.
+fn compare<V: Told + Drop>(rt: &impl Abort, tree: &SubTree<V>, table: &[u32; 2000]) {
+    let mut count = 0u64;
+    for place in 0..2000usize {
+        let found = tree.get((place as u64) * APART).map(|value| value.number());
+        assert_eq!(rt; found.unwrap_or(0), table[place]);
+        count = count.wrapping_add(u64::from(table[place] > 0));
+    }
+    assert_eq!(rt; tree.len(), count);
+}
+
+fn change_all<V: Told + Drop>(rt: &impl Abort, tree: &mut SubTree<V>) {
+    let mut table = [0; 2000];
+    for turn in 0..20_000u64 {
+        change(rt, tree, &mut table, turn);
+    }
+    compare(rt, tree, &table);
+}
+
+#[test]
+fn drawn_changes(rt: HostRuntime) -> Result<(), Fail> {
+    let mut small = SubTree::<u32>::new(rt.alloc())?;
+    change_all(&rt, &mut small);
+    let mut middle = SubTree::<[u64; 3]>::new(rt.alloc())?;
+    change_all(&rt, &mut middle);
+    Ok(())
+}

@@ -1,0 +1,26 @@
+use Rattle.std.proofs.Common.{rules, arith, refl, ap, ◌∙◌}
+use Rattle.tatp_rows.specs.Ordered.{row_at}
+use Rattle.mr_node.specs.Rows.{key_of_pair}
+use Rattle.mr_subtree.proofs.RootFacts.{grown_root, higher_root}
+use Rattle.mr_subtree.proofs.subtree.grow.Goals as goal
+
+pub insert_split-requires : goal.insert_split-requires
+insert_split-requires g c =
+    let root = c.heighten.ensures.root in
+    (search rules, (c.requires.small, (c.requires.some, (ap (row_at key_of_pair c.args.key) root.rows ∙ c.requires.missing, (omega (arith, root.width), omega (arith, root.height, c.heighten.ensures.stock, c.requires.full (omega (arith, c.if-width-eq32.true, c.width.ensures.value))))))))
+
+pub insert_split-requires-2 : goal.insert_split-requires-2
+insert_split-requires-2 g c =
+    (search rules, (c.requires.small, (c.requires.some, (c.requires.missing, (omega (arith, c.if-width-eq32.false, c.width.ensures.value, c.requires.root.well.fits), c.requires.each)))))
+
+pub returns-then-width-eq32-clause-root : goal.returns-then-width-eq32-clause-root
+returns-then-width-eq32-clause-root g c = (higher_root c.args.key c.args.item.now c.args.root.now c.heighten.new.self c.insert_split.new.self c.args.root.now refl c.heighten.ensures.root c.requires.some c.insert_split.ensures.grown).0
+
+pub returns-then-width-eq32-clause-rows : goal.returns-then-width-eq32-clause-rows
+returns-then-width-eq32-clause-rows g c = (higher_root c.args.key c.args.item.now c.args.root.now c.heighten.new.self c.insert_split.new.self c.args.root.now refl c.heighten.ensures.root c.requires.some c.insert_split.ensures.grown).1
+
+pub returns-clause-root : goal.returns-clause-root
+returns-clause-root g c = (grown_root c.args.key c.args.item.now c.args.root.now c.insert_split-2.new.self c.args.root.now refl c.requires.root c.requires.some c.insert_split-2.ensures.grown).0
+
+pub returns-clause-rows : goal.returns-clause-rows
+returns-clause-rows g c = (grown_root c.args.key c.args.item.now c.args.root.now c.insert_split-2.new.self c.args.root.now refl c.requires.root c.requires.some c.insert_split-2.ensures.grown).1
