@@ -1,8 +1,11 @@
-//! Times the operations of a BTreeMap of rows of 80 bytes: `map_bench KEYS ROUNDS WORDS`.
+//! Times the operations of a BTreeMap of rows of `SIZE` bytes: `map_bench KEYS ROUNDS WORDS`.
 use std::collections::BTreeMap;
 use std::mem;
 
-type Row = [u8; 80];
+/// The bytes of a row.
+const SIZE: usize = 80;
+
+type Row = [u8; SIZE];
 type Map = BTreeMap<u64, Row>;
 
 #[repr(C)]
@@ -41,7 +44,7 @@ fn draw(turn: u64, count: u64) -> u64 {
 }
 
 fn row_of(key: u64) -> Row {
-    [(key % 256) as u8; 80]
+    [(key % 256) as u8; SIZE]
 }
 
 fn insert_all(map: &mut Map, base: u64, count: u64) -> u64 {
@@ -60,7 +63,7 @@ fn get_all(map: &Map, base: u64, count: u64) -> u64 {
     for index in 0..count {
         let key = key_of(base.wrapping_add(draw(base.wrapping_add(index), count)));
         if let Some(row) = map.get(&key) {
-            sum = sum.wrapping_add(row[79] as u64);
+            sum = sum.wrapping_add(row[SIZE - 1] as u64);
         }
     }
     sum
@@ -78,7 +81,7 @@ fn replace_all(map: &mut Map, base: u64, count: u64) -> u64 {
     for index in 0..count {
         let key = key_of(base.wrapping_add(draw(base.wrapping_add(index), count)));
         if let Ok(row) = replace(map, key, row_of(key)) {
-            sum = sum.wrapping_add(row[79] as u64);
+            sum = sum.wrapping_add(row[SIZE - 1] as u64);
         }
     }
     sum
@@ -89,7 +92,7 @@ fn remove_all(map: &mut Map, base: u64, count: u64) -> u64 {
     for index in 0..count {
         let key = key_of(base.wrapping_add(index));
         if let Some(row) = map.remove(&key) {
-            sum = sum.wrapping_add(row[79] as u64);
+            sum = sum.wrapping_add(row[SIZE - 1] as u64);
         }
     }
     sum
