@@ -129,6 +129,11 @@ pub none_from : {X : Type 0} (o : Option X) → is_some o ≡ false → o ≡ No
 none_from None is = refl
 none_from (Some x) is = absurd cc
 
+-- an option that is some has a value
+pub some_from : {X : Type 0} (o : Option X) → is_some o ≡ true → (x : X) × (Some x ≡ o)
+some_from None is = absurd cc
+some_from (Some x) is = (x, refl)
+
 -- the area of a location
 pub area_below : (v : ℕ) → v < 4294967296 → area_of v < 16
 area_below v few = omega arith

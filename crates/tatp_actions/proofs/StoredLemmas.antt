@@ -42,13 +42,13 @@ changed_holds tables tables1 n n1 lo hi width book same rules rows keyed =
 pub found_in : {X : Type 0} (key : X → ℕ) (pairs : List (ℕ × X)) (k k' : ℕ) (o : Option X) → IsKeyed key pairs → k ≡ k' → o ≡ value_at k pairs → o ≡ row_at key k' (values_of pairs)
 found_in key pairs k k' o keyed at is = is ∙ ap (λ (j : ℕ). value_at j pairs) at ∙ sym (row_at-pairs key k' pairs keyed)
 
--- whether there is a pair is whether there is a row
-some_pair : {X : Type 0} (o : Option (ℕ × X)) → is_some (option_map (λ (p : ℕ × X). p.1) o) ≡ is_some o
-some_pair None = refl
-some_pair (Some p) = refl
+-- whether there is something is whether there is what it is mapped to
+pub some_mapped : {X Y : Type 0} (f : X → Y) (o : Option X) → is_some (option_map f o) ≡ is_some o
+some_mapped f None = refl
+some_mapped f (Some x) = refl
 
 pub is_there : {X : Type 0} (key : X → ℕ) (pairs : List (ℕ × X)) (k : ℕ) → IsKeyed key pairs → is_some (row_at key k (values_of pairs)) ≡ is_some (row_at key_of_pair k pairs)
-is_there key pairs k keyed = ap is_some (row_at-pairs key k pairs keyed) ∙ some_pair (row_at key_of_pair k pairs)
+is_there key pairs k keyed = ap is_some (row_at-pairs key k pairs keyed) ∙ some_mapped (λ (p : ℕ × _). p.1) (row_at key_of_pair k pairs)
 
 -- an absent pair is an absent row
 pub absent_row : {X : Type 0} (key : X → ℕ) (pairs : List (ℕ × X)) (k k' : ℕ) → IsKeyed key pairs → k ≡ k' → row_at key_of_pair k pairs ≡ None → row_at key k' (values_of pairs) ≡ None

@@ -31,9 +31,9 @@ impl<R: Rows> Part<R> {
         ensures { Acts (Action.AddAccess row) self.old result.0 result.1 self.new }
     {
         let s_id = row.s_id();
-        let Some(_subscriber) = self.subscriber(s_id) else {
+        if !self.has_subscriber(s_id) {
             return refused(Refusal::NoSubscriber);
-        };
+        }
         if let Err(why) = self.more_access(row) {
             return refused(why);
         }
@@ -48,9 +48,9 @@ impl<R: Rows> Part<R> {
         ensures { Acts (Action.AddFacility row) self.old result.0 result.1 self.new }
     {
         let s_id = row.s_id();
-        let Some(_subscriber) = self.subscriber(s_id) else {
+        if !self.has_subscriber(s_id) {
             return refused(Refusal::NoSubscriber);
-        };
+        }
         if let Err(why) = self.more_facilities(row) {
             return refused(why);
         }

@@ -18,6 +18,15 @@ impl<R: Rows> Part<R> {
         self.rows.get_s(subscriber_key(s_id)).copied()
     }
 
+    /// Whether there is a Subscriber row of a subscriber.
+    pub(crate) fn has_subscriber(&mut self, s_id: u32) -> bool
+        ensures value { result ≡ is_some (subscriber_at self.old.book s_id) }
+        ensures kept { self.new ≡ asked_once self.old }
+        ensures rules { IsPart self.old }
+    {
+        self.rows.get_s(subscriber_key(s_id)).is_some()
+    }
+
     /// The Access_Info row of a subscriber's access.
     pub(crate) fn access(&mut self, s_id: u32, ai_type: u8) -> Option<Access>
         ensures found { result ≡ access_at self.old.book s_id ai_type }

@@ -1,7 +1,11 @@
+use Rattle.std.proofs.Common.{sym, ◌∙◌}
+use Rattle.tatp_actions.specs.Book.{subscriber_at}
+use Rattle.tatp_actions.proofs.ActsLemmas.{some_from}
 use Rattle.tatp_actions.proofs.AdministrationLemmas.{access_is_added}
 use Rattle.tatp_actions.proofs.part.Part.add_access.Goals as goal
 
 pub returns : goal.returns
 returns g c =
-    access_is_added _ _ _ _ _ c.args.row c.in-Some._subscriber _ c.s_id-s_id.ensures.value c.s_id-s_id.ensures.in_range c.subscriber.ensures.kept c.in-Some.ensures.found
-    c.in_default-more_access.ensures.added c.in_default-more_access.ensures.kept c.zone_of-zone.ensures.value c.row_added.ensures
+    let there = some_from (subscriber_at c.args.self.now.book c.s_id-s_id.result) (sym c.has_subscriber.ensures.value ∙ c.if-not-has_subscriber.false) in
+    access_is_added _ _ _ _ _ c.args.row there.0 _ c.s_id-s_id.ensures.value c.s_id-s_id.ensures.in_range c.has_subscriber.ensures.kept there.1
+    c.in_default.ensures.added c.in_default.ensures.kept c.zone_of-zone.ensures.value c.row_added.ensures
