@@ -31,7 +31,7 @@ module _ {V : Type 0} where
   leaf_some i leaf h lt = packed_some (length leaf.values.items) i leaf.values.items h.run.packed lt
 
   -- a search for a key of 64 bits stops behind the last entry at most
-  stop_fits : (key i : ℕ) (leaf : Leaf V) → IsLeaf leaf → key ≤ no_key → IsStop key i leaf.keys → i ≤ length leaf.values.items
+  pub stop_fits : (key i : ℕ) (leaf : Leaf V) → IsLeaf leaf → key ≤ no_key → IsStop key i leaf.keys → i ≤ length leaf.values.items
   stop_fits key i leaf h small stop = elim (cases_lt (length leaf.values.items) i) [
     | inl more ↦ absurd (omega (arith, small, stop.before (omega (arith, more)), run_behind (length leaf.values.items) (i - 1) leaf.keys leaf.values.items h.run (omega (arith, more)) (omega (arith, more, stop.within))))
     | inr le ↦ le
@@ -56,7 +56,7 @@ module _ {V : Type 0} where
       subst (KeysBelow key) (sym more) (below_at key (take i rows) (get_or leaf.keys i 0, x) (drop (i + 1) rows) (subst (IsOrderedBy key_of_pair) (leaf_split i x leaf h e) h.ordered) lt)
 
   -- the back of the pairs, from a key on
-  back_from : (key i : ℕ) (x : V) (leaf : Leaf V) → IsLeaf leaf → get_or leaf.values.items i None ≡ Some x → key ≤ get_or leaf.keys i 0 → KeysFrom key (drop i (pairs_of leaf))
+  pub back_from : (key i : ℕ) (x : V) (leaf : Leaf V) → IsLeaf leaf → get_or leaf.values.items i None ≡ Some x → key ≤ get_or leaf.keys i 0 → KeysFrom key (drop i (pairs_of leaf))
   back_from key i x leaf h e le =
       let rows = pairs_of leaf in
       let rest = run_rest (length leaf.values.items) i x leaf.keys leaf.values.items h.run e in

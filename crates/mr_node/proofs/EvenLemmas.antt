@@ -1,5 +1,5 @@
 -- Two neighbours that share their rows anew.
-use Rattle.std.proofs.Common.{◌≡◌, ℕ, ◌-◌, ◌<◌, List, [], ◌++◌, length, refl, sym, ap, subst, ◌∙◌, arith, append-nil, length-append, Bool, true, false}
+use Rattle.std.proofs.Common.{◌≡◌, ℕ, ◌+◌, ◌-◌, ◌<◌, List, [], ◌++◌, length, refl, sym, ap, subst, ◌∙◌, arith, append-nil, length-append, Bool, true, false}
 use Rattle.std.specs.List.{AllByRecursion}
 use Rattle.std.proofs.lemmas.List.{nil_from_length}
 use Rattle.tatp_rows.specs.Ordered.{IsOrderedBy}
@@ -12,15 +12,16 @@ use Rattle.mr_node.specs.Levels.{NodeBody, NodeBranch, IsNode, pairs_of, kids_of
 use Rattle.mr_node.specs.Pairs.{AreEvenWidths, IsKidNode, AreEvened, IsHalved}
 use Rattle.mr_node.proofs.RunLemmas.{run_length}
 use Rattle.mr_node.proofs.KidLemmas.{rows_of-append}
+use Rattle.mr_node.proofs.ShareLemmas.{appended_sum}
 use Rattle.mr_node.proofs.SizeLemmas.{leaf_well, branch_well}
 
 -- the same of widths that are equal
 even_by : (r : Bool) (c d m n : ℕ) → c ≡ m → d ≡ n → AreEvenWidths r c d → AreEvenWidths r m n
 even_by r c d m n e f even = subst (AreEvenWidths r m) f (subst (λ k. AreEvenWidths r k d) e even)
 
-even_left : (r : Bool) (c d : ℕ) → AreEvenWidths r c d → 0 < c
-even_left true c d even = omega (arith, even.0)
-even_left false c d even = omega (arith, even.0)
+even_left : (r : Bool) (c d : ℕ) → 0 < c + d → AreEvenWidths r c d → 0 < c
+even_left true c d some even = omega (arith, some, even.1)
+even_left false c d some even = omega (arith, even.0)
 
 even_right : (r : Bool) (c d : ℕ) → AreEvenWidths r c d → r ≡ false → 0 < d
 even_right true c d even e = let wrong : ⊥ = cc in absurd wrong
@@ -31,7 +32,7 @@ module _ {X : Type 0} where
   rest_length : (a b c d : List X) → c ++ d ≡ a ++ b → length a ≡ 32 → b ≡ [] → length c ≡ 16 → length d ≡ 16
   rest_length a b c d e la nb lc = omega (arith, ap length e, length-append c d, length-append a b, la, ap length nb, lc)
 
-  no_more : (a b c d : List X) → c ++ d ≡ a ++ b → b ≡ [] → c ++ d ≡ a
+  pub no_more : (a b c d : List X) → c ++ d ≡ a ++ b → b ≡ [] → c ++ d ≡ a
   no_more a b c d e nb = e ∙ ap (λ r. a ++ r) nb ∙ append-nil a
 
 module _ {V : Type 0} where
@@ -49,14 +50,19 @@ module _ {V : Type 0} where
       ap (seen_wide (pairs_of leaf)) long ∙ ap (λ r. seen_wide r 0) rows
 
   -- one has all rows, or both are half full
-  evened : (r : Bool) (a b x y z : Seen V) → x.rows ++ y.rows ≡ a.rows ++ b.rows → x.height ≡ a.height → y.height ≡ a.height → IsWell x → (0 < y.width → IsWell y) → (y.width ≡ 0 → y.rows ≡ []) → AreEvenWidths r x.width y.width → (r ≡ false → z ≡ y) → AreEvened r a b x z
-  evened true a b x y z rows low high well more none even same =
-      (record { level = low; enough = even.0; well = well }, sym (append-nil x.rows) ∙ ap (λ r. x.rows ++ r) (sym (none even.2)) ∙ rows)
-  evened false a b x y z rows low high well more none even same = (
-    record { level = low; enough = even.0; well = well },
-    subst (IsKidNode a.height) (sym (same refl)) (record { level = high; enough = even.2; well = more (omega (arith, even.2)) }),
-    ap (λ s. x.rows ++ s.rows) (same refl) ∙ rows,
-  )
+  evened : (r : Bool) (a b x y z : Seen V) → x.width + y.width ≡ a.width + b.width → x.rows ++ y.rows ≡ a.rows ++ b.rows → x.height ≡ a.height → y.height ≡ a.height → IsWell x → (0 < y.width → IsWell y) → (y.width ≡ 0 → y.rows ≡ []) → AreEvenWidths r x.width y.width → (r ≡ false → z ≡ y) → AreEvened r a b x z
+  evened true a b x y z wide rows low high well more none even same = record {
+    level = low;
+    width = omega (arith, wide, even.1);
+    well = well;
+    rows = sym (append-nil x.rows) ∙ ap (λ r. x.rows ++ r) (sym (none even.1)) ∙ rows;
+  }
+  evened false a b x y z wide rows low high well more none even same = record {
+    low = record { level = low; enough = even.0; well = well };
+    high = subst (IsKidNode a.height) (sym (same refl)) (record { level = high; enough = even.2; well = more (omega (arith, even.2)) });
+    rows = ap (λ s. x.rows ++ s.rows) (same refl) ∙ rows;
+    many = omega (arith, wide, even.4);
+  }
 
   halved : (a x y : Seen V) → x.rows ++ y.rows ≡ a.rows → x.height ≡ a.height → y.height ≡ a.height → IsWell x → IsWell y → x.width ≡ 16 → y.width ≡ 16 → IsHalved a x y
   halved a x y rows low high left right lx ly = record {
@@ -110,9 +116,10 @@ module _ {V : Type 0} where
   evened_leaves r a b c d two m even =
       let left = leaf_length c m.left in
       let right = leaf_length d m.right in
-      evened r (seen_leaf a) (seen_leaf b) (seen_leaf c) (seen_leaf d) (seen_leaf d) m.list refl refl (leaf_well c (left_leaf a b c d two m)) (λ h. leaf_well d (right_leaf a b c d two m)) (λ h. nil_from_length (pairs_of d) (right ∙ h)) (even_by r _ _ _ _ left right even) (λ h. refl)
+      let wide : length c.values.items + length d.values.items ≡ length a.values.items + length b.values.items = omega (arith, appended_sum (pairs_of c) (pairs_of d) (pairs_of a) (pairs_of b) m.list, left, right, leaf_length a two.left.run, leaf_length b two.right.run) in
+      evened r (seen_leaf a) (seen_leaf b) (seen_leaf c) (seen_leaf d) (seen_leaf d) wide m.list refl refl (leaf_well c (left_leaf a b c d two m)) (λ h. leaf_well d (right_leaf a b c d two m)) (λ h. nil_from_length (pairs_of d) (right ∙ h)) (even_by r _ _ _ _ left right even) (λ h. refl)
 
-  alone : (rows : List (ℕ × V)) → IsOrderedBy key_of_pair rows → IsOrderedBy key_of_pair (rows ++ [])
+  pub alone : (rows : List (ℕ × V)) → IsOrderedBy key_of_pair rows → IsOrderedBy key_of_pair (rows ++ [])
   alone rows = subst (IsOrderedBy key_of_pair) (sym (append-nil rows))
 
   pub halved_leaf : (a b c d : Leaf V) → IsLeaf a → IsLeaf b → pairs_of b ≡ [] → AreMovedLeaves a b c d → length a.values.items ≡ 32 → length (pairs_of c) ≡ 16 → (IsLeaf c) × (IsLeaf d) × IsHalved (seen_leaf a) (seen_leaf c) (seen_leaf d)
@@ -186,15 +193,16 @@ module _ {V : Type 0} where
   pub branch_length : (b : NodeBranch V) → IsRun b.len b.leasts b.kids → length (kids_of b) ≡ b.len
   branch_length b run = run_length b.len b.leasts b.kids run
 
-  pub evened_branches : (r : Bool) (a b c d : NodeBranch V) (z : Seen V) → AreBranches a b → AreMovedKids a b c d → AreEvenWidths r (length (kids_of c)) (length (kids_of d)) → (r ≡ false → z ≡ seen_branch d) → (IsBranch c) × (r ≡ false → IsBranch d) × AreEvened r (seen_branch a) (seen_branch b) (seen_branch c) z
-  evened_branches r a b c d z two m even same =
+  pub evened_branches : (r : Bool) (a b c d : NodeBranch V) (z : Seen V) → IsBranch a → IsBranch b → AreBranches a b → AreMovedKids a b c d → AreEvenWidths r (length (kids_of c)) (length (kids_of d)) → (r ≡ false → z ≡ seen_branch d) → (IsBranch c) × (r ≡ false → IsBranch d) × AreEvened r (seen_branch a) (seen_branch b) (seen_branch c) z
+  evened_branches r a b c d z first second two m even same =
       let left = branch_length c m.left in
       let right = branch_length d m.right in
+      let wide : c.len + d.len ≡ a.len + b.len = omega (arith, appended_sum (kids_of c) (kids_of d) (kids_of a) (kids_of b) m.list, left, right, branch_length a first.run, branch_length b second.run) in
       let widths = even_by r _ _ _ _ left right even in
-      let low = left_branch a b c d two m (even_left r c.len d.len widths) in (
+      let low = left_branch a b c d two m (even_left r c.len d.len (omega (arith, wide, first.some)) widths) in (
         low,
         λ e. right_branch a b c d two m (even_right r c.len d.len widths e),
-        evened r (seen_branch a) (seen_branch b) (seen_branch c) (seen_branch d) z (sym (shared_rows a b c d m) ∙ rows_of-append (kids_of a) (kids_of b)) m.left_height (m.right_height ∙ two.level) (branch_well c low) (λ some. branch_well d (right_branch a b c d two m some)) (λ none. ap rows_of (nil_from_length (kids_of d) (right ∙ none))) widths same,
+        evened r (seen_branch a) (seen_branch b) (seen_branch c) (seen_branch d) z wide (sym (shared_rows a b c d m) ∙ rows_of-append (kids_of a) (kids_of b)) m.left_height (m.right_height ∙ two.level) (branch_well c low) (λ some. branch_well d (right_branch a b c d two m some)) (λ none. ap rows_of (nil_from_length (kids_of d) (right ∙ none))) widths same,
       )
 
   pub halved_branch : (a b c d : NodeBranch V) → IsBranch a → IsRun 0 b.leasts b.kids → b.height ≡ a.height → AreMovedKids a b c d → a.len ≡ 32 → length (kids_of c) ≡ 16 → (IsBranch c) × (IsBranch d) × IsHalved (seen_branch a) (seen_branch c) (seen_branch d)

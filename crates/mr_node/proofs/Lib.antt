@@ -11,6 +11,7 @@ pub mod MendLemmas
 pub mod CutLemmas
 pub mod RemoveLemmas
 pub mod EvenLemmas
+pub mod PartLemmas
 pub mod RootLemmas
 pub mod FirstLemmas
 pub mod FoldLemmas

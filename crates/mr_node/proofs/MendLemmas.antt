@@ -9,7 +9,7 @@ use Rattle.tatp_rows.proofs.SpanLemmas.{starts_left}
 use Rattle.mr_node.specs.Rows.{Seen, key_of_pair, key_limit, KeysBelow, StartsWith}
 use Rattle.mr_node.specs.Runs.{entries, IsRun}
 use Rattle.mr_node.specs.Levels.{NodePart, NodeKid, NodeBranch, kids_of, rows_of, IsWell, IsKid, IsKidOf, IsBranchOf}
-use Rattle.mr_node.specs.Pairs.{IsKidNode, AreEvened}
+use Rattle.mr_node.specs.Pairs.{IsKidNode, IsJoined, AreEvened}
 use Rattle.mr_node.specs.Inside.{AreKidsBeside, IsLooseAt, ArePairKids, IsPairAt, IsSplicedAt, IsMended}
 use Rattle.mr_node.proofs.PlaceLemmas.{packed_some}
 use Rattle.mr_node.proofs.RunLemmas.{run_length, run_split, run_rest, run_written, run_both}
@@ -96,17 +96,21 @@ module _ {V : Type 0} where
   pub node_at : (h j : ℕ) (s : Seen V) → j ≡ h → IsKidNode j s → IsKidNode h s
   node_at h j s e = subst (λ n. IsKidNode n s) e
 
-  pair_kids : (h : ℕ) (joined : Bool) (first least : ℕ) (low high a b : NodePart V) (x z : Seen V) (rows : List (ℕ × V)) → IsKidOf 15 h (first, low) → AreEvened joined low.node.value high.node.value x z → low.node.value.rows ++ high.node.value.rows ≡ rows → a.node.value ≡ x → a.count ≡ length x.rows → b.node.value ≡ z → b.count ≡ length z.rows → (0 < z.width → StartsWith least z.rows) → ArePairKids h joined rows (first, a) (least, b)
-  pair_kids h true first least low high a b x z rows kid evened er ea ca eb cb starts = (
-    kid_of_node h first a x (node_at h low.node.value.height x kid.level evened.0) ea ca (subst (StartsWith first) (sym evened.1) (starts_left key_of_pair first low.node.value.rows high.node.value.rows kid.first)),
-    ap (λ s. s.rows) ea ∙ evened.1 ∙ er,
+  -- two that lack one child at most make a half full one
+  joined_kid : (h : ℕ) (a b x : Seen V) → a.height ≡ h → 15 ≤ a.width → 15 ≤ b.width → IsJoined a b x → IsKidNode h x
+  joined_kid h a b x level more much joined = record { level = joined.level ∙ level; enough = omega (arith, joined.width, more, much); well = joined.well }
+
+  pair_kids : (h : ℕ) (joined : Bool) (first least : ℕ) (low high a b : NodePart V) (x z : Seen V) (rows : List (ℕ × V)) → IsKidOf 15 h (first, low) → 15 ≤ high.node.value.width → AreEvened joined low.node.value high.node.value x z → low.node.value.rows ++ high.node.value.rows ≡ rows → a.node.value ≡ x → a.count ≡ length x.rows → b.node.value ≡ z → b.count ≡ length z.rows → (0 < z.width → StartsWith least z.rows) → ArePairKids h joined rows (first, a) (least, b)
+  pair_kids h true first least low high a b x z rows kid wide evened er ea ca eb cb starts = (
+    kid_of_node h first a x (joined_kid h low.node.value high.node.value x kid.level kid.enough wide evened) ea ca (subst (StartsWith first) (sym evened.rows) (starts_left key_of_pair first low.node.value.rows high.node.value.rows kid.first)),
+    ap (λ s. s.rows) ea ∙ evened.rows ∙ er,
   )
-  pair_kids h false first least low high a b x z rows kid evened er ea ca eb cb starts =
-      let one = node_at h low.node.value.height x kid.level evened.0 in
-      let two = node_at h low.node.value.height z kid.level evened.1 in (
-        kid_of_node h first a x one ea ca (starts_front first x.rows z.rows (some_rows h x one) (subst (StartsWith first) (sym evened.2) (starts_left key_of_pair first low.node.value.rows high.node.value.rows kid.first))),
+  pair_kids h false first least low high a b x z rows kid wide evened er ea ca eb cb starts =
+      let one = node_at h low.node.value.height x kid.level evened.low in
+      let two = node_at h low.node.value.height z kid.level evened.high in (
+        kid_of_node h first a x one ea ca (starts_front first x.rows z.rows (some_rows h x one) (subst (StartsWith first) (sym evened.rows) (starts_left key_of_pair first low.node.value.rows high.node.value.rows kid.first))),
         kid_of_node h least b z two eb cb (starts (omega (arith, two.enough))),
-        ap (λ s. s.rows ++ b.node.value.rows) ea ∙ ap (λ s. x.rows ++ s.rows) eb ∙ evened.2 ∙ er,
+        ap (λ s. s.rows ++ b.node.value.rows) ea ∙ ap (λ s. x.rows ++ s.rows) eb ∙ evened.rows ∙ er,
       )
 
   pub pair_evened : (p : ℕ) (joined : Bool) (b : NodeBranch V) (y : Option (NodePart V)) (low high a c : NodePart V) (least : ℕ) (x z : Seen V) → IsBranchOf 15 b → p + 1 < b.len → ArePair 15 p b low high → AreEvened joined low.node.value high.node.value x z → a.node.value ≡ x → a.count ≡ length x.rows → c.node.value ≡ z → c.count ≡ length z.rows → (0 < z.width → StartsWith least z.rows)
@@ -121,7 +125,7 @@ module _ {V : Type 0} where
         height = refl;
         len = refl;
         run = all.0;
-        kids = pair_kids (b.height - 1) joined (get_or b.leasts p 0) least low high a c x z (rows_of (take 2 (drop p (kids_of b)))) pair.first evened rows ea ca ec cc starts;
+        kids = pair_kids (b.height - 1) joined (get_or b.leasts p 0) least low high a c x z (rows_of (take 2 (drop p (kids_of b)))) pair.first pair.second.enough evened rows ea ca ec cc starts;
       }
 
   -- an inner node with other children in the place of two

@@ -1,26 +1,25 @@
 -- A root that gets a new one above it, or that has only one child; and a node that is hung below an inner node.
-use Rattle.std.proofs.Common.{◌≡◌, ◌+◌, ◌-◌, ◌<◌, [], ◌∷◌, ◌++◌, length, take, drop, sym, ap, subst, ◌∙◌, arith, append-nil}
+use Rattle.std.proofs.Common.{◌≡◌, ℕ, ◌+◌, ◌-◌, ◌<◌, [], ◌∷◌, ◌++◌, length, take, drop, sym, ap, subst, ◌∙◌, arith, append-nil}
 use Rattle.std.specs.List.{AllByRecursion}
-use Rattle.std.proofs.lemmas.List.{take_all, drop_all, nil_from_length}
+use Rattle.std.proofs.lemmas.List.{drop_all, nil_from_length}
 use Rattle.tatp_rows.specs.Ordered.{IsOrderedBy}
 use Rattle.mr_node.specs.Rows.{Seen, key_of_pair, key_limit, KeysBelow, StartsWith}
 use Rattle.mr_node.specs.Runs.{IsRun}
 use Rattle.mr_node.specs.Levels.{NodeKid, NodeBranch, kids_of, rows_of, IsWell, IsKid, IsBranch, seen_branch}
 use Rattle.mr_node.specs.Pairs.{IsKidNode, IsHalved}
 use Rattle.mr_node.specs.Changes.{IsHeightened}
-use Rattle.mr_node.specs.Inside.{IsHung}
+use Rattle.mr_node.specs.Parts.{IsHung}
 use Rattle.mr_node.proofs.RunLemmas.{run_length}
 use Rattle.mr_node.proofs.SizeLemmas.{branch_well}
 
 module _ {V : Type 0} where
-  -- a node behind the children
-  pub hung_kid : (b new : NodeBranch V) (k : NodeKid V) (n now again : Seen V) → IsRun b.len b.leasts b.kids → kids_of new ≡ take b.len (kids_of b) ++ (k ∷ drop b.len (kids_of b)) → k.1.node.value ≡ n → now ≡ n → again ≡ n → IsKidNode n.height n → (0 < now.width → StartsWith k.0 now.rows) → k.1.count ≡ length again.rows → IsHung n b new
-  hung_kid b new k n now again run list e same once node first count =
-      let len = run_length b.len b.leasts b.kids run in
+  -- a node among the children
+  pub hung_kid : (i : ℕ) (b new : NodeBranch V) (k : NodeKid V) (n now again : Seen V) → kids_of new ≡ take i (kids_of b) ++ (k ∷ drop i (kids_of b)) → k.1.node.value ≡ n → now ≡ n → again ≡ n → IsKidNode n.height n → (0 < now.width → StartsWith k.0 now.rows) → k.1.count ≡ length again.rows → IsHung i n b new
+  hung_kid i b new k n now again list e same once node first count =
       let starts : StartsWith k.0 n.rows = subst (λ s. StartsWith k.0 s.rows) same (first (omega (arith, ap (λ s. s.width) same, node.enough))) in
       record {
         kid = k;
-        list = list ∙ ap (λ l. l ++ (k ∷ drop b.len (kids_of b))) (take_all b.len (kids_of b) (omega (arith, len))) ∙ ap (λ l. kids_of b ++ (k ∷ l)) (drop_all b.len (kids_of b) (omega (arith, len)));
+        list = list;
         same = e;
         whole = record {
           level = ap (λ s. s.height) e;
@@ -32,10 +31,10 @@ module _ {V : Type 0} where
       }
 
   -- a new root over two halves
-  pub root_branch : (n x y : Seen V) (start mid new : NodeBranch V) → IsWell n → IsHalved n x y → start.height ≡ n.height + 1 → start.len ≡ 0 → IsRun 0 start.leasts start.kids → mid.height ≡ start.height → mid.len ≡ start.len + 1 → new.height ≡ mid.height → new.len ≡ mid.len + 1 → IsRun new.len new.leasts new.kids → IsHung x start mid → IsHung y mid new → (IsBranch new) × IsHeightened n (seen_branch new)
+  pub root_branch : (n x y : Seen V) (start mid new : NodeBranch V) → IsWell n → IsHalved n x y → start.height ≡ n.height + 1 → start.len ≡ 0 → IsRun 0 start.leasts start.kids → mid.height ≡ start.height → mid.len ≡ start.len + 1 → new.height ≡ mid.height → new.len ≡ mid.len + 1 → IsRun new.len new.leasts new.kids → IsHung 0 x start mid → IsHung 1 y mid new → (IsBranch new) × IsHeightened n (seen_branch new)
   root_branch n x y start mid new well half height len none mid_height mid_len new_height new_len run low high =
       let nil : kids_of start ≡ [] = nil_from_length (kids_of start) (run_length 0 start.leasts start.kids none) in
-      let list : kids_of new ≡ low.kid ∷ (high.kid ∷ []) = high.list ∙ ap (λ l. l ++ (high.kid ∷ [])) (low.list ∙ ap (λ l. l ++ (low.kid ∷ [])) nil) in
+      let list : kids_of new ≡ low.kid ∷ (high.kid ∷ []) = high.list ∙ ap (λ l. take 1 l ++ (high.kid ∷ drop 1 l)) (low.list ∙ ap (λ l. low.kid ∷ l) nil) in
       let rows : rows_of (kids_of new) ≡ n.rows = ap rows_of list ∙ ap (λ r. low.kid.1.node.value.rows ++ r) (append-nil high.kid.1.node.value.rows) ∙ ap (λ s. s.rows ++ high.kid.1.node.value.rows) low.same ∙ ap (λ s. x.rows ++ s.rows) high.same ∙ half.rows in
       let up : new.height ≡ n.height + 1 = new_height ∙ mid_height ∙ height in
       let two : new.len ≡ 2 = omega (arith, new_len, mid_len, len) in

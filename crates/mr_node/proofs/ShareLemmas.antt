@@ -267,11 +267,11 @@ module _ {X : Type 0} where
   appended_sum xs ys ls rs e = omega (arith, ap length e, length-append xs ys, length-append ls rs)
 
 -- the widths of two neighbours, of which the left one got all or half
-pub even_widths : (a b c d low both : ℕ) → 15 ≤ a → 15 ≤ b → a ≤ 32 → b ≤ 32 → both ≡ a + b → (both ≤ 32 → low ≡ both) → (32 < both → (2 * low ≤ both) × (both ≤ 2 * low + 1)) → c ≡ low → c + d ≡ a + b → AreEvenWidths (nat_le both 32) c d
-even_widths a b c d low both more much fits within sum all half got same =
+pub even_widths : (a b c d low both : ℕ) → a ≤ 32 → b ≤ 32 → both ≡ a + b → (both ≤ 32 → low ≡ both) → (32 < both → (2 * low ≤ both) × (both ≤ 2 * low + 1)) → c ≡ low → c + d ≡ a + b → AreEvenWidths (nat_le both 32) c d
+even_widths a b c d low both fits within sum all half got same =
     by_test (nat_le both 32)
     (λ e. let one = all (leb-true both 32 e) in
-    rw e (omega (arith, one, got, sum, more, much), omega (arith, one, got, leb-true both 32 e), omega (arith, one, got, sum, same)))
+    rw e (omega (arith, one, got, leb-true both 32 e), omega (arith, one, got, sum, same)))
     (λ e. let two = half (leb-false both 32 e) in
     let over = leb-false both 32 e in
-    rw e (omega (arith, two.0, two.1, got, over), omega (arith, two.0, got, sum, fits, within), omega (arith, two.0, got, sum, same, over), omega (arith, two.1, got, sum, same, fits, within)))
+    rw e (omega (arith, two.0, two.1, got, over), omega (arith, two.0, got, sum, fits, within), omega (arith, two.0, got, sum, same, over), omega (arith, two.1, got, sum, same, fits, within), omega (arith, over, sum, same)))

@@ -1,7 +1,7 @@
--- What calls inside the crate promise each other of an inner node: two children evened out, one halved, one more hung on.
-use Rattle.std.specs.Prelude.{◌≡◌, ℕ, ◌+◌, ◌-◌, ◌<◌, ◌≤◌, Bool, true, false, List, [], ◌∷◌, ◌++◌, take, drop, None, slice_index_or, IfSome}
+-- What calls inside the crate promise each other of an inner node: two children evened out, one halved.
+use Rattle.std.specs.Prelude.{◌≡◌, ℕ, ◌+◌, ◌-◌, ◌<◌, ◌≤◌, Bool, true, false, List, ◌∷◌, ◌++◌, take, drop, None, slice_index_or, IfSome}
 use Rattle.std.specs.List.{AllByRecursion}
-use Rattle.mr_node.specs.Rows.{Seen, KeysBelow, KeysFrom}
+use Rattle.mr_node.specs.Rows.{KeysBelow, KeysFrom}
 use Rattle.mr_node.specs.Runs.{IsRun}
 use Rattle.mr_node.specs.Levels.{NodeKid, NodeBranch, kids_of, rows_of, IsKid, IsBranchOf, IsBranch}
 
@@ -74,10 +74,3 @@ pub record IsRoomAt {V : Type 0} (key place : ℕ) (b : NodeBranch V) : Type 0 w
   pub below : KeysBelow key (rows_of (take place (kids_of b)))
   pub above : KeysFrom (key + 1) (rows_of (drop (place + 1) (kids_of b)))
   pub room : IfSome (slice_index_or b.kids place None) (λ k. k.node.value.width < 32)
-
--- an inner node with one node more behind its children
-pub record IsHung {V : Type 0} (node : Seen V) (old new : NodeBranch V) : Type 0 where
-  pub kid : NodeKid V
-  pub list : kids_of new ≡ kids_of old ++ kid ∷ []
-  pub same : kid.1.node.value ≡ node
-  pub whole : IsKid node.height kid

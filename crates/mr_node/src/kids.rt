@@ -21,8 +21,8 @@ fn no_kids<B>() -> [Option<Kid<B>>; 32]
     ]
 }
 
-// The part of an inner node of a height, without children.
-pub(crate) fn no_branch<B>(height: u64) -> Branch<B>
+/// The part of an inner node of a height, without children.
+pub fn no_branch<B>(height: u64) -> Branch<B>
     ensures height { result.height ≡ height }
     ensures len { result.len ≡ 0 }
     ensures run { IsRun 0 result.leasts result.kids }
@@ -36,8 +36,8 @@ pub(crate) fn no_branch<B>(height: u64) -> Branch<B>
     }
 }
 
-// The place of the child to which a key belongs: the last whose least key isn't above the key, or the first.
-pub(crate) fn place_of<B>(branch: &Branch<B>, key: u64) -> usize
+/// The place of the child to which a key belongs: the last whose least key isn't above the key, or the first.
+pub fn place_of<B>(branch: &Branch<B>, key: u64) -> usize
     requires some { 0 < branch.now.len }
     requires run { IsRun branch.now.len branch.now.leasts branch.now.kids }
     requires ordered { IsOrderedBy key_of_pair (entries branch.now.leasts branch.now.kids) }
@@ -71,8 +71,8 @@ pub(crate) fn sum_counts<B>(branch: &Branch<B>) -> u64
     total
 }
 
-// Takes the child at a place out of an inner node's part.
-pub(crate) fn take_kid<B>(branch: &mut Branch<B>, place: usize) -> Kid<B>
+/// Takes the child at a place out of an inner node's part.
+pub fn take_kid<B>(branch: &mut Branch<B>, place: usize) -> Kid<B>
     requires run { IsRun branch.old.len branch.old.leasts branch.old.kids }
     requires within { place < branch.old.len }
     ensures height { branch.new.height ≡ branch.old.height }

@@ -3,6 +3,7 @@
 #![tactic(auto)]
 
 mod body;
+mod cuts;
 mod entries;
 mod keys;
 mod kids;
@@ -17,7 +18,9 @@ mod stock;
 mod tests;
 
 pub use body::{Body, Branch, Kid, Leaf};
+pub use cuts::{build_blank, cut_kids, cut_leaf};
+pub use kids::{no_branch, place_of, take_kid};
 pub use meter::Meter;
-pub use node::{Node, build_inner, build_leaf, open};
+pub use node::{Node, build_inner, build_leaf, hang, open};
 pub use room::Room;
 pub use stock::{Blanks, Stock};

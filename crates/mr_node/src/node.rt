@@ -9,7 +9,7 @@ ghost use Rattle.mr_node.specs.Runs.{IsRun};
 ghost use Rattle.mr_node.specs.Growth.{IsGrown, IsRoomAnswer, left_of, gained, least_with};
 ghost use Rattle.mr_node.specs.Pairs.{IsKidNode, IsHalved, AreEvened};
 ghost use Rattle.mr_node.specs.Changes.{IsShrunk, IsHeightened, IsLowered};
-ghost use Rattle.mr_node.specs.Inside.{IsHung};
+ghost use Rattle.mr_node.specs.Parts.{IsHung};
 ghost use Rattle.mr_node.specs.Steps.{after_steps};
 
 use crate::entries::{
@@ -91,7 +91,7 @@ impl<V> Node<V> {
         }
     }
 
-    // The least key of a node that has any row, else 0.
+    // The least key of a node that has any row.
     pub(crate) fn least(&self) -> u64
         ensures { 0 < self.now.width → StartsWith result self.now.rows }
     {
@@ -216,7 +216,7 @@ impl<V: Drop> Node<V> {
         ensures new { IsShrunk key self.old self.new }
         ensures value { result ≡ value_at key self.old.rows }
         ensures no_fewer { after_steps (2 * (self.old.height + 1)) meter.old ≤ meter.new }
-        ensures steps { meter.new ≤ meter.old + 6 * (self.old.height + 1) }
+        ensures steps { meter.new ≤ meter.old + (2 * (self.old.height + 1) + 4 * self.old.height) }
     {
         let mut gone = None;
         self.take_at(key, &mut gone, meter);
@@ -229,7 +229,7 @@ impl<V: Drop> Node<V> {
         ensures new { IsShrunk key self.old self.new }
         ensures value { gone.new ≡ value_at key self.old.rows }
         ensures no_fewer { after_steps (2 * (self.old.height + 1)) meter.old ≤ meter.new }
-        ensures steps { meter.new ≤ meter.old + 6 * (self.old.height + 1) }
+        ensures steps { meter.new ≤ meter.old + (2 * (self.old.height + 1) + 4 * self.old.height) }
     {
         meter.tick(2);
         match &mut self.body {
@@ -311,7 +311,8 @@ impl<V: Drop> Node<V> {
         requires well { IsWell self.old }
         requires some { 0 < self.old.height → 0 < self.old.width }
         ensures lowered { IsLowered self.old self.new }
-        ensures level { self.old.height ≤ self.new.height + 1 }
+        ensures level { (self.new.height ≤ self.old.height) × (self.old.height ≤ self.new.height + 1) }
+        ensures kept { 2 ≤ self.old.width → self.new ≡ self.old }
         ensures no_fewer { after_steps (self.old.height - self.new.height) meter.old ≤ meter.new }
         ensures steps { meter.new ≤ meter.old + (self.old.height - self.new.height) }
     {
@@ -343,12 +344,11 @@ impl<V: Drop> Node<V> {
         }
     }
 
-    // Evens out a node and its next neighbour in place: true where the first has all rows now. Four steps.
-    pub(crate) fn even_with(&mut self, next: &mut Node<V>, meter: &mut Meter) -> bool
+    /// Evens out a node and its next neighbour of the same height in place. True where the first has all rows now; else
+    /// both are half full. Four steps.
+    pub fn even_with(&mut self, next: &mut Node<V>, meter: &mut Meter) -> bool
         requires level { self.old.height ≡ next.old.height }
         requires ordered { IsOrderedBy key_of_pair (self.old.rows ++ next.old.rows) }
-        requires some { 15 ≤ self.old.width }
-        requires next_some { 15 ≤ next.old.width }
         ensures nodes { AreEvened result self.old next.old self.new next.new }
         ensures steps { meter.new ≡ after_steps 4 meter.old }
     {
@@ -475,20 +475,20 @@ fn put_inner<V: Drop>(node: &mut Node<V>, branch: Branch<Box<Node<V>>>)
     };
 }
 
-// Puts a node into an inner node's part behind its children, with its least key and its count.
-fn hang<V: Drop>(branch: &mut Branch<Box<Node<V>>>, node: Box<Node<V>>)
+/// Puts a node into an inner node's part at a place, with its least key and its count.
+pub fn hang<V: Drop>(branch: &mut Branch<Box<Node<V>>>, place: usize, node: Box<Node<V>>)
     requires run { IsRun branch.old.len branch.old.leasts branch.old.kids }
     requires room { branch.old.len < 32 }
+    requires within { place ≤ branch.old.len }
     requires node { IsKidNode node.value.height node.value }
     ensures height { branch.new.height ≡ branch.old.height }
     ensures len { branch.new.len ≡ branch.old.len + 1 }
     ensures run { IsRun branch.new.len branch.new.leasts branch.new.kids }
-    ensures kids { IsHung node.value branch.old branch.new }
+    ensures kids { IsHung place node.value branch.old branch.new }
 {
     let least = node.least();
     let count = node.len();
-    let end = branch.len;
-    put_kid(branch, end, least, Kid { count, node });
+    put_kid(branch, place, least, Kid { count, node });
 }
 
 // A new root over the halves of a full node.
@@ -501,8 +501,8 @@ fn root_over<V: Drop>(mut node: Box<Node<V>>, mut blank: Box<Node<V>>, meter: &m
     meter.tick(4);
     let mut root = no_branch(node.height() + 1);
     node.halve_into(&mut *blank);
-    hang(&mut root, node);
-    hang(&mut root, blank);
+    hang(&mut root, 0, node);
+    hang(&mut root, 1, blank);
     Node {
         body: Body::Inner(root),
     }

@@ -171,8 +171,6 @@ fn low_of(both: usize) -> usize
 pub(crate) fn even<R: Run>(left: &mut R, right: &mut R) -> bool
     requires left_run { R.is_run left.old }
     requires right_run { R.is_run right.old }
-    requires left_some { 15 ≤ length (R.list left.old) }
-    requires right_some { 15 ≤ length (R.list right.old) }
     requires left_fits { length (R.list left.old) ≤ 32 }
     requires right_fits { length (R.list right.old) ≤ 32 }
     ensures left_run { R.is_run left.new }

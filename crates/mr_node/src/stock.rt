@@ -1,5 +1,5 @@
 //! Blank nodes, taken ahead of a change.
-ghost use Rattle.std.specs.Prelude.{◌≡◌, ◌+◌, ◌<◌, ◌≤◌, ℕ, max, MatchResult};
+ghost use Rattle.std.specs.Prelude.{◌≡◌, ◌+◌, ◌<◌, ◌≤◌, ℕ, max, MatchResult, OnErr};
 
 use crate::Node;
 use std::alloc::Global;
@@ -32,6 +32,11 @@ impl<N> Blanks<N> {
             boxes: Vec::new(alloc),
         }
     }
+
+    /// The allocator of which blank nodes are taken.
+    pub fn alloc(&self) -> Global {
+        *self.boxes.allocator()
+    }
 }
 
 impl<V: Drop> Blanks<Node<V>> {
@@ -40,25 +45,28 @@ impl<V: Drop> Blanks<Node<V>> {
         ensures { MatchResult result (λ stock. stock ≡ count) (λ why. why ≡ Refusal.Memory) }
     {
         let mut stock = Stock::none(alloc);
-        stock.fill(alloc, count)?;
+        stock.fill(count)?;
         Ok(stock)
     }
 
     /// Takes blank nodes until there are `count`. Memory where they can't be had: those that were taken stay.
-    pub fn fill(&mut self, alloc: Global, count: usize) -> Result<(), Refusal>
-        ensures { MatchResult result (λ _. self.new ≡ max self.old count) (λ why. why ≡ Refusal.Memory) }
+    pub fn fill(&mut self, count: usize) -> Result<(), Refusal>
+        ensures filled { MatchResult result (λ _. self.new ≡ max self.old count) (λ why. why ≡ Refusal.Memory) }
+        ensures short { OnErr result ((self.old ≤ self.new) × (self.new < count)) }
     {
-        let missing = count.saturating_sub(self.boxes.len());
-        if self.boxes.reserve(missing).is_err() {
+        let alloc = *self.boxes.allocator();
+        let have = self.boxes.len();
+        if count <= have {
+            return Ok(());
+        }
+        if self.boxes.reserve(count - have).is_err() {
             return Err(Refusal::Memory);
         }
         while self.boxes.len() < count {
             let Ok(blank) = Box::new(alloc, Node::new()) else {
                 return Err(Refusal::Memory);
             };
-            if self.boxes.push(blank).is_err() {
-                return Err(Refusal::Memory);
-            }
+            self.boxes.push_reserved(blank);
         }
         Ok(())
     }

@@ -46,11 +46,22 @@ fn grow(rt: &impl Abort, node: &mut Node<u64>, stock: &mut Stock<u64>, meter: &m
     }
     assert_eq!(rt; (node.height(), node.width(), node.len()), (1, 2, 33));
     assert_eq!(rt; (stock.count(), meter.steps()), (2, 10));
-    assert_eq!(rt; node.first_from(16).map(|row| row.0), Some(16));
+    assert_eq!(rt;
+        node.first_from(16).map(|row| (row.0, *row.1)),
+        Some((16, 32))
+    );
     assert_eq!(rt;
         node.fold(0u64, &|sum, key, _value| sum.wrapping_add(key)),
         561
     );
+}
+
+// A leaf below a root takes a row in, and gives it away.
+fn change(rt: &impl Abort, node: &mut Node<u64>, meter: &mut Meter) {
+    let mut value = Some(68);
+    assert!(rt; matches!(node.insert_room(34, &mut value), Room::Done));
+    assert!(rt; node.width() >= 2);
+    assert_eq!(rt; node.remove(34, meter), Some(68));
 }
 
 // The root falls again when two rows go.
@@ -61,7 +72,20 @@ fn fall(rt: &impl Abort, node: &mut Node<u64>, meter: &mut Meter) {
     node.lower(meter);
     assert_eq!(rt; (node.height(), node.width()), (0, 32));
     assert_eq!(rt; node.remove(6, meter), Some(12));
-    assert_eq!(rt; (node.height(), node.len(), meter.steps()), (0, 31, 23));
+    assert_eq!(rt; (node.height(), node.len(), meter.steps()), (0, 31, 27));
+}
+
+// A stock is filled up to a number; more than memory can hold is refused, and what was there stays.
+#[test]
+fn blanks(rt: HostRuntime) -> Result<(), Fail> {
+    let mut stock = Stock::<u64>::none(rt.alloc());
+    assert_eq!(rt; stock.count(), 0);
+    assert!(rt; stock.fill(3).is_ok());
+    assert!(rt; stock.fill(2).is_ok());
+    assert_eq!(rt; stock.count(), 3);
+    assert_eq!(rt; stock.fill(usize::MAX).err(), Some(Refusal::Memory));
+    assert_eq!(rt; stock.count(), 3);
+    Ok(())
 }
 
 #[test]
@@ -74,6 +98,7 @@ fn a_root_grows_and_falls(rt: HostRuntime) -> Result<(), Fail> {
     fill(&rt, &mut *node);
     grow(&rt, &mut *node, &mut stock, &mut meter);
     let mut node = rebuilt(node, &mut meter);
+    change(&rt, &mut *node, &mut meter);
     fall(&rt, &mut *node, &mut meter);
     Ok(())
 }

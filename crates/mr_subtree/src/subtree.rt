@@ -18,7 +18,6 @@ pub struct SubTree<V> {
     root: Node<V>,
     // Blank nodes that splits took and didn't use, for the next one.
     spare: Stock<V>,
-    alloc: Global,
 }
 
 impl<V> Model for SubTree<V> {
@@ -44,8 +43,23 @@ impl<V> SubTree<V> {
         Ok(SubTree {
             root: Node::new(),
             spare: Stock::none(alloc),
-            alloc,
         })
+    }
+
+    /// The tree of a root that meets the rules.
+    pub fn from_root(alloc: Global, root: Node<V>) -> Self
+        requires { IsRoot root }
+        ensures { result ≡ root }
+    {
+        SubTree {
+            root,
+            spare: Stock::none(alloc),
+        }
+    }
+
+    /// The allocator of which the tree takes memory.
+    pub fn alloc(&self) -> Global {
+        self.spare.alloc()
     }
 
     /// The value at a key, or `None`.
@@ -66,6 +80,7 @@ impl<V> SubTree<V> {
     pub fn height(&self) -> u64
         ensures value { result ≡ self.now.height }
         ensures bounds { IsHeightOf result (length self.now.rows) }
+        ensures low { result < 16 }
     {
         self.root.height()
     }
@@ -87,6 +102,14 @@ impl<V> SubTree<V> {
 }
 
 impl<V: Drop> SubTree<V> {
+    /// The root, which meets the rules. Blank nodes that the tree kept are let go.
+    pub fn into_root(self) -> Node<V>
+        ensures same { result ≡ self }
+        ensures root { IsRoot result }
+    {
+        self.root
+    }
+
     /// Replaces the value at a key, and gives the old one; the new one back where the key isn't there. Takes no memory.
     pub fn replace(&mut self, key: u64, value: V) -> Result<V, V>
         ensures rows { self.new ≡ record self.old { rows = with_row_at key_of_pair key (key, value) self.old.rows } }
@@ -134,7 +157,7 @@ impl<V: Drop> SubTree<V> {
         ensures kept { OnErr result (self.new ≡ self.old) }
     {
         let wanted = blanks_wanted(&self.root);
-        if self.spare.fill(self.alloc, wanted).is_err() {
+        if self.spare.fill(wanted).is_err() {
             return refused(Refusal::Memory, item);
         }
         grow(&mut self.root, key, &mut item, &mut self.spare);
@@ -147,6 +170,7 @@ fn blanks_wanted<V>(root: &Node<V>) -> usize
     requires { IsRoot root.now }
     ensures each { root.now.height ≤ result }
     ensures full { root.now.width ≡ 32 → root.now.height + 3 ≤ result }
+    ensures most { result ≤ root.now.height + 3 }
 {
     let levels = root.height() as usize;
     if root.width() == 32 {

@@ -89,7 +89,10 @@ fn reach_ends(rt: &impl Abort, tree: &mut SubTree<u64>) {
     }
     assert_eq!(rt; (tree.get(0), tree.get(last)), (Some(&1), Some(&2)));
     assert_eq!(rt; (tree.get(last + 1), tree.get(last + 2)), (None, None));
-    assert_eq!(rt; tree.first_from(99_001).map(|row| row.0), Some(last));
+    assert_eq!(rt;
+        tree.first_from(99_001).map(|row| (row.0, *row.1)),
+        Some((last, 2))
+    );
     assert_eq!(rt; tree.first_from(last + 1).map(|row| row.0), None);
     assert_eq!(rt; tree.first_from(u64::MAX).map(|row| row.0), None);
     assert_eq!(rt; tree.replace(u64::MAX, 3).err(), Some(3));
@@ -161,10 +164,16 @@ fn change<V: Told + Drop>(
     let insertions = if turn % 8_000 < 4_000 { 6 } else { 2 };
     let kind = (word >> 20) % 8;
     if kind < insertions {
-        assert_eq!(rt; tree.insert(key, V::of(number)).is_ok(), was == 0);
-        if was == 0 {
-            table[place] = number;
+        let back = tree
+            .insert(key, V::of(number))
+            .err()
+            .map(|back| (back.why, back.item.number()));
+        if was > 0 {
+            assert_eq!(rt; back, Some((Refusal::Exists, number)));
+            return;
         }
+        assert_eq!(rt; back, None);
+        table[place] = number;
         return;
     }
     if kind == 6 {
@@ -183,13 +192,23 @@ fn change<V: Told + Drop>(
     table[place] = 0;
 }
 
-// The rows of a tree are those of the table.
+// The rows of a tree are those of the table: each by its key, and the first from each key on.
 fn compare<V: Told + Drop>(rt: &impl Abort, tree: &SubTree<V>, table: &[u32; 2000]) {
     let mut count = 0u64;
-    for place in 0..2000usize {
-        let found = tree.get((place as u64) * APART).map(|value| value.number());
+    let mut first = None;
+    for back in 0..2000usize {
+        let place = 1999 - back;
+        let key = (place as u64) * APART;
+        let found = tree.get(key).map(|value| value.number());
         assert_eq!(rt; found.unwrap_or(0), table[place]);
-        count = count.wrapping_add(u64::from(table[place] > 0));
+        if table[place] > 0 {
+            first = Some((key, table[place]));
+            count = count.wrapping_add(1);
+        }
+        assert_eq!(rt;
+            tree.first_from(key).map(|row| (row.0, row.1.number())),
+            first
+        );
     }
     assert_eq!(rt; tree.len(), count);
 }

@@ -20,7 +20,7 @@ even_with-joined-requires g c =
     let one = c.deref_mut.ensures.value in
     let two = c.deref_mut-in-Some-kids.ensures.value in
     let ordered = subst (λ s. IsOrderedBy key_of_pair (c.deref_mut.result.now.rows ++ s.rows)) (sym two) (subst (λ s. IsOrderedBy key_of_pair (s.rows ++ c.in-Some.high.node.value.rows)) (sym one) pair.ordered) in
-    (search rules, (ap (λ s. s.height) one ∙ pair.first.level ∙ sym (ap (λ s. s.height) two ∙ pair.second.level), (ordered, (omega (arith, ap (λ s. s.width) one, pair.first.enough), omega (arith, ap (λ s. s.width) two, pair.second.enough)))))
+    (search rules, (ap (λ s. s.height) one ∙ pair.first.level ∙ sym (ap (λ s. s.height) two ∙ pair.second.level), ordered))
 
 pub unreachable-requires-in-None : goal.unreachable-requires-in-None
 unreachable-requires-in-None g c =

@@ -128,5 +128,5 @@ returns-in-Some-clause-steps g t c =
     let same = ap (λ x. x.value) c.note_gone-least.ensures.node in
     let removed = removed_in c.args.key i c.note_gone-least.result b k left n whole cut at.within shrunk same c.note_gone-least.ensures.least (count_gone c.args.key k.count left.count c.take_at.new.gone k.node.value.rows n.rows shrunk.rows cut.kid.counted gone (c.note_gone-least.ensures.count ∙ ap (λ x. k.count - cond x 1 0) c.is_some.ensures)) in
     let most = mend_most _ left _ _ removed.got c.mend.ensures.thin c.mend.ensures.enough in
-    let lower : c.deref_mut-node.result.now.height < c.args.self.now.height = omega (arith, ap (λ s. s.height) c.deref_mut-node.ensures.value, cut.kid.level, whole.inner, ap (λ s. s.height) now) in
+    let lower : c.deref_mut-node.result.now.height + 1 ≡ c.args.self.now.height = omega (arith, ap (λ s. s.height) c.deref_mut-node.ensures.value, cut.kid.level, whole.inner, ap (λ s. s.height) now) in
     omega (arith, lower, c.tick.ensures, c.take_at.ensures.steps, most.1)

@@ -4,18 +4,6 @@ use Rattle.mr_node.proofs.EvenLemmas.{leaf_length, branch_length, AreLeaves, Are
 use Rattle.mr_node.proofs.node.Node.even_with.Goals.{in-Leaf+in-Leaf-body, in-Inner+in-Inner-body-2}
 use Rattle.mr_node.proofs.node.Node.even_with.Goals as goal
 
-pub even-requires-clause-left_some : goal.even-requires-clause-left_some
-even-requires-clause-left_some g c =
-    let leaf : IsLeaf c.in-Leaf.left = subst IsNode c.in-Leaf.is c.self.invariant in
-    let now : seen_leaf c.in-Leaf.left ≡ c.args.self.now = sym (ap seen c.in-Leaf.is) ∙ c.self.view_is in
-    omega (arith, leaf_length c.in-Leaf.left leaf.run, ap (λ s. s.width) now, c.requires.some)
-
-pub even-requires-clause-right_some : goal.even-requires-clause-right_some
-even-requires-clause-right_some g c =
-    let leaf : IsLeaf c.in-Leaf-body.right = subst IsNode c.in-Leaf-body.is c.next.invariant in
-    let now : seen_leaf c.in-Leaf-body.right ≡ c.args.next.now = sym (ap seen c.in-Leaf-body.is) ∙ c.next.view_is in
-    omega (arith, leaf_length c.in-Leaf-body.right leaf.run, ap (λ s. s.width) now, c.requires.next_some)
-
 pub even-requires-clause-left_fits : goal.even-requires-clause-left_fits
 even-requires-clause-left_fits g c =
     let leaf : IsLeaf c.in-Leaf.left = subst IsNode c.in-Leaf.is c.self.invariant in
@@ -32,18 +20,6 @@ invariant_of-next g c =
     let b = c.in-Leaf-body.right in
     let two : AreLeaves a b = leaves_of a b c.args.self.now c.args.next.now (subst IsNode c.in-Leaf.is c.self.invariant) (subst IsNode c.in-Leaf-body.is c.next.invariant) (sym (ap seen c.in-Leaf.is) ∙ c.self.view_is) (sym (ap seen c.in-Leaf-body.is) ∙ c.next.view_is) c.requires.ordered in
     right_leaf a b c.even.new.left c.even.new.right two (record { left = c.even.ensures.left_run; right = c.even.ensures.right_run; list = c.even.ensures.list })
-
-pub even-all-requires-clause-left_some : goal.even-all-requires-clause-left_some
-even-all-requires-clause-left_some g c =
-    let branch : IsBranch c.in-Inner.left = subst IsNode c.in-Inner.is c.self.invariant in
-    let now : seen_branch c.in-Inner.left ≡ c.args.self.now = sym (ap seen c.in-Inner.is) ∙ c.self.view_is in
-    omega (arith, branch_length c.in-Inner.left branch.run, ap (λ s. s.width) now, c.requires.some)
-
-pub even-all-requires-clause-right_some : goal.even-all-requires-clause-right_some
-even-all-requires-clause-right_some g c =
-    let branch : IsBranch c.in-Inner-body-2.right = subst IsNode c.in-Inner-body-2.is c.next.invariant in
-    let now : seen_branch c.in-Inner-body-2.right ≡ c.args.next.now = sym (ap seen c.in-Inner-body-2.is) ∙ c.next.view_is in
-    omega (arith, branch_length c.in-Inner-body-2.right branch.run, ap (λ s. s.width) now, c.requires.next_some)
 
 pub even-all-requires-clause-left_fits : goal.even-all-requires-clause-left_fits
 even-all-requires-clause-left_fits g c =
@@ -62,7 +38,7 @@ invariant_of-next-in-Inner-body-2 g c =
     let two : AreBranches a b = branches_of a b c.args.self.now c.args.next.now (subst IsNode c.in-Inner.is c.self.invariant) (subst IsNode c.in-Inner-body-2.is c.next.invariant) (sym (ap seen c.in-Inner.is) ∙ c.self.view_is) (sym (ap seen c.in-Inner-body-2.is) ∙ c.next.view_is) c.requires.level c.requires.ordered in
     let now = c.even-all.ensures in
     let moved : AreMovedKids a b c.even-all.new.left c.even-all.new.right = record { left = now.left_run; right = now.right_run; list = now.list; left_height = now.left_height; right_height = now.right_height } in
-    let all = evened_branches c.even-all.result a b c.even-all.new.left c.even-all.new.right (seen c.let_go.new.body) two moved now.even (λ e. ap seen (c.let_go.ensures.kept e)) in
+    let all = evened_branches c.even-all.result a b c.even-all.new.left c.even-all.new.right (seen c.let_go.new.body) (subst IsNode c.in-Inner.is c.self.invariant) (subst IsNode c.in-Inner-body-2.is c.next.invariant) two moved now.even (λ e. ap seen (c.let_go.ensures.kept e)) in
     kept_node c.even-all.result c.let_go.new.body c.even-all.new.right c.let_go.ensures.gone c.let_go.ensures.kept all.1
 
 pub invariant_of-self : goal.invariant_of-self
@@ -78,7 +54,7 @@ invariant_of-self g c = elim c.match-self.branch [
       let two : AreBranches a b = branches_of a b c.args.self.now c.args.next.now (subst IsNode w.in-Inner.is c.self.invariant) (subst IsNode w.in-Inner-body-2.is c.next.invariant) (sym (ap seen w.in-Inner.is) ∙ c.self.view_is) (sym (ap seen w.in-Inner-body-2.is) ∙ c.next.view_is) c.requires.level c.requires.ordered in
       let now = w.even-all.ensures in
       let moved : AreMovedKids a b w.even-all.new.left w.even-all.new.right = record { left = now.left_run; right = now.right_run; list = now.list; left_height = now.left_height; right_height = now.right_height } in
-      let all = evened_branches w.even-all.result a b w.even-all.new.left w.even-all.new.right (seen w.let_go.new.body) two moved now.even (λ e. ap seen (w.let_go.ensures.kept e)) in
+      let all = evened_branches w.even-all.result a b w.even-all.new.left w.even-all.new.right (seen w.let_go.new.body) (subst IsNode w.in-Inner.is c.self.invariant) (subst IsNode w.in-Inner-body-2.is c.next.invariant) two moved now.even (λ e. ap seen (w.let_go.ensures.kept e)) in
       subst (λ i. IsNode i.body) (sym w.self-inside-is) all.0
 ]
 
@@ -101,7 +77,7 @@ returns-clause-nodes g c = elim c.match-self.branch [
       let two : AreBranches a b = branches_of a b c.args.self.now c.args.next.now (subst IsNode w.in-Inner.is c.self.invariant) (subst IsNode w.in-Inner-body-2.is c.next.invariant) left right c.requires.level c.requires.ordered in
       let now = w.even-all.ensures in
       let moved : AreMovedKids a b w.even-all.new.left w.even-all.new.right = record { left = now.left_run; right = now.right_run; list = now.list; left_height = now.left_height; right_height = now.right_height } in
-      let all = evened_branches w.even-all.result a b w.even-all.new.left w.even-all.new.right (seen w.let_go.new.body) two moved now.even (λ e. ap seen (w.let_go.ensures.kept e)) in
+      let all = evened_branches w.even-all.result a b w.even-all.new.left w.even-all.new.right (seen w.let_go.new.body) (subst IsNode w.in-Inner.is c.self.invariant) (subst IsNode w.in-Inner-body-2.is c.next.invariant) two moved now.even (λ e. ap seen (w.let_go.ensures.kept e)) in
       evened_by w.even-all.result c.match-self.result (seen_branch a) (seen_branch b) (seen_branch w.even-all.new.left) (seen w.let_go.new.body) c.args.self.now c.args.next.now (seen c.match-self.self-inside.body) c.match-self.next
       all.2 w.result-is left right (ap (λ i. seen i.body) w.self-inside-is) w.next-is
 ]

@@ -6,7 +6,7 @@ use Rattle.mr_subtree.proofs.subtree.SubTree.insert_full.Goals as goal
 
 pub grow-requires : goal.grow-requires
 grow-requires g c =
-    let enough : c.blanks_wanted-wanted.result ≤ c.fill.new.self = filled c.fill.result _ c.blanks_wanted-wanted.result c.fill.new.self c.fill.ensures (sym c.is_err.ensures.value ∙ c.if-is_err.false) in
+    let enough : c.blanks_wanted-wanted.result ≤ c.fill.new.self = filled c.fill.result _ c.blanks_wanted-wanted.result c.fill.new.self c.fill.ensures.filled (sym c.is_err.ensures.value ∙ c.if-is_err.false) in
     (search rules, (c.self.invariant, (c.requires.small, (c.requires.some, (ap (λ s. row_at key_of_pair c.args.key s.rows) c.self.view_is ∙ c.requires.missing, (omega (arith, enough, c.blanks_wanted-wanted.ensures.each), λ full. omega (arith, enough, c.blanks_wanted-wanted.ensures.full full)))))))
 
 pub returns-clause-answer : goal.returns-clause-answer
