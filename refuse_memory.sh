@@ -138,6 +138,7 @@ tests_of() {
 
 program
 tests_of mr_subtree tests::memory_refused
+tests_of mr_cut tests::memory_refused
 tests_of number_index tests::numbers
 tests_of tatp_actions tests::refused_nodes plain_tests::same_actions
 tests_of hlr_core tests::runs tests::additions_at_split tests::renamings_at_split plain_tests::drawn_events

@@ -1,0 +1,226 @@
+-- A tree that is cut at a key.
+use Rattle.std.proofs.Common.{◌≡◌, ℕ, ◌+◌, ◌-◌, ◌*◌, ◌<◌, ◌≤◌, List, [], ◌∷◌, ◌++◌, length, take, drop, nat_lt, nat_le, true, false, sym, ap, subst, ◌∙◌, arith, append-nil, take_at, inl, inr}
+use Rattle.std.specs.List.{AllByRecursion}
+use Rattle.std.proofs.Math.Nat.{add-mul, mul-add, mul-le-mul_right}
+use Rattle.std.proofs.lemmas.Bool.{cases_lt, lt-ltb, lt-leb, le-ltb, le-leb}
+use Rattle.std.proofs.lemmas.List.Elements.{filter-append}
+use Rattle.std.specs.Int.{abs_diff}
+use Rattle.tatp_rows.proofs.OrderedLemmas.{each-weaker, filter_all, filter_none}
+use Rattle.std.proofs.lemmas.List.{append_assoc, drop_all, drop_at, length-append, nil_from_length}
+use Rattle.tatp_rows.specs.Ordered.{IsOrderedBy}
+use Rattle.tatp_rows.proofs.AppendLemmas.{each-append, each-left, each-right, ordered-left, ordered-right}
+use Rattle.tatp_rows.proofs.SpanLemmas.{from-weaker}
+use Rattle.mr_node.specs.declared.body.Leaf.{Leaf}
+use Rattle.mr_node.specs.Rows.{Seen, key_of_pair, key_limit, KeysBelow, KeysFrom}
+use Rattle.mr_node.specs.Runs.{IsRun}
+use Rattle.mr_node.specs.Search.{IsKidPlace}
+use Rattle.mr_node.specs.Levels.{NodeKid, NodeBranch, kids_of, rows_of, pairs_of, IsKid, IsLeaf, IsBranch, seen_leaf, seen_branch}
+use Rattle.mr_node.proofs.PlaceLemmas.{packed_some}
+use Rattle.mr_node.proofs.RunLemmas.{run_length}
+use Rattle.mr_node.proofs.KidLemmas.{rows_of-append, cut_kid}
+use Rattle.mr_node.proofs.SizeLemmas.{leaf_well, branch_well}
+use Rattle.mr_subtree.specs.Trees.{IsRoot}
+use Rattle.mr_cut.specs.Grafts.{IsRest}
+use Rattle.mr_cut.specs.Joins.{IsHeightOfBoth}
+use Rattle.mr_cut.specs.Cuts.{rows_below, rows_from, IsPiece, IsDivided, IsCut}
+
+module _ {V : Type 0} where
+  -- no children: a blank leaf
+  pub piece_none : (b : NodeBranch V) (x : Seen V) → IsRest b → b.len ≡ 0 → x ≡ record { height = 0; width = 0; rows = [] } → (IsPiece b.height x) × (x.rows ≡ rows_of (kids_of b))
+  piece_none b x rest none e =
+      let nil : kids_of b ≡ [] = nil_from_length (kids_of b) (run_length b.len b.leasts b.kids rest.run ∙ none) in
+      let blank : IsPiece b.height (record { height = 0; width = 0; rows = [] }) = record {
+        root = record { well = record { fits = omega arith; ordered = tt; keys = tt; at_least = omega arith; at_most = omega arith }; two = λ inner. absurd (omega (arith, inner)) };
+        low = omega arith;
+        room = λ high. omega arith;
+      } in
+      (subst (IsPiece b.height) (sym e) blank, ap (λ s. s.rows) e ∙ sym (ap rows_of nil))
+
+  -- one child: that child
+  pub piece_one : (b : NodeBranch V) (k : NodeKid V) → IsRest b → b.len ≡ 1 → kids_of b ≡ k ∷ drop 1 (kids_of b) → (IsPiece b.height k.1.node.value) × (k.1.node.value.rows ≡ rows_of (kids_of b))
+  piece_one b k rest one e =
+      let none : drop 1 (kids_of b) ≡ [] = drop_all 1 (kids_of b) (omega (arith, run_length b.len b.leasts b.kids rest.run, one)) in
+      let list : kids_of b ≡ k ∷ [] = e ∙ ap (λ r. k ∷ r) none in
+      let kid = (subst (AllByRecursion (IsKid (b.height - 1))) list rest.kids).0 in (
+        record {
+          root = record { well = kid.well; two = λ inner. omega (arith, kid.enough) };
+          low = omega (arith, kid.level);
+          room = λ high. absurd (omega (arith, high, kid.level, rest.inner));
+        },
+        sym (ap rows_of list ∙ append-nil k.1.node.value.rows),
+      )
+
+  -- more of them: an inner node
+  pub some_kids : (b : NodeBranch V) → IsRest b → 0 < b.len → IsBranch b
+  some_kids b rest some = record { inner = rest.inner; some = some; run = rest.run; kids = rest.kids; ordered = rest.ordered; keys = rest.keys }
+
+  pub piece_many : (b : NodeBranch V) (x : Seen V) → IsRest b → 2 ≤ b.len → b.len < 32 → x ≡ seen_branch b → (IsPiece b.height x) × (x.rows ≡ rows_of (kids_of b))
+  piece_many b x rest two room e =
+      let whole : IsPiece b.height (seen_branch b) = record {
+        root = record { well = branch_well b (some_kids b rest (omega (arith, two))); two = λ inner. two };
+        low = omega arith;
+        room = λ high. room;
+      } in
+      (subst (IsPiece b.height) (sym e) whole, ap (λ s. s.rows) e)
+
+  -- an inner node parted round the child to which a key belongs
+  pub record IsPartedAt (key : ℕ) (b front behind : NodeBranch V) (k : NodeKid V) : Type 0 where
+    pub first : IsRest front
+    pub second : IsRest behind
+    pub kid : IsKid (b.height - 1) k
+    pub first_room : front.len < 32
+    pub second_room : behind.len < 32
+    pub rows : rows_of (kids_of front) ++ (k.1.node.value.rows ++ rows_of (kids_of behind)) ≡ rows_of (kids_of b)
+    pub below : KeysBelow key (rows_of (kids_of front))
+    pub from : KeysFrom key (rows_of (kids_of behind))
+
+  rest_part : (b part : NodeBranch V) → 0 < b.height → part.height ≡ b.height → IsRun part.len part.leasts part.kids → AllByRecursion (IsKid (b.height - 1)) (kids_of part) → IsOrderedBy key_of_pair (rows_of (kids_of part)) → KeysBelow key_limit (rows_of (kids_of part)) → IsRest part
+  rest_part b part inner height run kids ordered keys = record {
+    inner = omega (arith, height, inner);
+    run = run;
+    kids = subst (λ m. AllByRecursion (IsKid (m - 1)) (kids_of part)) (sym height) kids;
+    ordered = ordered;
+    keys = keys;
+  }
+
+  -- the keys in front of that child and behind it
+  beside : (key i : ℕ) (b : NodeBranch V) → IsBranch b → IsKidPlace key i b.len b.leasts → (KeysBelow key (rows_of (take i (kids_of b)))) × (KeysFrom key (rows_of (drop (i + 1) (kids_of b))))
+  beside key i b branch at =
+      let some = packed_some b.len i b.kids branch.run.packed at.within in
+      let cut = cut_kid key i b some.0 branch at some.1 in
+      (cut.below, from-weaker key_of_pair key (key + 1) (rows_of (drop (i + 1) (kids_of b))) (omega arith) cut.above)
+
+  parted_of : (key i : ℕ) (b front behind : NodeBranch V) (k : NodeKid V) → IsBranch b → IsKidPlace key i b.len b.leasts → front.height ≡ b.height → behind.height ≡ b.height → IsRun front.len front.leasts front.kids → IsRun behind.len behind.leasts behind.kids → front.len ≡ i → kids_of b ≡ kids_of front ++ (k ∷ kids_of behind) → IsPartedAt key b front behind k
+  parted_of key i b front behind k branch at front_height behind_height front_run behind_run len list =
+      let h = b.height - 1 in
+      let P = IsKid h in
+      let f = kids_of front in
+      let r = kids_of behind in
+      let long : length f ≡ i = run_length front.len front.leasts front.kids front_run ∙ len in
+      let all = subst (AllByRecursion P) list branch.kids in
+      let back = each-right P f (k ∷ r) all in
+      let rows : rows_of (kids_of b) ≡ rows_of f ++ (k.1.node.value.rows ++ rows_of r) = ap rows_of list ∙ rows_of-append f (k ∷ r) in
+      let o = subst (IsOrderedBy key_of_pair) rows branch.ordered in
+      let small = subst (KeysBelow key_limit) rows branch.keys in
+      let Q = λ (p : ℕ × V). p.0 < key_limit in
+      let sides = beside key i b branch at in
+      let fronts : take i (kids_of b) ≡ f = ap (take i) list ∙ take_at f (k ∷ r) i long in
+      let backs : drop (i + 1) (kids_of b) ≡ r = ap (drop (i + 1)) (list ∙ sym (append_assoc f (k ∷ []) r)) ∙ drop_at (f ++ (k ∷ [])) r (i + 1) (omega (arith, length-append f (k ∷ []), long)) in
+      let both : length f + (1 + length r) ≡ b.len = omega (arith, ap length list, length-append f (k ∷ r), run_length b.len b.leasts b.kids branch.run) in
+      record {
+        first = rest_part b front branch.inner front_height front_run (each-left P f (k ∷ r) all) (ordered-left key_of_pair (rows_of f) (k.1.node.value.rows ++ rows_of r) o) (each-left Q (rows_of f) (k.1.node.value.rows ++ rows_of r) small);
+        second = rest_part b behind branch.inner behind_height behind_run back.1 (ordered-right key_of_pair k.1.node.value.rows (rows_of r) (ordered-right key_of_pair (rows_of f) (k.1.node.value.rows ++ rows_of r) o)) (each-right Q k.1.node.value.rows (rows_of r) (each-right Q (rows_of f) (k.1.node.value.rows ++ rows_of r) small));
+        kid = back.0;
+        first_room = omega (arith, both, branch.run.fits, run_length front.len front.leasts front.kids front_run);
+        second_room = omega (arith, both, branch.run.fits, run_length behind.len behind.leasts behind.kids behind_run);
+        rows = sym rows;
+        below = subst (λ l. KeysBelow key (rows_of l)) fronts sides.0;
+        from = subst (λ l. KeysFrom key (rows_of l)) backs sides.1;
+      }
+
+  -- the same from the cut behind that child and its removal
+  pub parted_at : (key i : ℕ) (b mid front behind : NodeBranch V) (k : NodeKid V) → IsBranch b → IsKidPlace key i b.len b.leasts → kids_of mid ++ kids_of behind ≡ kids_of b → mid.len ≡ i + 1 → mid.height ≡ b.height → behind.height ≡ b.height → IsRun mid.len mid.leasts mid.kids → IsRun behind.len behind.leasts behind.kids
+      → front.height ≡ mid.height → front.len + 1 ≡ mid.len → IsRun front.len front.leasts front.kids → kids_of front ≡ take i (kids_of mid) ++ drop (i + 1) (kids_of mid) → kids_of mid ≡ take i (kids_of mid) ++ (k ∷ drop (i + 1) (kids_of mid)) → IsPartedAt key b front behind k
+  parted_at key i b mid front behind k branch at list mid_len mid_height behind_height mid_run behind_run height len run rest split =
+      let none : drop (i + 1) (kids_of mid) ≡ [] = drop_all (i + 1) (kids_of mid) (omega (arith, run_length mid.len mid.leasts mid.kids mid_run, mid_len)) in
+      let front_is : kids_of front ≡ take i (kids_of mid) = rest ∙ ap (λ l. take i (kids_of mid) ++ l) none ∙ append-nil (take i (kids_of mid)) in
+      let mid_is : kids_of mid ≡ kids_of front ++ (k ∷ []) = split ∙ ap (λ l. take i (kids_of mid) ++ (k ∷ l)) none ∙ ap (λ l. l ++ (k ∷ [])) (sym front_is) in
+      let whole : kids_of b ≡ kids_of front ++ (k ∷ kids_of behind) = sym list ∙ ap (λ l. l ++ kids_of behind) mid_is ∙ append_assoc (kids_of front) (k ∷ []) (kids_of behind) in
+      parted_of key i b front behind k branch at (height ∙ mid_height) behind_height run behind_run (omega (arith, len, mid_len)) whole
+
+  -- and roots over the children on both sides
+  pub divided_of : (key : ℕ) (b front behind : NodeBranch V) (k : NodeKid V) (left right : Seen V) → IsBranch b → IsPartedAt key b front behind k → front.height ≡ b.height → behind.height ≡ b.height → IsPiece front.height left → IsPiece behind.height right → left.rows ≡ rows_of (kids_of front) → right.rows ≡ rows_of (kids_of behind) → IsDivided key b left k.1.node.value right
+  divided_of key b front behind k left right branch parted fh bh lp rp lr rr = record {
+    front = subst (λ h. IsPiece h left) fh lp;
+    back = subst (λ h. IsPiece h right) bh rp;
+    level = omega (arith, parted.kid.level, branch.inner);
+    rows = ap (λ l. l ++ (k.1.node.value.rows ++ right.rows)) lr ∙ ap (λ l. rows_of (kids_of front) ++ (k.1.node.value.rows ++ l)) rr ∙ parted.rows;
+    below = subst (KeysBelow key) (sym lr) parted.below;
+    from = subst (KeysFrom key) (sym rr) parted.from;
+  }
+
+  -- a leaf cut in two
+  leaf_root : (leaf : Leaf V) (x : Seen V) → x ≡ seen_leaf leaf → IsLeaf leaf → IsRoot x
+  leaf_root leaf x e is = subst IsRoot (sym e) (record { well = leaf_well leaf is; two = λ inner. absurd (omega (arith, inner)) })
+
+  pub leaf_halves : (key : ℕ) (leaf low high : Leaf V) (x y : Seen V) → IsLeaf low → IsLeaf high → pairs_of low ++ pairs_of high ≡ pairs_of leaf → KeysBelow key (pairs_of low) → KeysFrom key (pairs_of high) → x ≡ seen_leaf low → y ≡ seen_leaf high → IsCut key (seen_leaf leaf) x y
+  leaf_halves key leaf low high x y lw hw rows below from ex ey = record {
+    low_root = leaf_root low x ex lw;
+    high_root = leaf_root high y ey hw;
+    rows = ap (λ s. s.rows ++ y.rows) ex ∙ ap (λ s. pairs_of low ++ s.rows) ey ∙ rows;
+    below = subst (λ s. KeysBelow key s.rows) (sym ex) below;
+    from = subst (λ s. KeysFrom key s.rows) (sym ey) from;
+    low_height = omega (arith, ap (λ s. s.height) ex);
+    high_height = omega (arith, ap (λ s. s.height) ey);
+  }
+
+  -- the rows of a divided node whose middle was cut, as they are joined
+  pub rejoined : (key : ℕ) (b : NodeBranch V) (left mid right low high : Seen V) → IsDivided key b left mid right → IsCut key mid low high → rows_of (kids_of b) ≡ (left.rows ++ low.rows) ++ (high.rows ++ right.rows)
+  rejoined key b left mid right low high divided cut =
+      sym divided.rows ∙ ap (λ l. left.rows ++ (l ++ right.rows)) (sym cut.rows) ∙ ap (λ l. left.rows ++ l) (append_assoc low.rows high.rows right.rows) ∙ sym (append_assoc left.rows low.rows (high.rows ++ right.rows))
+
+  pub cut_of : (key : ℕ) (b : NodeBranch V) (left mid right low high x y : Seen V) → IsDivided key b left mid right → IsCut key mid low high → IsRoot x → x.rows ≡ left.rows ++ low.rows → IsHeightOfBoth left low x.height → IsRoot y → y.rows ≡ high.rows ++ right.rows → IsHeightOfBoth high right y.height → IsCut key (seen_branch b) x y
+  cut_of key b left mid right low high x y divided cut x_root x_rows x_height y_root y_rows y_height = record {
+    low_root = x_root;
+    high_root = y_root;
+    rows = ap (λ l. l ++ y.rows) x_rows ∙ ap (λ l. (left.rows ++ low.rows) ++ l) y_rows ∙ sym (rejoined key b left mid right low high divided cut);
+    below = subst (KeysBelow key) (sym x_rows) (each-append (λ p. p.0 < key) left.rows low.rows divided.below cut.below);
+    from = subst (KeysFrom key) (sym y_rows) (each-append (λ p. key ≤ p.0) high.rows right.rows cut.from divided.from);
+    low_height = low_join b.height left low x.height divided.front x_height (omega (arith, cut.low_height, divided.level));
+    high_height = high_join b.height right high y.height divided.back y_height (omega (arith, cut.high_height, divided.level));
+  }
+    where
+      low_join : (h : ℕ) (piece other : Seen V) (height : ℕ) → IsPiece h piece → IsHeightOfBoth piece other height → other.height < h → height ≤ h
+      low_join h piece other height p both lower = elim (cases_lt piece.height h) [
+        | inl lt ↦ omega (arith, both.most, lt, lower)
+        | inr le ↦
+            let same : piece.height ≡ h = omega (arith, le, p.low) in
+            omega (arith, same, both.left (omega (arith, same, lower)) (p.room same))
+      ]
+
+      high_join : (h : ℕ) (piece other : Seen V) (height : ℕ) → IsPiece h piece → IsHeightOfBoth other piece height → other.height < h → height ≤ h
+      high_join h piece other height p both lower = elim (cases_lt piece.height h) [
+        | inl lt ↦ omega (arith, both.most, lt, lower)
+        | inr le ↦
+            let same : piece.height ≡ h = omega (arith, le, p.low) in
+            omega (arith, same, both.right (omega (arith, same, lower)) (p.room same))
+      ]
+
+  -- what is joined is in order
+  pub joined_order : (key : ℕ) (b : NodeBranch V) (left mid right low high : Seen V) → IsBranch b → IsDivided key b left mid right → IsCut key mid low high → (IsOrderedBy key_of_pair (left.rows ++ low.rows)) × (IsOrderedBy key_of_pair (high.rows ++ right.rows))
+  joined_order key b left mid right low high branch divided cut =
+      let ordered = subst (IsOrderedBy key_of_pair) (rejoined key b left mid right low high divided cut) branch.ordered in
+      (ordered-left key_of_pair (left.rows ++ low.rows) (high.rows ++ right.rows) ordered, ordered-right key_of_pair (left.rows ++ low.rows) (high.rows ++ right.rows) ordered)
+
+  -- the filters of a list that was cut
+  passed : (key : ℕ) (rows : List (ℕ × V)) → KeysBelow key rows → (rows_below key rows ≡ rows) × (rows_from key rows ≡ [])
+  passed key rows below = (
+    filter_all (λ p. nat_lt p.0 key) rows (each-weaker {P = λ p. p.0 < key} {Q = λ p. nat_lt p.0 key ≡ true} (λ p lt. lt-ltb p.0 key lt) rows below),
+    filter_none (λ p. nat_le key p.0) rows (each-weaker {P = λ p. p.0 < key} {Q = λ p. nat_le key p.0 ≡ false} (λ p lt. lt-leb key p.0 lt) rows below),
+  )
+
+  failed : (key : ℕ) (rows : List (ℕ × V)) → KeysFrom key rows → (rows_below key rows ≡ []) × (rows_from key rows ≡ rows)
+  failed key rows from = (
+    filter_none (λ p. nat_lt p.0 key) rows (each-weaker {P = λ p. key ≤ p.0} {Q = λ p. nat_lt p.0 key ≡ false} (λ p le. le-ltb p.0 key le) rows from),
+    filter_all (λ p. nat_le key p.0) rows (each-weaker {P = λ p. key ≤ p.0} {Q = λ p. nat_le key p.0 ≡ true} (λ p le. le-leb key p.0 le) rows from),
+  )
+
+  pub cut_rows : (key : ℕ) (whole low high : Seen V) → IsCut key whole low high → (low.rows ≡ rows_below key whole.rows) × (high.rows ≡ rows_from key whole.rows)
+  cut_rows key whole low high cut =
+      let front = passed key low.rows cut.below in
+      let back = failed key high.rows cut.from in (
+        sym (ap (rows_below key) (sym cut.rows) ∙ filter-append (λ p. nat_lt p.0 key) low.rows high.rows ∙ ap (λ l. l ++ rows_below key high.rows) front.0 ∙ ap (λ l. low.rows ++ l) back.0 ∙ append-nil low.rows),
+        sym (ap (rows_from key) (sym cut.rows) ∙ filter-append (λ p. nat_le key p.0) low.rows high.rows ∙ ap (λ l. l ++ rows_from key high.rows) front.1 ∙ back.1),
+      )
+
+-- numbers up to a bound are no further apart
+pub near : (a b n : ℕ) → a ≤ n → b ≤ n → abs_diff a b ≤ n
+near a b n le me = omega (arith, le, me)
+
+-- the square of the next number
+pub square_next : (a b : ℕ) → a ≡ b + 1 → a * a ≡ b * b + (2 * b + 1)
+square_next a b e = ap (λ n. n * n) e ∙ add-mul b 1 (b + 1) ∙ omega (arith, mul-add b b 1)
+
+-- a number is no more than its square
+pub square_least : (n : ℕ) → 1 ≤ n → n ≤ n * n
+square_least n some = omega (arith, mul-le-mul_right n some)

@@ -1,0 +1,3 @@
+pub mod GraftLemmas
+pub mod JoinLemmas
+pub mod CutLemmas

@@ -1,0 +1,51 @@
+-- A node that is hung at the end or the front of another one: what comes of both.
+use Rattle.std.specs.Prelude.{◌≡◌, ℕ, ◌-◌, ◌<◌, ◌≤◌, List, ◌++◌, Option, Some, None}
+use Rattle.std.specs.List.{AllByRecursion}
+use Rattle.std.specs.declared.boxed.Box.{Box}
+use Rattle.std.specs.declared.alloc.Global.{Global}
+use Rattle.tatp_rows.specs.Ordered.{IsOrderedBy}
+use Rattle.mr_node.specs.Rows.{Seen, key_limit, key_of_pair, KeysBelow}
+use Rattle.mr_node.specs.Runs.{IsRun}
+use Rattle.mr_node.specs.Levels.{NodeBranch, kids_of, rows_of, IsKid, IsWell}
+use Rattle.mr_node.specs.Pairs.{IsKidNode, IsJoined, ArePaired}
+
+-- one node more, or none
+abbrev pub MaybeNode : Type 0 → Type 0
+MaybeNode V = Option (Box (Seen V) Global)
+
+-- some children of an inner node, or none
+pub record IsRest {V : Type 0} (b : NodeBranch V) : Type 0 where
+  pub inner : 0 < b.height
+  pub run : IsRun b.len b.leasts b.kids
+  pub kids : AllByRecursion (IsKid (b.height - 1)) (kids_of b)
+  pub ordered : IsOrderedBy key_of_pair (rows_of (kids_of b))
+  pub keys : KeysBelow key_limit (rows_of (kids_of b))
+
+-- the rows of one node, or of two
+abbrev pub rows_with : {V : Type 0} → Seen V → MaybeNode V → List (ℕ × V)
+rows_with one None = one.rows
+rows_with one (Some two) = one.rows ++ two.value.rows
+
+-- two neighbours evened out: they are one node now, or two half full ones
+abbrev pub IsEvened : {V : Type 0} → Seen V → Seen V → Seen V → MaybeNode V → Type 0
+IsEvened a b one None = IsJoined a b one
+IsEvened a b one (Some two) = ArePaired a b one two.value
+
+-- one node of this height with these rows, and as wide at least
+pub record IsOneOf {V : Type 0} (height width : ℕ) (rows : List (ℕ × V)) (one : Seen V) : Type 0 where
+  pub level : one.height ≡ height
+  pub wide : width ≤ one.width
+  pub well : IsWell one
+  pub list : one.rows ≡ rows
+
+-- two half full nodes of this height with these rows; over a lower neighbour only a full node becomes two
+pub record AreTwoOf {V : Type 0} (height width lower : ℕ) (rows : List (ℕ × V)) (one two : Seen V) : Type 0 where
+  pub first : IsKidNode height one
+  pub second : IsKidNode height two
+  pub list : one.rows ++ two.rows ≡ rows
+  pub full : lower < height → 32 ≤ width
+
+-- what comes of a node of this height and width with a neighbour of the lower height: one node, or two
+abbrev pub IsGrafted : {V : Type 0} → ℕ → ℕ → ℕ → List (ℕ × V) → Seen V → MaybeNode V → Type 0
+IsGrafted height width lower rows one None = IsOneOf height width rows one
+IsGrafted height width lower rows one (Some two) = AreTwoOf height width lower rows one two.value

@@ -1,0 +1,23 @@
+-- Two trees that become one.
+use Rattle.std.specs.Prelude.{◌≡◌, ℕ, ◌+◌, ◌<◌, ◌≤◌, max, ◌++◌, Some, None}
+use Rattle.tatp_rows.specs.Ordered.{IsOrderedBy}
+use Rattle.mr_node.specs.Rows.{Seen, key_of_pair}
+use Rattle.mr_node.specs.Pairs.{IsKidNode}
+use Rattle.mr_subtree.specs.Trees.{IsRoot}
+use Rattle.mr_cut.specs.Grafts.{MaybeNode}
+
+-- a root, or two nodes that want one over them
+abbrev pub IsCrownless : {V : Type 0} → Seen V → MaybeNode V → Type 0
+IsCrownless one None = IsRoot one
+IsCrownless one (Some two) = IsKidNode one.height one × IsKidNode one.height two.value × IsOrderedBy key_of_pair (one.rows ++ two.value.rows)
+
+-- the root of one node, or of two, a level higher
+abbrev pub IsCrowned : {V : Type 0} → Seen V → MaybeNode V → Seen V → Type 0
+IsCrowned one None root = root ≡ one
+IsCrowned one (Some two) root = IsRoot root × (root.height ≡ one.height + 1) × (root.rows ≡ one.rows ++ two.value.rows)
+
+-- how high two roots are together: a level more than the higher one at most, and no more than it where it has room and is alone
+pub record IsHeightOfBoth {V : Type 0} (a b : Seen V) (height : ℕ) : Type 0 where
+  pub most : height ≤ max a.height b.height + 1
+  pub left : b.height < a.height → a.width < 32 → height ≤ a.height
+  pub right : a.height < b.height → b.width < 32 → height ≤ b.height

@@ -1,0 +1,3 @@
+pub mod Cuts
+pub mod Grafts
+pub mod Joins

@@ -1,0 +1,104 @@
+//! A tree that is cut at a key.
+ghost use Rattle.std.specs.Prelude.{◌≡◌, ◌+◌, ◌*◌, ◌<◌, ◌≤◌};
+ghost use Rattle.mr_node.specs.Levels.{kids_of, rows_of, IsBranch, IsLeaf, seen_leaf};
+ghost use Rattle.mr_node.specs.Steps.{after_steps};
+ghost use Rattle.mr_cut.specs.Grafts.{IsRest};
+ghost use Rattle.mr_cut.specs.Cuts.{IsPiece, IsDivided, IsCut};
+
+use crate::joins::join;
+use mr_node::{
+    Body, Branch, Leaf, Meter, Node, Stock, build_blank, build_inner, build_leaf, cut_kids,
+    cut_leaf, open, place_of, take_kid,
+};
+
+// A root over some children of an inner node: a blank leaf, the only child, or an inner node. One step at most.
+fn root_of<V: Drop>(
+    mut branch: Branch<Box<Node<V>>>,
+    blank: Box<Node<V>>,
+    meter: &mut Meter,
+) -> Box<Node<V>>
+    requires rest { IsRest branch }
+    requires some_away { branch.len < 32 }
+    ensures piece { IsPiece branch.height result.value }
+    ensures rows { result.value.rows ≡ rows_of (kids_of branch) }
+    ensures no_fewer { after_steps 0 meter.old ≤ meter.new }
+    ensures steps { meter.new ≤ meter.old + 1 }
+{
+    if branch.len == 0 {
+        return build_blank(blank, meter);
+    }
+    if branch.len == 1 {
+        return take_kid(&mut branch, 0).node;
+    }
+    build_inner(branch, blank, meter)
+}
+
+// The child to which a key belongs, between roots over the children in front of it and behind it. Two steps at most.
+fn divide<V: Drop>(
+    mut branch: Branch<Box<Node<V>>>,
+    key: u64,
+    blank: Box<Node<V>>,
+    stock: &mut Stock<V>,
+    meter: &mut Meter,
+) -> (Box<Node<V>>, Box<Node<V>>, Box<Node<V>>)
+    requires branch { IsBranch branch }
+    requires stock { 0 < stock.old }
+    ensures divided { IsDivided key branch result.0.value result.1.value result.2.value }
+    ensures stock { stock.old ≤ stock.new + 1 }
+    ensures no_fewer { after_steps 0 meter.old ≤ meter.new }
+    ensures steps { meter.new ≤ meter.old + 2 }
+{
+    let place = place_of(&branch, key);
+    let behind = cut_kids(&mut branch, place + 1);
+    let mid = take_kid(&mut branch, place);
+    let left = root_of(branch, blank, meter);
+    let right = root_of(behind, stock.give(), meter);
+    (left, mid.node, right)
+}
+
+// The two roots of a leaf that is cut at a key. Two steps.
+fn halves_of<V: Drop>(
+    mut leaf: Leaf<V>,
+    key: u64,
+    blank: Box<Node<V>>,
+    other: Box<Node<V>>,
+    meter: &mut Meter,
+) -> (Box<Node<V>>, Box<Node<V>>)
+    requires { IsLeaf leaf }
+    ensures cut { IsCut key (seen_leaf leaf) result.0.value result.1.value }
+    ensures steps { meter.new ≡ after_steps 2 meter.old }
+{
+    let high = cut_leaf(&mut leaf, key);
+    let low = build_leaf(leaf, blank, meter);
+    (low, build_leaf(high, other, meter))
+}
+
+/// Cuts a node at a key into two roots that are no higher than it. One meter counts what the path itself opens and
+/// builds, and the other one what the joins beside it do.
+pub(crate) fn cut<V: Drop>(
+    node: Box<Node<V>>,
+    key: u64,
+    stock: &mut Stock<V>,
+    path: &mut Meter,
+    joins: &mut Meter,
+) -> (Box<Node<V>>, Box<Node<V>>)
+    requires stock { (node.value.height + 2) * (node.value.height + 2) ≤ stock.old }
+    ensures cut { IsCut key node.value result.0.value result.1.value }
+    ensures stock { stock.old ≤ stock.new + (node.value.height + 2) * (node.value.height + 2) }
+    ensures path_no_fewer { after_steps (node.value.height + 3) path.old ≤ path.new }
+    ensures path { path.new ≤ path.old + 3 * (node.value.height + 1) }
+    ensures joins_no_fewer { after_steps (8 * node.value.height) joins.old ≤ joins.new }
+    ensures joins { joins.new ≤ joins.old + 32 * ((node.value.height + 1) * (node.value.height + 1)) }
+{
+    let (body, blank) = open(node, path);
+    match body {
+        Body::Leaf(leaf) => halves_of(leaf, key, blank, stock.give(), path),
+        Body::Inner(branch) => {
+            let (left, mid, right) = divide(branch, key, blank, stock, path);
+            let (low, high) = cut(mid, key, stock, path, joins);
+            let low = join(left, low, stock, joins);
+            let high = join(high, right, stock, joins);
+            (low, high)
+        }
+    }
+}

@@ -1,0 +1,62 @@
+//! Two trees that become one.
+ghost use Rattle.std.specs.Prelude.{◌≡◌, ◌+◌, ◌*◌, ◌<◌, ◌≤◌, ◌++◌};
+ghost use Rattle.std.specs.Int.{abs_diff};
+ghost use Rattle.tatp_rows.specs.Ordered.{IsOrderedBy};
+ghost use Rattle.mr_node.specs.Rows.{key_of_pair};
+ghost use Rattle.mr_node.specs.Steps.{after_steps};
+ghost use Rattle.mr_subtree.specs.Trees.{IsRoot};
+ghost use Rattle.mr_cut.specs.Joins.{IsCrownless, IsCrowned, IsHeightOfBoth};
+
+use crate::grafts::{graft_high, graft_low};
+use mr_node::{Meter, Node, Stock, build_inner, hang, no_branch};
+
+// The root of what is one node, or two under a new one. One step where there are two.
+fn crown<V: Drop>(
+    one: Box<Node<V>>,
+    two: Option<Box<Node<V>>>,
+    stock: &mut Stock<V>,
+    meter: &mut Meter,
+) -> Box<Node<V>>
+    requires whole { IsCrownless one.value two }
+    requires stock { 0 < stock.old }
+    ensures root { IsCrowned one.value two result.value }
+    ensures stock { stock.old ≤ stock.new + 1 }
+    ensures no_fewer { after_steps 0 meter.old ≤ meter.new }
+    ensures steps { meter.new ≤ meter.old + 1 }
+{
+    match two {
+        Some(two) => {
+            let mut root = no_branch(one.height() + 1);
+            hang(&mut root, 0, one);
+            hang(&mut root, 1, two);
+            build_inner(root, stock.give(), meter)
+        }
+        None => one,
+    }
+}
+
+/// Joins two roots: the rows of the low one, and then those of the high one.
+pub(crate) fn join<V: Drop>(
+    low: Box<Node<V>>,
+    high: Box<Node<V>>,
+    stock: &mut Stock<V>,
+    meter: &mut Meter,
+) -> Box<Node<V>>
+    requires low_root { IsRoot low.value }
+    requires high_root { IsRoot high.value }
+    requires ordered { IsOrderedBy key_of_pair (low.value.rows ++ high.value.rows) }
+    requires stock { abs_diff low.value.height high.value.height + 1 ≤ stock.old }
+    ensures root { IsRoot result.value }
+    ensures rows { result.value.rows ≡ low.value.rows ++ high.value.rows }
+    ensures height { IsHeightOfBoth low.value high.value result.value.height }
+    ensures stock { stock.old ≤ stock.new + (abs_diff low.value.height high.value.height + 1) }
+    ensures no_fewer { after_steps (2 * abs_diff low.value.height high.value.height + 4) meter.old ≤ meter.new }
+    ensures steps { meter.new ≤ meter.old + 16 * (abs_diff low.value.height high.value.height + 1) }
+{
+    if high.height() <= low.height() {
+        let (one, two) = graft_high(low, high, stock, meter);
+        return crown(one, two, stock, meter);
+    }
+    let (one, two) = graft_low(high, low, stock, meter);
+    crown(one, two, stock, meter)
+}

@@ -1,0 +1,13 @@
+//! Slice and meld: a tree is cut at a key, and two trees are joined, along one path. Whole sub-trees go over as boxes.
+#![tactic(auto)]
+
+mod cuts;
+mod grafts;
+mod joins;
+mod needs;
+#[cfg(test)]
+mod tests;
+mod trees;
+
+pub use needs::{need_meld, need_slice, stock_for_meld, stock_for_slice};
+pub use trees::{Cut, meld, slice};

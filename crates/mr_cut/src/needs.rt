@@ -1,0 +1,44 @@
+//! How many blank nodes a slice and a meld want.
+ghost use Rattle.std.specs.Prelude.{◌≡◌, ◌+◌, ◌*◌, ◌<◌, ◌≤◌, MatchResult};
+ghost use Rattle.std.specs.Int.{abs_diff};
+
+use mr_node::Stock;
+use std::alloc::Global;
+use tatp_rows::Refusal;
+
+/// How many blank nodes a slice of a tree of this height wants: no more than it may take steps.
+pub fn need_slice(height: u64) -> usize
+    requires { height < 16 }
+    ensures number { result ≡ (height + 2) * (height + 2) + 1 }
+    ensures within { result ≤ 64 * ((height + 1) * (height + 1)) }
+{
+    let levels = height as usize + 2;
+    levels * levels + 1
+}
+
+/// How many blank nodes a meld of trees of these heights wants: no more than it may take steps.
+pub fn need_meld(low: u64, high: u64) -> usize
+    requires low { low < 16 }
+    requires high { high < 16 }
+    ensures number { result ≡ abs_diff low high + 3 }
+    ensures within { result ≤ 16 * (abs_diff low high + 1) }
+{
+    low.abs_diff(high) as usize + 3
+}
+
+/// The blank nodes for a slice of a tree of this height. Memory where they can't be had.
+pub fn stock_for_slice<V: Drop>(alloc: Global, height: u64) -> Result<Stock<V>, Refusal>
+    requires { height < 16 }
+    ensures { MatchResult result (λ stock. stock ≡ (height + 2) * (height + 2) + 1) (λ why. why ≡ Refusal.Memory) }
+{
+    Stock::take(alloc, need_slice(height))
+}
+
+/// The blank nodes for a meld of trees of these heights. Memory where they can't be had.
+pub fn stock_for_meld<V: Drop>(alloc: Global, low: u64, high: u64) -> Result<Stock<V>, Refusal>
+    requires low { low < 16 }
+    requires high { high < 16 }
+    ensures { MatchResult result (λ stock. stock ≡ abs_diff low high + 3) (λ why. why ≡ Refusal.Memory) }
+{
+    Stock::take(alloc, need_meld(low, high))
+}

@@ -1,0 +1,200 @@
+//! What no clause says: that the stock can be had, how many steps are taken, and that values need be neither Copy nor
+//! Clone. A helper takes its tree by value, and has one exit.
+ghost use Rattle.std.specs.Prelude.{◌≡◌, ◌+◌, ◌*◌, ◌<◌};
+ghost use Rattle.std.specs.Int.{abs_diff};
+ghost use Rattle.mr_node.specs.Rows.{key_limit};
+
+use super::*;
+use mr_node::Stock;
+use mr_subtree::SubTree;
+use std::process::Abort;
+use std::test::*;
+use tatp_rows::Refusal;
+
+// A value that is neither Copy nor Clone.
+#[derive(Drop)]
+struct Token(u64);
+
+// What a walk over rows saw: how many, the last key, how many were not above the one in front, and a sum that hangs on
+// their order.
+#[derive(Clone, Copy, Debug, PartialEq)]
+struct Walk {
+    rows: u64,
+    last: u64,
+    falls: u64,
+    sum: u64,
+}
+
+// The greatest numbers of steps.
+#[derive(Clone, Copy)]
+struct Steps {
+    slice: u64,
+    path: u64,
+    meld: u64,
+}
+
+fn next(walk: Walk, key: u64, token: &Token) -> Walk {
+    let falls = walk.rows > 0 && key <= walk.last;
+    Walk {
+        rows: walk.rows.wrapping_add(1),
+        last: key,
+        falls: walk.falls.wrapping_add(u64::from(falls)),
+        sum: walk.sum.wrapping_mul(31).wrapping_add(key ^ token.0),
+    }
+}
+
+// A walk that goes on over a tree.
+fn walked(tree: &SubTree<Token>, walk: Walk) -> Walk {
+    tree.fold(walk, &|walk, key, token| next(walk, key, token))
+}
+
+fn start() -> Walk {
+    Walk {
+        rows: 0,
+        last: 0,
+        falls: 0,
+        sum: 7,
+    }
+}
+
+// A number drawn by a turn (splitmix).
+fn mixed(turn: u64) -> u64 {
+    let start = turn.wrapping_mul(0x9E3779B97F4A7C15);
+    let first = (start ^ (start >> 30)).wrapping_mul(0xBF58476D1CE4E5B9);
+    let second = (first ^ (first >> 27)).wrapping_mul(0x94D049BB133111EB);
+    second ^ (second >> 31)
+}
+
+// A key drawn by a turn.
+fn drawn(turn: u64) -> u64
+    ensures { result < key_limit }
+{
+    mixed(turn) / 2
+}
+
+// Puts so many drawn rows into a tree; where memory was refused, at the second try.
+fn filled(rt: &impl Abort, mut tree: SubTree<Token>, rows: u64) -> SubTree<Token> {
+    for turn in 0..rows {
+        if tree.insert(drawn(turn), Token(turn)).is_err() {
+            assert!(rt; tree.insert(drawn(turn), Token(turn)).is_ok());
+        }
+    }
+    tree
+}
+
+// The blank nodes for a slice; where memory was refused, at the second try, with the tree as before.
+fn slice_stock(rt: &impl Abort, tree: &SubTree<Token>) -> Stock<Token>
+    ensures { result ≡ (tree.now.height + 2) * (tree.now.height + 2) + 1 }
+{
+    let before = walked(tree, start());
+    match stock_for_slice(tree.alloc(), tree.height()) {
+        Ok(stock) => stock,
+        Err(why) => {
+            assert_eq!(rt; why, Refusal::Memory);
+            assert_eq!(rt; walked(tree, start()), before);
+            stock_for_slice(tree.alloc(), tree.height()).expect(rt, "memory")
+        }
+    }
+}
+
+// The blank nodes for a meld; where memory was refused, at the second try.
+fn meld_stock(rt: &impl Abort, low: &SubTree<Token>, high: &SubTree<Token>) -> Stock<Token>
+    ensures { result ≡ abs_diff low.now.height high.now.height + 3 }
+{
+    match stock_for_meld(low.alloc(), low.height(), high.height()) {
+        Ok(stock) => stock,
+        Err(why) => {
+            assert_eq!(rt; why, Refusal::Memory);
+            stock_for_meld(low.alloc(), low.height(), high.height()).expect(rt, "memory")
+        }
+    }
+}
+
+// Asserts what a tree was cut into.
+fn compare(rt: &impl Abort, cut: &Cut<Token>, key: u64, whole: Walk, height: u64) {
+    let low = walked(&cut.low, start());
+    let high = walked(&cut.high, start());
+    let levels = height.saturating_add(1);
+    assert_eq!(rt; walked(&cut.high, low), whole);
+    assert!(rt; low.rows == 0 || low.last < key);
+    assert!(rt; high.rows == 0 || cut.high.first_from(0).map(|row| row.0) >= Some(key));
+    assert_eq!(rt; (low.rows, high.rows), (cut.low.len(), cut.high.len()));
+    assert!(rt; cut.low.height() <= height && cut.high.height() <= height);
+    assert!(rt; cut.path <= levels.saturating_mul(32));
+    assert!(rt; cut.steps <= levels.saturating_mul(levels).saturating_mul(64));
+}
+
+// Cuts a tree at a key, and joins its parts again.
+fn cut_and_joined(
+    rt: &impl Abort,
+    tree: SubTree<Token>,
+    key: u64,
+    most: &mut Steps,
+) -> SubTree<Token> {
+    let whole = walked(&tree, start());
+    let height = tree.height();
+    let mut stock = slice_stock(rt, &tree);
+    let cut = slice(tree, key, &mut stock);
+    compare(rt, &cut, key, whole, height);
+    let apart = cut.low.height().abs_diff(cut.high.height());
+    let mut stock = meld_stock(rt, &cut.low, &cut.high);
+    let (tree, steps) = meld(cut.low, cut.high, &mut stock);
+    assert_eq!(rt; walked(&tree, start()), whole);
+    assert!(rt; steps <= apart.saturating_add(1).saturating_mul(16));
+    *most = Steps {
+        slice: most.slice.max(cut.steps),
+        path: most.path.max(cut.path),
+        meld: most.meld.max(steps),
+    };
+    tree
+}
+
+// Cuts a tree of so many drawn rows at drawn keys, at keys that it has, and behind those, and joins it again each time.
+fn greatest(rt: &impl Abort, tree: SubTree<Token>, rows: u64, turns: u64) -> Steps {
+    let mut most = Steps {
+        slice: 0,
+        path: 0,
+        meld: 0,
+    };
+    let mut tree = filled(rt, tree, rows);
+    assert_eq!(rt; (tree.len(), walked(&tree, start()).falls), (rows, 0));
+    for turn in 0..turns {
+        let there = drawn(turn);
+        tree = cut_and_joined(rt, tree, there, &mut most);
+        tree = cut_and_joined(rt, tree, there.saturating_add(1), &mut most);
+        tree = cut_and_joined(rt, tree, drawn(turn.wrapping_add(1_000_000)), &mut most);
+    }
+    tree = cut_and_joined(rt, tree, 0, &mut most);
+    tree = cut_and_joined(rt, tree, u64::MAX, &mut most);
+    assert_eq!(rt; tree.len(), rows);
+    most
+}
+
+// Asserts the greatest numbers of steps on a tree of so many drawn rows: of a slice, of its path, and of a meld.
+fn compare_steps(
+    rt: &impl Abort,
+    tree: SubTree<Token>,
+    rows: u64,
+    turns: u64,
+    seen: (u64, u64, u64),
+) {
+    let most = greatest(rt, tree, rows, turns);
+    assert_eq!(rt; (most.slice, most.path, most.meld), seen);
+}
+
+#[test]
+fn drawn_trees(rt: HostRuntime) -> Result<(), Fail> {
+    compare_steps(&rt, SubTree::new(rt.alloc())?, 0, 1, (3, 3, 4));
+    compare_steps(&rt, SubTree::new(rt.alloc())?, 1, 1, (3, 3, 4));
+    compare_steps(&rt, SubTree::new(rt.alloc())?, 33, 33, (14, 5, 6));
+    compare_steps(&rt, SubTree::new(rt.alloc())?, 1025, 300, (43, 9, 13));
+    compare_steps(&rt, SubTree::new(rt.alloc())?, 40_000, 40, (70, 12, 13));
+    Ok(())
+}
+
+// Also run with each allocation refused in turn (`refuse_memory.sh`).
+#[test]
+fn memory_refused(rt: HostRuntime) -> Result<(), Fail> {
+    compare_steps(&rt, SubTree::new(rt.alloc())?, 40, 1, (14, 5, 6));
+    Ok(())
+}
