@@ -1,0 +1,196 @@
+-- What joining a piece to the part beside it keeps.
+use Rattle.std.proofs.Common.{◌≡◌, ◌∙◌, refl, sym, ap, ℕ, suc, ◌+◌, ◌-◌, ◌<◌, ◌≤◌, List, [], ◌∷◌, ◌++◌, length, get_or, set, take, drop, append_assoc, arith}
+use Rattle.std.specs.Prelude.{Some, None, Option, ◌==◌, ◌&&◌, remove}
+use Rattle.std.specs.List.{AllByRecursion, IsDistinct}
+use Rattle.std.specs.Option.{option_or, ok_or}
+use Rattle.std.proofs.lemmas.List.{drop_more, drop_all, take_more, take_all, take_more_set, drop-set-lt}
+use Rattle.std.proofs.lemmas.Map.Keys.{IsDistinct-tail}
+use Rattle.tatp_rows.proofs.OrderedLemmas.{by_test}
+use Rattle.tatp_rows.proofs.RowLemmas.{both}
+use Rattle.tatp_rows.specs.declared.refusal.Refusal.TheVariants.{NotAdjacent}
+use Rattle.part_table.specs.Region.{is_part, is_piece, part_number, piece_number}
+use Rattle.part_table.specs.Regions.{AreRegions, IsConsecutive, IsPieceNumber, parts_of, pieces_of}
+use Rattle.part_table.specs.Take.{side_between, side_behind, side_of, joint, part_place, joined_pair, joined_behind, joined, after_take}
+use Rattle.part_table.specs.declared.region.Region.{Region}
+use Rattle.part_table.specs.declared.region.Side.{Side}
+use Rattle.part_table.specs.declared.region.Side.TheVariants.{Low, High}
+use Rattle.part_table.proofs.NumberLemmas.{part_place_is, piece_place_is, each_with, distinct_behind}
+
+-- two neighbours that are a piece and a part
+pub record ArePair (n q : ℕ) (first second : Region) (side : Side) : Type 0 where
+  pub parts : part_number first.place ++ part_number second.place ≡ part_number (part_place first second side)
+  pub pieces : piece_number first.place ++ piece_number second.place ≡ n ∷ piece_number (part_place first second side)
+  pub no_piece : piece_number (part_place first second side) ≡ []
+
+pub pair_of : (n q : ℕ) (first second : Region) (side : Side) → side_between n q first second ≡ Some side → ArePair n q first second side
+pair_of n q first second side found =
+    by_test (is_piece n first && is_part q second)
+    (λ e. let low : Some Low ≡ Some side = rw e at found in
+    let is : Low ≡ side = cc in
+    let tests = both (is_piece n first) (is_part q second) e in
+    let one = piece_place_is n first.place tests.0 in
+    let two = part_place_is q second.place tests.1 in
+    rw (← is) (record { parts = rw (one, two) refl; pieces = rw (one, two) refl; no_piece = rw two refl }))
+    (λ e. by_test (is_part q first && is_piece n second)
+    (λ f. let high : Some High ≡ Some side = rw (e, f) at found in
+    let is : High ≡ side = cc in
+    let tests = both (is_part q first) (is_piece n second) f in
+    let one = part_place_is q first.place tests.0 in
+    let two = piece_place_is n second.place tests.1 in
+    rw (← is) (record { parts = rw (one, two) refl; pieces = rw (one, two) refl; no_piece = rw one refl }))
+    (λ f. let none : None ≡ Some side = rw (e, f) at found in absurd cc))
+
+-- the regions still follow one another
+consecutive_pair : (o : Option Side) (from : ℕ) (first second : Region) (regions others : List Region) → IsConsecutive from (first ∷ (second ∷ regions)) → IsConsecutive first.hi others
+    → IsConsecutive from (joined_pair o first second regions others)
+consecutive_pair None from first second regions others consecutive rest = (consecutive.0, consecutive.1, rest)
+consecutive_pair (Some side) from first second regions others consecutive rest =
+    let one = consecutive.1 in
+    let two = consecutive.2.1 in
+    let meets = consecutive.2.0 in
+    (consecutive.0, omega arith, consecutive.2.2)
+
+consecutive-joined_behind : (n q from : ℕ) (first : Region) (regions : List Region) → IsConsecutive from (first ∷ regions) → IsConsecutive from (joined_behind n q first regions)
+consecutive-joined_behind n q from first [] consecutive = consecutive
+consecutive-joined_behind n q from first (second ∷ regions) consecutive =
+    consecutive_pair (side_between n q first second) from first second regions (joined_behind n q second regions) consecutive (consecutive-joined_behind n q first.hi second regions consecutive.2)
+
+-- the parts keep their numbers
+parts_of_pair : (n q : ℕ) (o : Option Side) (first second : Region) (regions others : List Region) → side_between n q first second ≡ o → parts_of others ≡ parts_of (second ∷ regions)
+    → parts_of (joined_pair o first second regions others) ≡ parts_of (first ∷ (second ∷ regions))
+parts_of_pair n q None first second regions others found same = ap (λ rest. part_number first.place ++ rest) same
+parts_of_pair n q (Some side) first second regions others found same =
+    let pair = pair_of n q first second side found in
+    rw (← pair.parts) (append_assoc (part_number first.place) (part_number second.place) (parts_of regions))
+
+parts_of-joined_behind : (n q : ℕ) (first : Region) (regions : List Region) → parts_of (joined_behind n q first regions) ≡ parts_of (first ∷ regions)
+parts_of-joined_behind n q first [] = refl
+parts_of-joined_behind n q first (second ∷ regions) =
+    parts_of_pair n q (side_between n q first second) first second regions (joined_behind n q second regions) refl (parts_of-joined_behind n q second regions)
+
+-- the other pieces keep theirs
+pieces_of_pair : (n q : ℕ) (first second : Region) (side : Side) (regions : List Region) → ArePair n q first second side
+    → pieces_of (first ∷ (second ∷ regions)) ≡ n ∷ (piece_number (part_place first second side) ++ pieces_of regions)
+pieces_of_pair n q first second side regions pair =
+    rw (← append_assoc (piece_number first.place) (piece_number second.place) (pieces_of regions), pair.pieces) refl
+
+each_pair : (P : ℕ → Type 0) (n q : ℕ) (o : Option Side) (first second : Region) (regions others : List Region) → side_between n q first second ≡ o
+    → AllByRecursion P (pieces_of (first ∷ (second ∷ regions))) → (AllByRecursion P (pieces_of (second ∷ regions)) → AllByRecursion P (pieces_of others))
+    → AllByRecursion P (pieces_of (joined_pair o first second regions others))
+each_pair P n q None first second regions others found each more = each_with P first.place (pieces_of (second ∷ regions)) (pieces_of others) each more
+each_pair P n q (Some side) first second regions others found each more =
+    let pair = pair_of n q first second side found in
+    let all = rw (pieces_of_pair n q first second side regions pair) at each in
+    all.1
+
+each-joined_behind : (P : ℕ → Type 0) (n q : ℕ) (first : Region) (regions : List Region) → AllByRecursion P (pieces_of (first ∷ regions)) → AllByRecursion P (pieces_of (joined_behind n q first regions))
+each-joined_behind P n q first [] each = each
+each-joined_behind P n q first (second ∷ regions) each =
+    each_pair P n q (side_between n q first second) first second regions (joined_behind n q second regions) refl each (each-joined_behind P n q second regions)
+
+distinct_pair : (n q : ℕ) (o : Option Side) (first second : Region) (regions others : List Region) → side_between n q first second ≡ o
+    → IsDistinct ◌==◌ (pieces_of (first ∷ (second ∷ regions))) → ((P : ℕ → Type 0) → AllByRecursion P (pieces_of (second ∷ regions)) → AllByRecursion P (pieces_of others))
+    → (IsDistinct ◌==◌ (pieces_of (second ∷ regions)) → IsDistinct ◌==◌ (pieces_of others)) → IsDistinct ◌==◌ (pieces_of (joined_pair o first second regions others))
+distinct_pair n q None first second regions others found distinct each more = distinct_behind first.place (pieces_of (second ∷ regions)) (pieces_of others) distinct each more
+distinct_pair n q (Some side) first second regions others found distinct each more =
+    let pair = pair_of n q first second side found in
+    let all = rw (pieces_of_pair n q first second side regions pair) at distinct in
+    IsDistinct-tail ◌==◌ n (piece_number (part_place first second side) ++ pieces_of regions) all
+
+distinct-joined_behind : (n q : ℕ) (first : Region) (regions : List Region) → IsDistinct ◌==◌ (pieces_of (first ∷ regions)) → IsDistinct ◌==◌ (pieces_of (joined_behind n q first regions))
+distinct-joined_behind n q first [] distinct = distinct
+distinct-joined_behind n q first (second ∷ regions) distinct =
+    distinct_pair n q (side_between n q first second) first second regions (joined_behind n q second regions) refl distinct
+    (λ P each. each-joined_behind P n q second regions each)
+    (distinct-joined_behind n q second regions)
+
+-- a take leaves regions of all s_ids
+pub regions-joined : (n q : ℕ) (regions : List Region) → AreRegions regions → AreRegions (joined n q regions)
+regions-joined n q [] are = are
+regions-joined n q (region ∷ regions) are =
+    let parts = parts_of-joined_behind n q region regions in
+    record {
+      consecutive = consecutive-joined_behind n q 1 region regions are.consecutive;
+      in_order = rw parts are.in_order;
+      some_part = rw parts are.some_part;
+      few_parts = rw parts are.few_parts;
+      numbered = each-joined_behind IsPieceNumber n q region regions are.numbered;
+      distinct = distinct-joined_behind n q region regions are.distinct;
+    }
+
+-- the neighbours in front of a place, of which none are the piece and the part: what is left of the list decides
+pub record IsJoining (n q : ℕ) (d : Region) (regions : List Region) (i : ℕ) : Type 0 where
+  pub side : side_of n q regions ≡ side_behind n q (get_or regions i d) (drop (i + 1) regions)
+  pub rest : joined n q regions ≡ take i regions ++ joined_behind n q (get_or regions i d) (drop (i + 1) regions)
+
+-- at the first region
+pub joining_none : (n q : ℕ) (d : Region) (regions : List Region) → 0 < length regions → IsJoining n q d regions 0
+joining_none n q d [] some = absurd (omega arith)
+joining_none n q d (region ∷ regions) some = record { side = refl; rest = refl }
+
+-- two neighbours that are something else
+pub joining_more : (n q : ℕ) (d : Region) (regions : List Region) (i : ℕ) → i + 1 < length regions → side_between n q (get_or regions i d) (get_or regions (i + 1) d) ≡ None
+    → IsJoining n q d regions i → IsJoining n q d regions (i + 1)
+joining_more n q d regions i within none joining =
+    let e = drop_more regions (i + 1) d within in
+    let front = take_more regions i d (omega arith) in
+    record {
+      side = joining.side ∙ rw (e, none) refl;
+      rest = joining.rest ∙ rw (e, none, front) (rw append_assoc refl);
+    }
+
+-- two neighbours that are the piece and the part
+pub joining_found : (n q : ℕ) (d : Region) (regions : List Region) (i : ℕ) (side : Side) → i + 1 < length regions → side_between n q (get_or regions i d) (get_or regions (i + 1) d) ≡ Some side
+    → IsJoining n q d regions i
+    → (side_of n q regions ≡ Some side) × (joined n q regions ≡ remove (set regions i (joint (get_or regions i d) (get_or regions (i + 1) d) side)) (i + 1))
+joining_found n q d regions i side within found joining =
+    let e = drop_more regions (i + 1) d within in
+    let one = joint (get_or regions i d) (get_or regions (i + 1) d) side in
+    let front = take_more_set regions i one (omega arith) in
+    let back = drop-set-lt (suc (i + 1)) regions i one (omega arith) in
+    let more : suc (i + 1) ≡ i + 1 + 1 = omega arith in
+    (joining.side ∙ rw (e, found) refl, joining.rest ∙ rw (e, found, front, back, more) (rw append_assoc refl))
+
+-- no neighbours are left
+pub joining_all : (n q : ℕ) (d : Region) (regions : List Region) (i : ℕ) → i + 1 ≡ length regions → IsJoining n q d regions i → (side_of n q regions ≡ None) × (joined n q regions ≡ regions)
+joining_all n q d regions i at joining =
+    let e = drop_all (i + 1) regions (omega arith) in
+    let front = take_more regions i d (omega arith) in
+    let whole = take_all (i + 1) regions (omega arith) in
+    (joining.side ∙ rw e refl, joining.rest ∙ rw e (sym front ∙ whole))
+
+-- without such neighbours nothing is joined
+pair_none : (o rest : Option Side) → option_or o rest ≡ None → (o ≡ None) × (rest ≡ None)
+pair_none None rest none = (refl, none)
+pair_none (Some side) rest none = absurd cc
+
+joined_none_behind : (n q : ℕ) (first : Region) (regions : List Region) → side_behind n q first regions ≡ None → joined_behind n q first regions ≡ first ∷ regions
+joined_none_behind n q first [] none = refl
+joined_none_behind n q first (second ∷ regions) none =
+    let both = pair_none (side_between n q first second) (side_behind n q second regions) none in
+    rw both.0 (ap (λ rest. first ∷ rest) (joined_none_behind n q second regions both.1))
+
+pub joined_none : (n q : ℕ) (regions : List Region) → side_of n q regions ≡ None → joined n q regions ≡ regions
+joined_none n q [] none = refl
+joined_none n q (region ∷ regions) none = joined_none_behind n q region regions none
+
+-- the same at the place of the second of two neighbours
+pub joining_next : (n q : ℕ) (d : Region) (regions : List Region) (i : ℕ) → 1 ≤ i → i < length regions → None ≡ side_between n q (get_or regions (i - 1) d) (get_or regions i d)
+    → IsJoining n q d regions (i - 1) → IsJoining n q d regions (i + 1 - 1)
+joining_next n q d regions i second within none joining =
+    let more : i + 1 - 1 ≡ i - 1 + 1 = omega arith in
+    let here : i - 1 + 1 ≡ i = omega arith in
+    rw more (joining_more n q d regions (i - 1) (omega arith) (rw here (sym none)) joining)
+
+pub joining_here : (n q : ℕ) (d : Region) (regions : List Region) (i : ℕ) (side : Side) → 1 ≤ i → i < length regions → Some side ≡ side_between n q (get_or regions (i - 1) d) (get_or regions i d)
+    → IsJoining n q d regions (i - 1)
+    → (Some side ≡ side_of n q regions) × (remove (set regions (i - 1) (joint (get_or regions (i - 1) d) (get_or regions i d) side)) i ≡ joined n q regions)
+joining_here n q d regions i side second within found joining =
+    let here : i - 1 + 1 ≡ i = omega arith in
+    let both = joining_found n q d regions (i - 1) side (omega arith) (rw here (sym found)) joining in
+    (sym both.0, sym (rw here at both.1))
+
+-- what a take leaves, from the side that was found
+pub after_joined : (n q : ℕ) (side : Option Side) (regions : List Region) → side ≡ side_of n q regions → joined n q regions ≡ after_take n q (ok_or side NotAdjacent) regions
+after_joined n q None regions found = joined_none n q regions (sym found)
+after_joined n q (Some side) regions found = refl

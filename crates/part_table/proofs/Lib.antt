@@ -1,0 +1,15 @@
+pub mod FirstLemmas
+pub mod LeastLemmas
+pub mod NumberLemmas
+pub mod PlaceLemmas
+pub mod CutLemmas
+pub mod JoinLemmas
+pub mod TouchLemmas
+pub mod BoundsLemmas
+pub mod RecutLemmas
+pub mod ProposalLemmas
+pub mod FreeLemmas
+pub mod GiveLemmas
+pub mod OpeningLemmas
+pub mod MoveLemmas
+pub mod AnswerLemmas

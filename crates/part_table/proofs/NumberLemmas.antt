@@ -1,0 +1,154 @@
+-- The numbers of parts and of loose pieces among regions.
+use Rattle.std.proofs.Common.{◌≡◌, ◌∙◌, refl, ap, ℕ, zero, suc, ◌+◌, ◌<◌, ◌≤◌, ◌≢◌, List, [], ◌∷◌, ◌++◌, Bool, true, false, length, arith}
+use Rattle.std.specs.Prelude.{◌==◌, ◌||◌, eqb, cond, count_by, if◌then◌else◌}
+use Rattle.std.specs.List.{AllByRecursion, IsDistinct, list_any, range_with_len}
+use Rattle.std.proofs.lemmas.Bool.Decides.{nat_tests}
+use Rattle.std.proofs.lemmas.List.Sums.{sum_by-cons}
+use Rattle.std.proofs.lemmas.Map.Keys.{IsDistinct-cons, IsDistinct-head, IsDistinct-tail}
+use Rattle.std.proofs.lemmas.Map.Steps.{length-le_from_distinct_below}
+use Rattle.std.proofs.lemmas.Cmp.{nat_eq_equiv}
+use Rattle.std.proofs.lemmas.List.FromFn.{length-range_with_len}
+use Rattle.std.proofs.lemmas.Map.Made.{length-le_from_is_member}
+use Rattle.tatp_rows.proofs.OrderedLemmas.{by_test, each-weaker}
+use Rattle.part_table.specs.Region.{is_part, is_of_part, is_of_part_place, is_piece, is_part_place, is_piece_place, part_number, piece_number}
+use Rattle.part_table.specs.Regions.{parts_of, pieces_of, IsPieceNumber}
+use Rattle.part_table.specs.declared.region.Place.{Place}
+use Rattle.part_table.specs.declared.region.Place.TheVariants.{Part, Piece}
+use Rattle.part_table.specs.declared.region.Region.{Region}
+use Rattle.part_table.specs.declared.region.TheConstants.{MOST_PIECES}
+
+-- the place that a test of a part's number finds
+pub part_place_is : (p : ℕ) (place : Place) → is_part_place p place ≡ true → place ≡ Part p
+part_place_is p (Part number) holds = let same : number ≡ p = grind (arith, nat_tests) in ap Part same
+part_place_is p (Piece number) holds = absurd cc
+
+-- the place that a test of a piece's number finds
+pub piece_place_is : (n : ℕ) (place : Place) → is_piece_place n place ≡ true → place ≡ Piece n
+piece_place_is n (Part number) holds = absurd cc
+piece_place_is n (Piece number) holds = let same : number ≡ n = grind (arith, nat_tests) in ap Piece same
+
+-- a piece with a number is among the regions where the number is among those of the pieces
+any_place : (n : ℕ) (place : Place) (pieces : List ℕ) (rest : Bool) → rest ≡ list_any (λ m. m == n) pieces
+    → (is_piece_place n place || rest) ≡ list_any (λ m. m == n) (piece_number place ++ pieces)
+any_place n (Part number) pieces rest same = same
+any_place n (Piece number) pieces rest same = ap (λ r. (number == n) || r) same
+
+pub any_piece : (n : ℕ) (regions : List Region) → list_any (is_piece n) regions ≡ list_any (λ m. m == n) (pieces_of regions)
+any_piece n [] = refl
+any_piece n (region ∷ regions) = any_place n region.place (pieces_of regions) (list_any (is_piece n) regions) (any_piece n regions)
+
+-- each region is of a part or of a piece
+one_place : (place : Place) (parts pieces : List ℕ) (count : ℕ) → count ≡ length parts + length pieces
+    → suc count ≡ length (part_number place ++ parts) + length (piece_number place ++ pieces)
+one_place (Part number) parts pieces count sum = omega arith
+one_place (Piece number) parts pieces count sum = omega arith
+
+pub length_regions : (regions : List Region) → length regions ≡ length (parts_of regions) + length (pieces_of regions)
+length_regions [] = refl
+length_regions (region ∷ regions) = one_place region.place (parts_of regions) (pieces_of regions) (length regions) (length_regions regions)
+
+-- no number stands twice among none
+pub none_twice : IsDistinct ◌==◌ []
+unfolding IsDistinct
+none_twice = tt
+
+-- a number that is not among others differs from each
+pub each_differs : (n : ℕ) (ns : List ℕ) → list_any (λ m. m == n) ns ≡ false → AllByRecursion (λ m. (n == m) ≡ false) ns
+each_differs n [] fresh = tt
+each_differs n (m ∷ ns) fresh =
+    by_test (m == n)
+    (λ e. let no : true ≡ false = rw e at fresh in absurd cc)
+    (λ e. (grind (arith, nat_tests), each_differs n ns (rw e at fresh)))
+
+-- what is among numbers has what each of them has
+pub member_below : (bound q : ℕ) (ns : List ℕ) → AllByRecursion (λ m. m < bound) ns → list_any (eqb q) ns ≡ true → q < bound
+member_below bound q [] each member = absurd cc
+member_below bound q (n ∷ ns) each member =
+    by_test (eqb q n)
+    (λ e. let same : q ≡ n = grind (arith, nat_tests) in rw same each.0)
+    (λ e. member_below bound q ns each.1 (rw e at member))
+
+-- there are at most sixteen piece numbers
+pub most_pieces : (ns : List ℕ) → AllByRecursion IsPieceNumber ns → IsDistinct ◌==◌ ns → length ns ≤ MOST_PIECES
+most_pieces ns numbered distinct =
+    let above : AllByRecursion (λ m. (0 == m) ≡ false) ns = each-weaker {P = IsPieceNumber} {Q = λ m. (0 == m) ≡ false} (λ m is. let from : 1 ≤ m = is.0 in grind (arith, nat_tests)) ns numbered in
+    let below : AllByRecursion (λ m. m < 17) ns = each-weaker {P = IsPieceNumber} {Q = λ m. m < 17} (λ m is. let to : m ≤ MOST_PIECES = is.1 in omega arith) ns numbered in
+    let few = length-le_from_distinct_below (0 ∷ ns) 17 (IsDistinct-cons ◌==◌ 0 ns above distinct) (λ q member. member_below 17 q (0 ∷ ns) (omega arith, below) member) in
+    omega (arith, few)
+
+-- and one less where a number is free
+pub fewer_pieces : (n : ℕ) (ns : List ℕ) → AllByRecursion IsPieceNumber ns → IsDistinct ◌==◌ ns → IsPieceNumber n → list_any (λ m. m == n) ns ≡ false → length ns < MOST_PIECES
+fewer_pieces n ns numbered distinct is fresh = omega (arith, most_pieces (n ∷ ns) (is, numbered) (IsDistinct-cons ◌==◌ n ns (each_differs n ns fresh) distinct))
+
+-- sixteen where none is free
+range_numbers : (a n q : ℕ) → list_any (eqb q) (range_with_len a n) ≡ true → (a ≤ q) × (q < a + n)
+range_numbers a zero q member = absurd cc
+range_numbers a (suc n) q member =
+    by_test (eqb q a)
+    (λ e. let same : q ≡ a = grind (arith, nat_tests) in (omega arith, omega arith))
+    (λ e. let more = range_numbers (a + 1) n q (rw e at member) in
+    let from = more.0 in
+    let to = more.1 in
+    (omega arith, omega arith))
+
+same_test : (m q : ℕ) → (m == q) ≡ eqb q m
+same_test m q =
+    by_test (m == q)
+    (λ e. let same : m ≡ q = grind (arith, nat_tests) in let f : eqb q m ≡ true = grind (arith, nat_tests) in rw (e, f) refl)
+    (λ e. let differ : m ≢ q = grind (arith, nat_tests) in let f : eqb q m ≡ false = grind (arith, nat_tests) in rw (e, f) refl)
+
+any_flipped : (q : ℕ) (ns : List ℕ) → list_any (λ m. m == q) ns ≡ list_any (eqb q) ns
+any_flipped q [] = refl
+any_flipped q (n ∷ ns) = rw (same_test n q, any_flipped q ns) refl
+
+range_above : (low a n : ℕ) → low < a → AllByRecursion (λ m. (low == m) ≡ false) (range_with_len a n)
+range_above low a zero below = tt
+range_above low a (suc n) below = (grind (arith, nat_tests), range_above low (a + 1) n (omega arith))
+
+pub range_distinct : (a n : ℕ) → IsDistinct ◌==◌ (range_with_len a n)
+range_distinct a zero = none_twice
+range_distinct a (suc n) = IsDistinct-cons ◌==◌ a (range_with_len (a + 1) n) (range_above a (a + 1) n (omega arith)) (range_distinct (a + 1) n)
+
+pub all_pieces : (ns : List ℕ) → ((n : ℕ) → 1 ≤ n → n < 17 → list_any (λ m. m == n) ns ≡ true) → MOST_PIECES ≤ length ns
+all_pieces ns used =
+    let many = length-le_from_is_member nat_eq_equiv (range_with_len 1 16) ns (range_distinct 1 16) (λ q member. let within = range_numbers 1 16 q member in let from = within.0 in let to = within.1 in rw (any_flipped q ns) at (used q from (omega arith))) in
+    omega (arith, many, length-range_with_len 1 16)
+
+-- what becomes of the numbers behind a region
+pub each_with : (P : ℕ → Type 0) (place : Place) (ns ms : List ℕ) → AllByRecursion P (piece_number place ++ ns) → (AllByRecursion P ns → AllByRecursion P ms) → AllByRecursion P (piece_number place ++ ms)
+each_with P (Part number) ns ms each more = more each
+each_with P (Piece number) ns ms each more = (each.0, more each.1)
+
+pub distinct_behind : (place : Place) (ns ms : List ℕ) → IsDistinct ◌==◌ (piece_number place ++ ns) → ((P : ℕ → Type 0) → AllByRecursion P ns → AllByRecursion P ms) → (IsDistinct ◌==◌ ns → IsDistinct ◌==◌ ms)
+    → IsDistinct ◌==◌ (piece_number place ++ ms)
+distinct_behind (Part number) ns ms distinct each more = more distinct
+distinct_behind (Piece number) ns ms distinct each more =
+    IsDistinct-cons ◌==◌ number ms (each (λ m. (number == m) ≡ false) (IsDistinct-head ◌==◌ number ns distinct)) (more (IsDistinct-tail ◌==◌ number ns distinct))
+
+-- as many regions are of parts as there are parts
+count_place : (place : Place) (parts : List ℕ) (count : ℕ) → count ≡ length parts → (if is_of_part_place place then 1 else 0) + count ≡ length (part_number place ++ parts)
+count_place (Part number) parts count same = omega arith
+count_place (Piece number) parts count same = omega arith
+
+pub count_parts : (regions : List Region) → count_by is_of_part regions ≡ length (parts_of regions)
+count_parts [] = refl
+count_parts (region ∷ regions) =
+    sum_by-cons (λ r. cond (is_of_part r) 1 0) region regions ∙ count_place region.place (parts_of regions) (count_by is_of_part regions) (count_parts regions)
+
+-- the same for parts
+any_part_place : (q : ℕ) (place : Place) (parts : List ℕ) (rest : Bool) → rest ≡ list_any (λ m. m == q) parts
+    → (is_part_place q place || rest) ≡ list_any (λ m. m == q) (part_number place ++ parts)
+any_part_place q (Part number) parts rest same = ap (λ r. (number == q) || r) same
+any_part_place q (Piece number) parts rest same = same
+
+pub any_part : (q : ℕ) (regions : List Region) → list_any (is_part q) regions ≡ list_any (λ m. m == q) (parts_of regions)
+any_part q [] = refl
+any_part q (region ∷ regions) = any_part_place q region.place (parts_of regions) (list_any (is_part q) regions) (any_part q regions)
+
+-- a number that differs from each is not among them
+pub none_among : (n : ℕ) (ns : List ℕ) → AllByRecursion (λ m. (n == m) ≡ false) ns → list_any (λ m. m == n) ns ≡ false
+none_among n [] each = refl
+none_among n (m ∷ ns) each =
+    let differs = each.0 in
+    let e : (m == n) ≡ false = grind (arith, nat_tests) in
+    rw e (none_among n ns each.1)

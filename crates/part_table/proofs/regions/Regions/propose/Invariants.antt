@@ -1,0 +1,10 @@
+use Rattle.std.proofs.Common.{◌≡◌, ◌-◌, map}
+use Rattle.std.specs.List.{range_with_len}
+use Rattle.part_table.specs.Proposal.{bound_zone, proposed_bound}
+use Rattle.part_table.proofs.regions.Regions.propose.Given as goal
+
+abbrev pub invariant-loop-i : goal.invariant-loop-i
+invariant-loop-i l = record {
+  list : l.list.items ≡ map (proposed_bound l.weights l.parts l.width) (range_with_len 1 (l.i - 1));
+  zone : l.zone ≡ bound_zone l.weights l.parts (l.i - 1);
+}

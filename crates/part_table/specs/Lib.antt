@@ -1,0 +1,9 @@
+pub mod Bounds
+pub mod Give
+pub mod Least
+pub mod Opening
+pub mod Proposal
+pub mod Recut
+pub mod Region
+pub mod Regions
+pub mod Take

@@ -1,0 +1,108 @@
+//! Bounds between parts, and those that a proposal finds.
+ghost use Rattle.std.specs.Prelude.{◌≡◌, ◌+◌, ◌*◌, ◌<◌, ◌≤◌, true, length, sum, All};
+ghost use Rattle.part_table.specs.Bounds.{are_rising};
+ghost use Rattle.part_table.specs.Proposal.{proposal, share_zone};
+
+use crate::region::MOST_PARTS;
+use crate::regions::Regions;
+use arrayvec::ArrayVec;
+use std::marker::Model;
+use tatp_rows::{GREATEST_WIDTH, LAST_SUBSCRIBER};
+
+/// How many zones the s_ids are divided into.
+const ZONES: u8 = 32;
+
+/// The greatest weight of a zone: all rows that there can be.
+pub const GREATEST_WEIGHT: u64 = 352_321_536;
+
+/// At most 15 bounds between parts, strictly rising in 2..=16,777,216: seen as their list.
+#[derive(Debug, Drop)]
+pub struct Bounds {
+    list: ArrayVec<u64, 15>,
+}
+
+impl Model for Bounds {
+    ghost use Rattle.std.specs.Prelude.{◌≡◌, ℕ, List, true};
+    ghost use Rattle.part_table.specs.Bounds.{are_rising};
+
+    ghost Value = { List ℕ };
+
+    ghost view = { λ b. b.list.items };
+
+    ghost invariant = { λ b. are_rising 1 b.list.items ≡ true };
+}
+
+impl Bounds {
+    /// The bounds in order, as a re-cut takes them.
+    pub fn list(&self) -> &[u64]
+        ensures value { result.now ≡ self.now }
+        ensures rising { are_rising 1 result.now ≡ true }
+        ensures few { length result.now < MOST_PARTS }
+    {
+        self.list.as_slice()
+    }
+}
+
+/// Whether bounds rise strictly in 2..=16,777,216.
+pub(crate) fn are_rising(bounds: &[u64]) -> bool
+    ensures { result ≡ are_rising 1 bounds.now }
+{
+    let mut below = 1;
+    for bound in bounds {
+        if *bound <= below || *bound > u64::from(LAST_SUBSCRIBER) {
+            return false;
+        }
+        below = *bound;
+    }
+    true
+}
+
+/// The weight of all zones.
+fn total(weights: &[u64; 32]) -> u64
+    requires { sum weights.now ≤ 32 * GREATEST_WEIGHT }
+    ensures { result ≡ sum weights.now }
+{
+    weights.iter().sum()
+}
+
+/// The least zone, 0..=32, below which at least so many of the parts' equal shares of all weight lie.
+fn share_zone(weights: &[u64; 32], parts: u8, shares: u8) -> u8
+    requires weights { sum weights.now ≤ 32 * GREATEST_WEIGHT }
+    requires parts { parts ≤ MOST_PARTS }
+    requires shares { shares ≤ parts }
+    ensures { result ≡ share_zone weights.now parts shares }
+{
+    let goal = u64::from(shares) * total(weights);
+    let mut below = 0;
+    for zone in 0..ZONES {
+        if goal <= u64::from(parts) * below {
+            return zone;
+        }
+        below += weights[usize::from(zone)];
+    }
+    ZONES
+}
+
+impl Regions {
+    /// The bounds that share the rows out as evenly as bounds between zones can, where each zone has a weight of at most
+    /// 352,321,536. Parts has to be 1..=16, and the zones' width 1..=524,288.
+    pub fn propose(weights: &[u64; 32], parts: u8, width: u32) -> Bounds
+        requires weights { All (λ w. w ≤ GREATEST_WEIGHT) weights.now }
+        requires some_part { 1 ≤ parts }
+        requires few_parts { parts ≤ MOST_PARTS }
+        requires some_width { 1 ≤ width }
+        requires small_width { width ≤ GREATEST_WIDTH }
+        ensures value { result ≡ proposal weights.now parts width }
+        ensures rising { are_rising 1 result ≡ true }
+        ensures enough { length result + 1 ≡ parts }
+    {
+        let mut list = ArrayVec::new();
+        let mut zone = 0;
+        for i in 1..parts {
+            let last = ZONES - parts + i;
+            zone = last.min((zone + 1).max(share_zone(weights, parts, i)));
+            list.push(1 + u64::from(zone) * u64::from(width));
+        }
+        Bounds { list }
+    }
+}

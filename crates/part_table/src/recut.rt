@@ -1,0 +1,86 @@
+//! Which bounds a re-cut moves, and in which order.
+ghost use Rattle.std.specs.Prelude.{◌≡◌, ◌+◌, ◌-◌, ◌<◌, ◌≤◌, ◌++◌, true, Ok, Err, length, count_by, IfOk, MatchResult};
+ghost use Rattle.arrayvec.specs.ArrayVec.{array_vec_len};
+ghost use Rattle.part_table.specs.Bounds.{are_rising, parts_between};
+ghost use Rattle.part_table.specs.Recut.{recut_answer, all_moved, rising_moves, falling_moves, bounds_of};
+ghost use Rattle.part_table.specs.Region.{is_of_part};
+
+use crate::bounds::are_rising;
+use crate::moves::CutMove;
+use crate::region::Region;
+use crate::regions::Regions;
+use arrayvec::ArrayVec;
+use tatp_rows::Refusal;
+
+impl Regions {
+    /// The moves that bring the parts to other bounds: those of the bounds that rise, from the last down, and then those of
+    /// the bounds that fall, from the first up, so that each can be done when it comes. `Field` where the bounds aren't
+    /// strictly rising ones in 2..=16,777,216, one less than there are parts; then `Moving` where a piece is loose.
+    pub fn moves_to(&self, bounds: &[u64]) -> Result<ArrayVec<CutMove, 15>, Refusal>
+        ensures answer { MatchResult result (λ moves. recut_answer self.now bounds.now ≡ Ok moves.items)
+            (λ why. recut_answer self.now bounds.now ≡ Err why) }
+        ensures done { IfOk result (λ moves. all_moved moves.items (Ok self.now) ≡ Ok (parts_between 0 1 bounds.now)) }
+    {
+        let regions = self.list();
+        let parts = count_parts(regions);
+        if bounds.len() + 1 != parts || !are_rising(bounds) {
+            return Err(Refusal::Field);
+        }
+        if parts != regions.len() {
+            return Err(Refusal::Moving);
+        }
+        let mut moves = rising_moves(regions, bounds);
+        push_falling(&mut moves, regions, bounds);
+        Ok(moves)
+    }
+}
+
+/// How many regions are of parts.
+fn count_parts(regions: &[Region]) -> usize
+    ensures { result ≡ count_by is_of_part regions.now }
+{
+    regions.iter().filter(|region| region.is_of_part()).count()
+}
+
+/// The moves of the bounds that rise, from the last down.
+fn rising_moves(regions: &[Region], bounds: &[u64]) -> ArrayVec<CutMove, 15>
+    requires rising { are_rising 1 bounds.now ≡ true }
+    requires count { length bounds.now + 1 ≡ length regions.now }
+    requires few { length bounds.now ≤ 15 }
+    ensures { result.items ≡ rising_moves 1 (bounds_of regions.now) bounds.now }
+{
+    let mut moves = ArrayVec::new();
+    for i in (1..regions.len()).rev() {
+        let from = regions[i].lo;
+        let to = bounds[i - 1] as u32;
+        if from < to {
+            moves.push(CutMove {
+                bound: i as u8,
+                from,
+                to,
+            });
+        }
+    }
+    moves
+}
+
+/// Appends the moves of the bounds that fall, from the first up.
+fn push_falling(moves: &mut ArrayVec<CutMove, 15>, regions: &[Region], bounds: &[u64])
+    requires rising { are_rising 1 bounds.now ≡ true }
+    requires count { length bounds.now + 1 ≡ length regions.now }
+    requires few { length bounds.now ≤ 15 }
+    requires room { array_vec_len moves.old + length (falling_moves 1 (bounds_of regions.now) bounds.now) ≤ 15 }
+    ensures { moves.new.items ≡ moves.old.items ++ falling_moves 1 (bounds_of regions.now) bounds.now }
+{
+    for i in 1..regions.len() {
+        let from = regions[i].lo;
+        let to = bounds[i - 1] as u32;
+        if to < from {
+            moves.push(CutMove {
+                bound: i as u8,
+                from,
+                to,
+            });
+        }
+    }
+}

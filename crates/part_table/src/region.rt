@@ -1,0 +1,88 @@
+//! A region: a range of s_ids, and who holds it.
+ghost use Rattle.std.specs.Prelude.{◌≡◌};
+ghost use Rattle.part_table.specs.Region.{is_of_part, is_part, is_piece, lies_in};
+
+use tatp_rows::LAST_SUBSCRIBER;
+
+/// The number behind the last s_id, at which the last region ends.
+pub const END: u32 = LAST_SUBSCRIBER + 1;
+
+/// The most parts that there can be.
+pub const MOST_PARTS: u8 = 16;
+
+/// The most loose pieces that there can be.
+pub const MOST_PIECES: u8 = 16;
+
+/// Who holds a region.
+#[derive(Clone, Copy, Debug, PartialEq, Eq)]
+pub enum Place {
+    /// The part with this number, 0..=15.
+    Part(u8),
+    /// The loose piece with this number, 1..=16.
+    Piece(u8),
+}
+
+impl Default for Place {
+    fn default() -> Self {
+        Place::Part(0)
+    }
+}
+
+/// One of the two ends of a part's range.
+#[derive(Clone, Copy, Debug, PartialEq, Eq)]
+pub enum Side {
+    /// The end with the least s_ids.
+    Low,
+    /// The end with the greatest s_ids.
+    High,
+}
+
+/// A range `lo..hi` of s_ids (`hi` excluded), and who holds it.
+#[derive(Clone, Copy, Debug, Default, PartialEq, Eq)]
+pub struct Region {
+    /// The first s_id, 1..=16,777,216.
+    pub lo: u32,
+    /// The number behind the last s_id, at most 16,777,217.
+    pub hi: u32,
+    /// Who holds the range.
+    pub place: Place,
+}
+
+impl Region {
+    /// Whether this is the region of the part `p`.
+    pub fn is_part(&self, p: u64) -> bool
+        ensures { result ≡ is_part p self.now }
+    {
+        match self.place {
+            Place::Part(number) => u64::from(number) == p,
+            Place::Piece(_) => false,
+        }
+    }
+
+    /// Whether this is the region of the loose piece `n`.
+    pub fn is_piece(&self, n: u64) -> bool
+        ensures { result ≡ is_piece n self.now }
+    {
+        match self.place {
+            Place::Part(_) => false,
+            Place::Piece(number) => u64::from(number) == n,
+        }
+    }
+
+    /// Whether this is the region of some part.
+    pub fn is_of_part(&self) -> bool
+        ensures { result ≡ is_of_part self.now }
+    {
+        match self.place {
+            Place::Part(_) => true,
+            Place::Piece(_) => false,
+        }
+    }
+
+    /// Whether an s_id lies in the range.
+    pub fn has(&self, s_id: u32) -> bool
+        ensures { result ≡ lies_in s_id self.now }
+    {
+        self.lo <= s_id && s_id < self.hi
+    }
+}
