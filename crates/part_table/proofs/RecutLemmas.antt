@@ -14,7 +14,7 @@ use Rattle.part_table.specs.Least.{least}
 use Rattle.part_table.specs.Recut.{rising_moves, falling_moves, taken, handed_on, handed_over, moved, all_moved}
 use Rattle.part_table.specs.Region.{is_part, is_piece, piece_number}
 use Rattle.part_table.specs.Regions.{pieces_of}
-use Rattle.part_table.specs.Take.{take_answer, side_between, side_of, joined}
+use Rattle.part_table.specs.Take.{take_answer, side_between, joined}
 use Rattle.part_table.specs.declared.moves.CutMove.{CutMove}
 use Rattle.part_table.specs.declared.region.Place.TheVariants.{Part, Piece}
 use Rattle.part_table.specs.declared.region.Region.{Region}

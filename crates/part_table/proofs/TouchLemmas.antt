@@ -1,19 +1,18 @@
 -- A piece and a part touch where they are neighbours among the regions.
-use Rattle.std.proofs.Common.{◌≡◌, ◌∙◌, refl, sym, ap, ℕ, ◌+◌, ◌<◌, ◌≤◌, List, [], ◌∷◌, ◌++◌, Bool, true, false, length, arith}
-use Rattle.std.specs.Prelude.{Some, None, Ok, Err, Option, ◌==◌, ◌&&◌, ◌||◌, find}
-use Rattle.std.specs.List.{AllByRecursion, IsDistinct, list_any}
-use Rattle.std.specs.Option.{option_or, ok_or}
+use Rattle.std.proofs.Common.{◌≡◌, ◌∙◌, refl, sym, ℕ, ◌<◌, ◌≤◌, List, [], ◌∷◌, ◌++◌, Bool, true, false, length, arith}
+use Rattle.std.specs.Prelude.{Some, None, Err, Option, ◌==◌, find}
+use Rattle.std.specs.List.{IsDistinct, list_any}
+use Rattle.std.specs.Option.{ok_or}
 use Rattle.std.proofs.lemmas.Bool.Decides.{nat_tests}
 use Rattle.std.proofs.lemmas.Map.Keys.{IsDistinct-head, IsDistinct-tail}
 use Rattle.tatp_rows.proofs.OrderedLemmas.{by_test}
 use Rattle.part_table.specs.Region.{is_part, is_piece, is_part_place, is_piece_place, part_number, piece_number}
 use Rattle.part_table.specs.Regions.{AreRegions, IsConsecutive, parts_of, pieces_of}
-use Rattle.part_table.specs.Take.{touching, side_between, side_behind, side_of, take_answer}
+use Rattle.part_table.specs.Take.{touching, side_behind, side_of, take_answer}
 use Rattle.part_table.specs.declared.region.Place.{Place}
 use Rattle.part_table.specs.declared.region.Place.TheVariants.{Part, Piece}
 use Rattle.part_table.specs.declared.region.Region.{Region}
 use Rattle.part_table.specs.declared.region.Side.{Side}
-use Rattle.part_table.specs.declared.region.Side.TheVariants.{Low, High}
 use Rattle.tatp_rows.specs.declared.refusal.Refusal.TheVariants.{NoPiece, NoPart, NotAdjacent}
 use Rattle.part_table.proofs.FirstLemmas.{find_from_none, find_from_any}
 use Rattle.part_table.proofs.NumberLemmas.{part_place_is, piece_place_is, any_piece, any_part, none_among, range_distinct}

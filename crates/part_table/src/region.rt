@@ -22,7 +22,13 @@ pub enum Place {
     Piece(u8),
 }
 
+/// The first part: what an array of regions holds where it has none.
 impl Default for Place {
+    ghost use Rattle.std.specs.Prelude.{◌≡◌};
+    ghost use Rattle.part_table.specs.declared.region.Place.TheVariants.{Part};
+
+    ghost is_default = { λ place. place ≡ Part 0 };
+
     fn default() -> Self {
         Place::Part(0)
     }
