@@ -1,4 +1,5 @@
-//! What no clause says: that each call can succeed, what it answers then, and what is written.
+//! What no clause says: that each call can succeed, what it answers then, and what is written. Many values are compared
+//! at once, since each assertion is a branch that is proved.
 use super::*;
 use std::test::*;
 
@@ -7,70 +8,85 @@ const TEXT: [u8; 15] = *b"000000000000042";
 #[test]
 fn numbers(rt: HostRuntime) -> Result<(), Fail> {
     let forty_two = Number::try_new(42)?;
-    assert_eq!(rt; forty_two.value(), 42);
-    assert_eq!(rt; Number::from_digits(&TEXT), Ok(forty_two));
-    assert!(rt; Number::try_new(41)? < forty_two);
-    assert_eq!(rt; Number::default(), Number::try_new(0)?);
-    assert_eq!(rt;
-        format!(in rt.alloc(); "{forty_two}")?.as_bytes(),
-        TEXT.as_slice()
-    );
-    assert_eq!(rt; Number::try_new(1_000_000_000_000_000), Err(Refusal::Field));
-    for text in [
+    let refused = [
         "00000000000042",
         "0000000000000042",
         "00000000000004x",
         "+00000000000042",
-    ] {
-        assert_eq!(rt;
-            Number::from_digits(text.as_bytes()),
-            Err(Refusal::Field),
-            "at {text}"
-        );
-    }
+    ];
+    assert_eq!(rt;
+        refused.map(|text| Number::from_digits(text.as_bytes())),
+        [Err(Refusal::Field); 4]
+    );
+    assert_eq!(rt;
+        [
+            Number::from_digits(&TEXT),
+            Number::try_new(1_000_000_000_000_000)
+        ],
+        [Ok(forty_two), Err(Refusal::Field)]
+    );
+    assert_eq!(rt;
+        (
+            forty_two.value(),
+            Number::default().value(),
+            Number::try_new(41)? < forty_two
+        ),
+        (42, 0, true)
+    );
+    assert_eq!(rt;
+        format!(in rt.alloc(); "{forty_two}")?.as_bytes(),
+        TEXT.as_slice()
+    );
     Ok(())
 }
 
 #[test]
 fn letters(rt: HostRuntime) -> Result<(), Fail> {
     let amz = Letters::try_new(*b"AMZ")?;
-    assert_eq!(rt; amz.bytes(), *b"AMZ");
+    let qwert = Letters::<5>::from_bytes(b"QWERT")?;
+    let refused = ["", "AB", "ABCD", "AbC", "A@C", "A[C"];
+    assert_eq!(rt;
+        refused.map(|text| Letters::<3>::from_bytes(text.as_bytes())),
+        [Err(Refusal::Field); 6]
+    );
+    assert_eq!(rt; (amz.bytes(), qwert.bytes()), (*b"AMZ", *b"QWERT"));
     assert_eq!(rt;
         format!(in rt.alloc(); "{amz}")?.as_bytes(),
         b"AMZ".as_slice()
     );
-    let qwert = Letters::<5>::from_bytes(b"QWERT")?;
-    assert_eq!(rt; qwert.bytes(), *b"QWERT");
-    for text in ["", "AB", "ABCD", "AbC", "A@C", "A[C"] {
-        assert_eq!(rt;
-            Letters::<3>::from_bytes(text.as_bytes()),
-            Err(Refusal::Field),
-            "at {text}"
-        );
-    }
     Ok(())
 }
 
 #[test]
 fn subscribers(rt: HostRuntime) -> Result<(), Fail> {
     let number = Number::try_new(42)?;
+    let other = Number::try_new(43)?;
     let bits = [1, 0, 1, 0, 1, 0, 1, 0, 1, 0];
     let hexes = [15, 0, 1, 2, 3, 4, 5, 6, 7, 8];
     let bytes = [255, 0, 1, 2, 3, 4, 5, 6, 7, 8];
     let row = Subscriber::try_new(1, number, bits, hexes, bytes, 7, 4_294_967_295)?;
-    assert_eq!(rt; (row.s_id(), row.sub_nbr(), row.key()), (1, number, 65_536));
+    assert_eq!(rt;
+        (
+            row.s_id(),
+            row.sub_nbr(),
+            row.key(),
+            row.msc_location(),
+            row.vlr_location()
+        ),
+        (1, number, 65_536, 7, 4_294_967_295)
+    );
     assert_eq!(rt;
         (row.bits(), row.hexes(), row.bytes()),
         (bits, hexes, bytes)
     );
     assert_eq!(rt;
-        (row.msc_location(), row.vlr_location()),
-        (7, 4_294_967_295)
+        (
+            row.with_vlr_location(9).vlr_location(),
+            row.with_bit_1(0).bits(),
+            row.with_sub_nbr(other).sub_nbr()
+        ),
+        (9, [0, 0, 1, 0, 1, 0, 1, 0, 1, 0], other)
     );
-    assert_eq!(rt; row.with_vlr_location(9).vlr_location(), 9);
-    assert_eq!(rt; row.with_bit_1(0).bits(), [0, 0, 1, 0, 1, 0, 1, 0, 1, 0]);
-    let other = Number::try_new(43)?;
-    assert_eq!(rt; row.with_sub_nbr(other).sub_nbr(), other);
     Ok(())
 }
 
@@ -79,9 +95,17 @@ fn accesses(rt: HostRuntime) -> Result<(), Fail> {
     let three = Letters::from_bytes(b"ABZ")?;
     let five = Letters::from_bytes(b"QWERT")?;
     let row = Access::try_new(1, 4, 255, 7, three, five)?;
-    assert_eq!(rt; (row.s_id(), row.ai_type(), row.key()), (1, 4, 66_560));
-    assert_eq!(rt; (row.data1(), row.data2()), (255, 7));
-    assert!(rt; row.data3() == three && row.data4() == five);
+    assert_eq!(rt;
+        (
+            row.s_id(),
+            row.ai_type(),
+            row.key(),
+            row.data1(),
+            row.data2()
+        ),
+        (1, 4, 66_560, 255, 7)
+    );
+    assert_eq!(rt; (row.data3(), row.data4()), (three, five));
     assert_eq!(rt;
         Access::try_new(1, 5, 255, 7, three, five),
         Err(Refusal::Field)
@@ -93,14 +117,21 @@ fn accesses(rt: HostRuntime) -> Result<(), Fail> {
 fn facilities(rt: HostRuntime) -> Result<(), Fail> {
     let five = Letters::from_bytes(b"QWERT")?;
     let row = Facility::try_new(1, 4, 0, 255, 7, five)?;
-    assert_eq!(rt; (row.s_id(), row.sf_type(), row.key()), (1, 4, 66_560));
     assert_eq!(rt;
-        (row.is_active(), row.error_cntrl(), row.data_a()),
-        (false, 255, 7)
+        (row.s_id(), row.sf_type(), row.key(), row.is_active()),
+        (1, 4, 66_560, false)
     );
-    assert!(rt; row.data_b() == five);
-    assert!(rt; row.with_is_active(true).is_active());
-    assert_eq!(rt; row.with_data_a(9).data_a(), 9);
+    assert_eq!(rt;
+        (row.error_cntrl(), row.data_a(), row.data_b()),
+        (255, 7, five)
+    );
+    assert_eq!(rt;
+        (
+            row.with_is_active(true).is_active(),
+            row.with_data_a(9).data_a()
+        ),
+        (true, 9)
+    );
     assert_eq!(rt;
         Facility::try_new(1, 4, 256, 255, 7, five),
         Err(Refusal::Field)
@@ -112,9 +143,17 @@ fn facilities(rt: HostRuntime) -> Result<(), Fail> {
 fn forwardings(rt: HostRuntime) -> Result<(), Fail> {
     let number = Number::try_new(42)?;
     let row = Forwarding::try_new(1, 4, 16, 3, number)?;
-    assert_eq!(rt; (row.s_id(), row.sf_type(), row.key()), (1, 4, 66_576));
-    assert_eq!(rt; (row.start_time(), row.end_time()), (16, 3));
-    assert!(rt; row.numberx() == number);
+    assert_eq!(rt;
+        (
+            row.s_id(),
+            row.sf_type(),
+            row.key(),
+            row.start_time(),
+            row.end_time(),
+            row.numberx()
+        ),
+        (1, 4, 66_576, 16, 3, number)
+    );
     assert_eq!(rt;
         Forwarding::try_new(1, 4, 264, 3, number),
         Err(Refusal::Field)
@@ -123,9 +162,14 @@ fn forwardings(rt: HostRuntime) -> Result<(), Fail> {
 }
 
 #[test]
-fn keys_zones_and_areas(rt: HostRuntime) {
-    assert_eq!(rt; in_range(16_777_216, LAST_SUBSCRIBER), Ok(16_777_216));
-    assert_eq!(rt; in_range(16_777_217, LAST_SUBSCRIBER), Err(Refusal::Field));
+fn keys_and_ranges(rt: HostRuntime) {
+    assert_eq!(rt;
+        [
+            in_range(16_777_216, LAST_SUBSCRIBER),
+            in_range(16_777_217, LAST_SUBSCRIBER)
+        ],
+        [Ok(16_777_216), Err(Refusal::Field)]
+    );
     assert_eq!(rt;
         [0, 1, 4, 5].map(|value| is_between(value, 1, 4)),
         [false, true, true, false]
@@ -134,28 +178,43 @@ fn keys_zones_and_areas(rt: HostRuntime) {
         [0, 8, 16, 24].map(|hour| is_start_time(hour)),
         [true, true, true, false]
     );
-    assert_eq!(rt; row_key(16_777_216, 255, 255), 1_099_511_693_311);
-    assert_eq!(rt; subscriber_key(2), 131_072);
-    for (s_id, width, want) in [
-        (100, 100, 0),
-        (101, 100, 1),
-        (9_000, 100, 31),
-        (16_777_216, GREATEST_WIDTH, 31),
-        (16_252_928, GREATEST_WIDTH, 30),
-        (5, 0, 0),
-        (0, 10, 0),
-    ] {
-        assert_eq!(rt; zone(s_id, width), want, "at {s_id}");
-    }
-    for (location, want) in [(268_435_455, 0), (268_435_456, 1), (4_294_967_295, 15)] {
-        assert_eq!(rt; area(location), want, "at {location}");
-    }
+    assert_eq!(rt;
+        (row_key(16_777_216, 255, 255), subscriber_key(2)),
+        (1_099_511_693_311, 131_072)
+    );
+}
+
+#[test]
+fn zones_and_areas(rt: HostRuntime) {
+    assert_eq!(rt;
+        [
+            zone(100, 100),
+            zone(101, 100),
+            zone(9_000, 100),
+            zone(5, 0),
+            zone(0, 10)
+        ],
+        [0, 1, 31, 0, 0]
+    );
+    assert_eq!(rt;
+        [
+            zone(16_777_216, GREATEST_WIDTH),
+            zone(16_252_928, GREATEST_WIDTH)
+        ],
+        [31, 30]
+    );
+    assert_eq!(rt;
+        [area(268_435_455), area(268_435_456), area(4_294_967_295)],
+        [0, 1, 15]
+    );
 }
 
 #[test]
 fn refusals(rt: HostRuntime) -> Result<(), Fail> {
-    assert_eq!(rt; Refusal::Memory.code(), 1);
-    assert_eq!(rt; Refusal::NoDestination.name(), "NoDestination");
+    assert_eq!(rt;
+        (Refusal::Memory.code(), Refusal::NoDestination.name()),
+        (1, "NoDestination")
+    );
     let back = Back {
         why: Refusal::Exists,
         item: 7u32,
