@@ -1,7 +1,7 @@
 -- A tree that is cut at a key.
 use Rattle.std.proofs.Common.{◌≡◌, ℕ, ◌+◌, ◌-◌, ◌*◌, ◌<◌, ◌≤◌, List, [], ◌∷◌, ◌++◌, length, take, drop, nat_lt, nat_le, true, false, sym, ap, subst, ◌∙◌, arith, append-nil, take_at, inl, inr}
 use Rattle.std.specs.List.{AllByRecursion}
-use Rattle.std.proofs.Math.Nat.{add-mul, mul-add, mul-le-mul_right}
+use Rattle.std.proofs.Math.Nat.{add-mul, mul-add}
 use Rattle.std.proofs.lemmas.Bool.{cases_lt, lt-ltb, lt-leb, le-ltb, le-leb}
 use Rattle.std.proofs.lemmas.List.Elements.{filter-append}
 use Rattle.std.specs.Int.{abs_diff}
@@ -23,6 +23,14 @@ use Rattle.mr_subtree.specs.Trees.{IsRoot}
 use Rattle.mr_cut.specs.Grafts.{IsRest}
 use Rattle.mr_cut.specs.Joins.{IsHeightOfBoth}
 use Rattle.mr_cut.specs.Cuts.{rows_below, rows_from, IsPiece, IsDivided, IsCut}
+
+-- numbers up to a bound are no further apart
+near : (a b n : ℕ) → a ≤ n → b ≤ n → abs_diff a b ≤ n
+near a b n le me = omega (arith, le, me)
+
+-- the square of the next number
+square_next : (a b : ℕ) → a ≡ b + 1 → a * a ≡ b * b + (2 * b + 1)
+square_next a b e = ap (λ n. n * n) e ∙ add-mul b 1 (b + 1) ∙ omega (arith, mul-add b b 1)
 
 module _ {V : Type 0} where
   -- no children: a blank leaf
@@ -159,8 +167,8 @@ module _ {V : Type 0} where
   rejoined key b left mid right low high divided cut =
       sym divided.rows ∙ ap (λ l. left.rows ++ (l ++ right.rows)) (sym cut.rows) ∙ ap (λ l. left.rows ++ l) (append_assoc low.rows high.rows right.rows) ∙ sym (append_assoc left.rows low.rows (high.rows ++ right.rows))
 
-  pub cut_of : (key : ℕ) (b : NodeBranch V) (left mid right low high x y : Seen V) → IsDivided key b left mid right → IsCut key mid low high → IsRoot x → x.rows ≡ left.rows ++ low.rows → IsHeightOfBoth left low x.height → IsRoot y → y.rows ≡ high.rows ++ right.rows → IsHeightOfBoth high right y.height → IsCut key (seen_branch b) x y
-  cut_of key b left mid right low high x y divided cut x_root x_rows x_height y_root y_rows y_height = record {
+  pub cut_of : {key : ℕ} {b : NodeBranch V} {left mid right low high x y : Seen V} → IsDivided key b left mid right → IsCut key mid low high → IsRoot x → x.rows ≡ left.rows ++ low.rows → IsHeightOfBoth left low x.height → IsRoot y → y.rows ≡ high.rows ++ right.rows → IsHeightOfBoth high right y.height → IsCut key (seen_branch b) x y
+  cut_of {key = key} {b = b} {left = left} {mid = mid} {right = right} {low = low} {high = high} {x = x} {y = y} divided cut x_root x_rows x_height y_root y_rows y_height = record {
     low_root = x_root;
     high_root = y_root;
     rows = ap (λ l. l ++ y.rows) x_rows ∙ ap (λ l. (left.rows ++ low.rows) ++ l) y_rows ∙ sym (rejoined key b left mid right low high divided cut);
@@ -186,11 +194,35 @@ module _ {V : Type 0} where
             omega (arith, same, both.right (omega (arith, same, lower)) (p.room same))
       ]
 
-  -- what is joined is in order
-  pub joined_order : (key : ℕ) (b : NodeBranch V) (left mid right low high : Seen V) → IsBranch b → IsDivided key b left mid right → IsCut key mid low high → (IsOrderedBy key_of_pair (left.rows ++ low.rows)) × (IsOrderedBy key_of_pair (high.rows ++ right.rows))
-  joined_order key b left mid right low high branch divided cut =
+  -- how many blank nodes and steps a cut has more than that of the child to which the key belongs
+  pub record IsChildOf (node mid : Seen V) : Type 0 where
+    pub level : node.height ≡ mid.height + 1
+    pub blanks : (node.height + 2) * (node.height + 2) ≡ (mid.height + 2) * (mid.height + 2) + (2 * (mid.height + 2) + 1)
+    pub steps : (node.height + 1) * (node.height + 1) ≡ (mid.height + 1) * (mid.height + 1) + (2 * (mid.height + 1) + 1)
+
+  pub child_of : {key : ℕ} {b : NodeBranch V} {node left mid right : Seen V} → seen_branch b ≡ node → IsDivided key b left mid right → IsChildOf node mid
+  child_of {node = node} {mid = mid} now divided =
+      let level : node.height ≡ mid.height + 1 = omega (arith, divided.level, ap (λ s. s.height) now) in
+      record { level = level; blanks = square_next (node.height + 2) (mid.height + 2) (omega (arith, level)); steps = square_next (node.height + 1) (mid.height + 1) (omega (arith, level)) }
+
+  -- what the two joins of a cut want: their parts are in order, and no further apart in height than the node is high
+  pub record AreJoinable (node left low high right : Seen V) : Type 0 where
+    pub low_ordered : IsOrderedBy key_of_pair (left.rows ++ low.rows)
+    pub high_ordered : IsOrderedBy key_of_pair (high.rows ++ right.rows)
+    pub low_near : abs_diff left.height low.height ≤ node.height
+    pub high_near : abs_diff high.height right.height ≤ node.height
+
+  pub joinable : {key : ℕ} {b : NodeBranch V} {node left mid right low high : Seen V} → IsBranch b → seen_branch b ≡ node → IsDivided key b left mid right → IsCut key mid low high → AreJoinable node left low high right
+  joinable {key = key} {b = b} {node = node} {left = left} {mid = mid} {right = right} {low = low} {high = high} branch now divided cut =
+      let level = (child_of now divided).level in
+      let same : b.height ≡ node.height = ap (λ s. s.height) now in
       let ordered = subst (IsOrderedBy key_of_pair) (rejoined key b left mid right low high divided cut) branch.ordered in
-      (ordered-left key_of_pair (left.rows ++ low.rows) (high.rows ++ right.rows) ordered, ordered-right key_of_pair (left.rows ++ low.rows) (high.rows ++ right.rows) ordered)
+      record {
+        low_ordered = ordered-left key_of_pair (left.rows ++ low.rows) (high.rows ++ right.rows) ordered;
+        high_ordered = ordered-right key_of_pair (left.rows ++ low.rows) (high.rows ++ right.rows) ordered;
+        low_near = near left.height low.height node.height (omega (arith, divided.front.low, same)) (omega (arith, cut.low_height, level));
+        high_near = near high.height right.height node.height (omega (arith, cut.high_height, level)) (omega (arith, divided.back.low, same));
+      }
 
   -- the filters of a list that was cut
   passed : (key : ℕ) (rows : List (ℕ × V)) → KeysBelow key rows → (rows_below key rows ≡ rows) × (rows_from key rows ≡ [])
@@ -212,15 +244,3 @@ module _ {V : Type 0} where
         sym (ap (rows_below key) (sym cut.rows) ∙ filter-append (λ p. nat_lt p.0 key) low.rows high.rows ∙ ap (λ l. l ++ rows_below key high.rows) front.0 ∙ ap (λ l. low.rows ++ l) back.0 ∙ append-nil low.rows),
         sym (ap (rows_from key) (sym cut.rows) ∙ filter-append (λ p. nat_le key p.0) low.rows high.rows ∙ ap (λ l. l ++ rows_from key high.rows) front.1 ∙ back.1),
       )
-
--- numbers up to a bound are no further apart
-pub near : (a b n : ℕ) → a ≤ n → b ≤ n → abs_diff a b ≤ n
-near a b n le me = omega (arith, le, me)
-
--- the square of the next number
-pub square_next : (a b : ℕ) → a ≡ b + 1 → a * a ≡ b * b + (2 * b + 1)
-square_next a b e = ap (λ n. n * n) e ∙ add-mul b 1 (b + 1) ∙ omega (arith, mul-add b b 1)
-
--- a number is no more than its square
-pub square_least : (n : ℕ) → 1 ≤ n → n ≤ n * n
-square_least n some = omega (arith, mul-le-mul_right n some)

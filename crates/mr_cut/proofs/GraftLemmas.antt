@@ -105,9 +105,9 @@ module _ {V : Type 0} where
   grafted_rows h w lower rows x (Some y) grafted = grafted.list
 
   -- what came of a half full node is half full
-  pub grafted_kids : (h w lower : ℕ) (rows : List (ℕ × V)) (x : Seen V) (o : MaybeNode V) → 16 ≤ w → IsGrafted h w lower rows x o → (IsKidNode h x) × IfSome o (λ y. IsKidNode h y.value)
-  grafted_kids h w lower rows x None enough grafted = (record { level = grafted.level; enough = omega (arith, enough, grafted.wide); well = grafted.well }, tt)
-  grafted_kids h w lower rows x (Some y) enough grafted = (grafted.first, grafted.second)
+  pub grafted_kids : (h m w lower : ℕ) (rows : List (ℕ × V)) (x : Seen V) (o : MaybeNode V) → h ≡ m → 16 ≤ w → IsGrafted h w lower rows x o → (IsKidNode m x) × IfSome o (λ y. IsKidNode m y.value)
+  grafted_kids h m w lower rows x None level enough grafted = (record { level = grafted.level ∙ level; enough = omega (arith, enough, grafted.wide); well = grafted.well }, tt)
+  grafted_kids h m w lower rows x (Some y) level enough grafted = (subst (λ n. IsKidNode n x) level grafted.first, subst (λ n. IsKidNode n y.value) level grafted.second)
 
   -- the first of one node or two in order behind others, and the last in front of others
   first_ordered : (rows : List (ℕ × V)) (x : Seen V) (o : MaybeNode V) → IsOrderedBy key_of_pair (rows ++ rows_with x o) → IsOrderedBy key_of_pair (rows ++ x.rows)
@@ -156,54 +156,73 @@ module _ {V : Type 0} where
   pub ends_grafted : (h w : ℕ) (rows : List (ℕ × V)) (n m z : Seen V) (o : MaybeNode V) → AreEnds h w rows n m → IsEvened n m z o → IsGrafted h w 0 rows z o
   ends_grafted h w rows n m z o ends evened = evened_grafted h w 0 rows n m z o ends.level ends.list (omega (arith, ends.width)) (λ many lower. omega (arith, many, ends.width)) evened
 
-  -- an inner node without the child at one of its ends
-  pub record IsOff (b new : NodeBranch V) (k : NodeKid V) : Type 0 where
-    pub rest : IsRest new
-    pub kid : IsKid (b.height - 1) k
+  -- a node apart for a neighbour: the child at the end where that is, and the others; the rows of the child and the neighbour, with those of the others around them, are the rows of both nodes
+  pub record IsApart (node : Seen V) (others : NodeBranch V) (kid : Seen V) (below around both : List (ℕ × V)) : Type 0 where
+    pub rest : IsRest others
+    pub room : others.len < 32
+    pub enough : 16 ≤ kid.width
+    pub down : kid.height ≡ others.height - 1
+    pub level : kid.height + 1 ≡ node.height
+    pub height : others.height ≡ node.height
+    pub width : others.len + 1 ≡ node.width
+    pub rows : around ≡ both
+    pub ordered_below : IsOrderedBy key_of_pair below
+    pub ordered : IsOrderedBy key_of_pair around
 
-  off_of : (b new : NodeBranch V) (k : NodeKid V) → IsBranch b → new.height ≡ b.height → IsRun new.len new.leasts new.kids → IsKid (b.height - 1) k → AllByRecursion (IsKid (b.height - 1)) (kids_of new) → IsOrderedBy key_of_pair (rows_of (kids_of new)) → KeysBelow key_limit (rows_of (kids_of new)) → IsOff b new k
-  off_of b new k branch height run kid kids ordered keys = record {
-    rest = record {
-      inner = omega (arith, height, branch.inner);
-      run = run;
-      kids = subst (λ m. AllByRecursion (IsKid (m - 1)) (kids_of new)) (sym height) kids;
-      ordered = ordered;
-      keys = keys;
-    };
-    kid = kid;
+  -- the last child for a neighbour behind the node, and the first one for a neighbour in front of it
+  abbrev pub IsApartHigh : Seen V → Seen V → NodeBranch V → Seen V → Type 0
+  IsApartHigh node other others kid = IsApart node others kid (kid.rows ++ other.rows) (rows_of (kids_of others) ++ (kid.rows ++ other.rows)) (node.rows ++ other.rows)
+
+  abbrev pub IsApartLow : Seen V → Seen V → NodeBranch V → Seen V → Type 0
+  IsApartLow node other others kid = IsApart node others kid (other.rows ++ kid.rows) ((other.rows ++ kid.rows) ++ rows_of (kids_of others)) (other.rows ++ node.rows)
+
+  rest_of : (b new : NodeBranch V) → 0 < b.height → new.height ≡ b.height → IsRun new.len new.leasts new.kids → AllByRecursion (IsKid (b.height - 1)) (kids_of new) → IsOrderedBy key_of_pair (rows_of (kids_of new)) → KeysBelow key_limit (rows_of (kids_of new)) → IsRest new
+  rest_of b new inner height run kids ordered keys = record {
+    inner = omega (arith, height, inner);
+    run = run;
+    kids = subst (λ m. AllByRecursion (IsKid (m - 1)) (kids_of new)) (sym height) kids;
+    ordered = ordered;
+    keys = keys;
   }
 
-  -- without the last one
-  pub last_off : (i : ℕ) (b new : NodeBranch V) (k : NodeKid V) → IsBranch b → i + 1 ≡ b.len → new.height ≡ b.height → IsRun new.len new.leasts new.kids → kids_of new ≡ take i (kids_of b) ++ drop (i + 1) (kids_of b) → kids_of b ≡ take i (kids_of b) ++ (k ∷ drop (i + 1) (kids_of b)) → (IsOff b new k) × (rows_of (kids_of b) ≡ rows_of (kids_of new) ++ k.1.node.value.rows)
-  last_off i b new k branch one height run rest split =
-      let h = b.height - 1 in
+  apart_of : (b new : NodeBranch V) (k : NodeKid V) (node : Seen V) (below around both : List (ℕ × V)) → IsBranch b → seen_branch b ≡ node → new.height ≡ b.height → new.len + 1 ≡ b.len → IsRest new → IsKid (b.height - 1) k → around ≡ both → IsOrderedBy key_of_pair below → IsOrderedBy key_of_pair around → IsApart node new k.1.node.value below around both
+  apart_of b new k node below around both branch now height len rest kid rows ordered_below ordered = record {
+    rest = rest;
+    room = omega (arith, len, branch.run.fits);
+    enough = kid.enough;
+    down = omega (arith, kid.level, height);
+    level = omega (arith, kid.level, branch.inner, ap (λ s. s.height) now);
+    height = height ∙ ap (λ s. s.height) now;
+    width = len ∙ ap (λ s. s.width) now;
+    rows = rows;
+    ordered_below = ordered_below;
+    ordered = ordered;
+  }
+
+  pub last_off : {b new : NodeBranch V} {node : Seen V} (i : ℕ) (k : NodeKid V) (other : Seen V) → IsBranch b → seen_branch b ≡ node → i + 1 ≡ b.len → new.height ≡ b.height → new.len + 1 ≡ b.len → IsRun new.len new.leasts new.kids → kids_of new ≡ take i (kids_of b) ++ drop (i + 1) (kids_of b) → kids_of b ≡ take i (kids_of b) ++ (k ∷ drop (i + 1) (kids_of b)) → IsOrderedBy key_of_pair (node.rows ++ other.rows) → IsApartHigh node other new k.1.node.value
+  last_off {b = b} {new = new} {node = node} i k other branch now one height len run rest split ordered =
+      let P : NodeKid V → Type 0 = IsKid (b.height - 1) in
+      let kid = k.1.node.value in
+      let front_rows = rows_of (kids_of new) in
       let none : drop (i + 1) (kids_of b) ≡ [] = drop_all (i + 1) (kids_of b) (omega (arith, run_length b.len b.leasts b.kids branch.run, one)) in
       let front : kids_of new ≡ take i (kids_of b) = rest ∙ ap (λ l. take i (kids_of b) ++ l) none ∙ append-nil (take i (kids_of b)) in
       let list : kids_of b ≡ kids_of new ++ (k ∷ []) = split ∙ ap (λ l. take i (kids_of b) ++ (k ∷ l)) none ∙ ap (λ l. l ++ (k ∷ [])) (sym front) in
-      let rows : rows_of (kids_of b) ≡ rows_of (kids_of new) ++ k.1.node.value.rows = ap rows_of list ∙ rows_of-append (kids_of new) (k ∷ []) ∙ ap (λ r. rows_of (kids_of new) ++ r) (append-nil k.1.node.value.rows) in
-      let all = subst (AllByRecursion (IsKid h)) list branch.kids in (
-        off_of b new k branch height run (each-right (IsKid h) (kids_of new) (k ∷ []) all).0 (each-left (IsKid h) (kids_of new) (k ∷ []) all)
-            (ordered-left key_of_pair (rows_of (kids_of new)) k.1.node.value.rows (subst (IsOrderedBy key_of_pair) rows branch.ordered))
-            (each-left (λ p. p.0 < key_limit) (rows_of (kids_of new)) k.1.node.value.rows (subst (KeysBelow key_limit) rows branch.keys)),
-        rows,
-      )
+      let rows : rows_of (kids_of b) ≡ front_rows ++ kid.rows = ap rows_of list ∙ rows_of-append (kids_of new) (k ∷ []) ∙ ap (λ r. front_rows ++ r) (append-nil kid.rows) in
+      let all = subst (AllByRecursion P) list branch.kids in
+      let around : node.rows ++ other.rows ≡ front_rows ++ (kid.rows ++ other.rows) = ap (λ l. l ++ other.rows) (sym (ap (λ s. s.rows) now) ∙ rows) ∙ append_assoc front_rows kid.rows other.rows in
+      let order = subst (IsOrderedBy key_of_pair) around ordered in
+      let others = rest_of b new branch.inner height run (each-left P (kids_of new) (k ∷ []) all) (ordered-left key_of_pair front_rows (kid.rows ++ other.rows) order) (each-left (λ p. p.0 < key_limit) front_rows kid.rows (subst (KeysBelow key_limit) rows branch.keys)) in
+      apart_of b new k node (kid.rows ++ other.rows) (front_rows ++ (kid.rows ++ other.rows)) (node.rows ++ other.rows) branch now height len others (each-right P (kids_of new) (k ∷ []) all).0 (sym around) (ordered-right key_of_pair front_rows (kid.rows ++ other.rows) order) order
 
-  -- without the first one
-  pub first_off : (b new : NodeBranch V) (k : NodeKid V) → IsBranch b → new.height ≡ b.height → IsRun new.len new.leasts new.kids → kids_of new ≡ take 0 (kids_of b) ++ drop (0 + 1) (kids_of b) → kids_of b ≡ take 0 (kids_of b) ++ (k ∷ drop (0 + 1) (kids_of b)) → (IsOff b new k) × (rows_of (kids_of b) ≡ k.1.node.value.rows ++ rows_of (kids_of new))
-  first_off b new k branch height run rest split =
-      let h = b.height - 1 in
+  pub first_off : {b new : NodeBranch V} {node : Seen V} (k : NodeKid V) (other : Seen V) → IsBranch b → seen_branch b ≡ node → new.height ≡ b.height → new.len + 1 ≡ b.len → IsRun new.len new.leasts new.kids → kids_of new ≡ take 0 (kids_of b) ++ drop (0 + 1) (kids_of b) → kids_of b ≡ take 0 (kids_of b) ++ (k ∷ drop (0 + 1) (kids_of b)) → IsOrderedBy key_of_pair (other.rows ++ node.rows) → IsApartLow node other new k.1.node.value
+  first_off {b = b} {new = new} {node = node} k other branch now height len run rest split ordered =
+      let P : NodeKid V → Type 0 = IsKid (b.height - 1) in
+      let kid = k.1.node.value in
+      let back_rows = rows_of (kids_of new) in
       let list : kids_of b ≡ k ∷ kids_of new = split ∙ ap (λ l. k ∷ l) (sym rest) in
-      let rows : rows_of (kids_of b) ≡ k.1.node.value.rows ++ rows_of (kids_of new) = ap rows_of list in
-      let all = subst (AllByRecursion (IsKid h)) list branch.kids in (
-        off_of b new k branch height run all.0 all.1
-            (ordered-right key_of_pair k.1.node.value.rows (rows_of (kids_of new)) (subst (IsOrderedBy key_of_pair) rows branch.ordered))
-            (each-right (λ p. p.0 < key_limit) k.1.node.value.rows (rows_of (kids_of new)) (subst (KeysBelow key_limit) rows branch.keys)),
-        rows,
-      )
-
-  -- the rows of a node of which an end child is taken, and of its neighbour
-  pub split_high : (rows kid other list whole : List (ℕ × V)) → whole ≡ list → list ≡ rows ++ kid → whole ++ other ≡ rows ++ (kid ++ other)
-  split_high rows kid other list whole e split = ap (λ l. l ++ other) (e ∙ split) ∙ append_assoc rows kid other
-
-  pub split_low : (rows kid other list whole : List (ℕ × V)) → whole ≡ list → list ≡ kid ++ rows → other ++ whole ≡ (other ++ kid) ++ rows
-  split_low rows kid other list whole e split = ap (λ l. other ++ l) (e ∙ split) ∙ sym (append_assoc other kid rows)
+      let rows : rows_of (kids_of b) ≡ kid.rows ++ back_rows = ap rows_of list in
+      let all = subst (AllByRecursion P) list branch.kids in
+      let around : other.rows ++ node.rows ≡ (other.rows ++ kid.rows) ++ back_rows = ap (λ l. other.rows ++ l) (sym (ap (λ s. s.rows) now) ∙ rows) ∙ sym (append_assoc other.rows kid.rows back_rows) in
+      let order = subst (IsOrderedBy key_of_pair) around ordered in
+      let others = rest_of b new branch.inner height run all.1 (ordered-right key_of_pair (other.rows ++ kid.rows) back_rows order) (each-right (λ p. p.0 < key_limit) kid.rows back_rows (subst (KeysBelow key_limit) rows branch.keys)) in
+      apart_of b new k node (other.rows ++ kid.rows) ((other.rows ++ kid.rows) ++ back_rows) (other.rows ++ node.rows) branch now height len others all.0 (sym around) (ordered-left key_of_pair (other.rows ++ kid.rows) back_rows order) order

@@ -25,25 +25,30 @@ module _ {V : Type 0} where
   low_kid h x node = low_tree x node.well (omega (arith, node.enough))
 
   -- a new root over two nodes
+  pub record IsCrown (x y : Seen V) (new : NodeBranch V) : Type 0 where
+    pub branch : IsBranch new
+    pub two : 2 ≤ new.len
+    pub level : new.height ≡ x.height + 1
+    pub rows : rows_of (kids_of new) ≡ x.rows ++ y.rows
+
   pub crown_branch : (x y : Seen V) (b mid new : NodeBranch V) → IsKidNode x.height x → IsKidNode x.height y → IsOrderedBy key_of_pair (x.rows ++ y.rows) → b.height ≡ x.height + 1 → b.len ≡ 0 → IsRun 0 b.leasts b.kids
-      → IsHung 0 x b mid → mid.height ≡ b.height → mid.len ≡ b.len + 1 → IsRun mid.len mid.leasts mid.kids → IsHung 1 y mid new → new.height ≡ mid.height → new.len ≡ mid.len + 1 → IsRun new.len new.leasts new.kids
-      → (IsBranch new) × (IsRoot (seen_branch new)) × (new.height ≡ x.height + 1) × (rows_of (kids_of new) ≡ x.rows ++ y.rows)
+      → IsHung 0 x b mid → mid.height ≡ b.height → mid.len ≡ b.len + 1 → IsRun mid.len mid.leasts mid.kids → IsHung 1 y mid new → new.height ≡ mid.height → new.len ≡ mid.len + 1 → IsRun new.len new.leasts new.kids → IsCrown x y new
   crown_branch x y b mid new first second ordered level none empty low low_height low_len low_run high high_height high_len high_run =
       let down : x.height ≡ x.height + 1 - 1 = omega arith in
       let one = lone_branch (x.height + 1) b mid x (omega arith) level none empty low low_height low_len low_run (subst (λ h. IsKidNode h x) down first) in
       let rows : rows_of (kids_of mid) ≡ x.rows = ap (λ s. s.rows) one.1 in
       let wide : 1 ≡ mid.len = omega (arith, low_len, none) in
       let below : x.height ≡ mid.height - 1 = omega (arith, low_height, level) in
-      let two = put_behind mid new y (rest_of mid one.0) (subst (λ i. IsHung i y mid new) wide high) high_height high_len high_run (subst (λ h. IsKidNode h y) below second) (subst (λ r. IsOrderedBy key_of_pair (r ++ y.rows)) (sym rows) ordered) in (
-        two.0,
-        record { well = branch_well new two.0; two = λ inner. omega (arith, high_len, wide) },
-        high_height ∙ low_height ∙ level,
-        two.1 ∙ ap (λ r. r ++ y.rows) rows,
-      )
+      let two = put_behind mid new y (rest_of mid one.0) (subst (λ i. IsHung i y mid new) wide high) high_height high_len high_run (subst (λ h. IsKidNode h y) below second) (subst (λ r. IsOrderedBy key_of_pair (r ++ y.rows)) (sym rows) ordered) in
+      record { branch = two.0; two = omega (arith, high_len, wide); level = high_height ∙ low_height ∙ level; rows = two.1 ∙ ap (λ r. r ++ y.rows) rows }
 
-  -- the same of the node itself
-  pub crowned : (x y z : Seen V) (new : NodeBranch V) → z ≡ seen_branch new → IsRoot (seen_branch new) → new.height ≡ x.height + 1 → rows_of (kids_of new) ≡ x.rows ++ y.rows → (IsRoot z) × (z.height ≡ x.height + 1) × (z.rows ≡ x.rows ++ y.rows)
-  crowned x y z new e root height rows = (subst IsRoot (sym e) root, ap (λ s. s.height) e ∙ height, ap (λ s. s.rows) e ∙ rows)
+  -- the node itself
+  pub crowned : (x y z : Seen V) (new : NodeBranch V) → z ≡ seen_branch new → IsCrown x y new → (IsRoot z) × (z.height ≡ x.height + 1) × (z.rows ≡ x.rows ++ y.rows)
+  crowned x y z new e crown = (
+    subst IsRoot (sym e) (record { well = branch_well new crown.branch; two = λ inner. crown.two }),
+    ap (λ s. s.height) e ∙ crown.level,
+    ap (λ s. s.rows) e ∙ crown.rows,
+  )
 
   -- what came of a root and its neighbour wants a root over it where it is two
   pub crownless : (h w lower : ℕ) (rows : List (ℕ × V)) (x : Seen V) (o : MaybeNode V) → (0 < h → 2 ≤ w) → IsOrderedBy key_of_pair rows → IsGrafted h w lower rows x o → IsCrownless x o

@@ -1,45 +1,41 @@
-use Rattle.std.proofs.Common.{rules, arith, refl, ◌≡◌, ◌+◌, ◌-◌, ◌<◌, ◌++◌, IfSome, sym, ap, subst, ◌∙◌}
+use Rattle.std.proofs.Common.{rules, arith, refl, ◌≡◌, ◌-◌, ◌<◌, ◌++◌, sym, ap, subst, ◌∙◌}
 use Rattle.tatp_rows.specs.Ordered.{IsOrderedBy}
-use Rattle.tatp_rows.proofs.AppendLemmas.{ordered-right}
 use Rattle.mr_node.specs.Rows.{key_of_pair}
-use Rattle.mr_node.specs.Levels.{kids_of, rows_of, seen, seen_branch, IsNode, IsBranch}
-use Rattle.mr_node.specs.Pairs.{IsKidNode}
+use Rattle.mr_node.specs.Levels.{kids_of, rows_of, seen, IsNode}
 use Rattle.mr_node.proofs.KidLemmas.{kid_at}
-use Rattle.mr_cut.proofs.GraftLemmas.{last_off, split_high, evened_grafted, grafted_kids, grafted_rows, regrafted}
+use Rattle.mr_cut.proofs.GraftLemmas.{IsApartHigh, last_off, evened_grafted, grafted_kids, grafted_rows, regrafted}
+use Rattle.mr_cut.proofs.grafts.+graft_high.Goals.{After-open-body, After-take_kid-kid}
 use Rattle.mr_cut.proofs.grafts.+graft_high.Goals as goal
+
+-- the neighbour is lower
+lower : (g : _) (t : _) (c : After-open-body g t) → c.args.other.value.height < c.args.node.value.height
+lower g t c = omega (arith, c.requires.level, c.if-height.false, c.height.ensures.value, c.height-2.ensures.value, ap (λ s. s.height) c.deref.ensures, ap (λ s. s.height) c.deref-2.ensures)
+
+-- the last child, and the others
+apart : (g : _) (t : _) (c : After-take_kid-kid g t) → IsApartHigh c.args.node.value c.args.other.value c.take_kid-kid.new.branch c.take_kid-kid.result.node.value
+apart g t c =
+    let whole = subst IsNode c.in-Inner.is c.open-body.ensures.whole in
+    let taken = c.take_kid-kid.ensures in
+    last_off (c.in-Inner.branch.len - 1) (kid_at c.in-Inner.branch (c.in-Inner.branch.len - 1) c.take_kid-kid.result) c.args.other.value whole (sym (ap seen c.in-Inner.is) ∙ c.open-body.ensures.seen) (omega (arith, whole.some)) taken.height taken.len taken.run taken.rest taken.kid c.requires.ordered
 
 pub graft_high-one-requires : goal.graft_high-one-requires
 graft_high-one-requires g t c κs within =
-    let b = c.in-Inner.branch in
-    let whole : IsBranch b = subst IsNode c.in-Inner.is c.open-body.ensures.whole in
-    let now : seen_branch b ≡ c.args.node.value = sym (ap seen c.in-Inner.is) ∙ c.open-body.ensures.seen in
-    let new = c.take_kid-kid.new.branch in
-    let k = kid_at b (b.len - 1) c.take_kid-kid.result in
-    let off = last_off (b.len - 1) b new k whole (omega (arith, whole.some)) c.take_kid-kid.ensures.height c.take_kid-kid.ensures.run c.take_kid-kid.ensures.rest c.take_kid-kid.ensures.kid in
-    let level : k.1.node.value.height + 1 ≡ c.args.node.value.height = omega (arith, off.0.kid.level, whole.inner, ap (λ s. s.height) now) in
-    let rows : c.args.node.value.rows ++ c.args.other.value.rows ≡ rows_of (kids_of new) ++ (k.1.node.value.rows ++ c.args.other.value.rows) = split_high (rows_of (kids_of new)) k.1.node.value.rows c.args.other.value.rows (rows_of (kids_of b)) c.args.node.value.rows (sym (ap (λ s. s.rows) now)) off.1 in
-    let ordered = subst (IsOrderedBy key_of_pair) rows c.requires.ordered in
-    let lower : c.args.other.value.height < c.args.node.value.height = omega (arith, c.requires.level, c.if-height.false, c.height.ensures.value, c.height-2.ensures.value, ap (λ s. s.height) c.deref.ensures, ap (λ s. s.height) c.deref-2.ensures) in
-    (omega (arith, level, c.decreases), (within, (search rules, (omega (arith, level, lower), (ordered-right key_of_pair (rows_of (kids_of new)) (k.1.node.value.rows ++ c.args.other.value.rows) ordered, omega (arith, level, c.requires.stock))))))
+    let at = goal.at.graft_high-one-requires g t c in
+    let lt = lower g t at.After-open-body in
+    let off = apart g t at.After-take_kid-kid in
+    (omega (arith, off.level, c.decreases), (within, (search rules, (omega (arith, off.level, lt), (off.ordered_below, omega (arith, off.level, c.requires.stock))))))
 
 pub hang_high-requires : goal.hang_high-requires
 hang_high-requires g t c =
-    let b = c.in-Inner.branch in
-    let whole : IsBranch b = subst IsNode c.in-Inner.is c.open-body.ensures.whole in
-    let now : seen_branch b ≡ c.args.node.value = sym (ap seen c.in-Inner.is) ∙ c.open-body.ensures.seen in
-    let new = c.take_kid-kid.new.branch in
-    let k = kid_at b (b.len - 1) c.take_kid-kid.result in
-    let off = last_off (b.len - 1) b new k whole (omega (arith, whole.some)) c.take_kid-kid.ensures.height c.take_kid-kid.ensures.run c.take_kid-kid.ensures.rest c.take_kid-kid.ensures.kid in
-    let level : k.1.node.value.height + 1 ≡ c.args.node.value.height = omega (arith, off.0.kid.level, whole.inner, ap (λ s. s.height) now) in
-    let rows : c.args.node.value.rows ++ c.args.other.value.rows ≡ rows_of (kids_of new) ++ (k.1.node.value.rows ++ c.args.other.value.rows) = split_high (rows_of (kids_of new)) k.1.node.value.rows c.args.other.value.rows (rows_of (kids_of b)) c.args.node.value.rows (sym (ap (λ s. s.rows) now)) off.1 in
-    let ordered = subst (IsOrderedBy key_of_pair) rows c.requires.ordered in
-    let lower : c.args.other.value.height < c.args.node.value.height = omega (arith, c.requires.level, c.if-height.false, c.height.ensures.value, c.height-2.ensures.value, ap (λ s. s.height) c.deref.ensures, ap (λ s. s.height) c.deref-2.ensures) in
+    let at = goal.at.hang_high-requires g t c in
+    let lt = lower g t at.After-open-body in
+    let off = apart g t at.After-take_kid-kid in
+    let one = c.graft_high-one.result.0.value in
+    let two = c.graft_high-one.result.1 in
     let grafted = c.graft_high-one.ensures.grafted in
-    let x = c.graft_high-one.result.0.value in
-    let o = c.graft_high-one.result.1 in
-    let down : k.1.node.value.height ≡ new.height - 1 = omega (arith, off.0.kid.level, c.take_kid-kid.ensures.height) in
-    let fits = subst (λ h. (IsKidNode h x) × IfSome o (λ y. IsKidNode h y.value)) down (grafted_kids _ _ _ _ x o off.0.kid.enough grafted) in
-    (search rules, (search rules, (off.0.rest, (omega (arith, c.take_kid-kid.ensures.len, whole.run.fits), (fits.0, (fits.1, (subst (λ r. IsOrderedBy key_of_pair (rows_of (kids_of new) ++ r)) (sym (grafted_rows _ _ _ _ x o grafted)) ordered, omega (arith, level, lower, c.graft_high-one.ensures.stock, c.requires.stock))))))))
+    let kids = grafted_kids _ _ _ _ _ one two off.down off.enough grafted in
+    let ordered = subst (λ r. IsOrderedBy key_of_pair (rows_of (kids_of c.take_kid-kid.new.branch) ++ r)) (sym (grafted_rows _ _ _ _ one two grafted)) off.ordered in
+    (search rules, (search rules, (off.rest, (off.room, (kids.0, (kids.1, (ordered, omega (arith, off.level, lt, c.graft_high-one.ensures.stock, c.requires.stock))))))))
 
 pub returns-then-height-clause-grafted : goal.returns-then-height-clause-grafted
 returns-then-height-clause-grafted g t c =
@@ -48,50 +44,27 @@ returns-then-height-clause-grafted g t c =
 
 pub returns-clause-grafted : goal.returns-clause-grafted
 returns-clause-grafted g t c =
-    let b = c.in-Inner.branch in
-    let whole : IsBranch b = subst IsNode c.in-Inner.is c.open-body.ensures.whole in
-    let now : seen_branch b ≡ c.args.node.value = sym (ap seen c.in-Inner.is) ∙ c.open-body.ensures.seen in
-    let new = c.take_kid-kid.new.branch in
-    let k = kid_at b (b.len - 1) c.take_kid-kid.result in
-    let off = last_off (b.len - 1) b new k whole (omega (arith, whole.some)) c.take_kid-kid.ensures.height c.take_kid-kid.ensures.run c.take_kid-kid.ensures.rest c.take_kid-kid.ensures.kid in
-    let level : k.1.node.value.height + 1 ≡ c.args.node.value.height = omega (arith, off.0.kid.level, whole.inner, ap (λ s. s.height) now) in
-    let rows : c.args.node.value.rows ++ c.args.other.value.rows ≡ rows_of (kids_of new) ++ (k.1.node.value.rows ++ c.args.other.value.rows) = split_high (rows_of (kids_of new)) k.1.node.value.rows c.args.other.value.rows (rows_of (kids_of b)) c.args.node.value.rows (sym (ap (λ s. s.rows) now)) off.1 in
-    let ordered = subst (IsOrderedBy key_of_pair) rows c.requires.ordered in
-    let list = ap (λ r. rows_of (kids_of new) ++ r) (grafted_rows _ _ _ _ c.graft_high-one.result.0.value c.graft_high-one.result.1 c.graft_high-one.ensures.grafted) ∙ sym rows in
-    regrafted new.height (new.len + 1) c.args.node.value.height c.args.node.value.width c.args.other.value.height _ _ c.hang_high.result.0.value c.hang_high.result.1 (c.take_kid-kid.ensures.height ∙ ap (λ s. s.height) now) (c.take_kid-kid.ensures.len ∙ ap (λ s. s.width) now) list c.hang_high.ensures.grafted
+    let off = apart g t (goal.at.returns-clause-grafted g t c).After-take_kid-kid in
+    let list = ap (λ r. rows_of (kids_of c.take_kid-kid.new.branch) ++ r) (grafted_rows _ _ _ _ c.graft_high-one.result.0.value c.graft_high-one.result.1 c.graft_high-one.ensures.grafted) ∙ off.rows in
+    regrafted _ _ _ _ _ _ _ c.hang_high.result.0.value c.hang_high.result.1 off.height off.width list c.hang_high.ensures.grafted
 
 pub returns-clause-stock : goal.returns-clause-stock
 returns-clause-stock g t c =
-    let b = c.in-Inner.branch in
-    let whole : IsBranch b = subst IsNode c.in-Inner.is c.open-body.ensures.whole in
-    let now : seen_branch b ≡ c.args.node.value = sym (ap seen c.in-Inner.is) ∙ c.open-body.ensures.seen in
-    let new = c.take_kid-kid.new.branch in
-    let k = kid_at b (b.len - 1) c.take_kid-kid.result in
-    let off = last_off (b.len - 1) b new k whole (omega (arith, whole.some)) c.take_kid-kid.ensures.height c.take_kid-kid.ensures.run c.take_kid-kid.ensures.rest c.take_kid-kid.ensures.kid in
-    let level : k.1.node.value.height + 1 ≡ c.args.node.value.height = omega (arith, off.0.kid.level, whole.inner, ap (λ s. s.height) now) in
-    let lower : c.args.other.value.height < c.args.node.value.height = omega (arith, c.requires.level, c.if-height.false, c.height.ensures.value, c.height-2.ensures.value, ap (λ s. s.height) c.deref.ensures, ap (λ s. s.height) c.deref-2.ensures) in
-    omega (arith, level, lower, c.graft_high-one.ensures.stock, c.hang_high.ensures.stock)
+    let at = goal.at.returns-clause-stock g t c in
+    let lt = lower g t at.After-open-body in
+    let off = apart g t at.After-take_kid-kid in
+    omega (arith, off.level, lt, c.graft_high-one.ensures.stock, c.hang_high.ensures.stock)
 
 pub returns-clause-no_fewer : goal.returns-clause-no_fewer
 returns-clause-no_fewer g t c =
-    let b = c.in-Inner.branch in
-    let whole : IsBranch b = subst IsNode c.in-Inner.is c.open-body.ensures.whole in
-    let now : seen_branch b ≡ c.args.node.value = sym (ap seen c.in-Inner.is) ∙ c.open-body.ensures.seen in
-    let new = c.take_kid-kid.new.branch in
-    let k = kid_at b (b.len - 1) c.take_kid-kid.result in
-    let off = last_off (b.len - 1) b new k whole (omega (arith, whole.some)) c.take_kid-kid.ensures.height c.take_kid-kid.ensures.run c.take_kid-kid.ensures.rest c.take_kid-kid.ensures.kid in
-    let level : k.1.node.value.height + 1 ≡ c.args.node.value.height = omega (arith, off.0.kid.level, whole.inner, ap (λ s. s.height) now) in
-    let lower : c.args.other.value.height < c.args.node.value.height = omega (arith, c.requires.level, c.if-height.false, c.height.ensures.value, c.height-2.ensures.value, ap (λ s. s.height) c.deref.ensures, ap (λ s. s.height) c.deref-2.ensures) in
-    omega (arith, level, lower, c.open-body.ensures.steps, c.graft_high-one.ensures.no_fewer, c.hang_high.ensures.no_fewer)
+    let at = goal.at.returns-clause-no_fewer g t c in
+    let lt = lower g t at.After-open-body in
+    let off = apart g t at.After-take_kid-kid in
+    omega (arith, off.level, lt, c.open-body.ensures.steps, c.graft_high-one.ensures.no_fewer, c.hang_high.ensures.no_fewer)
 
 pub returns-clause-steps : goal.returns-clause-steps
 returns-clause-steps g t c =
-    let b = c.in-Inner.branch in
-    let whole : IsBranch b = subst IsNode c.in-Inner.is c.open-body.ensures.whole in
-    let now : seen_branch b ≡ c.args.node.value = sym (ap seen c.in-Inner.is) ∙ c.open-body.ensures.seen in
-    let new = c.take_kid-kid.new.branch in
-    let k = kid_at b (b.len - 1) c.take_kid-kid.result in
-    let off = last_off (b.len - 1) b new k whole (omega (arith, whole.some)) c.take_kid-kid.ensures.height c.take_kid-kid.ensures.run c.take_kid-kid.ensures.rest c.take_kid-kid.ensures.kid in
-    let level : k.1.node.value.height + 1 ≡ c.args.node.value.height = omega (arith, off.0.kid.level, whole.inner, ap (λ s. s.height) now) in
-    let lower : c.args.other.value.height < c.args.node.value.height = omega (arith, c.requires.level, c.if-height.false, c.height.ensures.value, c.height-2.ensures.value, ap (λ s. s.height) c.deref.ensures, ap (λ s. s.height) c.deref-2.ensures) in
-    omega (arith, level, lower, c.open-body.ensures.steps, c.graft_high-one.ensures.steps, c.hang_high.ensures.steps)
+    let at = goal.at.returns-clause-steps g t c in
+    let lt = lower g t at.After-open-body in
+    let off = apart g t at.After-take_kid-kid in
+    omega (arith, off.level, lt, c.open-body.ensures.steps, c.graft_high-one.ensures.steps, c.hang_high.ensures.steps)

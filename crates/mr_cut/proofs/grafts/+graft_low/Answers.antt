@@ -1,45 +1,40 @@
-use Rattle.std.proofs.Common.{rules, arith, refl, ◌≡◌, ◌+◌, ◌-◌, ◌<◌, ◌++◌, IfSome, sym, ap, subst, ◌∙◌}
+use Rattle.std.proofs.Common.{rules, arith, refl, ◌≡◌, ◌<◌, ◌++◌, sym, ap, subst, ◌∙◌}
 use Rattle.tatp_rows.specs.Ordered.{IsOrderedBy}
-use Rattle.tatp_rows.proofs.AppendLemmas.{ordered-left}
 use Rattle.mr_node.specs.Rows.{key_of_pair}
-use Rattle.mr_node.specs.Levels.{kids_of, rows_of, seen, seen_branch, IsNode, IsBranch}
-use Rattle.mr_node.specs.Pairs.{IsKidNode}
+use Rattle.mr_node.specs.Levels.{kids_of, rows_of, seen, IsNode}
 use Rattle.mr_node.proofs.KidLemmas.{kid_at}
-use Rattle.mr_cut.proofs.GraftLemmas.{first_off, split_low, evened_grafted, grafted_kids, grafted_rows, regrafted}
+use Rattle.mr_cut.proofs.GraftLemmas.{IsApartLow, first_off, evened_grafted, grafted_kids, grafted_rows, regrafted}
+use Rattle.mr_cut.proofs.grafts.+graft_low.Goals.{After-open-body, After-take_kid-kid}
 use Rattle.mr_cut.proofs.grafts.+graft_low.Goals as goal
+
+-- the neighbour is lower
+lower : (g : _) (t : _) (c : After-open-body g t) → c.args.other.value.height < c.args.node.value.height
+lower g t c = omega (arith, c.requires.level, c.if-height.false, c.height.ensures.value, c.height-2.ensures.value, ap (λ s. s.height) c.deref.ensures, ap (λ s. s.height) c.deref-2.ensures)
+
+-- the first child, and the others
+apart : (g : _) (t : _) (c : After-take_kid-kid g t) → IsApartLow c.args.node.value c.args.other.value c.take_kid-kid.new.branch c.take_kid-kid.result.node.value
+apart g t c =
+    let taken = c.take_kid-kid.ensures in
+    first_off (kid_at c.in-Inner.branch 0 c.take_kid-kid.result) c.args.other.value (subst IsNode c.in-Inner.is c.open-body.ensures.whole) (sym (ap seen c.in-Inner.is) ∙ c.open-body.ensures.seen) taken.height taken.len taken.run taken.rest taken.kid c.requires.ordered
 
 pub graft_low-one-requires : goal.graft_low-one-requires
 graft_low-one-requires g t c κs within =
-    let b = c.in-Inner.branch in
-    let whole : IsBranch b = subst IsNode c.in-Inner.is c.open-body.ensures.whole in
-    let now : seen_branch b ≡ c.args.node.value = sym (ap seen c.in-Inner.is) ∙ c.open-body.ensures.seen in
-    let new = c.take_kid-kid.new.branch in
-    let k = kid_at b (0) c.take_kid-kid.result in
-    let off = first_off b new k whole c.take_kid-kid.ensures.height c.take_kid-kid.ensures.run c.take_kid-kid.ensures.rest c.take_kid-kid.ensures.kid in
-    let level : k.1.node.value.height + 1 ≡ c.args.node.value.height = omega (arith, off.0.kid.level, whole.inner, ap (λ s. s.height) now) in
-    let rows : c.args.other.value.rows ++ c.args.node.value.rows ≡ (c.args.other.value.rows ++ k.1.node.value.rows) ++ rows_of (kids_of new) = split_low (rows_of (kids_of new)) k.1.node.value.rows c.args.other.value.rows (rows_of (kids_of b)) c.args.node.value.rows (sym (ap (λ s. s.rows) now)) off.1 in
-    let ordered = subst (IsOrderedBy key_of_pair) rows c.requires.ordered in
-    let lower : c.args.other.value.height < c.args.node.value.height = omega (arith, c.requires.level, c.if-height.false, c.height.ensures.value, c.height-2.ensures.value, ap (λ s. s.height) c.deref.ensures, ap (λ s. s.height) c.deref-2.ensures) in
-    (omega (arith, level, c.decreases), (within, (search rules, (omega (arith, level, lower), (ordered-left key_of_pair (c.args.other.value.rows ++ k.1.node.value.rows) (rows_of (kids_of new)) ordered, omega (arith, level, c.requires.stock))))))
+    let at = goal.at.graft_low-one-requires g t c in
+    let lt = lower g t at.After-open-body in
+    let off = apart g t at.After-take_kid-kid in
+    (omega (arith, off.level, c.decreases), (within, (search rules, (omega (arith, off.level, lt), (off.ordered_below, omega (arith, off.level, c.requires.stock))))))
 
 pub hang_low-requires : goal.hang_low-requires
 hang_low-requires g t c =
-    let b = c.in-Inner.branch in
-    let whole : IsBranch b = subst IsNode c.in-Inner.is c.open-body.ensures.whole in
-    let now : seen_branch b ≡ c.args.node.value = sym (ap seen c.in-Inner.is) ∙ c.open-body.ensures.seen in
-    let new = c.take_kid-kid.new.branch in
-    let k = kid_at b (0) c.take_kid-kid.result in
-    let off = first_off b new k whole c.take_kid-kid.ensures.height c.take_kid-kid.ensures.run c.take_kid-kid.ensures.rest c.take_kid-kid.ensures.kid in
-    let level : k.1.node.value.height + 1 ≡ c.args.node.value.height = omega (arith, off.0.kid.level, whole.inner, ap (λ s. s.height) now) in
-    let rows : c.args.other.value.rows ++ c.args.node.value.rows ≡ (c.args.other.value.rows ++ k.1.node.value.rows) ++ rows_of (kids_of new) = split_low (rows_of (kids_of new)) k.1.node.value.rows c.args.other.value.rows (rows_of (kids_of b)) c.args.node.value.rows (sym (ap (λ s. s.rows) now)) off.1 in
-    let ordered = subst (IsOrderedBy key_of_pair) rows c.requires.ordered in
-    let lower : c.args.other.value.height < c.args.node.value.height = omega (arith, c.requires.level, c.if-height.false, c.height.ensures.value, c.height-2.ensures.value, ap (λ s. s.height) c.deref.ensures, ap (λ s. s.height) c.deref-2.ensures) in
+    let at = goal.at.hang_low-requires g t c in
+    let lt = lower g t at.After-open-body in
+    let off = apart g t at.After-take_kid-kid in
+    let one = c.graft_low-one.result.0.value in
+    let two = c.graft_low-one.result.1 in
     let grafted = c.graft_low-one.ensures.grafted in
-    let x = c.graft_low-one.result.0.value in
-    let o = c.graft_low-one.result.1 in
-    let down : k.1.node.value.height ≡ new.height - 1 = omega (arith, off.0.kid.level, c.take_kid-kid.ensures.height) in
-    let fits = subst (λ h. (IsKidNode h x) × IfSome o (λ y. IsKidNode h y.value)) down (grafted_kids _ _ _ _ x o off.0.kid.enough grafted) in
-    (search rules, (search rules, (off.0.rest, (omega (arith, c.take_kid-kid.ensures.len, whole.run.fits), (fits.0, (fits.1, (subst (λ r. IsOrderedBy key_of_pair (r ++ rows_of (kids_of new))) (sym (grafted_rows _ _ _ _ x o grafted)) ordered, omega (arith, level, lower, c.graft_low-one.ensures.stock, c.requires.stock))))))))
+    let kids = grafted_kids _ _ _ _ _ one two off.down off.enough grafted in
+    let ordered = subst (λ r. IsOrderedBy key_of_pair (r ++ rows_of (kids_of c.take_kid-kid.new.branch))) (sym (grafted_rows _ _ _ _ one two grafted)) off.ordered in
+    (search rules, (search rules, (off.rest, (off.room, (kids.0, (kids.1, (ordered, omega (arith, off.level, lt, c.graft_low-one.ensures.stock, c.requires.stock))))))))
 
 pub returns-then-height-clause-grafted : goal.returns-then-height-clause-grafted
 returns-then-height-clause-grafted g t c =
@@ -48,50 +43,27 @@ returns-then-height-clause-grafted g t c =
 
 pub returns-clause-grafted : goal.returns-clause-grafted
 returns-clause-grafted g t c =
-    let b = c.in-Inner.branch in
-    let whole : IsBranch b = subst IsNode c.in-Inner.is c.open-body.ensures.whole in
-    let now : seen_branch b ≡ c.args.node.value = sym (ap seen c.in-Inner.is) ∙ c.open-body.ensures.seen in
-    let new = c.take_kid-kid.new.branch in
-    let k = kid_at b (0) c.take_kid-kid.result in
-    let off = first_off b new k whole c.take_kid-kid.ensures.height c.take_kid-kid.ensures.run c.take_kid-kid.ensures.rest c.take_kid-kid.ensures.kid in
-    let level : k.1.node.value.height + 1 ≡ c.args.node.value.height = omega (arith, off.0.kid.level, whole.inner, ap (λ s. s.height) now) in
-    let rows : c.args.other.value.rows ++ c.args.node.value.rows ≡ (c.args.other.value.rows ++ k.1.node.value.rows) ++ rows_of (kids_of new) = split_low (rows_of (kids_of new)) k.1.node.value.rows c.args.other.value.rows (rows_of (kids_of b)) c.args.node.value.rows (sym (ap (λ s. s.rows) now)) off.1 in
-    let ordered = subst (IsOrderedBy key_of_pair) rows c.requires.ordered in
-    let list = ap (λ r. r ++ rows_of (kids_of new)) (grafted_rows _ _ _ _ c.graft_low-one.result.0.value c.graft_low-one.result.1 c.graft_low-one.ensures.grafted) ∙ sym rows in
-    regrafted new.height (new.len + 1) c.args.node.value.height c.args.node.value.width c.args.other.value.height _ _ c.hang_low.result.0.value c.hang_low.result.1 (c.take_kid-kid.ensures.height ∙ ap (λ s. s.height) now) (c.take_kid-kid.ensures.len ∙ ap (λ s. s.width) now) list c.hang_low.ensures.grafted
+    let off = apart g t (goal.at.returns-clause-grafted g t c).After-take_kid-kid in
+    let list = ap (λ r. r ++ rows_of (kids_of c.take_kid-kid.new.branch)) (grafted_rows _ _ _ _ c.graft_low-one.result.0.value c.graft_low-one.result.1 c.graft_low-one.ensures.grafted) ∙ off.rows in
+    regrafted _ _ _ _ _ _ _ c.hang_low.result.0.value c.hang_low.result.1 off.height off.width list c.hang_low.ensures.grafted
 
 pub returns-clause-stock : goal.returns-clause-stock
 returns-clause-stock g t c =
-    let b = c.in-Inner.branch in
-    let whole : IsBranch b = subst IsNode c.in-Inner.is c.open-body.ensures.whole in
-    let now : seen_branch b ≡ c.args.node.value = sym (ap seen c.in-Inner.is) ∙ c.open-body.ensures.seen in
-    let new = c.take_kid-kid.new.branch in
-    let k = kid_at b (0) c.take_kid-kid.result in
-    let off = first_off b new k whole c.take_kid-kid.ensures.height c.take_kid-kid.ensures.run c.take_kid-kid.ensures.rest c.take_kid-kid.ensures.kid in
-    let level : k.1.node.value.height + 1 ≡ c.args.node.value.height = omega (arith, off.0.kid.level, whole.inner, ap (λ s. s.height) now) in
-    let lower : c.args.other.value.height < c.args.node.value.height = omega (arith, c.requires.level, c.if-height.false, c.height.ensures.value, c.height-2.ensures.value, ap (λ s. s.height) c.deref.ensures, ap (λ s. s.height) c.deref-2.ensures) in
-    omega (arith, level, lower, c.graft_low-one.ensures.stock, c.hang_low.ensures.stock)
+    let at = goal.at.returns-clause-stock g t c in
+    let lt = lower g t at.After-open-body in
+    let off = apart g t at.After-take_kid-kid in
+    omega (arith, off.level, lt, c.graft_low-one.ensures.stock, c.hang_low.ensures.stock)
 
 pub returns-clause-no_fewer : goal.returns-clause-no_fewer
 returns-clause-no_fewer g t c =
-    let b = c.in-Inner.branch in
-    let whole : IsBranch b = subst IsNode c.in-Inner.is c.open-body.ensures.whole in
-    let now : seen_branch b ≡ c.args.node.value = sym (ap seen c.in-Inner.is) ∙ c.open-body.ensures.seen in
-    let new = c.take_kid-kid.new.branch in
-    let k = kid_at b (0) c.take_kid-kid.result in
-    let off = first_off b new k whole c.take_kid-kid.ensures.height c.take_kid-kid.ensures.run c.take_kid-kid.ensures.rest c.take_kid-kid.ensures.kid in
-    let level : k.1.node.value.height + 1 ≡ c.args.node.value.height = omega (arith, off.0.kid.level, whole.inner, ap (λ s. s.height) now) in
-    let lower : c.args.other.value.height < c.args.node.value.height = omega (arith, c.requires.level, c.if-height.false, c.height.ensures.value, c.height-2.ensures.value, ap (λ s. s.height) c.deref.ensures, ap (λ s. s.height) c.deref-2.ensures) in
-    omega (arith, level, lower, c.open-body.ensures.steps, c.graft_low-one.ensures.no_fewer, c.hang_low.ensures.no_fewer)
+    let at = goal.at.returns-clause-no_fewer g t c in
+    let lt = lower g t at.After-open-body in
+    let off = apart g t at.After-take_kid-kid in
+    omega (arith, off.level, lt, c.open-body.ensures.steps, c.graft_low-one.ensures.no_fewer, c.hang_low.ensures.no_fewer)
 
 pub returns-clause-steps : goal.returns-clause-steps
 returns-clause-steps g t c =
-    let b = c.in-Inner.branch in
-    let whole : IsBranch b = subst IsNode c.in-Inner.is c.open-body.ensures.whole in
-    let now : seen_branch b ≡ c.args.node.value = sym (ap seen c.in-Inner.is) ∙ c.open-body.ensures.seen in
-    let new = c.take_kid-kid.new.branch in
-    let k = kid_at b (0) c.take_kid-kid.result in
-    let off = first_off b new k whole c.take_kid-kid.ensures.height c.take_kid-kid.ensures.run c.take_kid-kid.ensures.rest c.take_kid-kid.ensures.kid in
-    let level : k.1.node.value.height + 1 ≡ c.args.node.value.height = omega (arith, off.0.kid.level, whole.inner, ap (λ s. s.height) now) in
-    let lower : c.args.other.value.height < c.args.node.value.height = omega (arith, c.requires.level, c.if-height.false, c.height.ensures.value, c.height-2.ensures.value, ap (λ s. s.height) c.deref.ensures, ap (λ s. s.height) c.deref-2.ensures) in
-    omega (arith, level, lower, c.open-body.ensures.steps, c.graft_low-one.ensures.steps, c.hang_low.ensures.steps)
+    let at = goal.at.returns-clause-steps g t c in
+    let lt = lower g t at.After-open-body in
+    let off = apart g t at.After-take_kid-kid in
+    omega (arith, off.level, lt, c.open-body.ensures.steps, c.graft_low-one.ensures.steps, c.hang_low.ensures.steps)
