@@ -1,7 +1,8 @@
 -- What a cut of a part's region keeps.
-use Rattle.std.proofs.Common.{◌≡◌, refl, ap, ℕ, zero, suc, ◌+◌, ◌<◌, List, [], ◌∷◌, ◌++◌, true, false, length, get_or, set, arith}
-use Rattle.std.specs.Prelude.{Some, ◌==◌, find, insert}
+use Rattle.std.proofs.Common.{◌≡◌, refl, sym, ap, ℕ, zero, suc, ◌+◌, ◌<◌, List, [], ◌∷◌, ◌++◌, true, false, length, get_or, set, arith}
+use Rattle.std.specs.Prelude.{Some, None, ◌==◌, find, insert, position}
 use Rattle.std.specs.List.{AllByRecursion, IsDistinct, list_any}
+use Rattle.std.proofs.lemmas.List.Quantifiers.{position-Some}
 use Rattle.std.proofs.lemmas.Map.Keys.{IsDistinct-cons, IsDistinct-head, IsDistinct-tail}
 use Rattle.tatp_rows.proofs.OrderedLemmas.{by_test}
 use Rattle.part_table.specs.Give.{cut, halves}
@@ -12,10 +13,11 @@ use Rattle.part_table.specs.declared.region.Place.TheVariants.{Part, Piece}
 use Rattle.part_table.specs.declared.region.Region.{Region}
 use Rattle.part_table.specs.declared.region.Side.{Side}
 use Rattle.part_table.specs.declared.region.Side.TheVariants.{Low, High}
+use Rattle.part_table.proofs.FirstLemmas.{find_none}
 use Rattle.part_table.proofs.NumberLemmas.{each_differs, each_with}
 
 -- a part's region cut in two, in its place
-pub cut_at : (p n : ℕ) (side : Side) (at : ℕ) (regions : List Region) (i : ℕ) (low high d : Region) → i < length regions → is_part p (get_or regions i d) ≡ true
+cut_at : (p n : ℕ) (side : Side) (at : ℕ) (regions : List Region) (i : ℕ) (low high d : Region) → i < length regions → is_part p (get_or regions i d) ≡ true
     → ((k : ℕ) → k < i → is_part p (get_or regions k d) ≡ false) → low ∷ high ∷ [] ≡ halves n side at (get_or regions i d) → insert (set regions i low) (i + 1) high ≡ cut p n side at regions
 cut_at p n side at [] i low high d within here before two = absurd (omega arith)
 cut_at p n side at (region ∷ regions) zero low high d within here before two = rw (here, ← two) refl
@@ -23,6 +25,23 @@ cut_at p n side at (region ∷ regions) (suc i) low high d within here before tw
     let e : is_part p region ≡ false = before 0 (omega arith) in
     let more : suc i + 1 ≡ suc (i + 1) = omega arith in
     rw (e, more) (ap (λ rest. region ∷ rest) (cut_at p n side at regions i low high d (omega arith) here (λ k below. before (suc k) (omega arith)) two))
+
+-- the place of the part that was found
+pub cut_found : (p n : ℕ) (side : Side) (at : ℕ) (regions : List Region) (i : ℕ) (low high d : Region) → position (is_part p) regions ≡ Some i
+    → low ∷ high ∷ [] ≡ halves n side at (get_or regions i d) → insert (set regions i low) (i + 1) high ≡ cut p n side at regions
+cut_found p n side at regions i low high d found two =
+    let is = position-Some (is_part p) regions i d found in cut_at p n side at regions i low high d is.0 is.1 is.2 two
+
+-- without such a part the regions stay
+cut_without : (p n : ℕ) (side : Side) (at : ℕ) (regions : List Region) → find (is_part p) regions ≡ None → cut p n side at regions ≡ regions
+cut_without p n side at [] none = refl
+cut_without p n side at (region ∷ regions) none =
+    by_test (is_part p region)
+    (λ e. let found : Some region ≡ None = rw e at none in absurd cc)
+    (λ e. rw e (ap (λ rest. region ∷ rest) (cut_without p n side at regions (rw e at none))))
+
+pub cut_none : (p n : ℕ) (side : Side) (at : ℕ) (regions : List Region) → position (is_part p) regions ≡ None → regions ≡ cut p n side at regions
+cut_none p n side at regions none = sym (cut_without p n side at regions (find_none (is_part p) regions none))
 
 -- the halves of a region follow one another
 consecutive_halves : (n : ℕ) (side : Side) (at from : ℕ) (region : Region) (regions : List Region) → region.lo < at → at < region.hi → IsConsecutive from (region ∷ regions)
@@ -58,7 +77,7 @@ no_piece : (p : ℕ) (place : Place) → is_part_place p place ≡ true → piec
 no_piece p (Part number) is = refl
 no_piece p (Piece number) is = absurd cc
 
-pieces_of_halves : (p n : ℕ) (side : Side) (at : ℕ) (region : Region) (regions : List Region) → is_part p region ≡ true → pieces_of (halves n side at region ++ regions) ≡ n ∷ pieces_of regions
+pub pieces_of_halves : (p n : ℕ) (side : Side) (at : ℕ) (region : Region) (regions : List Region) → is_part p region ≡ true → pieces_of (halves n side at region ++ regions) ≡ n ∷ pieces_of regions
 pieces_of_halves p n Low at region regions is = let none = no_piece p region.place is in rw none refl
 pieces_of_halves p n High at region regions is = let none = no_piece p region.place is in rw none refl
 

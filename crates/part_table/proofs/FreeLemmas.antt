@@ -1,5 +1,5 @@
 -- The least piece number that is free, one number after another.
-use Rattle.std.proofs.Common.{◌≡◌, ◌∙◌, sym, ap, ℕ, ◌+◌, ◌-◌, ◌<◌, ◌≤◌, List, Bool, true, false, length, arith}
+use Rattle.std.proofs.Common.{◌≡◌, ◌≢◌, ◌∙◌, refl, sym, ap, ℕ, ◌+◌, ◌-◌, ◌<◌, ◌≤◌, inl, inr, List, Bool, true, false, length, arith}
 use Rattle.std.specs.Prelude.{◌==◌, not}
 use Rattle.std.specs.List.{list_any}
 use Rattle.std.proofs.lemmas.Bool.Decides.{nat_tests}
@@ -10,12 +10,20 @@ use Rattle.part_table.specs.Region.{is_piece}
 use Rattle.part_table.specs.Regions.{AreRegions, pieces_of}
 use Rattle.part_table.specs.declared.region.Region.{Region}
 use Rattle.part_table.specs.declared.region.TheConstants.{MOST_PIECES}
-use Rattle.part_table.proofs.LeastLemmas.{least_here, least_more}
+use Rattle.part_table.proofs.LeastLemmas.{least_here, least_more, least_passes}
 use Rattle.part_table.proofs.NumberLemmas.{any_piece, all_pieces, fewer_pieces, most_pieces}
 
 -- no loose piece has a number
 abbrev pub is_free : List ℕ → ℕ → Bool
 is_free pieces n = not (list_any (λ m. m == n) pieces)
+
+not_true : (b : Bool) → not b ≡ true → b ≡ false
+not_true true is = absurd cc
+not_true false is = refl
+
+not_false : (b : Bool) → not b ≡ false → b ≡ true
+not_false true is = refl
+not_false false is = absurd cc
 
 -- what a look for a piece says of its number
 pub free_if : (regions : List Region) (n : ℕ) (answer : Bool) → answer ≡ list_any (is_piece n) regions → list_any (λ m. m == n) (pieces_of regions) ≡ answer
@@ -49,3 +57,18 @@ none_free regions n are past used =
     let many = all_pieces (pieces_of regions) (λ k from to. used k from (omega arith)) in
     let few = most_pieces (pieces_of regions) are.numbered are.distinct in
     omega (arith, many, few)
+
+-- fewer than sixteen loose pieces leave a number free
+pub free_is : (regions : List Region) → AreRegions regions → (length (pieces_of regions) ≢ MOST_PIECES) → IsFreeNumber (pieces_of regions) (free_number (pieces_of regions))
+free_is regions are room =
+    let most = most_pieces (pieces_of regions) are.numbered are.distinct in
+    elim (least_passes (is_free (pieces_of regions)) 1 16) [
+      | inl is ↦
+          let from = is.1 in
+          let to = is.2 in
+          record { least_free = refl; fresh = not_true (list_any (λ m. m == free_number (pieces_of regions)) (pieces_of regions)) is.0; in_range = (from, omega arith); few = omega (arith, most, room) }
+      | inr none ↦
+          let used : (k : ℕ) → 1 ≤ k → k < 17 → list_any (λ m. m == k) (pieces_of regions) ≡ true = λ k from to. not_false (list_any (λ m. m == k) (pieces_of regions)) (none k from to) in
+          let many = all_pieces (pieces_of regions) used in
+          absurd (room (omega (arith, many, most)))
+    ]

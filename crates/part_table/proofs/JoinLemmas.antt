@@ -2,15 +2,15 @@
 use Rattle.std.proofs.Common.{◌≡◌, ◌∙◌, refl, sym, ap, ℕ, suc, ◌+◌, ◌-◌, ◌<◌, ◌≤◌, List, [], ◌∷◌, ◌++◌, length, get_or, set, take, drop, append_assoc, arith}
 use Rattle.std.specs.Prelude.{Some, None, Option, ◌==◌, ◌&&◌, remove}
 use Rattle.std.specs.List.{AllByRecursion, IsDistinct}
-use Rattle.std.specs.Option.{option_or, ok_or}
 use Rattle.std.proofs.lemmas.List.{drop_more, drop_all, take_more, take_all, take_more_set, drop-set-lt}
 use Rattle.std.proofs.lemmas.Map.Keys.{IsDistinct-tail}
 use Rattle.tatp_rows.proofs.OrderedLemmas.{by_test}
 use Rattle.tatp_rows.proofs.RowLemmas.{both}
-use Rattle.tatp_rows.specs.declared.refusal.Refusal.TheVariants.{NotAdjacent}
 use Rattle.part_table.specs.Region.{is_part, is_piece, part_number, piece_number}
 use Rattle.part_table.specs.Regions.{AreRegions, IsConsecutive, IsPieceNumber, parts_of, pieces_of}
-use Rattle.part_table.specs.Take.{side_between, side_behind, side_of, joint, part_place, joined_pair, joined_behind, joined, after_take}
+use Rattle.part_table.specs.Take.{side_between, side_behind, side_of, joint, part_place, joined_pair, joined_behind, joined}
+use Rattle.part_table.specs.declared.region.Place.{Place}
+use Rattle.part_table.specs.declared.region.Place.TheVariants.{Part, Piece}
 use Rattle.part_table.specs.declared.region.Region.{Region}
 use Rattle.part_table.specs.declared.region.Side.{Side}
 use Rattle.part_table.specs.declared.region.Side.TheVariants.{Low, High}
@@ -22,23 +22,31 @@ pub record ArePair (n q : ℕ) (first second : Region) (side : Side) : Type 0 wh
   pub pieces : piece_number first.place ++ piece_number second.place ≡ n ∷ piece_number (part_place first second side)
   pub no_piece : piece_number (part_place first second side) ≡ []
 
-pub pair_of : (n q : ℕ) (first second : Region) (side : Side) → side_between n q first second ≡ Some side → ArePair n q first second side
-pair_of n q first second side found =
+-- where they stand, by the side of the part on which the piece lies
+abbrev pub ArePlaces : ℕ → ℕ → Side → Place → Place → Type 0
+ArePlaces n q Low first second = (first ≡ Piece n) × (second ≡ Part q)
+ArePlaces n q High first second = (first ≡ Part q) × (second ≡ Piece n)
+
+pub places_of_pair : (n q : ℕ) (first second : Region) (side : Side) → side_between n q first second ≡ Some side → ArePlaces n q side first.place second.place
+places_of_pair n q first second side found =
     by_test (is_piece n first && is_part q second)
     (λ e. let low : Some Low ≡ Some side = rw e at found in
     let is : Low ≡ side = cc in
     let tests = both (is_piece n first) (is_part q second) e in
-    let one = piece_place_is n first.place tests.0 in
-    let two = part_place_is q second.place tests.1 in
-    rw (← is) (record { parts = rw (one, two) refl; pieces = rw (one, two) refl; no_piece = rw two refl }))
+    rw (← is) (piece_place_is n first.place tests.0, part_place_is q second.place tests.1))
     (λ e. by_test (is_part q first && is_piece n second)
     (λ f. let high : Some High ≡ Some side = rw (e, f) at found in
     let is : High ≡ side = cc in
     let tests = both (is_part q first) (is_piece n second) f in
-    let one = part_place_is q first.place tests.0 in
-    let two = piece_place_is n second.place tests.1 in
-    rw (← is) (record { parts = rw (one, two) refl; pieces = rw (one, two) refl; no_piece = rw one refl }))
+    rw (← is) (part_place_is q first.place tests.0, piece_place_is n second.place tests.1))
     (λ f. let none : None ≡ Some side = rw (e, f) at found in absurd cc))
+
+pair_of_places : (n q : ℕ) (first second : Region) (side : Side) → ArePlaces n q side first.place second.place → ArePair n q first second side
+pair_of_places n q first second Low places = record { parts = rw (places.0, places.1) refl; pieces = rw (places.0, places.1) refl; no_piece = rw places.1 refl }
+pair_of_places n q first second High places = record { parts = rw (places.0, places.1) refl; pieces = rw (places.0, places.1) refl; no_piece = rw places.0 refl }
+
+pub pair_of : (n q : ℕ) (first second : Region) (side : Side) → side_between n q first second ≡ Some side → ArePair n q first second side
+pair_of n q first second side found = pair_of_places n q first second side (places_of_pair n q first second side found)
 
 -- the regions still follow one another
 consecutive_pair : (o : Option Side) (from : ℕ) (first second : Region) (regions others : List Region) → IsConsecutive from (first ∷ (second ∷ regions)) → IsConsecutive first.hi others
@@ -63,13 +71,13 @@ parts_of_pair n q (Some side) first second regions others found same =
     let pair = pair_of n q first second side found in
     rw (← pair.parts) (append_assoc (part_number first.place) (part_number second.place) (parts_of regions))
 
-parts_of-joined_behind : (n q : ℕ) (first : Region) (regions : List Region) → parts_of (joined_behind n q first regions) ≡ parts_of (first ∷ regions)
+pub parts_of-joined_behind : (n q : ℕ) (first : Region) (regions : List Region) → parts_of (joined_behind n q first regions) ≡ parts_of (first ∷ regions)
 parts_of-joined_behind n q first [] = refl
 parts_of-joined_behind n q first (second ∷ regions) =
     parts_of_pair n q (side_between n q first second) first second regions (joined_behind n q second regions) refl (parts_of-joined_behind n q second regions)
 
 -- the other pieces keep theirs
-pieces_of_pair : (n q : ℕ) (first second : Region) (side : Side) (regions : List Region) → ArePair n q first second side
+pub pieces_of_pair : (n q : ℕ) (first second : Region) (side : Side) (regions : List Region) → ArePair n q first second side
     → pieces_of (first ∷ (second ∷ regions)) ≡ n ∷ (piece_number (part_place first second side) ++ pieces_of regions)
 pieces_of_pair n q first second side regions pair =
     rw (← append_assoc (piece_number first.place) (piece_number second.place) (pieces_of regions), pair.pieces) refl
@@ -159,21 +167,6 @@ joining_all n q d regions i at joining =
     let whole = take_all (i + 1) regions (omega arith) in
     (joining.side ∙ rw e refl, joining.rest ∙ rw e (sym front ∙ whole))
 
--- without such neighbours nothing is joined
-pair_none : (o rest : Option Side) → option_or o rest ≡ None → (o ≡ None) × (rest ≡ None)
-pair_none None rest none = (refl, none)
-pair_none (Some side) rest none = absurd cc
-
-joined_none_behind : (n q : ℕ) (first : Region) (regions : List Region) → side_behind n q first regions ≡ None → joined_behind n q first regions ≡ first ∷ regions
-joined_none_behind n q first [] none = refl
-joined_none_behind n q first (second ∷ regions) none =
-    let both = pair_none (side_between n q first second) (side_behind n q second regions) none in
-    rw both.0 (ap (λ rest. first ∷ rest) (joined_none_behind n q second regions both.1))
-
-pub joined_none : (n q : ℕ) (regions : List Region) → side_of n q regions ≡ None → joined n q regions ≡ regions
-joined_none n q [] none = refl
-joined_none n q (region ∷ regions) none = joined_none_behind n q region regions none
-
 -- the same at the place of the second of two neighbours
 pub joining_next : (n q : ℕ) (d : Region) (regions : List Region) (i : ℕ) → 1 ≤ i → i < length regions → None ≡ side_between n q (get_or regions (i - 1) d) (get_or regions i d)
     → IsJoining n q d regions (i - 1) → IsJoining n q d regions (i + 1 - 1)
@@ -189,8 +182,3 @@ joining_here n q d regions i side second within found joining =
     let here : i - 1 + 1 ≡ i = omega arith in
     let both = joining_found n q d regions (i - 1) side (omega arith) (rw here (sym found)) joining in
     (sym both.0, sym (rw here at both.1))
-
--- what a take leaves, from the side that was found
-pub after_joined : (n q : ℕ) (side : Option Side) (regions : List Region) → side ≡ side_of n q regions → joined n q regions ≡ after_take n q (ok_or side NotAdjacent) regions
-after_joined n q None regions found = joined_none n q regions (sym found)
-after_joined n q (Some side) regions found = refl

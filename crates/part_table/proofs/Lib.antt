@@ -1,4 +1,5 @@
 pub mod FirstLemmas
+pub mod FrontLemmas
 pub mod LeastLemmas
 pub mod NumberLemmas
 pub mod PlaceLemmas
@@ -13,3 +14,10 @@ pub mod GiveLemmas
 pub mod OpeningLemmas
 pub mod MoveLemmas
 pub mod AnswerLemmas
+pub mod StandLemmas
+pub mod Owners
+pub mod BesideLemmas
+pub mod WovenCutLemmas
+pub mod WovenLemmas
+pub mod WovenJoinLemmas
+pub mod OwnerEditLemmas

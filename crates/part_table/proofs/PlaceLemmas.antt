@@ -7,8 +7,13 @@ use Rattle.std.proofs.lemmas.List.Sums.{sum_by-cons}
 use Rattle.tatp_rows.proofs.OrderedLemmas.{by_test}
 use Rattle.part_table.specs.Region.{lies_in}
 use Rattle.part_table.specs.Regions.{IsConsecutive, place_of}
+use Rattle.part_table.specs.declared.region.Place.TheVariants.{Part}
 use Rattle.part_table.specs.declared.region.Region.{Region}
 use Rattle.part_table.specs.declared.region.TheConstants.{END}
+
+-- what a list of regions has behind its end
+abbrev pub blank : Region
+blank = record { lo = 0; hi = 0; place = Part 0 }
 
 -- an s_id in front of regions lies in none of them
 pub none_before : (s_id from : ℕ) (regions : List Region) → s_id < from → IsConsecutive from regions → count_by (lies_in s_id) regions ≡ 0

@@ -1,6 +1,6 @@
 -- A piece and a part touch where they are neighbours among the regions.
-use Rattle.std.proofs.Common.{◌≡◌, ◌∙◌, refl, sym, ℕ, ◌<◌, ◌≤◌, List, [], ◌∷◌, ◌++◌, Bool, true, false, length, arith}
-use Rattle.std.specs.Prelude.{Some, None, Err, Option, ◌==◌, find}
+use Rattle.std.proofs.Common.{◌≡◌, ◌∙◌, refl, sym, ap, ℕ, ◌<◌, ◌≤◌, List, [], ◌∷◌, ◌++◌, Bool, true, false, length, arith}
+use Rattle.std.specs.Prelude.{Some, None, Ok, Option, ◌==◌, find}
 use Rattle.std.specs.List.{IsDistinct, list_any}
 use Rattle.std.specs.Option.{ok_or}
 use Rattle.std.proofs.lemmas.Bool.Decides.{nat_tests}
@@ -8,13 +8,12 @@ use Rattle.std.proofs.lemmas.Map.Keys.{IsDistinct-head, IsDistinct-tail}
 use Rattle.tatp_rows.proofs.OrderedLemmas.{by_test}
 use Rattle.part_table.specs.Region.{is_part, is_piece, is_part_place, is_piece_place, part_number, piece_number}
 use Rattle.part_table.specs.Regions.{AreRegions, IsConsecutive, parts_of, pieces_of}
-use Rattle.part_table.specs.Take.{touching, side_behind, side_of, take_answer}
+use Rattle.part_table.specs.Take.{touching, answer_of_both, side_behind, side_of, take_answer}
 use Rattle.part_table.specs.declared.region.Place.{Place}
 use Rattle.part_table.specs.declared.region.Place.TheVariants.{Part, Piece}
 use Rattle.part_table.specs.declared.region.Region.{Region}
 use Rattle.part_table.specs.declared.region.Side.{Side}
-use Rattle.tatp_rows.specs.declared.refusal.Refusal.TheVariants.{NoPiece, NoPart, NotAdjacent}
-use Rattle.part_table.proofs.FirstLemmas.{find_from_none, find_from_any}
+use Rattle.tatp_rows.specs.declared.refusal.Refusal.TheVariants.{NotAdjacent}
 use Rattle.part_table.proofs.NumberLemmas.{part_place_is, piece_place_is, any_piece, any_part, none_among, range_distinct}
 
 -- a region is of a part or of a piece
@@ -23,29 +22,29 @@ not_part n q (Part number) is = absurd cc
 not_part n q (Piece number) is = refl
 
 -- the tail of distinct numbers
-pieces_behind : (place : Place) (ns : List ℕ) → IsDistinct ◌==◌ (piece_number place ++ ns) → IsDistinct ◌==◌ ns
-pieces_behind (Part number) ns distinct = distinct
-pieces_behind (Piece number) ns distinct = IsDistinct-tail ◌==◌ number ns distinct
+pub other_pieces : (place : Place) (ns : List ℕ) → IsDistinct ◌==◌ (piece_number place ++ ns) → IsDistinct ◌==◌ ns
+other_pieces (Part number) ns distinct = distinct
+other_pieces (Piece number) ns distinct = IsDistinct-tail ◌==◌ number ns distinct
 
-parts_behind : (place : Place) (ns : List ℕ) → IsDistinct ◌==◌ (part_number place ++ ns) → IsDistinct ◌==◌ ns
-parts_behind (Part number) ns distinct = IsDistinct-tail ◌==◌ number ns distinct
-parts_behind (Piece number) ns distinct = distinct
+pub other_parts : (place : Place) (ns : List ℕ) → IsDistinct ◌==◌ (part_number place ++ ns) → IsDistinct ◌==◌ ns
+other_parts (Part number) ns distinct = IsDistinct-tail ◌==◌ number ns distinct
+other_parts (Piece number) ns distinct = distinct
 
 -- a piece or a part does not stand twice
-no_second_piece : (n : ℕ) (first : Region) (regions : List Region) → is_piece n first ≡ true → IsDistinct ◌==◌ (pieces_of (first ∷ regions)) → list_any (is_piece n) regions ≡ false
+pub no_second_piece : (n : ℕ) (first : Region) (regions : List Region) → is_piece n first ≡ true → IsDistinct ◌==◌ (pieces_of (first ∷ regions)) → list_any (is_piece n) regions ≡ false
 no_second_piece n first regions is distinct =
     let place = piece_place_is n first.place is in
     let numbers = rw place at distinct in
     any_piece n regions ∙ none_among n (pieces_of regions) (IsDistinct-head ◌==◌ n (pieces_of regions) numbers)
 
-no_second_part : (q : ℕ) (first : Region) (regions : List Region) → is_part q first ≡ true → IsDistinct ◌==◌ (parts_of (first ∷ regions)) → list_any (is_part q) regions ≡ false
+pub no_second_part : (q : ℕ) (first : Region) (regions : List Region) → is_part q first ≡ true → IsDistinct ◌==◌ (parts_of (first ∷ regions)) → list_any (is_part q) regions ≡ false
 no_second_part q first regions is distinct =
     let place = part_place_is q first.place is in
     let numbers = rw place at distinct in
     any_part q regions ∙ none_among q (parts_of regions) (IsDistinct-head ◌==◌ q (parts_of regions) numbers)
 
 -- without the piece or without the part no neighbours are both
-no_side_without_piece : (n q : ℕ) (first : Region) (regions : List Region) → list_any (is_piece n) (first ∷ regions) ≡ false → side_behind n q first regions ≡ None
+pub no_side_without_piece : (n q : ℕ) (first : Region) (regions : List Region) → list_any (is_piece n) (first ∷ regions) ≡ false → side_behind n q first regions ≡ None
 no_side_without_piece n q first [] none = refl
 no_side_without_piece n q first (second ∷ regions) none =
     by_test (is_piece n first)
@@ -57,7 +56,7 @@ no_side_without_piece n q first (second ∷ regions) none =
     (λ g. rw (e, f, g) (no_side_without_piece n q second regions rest))
     (λ g. rw (e, g) (no_side_without_piece n q second regions rest))))
 
-no_side_without_part : (n q : ℕ) (first : Region) (regions : List Region) → list_any (is_part q) (first ∷ regions) ≡ false → side_behind n q first regions ≡ None
+pub no_side_without_part : (n q : ℕ) (first : Region) (regions : List Region) → list_any (is_part q) (first ∷ regions) ≡ false → side_behind n q first regions ≡ None
 no_side_without_part n q first [] none = refl
 no_side_without_part n q first (second ∷ regions) none =
     by_test (is_part q first)
@@ -133,28 +132,38 @@ sides_agree_behind n q from first (second ∷ regions) piece part consecutive pi
     let none = no_side_without_part n q second regions (no_second_part q first (second ∷ regions) f parts) in
     rw (e, f, g) (none ∙ sym (apart first piece some (omega arith) far.1).1))))
     (λ f. rw (e, f)
-    (sides_agree_behind n q first.hi second regions piece part consecutive.2 (pieces_behind first.place (pieces_of (second ∷ regions)) pieces) (parts_behind first.place (parts_of (second ∷ regions)) parts)
+    (sides_agree_behind n q first.hi second regions piece part consecutive.2 (other_pieces first.place (pieces_of (second ∷ regions)) pieces) (other_parts first.place (parts_of (second ∷ regions)) parts)
     there (rw f at two))))
 
-pub sides_agree : (n q : ℕ) (regions : List Region) (piece part : Region) → AreRegions regions → find (is_piece n) regions ≡ Some piece → find (is_part q) regions ≡ Some part
+sides_agree : (n q : ℕ) (regions : List Region) (piece part : Region) → AreRegions regions → find (is_piece n) regions ≡ Some piece → find (is_part q) regions ≡ Some part
     → side_of n q regions ≡ touching piece part
 sides_agree n q [] piece part are one two = absurd cc
 sides_agree n q (region ∷ regions) piece part are one two =
     let parts : IsDistinct ◌==◌ (parts_of (region ∷ regions)) = rw are.in_order (range_distinct 0 (length (parts_of (region ∷ regions)))) in
     sides_agree_behind n q 1 region regions piece part are.consecutive are.distinct parts one two
 
--- the answers of a take, one after another
-module _ (n q : ℕ) (regions : List Region) where
-  pub takes_no_piece : list_any (is_piece n) regions ≡ false → Err NoPiece ≡ take_answer n q regions
-  takes_no_piece none = rw (find_from_none (is_piece n) regions none) refl
+-- what the answer of a take says that is no refusal: both are there and touch
+pub record IsTake (n q : ℕ) (side : Side) (regions : List Region) : Type 0 where
+  pub piece : Region
+  pub part : Region
+  pub piece_found : find (is_piece n) regions ≡ Some piece
+  pub part_found : find (is_part q) regions ≡ Some part
+  pub touch : touching piece part ≡ Some side
 
-  pub takes_no_part : list_any (is_piece n) regions ≡ true → list_any (is_part q) regions ≡ false → Err NoPart ≡ take_answer n q regions
-  takes_no_part some none =
-      let piece = find_from_any (is_piece n) regions some in
-      rw (piece.1, find_from_none (is_part q) regions none) refl
+take_of_touch : (o : Option Side) (side : Side) → ok_or o NotAdjacent ≡ Ok side → o ≡ Some side
+take_of_touch None side takes = absurd cc
+take_of_touch (Some found) side takes = let same : found ≡ side = cc in ap Some same
 
-  pub takes : (side : Option Side) → AreRegions regions → list_any (is_piece n) regions ≡ true → list_any (is_part q) regions ≡ true → side ≡ side_of n q regions → ok_or side NotAdjacent ≡ take_answer n q regions
-  takes side are some there found =
-      let piece = find_from_any (is_piece n) regions some in
-      let part = find_from_any (is_part q) regions there in
-      rw (piece.1, part.1, found, sides_agree n q regions piece.0 part.0 are piece.1 part.1) refl
+take_of_both : (one two : Option Region) (n q : ℕ) (side : Side) (regions : List Region) → find (is_piece n) regions ≡ one → find (is_part q) regions ≡ two
+    → answer_of_both one two ≡ Ok side → IsTake n q side regions
+take_of_both None two n q side regions piece_found part_found takes = absurd cc
+take_of_both (Some piece) None n q side regions piece_found part_found takes = absurd cc
+take_of_both (Some piece) (Some part) n q side regions piece_found part_found takes =
+    record { piece = piece; part = part; piece_found = piece_found; part_found = part_found; touch = take_of_touch (touching piece part) side takes }
+
+pub take_from_answer : (n q : ℕ) (side : Side) (regions : List Region) → take_answer n q regions ≡ Ok side → IsTake n q side regions
+take_from_answer n q side regions takes = take_of_both (find (is_piece n) regions) (find (is_part q) regions) n q side regions refl refl takes
+
+-- they are neighbours
+pub side_from_take : (n q : ℕ) (side : Side) (regions : List Region) → AreRegions regions → IsTake n q side regions → side_of n q regions ≡ Some side
+side_from_take n q side regions are take = sides_agree n q regions take.piece take.part are take.piece_found take.part_found ∙ take.touch

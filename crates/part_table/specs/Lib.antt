@@ -7,3 +7,4 @@ pub mod Recut
 pub mod Region
 pub mod Regions
 pub mod Take
+pub mod Woven

@@ -1,5 +1,5 @@
 //! Which bounds a re-cut moves, and in which order.
-ghost use Rattle.std.specs.Prelude.{◌≡◌, ◌+◌, ◌-◌, ◌<◌, ◌≤◌, ◌++◌, true, Ok, Err, length, count_by, IfOk, MatchResult};
+ghost use Rattle.std.specs.Prelude.{◌≡◌, ◌+◌, ◌-◌, ◌<◌, ◌≤◌, [], ◌∷◌, ◌++◌, true, Ok, Err, length, count_by, IfOk, MatchResult};
 ghost use Rattle.arrayvec.specs.ArrayVec.{array_vec_len};
 ghost use Rattle.part_table.specs.Bounds.{are_rising, parts_between};
 ghost use Rattle.part_table.specs.Recut.{recut_answer, all_moved, rising_moves, falling_moves, bounds_of};
@@ -42,6 +42,19 @@ fn count_parts(regions: &[Region]) -> usize
     regions.iter().filter(|region| region.is_of_part()).count()
 }
 
+/// Appends the move of a bound.
+fn push_move(moves: &mut ArrayVec<CutMove, 15>, bound: usize, from: u32, to: u32)
+    requires bound { bound ≤ 15 }
+    requires room { array_vec_len moves.old < 15 }
+    ensures { moves.new.items ≡ moves.old.items ++ record { bound = bound; from = from; to = to } ∷ [] }
+{
+    moves.push(CutMove {
+        bound: bound as u8,
+        from,
+        to,
+    });
+}
+
 /// The moves of the bounds that rise, from the last down.
 fn rising_moves(regions: &[Region], bounds: &[u64]) -> ArrayVec<CutMove, 15>
     requires rising { are_rising 1 bounds.now ≡ true }
@@ -54,11 +67,7 @@ fn rising_moves(regions: &[Region], bounds: &[u64]) -> ArrayVec<CutMove, 15>
         let from = regions[i].lo;
         let to = bounds[i - 1] as u32;
         if from < to {
-            moves.push(CutMove {
-                bound: i as u8,
-                from,
-                to,
-            });
+            push_move(&mut moves, i, from, to);
         }
     }
     moves
@@ -76,11 +85,7 @@ fn push_falling(moves: &mut ArrayVec<CutMove, 15>, regions: &[Region], bounds: &
         let from = regions[i].lo;
         let to = bounds[i - 1] as u32;
         if to < from {
-            moves.push(CutMove {
-                bound: i as u8,
-                from,
-                to,
-            });
+            push_move(moves, i, from, to);
         }
     }
 }

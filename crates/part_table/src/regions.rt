@@ -1,13 +1,16 @@
 //! The regions of all s_ids, and what gives and takes do to them.
 ghost use Rattle.std.specs.Prelude.{◌≡◌, ◌<◌, ◌≤◌, Some, count_by};
-ghost use Rattle.part_table.specs.Give.{give_answer, after_give};
+ghost use Rattle.std.specs.List.{find};
+ghost use Rattle.arrayvec.specs.ArrayVec.{array_vec_len};
+ghost use Rattle.part_table.specs.Give.{give_answer, after_give, cut};
 ghost use Rattle.part_table.specs.Opening.{opening, can_open};
-ghost use Rattle.part_table.specs.Region.{lies_in};
+ghost use Rattle.part_table.specs.Region.{is_part, is_piece, lies_in};
 ghost use Rattle.part_table.specs.Regions.{AreRegions, place_of};
-ghost use Rattle.part_table.specs.Take.{take_answer, after_take};
+ghost use Rattle.part_table.specs.Take.{take_answer, after_take, touching};
+ghost use Rattle.part_table.specs.Woven.{pieces_before};
 
 use crate::cutting::{given, halves, put_two};
-use crate::finding::{free_number, has_part, has_piece, part_at};
+use crate::finding::{find_part, find_piece, free_number, part_at, piece_at, pieces_in_front};
 use crate::joining::join;
 use crate::region::{END, MOST_PARTS, Place, Region, Side};
 use arrayvec::ArrayVec;
@@ -86,6 +89,54 @@ impl Regions {
         unreachable!()
     }
 
+    /// The region of the part `p`, if there is such a part.
+    pub fn region_of_part(&self, p: u64) -> Option<Region>
+        ensures { result ≡ find (is_part p) self.now }
+    {
+        find_part(self.list(), p)
+    }
+
+    /// How many regions of loose pieces stand in front of that of the part `p`; all of them where there is no such part.
+    pub fn pieces_before_part(&self, p: u64) -> usize
+        ensures { result ≡ pieces_before (is_part p) self.now }
+    {
+        let regions = self.list();
+        pieces_in_front(regions, part_at(regions, p))
+    }
+
+    /// How many regions of loose pieces stand in front of that of the loose piece `n`; all of them where there is no such
+    /// piece.
+    pub fn pieces_before_piece(&self, n: u64) -> usize
+        ensures { result ≡ pieces_before (is_piece n) self.now }
+    {
+        let regions = self.list();
+        pieces_in_front(regions, piece_at(regions, n))
+    }
+
+    /// What [`Regions::give`] would answer: the number of the new loose piece, and where it begins and ends; or `NoPart`,
+    /// `OutOfRange` or `ManyPieces`, the first that holds. Nothing changes.
+    pub fn give_answer(&self, p: u64, side: Side, at: u64) -> Result<(u8, u32, u32), Refusal>
+        ensures { result ≡ give_answer p side at self.now }
+    {
+        let part = self.region_of_part(p).ok_or(Refusal::NoPart)?;
+        if at <= u64::from(part.lo) || u64::from(part.hi) <= at {
+            return Err(Refusal::OutOfRange);
+        }
+        let n = free_number(self.list()).ok_or(Refusal::ManyPieces)?;
+        let (lo, hi) = given(part, side, at as u32);
+        Ok((n, lo, hi))
+    }
+
+    /// What [`Regions::take`] would answer: the side of the part on which the loose piece lies; or `NoPiece`, `NoPart` or
+    /// `NotAdjacent`, the first that holds. Nothing changes.
+    pub fn take_answer(&self, n: u64, q: u64) -> Result<Side, Refusal>
+        ensures { result ≡ take_answer n q self.now }
+    {
+        let piece = find_piece(self.list(), n).ok_or(Refusal::NoPiece)?;
+        let part = self.region_of_part(q).ok_or(Refusal::NoPart)?;
+        touching(piece, part).ok_or(Refusal::NotAdjacent)
+    }
+
     /// The part `p` gives the stretch on one side of `at` away: from `at` on where the side is high, below it where it is low.
     /// The stretch becomes a loose piece with the least number of 1..=16 that is free; the answer is that number, and where
     /// the piece begins and ends. `NoPart`, then `OutOfRange` where `at` isn't strictly inside the part, then `ManyPieces`
@@ -94,21 +145,8 @@ impl Regions {
         ensures answer { result ≡ give_answer p side at self.old }
         ensures after { self.new ≡ after_give p side at result self.old }
     {
-        let regions = self.list();
-        let Some(index) = part_at(regions, p) else {
-            return Err(Refusal::NoPart);
-        };
-        let part = regions[index];
-        if at <= u64::from(part.lo) || u64::from(part.hi) <= at {
-            return Err(Refusal::OutOfRange);
-        }
-        let Some(n) = free_number(regions) else {
-            return Err(Refusal::ManyPieces);
-        };
-        let at = at as u32;
-        let (lo, hi) = given(part, side, at);
-        let (low, high) = halves(part, n, side, at);
-        put_two(&mut self.list, index, low, high);
+        let (n, lo, hi) = self.give_answer(p, side, at)?;
+        cut(&mut self.list, p, n, side, at as u32);
         Ok((n, lo, hi))
     }
 
@@ -118,14 +156,9 @@ impl Regions {
         ensures answer { result ≡ take_answer n q self.old }
         ensures after { self.new ≡ after_take n q result self.old }
     {
-        let regions = self.list();
-        if !has_piece(regions, n) {
-            return Err(Refusal::NoPiece);
-        }
-        if !has_part(regions, q) {
-            return Err(Refusal::NoPart);
-        }
-        join(&mut self.list, n, q).ok_or(Refusal::NotAdjacent)
+        let side = self.take_answer(n, q)?;
+        join(&mut self.list, n, q);
+        Ok(side)
     }
 }
 
@@ -134,4 +167,30 @@ fn can_open(parts: u8, width: u32) -> bool
     ensures { result ≡ can_open parts width }
 {
     1 <= parts && parts <= MOST_PARTS && 1 <= width && width <= GREATEST_WIDTH
+}
+
+/// The side of a part on which a piece lies, where their ranges touch.
+fn touching(piece: Region, part: Region) -> Option<Side>
+    ensures { result ≡ touching piece part }
+{
+    if piece.hi == part.lo {
+        Some(Side::Low)
+    } else if part.hi == piece.lo {
+        Some(Side::High)
+    } else {
+        None
+    }
+}
+
+/// Cuts a part's region in two at `at`, of which the half on one side becomes the loose piece `n`; without such a part the
+/// regions stay.
+fn cut(list: &mut ArrayVec<Region, 32>, p: u64, n: u8, side: Side, at: u32)
+    requires { array_vec_len list.old < 32 }
+    ensures { list.new.items ≡ cut p n side at list.old.items }
+{
+    let regions = list.as_slice();
+    if let Some(index) = part_at(regions, p) {
+        let (low, high) = halves(regions[index], n, side, at);
+        put_two(list, index, low, high);
+    }
 }

@@ -32,15 +32,25 @@ fn parts_open_with_equal_zones(rt: HostRuntime) -> Result<(), Fail> {
     let regions = Regions::opening(2, 4)?;
     let two = [part(0, 1, 65), part(1, 65, 16_777_217)];
     assert_eq!(rt; regions.list(), two.as_slice());
-    assert_eq!(rt; regions.place(64), Place::Part(0));
-    assert_eq!(rt; regions.place(65), Place::Part(1));
-    assert_eq!(rt; regions.place(16_777_216), Place::Part(1));
+    assert_eq!(rt;
+        [
+            regions.place(64),
+            regions.place(65),
+            regions.place(16_777_216)
+        ],
+        [Place::Part(0), Place::Part(1), Place::Part(1)]
+    );
     let sixteen = Regions::opening(16, 4)?;
     assert_eq!(rt; sixteen.list().last(), Some(&part(15, 121, 16_777_217)));
-    assert_eq!(rt; Regions::opening(0, 4).err(), Some(Refusal::Field));
-    assert_eq!(rt; Regions::opening(17, 4).err(), Some(Refusal::Field));
-    assert_eq!(rt; Regions::opening(2, 0).err(), Some(Refusal::Field));
-    assert_eq!(rt; Regions::opening(2, 524_289).err(), Some(Refusal::Field));
+    assert_eq!(rt;
+        [
+            Regions::opening(0, 4).err(),
+            Regions::opening(17, 4).err(),
+            Regions::opening(2, 0).err(),
+            Regions::opening(2, 524_289).err(),
+        ],
+        [Some(Refusal::Field); 4]
+    );
     Ok(())
 }
 
@@ -62,14 +72,34 @@ fn a_stretch_goes_over(rt: HostRuntime) -> Result<(), Fail> {
 #[test]
 fn refusals_change_nothing(rt: HostRuntime) -> Result<(), Fail> {
     let mut regions = Regions::opening(3, 4)?;
-    assert_eq!(rt; regions.give(0, Side::High, 1), Err(Refusal::OutOfRange));
-    assert_eq!(rt; regions.give(0, Side::High, 41), Err(Refusal::OutOfRange));
-    assert_eq!(rt; regions.give(3, Side::Low, 1), Err(Refusal::NoPart));
-    assert_eq!(rt; regions.give(0, Side::High, 11), Ok((1, 11, 41)));
-    assert_eq!(rt; regions.take(1, 2), Err(Refusal::NotAdjacent));
-    assert_eq!(rt; regions.take(2, 1), Err(Refusal::NoPiece));
-    assert_eq!(rt; regions.take(2, 9), Err(Refusal::NoPiece));
-    assert_eq!(rt; regions.take(1, 9), Err(Refusal::NoPart));
+    assert_eq!(rt;
+        [
+            regions.give(0, Side::High, 1),
+            regions.give(0, Side::High, 41),
+            regions.give(3, Side::Low, 1),
+            regions.give(0, Side::High, 11),
+        ],
+        [
+            Err(Refusal::OutOfRange),
+            Err(Refusal::OutOfRange),
+            Err(Refusal::NoPart),
+            Ok((1, 11, 41)),
+        ]
+    );
+    assert_eq!(rt;
+        [
+            regions.take(1, 2),
+            regions.take(2, 1),
+            regions.take(2, 9),
+            regions.take(1, 9),
+        ],
+        [
+            Err(Refusal::NotAdjacent),
+            Err(Refusal::NoPiece),
+            Err(Refusal::NoPiece),
+            Err(Refusal::NoPart),
+        ]
+    );
     let four = [
         part(0, 1, 11),
         piece(1, 11, 41),
@@ -78,6 +108,43 @@ fn refusals_change_nothing(rt: HostRuntime) -> Result<(), Fail> {
     ];
     assert_eq!(rt; regions.list(), four.as_slice());
     assert_eq!(rt; regions.take(1, 0), Ok(Side::High));
+    Ok(())
+}
+
+#[test]
+fn answers_change_nothing(rt: HostRuntime) -> Result<(), Fail> {
+    let mut regions = Regions::opening(2, 4)?;
+    assert_eq!(rt; regions.give_answer(0, Side::High, 5), Ok((1, 5, 65)));
+    assert_eq!(rt;
+        regions.give_answer(0, Side::Low, 65),
+        Err(Refusal::OutOfRange)
+    );
+    assert_eq!(rt; regions.give_answer(2, Side::High, 5), Err(Refusal::NoPart));
+    assert_eq!(rt; regions.take_answer(1, 0), Err(Refusal::NoPiece));
+    let opened = Regions::opening(2, 4)?;
+    assert_eq!(rt; regions.list(), opened.list());
+    assert_eq!(rt; regions.give(0, Side::High, 5), Ok((1, 5, 65)));
+    assert_eq!(rt; regions.take_answer(1, 2), Err(Refusal::NoPart));
+    assert_eq!(rt; regions.take_answer(1, 1), Ok(Side::Low));
+    assert_eq!(rt; regions.take_answer(1, 0), Ok(Side::High));
+    let three = [part(0, 1, 5), piece(1, 5, 65), part(1, 65, 16_777_217)];
+    assert_eq!(rt; regions.list(), three.as_slice());
+    Ok(())
+}
+
+#[test]
+fn regions_are_found(rt: HostRuntime) -> Result<(), Fail> {
+    let mut regions = Regions::opening(2, 4)?;
+    assert_eq!(rt; regions.give(1, Side::Low, 70), Ok((1, 65, 70)));
+    assert_eq!(rt; regions.give(0, Side::High, 5), Ok((2, 5, 65)));
+    assert_eq!(rt; regions.region_of_part(1), Some(part(1, 70, 16_777_217)));
+    assert_eq!(rt; regions.region_of_part(2), None);
+    assert_eq!(rt; regions.pieces_before_part(0), 0);
+    assert_eq!(rt; regions.pieces_before_part(1), 2);
+    assert_eq!(rt; regions.pieces_before_part(2), 2);
+    assert_eq!(rt; regions.pieces_before_piece(2), 0);
+    assert_eq!(rt; regions.pieces_before_piece(1), 1);
+    assert_eq!(rt; regions.pieces_before_piece(3), 2);
     Ok(())
 }
 
@@ -188,16 +255,23 @@ fn wrong_bounds_are_refused(rt: HostRuntime) -> Result<(), Fail> {
         &[step(1, 90, 5), step(2, 100, 6)],
     )?;
     expect_moves(&rt, &mut regions, &[5, 6], &[])?;
-    assert_eq!(rt; regions.moves_to(&[6, 6]).err(), Some(Refusal::Field));
-    assert_eq!(rt; regions.moves_to(&[6]).err(), Some(Refusal::Field));
-    assert_eq!(rt; regions.moves_to(&[1, 9]).err(), Some(Refusal::Field));
     assert_eq!(rt;
-        regions.moves_to(&[9, 16_777_217]).err(),
-        Some(Refusal::Field)
+        [
+            regions.moves_to(&[6, 6]).err(),
+            regions.moves_to(&[6]).err(),
+            regions.moves_to(&[1, 9]).err(),
+            regions.moves_to(&[9, 16_777_217]).err(),
+        ],
+        [Some(Refusal::Field); 4]
     );
     assert_eq!(rt; regions.give(2, Side::Low, 8), Ok((1, 6, 8)));
-    assert_eq!(rt; regions.moves_to(&[6, 6]).err(), Some(Refusal::Field));
-    assert_eq!(rt; regions.moves_to(&[5, 6]).err(), Some(Refusal::Moving));
+    assert_eq!(rt;
+        [
+            regions.moves_to(&[6, 6]).err(),
+            regions.moves_to(&[5, 6]).err(),
+        ],
+        [Some(Refusal::Field), Some(Refusal::Moving)]
+    );
     Ok(())
 }
 
@@ -209,10 +283,10 @@ fn range_of(owners: &[Place; MODEL], place: Place) -> Option<(u32, u32)> {
 }
 
 // Hands the s_ids of a range to a place.
-fn hand_over(owners: &mut [Place; MODEL], lo: u32, hi: u32, place: Place) {
-    for i in 0..MODEL {
-        if lo <= i as u32 + 1 && (i as u32) + 1 < hi {
-            owners[i] = place;
+fn hand_over(owners: &mut [Place], lo: u32, hi: u32, place: Place) {
+    for (i, owner) in owners.iter_mut().enumerate() {
+        if lo as usize <= i + 1 && i + 1 < hi as usize {
+            *owner = place;
         }
     }
 }
@@ -283,9 +357,13 @@ fn gives_and_takes_as_drawn(rt: HostRuntime) -> Result<(), Fail> {
                 Side::High
             };
             let given = to_the_end(model_give(&mut owners, p, side, at));
+            let asked = regions.give_answer(u64::from(p), side, u64::from(at));
+            assert_eq!(rt; asked, given);
             assert_eq!(rt; regions.give(u64::from(p), side, u64::from(at)), given);
         } else {
             let taken = model_take(&mut owners, n, p);
+            let asked = regions.take_answer(u64::from(n), u64::from(p));
+            assert_eq!(rt; asked, taken);
             assert_eq!(rt; regions.take(u64::from(n), u64::from(p)), taken);
         }
         for s_id in 1..MODEL as u32 + 1 {

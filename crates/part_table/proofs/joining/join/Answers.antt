@@ -1,13 +1,8 @@
 -- The list stays as it is until a piece and its part stand side by side.
 use Rattle.std.proofs.Common.{◌≡◌, ◌∙◌, ◌+◌, ◌-◌, refl, sym, length, arith}
 use Rattle.part_table.proofs.JoinLemmas.{joining_none, joining_next, joining_here, joining_all}
-use Rattle.part_table.specs.declared.region.Place.TheVariants.{Part}
-use Rattle.part_table.specs.declared.region.Region.{Region}
+use Rattle.part_table.proofs.PlaceLemmas.{blank}
 use Rattle.part_table.proofs.joining.join.Goals as goal
-
--- what a list of regions has behind its end
-abbrev blank : Region
-blank = record { lo = 0; hi = 0; place = Part 0 }
 
 pub loop-index-init : goal.loop-index-init
 loop-index-init c = record {

@@ -1,13 +1,8 @@
 -- The bounds are looked at from the last down.
-use Rattle.std.proofs.Common.{◌≡◌, ◌∙◌, sym, ◌-◌, lit<, arith}
-use Rattle.part_table.specs.declared.region.Place.TheVariants.{Part}
-use Rattle.part_table.specs.declared.region.Region.{Region}
+use Rattle.std.proofs.Common.{◌≡◌, ◌∙◌, sym, ◌-◌, arith}
+use Rattle.part_table.proofs.PlaceLemmas.{blank}
 use Rattle.part_table.proofs.MoveLemmas.{rising_last, one_rises, one_stays, rising_room, bound_fits}
 use Rattle.part_table.proofs.recut.rising_moves.Goals as goal
-
--- what a list of regions has behind its end
-abbrev blank : Region
-blank = record { lo = 0; hi = 0; place = Part 0 }
 
 pub loop-i-init : goal.loop-i-init
 loop-i-init c = record {
@@ -20,14 +15,14 @@ overflow_cast-to c =
     let fits = bound_fits c.args.regions.now c.args.bounds.now blank c.requires.count (c.loop-i.i - 1 - 1) (omega arith) c.requires.rising in
     omega (arith, fits)
 
-pub push-requires : goal.push-requires
-push-requires c =
+pub push_move-requires : goal.push_move-requires
+push_move-requires c =
     let room = rising_room c.args.regions.now c.args.bounds.now blank c.requires.count c.loop-i.i c.loop-i.moves.items c.loop-i-test.true c.loop-i.auto.i c.requires.few c.loop-i.invariant.so_far in
-    (lit< tt, room)
+    record { bound = omega arith; room = room }
 
 pub loop-i-preserved-then-from-to : goal.loop-i-preserved-then-from-to
 loop-i-preserved-then-from-to c = record {
-  so_far = c.push.ensures.items ∙ one_rises c.args.regions.now c.args.bounds.now blank c.requires.count c.loop-i.i c.loop-i.moves.items c.loop-i-test.true c.loop-i.auto.i c.if-from-to.true c.loop-i.invariant.so_far;
+  so_far = c.push_move.ensures ∙ one_rises c.args.regions.now c.args.bounds.now blank c.requires.count c.loop-i.i c.loop-i.moves.items c.loop-i-test.true c.loop-i.auto.i c.if-from-to.true c.loop-i.invariant.so_far;
   from = omega arith;
 }
 

@@ -1,0 +1,10 @@
+-- Those in front of the place that was found.
+use Rattle.std.proofs.Common.{◌∙◌}
+use Rattle.part_table.specs.Region.{is_part}
+use Rattle.part_table.proofs.FrontLemmas.{pieces_in_front}
+use Rattle.part_table.proofs.regions.Regions.pieces_before_part.Goals as goal
+
+pub returns : goal.returns
+returns c =
+    rw (← c.list-regions.ensures.value)
+    (c.pieces_in_front.ensures ∙ pieces_in_front (is_part c.args.p) c.list-regions.result.now c.part_at.result c.part_at.ensures)
