@@ -69,19 +69,24 @@ module _ {V : Type 0} where
     counted = kid.counted ∙ sym (ap (λ s. length s.rows) e ∙ length-with_row_at key_of_pair key (key, value) k.node.value.rows);
   }
 
-  pub replaced_branch : (key i : ℕ) (value : V) (b : NodeBranch V) (k : NodePart V) (n : Seen V) → IsBranch b → IsKidPlace key i b.len b.leasts → get_or b.kids i None ≡ Some k → n ≡ record k.node.value { rows = with_row_at key_of_pair key (key, value) k.node.value.rows } → IsWell n
-      → (IsBranch (branch_with b i (part_with k n))) × (rows_of (kids_of (branch_with b i (part_with k n))) ≡ with_row_at key_of_pair key (key, value) (rows_of (kids_of b)))
+  pub record IsReplacedIn (key i : ℕ) (value : V) (b : NodeBranch V) (k : NodePart V) (n : Seen V) : Type 0 where
+    pub whole : IsBranch (branch_with b i (part_with k n))
+    pub rows : rows_of (kids_of (branch_with b i (part_with k n))) ≡ with_row_at key_of_pair key (key, value) (rows_of (kids_of b))
+
+  pub replaced_branch : (key i : ℕ) (value : V) (b : NodeBranch V) (k : NodePart V) (n : Seen V) → IsBranch b → IsKidPlace key i b.len b.leasts → get_or b.kids i None ≡ Some k → n ≡ record k.node.value { rows = with_row_at key_of_pair key (key, value) k.node.value.rows } → IsWell n → IsReplacedIn key i value b k n
   replaced_branch key i value b k n branch at got e well =
       let cut = cut_kid key i b k branch at got in
       let all = run_written b.len i (part_with k n) b.leasts b.kids branch.run at.within in
       let new = branch_with b i (part_with k n) in
-      let rows = replaced_rows key (b.height - 1) i value (kids_of b) (kids_of new) (kid_at b i k) (kid_at b i (part_with k n)) cut all.1 (ap (λ s. s.rows) e) in (
-        branch_of b new (take i (kids_of b)) (drop (i + 1) (kids_of b)) (kid_at b i (part_with k n)) (with_row_at key_of_pair key (key, value) (rows_of (kids_of b))) branch.inner refl branch.some all.0 all.1
+      let rows = replaced_rows key (b.height - 1) i value (kids_of b) (kids_of new) (kid_at b i k) (kid_at b i (part_with k n)) cut all.1 (ap (λ s. s.rows) e) in
+      record {
+        whole =
+            branch_of b new (take i (kids_of b)) (drop (i + 1) (kids_of b)) (kid_at b i (part_with k n)) (with_row_at key_of_pair key (key, value) (rows_of (kids_of b))) branch.inner refl branch.some all.0 all.1
             cut.before (replaced_kid key (b.height - 1) value (get_or b.leasts i 0) k n cut.kid e well) cut.after rows
             (ordered-with_row_at key_of_pair key (key, value) (rows_of (kids_of b)) refl branch.ordered)
-            (every-with_row_at-same key_of_pair (λ j. j < key_limit) key (key, value) (rows_of (kids_of b)) refl branch.keys),
-        rows,
-      )
+            (every-with_row_at-same key_of_pair (λ j. j < key_limit) key (key, value) (rows_of (kids_of b)) refl branch.keys);
+        rows = rows;
+      }
 
   -- a child with one row more
   grown_rows : (key h i : ℕ) (value : V) (kids new : List (NodeKid V)) (k x : NodeKid V) → IsCutAt key h i kids k → new ≡ take i kids ++ (x ∷ drop (i + 1) kids) → x.1.node.value.rows ≡ with_row key_of_pair (key, value) k.1.node.value.rows → rows_of new ≡ with_row key_of_pair (key, value) (rows_of kids)

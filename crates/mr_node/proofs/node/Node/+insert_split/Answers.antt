@@ -1,134 +1,88 @@
-use Rattle.std.proofs.Common.{rules, arith, ◌≡◌, ◌+◌, ◌-◌, ◌<◌, None, get_or, refl, sym, ap, subst, ◌∙◌}
+use Rattle.std.proofs.Common.{rules, arith, ◌≡◌, ◌+◌, ◌-◌, ◌<◌, get_or, refl, sym, ap, subst, ◌∙◌}
 use Rattle.tatp_rows.specs.Ordered.{row_at}
 use Rattle.mr_node.specs.Rows.{key_of_pair}
 use Rattle.mr_node.specs.Levels.{kids_of, IsNode, IsBranch, seen, seen_leaf, seen_branch}
 use Rattle.mr_node.proofs.PlaceLemmas.{got_used, never_none}
-use Rattle.mr_node.proofs.KidLemmas.{kid_at}
+use Rattle.mr_node.proofs.KidLemmas.{IsCutAt, kid_at}
 use Rattle.mr_node.proofs.NodeLemmas.{find_cut, kid_count_fits}
 use Rattle.mr_node.proofs.CutLemmas.{cut_of_room, grown_after}
+use Rattle.mr_node.proofs.node.Node.+insert_split.Goals.{In-Inner, After-deref_mut-node}
 use Rattle.mr_node.proofs.node.Node.+insert_split.Goals as goal
+
+-- the node's own part
+whole : (g : _) (t : _) (c : In-Inner g t) → IsBranch c.in-Inner.branch
+whole g t c = subst IsNode c.in-Inner.is c.self.invariant
+
+now : (g : _) (t : _) (c : In-Inner g t) → c.args.self.now ≡ seen_branch c.in-Inner.branch
+now g t c = sym c.self.view_is ∙ ap seen c.in-Inner.is
+
+-- the child to which the key belongs, which has room
+cut : (g : _) (t : _) (c : After-deref_mut-node g t) → IsCutAt c.args.key (c.make_room-place.new.branch.height - 1) c.make_room-place.result (kids_of c.make_room-place.new.branch) (kid_at c.make_room-place.new.branch c.make_room-place.result c.in-Some.kid) × (c.in-Some.kid.node.value.width < 32)
+cut g t c =
+    let mid = c.make_room-place.new.branch in
+    let same = c.make_room-place.ensures.same in
+    let place = c.make_room-place.ensures.place in
+    cut_of_room c.args.key c.make_room-place.result mid c.in-Some.kid same.whole place (got_used mid.len c.make_room-place.result _ c.in-Some.kid mid.kids same.whole.run.packed place.within c.in-Some.is)
+
+-- its level below the node
+level : (g : _) (t : _) (c : After-deref_mut-node g t) → IsBranch c.in-Inner.branch → c.args.self.now ≡ seen_branch c.in-Inner.branch → c.deref_mut-node.result.now.height + 1 ≡ c.args.self.now.height
+level g t c branch is = omega (arith, ap (λ s. s.height) c.deref_mut-node.ensures.value, (cut g t c).0.kid.level, c.make_room-place.ensures.same.height, branch.inner, ap (λ s. s.height) is)
 
 pub insert_new-requires : goal.insert_new-requires
 insert_new-requires g t c =
-    let now : c.args.self.now ≡ seen_leaf c.in-Leaf.leaf = sym c.self.view_is ∙ ap seen c.in-Leaf.is in
-    (search rules, (subst IsNode c.in-Leaf.is c.self.invariant, (c.requires.small, (ap (λ s. row_at key_of_pair c.args.key s.rows) (sym now) ∙ c.requires.missing, (omega (arith, ap (λ s. s.width) now, c.requires.room), c.requires.some)))))
+    let is : c.args.self.now ≡ seen_leaf c.in-Leaf.leaf = sym c.self.view_is ∙ ap seen c.in-Leaf.is in
+    (search rules, (subst IsNode c.in-Leaf.is c.self.invariant, (c.requires.small, (ap (λ s. row_at key_of_pair c.args.key s.rows) (sym is) ∙ c.requires.missing, (omega (arith, ap (λ s. s.width) is, c.requires.room), c.requires.some)))))
 
 pub make_room-place-requires : goal.make_room-place-requires
 make_room-place-requires g t c =
-    let b = c.in-Inner.branch in
-    let whole : IsBranch b = subst IsNode c.in-Inner.is c.self.invariant in
-    let now : c.args.self.now ≡ seen_branch b = sym c.self.view_is ∙ ap seen c.in-Inner.is in
-    (search rules, (search rules, (whole, (omega (arith, ap (λ s. s.width) now, c.requires.room), omega (arith, ap (λ s. s.height) now, whole.inner, c.requires.stock)))))
+    let at = goal.at.make_room-place-requires g t c in
+    let branch = whole g t at.In-Inner in
+    let is = now g t at.In-Inner in
+    (search rules, (search rules, (branch, (omega (arith, ap (λ s. s.width) is, c.requires.room), omega (arith, ap (λ s. s.height) is, branch.inner, c.requires.stock)))))
 
 pub unreachable-requires : goal.unreachable-requires
 unreachable-requires g t c = never_none c.make_room-place.new.branch.len c.make_room-place.result c.index-branch-place.result c.make_room-place.new.branch.kids c.make_room-place.ensures.same.whole.run.packed c.make_room-place.ensures.place.within c.in-None.is
 
 pub insert_split-requires : goal.insert_split-requires
 insert_split-requires g t c κs within =
-    let b = c.in-Inner.branch in
-    let whole : IsBranch b = subst IsNode c.in-Inner.is c.self.invariant in
-    let now : c.args.self.now ≡ seen_branch b = sym c.self.view_is ∙ ap seen c.in-Inner.is in
-    let mid = c.make_room-place.new.branch in
-    let same = c.make_room-place.ensures.same in
-    let place = c.make_room-place.ensures.place in
-    let i = c.make_room-place.result in
-    let k = c.in-Some.kid in
-    let got = got_used mid.len i c.index-branch-place.result k mid.kids same.whole.run.packed place.within c.in-Some.is in
-    let both = cut_of_room c.args.key i mid k same.whole place got in
-    let cut = both.0 in
-    let lower : c.deref_mut-node.result.now.height < c.args.self.now.height = omega (arith, ap (λ s. s.height) c.deref_mut-node.ensures.value, cut.kid.level, same.height, whole.inner, ap (λ s. s.height) now) in
-    let absent : row_at key_of_pair c.args.key k.node.value.rows ≡ None = sym (find_cut c.args.key i (mid.height - 1) (kids_of mid) (kid_at mid i k) cut) ∙ ap (row_at key_of_pair c.args.key) same.rows ∙ ap (λ s. row_at key_of_pair c.args.key s.rows) (sym now) ∙ c.requires.missing in
-    (omega (arith, lower, c.decreases), (within, (search rules, (c.requires.small, (c.requires.some, (ap (λ s. row_at key_of_pair c.args.key s.rows) c.deref_mut-node.ensures.value ∙ absent, (omega (arith, ap (λ s. s.width) c.deref_mut-node.ensures.value, both.1), omega (arith, lower, c.requires.stock, c.make_room-place.ensures.used))))))))
+    let at = goal.at.insert_split-requires g t c in
+    let is = now g t at.In-Inner in
+    let lower = level g t at.After-deref_mut-node (whole g t at.In-Inner) is in
+    let both = cut g t at.After-deref_mut-node in
+    let child = c.deref_mut-node.ensures.value in
+    let absent = sym (find_cut c.args.key c.make_room-place.result (c.make_room-place.new.branch.height - 1) (kids_of c.make_room-place.new.branch) _ both.0) ∙ ap (row_at key_of_pair c.args.key) c.make_room-place.ensures.same.rows ∙ ap (λ s. row_at key_of_pair c.args.key s.rows) (sym is) ∙ c.requires.missing in
+    (omega (arith, lower, c.decreases), (within, (search rules, (c.requires.small, (c.requires.some, (ap (λ s. row_at key_of_pair c.args.key s.rows) child ∙ absent, (omega (arith, ap (λ s. s.width) child, both.1), omega (arith, lower, c.requires.stock, c.make_room-place.ensures.used))))))))
 
 pub overflow_add-kid : goal.overflow_add-kid
 overflow_add-kid g t c =
-    let b = c.in-Inner.branch in
-    let whole : IsBranch b = subst IsNode c.in-Inner.is c.self.invariant in
-    let now : c.args.self.now ≡ seen_branch b = sym c.self.view_is ∙ ap seen c.in-Inner.is in
     let mid = c.make_room-place.new.branch in
-    let same = c.make_room-place.ensures.same in
-    let place = c.make_room-place.ensures.place in
-    let i = c.make_room-place.result in
-    let k = c.in-Some.kid in
-    let got = got_used mid.len i c.index-branch-place.result k mid.kids same.whole.run.packed place.within c.in-Some.is in
-    let both = cut_of_room c.args.key i mid k same.whole place got in
-    let cut = both.0 in
-    omega (arith, kid_count_fits (mid.height - 1) (get_or mid.leasts i 0) k cut.kid)
+    let kid = (cut g t (goal.at.overflow_add-kid g t c).After-deref_mut-node).0.kid in
+    omega (arith, kid_count_fits (mid.height - 1) (get_or mid.leasts c.make_room-place.result 0) c.in-Some.kid kid)
 
 pub invariant_of-self-in-Some : goal.invariant_of-self-in-Some
 invariant_of-self-in-Some g t c =
-    let b = c.in-Inner.branch in
-    let whole : IsBranch b = subst IsNode c.in-Inner.is c.self.invariant in
-    let now : c.args.self.now ≡ seen_branch b = sym c.self.view_is ∙ ap seen c.in-Inner.is in
-    let mid = c.make_room-place.new.branch in
-    let same = c.make_room-place.ensures.same in
-    let place = c.make_room-place.ensures.place in
-    let i = c.make_room-place.result in
-    let k = c.in-Some.kid in
-    let got = got_used mid.len i c.index-branch-place.result k mid.kids same.whole.run.packed place.within c.in-Some.is in
-    let both = cut_of_room c.args.key i mid k same.whole place got in
-    let cut = both.0 in
-    (grown_after c.args.key c.args.value.now b mid k c.deref_mut-node.result.now c.insert_split.new.self c.args.self.now i c.min.result (k.count + 1) now same place.within cut c.deref_mut-node.ensures.value c.requires.small c.requires.missing c.insert_split.ensures.grown c.requires.some c.min.ensures refl).0
+    let at = goal.at.invariant_of-self-in-Some g t c in
+    (grown_after c.args.key c.args.value.now c.in-Inner.branch c.make_room-place.new.branch c.in-Some.kid c.deref_mut-node.result.now c.insert_split.new.self c.args.self.now c.make_room-place.result c.min.result (c.in-Some.kid.count + 1) (now g t at.In-Inner) c.make_room-place.ensures.same c.make_room-place.ensures.place.within (cut g t at.After-deref_mut-node).0 c.deref_mut-node.ensures.value c.requires.small c.requires.missing c.insert_split.ensures.grown c.requires.some c.min.ensures refl).0
 
 pub returns-in-Some-clause-grown : goal.returns-in-Some-clause-grown
 returns-in-Some-clause-grown g t c =
-    let b = c.in-Inner.branch in
-    let whole : IsBranch b = subst IsNode c.in-Inner.is c.self.invariant in
-    let now : c.args.self.now ≡ seen_branch b = sym c.self.view_is ∙ ap seen c.in-Inner.is in
-    let mid = c.make_room-place.new.branch in
-    let same = c.make_room-place.ensures.same in
-    let place = c.make_room-place.ensures.place in
-    let i = c.make_room-place.result in
-    let k = c.in-Some.kid in
-    let got = got_used mid.len i c.index-branch-place.result k mid.kids same.whole.run.packed place.within c.in-Some.is in
-    let both = cut_of_room c.args.key i mid k same.whole place got in
-    let cut = both.0 in
-    (grown_after c.args.key c.args.value.now b mid k c.deref_mut-node.result.now c.insert_split.new.self c.args.self.now i c.min.result (k.count + 1) now same place.within cut c.deref_mut-node.ensures.value c.requires.small c.requires.missing c.insert_split.ensures.grown c.requires.some c.min.ensures refl).1
+    let at = goal.at.returns-in-Some-clause-grown g t c in
+    (grown_after c.args.key c.args.value.now c.in-Inner.branch c.make_room-place.new.branch c.in-Some.kid c.deref_mut-node.result.now c.insert_split.new.self c.args.self.now c.make_room-place.result c.min.result (c.in-Some.kid.count + 1) (now g t at.In-Inner) c.make_room-place.ensures.same c.make_room-place.ensures.place.within (cut g t at.After-deref_mut-node).0 c.deref_mut-node.ensures.value c.requires.small c.requires.missing c.insert_split.ensures.grown c.requires.some c.min.ensures refl).1
 
 pub returns-in-Some-clause-used : goal.returns-in-Some-clause-used
 returns-in-Some-clause-used g t c =
-    let b = c.in-Inner.branch in
-    let whole : IsBranch b = subst IsNode c.in-Inner.is c.self.invariant in
-    let now : c.args.self.now ≡ seen_branch b = sym c.self.view_is ∙ ap seen c.in-Inner.is in
-    let mid = c.make_room-place.new.branch in
-    let same = c.make_room-place.ensures.same in
-    let place = c.make_room-place.ensures.place in
-    let i = c.make_room-place.result in
-    let k = c.in-Some.kid in
-    let got = got_used mid.len i c.index-branch-place.result k mid.kids same.whole.run.packed place.within c.in-Some.is in
-    let both = cut_of_room c.args.key i mid k same.whole place got in
-    let cut = both.0 in
-    let lower : c.deref_mut-node.result.now.height < c.args.self.now.height = omega (arith, ap (λ s. s.height) c.deref_mut-node.ensures.value, cut.kid.level, same.height, whole.inner, ap (λ s. s.height) now) in
+    let at = goal.at.returns-in-Some-clause-used g t c in
+    let lower = level g t at.After-deref_mut-node (whole g t at.In-Inner) (now g t at.In-Inner) in
     omega (arith, lower, c.insert_split.ensures.used, c.make_room-place.ensures.used)
 
 pub returns-in-Some-clause-no_fewer : goal.returns-in-Some-clause-no_fewer
 returns-in-Some-clause-no_fewer g t c =
-    let b = c.in-Inner.branch in
-    let whole : IsBranch b = subst IsNode c.in-Inner.is c.self.invariant in
-    let now : c.args.self.now ≡ seen_branch b = sym c.self.view_is ∙ ap seen c.in-Inner.is in
-    let mid = c.make_room-place.new.branch in
-    let same = c.make_room-place.ensures.same in
-    let place = c.make_room-place.ensures.place in
-    let i = c.make_room-place.result in
-    let k = c.in-Some.kid in
-    let got = got_used mid.len i c.index-branch-place.result k mid.kids same.whole.run.packed place.within c.in-Some.is in
-    let both = cut_of_room c.args.key i mid k same.whole place got in
-    let cut = both.0 in
-    let lower : c.deref_mut-node.result.now.height + 1 ≡ c.args.self.now.height = omega (arith, ap (λ s. s.height) c.deref_mut-node.ensures.value, cut.kid.level, same.height, whole.inner, ap (λ s. s.height) now) in
+    let at = goal.at.returns-in-Some-clause-no_fewer g t c in
+    let lower = level g t at.After-deref_mut-node (whole g t at.In-Inner) (now g t at.In-Inner) in
     omega (arith, lower, c.tick.ensures, c.insert_split.ensures.no_fewer, c.insert_split.ensures.stock, c.make_room-place.ensures.stock, c.make_room-place.ensures.no_fewer)
 
 pub returns-in-Some-clause-steps : goal.returns-in-Some-clause-steps
 returns-in-Some-clause-steps g t c =
-    let b = c.in-Inner.branch in
-    let whole : IsBranch b = subst IsNode c.in-Inner.is c.self.invariant in
-    let now : c.args.self.now ≡ seen_branch b = sym c.self.view_is ∙ ap seen c.in-Inner.is in
-    let mid = c.make_room-place.new.branch in
-    let same = c.make_room-place.ensures.same in
-    let place = c.make_room-place.ensures.place in
-    let i = c.make_room-place.result in
-    let k = c.in-Some.kid in
-    let got = got_used mid.len i c.index-branch-place.result k mid.kids same.whole.run.packed place.within c.in-Some.is in
-    let both = cut_of_room c.args.key i mid k same.whole place got in
-    let cut = both.0 in
-    let lower : c.deref_mut-node.result.now.height + 1 ≡ c.args.self.now.height = omega (arith, ap (λ s. s.height) c.deref_mut-node.ensures.value, cut.kid.level, same.height, whole.inner, ap (λ s. s.height) now) in
+    let at = goal.at.returns-in-Some-clause-steps g t c in
+    let lower = level g t at.After-deref_mut-node (whole g t at.In-Inner) (now g t at.In-Inner) in
     omega (arith, lower, c.tick.ensures, c.insert_split.ensures.steps, c.insert_split.ensures.stock, c.make_room-place.ensures.stock, c.make_room-place.ensures.steps)

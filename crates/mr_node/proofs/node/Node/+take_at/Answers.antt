@@ -1,132 +1,97 @@
-use Rattle.std.proofs.Common.{rules, arith, cond, ◌≡◌, ◌+◌, ◌-◌, ◌<◌, option_map, refl, sym, ap, subst, ◌∙◌}
+use Rattle.std.proofs.Common.{rules, arith, cond, ◌≡◌, ◌+◌, ◌-◌, option_map, refl, sym, ap, subst, ◌∙◌}
 use Rattle.mr_node.specs.Rows.{value_at}
-use Rattle.mr_node.specs.Levels.{NodePart, kids_of, IsNode, IsBranch, seen, seen_leaf, seen_branch}
+use Rattle.mr_node.specs.Levels.{kids_of, IsNode, IsBranch, seen, seen_leaf, seen_branch}
 use Rattle.mr_node.specs.Changes.{IsShrunk}
 use Rattle.mr_node.proofs.PlaceLemmas.{got_used, never_none}
-use Rattle.mr_node.proofs.KidLemmas.{kid_at, cut_kid}
+use Rattle.mr_node.proofs.KidLemmas.{IsCutAt, kid_at, cut_kid}
 use Rattle.mr_node.proofs.SizeLemmas.{leaf_well}
 use Rattle.mr_node.proofs.NodeLemmas.{kids_rise, kids_below, branch_set, find_cut}
-use Rattle.mr_node.proofs.RemoveLemmas.{count_gone, removed_in, shrunk_branch, mend_most}
+use Rattle.mr_node.proofs.RemoveLemmas.{IsRemovedIn, count_gone, removed_in, shrunk_branch, mend_most}
+use Rattle.mr_node.proofs.node.Node.+take_at.Goals.{In-Inner, After-deref_mut-node, After-note_gone-least}
 use Rattle.mr_node.proofs.node.Node.+take_at.Goals as goal
+
+-- the node's own part
+whole : (g : _) (t : _) (c : In-Inner g t) → IsBranch c.in-Inner.branch
+whole g t c = subst IsNode c.in-Inner.is c.self.invariant
+
+now : (g : _) (t : _) (c : In-Inner g t) → c.args.self.now ≡ seen_branch c.in-Inner.branch
+now g t c = sym c.self.view_is ∙ ap seen c.in-Inner.is
+
+-- the child to which the key belongs
+cut : (g : _) (t : _) (c : After-deref_mut-node g t) → IsBranch c.in-Inner.branch → IsCutAt c.args.key (c.in-Inner.branch.height - 1) c.place_of-place.result (kids_of c.in-Inner.branch) (kid_at c.in-Inner.branch c.place_of-place.result c.in-Some.kid)
+cut g t c branch = cut_kid c.args.key c.place_of-place.result c.in-Inner.branch c.in-Some.kid branch c.place_of-place.ensures (got_used c.in-Inner.branch.len c.place_of-place.result _ c.in-Some.kid c.in-Inner.branch.kids branch.run.packed c.place_of-place.ensures.within c.in-Some.is)
+
+-- its level below the node
+level : (g : _) (t : _) (c : After-deref_mut-node g t) → IsBranch c.in-Inner.branch → c.args.self.now ≡ seen_branch c.in-Inner.branch → c.deref_mut-node.result.now.height + 1 ≡ c.args.self.now.height
+level g t c branch is = omega (arith, ap (λ s. s.height) c.deref_mut-node.ensures.value, (cut g t c branch).kid.level, branch.inner, ap (λ s. s.height) is)
+
+-- the node with what became of that child
+removed : (g : _) (t : _) (c : After-note_gone-least g t) → IsBranch c.in-Inner.branch → IsCutAt c.args.key (c.in-Inner.branch.height - 1) c.place_of-place.result (kids_of c.in-Inner.branch) (kid_at c.in-Inner.branch c.place_of-place.result c.in-Some.kid) → IsRemovedIn c.args.key c.place_of-place.result c.in-Inner.branch (branch_set c.in-Inner.branch c.place_of-place.result c.note_gone-least.result c.note_gone-least.new.kid) c.note_gone-least.new.kid
+removed g t c branch at =
+    let k = c.in-Some.kid in
+    let n = c.take_at.new.self in
+    let child = c.deref_mut-node.ensures.value in
+    let shrunk = subst (λ s. IsShrunk c.args.key s n) child c.take_at.ensures.new in
+    let gone = c.take_at.ensures.value ∙ ap (λ s. value_at c.args.key s.rows) child in
+    let count = c.note_gone-least.ensures.count ∙ ap (λ x. k.count - cond x 1 0) c.is_some.ensures in
+    removed_in c.args.key c.place_of-place.result c.note_gone-least.result c.in-Inner.branch k c.note_gone-least.new.kid n branch at c.place_of-place.ensures.within shrunk (ap (λ x. x.value) c.note_gone-least.ensures.node) c.note_gone-least.ensures.least (count_gone c.args.key k.count c.note_gone-least.new.kid.count c.take_at.new.gone k.node.value.rows n.rows shrunk.rows at.kid.counted gone count)
 
 pub place_of-place-requires : goal.place_of-place-requires
 place_of-place-requires g t c =
-    let branch = c.in-Inner.branch in
-    let whole : IsBranch branch = subst IsNode c.in-Inner.is c.self.invariant in
-    (search rules, (whole.some, (whole.run, (kids_rise branch whole, kids_below branch whole))))
+    let branch = whole g t (goal.at.place_of-place-requires g t c).In-Inner in
+    (search rules, (branch.some, (branch.run, (kids_rise c.in-Inner.branch branch, kids_below c.in-Inner.branch branch))))
 
 pub take_at-requires : goal.take_at-requires
 take_at-requires g t c κs within =
-    let b = c.in-Inner.branch in
-    let whole : IsBranch b = subst IsNode c.in-Inner.is c.self.invariant in
-    let now : c.args.self.now ≡ seen_branch b = sym c.self.view_is ∙ ap seen c.in-Inner.is in
-    let i = c.place_of-place.result in
-    let k = c.in-Some.kid in
-    let at = c.place_of-place.ensures in
-    let got = got_used b.len i c.index-branch-place.result k b.kids whole.run.packed at.within c.in-Some.is in
-    let cut = cut_kid c.args.key i b k whole at got in
-    let lower : c.deref_mut-node.result.now.height < c.args.self.now.height = omega (arith, ap (λ s. s.height) c.deref_mut-node.ensures.value, cut.kid.level, whole.inner, ap (λ s. s.height) now) in
-    (omega (arith, lower, c.decreases), (within, (search rules, λ h. omega (arith, ap (λ s. s.width) c.deref_mut-node.ensures.value, cut.kid.enough))))
+    let at = goal.at.take_at-requires g t c in
+    let branch = whole g t at.In-Inner in
+    let kid = (cut g t at.After-deref_mut-node branch).kid in
+    let lower = level g t at.After-deref_mut-node branch (now g t at.In-Inner) in
+    (omega (arith, lower, c.decreases), (within, (search rules, λ h. omega (arith, ap (λ s. s.width) c.deref_mut-node.ensures.value, kid.enough))))
 
 pub mend-requires : goal.mend-requires
 mend-requires g t c =
-    let b = c.in-Inner.branch in
-    let whole : IsBranch b = subst IsNode c.in-Inner.is c.self.invariant in
-    let now : c.args.self.now ≡ seen_branch b = sym c.self.view_is ∙ ap seen c.in-Inner.is in
-    let i = c.place_of-place.result in
-    let k = c.in-Some.kid in
-    let at = c.place_of-place.ensures in
-    let got = got_used b.len i c.index-branch-place.result k b.kids whole.run.packed at.within c.in-Some.is in
-    let cut = cut_kid c.args.key i b k whole at got in
-    let n = c.take_at.new.self in
-    let child = c.deref_mut-node.ensures.value in
-    let shrunk = subst (λ s. IsShrunk c.args.key s n) child c.take_at.ensures.new in
-    let gone = c.take_at.ensures.value ∙ ap (λ s. value_at c.args.key s.rows) child in
-    let left : NodePart g.row.V.Denot = c.note_gone-least.new.kid in
-    let same = ap (λ x. x.value) c.note_gone-least.ensures.node in
-    let removed = removed_in c.args.key i c.note_gone-least.result b k left n whole cut at.within shrunk same c.note_gone-least.ensures.least (count_gone c.args.key k.count left.count c.take_at.new.gone k.node.value.rows n.rows shrunk.rows cut.kid.counted gone (c.note_gone-least.ensures.count ∙ ap (λ x. k.count - cond x 1 0) c.is_some.ensures)) in
-    (search rules, (search rules, (removed.loose, (omega (arith, c.requires, ap (λ s. s.height) now, ap (λ s. s.width) now, whole.inner), at.within))))
+    let at = goal.at.mend-requires g t c in
+    let branch = whole g t at.In-Inner in
+    let is = now g t at.In-Inner in
+    let loose = (removed g t at.After-note_gone-least branch (cut g t at.After-deref_mut-node branch)).loose in
+    (search rules, (search rules, (loose, (omega (arith, c.requires, ap (λ s. s.height) is, ap (λ s. s.width) is, branch.inner), c.place_of-place.ensures.within))))
 
 pub unreachable-requires : goal.unreachable-requires
 unreachable-requires g t c =
-    let b = c.in-Inner.branch in
-    let whole : IsBranch b = subst IsNode c.in-Inner.is c.self.invariant in
-    never_none b.len c.place_of-place.result c.index-branch-place.result b.kids whole.run.packed c.place_of-place.ensures.within c.in-None.is
+    let branch = whole g t (goal.at.unreachable-requires g t c).In-Inner in
+    never_none c.in-Inner.branch.len c.place_of-place.result _ c.in-Inner.branch.kids branch.run.packed c.place_of-place.ensures.within c.in-None.is
 
 pub returns-in-Leaf-clause-new : goal.returns-in-Leaf-clause-new
 returns-in-Leaf-clause-new g t c =
-    let now : c.args.self.now ≡ seen_leaf c.in-Leaf.leaf = sym c.self.view_is ∙ ap seen c.in-Leaf.is in
-    subst (λ s. IsShrunk c.args.key s (seen_leaf c.remove_entry.new.leaf)) (sym now) (record { rows = c.remove_entry.ensures.rows; level = refl; width = c.remove_entry.ensures.len; well = leaf_well _ c.remove_entry.ensures.leaf })
+    let is : c.args.self.now ≡ seen_leaf c.in-Leaf.leaf = sym c.self.view_is ∙ ap seen c.in-Leaf.is in
+    subst (λ s. IsShrunk c.args.key s (seen_leaf c.remove_entry.new.leaf)) (sym is) (record { rows = c.remove_entry.ensures.rows; level = refl; width = c.remove_entry.ensures.len; well = leaf_well _ c.remove_entry.ensures.leaf })
 
 pub returns-in-Some-clause-new : goal.returns-in-Some-clause-new
 returns-in-Some-clause-new g t c =
-    let b = c.in-Inner.branch in
-    let whole : IsBranch b = subst IsNode c.in-Inner.is c.self.invariant in
-    let now : c.args.self.now ≡ seen_branch b = sym c.self.view_is ∙ ap seen c.in-Inner.is in
-    let i = c.place_of-place.result in
-    let k = c.in-Some.kid in
-    let at = c.place_of-place.ensures in
-    let got = got_used b.len i c.index-branch-place.result k b.kids whole.run.packed at.within c.in-Some.is in
-    let cut = cut_kid c.args.key i b k whole at got in
-    let n = c.take_at.new.self in
-    let child = c.deref_mut-node.ensures.value in
-    let shrunk = subst (λ s. IsShrunk c.args.key s n) child c.take_at.ensures.new in
-    let gone = c.take_at.ensures.value ∙ ap (λ s. value_at c.args.key s.rows) child in
-    let left : NodePart g.row.V.Denot = c.note_gone-least.new.kid in
-    let same = ap (λ x. x.value) c.note_gone-least.ensures.node in
-    let removed = removed_in c.args.key i c.note_gone-least.result b k left n whole cut at.within shrunk same c.note_gone-least.ensures.least (count_gone c.args.key k.count left.count c.take_at.new.gone k.node.value.rows n.rows shrunk.rows cut.kid.counted gone (c.note_gone-least.ensures.count ∙ ap (λ x. k.count - cond x 1 0) c.is_some.ensures)) in
-    shrunk_branch c.args.key i b (branch_set b i c.note_gone-least.result left) c.mend.new.branch left c.args.self.now now removed refl refl c.mend.ensures.mended
+    let at = goal.at.returns-in-Some-clause-new g t c in
+    let branch = whole g t at.In-Inner in
+    let after = removed g t at.After-note_gone-least branch (cut g t at.After-deref_mut-node branch) in
+    shrunk_branch c.args.key c.place_of-place.result c.in-Inner.branch _ c.mend.new.branch c.note_gone-least.new.kid c.args.self.now (now g t at.In-Inner) after refl refl c.mend.ensures.mended
 
 pub returns-in-Some-clause-value : goal.returns-in-Some-clause-value
 returns-in-Some-clause-value g t c =
-    let b = c.in-Inner.branch in
-    let whole : IsBranch b = subst IsNode c.in-Inner.is c.self.invariant in
-    let now : c.args.self.now ≡ seen_branch b = sym c.self.view_is ∙ ap seen c.in-Inner.is in
-    let i = c.place_of-place.result in
-    let k = c.in-Some.kid in
-    let at = c.place_of-place.ensures in
-    let got = got_used b.len i c.index-branch-place.result k b.kids whole.run.packed at.within c.in-Some.is in
-    let cut = cut_kid c.args.key i b k whole at got in
-    c.take_at.ensures.value ∙ ap (λ s. value_at c.args.key s.rows) c.deref_mut-node.ensures.value ∙ sym (ap (option_map (λ p. p.1)) (find_cut c.args.key i (b.height - 1) (kids_of b) (kid_at b i k) cut)) ∙ sym (ap (λ s. value_at c.args.key s.rows) now)
+    let at = goal.at.returns-in-Some-clause-value g t c in
+    let found = find_cut c.args.key c.place_of-place.result (c.in-Inner.branch.height - 1) (kids_of c.in-Inner.branch) _ (cut g t at.After-deref_mut-node (whole g t at.In-Inner)) in
+    c.take_at.ensures.value ∙ ap (λ s. value_at c.args.key s.rows) c.deref_mut-node.ensures.value ∙ sym (ap (option_map (λ p. p.1)) found) ∙ sym (ap (λ s. value_at c.args.key s.rows) (now g t at.In-Inner))
 
 pub returns-in-Some-clause-no_fewer : goal.returns-in-Some-clause-no_fewer
 returns-in-Some-clause-no_fewer g t c =
-    let b = c.in-Inner.branch in
-    let whole : IsBranch b = subst IsNode c.in-Inner.is c.self.invariant in
-    let now : c.args.self.now ≡ seen_branch b = sym c.self.view_is ∙ ap seen c.in-Inner.is in
-    let i = c.place_of-place.result in
-    let k = c.in-Some.kid in
-    let at = c.place_of-place.ensures in
-    let got = got_used b.len i c.index-branch-place.result k b.kids whole.run.packed at.within c.in-Some.is in
-    let cut = cut_kid c.args.key i b k whole at got in
-    let n = c.take_at.new.self in
-    let child = c.deref_mut-node.ensures.value in
-    let shrunk = subst (λ s. IsShrunk c.args.key s n) child c.take_at.ensures.new in
-    let gone = c.take_at.ensures.value ∙ ap (λ s. value_at c.args.key s.rows) child in
-    let left : NodePart g.row.V.Denot = c.note_gone-least.new.kid in
-    let same = ap (λ x. x.value) c.note_gone-least.ensures.node in
-    let removed = removed_in c.args.key i c.note_gone-least.result b k left n whole cut at.within shrunk same c.note_gone-least.ensures.least (count_gone c.args.key k.count left.count c.take_at.new.gone k.node.value.rows n.rows shrunk.rows cut.kid.counted gone (c.note_gone-least.ensures.count ∙ ap (λ x. k.count - cond x 1 0) c.is_some.ensures)) in
-    let most = mend_most _ left _ _ removed.got c.mend.ensures.thin c.mend.ensures.enough in
-    let lower : c.deref_mut-node.result.now.height + 1 ≡ c.args.self.now.height = omega (arith, ap (λ s. s.height) c.deref_mut-node.ensures.value, cut.kid.level, whole.inner, ap (λ s. s.height) now) in
-    omega (arith, lower, c.tick.ensures, c.take_at.ensures.no_fewer, most.0)
+    let at = goal.at.returns-in-Some-clause-no_fewer g t c in
+    let branch = whole g t at.In-Inner in
+    let after = removed g t at.After-note_gone-least branch (cut g t at.After-deref_mut-node branch) in
+    let most = mend_most _ c.note_gone-least.new.kid _ _ after.got c.mend.ensures.thin c.mend.ensures.enough in
+    omega (arith, level g t at.After-deref_mut-node branch (now g t at.In-Inner), c.tick.ensures, c.take_at.ensures.no_fewer, most.0)
 
 pub returns-in-Some-clause-steps : goal.returns-in-Some-clause-steps
 returns-in-Some-clause-steps g t c =
-    let b = c.in-Inner.branch in
-    let whole : IsBranch b = subst IsNode c.in-Inner.is c.self.invariant in
-    let now : c.args.self.now ≡ seen_branch b = sym c.self.view_is ∙ ap seen c.in-Inner.is in
-    let i = c.place_of-place.result in
-    let k = c.in-Some.kid in
-    let at = c.place_of-place.ensures in
-    let got = got_used b.len i c.index-branch-place.result k b.kids whole.run.packed at.within c.in-Some.is in
-    let cut = cut_kid c.args.key i b k whole at got in
-    let n = c.take_at.new.self in
-    let child = c.deref_mut-node.ensures.value in
-    let shrunk = subst (λ s. IsShrunk c.args.key s n) child c.take_at.ensures.new in
-    let gone = c.take_at.ensures.value ∙ ap (λ s. value_at c.args.key s.rows) child in
-    let left : NodePart g.row.V.Denot = c.note_gone-least.new.kid in
-    let same = ap (λ x. x.value) c.note_gone-least.ensures.node in
-    let removed = removed_in c.args.key i c.note_gone-least.result b k left n whole cut at.within shrunk same c.note_gone-least.ensures.least (count_gone c.args.key k.count left.count c.take_at.new.gone k.node.value.rows n.rows shrunk.rows cut.kid.counted gone (c.note_gone-least.ensures.count ∙ ap (λ x. k.count - cond x 1 0) c.is_some.ensures)) in
-    let most = mend_most _ left _ _ removed.got c.mend.ensures.thin c.mend.ensures.enough in
-    let lower : c.deref_mut-node.result.now.height + 1 ≡ c.args.self.now.height = omega (arith, ap (λ s. s.height) c.deref_mut-node.ensures.value, cut.kid.level, whole.inner, ap (λ s. s.height) now) in
-    omega (arith, lower, c.tick.ensures, c.take_at.ensures.steps, most.1)
+    let at = goal.at.returns-in-Some-clause-steps g t c in
+    let branch = whole g t at.In-Inner in
+    let after = removed g t at.After-note_gone-least branch (cut g t at.After-deref_mut-node branch) in
+    let most = mend_most _ c.note_gone-least.new.kid _ _ after.got c.mend.ensures.thin c.mend.ensures.enough in
+    omega (arith, level g t at.After-deref_mut-node branch (now g t at.In-Inner), c.tick.ensures, c.take_at.ensures.steps, most.1)
