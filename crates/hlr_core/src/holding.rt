@@ -37,7 +37,7 @@ impl Holding {
     pub fn new(alloc: Global, lo: u32, hi: u32, width: u32) -> Result<Self, Refusal>
         requires range { IsRange lo hi }
         requires width { IsWidth width }
-        ensures holding { IfOk result (λ holding. holding ≡ record { part = record { book = empty_book; asked = 0; lo = lo; hi = hi; width = width }; pending = replicate CELLS (pos 0) }) }
+        ensures holding { IfOk result (λ holding. holding ≡ record { part = record { book = empty_book; asked = 0; lo = lo; hi = hi; width = width; steps = 0 }; pending = replicate CELLS (pos 0) }) }
         ensures ok { IfErr result (λ _. ⊥) }
     {
         let part = Part::new(alloc, lo, hi, width)?;

@@ -38,6 +38,7 @@ acts_so action before why asked outcome few = record {
   change = no_change before.width before.book;
   refused = λ other is. (refl, refl);
   range = (refl, refl, refl);
+  steps = refl;
   asked = few;
 }
 
@@ -58,6 +59,7 @@ acts_done action before after notes book asked is few in_range done changed = rw
   change = changed;
   refused = λ why no. not_done why no;
   range = (refl, refl, refl);
+  steps = refl;
   asked = few;
 })
 
@@ -69,6 +71,7 @@ acts_read action before after answer asked is few in_range done = rw is (record 
   change = no_change before.width before.book;
   refused = λ why no. (refl, refl);
   range = (refl, refl, refl);
+  steps = refl;
   asked = few;
 })
 

@@ -17,3 +17,4 @@ pub mod BetweenLemmas
 pub mod LocalLemmas
 pub mod JoinedLemmas
 pub mod CutLemmas
+pub mod CutTablesLemmas

@@ -15,27 +15,27 @@ use Rattle.tatp_actions.specs.Inside.{asked_once, changed_once}
 use Rattle.tatp_actions.specs.Tables.{Tables, AreKeyed, IsKeyed, stored_book, values_of, once_more}
 
 -- the part of these tables
-abbrev pub part_of : Tables → ℕ → ℕ → ℕ → ℕ → PartState
-part_of tables asked lo hi width = record { book = stored_book tables; asked = asked; lo = lo; hi = hi; width = width }
+abbrev pub part_of : Tables → ℕ → ℕ → ℕ → ℕ → ℕ → PartState
+part_of tables asked lo hi width steps = record { book = stored_book tables; asked = asked; lo = lo; hi = hi; width = width; steps = steps }
 
 -- its rules
-abbrev pub Holds : Tables → ℕ → ℕ → ℕ → ℕ → Type 0
-Holds tables asked lo hi width = IsPart (part_of tables asked lo hi width) × AreKeyed tables
+abbrev pub Holds : Tables → ℕ → ℕ → ℕ → ℕ → ℕ → Type 0
+Holds tables asked lo hi width steps = IsPart (part_of tables asked lo hi width steps) × AreKeyed tables
 
 -- the rows were asked, and are the same
-pub asked_is : (tables tables1 : Tables) (n n1 lo hi width : ℕ) → (tables1 ≡ tables) × (n1 ≡ once_more n) → part_of tables1 n1 lo hi width ≡ asked_once (part_of tables n lo hi width)
-asked_is tables tables1 n n1 lo hi width (same, asked) = rw (same, asked) refl
+pub asked_is : (tables tables1 : Tables) (n n1 lo hi width steps : ℕ) → (tables1 ≡ tables) × (n1 ≡ once_more n) → part_of tables1 n1 lo hi width steps ≡ asked_once (part_of tables n lo hi width steps)
+asked_is tables tables1 n n1 lo hi width steps (same, asked) = rw (same, asked) refl
 
-pub asked_holds : (tables tables1 : Tables) (n n1 lo hi width : ℕ) → (tables1 ≡ tables) × (n1 ≡ once_more n) → Holds tables n lo hi width → Holds tables1 n1 lo hi width
-asked_holds tables tables1 n n1 lo hi width after (rules, keyed) =
+pub asked_holds : (tables tables1 : Tables) (n n1 lo hi width steps : ℕ) → (tables1 ≡ tables) × (n1 ≡ once_more n) → Holds tables n lo hi width steps → Holds tables1 n1 lo hi width steps
+asked_holds tables tables1 n n1 lo hi width steps after (rules, keyed) =
     (record { range = rules.range; width = rules.width; rows = subst (λ (t : Tables). IsRowsOf lo hi (stored_book t)) (sym after.0) rules.rows }, subst AreKeyed (sym after.0) keyed)
 
 -- the rows were asked, and changed
-pub changed_is : (tables tables1 : Tables) (n n1 lo hi width : ℕ) (book : Book) → stored_book tables1 ≡ book → n1 ≡ once_more n → part_of tables1 n1 lo hi width ≡ changed_once (part_of tables n lo hi width) book
-changed_is tables tables1 n n1 lo hi width book same asked = rw (same, asked) refl
+pub changed_is : (tables tables1 : Tables) (n n1 lo hi width steps : ℕ) (book : Book) → stored_book tables1 ≡ book → n1 ≡ once_more n → part_of tables1 n1 lo hi width steps ≡ changed_once (part_of tables n lo hi width steps) book
+changed_is tables tables1 n n1 lo hi width steps book same asked = rw (same, asked) refl
 
-pub changed_holds : (tables tables1 : Tables) (n n1 lo hi width : ℕ) (book : Book) → stored_book tables1 ≡ book → IsPart (part_of tables n lo hi width) → IsRowsOf lo hi book → AreKeyed tables1 → Holds tables1 n1 lo hi width
-changed_holds tables tables1 n n1 lo hi width book same rules rows keyed =
+pub changed_holds : (tables tables1 : Tables) (n n1 lo hi width steps : ℕ) (book : Book) → stored_book tables1 ≡ book → IsPart (part_of tables n lo hi width steps) → IsRowsOf lo hi book → AreKeyed tables1 → Holds tables1 n1 lo hi width steps
+changed_holds tables tables1 n n1 lo hi width steps book same rules rows keyed =
     (record { range = rules.range; width = rules.width; rows = subst (λ (b : Book). IsRowsOf lo hi b) (sym same) rows }, keyed)
 
 -- what is found among stored pairs is what is found among their rows

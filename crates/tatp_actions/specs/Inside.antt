@@ -60,10 +60,11 @@ abbrev pub switched : Bool → Bool → Bool → Bool → List (ℕ × ℤ)
 switched up at_0 at_8 at_16 =
     (note_if at_0 (0, one_step up) ++ note_if at_8 (1, one_step up)) ++ note_if at_16 (2, one_step up)
 
--- what an action does to a part: a right outcome, the exact change of every cell, the same range and width, and at most eight questions
+-- what an action does to a part: a right outcome, the exact change of every cell, the same range and width, no cut or join, and at most eight questions
 pub record Acts (action : Action) (before : PartState) (answer : RowReply) (notes : List (ℕ × ℤ)) (after : PartState) : Type 0 where
   pub outcome : IsOutcome action before.book answer after.book
   pub change : IsChange before.width before.book after.book notes
   pub refused : (why : Refusal) → answer ≡ reply.Refused why → (notes ≡ []) × (after.book ≡ before.book)
   pub range : (after.lo ≡ before.lo) × (after.hi ≡ before.hi) × (after.width ≡ before.width)
+  pub steps : after.steps ≡ before.steps
   pub asked : after.asked ≤ before.asked + 8

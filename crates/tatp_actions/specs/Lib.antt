@@ -2,6 +2,8 @@ pub mod Action
 pub mod Book
 pub mod Cell
 pub mod Change
+pub mod Cut
+pub mod CutTables
 pub mod Inside
 pub mod Joined
 pub mod Part

@@ -3,13 +3,14 @@ use Rattle.std.specs.Prelude.{ℕ, ◌<◌, ◌≤◌, ◌+◌}
 use Rattle.tatp_rows.specs.declared.ranges.TheConstants.{LAST_SUBSCRIBER, GREATEST_WIDTH}
 use Rattle.tatp_actions.specs.Book.{Book, IsRowsOf}
 
--- what a part is: its rows, how often they were asked, its range lo..hi and the width of its zones
+-- what a part is: its rows, how often they were asked, its range lo..hi, the width of its zones, and how many steps its last cut or join took
 pub record PartState : Type 0 where
   pub book : Book
   pub asked : ℕ
   pub lo : ℕ
   pub hi : ℕ
   pub width : ℕ
+  pub steps : ℕ
 
 -- the range is not empty, and lies in that of all subscribers
 abbrev pub IsRange : ℕ → ℕ → Type 0

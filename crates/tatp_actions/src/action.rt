@@ -1,6 +1,13 @@
 //! The actions on the rows of one subscriber, and what they answer.
+ghost use Rattle.std.specs.Prelude.{◌≡◌};
+ghost use Rattle.tatp_rows.specs.Rows.{is_between};
+ghost use Rattle.tatp_actions.specs.Action.{is_typed, is_in_range, s_id_of};
+
 use arrayvec::ArrayVec;
-use tatp_rows::{Access, Facility, Forwarding, Letters, Number, Refusal, Subscriber};
+use tatp_rows::{
+    Access, Facility, Forwarding, LAST_SUBSCRIBER, Letters, Number, Refusal, Subscriber,
+    is_between, is_start_time,
+};
 
 /// An action on the rows of one subscriber, whose s_id it names. Plain numbers are checked when it is done.
 #[derive(Clone, Copy, Debug, PartialEq, Eq)]
@@ -80,6 +87,89 @@ pub enum Action {
         /// The new number.
         sub_nbr: Number,
     },
+}
+
+/// Whether there can be a subscriber with this s_id.
+fn is_subscriber(s_id: u32) -> bool
+    ensures { result ≡ is_between 1 LAST_SUBSCRIBER s_id }
+{
+    (1..=LAST_SUBSCRIBER).contains(&s_id)
+}
+
+/// Whether there can be a row of a subscriber with this s_id and type.
+fn is_typed(s_id: u32, kind: u8) -> bool
+    ensures { result ≡ is_typed s_id kind }
+{
+    is_subscriber(s_id) && is_between(kind, 1, 4)
+}
+
+impl Action {
+    /// The subscriber whose rows it is on.
+    pub fn s_id(&self) -> u32
+        ensures { result ≡ s_id_of self.now }
+    {
+        match *self {
+            Action::SubscriberData { s_id }
+            | Action::NewDestination { s_id, .. }
+            | Action::AccessData { s_id, .. }
+            | Action::UpdateSubscriber { s_id, .. }
+            | Action::UpdateLocation { s_id, .. }
+            | Action::DeleteForwarding { s_id, .. }
+            | Action::SetActive { s_id, .. }
+            | Action::SetNumber { s_id, .. } => s_id,
+            Action::InsertForwarding(row) => row.s_id(),
+            Action::AddSubscriber(row) => row.s_id(),
+            Action::AddAccess(row) => row.s_id(),
+            Action::AddFacility(row) => row.s_id(),
+        }
+    }
+
+    /// Whether all its fields are in their ranges, without which it is refused with `Field`. Those of a row always are.
+    pub fn is_in_range(&self) -> bool
+        ensures { result ≡ is_in_range self.now }
+    {
+        match *self {
+            Action::SubscriberData { s_id } => is_subscriber(s_id),
+            Action::NewDestination {
+                s_id,
+                sf_type,
+                start_time,
+                end_time,
+            } => {
+                is_typed(s_id, sf_type)
+                    && is_start_time(u64::from(start_time))
+                    && is_between(end_time, 1, 24)
+            }
+            Action::AccessData { s_id, ai_type } => is_typed(s_id, ai_type),
+            Action::UpdateSubscriber {
+                s_id,
+                sf_type,
+                bit_1,
+                data_a,
+            } => is_typed(s_id, sf_type) && bit_1 <= 1 && is_between(data_a, 0, 255),
+            Action::UpdateLocation { s_id, vlr_location } => is_subscriber(s_id)
+                && vlr_location > 0,
+            Action::DeleteForwarding {
+                s_id,
+                sf_type,
+                start_time,
+            } => is_typed(s_id, sf_type) && is_start_time(u64::from(start_time)),
+            Action::SetActive {
+                s_id,
+                sf_type,
+                is_active,
+            } => is_typed(s_id, sf_type) && is_active <= 1,
+            Action::SetNumber { s_id, sub_nbr } => {
+                // The reader says that the number is in range, as those of the rows do.
+                let _ = sub_nbr.value();
+                is_subscriber(s_id)
+            }
+            Action::InsertForwarding(row) => is_subscriber(row.s_id()),
+            Action::AddSubscriber(row) => is_subscriber(row.s_id()),
+            Action::AddAccess(row) => is_subscriber(row.s_id()),
+            Action::AddFacility(row) => is_subscriber(row.s_id()),
+        }
+    }
 }
 
 /// What an action answers.

@@ -58,4 +58,14 @@ impl Cells {
     {
         self.counts[usize::from(cell)] += 1;
     }
+
+    /// Adds the counts of each cell.
+    pub fn add(&mut self, counts: &Cells)
+        requires { (c : ℕ) → c < CELLS → slice_index self.old c + slice_index counts.now c < 2 ^ 64 }
+        ensures { (c : ℕ) → c < CELLS → slice_index self.new c ≡ slice_index self.old c + slice_index counts.now c }
+    {
+        for cell in 0..usize::from(CELLS) {
+            self.counts[cell] += counts.counts[cell];
+        }
+    }
 }

@@ -9,6 +9,9 @@ mod action;
 mod administration;
 mod cells;
 mod change;
+#[cfg(test)]
+mod cut_tests;
+mod cutting;
 mod keyed;
 mod part;
 #[cfg(test)]
@@ -17,6 +20,7 @@ mod plain;
 mod plain_tests;
 mod recount;
 mod rows;
+mod stocks;
 #[cfg(test)]
 mod table;
 #[cfg(test)]

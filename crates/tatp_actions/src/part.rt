@@ -19,11 +19,13 @@ use tatp_rows::{Refusal, zone};
 #[derive(Drop)]
 pub struct Part<R: Rows = Trees> {
     pub(crate) rows: R,
-    lo: u32,
-    hi: u32,
+    pub(crate) lo: u32,
+    pub(crate) hi: u32,
     pub(crate) width: u32,
     // For the calls that cut and join parts.
-    alloc: Global,
+    pub(crate) alloc: Global,
+    // How many steps the last cut or join took.
+    pub(crate) last_steps: u64,
 }
 
 impl<R: Rows> Model for Part<R> {
@@ -38,6 +40,7 @@ impl<R: Rows> Model for Part<R> {
       lo = p.lo;
       hi = p.hi;
       width = p.width;
+      steps = p.last_steps;
     } };
 
     ghost invariant = { λ p. IsPart (record {
@@ -46,6 +49,7 @@ impl<R: Rows> Model for Part<R> {
       lo = p.lo;
       hi = p.hi;
       width = p.width;
+      steps = p.last_steps;
     }) × AreKeyed (R.tables p.rows) };
 }
 
@@ -63,7 +67,7 @@ impl<R: Rows> Part<R> {
         requires width { IsWidth width }
         requires rows { IsRowsOf lo hi (stored_book (R.tables rows)) }
         requires keys { AreKeyed (R.tables rows) }
-        ensures { result ≡ record { book = stored_book (R.tables rows); asked = R.times_asked rows; lo = lo; hi = hi; width = width } }
+        ensures { result ≡ record { book = stored_book (R.tables rows); asked = R.times_asked rows; lo = lo; hi = hi; width = width; steps = 0 } }
     {
         Part {
             rows,
@@ -71,6 +75,7 @@ impl<R: Rows> Part<R> {
             hi,
             width,
             alloc,
+            last_steps: 0,
         }
     }
 
@@ -99,6 +104,7 @@ impl<R: Rows> Part<R> {
         ensures change { IsChange self.old.width self.old.book self.new.book result.1 }
         ensures refused { (why : Refusal) → result.0 ≡ RowReply.Refused why → (result.1 ≡ []) × (self.new.book ≡ self.old.book) }
         ensures range { (self.new.lo ≡ self.old.lo) × (self.new.hi ≡ self.old.hi) × (self.new.width ≡ self.old.width) }
+        ensures steps { self.new.steps ≡ self.old.steps }
         ensures asked { self.new.asked ≤ self.old.asked + 8 }
         ensures before { IsPart self.old }
         ensures after { IsPart self.new }
@@ -150,7 +156,7 @@ impl Part {
     pub fn new(alloc: Global, lo: u32, hi: u32, width: u32) -> Result<Self, Refusal>
         requires range { IsRange lo hi }
         requires width { IsWidth width }
-        ensures part { IfOk result (λ part. part ≡ record { book = empty_book; asked = 0; lo = lo; hi = hi; width = width }) }
+        ensures part { IfOk result (λ part. part ≡ record { book = empty_book; asked = 0; lo = lo; hi = hi; width = width; steps = 0 }) }
         ensures ok { IfErr result (λ _. ⊥) }
     {
         Ok(Part::over(alloc, Trees::new(alloc)?, lo, hi, width))

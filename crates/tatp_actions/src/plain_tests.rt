@@ -1,8 +1,8 @@
 //! The trees against the plain program, on the same drawn actions.
 ghost use Rattle.std.specs.Prelude.{◌≡◌};
 
-mod draws;
-mod tally;
+pub(crate) mod draws;
+pub(crate) mod tally;
 
 use crate::plain::PlainRows;
 use crate::{Change, Part, RowReply, Rows};
@@ -61,7 +61,7 @@ fn drawn_on_trees(
 }
 
 /// Asserts that two parts answer, note and ask alike, and hold the same rows of the subscriber then.
-fn expect_turn(
+pub(crate) fn expect_turn(
     rt: &impl Abort,
     part: &mut Part,
     plain: &mut Part<PlainRows>,
@@ -84,11 +84,14 @@ fn expect_turn(
 }
 
 /// Asserts that two parts hold the same rows of a subscriber.
-fn expect_same_rows(rt: &impl Abort, part: &mut Part, plain: &mut Part<PlainRows>, s_id: u32)
-    requires part { (part.old.lo ≡ 1) × (part.old.hi ≡ 41) }
-    requires plain { (plain.old.lo ≡ 1) × (plain.old.hi ≡ 41) }
-    ensures part { (part.new.lo ≡ 1) × (part.new.hi ≡ 41) }
-    ensures plain { (plain.new.lo ≡ 1) × (plain.new.hi ≡ 41) }
+pub(crate) fn expect_same_rows(
+    rt: &impl Abort,
+    part: &mut Part,
+    plain: &mut Part<PlainRows>,
+    s_id: u32,
+)
+    ensures part { (part.new.lo ≡ part.old.lo) × (part.new.hi ≡ part.old.hi) }
+    ensures plain { (plain.new.lo ≡ plain.old.lo) × (plain.new.hi ≡ plain.old.hi) }
 {
     assert_eq!(rt; part.subscriber(s_id), plain.subscriber(s_id));
     for kind in 1..5u8 {
@@ -102,7 +105,7 @@ fn expect_same_rows(rt: &impl Abort, part: &mut Part, plain: &mut Part<PlainRows
 }
 
 /// Asserts that two parts hold the same rows of all subscribers.
-fn expect_same_book(rt: &impl Abort, part: &mut Part, plain: &mut Part<PlainRows>)
+pub(crate) fn expect_same_book(rt: &impl Abort, part: &mut Part, plain: &mut Part<PlainRows>)
     requires part { (part.old.lo ≡ 1) × (part.old.hi ≡ 41) }
     requires plain { (plain.old.lo ≡ 1) × (plain.old.hi ≡ 41) }
     ensures part { (part.new.lo ≡ 1) × (part.new.hi ≡ 41) }

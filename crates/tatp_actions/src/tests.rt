@@ -52,7 +52,7 @@ fn expect_refused<R: Rows>(rt: &impl Abort, part: &mut Part<R>, action: Action, 
 
 /// Asserts that a row is added with these notes: where a growth was refused, at the second try, with the part as before
 /// in between.
-fn expect_added(rt: &impl Abort, part: &mut Part, row: Subscriber, notes: &[(u8, i64)])
+pub(crate) fn expect_added(rt: &impl Abort, part: &mut Part, row: Subscriber, notes: &[(u8, i64)])
     requires { IsWithin part.old.lo part.old.hi row.s_id }
     ensures { (part.new.lo ≡ part.old.lo) × (part.new.hi ≡ part.old.hi) }
 {

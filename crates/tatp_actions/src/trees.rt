@@ -15,7 +15,7 @@ pub struct Trees {
     pub(crate) access: SubTree<Access>,
     pub(crate) facilities: SubTree<Facility>,
     pub(crate) forwardings: SubTree<Forwarding>,
-    asked: u64,
+    pub(crate) asked: u64,
 }
 
 impl Trees {

@@ -10,7 +10,7 @@ use Rattle.tatp_actions.proofs.StoredLemmas.{Holds}
 use Rattle.tatp_actions.proofs.tests.makers.put_facility.Goals as goal
 
 -- the rows keep the rules of a part
-held : (tables : Tables) → IsRowsOf 1 10 (stored_book tables) → AreKeyed tables → Holds tables 0 1 10 1
+held : (tables : Tables) → IsRowsOf 1 10 (stored_book tables) → AreKeyed tables → Holds tables 0 1 10 1 0
 held tables rows keys = (record { range = (omega arith, omega arith, omega arith); width = (omega arith, omega arith); rows = rows }, keys)
 
 -- the row that was added is found
@@ -23,13 +23,13 @@ found book book1 row absent is = rw (is, row_at-with_row_same facility_key (faci
 
 pub returns-clause-rows : goal.returns-clause-rows
 returns-clause-rows g c =
-    (more_facilities_holds _ _ 0 0 1 10 1 _ c.args.row c.key.ensures.key (held _ c.requires.rows c.requires.keys) c.in_default.ensures.table c.in_default.ensures.others (rw c.requires.subscriber c.requires.there) c.s_id-s_id.ensures.in_range).0.rows
+    (more_facilities_holds _ _ 0 0 1 10 1 0 _ c.args.row c.key.ensures.key (held _ c.requires.rows c.requires.keys) c.in_default.ensures.table c.in_default.ensures.others (rw c.requires.subscriber c.requires.there) c.s_id-s_id.ensures.in_range).0.rows
 
 pub returns-clause-keys : goal.returns-clause-keys
 returns-clause-keys g c =
-    (more_facilities_holds _ _ 0 0 1 10 1 _ c.args.row c.key.ensures.key (held _ c.requires.rows c.requires.keys) c.in_default.ensures.table c.in_default.ensures.others (rw c.requires.subscriber c.requires.there) c.s_id-s_id.ensures.in_range).1
+    (more_facilities_holds _ _ 0 0 1 10 1 0 _ c.args.row c.key.ensures.key (held _ c.requires.rows c.requires.keys) c.in_default.ensures.table c.in_default.ensures.others (rw c.requires.subscriber c.requires.there) c.s_id-s_id.ensures.in_range).1
 
 pub returns-clause-there : goal.returns-clause-there
 returns-clause-there g c =
-    let added = more_facilities_added _ _ 0 0 1 10 1 _ c.args.row c.key.ensures.key (held _ c.requires.rows c.requires.keys) c.in_default.ensures.table c.in_default.ensures.others in
+    let added = more_facilities_added _ _ 0 0 1 10 1 0 _ c.args.row c.key.ensures.key (held _ c.requires.rows c.requires.keys) c.in_default.ensures.table c.in_default.ensures.others in
     rw (c.requires.subscriber, c.requires.kind) at (found _ _ c.args.row added.0 added.1)

@@ -1,0 +1,64 @@
+//! The blank nodes that a cut or a join of the four trees takes, all of them taken ahead.
+ghost use Rattle.std.specs.Prelude.{◌≡◌, MatchResult, OnOk, length};
+ghost use Rattle.mr_subtree.specs.Trees.{IsHeightOf};
+ghost use Rattle.tatp_actions.specs.Cut.{AreHeightsOf};
+ghost use Rattle.tatp_actions.specs.CutTables.{AreForSlice, AreForMeld, IsForMeld, tables_of, heights_of};
+ghost use Rattle.tatp_actions.specs.Tables.{stored_book};
+
+use crate::trees::Trees;
+use mr_cut::{stock_for_meld, stock_for_slice};
+use mr_node::Stock;
+use mr_subtree::SubTree;
+use std::alloc::Global;
+use tatp_rows::{Access, Facility, Forwarding, Refusal, Subscriber};
+
+/// Blank nodes for each of the four trees.
+#[derive(Drop)]
+pub(crate) struct Stocks {
+    pub(crate) subscribers: Stock<Subscriber>,
+    pub(crate) access: Stock<Access>,
+    pub(crate) facilities: Stock<Facility>,
+    pub(crate) forwardings: Stock<Forwarding>,
+}
+
+impl Stocks {
+    /// The blank nodes for a slice of these trees: `Memory` where they can't be had.
+    pub(crate) fn for_slice(alloc: Global, rows: &Trees) -> Result<Self, Refusal>
+        ensures stocks { MatchResult result (λ stocks. AreForSlice (heights_of rows.now) stocks) (λ why. why ≡ Refusal.Memory) }
+        ensures heights { OnOk result (AreHeightsOf (heights_of rows.now) (stored_book (tables_of rows.now))) }
+    {
+        Ok(Stocks {
+            subscribers: stock_for_slice(alloc, rows.subscribers.height())?,
+            access: stock_for_slice(alloc, rows.access.height())?,
+            facilities: stock_for_slice(alloc, rows.facilities.height())?,
+            forwardings: stock_for_slice(alloc, rows.forwardings.height())?,
+        })
+    }
+
+    /// The blank nodes for a meld of these trees: `Memory` where they can't be had.
+    pub(crate) fn for_meld(alloc: Global, rows: &Trees, other: &Trees) -> Result<Self, Refusal>
+        ensures stocks { MatchResult result (λ stocks. AreForMeld (heights_of rows.now) (heights_of other.now) stocks) (λ why. why ≡ Refusal.Memory) }
+        ensures heights { OnOk result (AreHeightsOf (heights_of rows.now) (stored_book (tables_of rows.now))) }
+        ensures other_heights { OnOk result (AreHeightsOf (heights_of other.now) (stored_book (tables_of other.now))) }
+    {
+        Ok(Stocks {
+            subscribers: meld_stock(alloc, &rows.subscribers, &other.subscribers)?,
+            access: meld_stock(alloc, &rows.access, &other.access)?,
+            facilities: meld_stock(alloc, &rows.facilities, &other.facilities)?,
+            forwardings: meld_stock(alloc, &rows.forwardings, &other.forwardings)?,
+        })
+    }
+}
+
+/// The blank nodes for a meld of two trees: `Memory` where they can't be had.
+fn meld_stock<V: Drop>(
+    alloc: Global,
+    tree: &SubTree<V>,
+    other: &SubTree<V>,
+) -> Result<Stock<V>, Refusal>
+    ensures stock { MatchResult result (λ stock. IsForMeld tree.now.height other.now.height stock) (λ why. why ≡ Refusal.Memory) }
+    ensures height { IsHeightOf tree.now.height (length tree.now.rows) }
+    ensures other_height { IsHeightOf other.now.height (length other.now.rows) }
+{
+    stock_for_meld(alloc, tree.height(), other.height())
+}
