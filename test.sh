@@ -86,6 +86,7 @@ options() {
   hlr_on --help < /dev/null
   is '--help: status' "$status" 0
   has '--help' "$room/out" 'Usage: hlr [OPTIONS]'
+  has '--help' "$room/out" '--parts <N>'
   has '--help' "$room/out" '--zone <W>'
   is '--help: standard error' "$(wc -c < "$room/err")" 0
   # the example that it ends with does what it says
@@ -101,6 +102,13 @@ options() {
   ends '--zone 524288' 0 '' ''
   hlr_on --zone 1 < /dev/null
   ends '--zone 1' 0 '' ''
+  hlr_on --parts 1 < /dev/null
+  ends '--parts 1' 0 '' ''
+  hlr_on --parts 16 --zone 4 < /dev/null
+  ends '--parts 16 --zone 4' 0 '' ''
+  refused_option --parts=0 "invalid value '0' for '--parts <N>': 0 is not in 1..=16"
+  refused_option --parts=17 "invalid value '17' for '--parts <N>': 17 is not in 1..=16"
+  refused_option --parts=x "invalid value 'x' for '--parts <N>': invalid digit found in string"
   refused_option --zone=0 "invalid value '0' for '--zone <W>': 0 is not in 1..=524288"
   refused_option --zone=524289 "invalid value '524289' for '--zone <W>': 524289 is not in 1..=524288"
   refused_option --zone=-1 "invalid value '-1' for '--zone <W>': -1 is not in 1..=524288"

@@ -1,5 +1,6 @@
 pub mod FieldFacts
 pub mod OptionFacts
+pub mod RecordFacts
 pub mod ReportFacts
 pub mod RunFacts
 pub mod SinkFacts

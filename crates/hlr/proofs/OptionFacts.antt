@@ -8,7 +8,7 @@ use Rattle.clap.specs.Words.{App, Rule, Text, FailsBy, HasKind, Kinds, HasMatche
 use Rattle.clap.specs.declared.parser.matches.ArgMatches.{ArgMatches}
 use Rattle.clap.specs.declared.error.Error.{Error}
 use Rattle.clap.proofs.WalkLemmas.{one_text-rows}
-use Rattle.hlr.specs.Options.{program, with_version, zone_rule, Spells}
+use Rattle.hlr.specs.Options.{program, parts_rule, with_version, zone_rule, Spells}
 
 -- the program is one that clap's definitions speak of
 pub program_simple : is_simple program ≡ true
@@ -19,8 +19,8 @@ pub program_free : is_simple_and_free program ≡ true
 unfolding program
 program_free = refl
 
--- the program is built from its one option
-pub program_is : with_rule (with_version (new_app (codes "hlr"))) zone_rule ≡ program
+-- the program is built from its two options
+pub program_is : with_rule (with_rule (with_version (new_app (codes "hlr"))) parts_rule) zone_rule ≡ program
 unfolding program
 program_is = refl
 
@@ -50,15 +50,18 @@ spelled m id (Some t) r e none some = by r (some t e)
     by None h = tt
     by (Some n) h = (t, sym (one_text-rows (found_of m) id) ∙ e, h)
 
--- the program's option, added to the program without options
-pub program_from : (app : App) (rule : Rule) → app ≡ with_version (new_app (codes "hlr")) → rule ≡ zone_rule → with_rule app rule ≡ program
+-- the program's first option, added to the program without options, and then the second
+pub with_parts : (app : App) (rule : Rule) → app ≡ with_version (new_app (codes "hlr")) → rule ≡ parts_rule → with_rule app rule ≡ with_rule (with_version (new_app (codes "hlr"))) parts_rule
+with_parts app rule a r = rw (a, r) refl
+
+pub program_from : (app : App) (rule : Rule) → app ≡ with_rule (with_version (new_app (codes "hlr"))) parts_rule → rule ≡ zone_rule → with_rule app rule ≡ program
 program_from app rule a r = rw (a, r) program_is
 
 -- what a number that was read from a text is
-pub read_number : (t : List ℕ) (r : Option ℕ)
-    → ReadsOne {T = ℕ} {E = ParseIntError} (λ bs r. ParsesUnsigned 32 10 bs r × ExplainsUnsignedError 10 bs r × HasUnsignedDigitsIfOk bs r) t r → IfSome r (Reads t)
-read_number t None read = tt
-read_number t (Some n) read = (OkIff-at_ok {T = ℕ} {E = ParseIntError} (Ok n) _ _ n read.0 refl).1
+pub read_number : (bits : ℕ) (t : List ℕ) (r : Option ℕ)
+    → ReadsOne {T = ℕ} {E = ParseIntError} (λ bs r. ParsesUnsigned bits 10 bs r × ExplainsUnsignedError 10 bs r × HasUnsignedDigitsIfOk bs r) t r → IfSome r (Reads t)
+read_number bits t None read = tt
+read_number bits t (Some n) read = (OkIff-at_ok {T = ℕ} {E = ParseIntError} (Ok n) _ _ n read.0 refl).1
 
 -- an error that is passed on has the kinds that it had
 pub passed_on : {T : Type 0} (kinds : Kinds) (r : Result T Error) (x error : Error) → r ≡ Err x → x ≡ error → HasKind kinds error → FailsBy kinds r

@@ -1,5 +1,5 @@
 -- What the text of a field spells, or Field.
-use Rattle.std.specs.Prelude.{ℕ, ◌+◌, ◌*◌, ◌==◌, ◌&&◌, not, nat_lt, List, length, map, slice_index, if◌then◌else◌, Result, Ok, Err}
+use Rattle.std.specs.Prelude.{ℕ, ◌+◌, ◌*◌, ◌==◌, ◌&&◌, not, nat_lt, List, [], ◌∷◌, length, map, slice_index, if◌then◌else◌, Result, Ok, Err}
 use Rattle.std.specs.List.{list_all, range_with_len}
 use Rattle.std.specs.Char.{is_ascii_digit, digit_value}
 use Rattle.std.specs.Str.Parse.{digits_value}
@@ -18,6 +18,14 @@ unfoldable pub number_field : List ℕ → Result ℕ Refusal
 number_field text =
     if not (length text == 0) && (list_all is_ascii_digit text && nat_lt (digits_value 10 text) 18446744073709551616)
     then Ok (digits_value 10 text) else Err Field
+
+-- the numbers of fields
+abbrev pub number_fields : List (List ℕ) → Result (List ℕ) Refusal
+number_fields [] = Ok []
+number_fields (text ∷ texts) = do
+  n ← number_field text
+  ns ← number_fields texts
+  Ok (n ∷ ns)
 
 -- a number that fits a byte
 abbrev pub byte_field : List ℕ → Result ℕ Refusal

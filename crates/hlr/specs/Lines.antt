@@ -1,5 +1,5 @@
 -- The lines of the answers. A line is ASCII, and ends with a line feed.
-use Rattle.std.specs.Prelude.{ℕ, ◌/◌, ◌%◌, ◌++◌, List, [], ◌∷◌, map, codes, decimal, ℤ}
+use Rattle.std.specs.Prelude.{ℕ, ◌/◌, ◌%◌, ◌++◌, List, [], ◌∷◌, map, codes, decimal, Result, Ok, Err, ℤ}
 use Rattle.std.specs.List.{flat_map}
 use Rattle.std.specs.Char.{digit_char}
 use Rattle.std.specs.Fmt.{signed_decimal}
@@ -9,6 +9,9 @@ use Rattle.tatp_rows.specs.Rows.{SubscriberRow}
 use Rattle.tatp_rows.specs.declared.refusal.Refusal.{Refusal}
 use Rattle.tatp_actions.specs.declared.action.RowReply.{RowReply}
 use Rattle.tatp_actions.specs.declared.action.RowReply.TheVariants as row_reply
+use Rattle.part_table.specs.declared.region.Place.{Place}
+use Rattle.part_table.specs.declared.region.Place.TheVariants.{Part, Piece}
+use Rattle.part_table.specs.declared.region.Region.{Region}
 use Rattle.hlr_core.specs.declared.event.Reply.{Reply}
 use Rattle.hlr_core.specs.declared.event.Reply.TheVariants as reply
 
@@ -69,6 +72,32 @@ counted_line c n = codes "cell," ++ decimal c ++ codes "," ++ decimal n ++ codes
 unfoldable pub number_line : ℕ × ℕ → List ℕ
 number_line pair = codes "number," ++ number_text pair.0 ++ codes "," ++ decimal pair.1 ++ codes "\n"
 
+-- a part or a loose piece, by its number
+abbrev pub place_text : Place → List ℕ
+place_text (Part p) = codes "part," ++ decimal p
+place_text (Piece n) = codes "piece," ++ decimal n
+
+-- the line of a region: who has it, and where it begins and ends
+unfoldable pub region_line : Region → List ℕ
+region_line region = place_text region.place ++ codes "," ++ decimal region.lo ++ codes "," ++ decimal region.hi ++ codes "\n"
+
+-- the line of a piece that a part took
+unfoldable pub taken_line : ℕ → ℕ → List ℕ
+taken_line n q = codes "taken," ++ decimal n ++ codes "," ++ decimal q ++ codes "\n"
+
+-- numbers in decimal, each after a comma
+abbrev pub decimals_text : List ℕ → List ℕ
+decimals_text ns = flat_map (λ n. codes "," ++ decimal n) ns
+
+-- the line of bounds between parts
+unfoldable pub bounds_line : List ℕ → List ℕ
+bounds_line bounds = codes "bounds" ++ decimals_text bounds ++ codes "\n"
+
+-- the line of a re-cut: how many bounds were moved, or its refusal
+abbrev pub recut_line : Result ℕ Refusal → List ℕ
+recut_line (Ok moves) = total_line (codes "recut,") moves
+recut_line (Err why) = refused_line why
+
 -- the line of the rows' answer
 abbrev pub row_reply_line : RowReply → List ℕ
 row_reply_line row_reply.Done = ok_line
@@ -81,4 +110,6 @@ row_reply_line (row_reply.Refused why) = refused_line why
 abbrev pub reply_line : Reply → List ℕ
 reply_line (reply.Rows answer) = row_reply_line answer
 reply_line (reply.Posted n) = total_line (codes "posted,") n
+reply_line (reply.Given n lo hi) = region_line (record { lo = lo; hi = hi; place = Piece n })
+reply_line (reply.Taken n q) = taken_line n q
 reply_line (reply.Refused why) = refused_line why

@@ -1,10 +1,21 @@
 -- The options of the program, and what the words that it is started with make of them.
-use Rattle.std.specs.Prelude.{◌≡◌, ◌≤◌, ℕ, true, List, [], ◌∷◌, Option, Some, codes, pos}
+use Rattle.std.specs.Prelude.{◌≡◌, ℕ, true, List, [], ◌∷◌, Option, Some, codes, pos}
 use Rattle.std.specs.Str.Parse.{digits_value, without_leading_plus}
 use Rattle.clap.specs.Words.{App, Row, Rule, Text, new_app, new_rule, one_of, with_rule}
 use Rattle.clap.specs.declared.builder.value_parser.ValueParser.TheVariants as parser
+use Rattle.part_table.specs.declared.region.TheConstants.{MOST_PARTS}
 use Rattle.tatp_rows.specs.declared.ranges.TheConstants.{GREATEST_WIDTH}
+use Rattle.hlr_core.specs.Store.{HasOpening}
 use Rattle.hlr.specs.declared.options.Options.{Options}
+
+-- `--parts N`: a number from 1 to 16, which is 1 where the option isn't given
+abbrev pub parts_rule : Rule
+parts_rule = record (new_rule (codes "parts")) {
+  long = Some (codes "parts");
+  value_names = 1;
+  parser = Some (parser.Signed (pos 1) (pos MOST_PARTS));
+  defaults = codes "1" ∷ [];
+}
 
 -- `--zone W`: a number from 1 to 524,288, which is 524,288 where the option isn't given
 abbrev pub zone_rule : Rule
@@ -21,7 +32,7 @@ with_version app = record app { top = record app.top { has_version = true } }
 
 -- the program with its options
 unfoldable pub program : App
-program = with_rule (with_version (new_app (codes "hlr"))) zone_rule
+program = with_rule (with_rule (with_version (new_app (codes "hlr"))) parts_rule) zone_rule
 
 -- a number is the one that a text spells; a plus sign may stand before its digits
 abbrev pub Spells : Option Text → ℕ → Type 0
@@ -29,8 +40,8 @@ Spells text n = (digits : Text) × (text ≡ Some digits) × (n ≡ digits_value
 
 -- the options are those that the program's words spell
 abbrev pub OptionsOf : List Row → Options → Type 0
-OptionsOf rows options = Spells (one_of (codes "zone") rows) options.width
+OptionsOf rows options = Spells (one_of (codes "parts") rows) options.parts × Spells (one_of (codes "zone") rows) options.width
 
--- the options are in range
+-- the options are in range: a register can be opened with them
 abbrev pub InRange : Options → Type 0
-InRange options = (1 ≤ options.width) × (options.width ≤ GREATEST_WIDTH)
+InRange options = HasOpening options.parts options.width

@@ -1,5 +1,5 @@
 -- Which command a record is. Syntax comes first, then Field.
-use Rattle.std.specs.Prelude.{ℕ, ◌+◌, ◌==◌, List, [], length, codes, if◌then◌else◌, Option, Some, None, Result, Ok, Err}
+use Rattle.std.specs.Prelude.{ℕ, ◌+◌, ◌==◌, nat_lt, List, [], length, drop, codes, if◌then◌else◌, Option, Some, None, Result, Ok, Err}
 use Rattle.std.specs.Str.{bytes_eq}
 use Rattle.std.specs.Option.{unwrap_or}
 use Rattle.csv.specs.Records.{field_at}
@@ -7,11 +7,14 @@ use Rattle.tatp_rows.specs.Number.{number_in}
 use Rattle.tatp_rows.specs.Letters.{letters_in}
 use Rattle.tatp_rows.specs.Rows.{access_of, facility_of, subscriber_of}
 use Rattle.tatp_rows.specs.declared.refusal.Refusal.{Refusal}
-use Rattle.tatp_rows.specs.declared.refusal.Refusal.TheVariants.{Syntax}
+use Rattle.tatp_rows.specs.declared.refusal.Refusal.TheVariants.{Field, Syntax}
+use Rattle.part_table.specs.declared.region.Side.{Side}
+use Rattle.part_table.specs.declared.region.Side.TheVariants.{Low, High}
 use Rattle.hlr_core.specs.declared.event.Event.TheVariants as event
-use Rattle.hlr.specs.Fields.{◌>>=◌, number_field, byte_field, digits_field, bytes_field}
+use Rattle.hlr.specs.Fields.{◌>>=◌, number_field, number_fields, byte_field, digits_field, bytes_field}
 use Rattle.hlr.specs.declared.records.Command.{Command}
 use Rattle.hlr.specs.declared.records.Command.TheVariants as command
+use Rattle.hlr.specs.declared.records.TheConstants.{MOST_BOUNDS}
 use Rattle.hlr.specs.declared.records.Word.{Word}
 use Rattle.hlr.specs.declared.records.Word.TheVariants as word
 
@@ -168,11 +171,43 @@ post_of fields = do
   limit ← number_field (field fields 2)
   Ok (command.Ask (event.Post part limit))
 
+-- the side of a part that a text names; any other text is Syntax
+unfoldable pub side_named : List ℕ → Result Side Refusal
+side_named text =
+    if bytes_eq text (codes "low") then Ok Low
+    else if bytes_eq text (codes "high") then Ok High
+    else Err Syntax
+
+-- give,part,side,at
+abbrev pub give_of : List (List ℕ) → Result Command Refusal
+give_of fields = do
+  side ← side_named (field fields 2)
+  part ← number_field (field fields 1)
+  at ← number_field (field fields 3)
+  Ok (command.Ask (event.Give part side at))
+
+-- take,piece,part
+abbrev pub take_of : List (List ℕ) → Result Command Refusal
+take_of fields = do
+  piece ← number_field (field fields 1)
+  part ← number_field (field fields 2)
+  Ok (command.Ask (event.Take piece part))
+
+-- the bounds of a re-cut; no register has more than 15, so more are Field
+unfoldable pub bound_fields : List (List ℕ) → Result (List ℕ) Refusal
+bound_fields texts = if nat_lt MOST_BOUNDS (length texts) then Err Field else number_fields texts
+
+-- recut,b1,.. with any number of bounds
+abbrev pub recut_of : List (List ℕ) → Result Command Refusal
+recut_of fields = do
+  bounds ← bound_fields (drop 1 fields)
+  Ok (command.Recut (record { items = bounds }))
+
 -- what the fields after the word give, where there are as many as that
 abbrev pub with_fields : ℕ → List (List ℕ) → Result Command Refusal → Result Command Refusal
 with_fields n fields read = if length fields == n + 1 then read else Err Syntax
 
--- the command of a word and its fields; words whose command this program doesn't know yet are Syntax
+-- the command of a word and its fields
 abbrev pub command_named : Option Word → List (List ℕ) → Result Command Refusal
 command_named (Some word.Gsd) fields = with_fields 1 fields (gsd_of fields)
 command_named (Some word.Gnd) fields = with_fields 4 fields (gnd_of fields)
@@ -190,7 +225,12 @@ command_named (Some word.Post) fields = with_fields 2 fields (post_of fields)
 command_named (Some word.Views) fields = with_fields 0 fields (Ok command.Views)
 command_named (Some word.Scan) fields = with_fields 0 fields (Ok command.Scan)
 command_named (Some word.Index) fields = with_fields 0 fields (Ok command.Index)
-command_named _ fields = Err Syntax
+command_named (Some word.Give) fields = with_fields 3 fields (give_of fields)
+command_named (Some word.Take) fields = with_fields 2 fields (take_of fields)
+command_named (Some word.Regions) fields = with_fields 0 fields (Ok command.Regions)
+command_named (Some word.Propose) fields = with_fields 0 fields (Ok command.Propose)
+command_named (Some word.Recut) fields = recut_of fields
+command_named None fields = Err Syntax
 
 -- the command of a record
 unfoldable pub command_of : List (List ℕ) → Result Command Refusal

@@ -3,7 +3,8 @@ use Rattle.std.specs.Prelude.{ℕ, ◌==◌, ◌++◌, ◌&&◌, not, Bool, List
 use Rattle.std.specs.List.{filter, flat_map, range_with_len}
 use Rattle.tatp_actions.specs.declared.cells.TheConstants.{CELLS}
 use Rattle.hlr_core.specs.Post.{is_zero}
-use Rattle.hlr.specs.Lines.{cell_line, counted_line, number_line, total_line}
+use Rattle.part_table.specs.declared.region.Region.{Region}
+use Rattle.hlr.specs.Lines.{cell_line, counted_line, number_line, region_line, total_line}
 
 -- a report: the line of each thing, one after another, and then a word with how many they are
 unfoldable pub report_text : {X : Type 0} → List ℕ → (X → List ℕ) → List X → List ℕ
@@ -40,3 +41,7 @@ scan_text count = report_text (codes "scan,") (rows_line count) (cells_where (is
 -- `index`, the report of the pairs of a number and a subscriber
 abbrev pub index_text : List (ℕ × ℕ) → List ℕ
 index_text pairs = report_text (codes "index,") number_line pairs
+
+-- `regions`, the report of the ranges, each of a part or of a loose piece
+abbrev pub regions_text : List Region → List ℕ
+regions_text regions = report_text (codes "regions,") region_line regions

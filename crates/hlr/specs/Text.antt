@@ -5,17 +5,19 @@ use Rattle.csv.specs.Reading.{AreRecords, Reached, default_config}
 use Rattle.csv.specs.declared.parser.State.{State}
 use Rattle.csv.specs.declared.parser.State.TheVariants as st
 use Rattle.tatp_rows.specs.declared.refusal.Refusal.{Refusal}
+use Rattle.part_table.specs.Proposal.{proposal}
 use Rattle.tatp_actions.specs.Cell.{cell}
 use Rattle.hlr_core.specs.Index.{index_of}
+use Rattle.hlr_core.specs.Recut.{IsRecut}
 use Rattle.hlr_core.specs.Step.{IsStep}
-use Rattle.hlr_core.specs.Store.{Store, published, unposted}
+use Rattle.hlr_core.specs.Store.{Store, parts_in, published, published_weights, unposted}
 use Rattle.hlr_core.specs.declared.event.Event.{Event}
 use Rattle.hlr_core.specs.declared.event.Reply.{Reply}
 use Rattle.hlr.specs.declared.run.TheConstants.{RECORDS}
-use Rattle.hlr.specs.Lines.{refused_line, reply_line}
+use Rattle.hlr.specs.Lines.{bounds_line, recut_line, refused_line, reply_line}
 use Rattle.hlr.specs.Records.{command_of}
 use Rattle.hlr.specs.Sink.{Begins, AppendsFront}
-use Rattle.hlr.specs.Reports.{index_text, scan_text, views_text}
+use Rattle.hlr.specs.Reports.{index_text, regions_text, scan_text, views_text}
 use Rattle.hlr.specs.declared.fault.Fault.{Fault}
 use Rattle.hlr.specs.declared.fault.Fault.TheVariants as fault
 use Rattle.hlr.specs.declared.records.Command.{Command}
@@ -27,12 +29,25 @@ pub record Answered (before : Store) (event : Event) (text : List ℕ) (after : 
   pub right : IsStep event before reply after
   pub line : text ≡ reply_line reply
 
+-- a re-cut to bounds is answered by the line of a right answer
+pub record RecutAnswered (before : Store) (bounds : List ℕ) (text : List ℕ) (after : Store) : Type 0 where
+  pub answer : Result ℕ Refusal
+  pub right : IsRecut bounds before answer after
+  pub line : text ≡ recut_line answer
+
+-- the line of the bounds that are proposed for a store
+abbrev pub proposal_line : Store → List ℕ
+proposal_line store = bounds_line (proposal (published_weights store) (parts_in store) store.width)
+
 -- a command is answered: an event by its reply, a report by its lines, a record that is no command by its refusal
 abbrev pub CommandText : Result Command Refusal → Store → List ℕ → Store → Type 0
 CommandText (Ok (command.Ask event)) before text after = Answered before event text after
 CommandText (Ok command.Views) before text after = (text ≡ views_text (published before) (unposted before)) × (after ≡ before)
 CommandText (Ok command.Scan) before text after = (text ≡ scan_text (λ c. cell before.width c before.book)) × (after ≡ before)
 CommandText (Ok command.Index) before text after = (text ≡ index_text (index_of before.book.subscribers)) × (after ≡ before)
+CommandText (Ok command.Regions) before text after = (text ≡ regions_text before.regions) × (after ≡ before)
+CommandText (Ok command.Propose) before text after = (text ≡ proposal_line before) × (after ≡ before)
+CommandText (Ok (command.Recut bounds)) before text after = RecutAnswered before bounds.items text after
 CommandText (Err why) before text after = (text ≡ refused_line why) × (after ≡ before)
 
 -- a record is answered

@@ -1,14 +1,14 @@
 //! The lines of the answers.
-ghost use Rattle.std.specs.Prelude.{◌≡◌, ◌≤◌, ◌<◌, ◌+◌, ◌*◌, ◌++◌, ◌∷◌, [], length, codes, decimal, replicate};
+ghost use Rattle.std.specs.Prelude.{◌≡◌, ◌≤◌, ◌<◌, ◌+◌, ◌*◌, ◌++◌, ◌∷◌, [], length, codes, replicate};
 ghost use Rattle.std.specs.List.{flat_map};
-ghost use Rattle.std.specs.Fmt.{signed_decimal};
 ghost use Rattle.arrayvec.specs.ArrayVec.{array_vec_len};
 ghost use Rattle.tatp_rows.specs.Number.{number_text};
-ghost use Rattle.hlr.specs.Lines.{hex_digit, hexes_text, bytes_text, numbers_text, ok_line, refused_line, subscriber_line, numbers_line, access_line, total_line, cell_line, counted_line, number_line, row_reply_line, reply_line};
+ghost use Rattle.hlr.specs.Lines.{hex_digit, hexes_text, bytes_text, numbers_text, ok_line, refused_line, subscriber_line, numbers_line, access_line, total_line, cell_line, counted_line, number_line, place_text, region_line, taken_line, decimals_text, bounds_line, recut_line, row_reply_line, reply_line};
 
 use arrayvec::ArrayVec;
 use hlr_core::Reply;
-use itoa::Buffer;
+use itoa::{Buffer, Integer};
+use part_table::{Bounds, Place, Region};
 use tatp_actions::RowReply;
 use tatp_rows::{Letters, Number, Refusal, Subscriber};
 
@@ -32,21 +32,11 @@ fn push_bytes(line: &mut Line, bytes: &[u8])
     prove!(fits);
 }
 
-/// Appends a number in decimal.
-fn push_decimal(line: &mut Line, n: u64)
-    requires { array_vec_len line.old + 20 ≤ 256 }
-    ensures bytes { line.new.items ≡ line.old.items ++ decimal n }
-    ensures len { array_vec_len line.new ≤ array_vec_len line.old + 20 }
-{
-    let mut buffer = Buffer::new();
-    push_bytes(line, buffer.format(n).as_bytes());
-}
-
-/// Appends a signed number in decimal, with `-` before it where it is negative.
-fn push_signed(line: &mut Line, n: i64)
-    requires { array_vec_len line.old + 20 ≤ 256 }
-    ensures bytes { line.new.items ≡ line.old.items ++ signed_decimal n }
-    ensures len { array_vec_len line.new ≤ array_vec_len line.old + 20 }
+/// Appends a number in decimal, with `-` before it where it is negative.
+fn push_decimal<I: Integer>(line: &mut Line, n: I)
+    requires { array_vec_len line.old + I.MAX_STR_LEN ≤ 256 }
+    ensures bytes { line.new.items ≡ line.old.items ++ I.text n }
+    ensures len { array_vec_len line.new ≤ array_vec_len line.old + I.MAX_STR_LEN }
 {
     let mut buffer = Buffer::new();
     push_bytes(line, buffer.format(n).as_bytes());
@@ -125,7 +115,7 @@ pub fn build_refused(line: &mut Line, why: Refusal)
 {
     line.clear();
     push_bytes(line, b"refused,");
-    push_decimal(line, u64::from(why.code()));
+    push_decimal(line, why.code());
     push_bytes(line, b",");
     push_bytes(line, why.name().as_bytes());
     push_bytes(line, b"\n");
@@ -138,7 +128,7 @@ pub fn build_subscriber(line: &mut Line, row: &Subscriber)
 {
     line.clear();
     push_bytes(line, b"subscriber,");
-    push_decimal(line, u64::from(row.s_id()));
+    push_decimal(line, row.s_id());
     push_bytes(line, b",");
     push_number(line, row.sub_nbr());
     push_bytes(line, b",");
@@ -148,9 +138,9 @@ pub fn build_subscriber(line: &mut Line, row: &Subscriber)
     push_bytes(line, b",");
     push_pairs(line, &row.bytes());
     push_bytes(line, b",");
-    push_decimal(line, u64::from(row.msc_location()));
+    push_decimal(line, row.msc_location());
     push_bytes(line, b",");
-    push_decimal(line, u64::from(row.vlr_location()));
+    push_decimal(line, row.vlr_location());
     push_bytes(line, b"\n");
 }
 
@@ -184,9 +174,9 @@ pub fn build_access(line: &mut Line, data1: u8, data2: u8, data3: Letters<3>, da
 {
     line.clear();
     push_bytes(line, b"access,");
-    push_decimal(line, u64::from(data1));
+    push_decimal(line, data1);
     push_bytes(line, b",");
-    push_decimal(line, u64::from(data2));
+    push_decimal(line, data2);
     push_bytes(line, b",");
     push_bytes(line, &data3.bytes());
     push_bytes(line, b",");
@@ -215,9 +205,9 @@ pub fn build_cell(line: &mut Line, cell: u64, published: i64, unposted: i64)
     push_bytes(line, b"cell,");
     push_decimal(line, cell);
     push_bytes(line, b",");
-    push_signed(line, published);
+    push_decimal(line, published);
     push_bytes(line, b",");
-    push_signed(line, unposted);
+    push_decimal(line, unposted);
     push_bytes(line, b"\n");
 }
 
@@ -243,8 +233,86 @@ pub fn build_number(line: &mut Line, number: Number, s_id: u32)
     push_bytes(line, b"number,");
     push_number(line, number);
     push_bytes(line, b",");
-    push_decimal(line, u64::from(s_id));
+    push_decimal(line, s_id);
     push_bytes(line, b"\n");
+}
+
+/// Appends a part or a loose piece, by its number.
+fn push_place(line: &mut Line, place: Place)
+    requires { array_vec_len line.old + 26 ≤ 256 }
+    ensures bytes { line.new.items ≡ line.old.items ++ place_text place }
+    ensures len { array_vec_len line.new ≤ array_vec_len line.old + 26 }
+{
+    match place {
+        Place::Part(part) => {
+            push_bytes(line, b"part,");
+            push_decimal(line, part);
+        }
+        Place::Piece(piece) => {
+            push_bytes(line, b"piece,");
+            push_decimal(line, piece);
+        }
+    }
+}
+
+/// Builds the line of a region: who has it, and where it begins and ends.
+#[tactic(auto, unfolding(crate::specs::Lines::region_line))]
+pub fn build_region(line: &mut Line, region: &Region)
+    ensures { line.new.items ≡ region_line region.now }
+{
+    line.clear();
+    push_place(line, region.place);
+    push_bytes(line, b",");
+    push_decimal(line, region.lo);
+    push_bytes(line, b",");
+    push_decimal(line, region.hi);
+    push_bytes(line, b"\n");
+}
+
+/// Builds the line of a loose piece that a part took.
+#[tactic(auto, unfolding(crate::specs::Lines::taken_line))]
+pub fn build_taken(line: &mut Line, piece: u8, part: u8)
+    ensures { line.new.items ≡ taken_line piece part }
+{
+    line.clear();
+    push_bytes(line, b"taken,");
+    push_decimal(line, piece);
+    push_bytes(line, b",");
+    push_decimal(line, part);
+    push_bytes(line, b"\n");
+}
+
+/// Appends bounds between parts, each after a comma. There are at most 15, and each has at most ten digits.
+fn push_bounds(line: &mut Line, bounds: &Bounds)
+    requires { array_vec_len line.old + 165 ≤ 256 }
+    ensures bytes { line.new.items ≡ line.old.items ++ decimals_text bounds.now }
+    ensures len { array_vec_len line.new ≤ array_vec_len line.old + 165 }
+{
+    for bound in bounds.list() {
+        push_bytes(line, b",");
+        push_decimal(line, *bound as u32);
+    }
+}
+
+/// Builds the line of bounds between parts.
+#[tactic(auto, unfolding(crate::specs::Lines::bounds_line))]
+pub fn build_bounds(line: &mut Line, bounds: &Bounds)
+    ensures { line.new.items ≡ bounds_line bounds.now }
+{
+    line.clear();
+    push_bytes(line, b"bounds");
+    push_bounds(line, bounds);
+    push_bytes(line, b"\n");
+}
+
+/// Builds the line of a re-cut: how many bounds were moved, or its refusal.
+pub fn build_recut(line: &mut Line, answer: Result<u8, Refusal>)
+    ensures { line.new.items ≡ recut_line answer }
+{
+    match answer {
+        Ok(moves) => build_total(line, b"recut,", u64::from(moves)),
+        Err(why) => build_refused(line, why),
+    }
 }
 
 /// Builds the line of the rows' answer.
@@ -272,6 +340,15 @@ pub fn build_reply(line: &mut Line, reply: &Reply)
     match reply {
         Reply::Rows(rows) => build_row_reply(line, rows),
         Reply::Posted(cells) => build_total(line, b"posted,", u64::from(*cells)),
+        Reply::Given { piece, lo, hi } => {
+            let region = Region {
+                lo: *lo,
+                hi: *hi,
+                place: Place::Piece(*piece),
+            };
+            build_region(line, &region);
+        }
+        Reply::Taken { piece, part } => build_taken(line, *piece, *part),
         Reply::Refused(why) => build_refused(line, *why),
     }
 }

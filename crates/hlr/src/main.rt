@@ -79,7 +79,13 @@ fn answer_input<R: AllocGlobal + Input + Print>(rt: &R, options: Options) -> Res
         return Err(Fault::Memory);
     };
     let mut sink = Out::new(writer);
-    run_alone(rt.alloc(), rt.reader(), &mut sink, 1, options.width)
+    run_alone(
+        rt.alloc(),
+        rt.reader(),
+        &mut sink,
+        options.parts,
+        options.width,
+    )
 }
 
 fn main(rt: HostRuntime) -> ExitCode {

@@ -2,10 +2,12 @@
 ghost use Rattle.std.specs.Prelude.{◌≡◌, IfOk, IfSome, map, codes, false};
 ghost use Rattle.clap.specs.Words.{app_of, fault_of, found_of, matches_of, one_of, rows_of, rule_of};
 ghost use Rattle.clap.specs.Kinds.{FailsBy};
-ghost use Rattle.hlr.specs.Options.{zone_rule, program, Spells, OptionsOf, InRange};
+ghost use Rattle.part_table.specs.Opening.{can_open};
+ghost use Rattle.hlr.specs.Options.{parts_rule, zone_rule, program, Spells, OptionsOf, InRange};
 
 use clap::builder::ValueParser;
 use clap::{Arg, ArgMatches, Command, Error};
+use part_table::MOST_PARTS;
 use std::alloc::{AllocError, Global};
 use tatp_rows::GREATEST_WIDTH;
 
@@ -32,15 +34,25 @@ the program waits for more input.
   dcf,N,F,T                      ends that: ok
   active,S,F,I                   switches a facility on or off: ok
   number,S,N                     gives a subscriber another number: ok
-  post,0,L                       publishes the changed counts of at most L cells: posted,CELLS
+  post,P,L                       publishes the changed counts of at most L cells of the part P: posted,CELLS
+  give,P,high,S                  the part P gives its subscribers from S on away, as a loose piece: piece,K,FROM,TO
+  give,P,low,S                   the same with those below S
+  take,K,P                       the part P takes the loose piece K beside it: taken,K,P
   views                          shows the counts that aren't 0: cell,C,PUBLISHED,UNPOSTED lines, then views,LINES
   scan                           counts the rows anew: cell,C,COUNT lines, then scan,LINES
   index                          shows all numbers: number,N,S lines, then index,LINES
+  regions                        shows all ranges: part,P,FROM,TO and piece,K,FROM,TO lines, then regions,LINES
+  propose                        shows bounds that share the published rows out evenly: bounds,S,..
+  recut,S,..                     moves the bounds between the parts to these: recut,MOVES
 
 BITS are 10 digits 0 or 1, HEXES 10 and BYTES 20 hexadecimal digits, and the locations M and V 1 to 4294967295. The
 types A and F are 1 to 4, D and E 0 to 255, I is 0 or 1, T is 0, 8 or 16, U 1 to 24, X is a number as N, C is 3 and B
 5 letters A to Z. Any other record, or one that can't be done, is answered refused,CODE,NAME. A run starts with no
 subscriber and keeps none. It ends with its input, or after 1048576 records.
+
+The subscribers are shared among parts, numbered from 0: each part has those from a number FROM on and below a number
+TO, and publishes their counts. What a part gives away is a loose piece until a part beside it takes it; till then
+its subscribers are answered refused,11,Moving. A bound S between two parts is the first subscriber of the second.
 
 Example:
 
@@ -53,8 +65,23 @@ The status is 0, or 1 after 'hlr: no memory', 'hlr: read fault' or 'hlr: write f
 /// The options of the program.
 #[derive(Clone, Copy, Debug, PartialEq, Eq)]
 pub struct Options {
+    /// How many parts share the subscribers, 1..=16.
+    pub parts: u8,
     /// How many subscribers a zone has, 1..=524,288.
     pub width: u32,
+}
+
+/// `--parts N`.
+fn parts_arg<'a>(alloc: Global) -> Arg<'a>
+    ensures rule { rule_of result ≡ parts_rule }
+    ensures local { result.global ≡ false }
+{
+    Arg::new(alloc, "parts")
+        .long("parts")
+        .value_name("N")
+        .help("How many parts share the subscribers, 1 to 16")
+        .value_parser(ValueParser::signed(1, i64::from(MOST_PARTS)))
+        .default_value("1")
 }
 
 /// `--zone W`.
@@ -78,7 +105,15 @@ fn program_command<'a>(alloc: Global) -> Result<Command<'a>, AllocError>
         .version(VERSION)
         .about(ABOUT)
         .after_help(FORMATS)
+        .arg(parts_arg(alloc))?
         .arg(zone_arg(alloc))
+}
+
+/// The number that `--parts` spells.
+fn read_parts(matches: &ArgMatches<'_>) -> Option<u8>
+    ensures { IfSome result (Spells (one_of (codes "parts") (rows_of (found_of matches.now)))) }
+{
+    matches.get_one::<u8>("parts")
 }
 
 /// The number that `--zone` spells.
@@ -86,6 +121,13 @@ fn read_zone(matches: &ArgMatches<'_>) -> Option<u32>
     ensures { IfSome result (Spells (one_of (codes "zone") (rows_of (found_of matches.now)))) }
 {
     matches.get_one::<u32>("zone")
+}
+
+/// Whether a register can be opened with so many parts, and zones of this width.
+fn can_open(parts: u8, width: u32) -> bool
+    ensures { result ≡ can_open parts width }
+{
+    1 <= parts && parts <= MOST_PARTS && 1 <= width && width <= GREATEST_WIDTH
 }
 
 /// The options that the program's words ask for, of which the first is the program's name. An error has one of the
@@ -97,8 +139,8 @@ pub fn read_options<'a>(alloc: Global, words: &'a [&'a str]) -> Result<Options, 
 {
     let command = program_command(alloc)?;
     let matches = command.try_get_matches_from(words)?;
-    match read_zone(&matches) {
-        Some(width) if 1 <= width && width <= GREATEST_WIDTH => Ok(Options { width }),
+    match (read_parts(&matches), read_zone(&matches)) {
+        (Some(parts), Some(width)) if can_open(parts, width) => Ok(Options { parts, width }),
         _ => Err(Error::from(AllocError)),
     }
 }

@@ -1,15 +1,20 @@
 //! The commands that records are.
 ghost use Rattle.std.specs.Prelude.{◌≡◌, Some};
 ghost use Rattle.csv.specs.Records.{fields_of};
-ghost use Rattle.hlr.specs.Records.{field, word_named, gsd_of, gnd_of, gad_of, usd_of, ul_of, icf_of, dcf_of, sub_of, acc_of, fac_of, active_of, renaming_of, post_of, with_fields, command_named, command_of};
+ghost use Rattle.hlr.specs.Records.{field, word_named, gsd_of, gnd_of, gad_of, usd_of, ul_of, icf_of, dcf_of, sub_of, acc_of, fac_of, active_of, renaming_of, post_of, side_named, give_of, take_of, recut_of, with_fields, command_named, command_of};
 
 use crate::fields::{parse_byte, parse_bytes, parse_digits, parse_number};
+use arrayvec::ArrayVec;
 use csv::ByteRecord;
 use hlr_core::Event;
+use part_table::{MOST_PARTS, Side};
 use tatp_rows::{Access, Facility, Letters, Number, Refusal, Subscriber};
 
+/// The most bounds between parts that there can be.
+pub const MOST_BOUNDS: usize = MOST_PARTS as usize - 1;
+
 /// What a record asks for.
-#[derive(Clone, Copy, Debug, PartialEq, Eq)]
+#[derive(Debug, PartialEq, Eq, Drop)]
 pub enum Command {
     /// An event for the register.
     Ask(Event),
@@ -19,6 +24,12 @@ pub enum Command {
     Scan,
     /// The report of the numbers.
     Index,
+    /// The report of the regions.
+    Regions,
+    /// The report of the bounds that would share the rows out evenly.
+    Propose,
+    /// A re-cut to these bounds.
+    Recut(ArrayVec<u64, MOST_BOUNDS>),
 }
 
 /// The words that a record may begin with.
@@ -50,9 +61,9 @@ pub enum Word {
     Number,
     /// `post`, which posts cells of a part.
     Post,
-    /// `give`, which gives a range of a part away.
+    /// `give`, by which a part gives a stretch of its range away.
     Give,
-    /// `take`, which takes a loose piece.
+    /// `take`, by which a part takes a loose piece.
     Take,
     /// `views`, the report of the standing counts.
     Views,
@@ -60,11 +71,11 @@ pub enum Word {
     Scan,
     /// `index`, the report of the numbers.
     Index,
-    /// `regions`, the report of the ranges.
+    /// `regions`, the report of the regions.
     Regions,
-    /// `propose`, the report of better bounds.
+    /// `propose`, the report of the bounds that would share the rows out evenly.
     Propose,
-    /// `recut`, which moves the bounds.
+    /// `recut`, which moves the bounds between parts.
     Recut,
 }
 
@@ -282,8 +293,54 @@ fn read_post(row: &ByteRecord) -> Result<Command, Refusal>
     Ok(Command::Ask(Event::Post { part, limit }))
 }
 
-/// The command that a word and the fields after it give: `Syntax` where this program has no command of that word yet, or
-/// there are more or fewer fields than it has; then `Field` where one isn't of its form or is out of its range.
+/// The side of a part that a text names, `low` or `high`: any other text is `Syntax`.
+#[tactic(auto, unfolding(crate::specs::Records::side_named))]
+fn side_named(text: &[u8]) -> Result<Side, Refusal>
+    ensures { result ≡ side_named text.now }
+{
+    match text {
+        b"low" => Ok(Side::Low),
+        b"high" => Ok(Side::High),
+        _ => Err(Refusal::Syntax),
+    }
+}
+
+/// `give,part,side,at`.
+fn read_give(row: &ByteRecord) -> Result<Command, Refusal>
+    ensures { result ≡ give_of (fields_of row.now) }
+{
+    let side = side_named(field(row, 2))?;
+    let part = parse_number(field(row, 1))?;
+    let at = parse_number(field(row, 3))?;
+    Ok(Command::Ask(Event::Give { part, side, at }))
+}
+
+/// `take,piece,part`.
+fn read_take(row: &ByteRecord) -> Result<Command, Refusal>
+    ensures { result ≡ take_of (fields_of row.now) }
+{
+    let piece = parse_number(field(row, 1))?;
+    let part = parse_number(field(row, 2))?;
+    Ok(Command::Ask(Event::Take { piece, part }))
+}
+
+/// `recut,b1,..`: `Field` too where there are more than 15 bounds.
+fn read_recut(row: &ByteRecord) -> Result<Command, Refusal>
+    ensures { result ≡ recut_of (fields_of row.now) }
+{
+    let mut bounds = ArrayVec::new();
+    for i in 1..row.len() {
+        let bound = parse_number(field(row, i))?;
+        if bounds.is_full() {
+            return Err(Refusal::Field);
+        }
+        bounds.push(bound);
+    }
+    Ok(Command::Recut(bounds))
+}
+
+/// The command that a word and the fields after it give: `Syntax` where there are more or fewer fields than it has, or a
+/// side is neither `low` nor `high`; then `Field` where one isn't of its form or is out of its range.
 fn read_fields(word: Word, row: &ByteRecord) -> Result<Command, Refusal>
     ensures { result ≡ command_named (Some word) (fields_of row.now) }
 {
@@ -304,12 +361,18 @@ fn read_fields(word: Word, row: &ByteRecord) -> Result<Command, Refusal>
         Word::Views if row.len() == 1 => Ok(Command::Views),
         Word::Scan if row.len() == 1 => Ok(Command::Scan),
         Word::Index if row.len() == 1 => Ok(Command::Index),
+        Word::Give if row.len() == 4 => read_give(row),
+        Word::Take if row.len() == 3 => read_take(row),
+        Word::Regions if row.len() == 1 => Ok(Command::Regions),
+        Word::Propose if row.len() == 1 => Ok(Command::Propose),
+        Word::Recut => read_recut(row),
         _ => Err(Refusal::Syntax),
     }
 }
 
-/// The command that a record is: `Syntax` where its first field is no word of this program, or it has more or fewer
-/// fields than the command; then `Field` where a field isn't of its form or is out of its range.
+/// The command that a record is: `Syntax` where its first field is no word of this program, it has more or fewer fields
+/// than the command, or a side is neither `low` nor `high`; then `Field` where a field isn't of its form or is out of
+/// its range. Of a re-cut's bounds only their number is tested here, which is at most 15.
 #[tactic(auto, unfolding(crate::specs::Records::command_of))]
 pub fn read_command(row: &ByteRecord) -> Result<Command, Refusal>
     ensures { result ≡ command_of (fields_of row.now) }

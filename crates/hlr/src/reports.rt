@@ -4,13 +4,17 @@ ghost use Rattle.std.specs.Io.KnownBytes.{Appends};
 ghost use Rattle.tatp_actions.specs.Cell.{cell};
 ghost use Rattle.hlr_core.specs.Store.{published, unposted};
 ghost use Rattle.hlr.specs.Sink.{AppendsFront};
-ghost use Rattle.hlr.specs.Reports.{index_text, scan_text, views_text};
+ghost use Rattle.hlr.specs.Reports.{index_text, regions_text, scan_text, views_text};
+ghost use Rattle.hlr.specs.Text.{proposal_line};
 ghost use Rattle.hlr.specs.Inside.{cells_text, is_shown, shown_line, total_word};
 
-use crate::lines::{Line, build_cell, build_counted, build_number, build_total};
+use crate::lines::{
+    Line, build_bounds, build_cell, build_counted, build_number, build_region, build_total,
+};
 use crate::sink::{Sink, Stalled, put_all};
 use hlr_core::Register;
 use number_index::NumberIndex;
+use part_table::Regions;
 use tatp_actions::{CELLS, Cells};
 
 /// The counts that a report of the cells shows.
@@ -159,5 +163,41 @@ pub fn write_index<S: Sink>(
         from = number.value() + 1;
     }
     build_total(line, b"index,", index.len());
+    put_all(sink, line.as_slice())
+}
+
+/// Writes the report of the regions: a line for each, in the order of their ranges, and then the line of how many they
+/// are. The line is the memory to build them in. Where the sink fails, a front of the report was taken.
+#[inline(never)]
+pub fn write_regions<S: Sink>(
+    regions: &Regions,
+    line: &mut Line,
+    sink: &mut S,
+) -> Result<(), Stalled>
+    ensures ok { OnOk result (Appends (S.taken sink.old) (S.taken sink.new) (regions_text regions.now)) }
+    ensures err { OnErr result (AppendsFront (S.taken sink.old) (S.taken sink.new) (regions_text regions.now)) }
+    ensures told { OnErr result (S.has_stalled sink.new ≡ true) }
+{
+    let regions = regions.list();
+    for region in regions {
+        build_region(line, region);
+        put_all(sink, line.as_slice())?;
+    }
+    build_total(line, b"regions,", regions.len() as u64);
+    put_all(sink, line.as_slice())
+}
+
+/// Writes the line of the bounds between parts that would share a register's rows out evenly, as they are published.
+#[inline(never)]
+pub fn write_proposal<S: Sink>(
+    register: &Register,
+    line: &mut Line,
+    sink: &mut S,
+) -> Result<(), Stalled>
+    ensures ok { OnOk result (Appends (S.taken sink.old) (S.taken sink.new) (proposal_line register.now)) }
+    ensures err { OnErr result (AppendsFront (S.taken sink.old) (S.taken sink.new) (proposal_line register.now)) }
+    ensures told { OnErr result (S.has_stalled sink.new ≡ true) }
+{
+    build_bounds(line, &register.propose());
     put_all(sink, line.as_slice())
 }

@@ -13,9 +13,9 @@ ghost use Rattle.tatp_rows.specs.declared.refusal.Refusal.TheVariants as refusal
 ghost use Rattle.hlr.specs.declared.fault.Fault.TheVariants as fault;
 
 use crate::fault::{Fault, read_fault};
-use crate::lines::{Line, build_refused, build_reply, empty_line};
+use crate::lines::{Line, build_recut, build_refused, build_reply, empty_line};
 use crate::records::{Command, read_command};
-use crate::reports::{write_index, write_scan, write_views};
+use crate::reports::{write_index, write_proposal, write_regions, write_scan, write_views};
 use crate::sink::{Sink, Stalled, put_all};
 use crate::whole_records::WholeRecords;
 use csv::{ByteRecord, Reader, ReaderBuilder};
@@ -48,6 +48,12 @@ fn answer<S: Sink>(
         Ok(Command::Views) => write_views(register, line, sink),
         Ok(Command::Scan) => write_scan(register, line, sink),
         Ok(Command::Index) => write_index(register.index(), line, sink),
+        Ok(Command::Regions) => write_regions(register.regions(), line, sink),
+        Ok(Command::Propose) => write_proposal(register, line, sink),
+        Ok(Command::Recut(bounds)) => {
+            build_recut(line, register.recut_to(bounds.as_slice()));
+            put_all(sink, line.as_slice())
+        }
         Err(why) => {
             build_refused(line, why);
             put_all(sink, line.as_slice())
@@ -177,11 +183,11 @@ fn refuse_start<S: Sink>(sink: &mut S, why: Refusal) -> Result<(), Fault>
 }
 
 /// Answers all records of a reader, without a thread, from a store with no row. The records are those of CSV with no
-/// header row, with any number of fields; a byte order mark before them counts for nothing. A part's range and the
+/// header row, with any number of fields; a byte order mark before them counts for nothing. The number of parts and the
 /// zones' width are those of `Register::open`.
 ///
-/// `Field` where parts isn't 1 or width isn't in 1..=524,288, and then nothing is written. `Memory` where memory is
-/// wanted to start or to read a record. `Read` where the reader fails, or gives more than 1,048,576 records. `Write`
+/// `Field` where parts isn't in 1..=16 or width isn't in 1..=524,288, and then nothing is written. `Memory` where memory
+/// is wanted to start or to read a record. `Read` where the reader fails, or gives more than 1,048,576 records. `Write`
 /// where the sink fails.
 ///
 /// Every answer is flushed before a read that may wait: the sink is flushed after each record behind which the reader has

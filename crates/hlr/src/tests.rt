@@ -2,8 +2,8 @@
 //! records, and the options. Whole scripts lie in the repository's folder `examples`, each with its answers.
 use crate::fault::Fault;
 use crate::fields::{parse_byte, parse_bytes, parse_digits, parse_number};
-use crate::lines::{build_cell, build_counted, build_reply, build_total, empty_line};
-use crate::options::read_options;
+use crate::lines::{build_cell, build_counted, build_recut, build_reply, build_total, empty_line};
+use crate::options::{Options, read_options};
 use crate::records::{Word, word_of};
 use crate::reports::{Counts, write_cells};
 use crate::run::run_alone;
@@ -145,7 +145,7 @@ impl<'a> Read for Feed<'a> {
     }
 }
 
-/// Answers a feed on a tape, with zones of 4 subscribers.
+/// Answers a feed on a tape, with one part and zones of 4 subscribers.
 fn answer_feed(rt: &impl AllocGlobal, feed: Feed<'_>, tape: &mut Tape<'_>) -> Result<(), Fault> {
     run_alone(rt.alloc(), feed, &mut Out::new(tape), 1, 4)
 }
@@ -326,6 +326,72 @@ fn each_command_is_answered(rt: HostRuntime) {
     assert_eq!(rt; tape.text(), DONE);
 }
 
+/// Each command on regions, for two parts.
+const REGIONS: &[u8] =
+    b"sub,7,000000000000007,0000000000,0000000000,00000000000000000000,1,268435456
+post,0,51
+give,0,high,5
+give,0,up,5
+gsd,7
+recut,9
+recut
+recut,2,3,4,5,6,7,8,9,10,11,12,13,14,15,16,17
+regions
+take,1,1
+propose
+recut,9
+views
+regions
+";
+
+/// The answers to them.
+const MOVED: &[u8] = b"ok
+posted,2
+piece,1,5,65
+refused,19,Syntax
+refused,11,Moving
+refused,11,Moving
+refused,2,Field
+refused,2,Field
+part,0,1,5
+piece,1,5,65
+part,1,65,16777217
+regions,3
+taken,1,1
+bounds,9
+recut,1
+cell,4,1,0
+cell,20,1,0
+views,2
+part,0,1,9
+part,1,9,16777217
+regions,2
+";
+
+#[test]
+fn regions_are_cut_and_shown(rt: HostRuntime) {
+    let pending = Cell::new(false);
+    for room in [MOVED.len(), MOVED.len() - 60, MOVED.len() - 7, 170, 125] {
+        let mut tape = Tape::new(&pending);
+        tape.room = room;
+        let feed = Feed::new(&pending, REGIONS, 8192);
+        let done = run_alone(rt.alloc(), feed, &mut Out::new(&mut tape), 2, 4);
+        assert_eq!(rt; done.is_ok(), room == MOVED.len());
+        assert_eq!(rt; tape.text(), &MOVED[..room]);
+    }
+}
+
+#[test]
+fn sixteen_parts_have_sixteen_regions(rt: HostRuntime) {
+    let pending = Cell::new(false);
+    let mut tape = Tape::new(&pending);
+    let feed = Feed::new(&pending, b"regions\n", 8192);
+    let done = run_alone(rt.alloc(), feed, &mut Out::new(&mut tape), 16, 4);
+    assert_eq!(rt; done, Ok(()));
+    assert!(rt; tape.text().starts_with(b"part,0,1,9\npart,1,9,17\n"));
+    assert!(rt; tape.text().ends_with(b"part,15,121,16777217\nregions,16\n"));
+}
+
 #[test]
 fn a_writer_may_fail_in_a_report(rt: HostRuntime) {
     let pending = Cell::new(false);
@@ -384,7 +450,7 @@ fn a_failed_flush_is_a_fault_of_the_writer(rt: HostRuntime) {
 #[test]
 fn options_out_of_range_write_nothing(rt: HostRuntime) {
     let pending = Cell::new(false);
-    for (parts, width) in [(0, 4), (2, 4), (17, 4), (1, 0), (1, 524_289)] {
+    for (parts, width) in [(0, 4), (17, 4), (1, 0), (16, 524_289)] {
         let mut tape = Tape::new(&pending);
         let feed = Feed::new(&pending, SCRIPT, 8192);
         let done = run_alone(rt.alloc(), feed, &mut Out::new(&mut tape), parts, width);
@@ -444,6 +510,8 @@ fn lines_and_fields_are_as_told(rt: HostRuntime) {
     assert_eq!(rt; line.as_slice(), b"views,51\n".as_slice());
     build_reply(&mut line, &Reply::Refused(Refusal::Worn));
     assert_eq!(rt; line.as_slice(), b"refused,17,Worn\n".as_slice());
+    build_recut(&mut line, Ok(15));
+    assert_eq!(rt; line.as_slice(), b"recut,15\n".as_slice());
     assert_eq!(rt; word_of(b"recut"), Some(Word::Recut));
     assert_eq!(rt; parse_number(b"18446744073709551615"), Ok(u64::MAX));
     assert_eq!(rt; parse_byte(b"00255"), Ok(255));
@@ -491,16 +559,24 @@ fn faults_have_codes_and_words(rt: HostRuntime) {
 
 #[test]
 fn options_are_read(rt: HostRuntime) {
-    let given: [(&[&str], u32); 3] = [
-        (&["hlr"], 524_288),
-        (&["hlr", "--zone", "1"], 1),
-        (&["hlr", "--zone=524288"], 524_288),
+    let given: [(&[&str], u8, u32); 4] = [
+        (&["hlr"], 1, 524_288),
+        (&["hlr", "--zone", "1"], 1, 1),
+        (&["hlr", "--zone=524288", "--parts", "16"], 16, 524_288),
+        (&["hlr", "--parts=2", "--zone=4"], 2, 4),
     ];
-    for (words, width) in given {
-        let options = read_options(rt.alloc(), words);
-        assert_eq!(rt; options.map(|o| o.width).ok(), Some(width));
+    for (words, parts, width) in given {
+        let options = read_options(rt.alloc(), words).ok();
+        assert_eq!(rt; options, Some(Options { parts, width }));
     }
-    let refused: [(&[&str], OptionFault, bool); 5] = [
+    let refused: [(&[&str], OptionFault, bool); 8] = [
+        (&["hlr", "--parts", "0"], OptionFault::ValueValidation, true),
+        (
+            &["hlr", "--parts", "17"],
+            OptionFault::ValueValidation,
+            true,
+        ),
+        (&["hlr", "--parts", "x"], OptionFault::ValueValidation, true),
         (&["hlr", "--zone", "0"], OptionFault::ValueValidation, true),
         (
             &["hlr", "--zone", "524289"],

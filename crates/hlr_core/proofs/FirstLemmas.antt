@@ -8,7 +8,6 @@ use Rattle.tatp_rows.proofs.OrderedLemmas.{by_test, each-weaker, absent_below}
 use Rattle.tatp_rows.specs.Keys.{key_of, subscriber_key}
 use Rattle.tatp_rows.specs.Ordered.{IsOrderedBy, row_at}
 use Rattle.tatp_rows.specs.Rows.{SubscriberRow}
-use Rattle.tatp_rows.specs.declared.ranges.TheConstants.{LAST_SUBSCRIBER}
 use Rattle.tatp_actions.specs.Book.{Book, IsRowsOf, subscriber_at, first_subscriber}
 
 -- the first row, or the first of the rest
@@ -67,9 +66,9 @@ first_is_none s (x ∷ xs) none =
     rw test (first_is_none s xs parts.2)
 
 -- the number of a subscriber is that of the first row from it on, where this is its own
-pub number_of_first : (book : Book) (s id n : ℕ) (row : SubscriberRow) → IsRowsOf 1 (LAST_SUBSCRIBER + 1) book → Some row ≡ first_subscriber s book.subscribers → id ≡ row.s_id → n ≡ row.sub_nbr
+pub number_of_first : (book : Book) (lo hi s id n : ℕ) (row : SubscriberRow) → IsRowsOf lo hi book → Some row ≡ first_subscriber s book.subscribers → id ≡ row.s_id → n ≡ row.sub_nbr
     → then_some (id == s) n ≡ option_map (λ (r : SubscriberRow). r.sub_nbr) (subscriber_at book s)
-number_of_first book s id n row rows found same number = elim (cases_eq row.s_id s) [
+number_of_first book lo hi s id n row rows found same number = elim (cases_eq row.s_id s) [
   | inl own ↦ (let test : (row.s_id == s) ≡ true = grind (arith, nat_tests) in
       rw (same, number, first_is_row s book.subscribers row rows.rules.subscribers_ordered (sym found) own, test) refl)
   | inr other ↦ (let test : (row.s_id == s) ≡ false = grind (arith, nat_tests) in

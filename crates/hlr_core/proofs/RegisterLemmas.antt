@@ -10,22 +10,22 @@ use Rattle.tatp_rows.specs.declared.refusal.Refusal.{Refusal}
 use Rattle.tatp_rows.proofs.OrderedLemmas.{without_row-with_row}
 use Rattle.mr_node.specs.Rows.{key_of_pair}
 use Rattle.number_index.specs.Pairs.{pair_of, IsAdded}
-use Rattle.tatp_actions.specs.Action.{adds_row, is_in_range, effect, add_subscriber, IsOutcome}
+use Rattle.tatp_actions.specs.Action.{adds_row, is_in_range, s_id_of, effect, add_subscriber, IsOutcome}
 use Rattle.tatp_actions.specs.Book.{Book, IsRowsOf, subscriber_at}
 use Rattle.tatp_actions.specs.declared.action.Action.{Action}
 use Rattle.tatp_actions.specs.declared.action.Action.TheVariants as action
 use Rattle.tatp_actions.specs.declared.action.RowReply.{RowReply}
 use Rattle.tatp_actions.specs.declared.action.RowReply.TheVariants as row_reply
-use Rattle.hlr_core.specs.Asked.{IsAsked}
+use Rattle.hlr_core.specs.Asked.{IsAsked, IsAnswered}
 use Rattle.hlr_core.specs.Index.{IsRegister}
 use Rattle.hlr_core.specs.Numbers.{owner_of}
-use Rattle.hlr_core.specs.Step.{IsRowStep, IsWholeOutcome, given_number, takes_number, changes_number, whole_effect, reply_of}
+use Rattle.hlr_core.specs.Step.{IsRowStep, is_loose, IsWholeOutcome, given_number, takes_number, changes_number, whole_effect, reply_of}
 use Rattle.hlr_core.specs.Store.{Store}
 use Rattle.hlr_core.specs.declared.event.Reply.{Reply}
 use Rattle.hlr_core.specs.declared.event.Reply.TheVariants as reply
 use Rattle.hlr_core.proofs.NumbersLemmas.{owner_is_another, no_twin-with_row}
 use Rattle.hlr_core.proofs.IndexLemmas.{index-with_row, free_number, taken_number}
-use Rattle.hlr_core.proofs.KeptLemmas.{outcome_book}
+use Rattle.hlr_core.proofs.PairsLemmas.{outcome_book}
 
 -- an outcome on a part is one on the whole book, where the action takes no number
 whole_from_part : (act : Action) (before : Book) (answer : RowReply) (after : Book) → is_in_range act ≡ true → takes_number (given_number act) before ≡ false
@@ -39,27 +39,46 @@ whole_from_part act before answer after ranges takes outcome =
       ]
     ]
 
--- an action whose fields are in range and that takes no number is a right step
-pub acted_step : (act : Action) (before after : Store) (rows : RowReply) (answer : Reply) → is_in_range act ≡ true → takes_number (given_number act) before.book ≡ false
-    → IsOutcome act before.book rows after.book → after ≡ record before { book = after.book } → answer ≡ reply_of rows
+-- an action whose fields are in range, that takes no number and whose rows lie in a part is a right step
+pub acted_step : (act : Action) (before after : Store) (rows : RowReply) (answer : Reply) → is_in_range act ≡ true → is_loose (s_id_of act) before.regions ≡ false
+    → takes_number (given_number act) before.book ≡ false → IsOutcome act before.book rows after.book → after ≡ record before { book = after.book } → answer ≡ reply_of rows
     → IsRowStep true (Some act) before answer after
-acted_step act before after rows answer in_range free outcome same is =
-    (rows, after.book, whole_from_part act before.book rows after.book in_range free outcome, is, same)
+acted_step act before after rows answer in_range home free outcome same is =
+    rw home (rows, after.book, whole_from_part act before.book rows after.book in_range free outcome, is, same)
+
+-- an action whose rows lie in a loose piece is a right step
+pub moving_step : (act : Action) (before after : Store) (answer : Reply) → is_loose (s_id_of act) before.regions ≡ true → answer ≡ reply.Refused refusal.Moving → after ≡ before
+    → IsRowStep true (Some act) before answer after
+moving_step act before after answer loose is same = rw loose (is, same)
+
+-- what the rows' owner answers where the fields are in range or not
+module _ (act : Action) (before after : Store) (rows : RowReply) (answer : Reply) (same : after ≡ record before { book = after.book }) (is : answer ≡ reply_of rows) where
+  fields_refused : (loose : Bool) → false ≡ is_in_range act → IsAnswered loose act before.book rows after.book → (answer ≡ reply.Refused refusal.Field) × (after ≡ before)
+  fields_refused true unfit answered =
+      (is ∙ ap reply_of (rw (← unfit) at answered.0), same ∙ ap (λ (b : Book). record before { book = b }) answered.1)
+  fields_refused false unfit outcome =
+      elim outcome [
+        | inl field ↦ (is ∙ ap reply_of field.1, same ∙ ap (λ (b : Book). record before { book = b }) field.2)
+        | inr in_range ↦ elim in_range [
+          | inl done ↦ (let clash : false ≡ true = unfit ∙ done.0 in absurd cc)
+          | inr memory ↦ (let clash : false ≡ true = unfit ∙ memory.0 in absurd cc)
+        ]
+      ]
+
+  answered_step : (loose : Bool) → is_loose (s_id_of act) before.regions ≡ loose → given_number act ≡ None → is_in_range act ≡ true → IsAnswered loose act before.book rows after.book
+      → IsRowStep true (Some act) before answer after
+  answered_step true loose gives fits answered =
+      moving_step act before after answer loose (is ∙ ap reply_of (rw fits at answered.0)) (same ∙ ap (λ (b : Book). record before { book = b }) answered.1)
+  answered_step false home gives fits outcome = acted_step act before after rows answer fits home (rw gives refl) outcome same is
 
 -- an action that was asked for and gives no number is a right step
 pub asked_step : (fits : Bool) (wanted : Option Action) (act : Action) (before after : Store) (rows : RowReply) (answer : Reply) → given_number act ≡ None
-    → IsAsked fits wanted (Ok act) → IsOutcome act before.book rows after.book → after ≡ record before { book = after.book } → answer ≡ reply_of rows
+    → IsAsked fits wanted (Ok act) → IsAnswered (is_loose (s_id_of act) before.regions) act before.book rows after.book → after ≡ record before { book = after.book } → answer ≡ reply_of rows
     → IsRowStep fits wanted before answer after
-asked_step false wanted act before after rows answer gives asked outcome same is =
-    elim outcome [
-      | inl field ↦ (is ∙ ap reply_of field.1, same ∙ ap (λ (b : Book). record before { book = b }) field.2)
-      | inr in_range ↦ elim in_range [
-        | inl done ↦ (let clash : false ≡ true = asked.1 ∙ done.0 in absurd cc)
-        | inr memory ↦ (let clash : false ≡ true = asked.1 ∙ memory.0 in absurd cc)
-      ]
-    ]
-asked_step true wanted act before after rows answer gives asked outcome same is =
-    rw (asked.0) (acted_step act before after rows answer (sym asked.1) (rw gives refl) outcome same is)
+asked_step false wanted act before after rows answer gives asked answered same is =
+    fields_refused act before after rows answer same is (is_loose (s_id_of act) before.regions) asked.1 answered
+asked_step true wanted act before after rows answer gives asked answered same is =
+    rw (asked.0) (answered_step act before after rows answer same is (is_loose (s_id_of act) before.regions) refl gives (sym asked.1) answered)
 
 -- an event that was refused before the rows were asked
 pub unasked_step : (fits : Bool) (wanted : Option Action) (why : Refusal) (before : Store) → IsAsked fits wanted (Err why) → IsRowStep fits wanted before (reply.Refused why) before
@@ -68,8 +87,8 @@ unasked_step true None why before is = (ap reply.Refused is, refl)
 unasked_step true (Some act) why before is = absurd is
 
 -- a refusal of the rows comes before that of a number
-pub refused_step : (act : Action) (before : Store) (why : Refusal) → effect act before.book ≡ (row_reply.Refused why, before.book) → IsRowStep true (Some act) before (reply.Refused why) before
-refused_step act before why is = (row_reply.Refused why, before.book, inl (cases (takes_number (given_number act) before.book) refl), refl, refl)
+pub refused_step : (act : Action) (before : Store) (why : Refusal) → is_loose (s_id_of act) before.regions ≡ false → effect act before.book ≡ (row_reply.Refused why, before.book) → IsRowStep true (Some act) before (reply.Refused why) before
+refused_step act before why home is = rw home (row_reply.Refused why, before.book, inl (cases (takes_number (given_number act) before.book) refl), refl, refl)
   where
     cases : (b : Bool) → takes_number (given_number act) before.book ≡ b → (row_reply.Refused why, before.book) ≡ whole_effect act before.book
     cases true e = rw (e, is) refl
@@ -81,10 +100,10 @@ HasNot book s n = (row : SubscriberRow) → subscriber_at book s ≡ Some row �
 
 -- an action that the rows would do is refused with the index: its number is taken, or memory was refused
 pub unpaired_step : (act : Action) (s n : ℕ) (before : Store) (pairs : List (ℕ × ℕ)) (why : Refusal) → IsRegister before.book pairs → given_number act ≡ Some (s, n) → HasNot before.book s n
-    → (effect act before.book).0 ≡ row_reply.Done → (adds_row act || changes_number (given_number act) before.book) ≡ true
+    → is_loose (s_id_of act) before.regions ≡ false → (effect act before.book).0 ≡ row_reply.Done → (adds_row act || changes_number (given_number act) before.book) ≡ true
     → (IsSome (pair_of n pairs) → why ≡ refusal.NumberTaken) → (pair_of n pairs ≡ None → why ≡ refusal.Memory)
     → IsRowStep true (Some act) before (reply.Refused why) before
-unpaired_step act s n before pairs why register gives differ done grows taken memory = cases (pair_of n pairs) refl
+unpaired_step act s n before pairs why register gives differ home done grows taken memory = cases (pair_of n pairs) refl
   where
     takes : takes_number (given_number act) before.book ≡ is_some (owner_of before.book.subscribers n)
     takes = rw gives (owner_is_another before.book.subscribers s n register.rows.rules.subscribers_ordered differ)
@@ -92,14 +111,23 @@ unpaired_step act s n before pairs why register gives differ done grows taken me
     cases : (o : Option (ℕ × ℕ)) → pair_of n pairs ≡ o → IsRowStep true (Some act) before (reply.Refused why) before
     cases None e =
         let free : takes_number (given_number act) before.book ≡ false = takes ∙ ap is_some (free_number before.book pairs n register e) in
-        rw (memory e) (row_reply.Refused refusal.Memory, before.book, inr (grows, rw free done, refl, refl), refl, refl)
+        rw (memory e, home) (row_reply.Refused refusal.Memory, before.book, inr (grows, rw free done, refl, refl), refl, refl)
     cases (Some pair) e =
         let owned : takes_number (given_number act) before.book ≡ true = takes ∙ taken_number before.book pairs n pair register e in
-        rw (taken (rw e refl)) (row_reply.Refused refusal.NumberTaken, before.book, inl (rw (owned, done) refl), refl, refl)
+        rw (taken (rw e refl), home) (row_reply.Refused refusal.NumberTaken, before.book, inl (rw (owned, done) refl), refl, refl)
+
+-- a subscriber who lies in a part, and has a row or has none
+pub record IsHome (row : SubscriberRow) (store : Store) (has : Bool) : Type 0 where
+  pub home : is_loose row.s_id store.regions ≡ false
+  pub there : is_some (subscriber_at store.book row.s_id) ≡ has
+
+pub at_home : (s : ℕ) (row : SubscriberRow) (store : Store) (has : Bool) → s ≡ row.s_id → false ≡ is_loose s store.regions
+    → (is_loose s store.regions ≡ false → has ≡ is_some (subscriber_at store.book s)) → IsHome row store has
+at_home s row store has same home there = record { home = rw same at (sym home); there = rw same at (sym (there (sym home))) }
 
 -- a subscriber who has a row is refused
-pub exists_step : (row : SubscriberRow) (before : Store) → is_some (subscriber_at before.book row.s_id) ≡ true → IsRowStep true (Some (action.AddSubscriber row)) before (reply.Refused refusal.Exists) before
-exists_step row before has = refused_step (action.AddSubscriber row) before refusal.Exists (cases (subscriber_at before.book row.s_id) has)
+pub exists_step : (row : SubscriberRow) (before : Store) → IsHome row before true → IsRowStep true (Some (action.AddSubscriber row)) before (reply.Refused refusal.Exists) before
+exists_step row before here = refused_step (action.AddSubscriber row) before refusal.Exists here.home (cases (subscriber_at before.book row.s_id) here.there)
   where
     cases : (o : Option SubscriberRow) → is_some o ≡ true → add_subscriber before.book row o ≡ (row_reply.Refused refusal.Exists, before.book)
     cases None has = absurd cc
@@ -111,12 +139,12 @@ absent None lacks = refl
 absent (Some row) lacks = absurd cc
 
 -- a subscriber whose pair the index refuses
-pub unadded_step : (row : SubscriberRow) (before : Store) (pairs new : List (ℕ × ℕ)) (why : Refusal) → IsRegister before.book pairs → is_some (subscriber_at before.book row.s_id) ≡ false
+pub unadded_step : (row : SubscriberRow) (before : Store) (pairs new : List (ℕ × ℕ)) (why : Refusal) → IsRegister before.book pairs → IsHome row before false
     → IsAdded row.sub_nbr row.s_id pairs new (Err why) → IsRowStep true (Some (action.AddSubscriber row)) before (reply.Refused why) before
-unadded_step row before pairs new why register lacks refused =
-    let none = absent (subscriber_at before.book row.s_id) lacks in
+unadded_step row before pairs new why register here refused =
+    let none = absent (subscriber_at before.book row.s_id) here.there in
     unpaired_step (action.AddSubscriber row) row.s_id row.sub_nbr before pairs why register refl (λ other found. let clash : Some other ≡ None = sym found ∙ none in absurd cc)
-    (rw none refl) refl refused.1 refused.2
+    here.home (rw none refl) refl refused.1 refused.2
 
 -- a subscriber who is added, with the pair in the index
 pub added_registered : (row : SubscriberRow) (before after : Book) (pairs new : List (ℕ × ℕ)) → IsRegister before pairs → IsRowsOf 1 (LAST_SUBSCRIBER + 1) after

@@ -16,13 +16,13 @@ use Rattle.tatp_actions.specs.declared.action.Action.TheVariants as action
 use Rattle.tatp_actions.specs.declared.action.RowReply.{RowReply}
 use Rattle.tatp_actions.specs.declared.action.RowReply.TheVariants as row_reply
 use Rattle.hlr_core.specs.Index.{index_of, IsRegister}
-use Rattle.hlr_core.specs.Step.{IsRowStep, given_number, takes_number, reply_of}
+use Rattle.hlr_core.specs.Step.{IsRowStep, is_loose, given_number, takes_number, reply_of}
 use Rattle.hlr_core.specs.Store.{Store}
 use Rattle.hlr_core.specs.declared.event.Reply.{Reply}
 use Rattle.hlr_core.specs.declared.event.Reply.TheVariants as reply
 use Rattle.hlr_core.proofs.NumbersLemmas.{other_numbers, owner_found, no_twin-with_row_at}
 use Rattle.hlr_core.proofs.IndexLemmas.{index_renamed, owner_indexed, free_number}
-use Rattle.hlr_core.proofs.KeptLemmas.{swapped_registered}
+use Rattle.hlr_core.proofs.PairsLemmas.{swapped_registered}
 use Rattle.hlr_core.proofs.RegisterLemmas.{acted_step, refused_step, unpaired_step, free_to_take}
 
 -- a subscriber's row and the renaming of its number in the index
@@ -49,9 +49,9 @@ renaming s old n book pairs new result register number result_is = cases (subscr
         record { row = row; found = e; own = own; answer = rw (same, owner) at result_is }
 
 -- a subscriber without a row
-pub unnumbered_step : (s n : ℕ) (before : Store) → None ≡ option_map (λ (row : SubscriberRow). row.sub_nbr) (subscriber_at before.book s)
+pub unnumbered_step : (s n : ℕ) (before : Store) → is_loose s before.regions ≡ false → None ≡ option_map (λ (row : SubscriberRow). row.sub_nbr) (subscriber_at before.book s)
     → IsRowStep true (Some (action.SetNumber s n)) before (reply.Refused refusal.NoSubscriber) before
-unnumbered_step s n before none = refused_step (action.SetNumber s n) before refusal.NoSubscriber (cases (subscriber_at before.book s) refl none)
+unnumbered_step s n before home none = refused_step (action.SetNumber s n) before refusal.NoSubscriber home (cases (subscriber_at before.book s) refl none)
   where
     cases : (o : Option SubscriberRow) → subscriber_at before.book s ≡ o → None ≡ option_map (λ (row : SubscriberRow). row.sub_nbr) o
         → effect (action.SetNumber s n) before.book ≡ (row_reply.Refused refusal.NoSubscriber, before.book)
@@ -59,16 +59,16 @@ unnumbered_step s n before none = refused_step (action.SetNumber s n) before ref
     cases (Some row) e is = absurd cc
 
 -- a number that the index refuses
-pub unrenamed_step : (s old n : ℕ) (before : Store) (pairs new : List (ℕ × ℕ)) (why : Refusal) → IsRegister before.book pairs
+pub unrenamed_step : (s old n : ℕ) (before : Store) (pairs new : List (ℕ × ℕ)) (why : Refusal) → IsRegister before.book pairs → is_loose s before.regions ≡ false
     → Some old ≡ option_map (λ (row : SubscriberRow). row.sub_nbr) (subscriber_at before.book s) → IsRenamed old n pairs new (Err why) (owner_in old pairs)
     → IsRowStep true (Some (action.SetNumber s n)) before (reply.Refused why) before
-unrenamed_step s old n before pairs new why register number changed =
+unrenamed_step s old n before pairs new why register home number changed =
     let found = renaming s old n before.book pairs new (Err why) register number changed in
     elim (found.answer) [
       | inl same ↦ (let clash : Err why ≡ Ok tt = same.1 in absurd cc)
       | inr refused ↦ (let other : found.row.sub_nbr ≢ n = refused.0 in
           unpaired_step (action.SetNumber s n) s n before pairs why register refl (λ row is. let at : row ≡ found.row = one row found.row (sym is ∙ found.found) in rw at other)
-          (rw (found.found) refl) (rw (found.found) (grind (arith, nat_tests))) refused.1.1 refused.1.2)
+          home (rw (found.found) refl) (rw (found.found) (grind (arith, nat_tests))) refused.1.1 refused.1.2)
     ]
   where
     one : (x y : SubscriberRow) → Some x ≡ Some y → x ≡ y
@@ -116,13 +116,13 @@ renamed_registered s old n before after pairs new answer register rows number ch
     ]
 
 -- a number that is given is a right step
-pub renamed_step : (s old n : ℕ) (before after : Store) (pairs new : List (ℕ × ℕ)) (rows : RowReply) (answer : Reply) → IsRegister before.book pairs
+pub renamed_step : (s old n : ℕ) (before after : Store) (pairs new : List (ℕ × ℕ)) (rows : RowReply) (answer : Reply) → IsRegister before.book pairs → is_loose s before.regions ≡ false
     → Some old ≡ option_map (λ (row : SubscriberRow). row.sub_nbr) (subscriber_at before.book s) → IsRenamed old n pairs new (Ok tt) (owner_in old pairs)
     → is_in_range (action.SetNumber s n) ≡ true → IsOutcome (action.SetNumber s n) before.book rows after.book → after ≡ record before { book = after.book } → answer ≡ reply_of rows
     → IsRowStep true (Some (action.SetNumber s n)) before answer after
-renamed_step s old n before after pairs new rows answer register number changed fits outcome same is =
+renamed_step s old n before after pairs new rows answer register home number changed fits outcome same is =
     let found = renaming s old n before.book pairs new (Ok tt) register number changed in
-    acted_step (action.SetNumber s n) before after rows answer fits (takes found (found.answer)) outcome same is
+    acted_step (action.SetNumber s n) before after rows answer fits home (takes found (found.answer)) outcome same is
   where
     takes : (found : IsRenaming s n before.book pairs new (Ok tt)) → IsRenamed found.row.sub_nbr n pairs new (Ok tt) (Some s) → takes_number (given_number (action.SetNumber s n)) before.book ≡ false
     takes found changed = elim changed [

@@ -1,54 +1,163 @@
--- What the register's store says of the one holding and its board.
-use Rattle.std.proofs.Common.{◌≡◌, ℕ, ◌<◌, refl, arith, zero, suc, List, [], ◌∷◌, sym, ◌∙◌, None, slice_get}
-use Rattle.std.specs.Prelude.{ℤ, Result}
-use Rattle.std.proofs.lemmas.Int.{ints}
-use Rattle.tatp_rows.specs.declared.refusal.Refusal.{Refusal}
-use Rattle.tatp_actions.specs.Book.{IsRowsOf, rows_between}
-use Rattle.tatp_actions.specs.Cell.{cell}
-use Rattle.tatp_actions.proofs.BetweenLemmas.{own_rows}
-use Rattle.tatp_actions.specs.declared.cells.TheConstants.{CELLS}
-use Rattle.view_delta.specs.Pending.{pending_at}
-use Rattle.hlr_core.specs.Held.{HoldingState, AreHeld}
-use Rattle.hlr_core.specs.Post.{post}
-use Rattle.hlr_core.specs.Step.{IsPostStep, posted_reply}
-use Rattle.hlr_core.specs.Store.{Store, published, unposted, slots_of}
-use Rattle.hlr_core.specs.Words.{net, slot_net}
-use Rattle.hlr_core.specs.declared.event.Reply.{Reply}
-use Rattle.hlr_core.proofs.WordsLemmas.{net_of_first}
+-- The store of holdings and loose pieces, woven by their regions: its rows, and who stands where.
+use Rattle.std.proofs.Common.{◌≡◌, ◌∙◌, refl, sym, ap, ℕ, zero, suc, ◌+◌, ◌<◌, ◌≤◌, arith, List, [], ◌∷◌, length, get_or, set, subst, map, take, ◌-◌, ◌++◌}
+use Rattle.std.specs.Prelude.{Some, find, ◌==◌}
+use Rattle.std.specs.List.{AllZip, IsDistinct, range_with_len}
+use Rattle.std.proofs.lemmas.Slice.Zip.{AllZip-long}
+use Rattle.tatp_actions.specs.Book.{IsRowsOf, empty_book}
+use Rattle.tatp_actions.specs.Part.{IsWidth, IsRange}
+use Rattle.part_table.proofs.NumberLemmas.{range_distinct, length_regions}
+use Rattle.part_table.proofs.WovenLemmas.{piece_beside, part_beside, woven-parts_between, pieces_before-lt}
+use Rattle.part_table.proofs.WovenCutLemmas.{woven-set}
+use Rattle.part_table.proofs.BoundsLemmas.{length_parts, no_pieces, within}
+use Rattle.part_table.specs.Bounds.{parts_between}
+use Rattle.part_table.specs.Region.{is_part, is_piece}
+use Rattle.part_table.specs.Regions.{AreRegions, parts_of, IsConsecutive}
+use Rattle.part_table.specs.Woven.{woven, pieces_before}
+use Rattle.part_table.specs.declared.region.Region.{Region}
+use Rattle.part_table.specs.declared.region.TheConstants.{END}
+use Rattle.hlr_core.specs.Board.{IsBoard}
+use Rattle.hlr_core.specs.Owners.{store_of}
+use Rattle.hlr_core.specs.Held.{HoldingState, IsOwner, AreHeld}
+use Rattle.hlr_core.specs.Store.{Store, HasOpening, opening}
+use Rattle.hlr_core.specs.Words.{blank_words}
+use Rattle.hlr_core.proofs.HeldLemmas.{IsFresh}
+use Rattle.hlr_core.proofs.WordsLemmas.{blank_net}
+use Rattle.hlr_core.proofs.HalvesLemmas.{HasRows}
+use Rattle.hlr_core.proofs.OwnerLemmas.{book_of_owners, owner_rows, owners_rows, zip_push}
+use Rattle.hlr_core.proofs.OwnerActLemmas.{found_owner, found_stays}
+use Rattle.hlr_core.proofs.OwnerPostLemmas.{opened_owners, opened_book}
+use Rattle.part_table.proofs.OpeningLemmas.{openable}
+use Rattle.part_table.specs.Opening.{opening_bound}
+use Rattle.std.proofs.lemmas.List.{take_more}
+use Rattle.std.proofs.lemmas.List.FromFn.{length-map-range_with_len}
 
--- the store of one holding and its board
-abbrev pub store_of : HoldingState → List ℕ → Store
-store_of holding words = record { book = holding.part.book; words = words; slots = (0 ∷ []) ∷ []; width = holding.part.width }
+-- both of two facts, of each pair
+pub zip_both : {A B : Type 0} (P Q : A → B → Type 0) (xs : List A) (ys : List B) → AllZip P xs ys → AllZip Q xs ys → AllZip (λ (x : A) (y : B). P x y × Q x y) xs ys
+zip_both P Q [] [] ps qs = tt
+zip_both P Q [] (y ∷ ys) ps qs = absurd ps
+zip_both P Q (x ∷ xs) [] ps qs = absurd ps
+zip_both P Q (x ∷ xs) (y ∷ ys) ps qs = ((ps.0, qs.0), zip_both P Q xs ys ps.1 qs.1)
 
--- there is one part
-pub no_part : (part : ℕ) → (part ≡ 0 → ⊥) → slice_get {X = List ℕ} ((0 ∷ []) ∷ []) part ≡ None
-no_part zero never = absurd (never refl)
-no_part (suc part) never = refl
+-- an element put where it stands
+set_at : {X : Type 0} (xs : List X) (i : ℕ) (d : X) → set xs i (get_or xs i d) ≡ xs
+set_at [] i d = refl
+set_at (x ∷ xs) zero d = refl
+set_at (x ∷ xs) (suc i) d = ap (λ rest. x ∷ rest) (set_at xs i d)
 
--- a cell as published is the net of the one slot
-pub published_is : (holding : HoldingState) (words : List ℕ) (c : ℕ) → c < CELLS → AreHeld holding words → published (store_of holding words) c ≡ net words (0 ∷ []) c
-published_is holding words c below held = net_of_first words c (λ slot from. held.others c slot below from)
+pub set_same : {X : Type 0} (xs : List X) (i : ℕ) (x : X) → x ≡ get_or xs i x → set xs i x ≡ xs
+set_same xs i x is = ap (λ y. set xs i y) is ∙ set_at xs i x
 
--- what is pending is what is not posted
-pub unposted_is : (holding : HoldingState) (words : List ℕ) (c : ℕ) → c < CELLS → AreHeld holding words → pending_at holding.pending c ≡ unposted (store_of holding words) c
-unposted_is holding words c below held =
-    let law = held.held c below in
-    rw (published_is holding words c below held) (omega (arith, ints))
+-- no part's number stands twice
+pub parts_distinct : (regions : List Region) → AreRegions regions → IsDistinct ◌==◌ (parts_of regions)
+parts_distinct regions are = rw are.in_order (range_distinct 0 (length (parts_of regions)))
 
--- all rows lie in the range of all subscribers
-pub all_rows : (holding : HoldingState) (words : List ℕ) → AreHeld holding words → IsRowsOf 1 16777217 holding.part.book
-all_rows holding words held = rw (← held.from_first, ← held.to_last) held.rules.rows
+module _ (regions : List Region) (holdings pieces : List HoldingState) (words : List ℕ) (width : ℕ) (are : AreRegions regions) (held : AreHeld regions holdings pieces words width) where
+  -- the rows of all
+  pub all_rows : IsRowsOf 1 END (book_of_owners (woven regions holdings pieces))
+  all_rows = owner_rows width 1 words regions (woven regions holdings pieces) held.owners are.consecutive
 
--- posting the one part is a right step
-pub post_step : (before after : HoldingState) (words words' : List ℕ) (part limit : ℕ) (answer : Reply) (posted : Result ℕ Refusal) → part ≡ 0 → AreHeld before words
-    → after.part ≡ before.part
-    → (posted, words') ≡ post (λ (c : ℕ). cell before.part.width c before.part.book) (0 ∷ []) limit words
-    → answer ≡ posted_reply posted
-    → IsPostStep (slots_of (store_of before words) part) part limit (store_of before words) answer (store_of after words')
-post_step before after words words' part limit answer posted first held same done is =
-    let own : rows_between 1 16777217 before.part.book ≡ before.part.book = own_rows 1 16777217 before.part.book (all_rows before words held) in
-    rw (first, own, ← done, is, same) (refl, refl)
+  -- each owner has the rows of its region
+  pub each_rows : AllZip (HasRows (book_of_owners (woven regions holdings pieces))) regions (woven regions holdings pieces)
+  each_rows = owners_rows width 1 words regions (woven regions holdings pieces) held.owners are.consecutive
 
--- the net of the one slot is what all slots have published
-pub net_is_published : (holding : HoldingState) (words : List ℕ) (c : ℕ) (n : ℤ) → c < CELLS → AreHeld holding words → n ≡ slot_net words c 0 → n ≡ published (store_of holding words) c
-net_is_published holding words c n below held is = let one : net words (0 ∷ []) c ≡ slot_net words c 0 = omega (arith, ints) in is ∙ sym one ∙ sym (published_is holding words c below held)
+  -- and keeps its rules
+  each_owned : AllZip (λ (region : Region) (owner : HoldingState). IsOwner width words region owner × HasRows (book_of_owners (woven regions holdings pieces)) region owner) regions (woven regions holdings pieces)
+  each_owned = zip_both (IsOwner width words) (HasRows (book_of_owners (woven regions holdings pieces))) regions (woven regions holdings pieces) held.owners each_rows
+
+  -- there are as many holdings as parts
+  pub part_within : (p : ℕ) (region : Region) → find (is_part p) regions ≡ Some region → p < length holdings
+  part_within p region found = from_first holdings refl
+    where
+      from_first : (hs : List HoldingState) → hs ≡ holdings → p < length holdings
+      from_first [] none = let some = are.some_part in let zero_long = ap length none in absurd (omega (arith, held.each_part))
+      from_first (first ∷ hs) is = (part_beside regions holdings pieces held.each_part held.each_piece are.in_order (IsOwner width words) p region first found held.owners).0
+
+  -- so a holding keeps the rules of its part's region, and has its rows
+  pub part_owned : (p : ℕ) (region : Region) (holding : HoldingState) → find (is_part p) regions ≡ Some region → holding ≡ get_or holdings p holding
+      → IsOwner width words region holding × HasRows (book_of_owners (woven regions holdings pieces)) region holding
+  part_owned p region holding found is =
+      subst (λ (h : HoldingState). IsOwner width words region h × HasRows (book_of_owners (woven regions holdings pieces)) region h) (sym is)
+      (part_beside regions holdings pieces held.each_part held.each_piece are.in_order
+      (λ (r : Region) (o : HoldingState). IsOwner width words r o × HasRows (book_of_owners (woven regions holdings pieces)) r o) p region holding found each_owned).1
+
+  -- and a loose piece those of its own
+  pub piece_within : (n : ℕ) (region : Region) → find (is_piece n) regions ≡ Some region → pieces_before (is_piece n) regions < length pieces
+  piece_within n region found = omega (arith, held.each_piece, pieces_before-lt n regions region found)
+
+  pub loose_owned : (n : ℕ) (region : Region) (piece : HoldingState) → find (is_piece n) regions ≡ Some region → piece ≡ get_or pieces (pieces_before (is_piece n) regions) piece
+      → IsOwner width words region piece × HasRows (book_of_owners (woven regions holdings pieces)) region piece
+  loose_owned n region piece found is =
+      subst (λ (h : HoldingState). IsOwner width words region h × HasRows (book_of_owners (woven regions holdings pieces)) region h) (sym is)
+      (piece_beside regions holdings pieces held.each_part held.each_piece
+      (λ (r : Region) (o : HoldingState). IsOwner width words r o × HasRows (book_of_owners (woven regions holdings pieces)) r o) n region piece found each_owned).1
+
+  -- a holding stands beside its part's region
+  pub part_stands : (p : ℕ) (region : Region) (holding : HoldingState) → find (is_part p) regions ≡ Some region → holding ≡ get_or holdings p holding
+      → found_owner (is_part p) regions (woven regions holdings pieces) ≡ Some holding
+  part_stands p region holding found is =
+      found_stays (is_part p) region holding (IsOwner width words) regions (woven regions holdings pieces) found held.owners
+      (sym (woven-set regions holdings pieces held.each_part held.each_piece are.in_order p holding region found)
+      ∙ ap (λ (hs : List HoldingState). woven regions hs pieces) (set_same holdings p holding is))
+
+-- regions that follow one another are ranges of subscribers
+pub region_range : (from : ℕ) (regions : List Region) (i : ℕ) (d : Region) → 1 ≤ from → i < length regions → IsConsecutive from regions → IsRange (get_or regions i d).lo (get_or regions i d).hi
+region_range from [] i d first inside consecutive = absurd (omega arith)
+region_range from (region ∷ regions) zero d first inside consecutive =
+    let begins = consecutive.0 in
+    let end = within region.hi regions consecutive.2 in
+    (omega arith, consecutive.1, end)
+region_range from (region ∷ regions) (suc i) d first inside consecutive =
+    let begins = consecutive.0 in
+    let some = consecutive.1 in
+    region_range region.hi regions i d (omega arith) (omega arith) consecutive.2
+
+-- one more holding for the next region
+pub opened_more : (width i : ℕ) (regions : List Region) (d : Region) (holdings : List HoldingState) (holding : HoldingState) → i < length regions → AllZip (IsFresh width) (take i regions) holdings → IsFresh width (get_or regions i d) holding
+    → AllZip (IsFresh width) (take (i + 1) regions) (holdings ++ holding ∷ [])
+opened_more width i regions d holdings holding inside each fresh =
+    rw (take_more regions i d inside) (zip_push (IsFresh width) (take i regions) holdings (get_or regions i d) holding each fresh)
+
+-- holdings with no row and nothing pending, over blank words and parts alone
+pub opened_held : (width : ℕ) (bounds : List ℕ) (holdings : List HoldingState) → IsWidth width → IsBoard blank_words → AllZip (IsFresh width) (parts_between 0 1 bounds) holdings
+    → AreHeld (parts_between 0 1 bounds) holdings [] blank_words width
+opened_held width bounds holdings wide board each =
+    let regions = parts_between 0 1 bounds in
+    let long = AllZip-long (IsFresh width) regions holdings each in
+    let none = no_pieces 0 1 bounds in
+    let parts = length_parts 0 1 bounds in
+    let all = length_regions regions in
+    let no_number = ap length none in
+    let count : length holdings ≡ length (parts_of regions) = omega arith in
+    record {
+      each_part = count;
+      each_piece = sym no_number;
+      owners = rw (woven-parts_between 0 1 bounds holdings (omega arith)) (opened_owners width regions holdings each);
+      zones = wide;
+      board = board;
+      others = λ c slot below from. blank_net c slot;
+    }
+
+pub opened_rows : (width : ℕ) (bounds : List ℕ) (holdings : List HoldingState) → AllZip (IsFresh width) (parts_between 0 1 bounds) holdings
+    → book_of_owners (woven (parts_between 0 1 bounds) holdings []) ≡ empty_book
+opened_rows width bounds holdings each =
+    let regions = parts_between 0 1 bounds in
+    let long = AllZip-long (IsFresh width) regions holdings each in
+    let none = ap length (no_pieces 0 1 bounds) in
+    let parts = length_parts 0 1 bounds in
+    let all = length_regions regions in
+    ap book_of_owners (woven-parts_between 0 1 bounds holdings (omega arith)) ∙ opened_book width regions holdings each
+
+-- that is the store at opening
+pub opened_store : (parts width : ℕ) (holdings : List HoldingState) → HasOpening parts width → AllZip (IsFresh width) (parts_between 0 1 (map (opening_bound parts width) (range_with_len 1 (parts - 1)))) holdings
+    → store_of (parts_between 0 1 (map (opening_bound parts width) (range_with_len 1 (parts - 1)))) holdings [] blank_words width ≡ opening parts width
+opened_store parts width holdings can each =
+    let bounds = map (opening_bound parts width) (range_with_len 1 (parts - 1)) in
+    let is = openable parts width can in
+    let long = AllZip-long (IsFresh width) (parts_between 0 1 bounds) holdings each in
+    let none = ap length (no_pieces 0 1 bounds) in
+    let numbers = length_parts 0 1 bounds in
+    let all = length_regions (parts_between 0 1 bounds) in
+    let count = length-map-range_with_len (opening_bound parts width) 1 (parts - 1) in
+    let some = is.some_part in
+    let same : length holdings ≡ parts = omega arith in
+    rw (same, opened_rows width bounds holdings each) refl

@@ -1,12 +1,12 @@
 -- The nets of slots after a word is raised.
-use Rattle.std.proofs.Common.{◌≡◌, ◌≢◌, ℕ, ◌+◌, ◌<◌, ◌≤◌, refl, arith, zero, suc, List, [], ◌∷◌, get_or, length}
+use Rattle.std.proofs.Common.{◌≡◌, ◌≢◌, ℕ, ◌+◌, ◌<◌, ◌≤◌, refl, arith, zero, suc, List, get_or, length}
 use Rattle.std.specs.Prelude.{ℤ, pos, negsuc, ◌+ℤ◌}
 use Rattle.std.specs.List.{range_with_len}
 use Rattle.std.proofs.lemmas.Int.{ints}
 use Rattle.std.proofs.lemmas.List.{get_or-set_same, get_or-set_other, length-set}
 use Rattle.tatp_actions.specs.declared.cells.TheConstants.{CELLS}
 use Rattle.hlr_core.specs.declared.board.TheConstants.{WORDS}
-use Rattle.hlr_core.specs.Words.{plus_word, minus_word, slot_net, net, raised, all_slots, blank_words}
+use Rattle.hlr_core.specs.Words.{plus_word, minus_word, slot_net, net, raised, blank_words}
 use Rattle.tatp_rows.proofs.BlankLemmas.{blank_at}
 
 -- raising words keeps how many there are
@@ -54,11 +54,6 @@ net_none words c a (suc n) none =
     let here : slot_net words c a ≡ pos 0 = none a (omega arith) in
     let rest = net_none words c (a + 1) n (λ slot from. none slot (omega arith)) in
     rw (here, rest) refl
-
--- where the first slot alone has published, all slots have published what it has
-pub net_of_first : (words : List ℕ) (c : ℕ) → ((slot : ℕ) → 1 ≤ slot → slot_net words c slot ≡ pos 0) → net words all_slots c ≡ net words (0 ∷ []) c
-unfolding all_slots
-net_of_first words c none = let rest = net_none words c 1 15 none in rw rest refl
 
 -- blank words have no net
 pub blank_net : (c slot : ℕ) → slot_net blank_words c slot ≡ pos 0

@@ -1,11 +1,14 @@
--- What an event on rows asks for, once its plain numbers are checked. No clause of a public call cites this.
-use Rattle.std.specs.Prelude.{◌≡◌, ◌+◌, Bool, true, false, Option, Some, None, Result, Ok, Err}
+-- What an event on rows asks for, once its plain numbers are checked, and what the owner of the rows answers. No clause of a
+-- public call cites this.
+use Rattle.std.specs.Prelude.{◌≡◌, ◌+◌, Bool, true, false, Option, Some, None, Result, Ok, Err, if◌then◌else◌}
 use Rattle.tatp_rows.specs.declared.refusal.Refusal.{Refusal}
 use Rattle.tatp_rows.specs.declared.refusal.Refusal.TheVariants as refusal
 use Rattle.tatp_rows.specs.declared.ranges.TheConstants.{LAST_SUBSCRIBER}
-use Rattle.tatp_actions.specs.Action.{is_in_range, s_id_of}
-use Rattle.tatp_actions.specs.Book.{IsWithin}
+use Rattle.tatp_actions.specs.Action.{is_in_range, s_id_of, IsOutcome}
+use Rattle.tatp_actions.specs.Book.{Book, IsWithin}
 use Rattle.tatp_actions.specs.declared.action.Action.{Action}
+use Rattle.tatp_actions.specs.declared.action.RowReply.{RowReply}
+use Rattle.tatp_actions.specs.declared.action.RowReply.TheVariants as row_reply
 use Rattle.hlr_core.specs.Step.{given_number}
 
 -- an action on the rows of one of all subscribers, that gives no number
@@ -23,3 +26,9 @@ IsAsked true (Some act) (Err why) = ⊥
 -- an event that names its subscriber asks for its action
 abbrev pub IsAskedAlone : Action → Result Action Refusal → Type 0
 IsAskedAlone act = IsAsked (is_in_range act) (Some act)
+
+-- what the owner of an action's rows may answer: a loose piece answers Moving, after Field, and else it is a right outcome
+abbrev pub IsAnswered : Bool → Action → Book → RowReply → Book → Type 0
+IsAnswered false act before answer after = IsOutcome act before answer after
+IsAnswered true act before answer after =
+    (answer ≡ row_reply.Refused (if is_in_range act then refusal.Moving else refusal.Field)) × (after ≡ before)

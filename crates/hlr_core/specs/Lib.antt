@@ -2,8 +2,11 @@ pub mod Asked
 pub mod Board
 pub mod Held
 pub mod Index
+pub mod Kept
 pub mod Numbers
+pub mod Owners
 pub mod Post
+pub mod Recut
 pub mod Step
 pub mod Store
 pub mod Words

@@ -4,7 +4,14 @@ use Rattle.tatp_rows.specs.Rows.{SubscriberRow, is_between, is_start_time}
 use Rattle.tatp_rows.specs.declared.ranges.TheConstants.{LAST_SUBSCRIBER}
 use Rattle.tatp_rows.specs.declared.refusal.Refusal.{Refusal}
 use Rattle.tatp_rows.specs.declared.refusal.Refusal.TheVariants as refusal
-use Rattle.tatp_actions.specs.Action.{effect, adds_row, is_in_range}
+use Rattle.part_table.specs.Give.{give_answer, after_give}
+use Rattle.part_table.specs.Regions.{place_of}
+use Rattle.part_table.specs.Take.{take_answer, after_take}
+use Rattle.part_table.specs.declared.region.Place.{Place}
+use Rattle.part_table.specs.declared.region.Place.TheVariants as place
+use Rattle.part_table.specs.declared.region.Region.{Region}
+use Rattle.part_table.specs.declared.region.Side.{Side}
+use Rattle.tatp_actions.specs.Action.{effect, adds_row, is_in_range, s_id_of}
 use Rattle.tatp_actions.specs.Book.{Book, subscriber_at}
 use Rattle.tatp_actions.specs.Cell.{cell}
 use Rattle.tatp_actions.specs.declared.action.Action.{Action}
@@ -15,7 +22,7 @@ use Rattle.hlr_core.specs.Numbers.{owner_of, owner_id}
 use Rattle.hlr_core.specs.Post.{post}
 use Rattle.hlr_core.specs.Store.{Store, rows_of, slots_of}
 use Rattle.hlr_core.specs.declared.event.Event.{Event}
-use Rattle.hlr_core.specs.declared.event.Event.TheVariants.{SubscriberData, NewDestination, AccessData, UpdateSubscriber, UpdateLocation, InsertForwarding, DeleteForwarding, AddSubscriber, AddAccess, AddFacility, SetActive, SetNumber, Post}
+use Rattle.hlr_core.specs.declared.event.Event.TheVariants.{SubscriberData, NewDestination, AccessData, UpdateSubscriber, UpdateLocation, InsertForwarding, DeleteForwarding, AddSubscriber, AddAccess, AddFacility, SetActive, SetNumber, Post, Give, Take}
 use Rattle.hlr_core.specs.declared.event.Reply.{Reply}
 use Rattle.hlr_core.specs.declared.event.Reply.TheVariants as reply
 
@@ -68,13 +75,28 @@ abbrev pub reply_of : RowReply → Reply
 reply_of (row_reply.Refused why) = reply.Refused why
 reply_of answer = reply.Rows answer
 
--- a right step of an event on rows: Field, then NoNumber, else a right outcome of its action
+-- the place is that of a loose piece
+abbrev pub is_loose_place : Option Place → Bool
+is_loose_place (Some (place.Piece n)) = true
+is_loose_place (Some (place.Part p)) = false
+is_loose_place None = false
+
+-- an s_id lies in a loose piece
+abbrev pub is_loose : ℕ → List Region → Bool
+is_loose s_id regions = is_loose_place (place_of s_id regions)
+
+-- a right step of an action whose rows lie in a loose piece or not: Moving, else a right outcome
+abbrev pub IsOwnedStep : Bool → Action → Store → Reply → Store → Type 0
+IsOwnedStep true act before answer after = (answer ≡ reply.Refused refusal.Moving) × (after ≡ before)
+IsOwnedStep false act before answer after =
+    (rows : RowReply) × (book : Book)
+    × IsWholeOutcome act before.book rows book × (answer ≡ reply_of rows) × (after ≡ record before { book = book })
+
+-- a right step of an event on rows: Field, then NoNumber, then Moving, else a right outcome of its action
 abbrev pub IsRowStep : Bool → Option Action → Store → Reply → Store → Type 0
 IsRowStep false act before answer after = (answer ≡ reply.Refused refusal.Field) × (after ≡ before)
 IsRowStep true None before answer after = (answer ≡ reply.Refused refusal.NoNumber) × (after ≡ before)
-IsRowStep true (Some act) before answer after =
-    (rows : RowReply) × (book : Book)
-    × IsWholeOutcome act before.book rows book × (answer ≡ reply_of rows) × (after ≡ record before { book = book })
+IsRowStep true (Some act) before answer after = IsOwnedStep (is_loose (s_id_of act) before.regions) act before answer after
 
 -- a right step of an event that names its subscriber
 abbrev pub IsActionStep : Action → Store → Reply → Store → Type 0
@@ -91,6 +113,35 @@ IsPostStep None part limit before answer after = (answer ≡ reply.Refused refus
 IsPostStep (Some slots) part limit before answer after =
     let done = post (λ c. cell before.width c (rows_of before part)) slots limit before.words in
     (answer ≡ posted_reply done.0) × (after ≡ record before { words = done.1 })
+
+-- the reply of a give
+abbrev pub given_reply : Result (ℕ × ℕ × ℕ) Refusal → Reply
+given_reply (Ok piece) = reply.Given piece.0 piece.1 piece.2
+given_reply (Err why) = reply.Refused why
+
+-- the reply of a take of a piece by a part
+abbrev pub taken_reply : ℕ → ℕ → Result Side Refusal → Reply
+taken_reply n q (Ok side) = reply.Taken n q
+taken_reply n q (Err why) = reply.Refused why
+
+-- what a give or a take may answer: what the regions say, or Memory where they refuse nothing
+abbrev pub MayAnswer : {A : Type 0} → Result A Refusal → Result A Refusal → Type 0
+MayAnswer (Ok done) answer = (answer ≡ Ok done) ⊎ (answer ≡ Err refusal.Memory)
+MayAnswer (Err why) answer = answer ≡ Err why
+
+-- a right step of a give: it moves the regions alone
+abbrev pub IsGiveStep : ℕ → Side → ℕ → Store → Reply → Store → Type 0
+IsGiveStep part side at before answer after =
+    (done : Result (ℕ × ℕ × ℕ) Refusal)
+    × MayAnswer (give_answer part side at before.regions) done × (answer ≡ given_reply done)
+    × (after ≡ record before { regions = after_give part side at done before.regions })
+
+-- a right step of a take: it moves the regions alone
+abbrev pub IsTakeStep : ℕ → ℕ → Store → Reply → Store → Type 0
+IsTakeStep piece part before answer after =
+    (done : Result Side Refusal)
+    × MayAnswer (take_answer piece part before.regions) done × (answer ≡ taken_reply piece part done)
+    × (after ≡ record before { regions = after_take piece part done before.regions })
 
 -- the type and the start time of a forwarding are in range
 abbrev pub has_forwarding_key : ℕ → ℕ → Bool
@@ -116,6 +167,8 @@ IsStep (AddFacility row) before = IsRowStep true (Some (action.AddFacility row))
 IsStep (SetActive s_id sf_type is_active) before = IsActionStep (action.SetActive s_id sf_type is_active) before
 IsStep (SetNumber s_id sub_nbr) before = IsRowStep (is_between 1 LAST_SUBSCRIBER s_id) (Some (action.SetNumber s_id sub_nbr)) before
 IsStep (Post part limit) before = IsPostStep (slots_of before part) part limit before
+IsStep (Give part side at) before = IsGiveStep part side at before
+IsStep (Take piece part) before = IsTakeStep piece part before
 
 -- the events may have these replies, one after another, and lead from one store to another
 abbrev pub IsRun : List Event → Store → List Reply → Store → Type 0

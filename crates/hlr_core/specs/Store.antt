@@ -1,22 +1,30 @@
--- The store that a register is seen as: its book, the words of the board, the slots of each part, and the width of the zones.
-use Rattle.std.specs.Prelude.{◌≡◌, ℕ, ◌+◌, List, [], ◌∷◌, map, Option, ℤ, pos, ◌-ℤ◌, slice_get}
-use Rattle.std.specs.List.{range_with_len}
-use Rattle.tatp_rows.specs.declared.ranges.TheConstants.{LAST_SUBSCRIBER}
+-- The store that a register is seen as: its book, the regions, the words of the board, the slots of each part, and the width of the zones.
+use Rattle.std.specs.Prelude.{◌≡◌, ℕ, ◌+◌, ◌-◌, true, List, [], ◌∷◌, map, length, Option, Some, None, ℤ, pos, negsuc, ◌-ℤ◌, min, slice_get}
+use Rattle.std.specs.List.{find, range_with_len}
 use Rattle.tatp_actions.specs.Book.{Book, empty_book, rows_between}
 use Rattle.tatp_actions.specs.Cell.{cell}
-use Rattle.tatp_actions.specs.Part.{IsWidth}
+use Rattle.tatp_actions.specs.declared.cells.TheConstants.{FIRST_ZONE}
+use Rattle.part_table.specs.Bounds.{parts_between}
+use Rattle.part_table.specs.Opening.{can_open, opening_bound}
+use Rattle.part_table.specs.Region.{is_part}
+use Rattle.part_table.specs.Regions.{parts_of}
+use Rattle.part_table.specs.declared.bounds.TheConstants.{GREATEST_WEIGHT}
+use Rattle.part_table.specs.declared.region.Region.{Region}
 use Rattle.hlr_core.specs.Words.{net, all_slots, blank_words}
+use Rattle.hlr_core.specs.declared.weights.TheConstants.{ZONES}
 
 pub record Store : Type 0 where
   pub book : Book
+  pub regions : List Region
   pub words : List ℕ
   pub slots : List (List ℕ)
   pub width : ℕ
 
--- the store at opening: no row, all words 0, and part p has slot p alone
+-- the store at opening: no row, parts alone with the zones shared out among them, all words 0, and part p has slot p alone
 abbrev pub opening : ℕ → ℕ → Store
 opening parts width = record {
   book = empty_book;
+  regions = parts_between 0 1 (map (opening_bound parts width) (range_with_len 1 (parts - 1)));
   words = blank_words;
   slots = map (λ p. p ∷ []) (range_with_len 0 parts);
   width = width;
@@ -30,14 +38,40 @@ published store c = net store.words all_slots c
 abbrev pub unposted : Store → ℕ → ℤ
 unposted store c = pos (cell store.width c store.book) -ℤ published store c
 
--- the rows of a part; as long as there is one part, these are the rows of all subscribers
+-- the rows of a region, if it is there
+abbrev pub rows_in : Option Region → Book → Book
+rows_in None book = empty_book
+rows_in (Some region) book = rows_between region.lo region.hi book
+
+-- the rows of a part
 abbrev pub rows_of : Store → ℕ → Book
-rows_of store part = rows_between 1 (LAST_SUBSCRIBER + 1) store.book
+rows_of store part = rows_in (find (is_part part) store.regions) store.book
 
 -- the slots of a part, if there is such a part
 abbrev pub slots_of : Store → ℕ → Option (List ℕ)
 slots_of store part = slice_get store.slots part
 
--- a register can be opened with these: one part until regions come, and a width in range
+-- how many parts there are
+abbrev pub parts_in : Store → ℕ
+parts_in store = length (parts_of store.regions)
+
+-- the weight of a zone of which so much is published: nothing below 0, and no more than all rows that there can be
+abbrev pub weight : ℤ → ℕ
+weight (pos n) = min n GREATEST_WEIGHT
+weight (negsuc n) = 0
+
+-- the zones
+unfoldable pub all_zones : List ℕ
+all_zones = range_with_len 0 ZONES
+
+-- the weights of the zones, as published
+abbrev pub published_weights : Store → List ℕ
+published_weights store = map (λ zone. weight (published store (FIRST_ZONE + zone))) all_zones
+
+-- the weights of the zones, as counted over the rows now
+abbrev pub counted_weights : Store → List ℕ
+counted_weights store = map (λ zone. cell store.width (FIRST_ZONE + zone) store.book) all_zones
+
+-- a register can be opened with so many parts and this width of a zone
 abbrev pub HasOpening : ℕ → ℕ → Type 0
-HasOpening parts width = (parts ≡ 1) × IsWidth width
+HasOpening parts width = can_open parts width ≡ true

@@ -1,6 +1,7 @@
 //! The board: 16 slots, each with a plus-word and a minus-word for each of the 51 cells.
 ghost use Rattle.std.specs.Prelude.{◌≡◌, ◌≢◌, ℕ, ◌<◌, ◌≤◌, List, IfOk, OnOk, OnErr, replicate, length, slice_index, true, false, ℤ, pos, ◌≤ℤ◌, vec_len};
-ghost use Rattle.hlr_core.specs.Words.{slot_net, raised, blank_words};
+ghost use Rattle.std.specs.List.{range_with_len};
+ghost use Rattle.hlr_core.specs.Words.{net, slot_net, raised, blank_words};
 ghost use Rattle.hlr_core.specs.Post.{is_worn};
 ghost use Rattle.hlr_core.specs.Board.{IsBoard};
 
@@ -68,6 +69,20 @@ impl Board {
     {
         let at = usize::from(slot) * SLOT_WORDS + usize::from(cell);
         self.words[at] as i64 - self.words[at + usize::from(CELLS)] as i64
+    }
+
+    /// What the first slots have published of a cell together. Each of them has a net of 0..=2^40.
+    pub fn published(&self, cell: u8, slots: u8) -> i64
+        requires cell { cell < CELLS }
+        requires slots { slots ≤ SLOTS }
+        requires few { (slot : ℕ) → slot < slots → (pos 0 ≤ℤ slot_net self.now cell slot) × (slot_net self.now cell slot ≤ℤ pos 1099511627776) }
+        ensures { result ≡ net self.now (range_with_len 0 slots) cell }
+    {
+        let mut sum = 0;
+        for slot in 0..slots {
+            sum += self.net(slot, cell);
+        }
+        sum
     }
 
     /// Raises the plus-word of a slot and cell by a positive amount, or its minus-word by the size of a negative one.

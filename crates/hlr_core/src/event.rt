@@ -1,4 +1,5 @@
 //! The events that a register takes, and its replies.
+use part_table::Side;
 use tatp_actions::RowReply;
 use tatp_rows::{Access, Facility, Number, Refusal, Subscriber};
 
@@ -99,6 +100,23 @@ pub enum Event {
         /// How many cells are posted at most.
         limit: u64,
     },
+    /// A part gives the stretch on one side of `at` away, which becomes a loose piece: `NoPart`, `OutOfRange`,
+    /// `ManyPieces`, `Memory`.
+    Give {
+        /// The part, from 0 on.
+        part: u64,
+        /// The side of `at` that is given away.
+        side: Side,
+        /// The first subscriber of the high side, strictly inside the part.
+        at: u64,
+    },
+    /// A part takes a loose piece that touches it: `NoPiece`, `NoPart`, `NotAdjacent`, `Memory`.
+    Take {
+        /// The loose piece, 1..=16.
+        piece: u64,
+        /// The part, from 0 on.
+        part: u64,
+    },
 }
 
 /// A register's reply to an event.
@@ -108,6 +126,22 @@ pub enum Reply {
     Rows(RowReply),
     /// How many cells were posted.
     Posted(u8),
+    /// A part gave a piece away.
+    Given {
+        /// The number of the loose piece, 1..=16.
+        piece: u8,
+        /// The first subscriber of the piece.
+        lo: u32,
+        /// The number behind its last subscriber.
+        hi: u32,
+    },
+    /// A part took a piece.
+    Taken {
+        /// The number that the piece had, 1..=16.
+        piece: u8,
+        /// The part, 0..=15.
+        part: u8,
+    },
     /// The event was refused.
     Refused(Refusal),
 }

@@ -1,21 +1,75 @@
 //! A part with what its owner has not posted yet.
-ghost use Rattle.std.specs.Prelude.{◌≡◌, ◌≢◌, ℕ, ◌+◌, ◌<◌, ◌≤◌, [], ◌∷◌, Option, IfOk, IfErr, option_copied, slice_index, ℤ, pos, ◌+ℤ◌, replicate, ◌⊎◌};
+ghost use Rattle.std.specs.Prelude.{◌≡◌, ◌≢◌, ℕ, ◌+◌, ◌<◌, ◌≤◌, [], ◌∷◌, Option, IfOk, IfErr, OnOk, OnErr, option_copied, slice_index, ℤ, pos, ◌+ℤ◌, replicate, ◌⊎◌};
 ghost use Rattle.tatp_actions.specs.Action.{s_id_of, IsOutcome};
 ghost use Rattle.tatp_actions.specs.Book.{IsWithin, empty_book, first_subscriber};
 ghost use Rattle.tatp_actions.specs.Cell.{cell};
+ghost use Rattle.tatp_actions.specs.Cut.{Touch};
 ghost use Rattle.tatp_actions.specs.Part.{IsPart, IsRange, IsWidth};
 ghost use Rattle.hlr_core.specs.Board.{IsBoard};
 ghost use Rattle.view_delta.specs.Pending.{pending_at};
-ghost use Rattle.hlr_core.specs.Held.{HoldingState, AreSmall, IsHeld, IsCellPosted, MovesWith};
+ghost use Rattle.hlr_core.specs.Held.{HoldingState, AreSmall, IsHeld, IsCellPosted, IsGiven, IsTaken, MovesWith};
 ghost use Rattle.hlr_core.specs.Post.{post};
 ghost use Rattle.hlr_core.specs.Words.{net, slot_net};
 
 use crate::board::{Board, SLOTS};
+use crate::room::boxed;
+use part_table::Side;
 use std::alloc::Global;
 use std::marker::Model;
+use std::mem;
 use tatp_actions::{Action, CELLS, Cells, Part, RowReply};
-use tatp_rows::{Refusal, Subscriber};
+use tatp_rows::{Back, Refusal, Subscriber};
 use view_delta::Pending;
+
+/// A loose piece: the rows of a stretch of subscribers that no part has, with their counts. None of them is posted, so the
+/// counts are what is pending.
+#[derive(Drop)]
+pub struct Piece {
+    part: Part,
+    counts: Cells,
+}
+
+impl Model for Piece {
+    ghost use Rattle.std.specs.Prelude.{◌≡◌, ℕ, ◌<◌, map, slice_index, pos};
+    ghost use Rattle.tatp_actions.specs.Cell.{cell};
+    ghost use Rattle.tatp_actions.specs.declared.cells.TheConstants.{CELLS};
+    ghost use Rattle.hlr_core.specs.Held.{HoldingState};
+
+    ghost Value = { HoldingState };
+
+    ghost view = { λ p. record { part = p.part; pending = map pos p.counts } };
+
+    ghost invariant = { λ p. (c : ℕ) → c < CELLS → slice_index p.counts c ≡ cell p.part.width c p.part.book };
+}
+
+impl Piece {
+    /// A piece with no row, which takes no memory.
+    fn blank(alloc: Global) -> Self
+        ensures { result.part.book ≡ empty_book }
+    {
+        let Ok(part) = Part::new(alloc, 1, 2, 1) else {
+            unreachable!()
+        };
+        Piece {
+            part,
+            counts: Cells::zero(),
+        }
+    }
+
+    /// The count of each cell, taken by a walk over all rows.
+    pub fn recount(&self) -> Cells
+        ensures { (c : ℕ) → c < CELLS → slice_index result c ≡ cell self.now.part.width c self.now.part.book }
+    {
+        self.part.recount()
+    }
+
+    /// The counts, which are all pending.
+    pub fn counts(&self) -> Cells
+        ensures { (c : ℕ) → c < CELLS → pos (slice_index result c) ≡ pending_at self.now.pending c }
+    {
+        self.counts
+    }
+}
 
 /// A part with what its owner has not posted yet: for each cell the delta that the actions since have left.
 #[derive(Drop)]
@@ -103,6 +157,48 @@ impl Holding {
             from = cell + 1;
         }
         Ok(posted)
+    }
+
+    /// Gives the stretch on one side of `at` away as a loose piece, whose rows are counted once. `Memory` where a growth was
+    /// refused: then nothing is changed.
+    pub fn give(&mut self, alloc: Global, side: Side, at: u32) -> Result<Box<Piece>, Refusal>
+        requires inside { (self.old.part.lo < at) × (at < self.old.part.hi) }
+        requires small { AreSmall self.old.pending }
+        ensures given { IfOk result (λ piece. IsGiven side at self.old piece.value self.new) }
+        ensures refused { OnErr result ((result ≡ Err Refusal.Memory) × (self.new ≡ self.old)) }
+    {
+        // All memory is had before anything changes: the piece's box, and what the cut takes.
+        let mut piece = boxed(alloc, Piece::blank(alloc))?;
+        let part = self.part.slice(at, side)?;
+        let counts = part.recount();
+        self.pending.subtract(&counts);
+        *piece = Piece { part, counts };
+        Ok(piece)
+    }
+
+    /// Takes a loose piece that touches the part. `Memory` where a growth was refused: then nothing is changed, and the piece
+    /// is handed back as it came.
+    pub fn take(&mut self, alloc: Global, mut piece: Box<Piece>) -> Result<(), Back<Box<Piece>>>
+        requires touch { Touch self.old.part piece.value.part }
+        requires width { self.old.part.width ≡ piece.value.part.width }
+        requires small { AreSmall self.old.pending }
+        ensures taken { OnOk result (IsTaken self.old piece.value self.new) }
+        ensures refused { IfErr result (λ back. (back.why ≡ Refusal.Memory) × (back.item ≡ piece) × (self.new ≡ self.old)) }
+    {
+        // An empty piece takes no memory.
+        let Piece { part, counts } = mem::replace(&mut *piece, Piece::blank(alloc));
+        if let Err(back) = self.part.meld(part) {
+            *piece = Piece {
+                part: back.item,
+                counts,
+            };
+            return Err(Back {
+                why: back.why,
+                item: piece,
+            });
+        }
+        self.pending.add(&counts);
+        Ok(())
     }
 
     /// The pending deltas of all cells.

@@ -1,45 +1,53 @@
-//! All owners' holdings, and the board that they post to.
-ghost use Rattle.std.specs.Prelude.{◌≡◌, ◌+◌, ℕ, ◌<◌, ◌≤◌, [], ◌∷◌, IfOk, OnErr, is_some, option_map, slice_index, slice_index_or, ℤ, pos};
-ghost use Rattle.tatp_actions.specs.Action.{s_id_of, IsOutcome};
+//! All owners' holdings, the loose pieces, and the board that the holdings post to.
+ghost use Rattle.std.specs.Prelude.{◌≡◌, ◌+◌, ℕ, ◌<◌, ◌≤◌, [], ◌∷◌, false, IfOk, OnErr, is_some, option_map, slice_index, slice_index_or, ℤ, pos};
+ghost use Rattle.part_table.specs.Give.{give_answer, after_give};
+ghost use Rattle.part_table.specs.Regions.{AreRegions};
+ghost use Rattle.part_table.specs.Take.{take_answer, after_take};
+ghost use Rattle.part_table.specs.declared.region.TheConstants.{MOST_PARTS};
+ghost use Rattle.tatp_actions.specs.Action.{s_id_of};
 ghost use Rattle.tatp_actions.specs.Book.{IsWithin, IsRowsOf, subscriber_at};
 ghost use Rattle.tatp_actions.specs.Cell.{cell};
 ghost use Rattle.tatp_actions.specs.Part.{IsWidth};
-ghost use Rattle.hlr_core.specs.Step.{IsPostStep, posted_reply};
-ghost use Rattle.hlr_core.specs.Store.{Store, opening, published, unposted, slots_of};
+ghost use Rattle.hlr_core.specs.Asked.{IsAnswered};
+ghost use Rattle.hlr_core.specs.Step.{IsPostStep, MayAnswer, is_loose, posted_reply};
+ghost use Rattle.hlr_core.specs.Store.{Store, HasOpening, opening, published, unposted, slots_of, parts_in};
 
 use crate::board::Board;
 use crate::event::Reply;
-use crate::holding::Holding;
+use crate::holding::{Holding, Piece};
+use crate::room::{boxed, places};
+use crate::sums::{add_counts, add_deltas};
+use part_table::{Place, Regions, Side};
 use std::alloc::Global;
 use std::marker::Model;
 use tatp_actions::{Action, CELLS, Cells, RowReply};
 use tatp_rows::{LAST_SUBSCRIBER, Number, Refusal};
 
-/// The slot of the one part that there is until regions come.
-const SLOT: u8 = 0;
-
-/// All owners' holdings with the board that they post to, seen as the store of the definitions.
+/// All owners' holdings, by the number of their part, the loose pieces, in the order of their regions, and the board that the
+/// holdings post to: seen as the store of the definitions.
 #[derive(Drop)]
 pub struct Holdings {
-    holding: Holding,
+    regions: Regions,
+    holdings: Vec<Box<Holding>>,
+    pieces: Vec<Box<Piece>>,
     board: Board,
+    width: u32,
+    alloc: Global,
 }
 
 impl Model for Holdings {
-    ghost use Rattle.std.specs.Prelude.{[], ◌∷◌};
-    ghost use Rattle.hlr_core.specs.Store.{Store};
+    ghost use Rattle.std.specs.Prelude.{◌≤◌, vec_capacity};
+    ghost use Rattle.part_table.specs.Regions.{AreRegions};
     ghost use Rattle.hlr_core.specs.Held.{AreHeld};
+    ghost use Rattle.hlr_core.specs.Owners.{store_of, unboxed};
+    ghost use Rattle.hlr_core.specs.Store.{Store};
+    ghost use Rattle.hlr_core.specs.declared.room.TheConstants.{PLACES};
 
     ghost Value = { Store };
 
-    ghost view = { λ h. record {
-      book = h.holding.part.book;
-      words = h.board;
-      slots = (0 ∷ []) ∷ [];
-      width = h.holding.part.width;
-    } };
+    ghost view = { λ h. store_of h.regions (unboxed h.holdings.items) (unboxed h.pieces.items) h.board h.width };
 
-    ghost invariant = { λ h. AreHeld h.holding h.board };
+    ghost invariant = { λ h. AreRegions h.regions × AreHeld h.regions (unboxed h.holdings.items) (unboxed h.pieces.items) h.board h.width × (PLACES ≤ vec_capacity h.pieces) };
 }
 
 fn reply_of_posting(posted: Result<u8, Refusal>) -> Reply
@@ -52,25 +60,78 @@ fn reply_of_posting(posted: Result<u8, Refusal>) -> Reply
 }
 
 impl Holdings {
-    /// One empty part for all subscribers, and a board of zeros; `Memory` where a growth was refused.
-    pub fn open(alloc: Global, width: u32) -> Result<Self, Refusal>
-        requires { IsWidth width }
-        ensures ok { IfOk result (λ holdings. holdings ≡ opening 1 width) }
+    /// Empty parts with their shares of all subscribers, no loose piece, and a board of zeros; `Memory` where a growth was
+    /// refused.
+    pub fn open(alloc: Global, parts: u8, width: u32) -> Result<Self, Refusal>
+        requires { HasOpening parts width }
+        ensures ok { IfOk result (λ holdings. holdings ≡ opening parts width) }
         ensures err { OnErr result (result ≡ Err Refusal.Memory) }
     {
-        let holding = Holding::new(alloc, 1, LAST_SUBSCRIBER + 1, width)?;
-        let board = Board::open(alloc)?;
-        Ok(Holdings { holding, board })
+        let regions = Regions::opening(parts, width)?;
+        let mut holdings = places(alloc)?;
+        for region in regions.list() {
+            let holding = boxed(alloc, Holding::new(alloc, region.lo, region.hi, width)?)?;
+            holdings.push_reserved(holding);
+        }
+        Ok(Holdings {
+            regions,
+            holdings,
+            pieces: places(alloc)?,
+            board: Board::open(alloc)?,
+            width,
+            alloc,
+        })
     }
 
-    /// Does an action on the rows of its subscriber.
+    /// The regions of all subscribers.
+    pub fn regions(&self) -> &Regions
+        ensures value { result.now ≡ self.now.regions }
+        ensures regions { AreRegions result.now }
+    {
+        // The list tells that they are right.
+        let _list = self.regions.list();
+        &self.regions
+    }
+
+    /// How many parts there are.
+    pub fn parts(&self) -> u8
+        ensures value { result ≡ parts_in self.now }
+        ensures some { 1 ≤ result }
+        ensures few { result ≤ MOST_PARTS }
+    {
+        // The list tells that there is a part, and that there are few.
+        let _list = self.regions.list();
+        self.holdings.len() as u8
+    }
+
+    /// The width of the zones.
+    pub fn width(&self) -> u32
+        ensures value { result ≡ self.now.width }
+        ensures range { IsWidth result }
+    {
+        self.width
+    }
+
+    /// Whether an s_id lies in a loose piece.
+    pub fn is_loose(&self, s_id: u32) -> bool
+        requires { IsWithin 1 (LAST_SUBSCRIBER + 1) s_id }
+        ensures { result ≡ is_loose s_id self.now.regions }
+    {
+        matches!(self.regions.place(s_id), Place::Piece(_))
+    }
+
+    /// Does an action on the rows of its subscriber. Where a loose piece has them, the answer is `Moving`, after `Field`.
     pub fn act(&mut self, action: Action) -> RowReply
         requires { IsWithin 1 (LAST_SUBSCRIBER + 1) (s_id_of action) }
-        ensures outcome { IsOutcome action self.old.book result self.new.book }
+        ensures answer { IsAnswered (is_loose (s_id_of action) self.old.regions) action self.old.book result self.new.book }
         ensures same { self.new ≡ record self.old { book = self.new.book } }
         ensures rows { IsRowsOf 1 (LAST_SUBSCRIBER + 1) self.new.book }
     {
-        self.holding.act(action)
+        match self.regions.place(action.s_id()) {
+            Place::Part(p) => self.holdings[usize::from(p)].act(action),
+            Place::Piece(_) if action.is_in_range() => RowReply::Refused(Refusal::Moving),
+            Place::Piece(_) => RowReply::Refused(Refusal::Field),
+        }
     }
 
     /// Posts to a part: `NoPart` where there is none with the number, `Worn` where a word would pass its limit.
@@ -78,10 +139,42 @@ impl Holdings {
         ensures { IsPostStep (slots_of self.old part) part limit self.old result self.new }
     {
         let _ = &self.board;
-        if part != 0 {
+        if part >= self.holdings.len() as u64 {
             return Reply::Refused(Refusal::NoPart);
         }
-        reply_of_posting(self.holding.post(&mut self.board, SLOT, limit))
+        let slot = part as u8;
+        reply_of_posting(self.holdings[usize::from(slot)].post(&mut self.board, slot, limit))
+    }
+
+    /// A part gives the stretch on one side of `at` away, as a loose piece with the least free number; the answer is that
+    /// number, and where the piece begins and ends. `NoPart`, `OutOfRange`, `ManyPieces`, `Memory`; a refusal changes nothing.
+    pub fn give(&mut self, part: u64, side: Side, at: u64) -> Result<(u8, u32, u32), Refusal>
+        ensures answer { MayAnswer (give_answer part side at self.old.regions) result }
+        ensures after { self.new ≡ record self.old { regions = after_give part side at result self.old.regions } }
+    {
+        self.regions.give_answer(part, side, at)?;
+        let before = self.regions.pieces_before_part(part);
+        let piece = self.holdings[part as usize].give(self.alloc, side, at as u32)?;
+        // There is room: sixteen places were reserved as the store was opened, and fewer pieces are loose.
+        let _ = self.pieces.insert(before, piece);
+        self.regions.give(part, side, at)
+    }
+
+    /// A part takes a loose piece that touches it; the answer is the side of the part on which it lies. `NoPiece`, `NoPart`,
+    /// `NotAdjacent`, `Memory`; a refusal changes nothing.
+    pub fn take(&mut self, piece: u64, part: u64) -> Result<Side, Refusal>
+        ensures answer { MayAnswer (take_answer piece part self.old.regions) result }
+        ensures after { self.new ≡ record self.old { regions = after_take piece part result self.old.regions } }
+    {
+        self.regions.take_answer(piece, part)?;
+        let before = self.regions.pieces_before_piece(piece);
+        let taken = self.pieces.remove(before);
+        if let Err(back) = self.holdings[part as usize].take(self.alloc, taken) {
+            // Its place is still reserved.
+            let _ = self.pieces.insert(before, back.item);
+            return Err(back.why);
+        }
+        self.regions.take(piece, part)
     }
 
     /// The cells as published on the board.
@@ -90,36 +183,55 @@ impl Holdings {
     {
         let mut cells = [0; CELLS as usize];
         for cell in 0..CELLS {
-            cells[usize::from(cell)] = self.board.net(SLOT, cell);
+            cells[usize::from(cell)] = self.board.published(cell, self.holdings.len() as u8);
         }
         cells
     }
 
-    /// What is not posted yet of each cell.
+    /// What is not posted yet of each cell: the sum of what is pending in all holdings and loose pieces.
     pub fn unposted(&self) -> [i64; CELLS as usize]
         ensures { (c : ℕ) → c < CELLS → slice_index_or result c (pos 0) ≡ unposted self.now c }
     {
-        self.holding.deltas()
+        let mut sums = [0; CELLS as usize];
+        for holding in &self.holdings {
+            add_deltas(&mut sums, &holding.deltas());
+        }
+        for piece in &self.pieces {
+            add_counts(&mut sums, &piece.counts());
+        }
+        sums
     }
 
-    /// The count of each cell, taken by a walk over all rows.
+    /// The count of each cell, taken by a walk over all rows, those of loose pieces too.
     pub fn recount(&self) -> Cells
         ensures { (c : ℕ) → c < CELLS → slice_index result c ≡ cell self.now.width c self.now.book }
     {
-        self.holding.recount()
+        let mut counts = Cells::zero();
+        for holding in &self.holdings {
+            counts.add(&holding.recount());
+        }
+        for piece in &self.pieces {
+            counts.add(&piece.recount());
+        }
+        counts
     }
 
-    /// The number of a subscriber, or `None` where there is no such row.
+    /// The number of a subscriber, or `None` where there is no such row; of the subscribers of a loose piece it tells nothing.
     pub fn number_of(&self, s_id: u32) -> Option<Number>
-        ensures { result ≡ option_map (λ row. row.sub_nbr) (subscriber_at self.now.book s_id) }
+        requires { IsWithin 1 (LAST_SUBSCRIBER + 1) s_id }
+        ensures { is_loose s_id self.now.regions ≡ false → result ≡ option_map (λ row. row.sub_nbr) (subscriber_at self.now.book s_id) }
     {
-        let row = self.holding.first_sub_from(u64::from(s_id))?;
+        let Place::Part(p) = self.regions.place(s_id) else {
+            return None;
+        };
+        let row = self.holdings[usize::from(p)].first_sub_from(u64::from(s_id))?;
         (row.s_id() == s_id).then_some(row.sub_nbr())
     }
 
-    /// Tells whether a subscriber has a row.
+    /// Whether a subscriber has a row; of the subscribers of a loose piece it tells nothing.
     pub fn has(&self, s_id: u32) -> bool
-        ensures { result ≡ is_some (subscriber_at self.now.book s_id) }
+        requires { IsWithin 1 (LAST_SUBSCRIBER + 1) s_id }
+        ensures { is_loose s_id self.now.regions ≡ false → result ≡ is_some (subscriber_at self.now.book s_id) }
     {
         self.number_of(s_id).is_some()
     }

@@ -13,10 +13,18 @@ mod holdings;
 #[cfg(test)]
 mod plain;
 #[cfg(test)]
+mod plain_regions;
+#[cfg(test)]
 mod plain_tests;
+mod recut;
+#[cfg(test)]
+mod region_tests;
 mod register;
+mod room;
+mod sums;
 #[cfg(test)]
 mod tests;
+mod weights;
 
 pub use event::{Event, Reply};
 pub use register::Register;

@@ -1,14 +1,15 @@
-//! A plain register of forty subscribers, for tests: rows in arrays, a map of numbers beside them, and counts that are
-//! taken anew each time.
+//! A plain register of forty subscribers, for tests: all rows in arrays, a map of numbers beside them, counts that are
+//! taken anew each time, and the regions by a plain list.
+use crate::plain_regions::PlainRegions;
 use crate::tests::{
-    DONE, EXISTS, FIELD, MEMORY, NO_ACCESS, NO_DESTINATION, NO_FACILITY, NO_FORWARDING, NO_NUMBER,
-    NO_PART, NO_SUBSCRIBER, TAKEN,
+    DONE, EXISTS, FIELD, MEMORY, MOVING, NO_ACCESS, NO_DESTINATION, NO_FACILITY, NO_FORWARDING,
+    NO_NUMBER, NO_PART, NO_SUBSCRIBER, TAKEN,
 };
 use crate::{Event, Register, Reply};
 use arrayvec::ArrayVec;
 use number_index::NumberIndex;
 use tatp_actions::{CELLS, Cells, RowReply};
-use tatp_rows::{Access, Facility, Forwarding, Number, Subscriber};
+use tatp_rows::{Access, Facility, Forwarding, Number, Refusal, Subscriber};
 
 /// A plain register of the subscribers 1, 1 + stride, 1 + 2 * stride and so on, and of the numbers below 50.
 #[derive(Drop)]
@@ -20,7 +21,8 @@ pub struct Plain {
     facilities: [Option<Facility>; 160],
     forwardings: [Option<Forwarding>; 480],
     owners: [Option<u32>; 50],
-    published: [i64; CELLS as usize],
+    regions: PlainRegions,
+    posted: [[i64; CELLS as usize]; 16],
 }
 
 /// Whether a value is in a range.
@@ -85,7 +87,7 @@ fn are_counts(cells: &Cells, counted: &[i64; CELLS as usize]) -> bool {
 
 impl Plain {
     /// A register without a row.
-    pub fn new(width: u32, stride: u64) -> Self {
+    pub fn new(parts: u8, width: u32, stride: u64) -> Self {
         Plain {
             width,
             stride,
@@ -94,7 +96,8 @@ impl Plain {
             facilities: [None; 160],
             forwardings: [None; 480],
             owners: [None; 50],
-            published: [0; CELLS as usize],
+            regions: PlainRegions::opening(parts, width),
+            posted: [[0; CELLS as usize]; 16],
         }
     }
 
@@ -172,32 +175,69 @@ impl Plain {
             && self.forwarding(s_id, sf_type, 16).is_some()
     }
 
-    /// The count of each cell, by a walk over all rows.
-    fn counted(&self) -> [i64; CELLS as usize] {
+    /// The count of each cell over the rows of the subscribers from one on and below another, by a walk over all rows.
+    fn counted(&self, lo: u32, hi: u32) -> [i64; CELLS as usize] {
         let mut cells = [0i64; CELLS as usize];
         for row in self.subscribers.iter().flatten() {
-            count_one(&mut cells, 3 + row.vlr_location() / 268_435_456);
-            count_one(&mut cells, self.zone(row.s_id()));
-        }
-        for row in self.access.iter().flatten() {
-            count_one(&mut cells, self.zone(row.s_id()));
-        }
-        for row in self.facilities.iter().flatten() {
-            count_one(&mut cells, self.zone(row.s_id()));
-        }
-        for row in self.forwardings.iter().flatten() {
-            count_one(&mut cells, self.zone(row.s_id()));
-            if self.is_active(u64::from(row.s_id()), u64::from(row.sf_type())) {
-                count_one(&mut cells, u32::from(row.start_time() / 8));
+            if lo <= row.s_id() && row.s_id() < hi {
+                count_one(&mut cells, 3 + row.vlr_location() / 268_435_456);
+                count_one(&mut cells, self.zone(row.s_id()));
             }
         }
+        for row in self.access.iter().flatten() {
+            if lo <= row.s_id() && row.s_id() < hi {
+                count_one(&mut cells, self.zone(row.s_id()));
+            }
+        }
+        for row in self.facilities.iter().flatten() {
+            if lo <= row.s_id() && row.s_id() < hi {
+                count_one(&mut cells, self.zone(row.s_id()));
+            }
+        }
+        self.count_forwardings(&mut cells, lo, hi);
         cells
+    }
+
+    /// Counts the forwardings of these subscribers too.
+    fn count_forwardings(&self, cells: &mut [i64; CELLS as usize], lo: u32, hi: u32) {
+        for row in self.forwardings.iter().flatten() {
+            if lo <= row.s_id() && row.s_id() < hi {
+                count_one(cells, self.zone(row.s_id()));
+                if self.is_active(u64::from(row.s_id()), u64::from(row.sf_type())) {
+                    count_one(cells, u32::from(row.start_time() / 8));
+                }
+            }
+        }
+    }
+
+    /// The cells as published by all parts.
+    fn published(&self) -> [i64; CELLS as usize] {
+        let mut sums = [0i64; CELLS as usize];
+        for cells in &self.posted {
+            for (sum, cell) in sums.iter_mut().zip(cells.iter()) {
+                *sum = sum.wrapping_add(*cell);
+            }
+        }
+        sums
+    }
+
+    /// The regions.
+    pub fn regions(&self) -> &PlainRegions {
+        &self.regions
+    }
+
+    /// Moves the bounds between parts to these.
+    pub fn recut_to(&mut self, bounds: &[u64]) -> Result<u8, Refusal> {
+        self.regions.recut_to(bounds)
     }
 
     /// Reads a subscriber's row.
     fn subscriber_data(&self, s_id: u64) -> Reply {
         if !fits(s_id, 1, 16_777_216) {
             return FIELD;
+        }
+        if self.regions.is_loose(s_id) {
+            return MOVING;
         }
         match self.subscriber(s_id) {
             Some(row) => Reply::Rows(RowReply::Row(row)),
@@ -209,6 +249,9 @@ impl Plain {
     fn new_destination(&self, s_id: u64, sf_type: u64, start_time: u64, end_time: u64) -> Reply {
         if !is_typed(s_id, sf_type) || !is_started(sf_type, start_time) || !fits(end_time, 1, 24) {
             return FIELD;
+        }
+        if self.regions.is_loose(s_id) {
+            return MOVING;
         }
         let mut numbers = ArrayVec::new();
         for start in [0, 8, 16] {
@@ -233,6 +276,9 @@ impl Plain {
         if !is_typed(s_id, ai_type) {
             return FIELD;
         }
+        if self.regions.is_loose(s_id) {
+            return MOVING;
+        }
         let Some(row) = at(&self.access, self.typed_place(s_id, ai_type)) else {
             return NO_ACCESS;
         };
@@ -248,6 +294,9 @@ impl Plain {
     fn update_subscriber(&mut self, s_id: u64, sf_type: u64, bit_1: u64, data_a: u64) -> Reply {
         if !is_typed(s_id, sf_type) || bit_1 > 1 || data_a > 255 {
             return FIELD;
+        }
+        if self.regions.is_loose(s_id) {
+            return MOVING;
         }
         let Some(subscriber) = self.subscriber(s_id) else {
             return NO_SUBSCRIBER;
@@ -271,6 +320,9 @@ impl Plain {
         let Some(s_id) = self.owner(sub_nbr) else {
             return NO_NUMBER;
         };
+        if self.regions.is_loose(s_id) {
+            return MOVING;
+        }
         let Some(row) = self.subscriber(s_id) else {
             return NO_NUMBER;
         };
@@ -295,6 +347,9 @@ impl Plain {
         let Some(s_id) = self.owner(sub_nbr) else {
             return NO_NUMBER;
         };
+        if self.regions.is_loose(s_id) {
+            return MOVING;
+        }
         if self.facility(s_id, sf_type).is_none() {
             return NO_FACILITY;
         }
@@ -313,6 +368,9 @@ impl Plain {
         let Some(s_id) = self.owner(sub_nbr) else {
             return NO_NUMBER;
         };
+        if self.regions.is_loose(s_id) {
+            return MOVING;
+        }
         if self.forwarding(s_id, sf_type, start_time).is_none() {
             return NO_FORWARDING;
         }
@@ -325,6 +383,9 @@ impl Plain {
     fn add_subscriber(&mut self, row: Subscriber) -> Reply {
         let s_id = row.s_id();
         let place = self.place(u64::from(s_id));
+        if self.regions.is_loose(u64::from(s_id)) {
+            return MOVING;
+        }
         if at(&self.subscribers, place).is_some() {
             return EXISTS;
         }
@@ -338,6 +399,9 @@ impl Plain {
     /// Adds an access of a subscriber.
     fn add_access(&mut self, row: Access) -> Reply {
         let s_id = u64::from(row.s_id());
+        if self.regions.is_loose(s_id) {
+            return MOVING;
+        }
         if self.subscriber(s_id).is_none() {
             return NO_SUBSCRIBER;
         }
@@ -348,6 +412,9 @@ impl Plain {
     /// Adds a facility of a subscriber.
     fn add_facility(&mut self, row: Facility) -> Reply {
         let s_id = u64::from(row.s_id());
+        if self.regions.is_loose(s_id) {
+            return MOVING;
+        }
         if self.subscriber(s_id).is_none() {
             return NO_SUBSCRIBER;
         }
@@ -359,6 +426,9 @@ impl Plain {
     fn set_active(&mut self, s_id: u64, sf_type: u64, is_active: u64) -> Reply {
         if !is_typed(s_id, sf_type) || is_active > 1 {
             return FIELD;
+        }
+        if self.regions.is_loose(s_id) {
+            return MOVING;
         }
         let Some(row) = self.facility(s_id, sf_type) else {
             return NO_FACILITY;
@@ -377,6 +447,9 @@ impl Plain {
         if !fits(s_id, 1, 16_777_216) {
             return FIELD;
         }
+        if self.regions.is_loose(s_id) {
+            return MOVING;
+        }
         let Some(row) = self.subscriber(s_id) else {
             return NO_SUBSCRIBER;
         };
@@ -394,16 +467,19 @@ impl Plain {
         DONE
     }
 
-    /// Posts the first cells that are not posted.
+    /// Posts the first cells of a part that are not posted.
     fn post(&mut self, part: u64, limit: u64) -> Reply {
-        if part != 0 {
+        let Some((lo, hi)) = self.regions.range_of(part) else {
             return NO_PART;
-        }
-        let counted = self.counted();
+        };
+        let counted = self.counted(lo, hi);
+        let Some(cells) = self.posted.get_mut(part as usize) else {
+            return NO_PART;
+        };
         let mut posted = 0u8;
-        for (count, published) in counted.iter().zip(self.published.iter_mut()) {
-            if *count != *published && u64::from(posted) < limit {
-                *published = *count;
+        for (count, cell) in counted.iter().zip(cells.iter_mut()) {
+            if *count != *cell && u64::from(posted) < limit {
+                *cell = *count;
                 posted = posted.wrapping_add(1);
             }
         }
@@ -453,6 +529,8 @@ impl Plain {
             } => self.set_active(s_id, sf_type, is_active),
             Event::SetNumber { s_id, sub_nbr } => self.set_number(s_id, sub_nbr),
             Event::Post { part, limit } => self.post(part, limit),
+            Event::Give { part, side, at } => self.regions.give(part, side, at),
+            Event::Take { piece, part } => self.regions.take(piece, part),
         }
     }
 
@@ -471,16 +549,19 @@ impl Plain {
         index.len() == pairs
     }
 
-    /// Whether a register has these cells, published, posted or not and counted over the rows, and these numbers.
+    /// Whether a register has these cells, published, posted or not and counted over the rows, these numbers and these
+    /// regions.
     pub fn agrees(&self, register: &Register) -> bool {
-        let counted = self.counted();
+        let counted = self.counted(1, 16_777_217);
+        let published = self.published();
         let mut rest = counted;
-        for (count, published) in rest.iter_mut().zip(self.published.iter()) {
-            *count = count.wrapping_sub(*published);
+        for (count, cell) in rest.iter_mut().zip(published.iter()) {
+            *count = count.wrapping_sub(*cell);
         }
-        register.published() == self.published
+        register.published() == published
             && register.unposted() == rest
             && are_counts(&register.recount(), &counted)
             && self.has_pairs_of(register.index())
+            && self.regions.list() == register.regions().list()
     }
 }

@@ -1,17 +1,22 @@
 //! A register against the plain one, on the same drawn events.
 use crate::plain::Plain;
-use crate::tests::{access_row, facility_row, number, opened, replies_to, row};
+use crate::tests::{MEMORY, MOVING, access_row, facility_row, number, opened, replies_to, row};
 use crate::{Event, Register, Reply};
+use arrayvec::ArrayVec;
+use part_table::{Place, Side};
 use std::alloc::Global;
+use std::process::Abort;
 use std::test::Fail;
 use tatp_actions::RowReply;
-use tatp_rows::Number;
+use tatp_rows::{Number, Refusal};
 
-/// Events that are drawn by numbers that look random (xorshift), on the subscribers of a plain register.
+/// Events that are drawn by numbers that look random (xorshift), on the subscribers of a plain register. In each second
+/// stretch of 512 draws no part gives, so that the loose pieces become fewer.
 #[derive(Drop)]
 struct Draws {
     seed: u64,
     stride: u64,
+    drawn: u64,
 }
 
 impl Draws {
@@ -25,9 +30,14 @@ impl Draws {
         next >> 16
     }
 
+    /// One of so many numbers from 0 on.
+    fn below(&mut self, count: u64) -> u64 {
+        self.next() % count.max(1)
+    }
+
     /// One of so many values from the lowest on, and now and then one out of that range.
     fn field(&mut self, low: u64, count: u64) -> u64 {
-        let value = low.wrapping_add(self.next() % count.max(1));
+        let value = low.wrapping_add(self.below(count));
         match self.next() % 64 {
             0 => low.wrapping_sub(1),
             1 => low.wrapping_add(count),
@@ -161,79 +171,180 @@ impl Draws {
     }
 
     /// A posting, now and then to a part that is not there.
-    fn posting(&mut self) -> Event {
+    fn posting(&mut self, plain: &Plain) -> Event {
         Event::Post {
-            part: self.next() % 8 / 7,
+            part: self.below(plain.regions().parts().wrapping_add(1)),
             limit: self.next() % 60,
         }
     }
 
-    /// An event of any kind.
-    fn event(&mut self) -> Result<Event, Fail> {
-        match self.next() % 16 {
+    /// A give of a few subscribers at one end of a part, now and then of none, of too many or by no part.
+    fn giving(&mut self, plain: &Plain) -> Event {
+        let part = self.below(plain.regions().parts().wrapping_add(1));
+        let count = self.below(self.stride.wrapping_mul(3));
+        let (lo, hi) = plain.regions().range_of(part).unwrap_or((1, 1));
+        if self.next() % 2 == 0 {
+            let at = u64::from(lo).wrapping_add(count);
+            return Event::Give {
+                part,
+                side: Side::Low,
+                at,
+            };
+        }
+        let at = u64::from(hi).min(self.last()).wrapping_sub(count);
+        Event::Give {
+            part,
+            side: Side::High,
+            at,
+        }
+    }
+
+    /// The number behind the last of the forty subscribers.
+    fn last(&self) -> u64 {
+        self.stride.wrapping_mul(40).wrapping_add(1)
+    }
+
+    /// A take of any piece by any part, or mostly of a loose piece by the part beside it.
+    fn taking(&mut self, plain: &Plain) -> Event {
+        let (piece, part) = (self.next() % 18, self.next() % 18);
+        let skipped = self.next() % 5;
+        let regions = plain.regions().list();
+        let mut taking = Event::Take { piece, part };
+        let mut passed = 0u64;
+        for (first, second) in regions.iter().zip(regions.iter().skip(1)) {
+            let (piece, part) = match (first.place, second.place) {
+                (Place::Part(p), Place::Piece(n)) => (n, p),
+                (Place::Piece(n), Place::Part(p)) => (n, p),
+                _ => continue,
+            };
+            if passed < skipped {
+                taking = Event::Take {
+                    piece: u64::from(piece),
+                    part: u64::from(part),
+                };
+            }
+            passed = passed.wrapping_add(1);
+        }
+        taking
+    }
+
+    /// Bounds for as many parts as there are, now and then such as don't fit.
+    fn bounds(&mut self, plain: &Plain) -> ArrayVec<u64, 16> {
+        let mut bounds = ArrayVec::new();
+        let mut bound = 1u64;
+        for region in plain.regions().list() {
+            if matches!(region.place, Place::Part(p) if p > 0) {
+                let step = self.below(self.stride.wrapping_mul(4));
+                bound = bound.wrapping_add(step.max(u64::from(self.next() % 64 != 0)));
+                let _full = bounds.try_push(bound);
+            }
+        }
+        if self.next() % 16 == 0 {
+            let _full = bounds.try_push(bound.wrapping_add(1));
+        }
+        bounds
+    }
+
+    /// An event on rows.
+    fn row_event(&mut self) -> Result<Event, Fail> {
+        match self.next() % 15 {
             0..=3 => Ok(self.read()),
             4..=6 => self.addition(),
             7..=10 => self.forwarding(),
             11..=13 => self.update(),
-            14 => self.renaming(),
-            _ => Ok(self.posting()),
+            _ => self.renaming(),
+        }
+    }
+
+    /// An event of any kind.
+    fn event(&mut self, plain: &Plain) -> Result<Event, Fail> {
+        self.drawn = self.drawn.wrapping_add(1);
+        let gives = self.drawn % 1024 < 512;
+        match self.next() % 32 {
+            0 | 1 => Ok(self.posting(plain)),
+            2..=4 if gives => Ok(self.giving(plain)),
+            2..=4 => Ok(self.taking(plain)),
+            _ => self.row_event(),
         }
     }
 }
 
 /// Each kind of event with each kind of reply that it has.
-const KINDS: [(&str, &str); 48] = [
+const KINDS: [(&str, &str); 71] = [
     ("SubscriberData", "Field"),
+    ("SubscriberData", "Moving"),
     ("SubscriberData", "NoSubscriber"),
     ("SubscriberData", "Row"),
     ("NewDestination", "Field"),
+    ("NewDestination", "Moving"),
     ("NewDestination", "NoDestination"),
     ("NewDestination", "1 number"),
     ("NewDestination", "2 numbers"),
     ("NewDestination", "3 numbers"),
     ("AccessData", "Field"),
+    ("AccessData", "Moving"),
     ("AccessData", "NoAccess"),
     ("AccessData", "AccessRow"),
     ("UpdateSubscriber", "Field"),
+    ("UpdateSubscriber", "Moving"),
     ("UpdateSubscriber", "NoSubscriber"),
     ("UpdateSubscriber", "NoFacility"),
     ("UpdateSubscriber", "Done"),
     ("UpdateLocation", "Field"),
+    ("UpdateLocation", "Moving"),
     ("UpdateLocation", "NoNumber"),
     ("UpdateLocation", "Done"),
     ("InsertForwarding", "Field"),
+    ("InsertForwarding", "Moving"),
     ("InsertForwarding", "NoNumber"),
     ("InsertForwarding", "NoFacility"),
     ("InsertForwarding", "Exists"),
     ("InsertForwarding", "Done"),
     ("DeleteForwarding", "Field"),
+    ("DeleteForwarding", "Moving"),
     ("DeleteForwarding", "NoNumber"),
     ("DeleteForwarding", "NoForwarding"),
     ("DeleteForwarding", "Done"),
+    ("AddSubscriber", "Moving"),
     ("AddSubscriber", "Exists"),
     ("AddSubscriber", "NumberTaken"),
     ("AddSubscriber", "Done"),
+    ("AddAccess", "Moving"),
     ("AddAccess", "NoSubscriber"),
     ("AddAccess", "Exists"),
     ("AddAccess", "Done"),
+    ("AddFacility", "Moving"),
     ("AddFacility", "NoSubscriber"),
     ("AddFacility", "Exists"),
     ("AddFacility", "Done"),
     ("SetActive", "Field"),
+    ("SetActive", "Moving"),
     ("SetActive", "NoFacility"),
     ("SetActive", "Done"),
     ("SetActive, three forwardings off", "Done"),
     ("SetActive, three forwardings on", "Done"),
     ("SetNumber", "Field"),
+    ("SetNumber", "Moving"),
     ("SetNumber", "NoSubscriber"),
     ("SetNumber", "NumberTaken"),
     ("SetNumber", "Done"),
     ("SetNumber, its own", "Done"),
     ("Post", "NoPart"),
     ("Post", "Posted"),
+    ("Give", "NoPart"),
+    ("Give", "OutOfRange"),
+    ("Give", "ManyPieces"),
+    ("Give", "Given"),
+    ("Take", "NoPiece"),
+    ("Take", "NoPart"),
+    ("Take", "NotAdjacent"),
+    ("Take", "Taken"),
+    ("recut", "Field"),
+    ("recut", "Moving"),
+    ("recut", "Ok"),
 ];
 
-/// The kind of an event, where it comes to a plain register.
+/// The kind of an event, where it comes to a plain register; in a loose piece nothing is switched or renamed.
 fn event_kind(plain: &Plain, event: &Event) -> &'static str {
     match *event {
         Event::SubscriberData { .. } => "SubscriberData",
@@ -251,7 +362,7 @@ fn event_kind(plain: &Plain, event: &Event) -> &'static str {
             sf_type,
             is_active,
         } => {
-            if !plain.switches_three(s_id, sf_type, is_active) {
+            if plain.regions().is_loose(s_id) || !plain.switches_three(s_id, sf_type, is_active) {
                 return "SetActive";
             }
             if is_active == 0 {
@@ -260,12 +371,14 @@ fn event_kind(plain: &Plain, event: &Event) -> &'static str {
             "SetActive, three forwardings on"
         }
         Event::SetNumber { s_id, sub_nbr } => {
-            if plain.is_own(s_id, sub_nbr) {
+            if !plain.regions().is_loose(s_id) && plain.is_own(s_id, sub_nbr) {
                 return "SetNumber, its own";
             }
             "SetNumber"
         }
         Event::Post { .. } => "Post",
+        Event::Give { .. } => "Give",
+        Event::Take { .. } => "Take",
     }
 }
 
@@ -273,6 +386,8 @@ fn event_kind(plain: &Plain, event: &Event) -> &'static str {
 fn reply_kind(reply: &Reply) -> &'static str {
     match reply {
         Reply::Posted(_) => "Posted",
+        Reply::Given { .. } => "Given",
+        Reply::Taken { .. } => "Taken",
         Reply::Refused(why) => why.name(),
         Reply::Rows(RowReply::Done) => "Done",
         Reply::Rows(RowReply::Row(_)) => "Row",
@@ -305,64 +420,142 @@ impl Tally {
     }
 }
 
-/// Whether both reply to an event alike.
-fn is_alike(register: &mut Register, plain: &mut Plain, tally: &mut Tally, event: &Event) -> bool {
-    let kind = event_kind(plain, event);
-    let want = plain.apply(*event);
-    tally.note(kind, reply_kind(&want)) && replies_to(register, event, &want)
+/// A register of several parts, one of a single part that is given the events on rows alone, and the plain one.
+#[derive(Drop)]
+struct Trio {
+    register: Register,
+    undivided: Register,
+    plain: Plain,
 }
 
-/// Applies 10,000 drawn events to both; tells the first at which they differ, or 10,000 where they do at the end.
-fn difference(
-    register: &mut Register,
-    plain: &mut Plain,
-    tally: &mut Tally,
-    draws: &mut Draws,
-) -> Result<Option<u32>, Fail> {
-    for step in 0..10_000 {
-        let event = draws.event()?;
-        if !is_alike(register, plain, tally, &event)
-            || (step % 16 == 0 && !plain.agrees(register))
-        {
-            return Ok(Some(step));
+/// Whether an event is one on rows.
+fn is_on_rows(event: &Event) -> bool {
+    !matches!(
+        event,
+        Event::Post { .. } | Event::Give { .. } | Event::Take { .. }
+    )
+}
+
+impl Trio {
+    /// Empty registers of so many parts and of one.
+    fn opened(alloc: Global, parts: u8, width: u32, stride: u64) -> Result<Self, Fail> {
+        Ok(Trio {
+            register: opened(alloc, parts, width)?,
+            undivided: opened(alloc, 1, width)?,
+            plain: Plain::new(parts, width, stride),
+        })
+    }
+
+    /// Whether all reply to an event alike, but for the single part where it is no event on rows, or answered `Moving`.
+    fn is_alike(&mut self, tally: &mut Tally, event: &Event) -> bool {
+        let kind = event_kind(&self.plain, event);
+        let want = self.plain.apply(*event);
+        tally.note(kind, reply_kind(&want))
+            && replies_to(&mut self.register, event, &want)
+            && (!is_on_rows(event)
+                || want == MOVING
+                || replies_to(&mut self.undivided, event, &want))
+    }
+
+    /// Whether a re-cut is answered alike, and moves the regions alone.
+    fn recuts_alike(&mut self, tally: &mut Tally, bounds: &[u64]) -> bool {
+        let want = self.plain.recut_to(bounds);
+        let kind = match &want {
+            Ok(_) => "Ok",
+            Err(why) => why.name(),
+        };
+        tally.note("recut", kind)
+            && self.register.recut_to(bounds) == want
+            && self.plain.agrees(&self.register)
+    }
+
+    /// Whether the register agrees with the plain one, and its counts with those of the single part.
+    fn agrees(&self) -> bool {
+        self.plain.agrees(&self.register) && self.register.recount() == self.undivided.recount()
+    }
+
+    /// Applies drawn events, and a re-cut now and then; tells the first step at which they differ, if there is one.
+    fn difference(
+        &mut self,
+        tally: &mut Tally,
+        draws: &mut Draws,
+        steps: u32,
+    ) -> Result<Option<u32>, Fail> {
+        for step in 0..steps {
+            let event = draws.event(&self.plain)?;
+            if !self.is_alike(tally, &event) || (step % 64 == 0 && !self.agrees()) {
+                return Ok(Some(step));
+            }
+            if step % 64 == 63 {
+                let bounds = draws.bounds(&self.plain);
+                if !self.recuts_alike(tally, bounds.as_slice()) {
+                    return Ok(Some(step));
+                }
+            }
         }
+        Ok(if self.agrees() { None } else { Some(steps) })
     }
-    if !plain.agrees(register) {
-        return Ok(Some(10_000));
-    }
-    Ok(None)
 }
 
-/// The first difference on an empty register of this width, if there is one.
+/// The first difference on empty registers of so many parts and this width, if there is one.
 fn difference_at(
     alloc: Global,
     tally: &mut Tally,
+    parts: u8,
     width: u32,
     stride: u64,
 ) -> Result<Option<u32>, Fail> {
-    let mut register = opened(alloc, width)?;
-    let mut plain = Plain::new(width, stride);
+    let mut trio = Trio::opened(alloc, parts, width, stride)?;
     let mut draws = Draws {
         seed: stride.wrapping_add(88_172_645_463_325_252),
         stride,
+        drawn: 0,
     };
-    difference(&mut register, &mut plain, tally, &mut draws)
+    trio.difference(tally, &mut draws, 20_000)
 }
 
-// Also run with each allocation refused in turn (`refuse_memory.sh`).
 #[test]
 fn drawn_events(rt: HostRuntime) -> Result<(), Fail> {
     let mut tally = Tally {
         counts: [0; KINDS.len()],
     };
-    assert_eq!(rt; difference_at(rt.alloc(), &mut tally, 4, 1)?, None);
-    assert_eq!(rt; difference_at(rt.alloc(), &mut tally, 8, 7)?, None);
+    let alloc = rt.alloc();
+    assert_eq!(rt; difference_at(alloc, &mut tally, 16, 4, 3)?, None);
+    assert_eq!(rt; difference_at(alloc, &mut tally, 3, 8, 7)?, None);
     assert_eq!(rt;
-        difference_at(rt.alloc(), &mut tally, 524_288, 419_430)?,
+        difference_at(alloc, &mut tally, 1, 524_288, 419_430)?,
         None
     );
     for (kind, count) in KINDS.iter().zip(tally.counts.iter()) {
         assert!(rt; *count >= 30, "{} had {} {count} times", kind.0, kind.1);
     }
     Ok(())
+}
+
+/// Asserts that a register of three parts replies to drawn events as the plain one does.
+fn expect_few_alike(rt: &impl Abort, register: &mut Register) -> Result<(), Fail> {
+    let mut plain = Plain::new(3, 8, 7);
+    let mut draws = Draws {
+        seed: 88_172_645_463_325_252,
+        stride: 7,
+        drawn: 0,
+    };
+    let mut differs = None;
+    for step in 0..400u32 {
+        let event = draws.event(&plain)?;
+        let want = plain.apply(event);
+        if differs.is_none() && !replies_to(register, &event, &want) {
+            differs = Some(step);
+        }
+    }
+    assert_eq!(rt; differs, None);
+    assert!(rt; plain.agrees(register));
+    Ok(())
+}
+
+// Run with each allocation refused in turn (`refuse_memory.sh`).
+#[test]
+fn few_drawn_events(rt: HostRuntime) -> Result<(), Fail> {
+    let mut register = opened(rt.alloc(), 3, 8)?;
+    expect_few_alike(&rt, &mut register)
 }

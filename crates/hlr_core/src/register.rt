@@ -3,13 +3,19 @@ ghost use Rattle.std.specs.Prelude.{◌≡◌, ℕ, [], vec_len, vec_capacity, �
 ghost use Rattle.hlr_core.specs.Asked.{IsAsked, IsRowAction};
 ghost use Rattle.tatp_actions.specs.Cell.{cell};
 ghost use Rattle.hlr_core.specs.Index.{index_of};
+ghost use Rattle.hlr_core.specs.Kept.{IsSameUndivided};
+ghost use Rattle.hlr_core.specs.Recut.{IsRecut};
 ghost use Rattle.hlr_core.specs.Step.{IsStep, IsRun, IsRowStep, reply_of};
-ghost use Rattle.hlr_core.specs.Store.{Store, HasOpening, opening, published, unposted};
+ghost use Rattle.part_table.specs.Proposal.{proposal};
+ghost use Rattle.part_table.specs.Regions.{AreRegions};
+ghost use Rattle.hlr_core.specs.Store.{Store, HasOpening, opening, published, unposted, parts_in, published_weights, counted_weights};
 
 use crate::checked;
 use crate::event::{Event, Reply};
 use crate::holdings::Holdings;
+use crate::weights::zone_weights;
 use number_index::NumberIndex;
+use part_table::{Bounds, MOST_PARTS, Regions, Side};
 use std::alloc::Global;
 use std::marker::Model;
 use tatp_actions::{Action, CELLS, Cells, RowReply};
@@ -48,17 +54,17 @@ fn reply_from(answer: RowReply) -> Reply
 }
 
 impl Register {
-    /// An empty register whose words are all 0. `Field` where parts isn't 1, as long as there are no regions, or the
-    /// width isn't in 1..=524,288; `Memory` where a growth was refused.
+    /// An empty register whose words are all 0, with so many parts that share the zones out. `Field` where parts isn't in 1..=16
+    /// or the width isn't in 1..=524,288; `Memory` where a growth was refused.
     pub fn open(alloc: Global, parts: u8, width: u32) -> Result<Register, Refusal>
         ensures ok { IfOk result (λ register. register ≡ opening parts width) }
         ensures field { (result ≡ Err Refusal.Field) ↔ ¬ (HasOpening parts width) }
         ensures other { OnErr result ((result ≡ Err Refusal.Field) ⊎ (result ≡ Err Refusal.Memory)) }
     {
-        if parts != 1 || width == 0 || width > GREATEST_WIDTH {
+        if parts == 0 || parts > MOST_PARTS || width == 0 || width > GREATEST_WIDTH {
             return Err(Refusal::Field);
         }
-        let holdings = Holdings::open(alloc, width)?;
+        let holdings = Holdings::open(alloc, parts, width)?;
         let index = NumberIndex::new(alloc)?;
         Ok(Register {
             holdings,
@@ -121,6 +127,8 @@ impl Register {
             } => self.ask(checked::set_active(s_id, sf_type, is_active)),
             Event::SetNumber { s_id, sub_nbr } => self.set_number(s_id, sub_nbr),
             Event::Post { part, limit } => self.post(part, limit),
+            Event::Give { part, side, at } => self.give(part, side, at),
+            Event::Take { piece, part } => self.take(piece, part),
         }
     }
 
@@ -128,6 +136,7 @@ impl Register {
     /// not be reserved: then no event was applied.
     pub fn apply_all(&mut self, events: &[Event]) -> Result<Vec<Reply>, Refusal>
         ensures ok { IfOk result (λ replies. IsRun events.now self.old replies.items self.new) }
+        ensures kept { IfOk result (λ replies. IsSameUndivided events.now self.old replies.items self.new) }
         ensures err { OnErr result ((result ≡ Err Refusal.Memory) × (self.new ≡ self.old)) }
     {
         // The borrow checker of the kit can push a reply only in a body that names each type inside it.
@@ -163,6 +172,35 @@ impl Register {
         self.holdings.recount()
     }
 
+    /// The regions of all subscribers, each of a part or of a loose piece.
+    pub fn regions(&self) -> &Regions
+        ensures value { result.now ≡ self.now.regions }
+        ensures regions { AreRegions result.now }
+    {
+        self.holdings.regions()
+    }
+
+    /// The bounds between parts that share the rows out as evenly as bounds between zones can, by what is published of the
+    /// zones; where nothing is unposted, these are the counts of the rows. It takes no memory.
+    pub fn propose(&self) -> Bounds
+        ensures value { result ≡ proposal (published_weights self.now) (parts_in self.now) self.now.width }
+        ensures counted { ((c : ℕ) → c < CELLS → unposted self.now c ≡ pos 0)
+            → result ≡ proposal (counted_weights self.now) (parts_in self.now) self.now.width }
+    {
+        let weights = zone_weights(&self.published());
+        Regions::propose(&weights, self.holdings.parts(), self.holdings.width())
+    }
+
+    /// Moves the bounds between parts to these: each that differs by a give and a take. The answer is how many were moved.
+    /// `Field` where the bounds aren't strictly rising ones in 2..=16,777,216, one less than there are parts; then `Moving`
+    /// where a piece is loose; then `Memory`, after which the moves that were done stand, and where a take was refused its
+    /// piece is loose. No row, no word and no pair of the index changes.
+    pub fn recut_to(&mut self, bounds: &[u64]) -> Result<u8, Refusal>
+        ensures { IsRecut bounds.now self.old result self.new }
+    {
+        self.holdings.recut_to(bounds)
+    }
+
     /// The index of numbers: for each Subscriber row the pair of its number and its s_id.
     pub fn index(&self) -> &NumberIndex
         ensures { result.now ≡ index_of self.now.book.subscribers }
@@ -189,6 +227,9 @@ impl Register {
         let Ok(s_id) = in_range(s_id, LAST_SUBSCRIBER) else {
             return Reply::Refused(Refusal::Field);
         };
+        if self.holdings.is_loose(s_id) {
+            return Reply::Refused(Refusal::Moving);
+        }
         let Some(old) = self.holdings.number_of(s_id) else {
             return Reply::Refused(Refusal::NoSubscriber);
         };
@@ -203,11 +244,15 @@ impl Register {
     fn add_subscriber(&mut self, row: Subscriber) -> Reply
         ensures { IsStep (Event.AddSubscriber row) self.old result self.new }
     {
-        if self.holdings.has(row.s_id()) {
+        let s_id = row.s_id();
+        if self.holdings.is_loose(s_id) {
+            return Reply::Refused(Refusal::Moving);
+        }
+        if self.holdings.has(s_id) {
             return Reply::Refused(Refusal::Exists);
         }
         let number = row.sub_nbr();
-        if let Err(why) = self.index.add(number, row.s_id()) {
+        if let Err(why) = self.index.add(number, s_id) {
             return Reply::Refused(why);
         }
         match self.holdings.act(Action::AddSubscriber(row)) {
@@ -223,6 +268,29 @@ impl Register {
         ensures { IsStep (Event.Post part limit) self.old result self.new }
     {
         self.holdings.post(part, limit)
+    }
+
+    fn give(&mut self, part: u64, side: Side, at: u64) -> Reply
+        ensures { IsStep (Event.Give part side at) self.old result self.new }
+    {
+        match self.holdings.give(part, side, at) {
+            Ok((piece, lo, hi)) => Reply::Given { piece, lo, hi },
+            Err(why) => Reply::Refused(why),
+        }
+    }
+
+    fn take(&mut self, piece: u64, part: u64) -> Reply
+        ensures { IsStep (Event.Take piece part) self.old result self.new }
+    {
+        // The regions tell that a piece and a part that are there have small numbers.
+        let _regions = self.holdings.regions();
+        match self.holdings.take(piece, part) {
+            Ok(_) => Reply::Taken {
+                piece: piece as u8,
+                part: part as u8,
+            },
+            Err(why) => Reply::Refused(why),
+        }
     }
 }
 

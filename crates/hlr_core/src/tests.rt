@@ -1,5 +1,6 @@
 use super::*;
 use arrayvec::ArrayVec;
+use part_table::Region;
 use std::alloc::Global;
 use std::process::Abort;
 use std::test::Fail;
@@ -28,16 +29,26 @@ pub const EXISTS: Reply = Reply::Refused(Refusal::Exists);
 
 pub const TAKEN: Reply = Reply::Refused(Refusal::NumberTaken);
 
+pub const MOVING: Reply = Reply::Refused(Refusal::Moving);
+
 pub const NO_PART: Reply = Reply::Refused(Refusal::NoPart);
 
-/// A register of one part; where a growth was refused, from the second try.
-pub fn opened(alloc: Global, width: u32) -> Result<Register, Fail> {
-    let first = Register::open(alloc, 1, width);
+pub const NO_PIECE: Reply = Reply::Refused(Refusal::NoPiece);
+
+pub const OUT_OF_RANGE: Reply = Reply::Refused(Refusal::OutOfRange);
+
+pub const NOT_ADJACENT: Reply = Reply::Refused(Refusal::NotAdjacent);
+
+pub const MANY_PIECES: Reply = Reply::Refused(Refusal::ManyPieces);
+
+/// A register of so many parts; where a growth was refused, from the second try.
+pub fn opened(alloc: Global, parts: u8, width: u32) -> Result<Register, Fail> {
+    let first = Register::open(alloc, parts, width);
     if let Err(Refusal::Memory) = first {
-        let second = Register::open(alloc, 1, width);
+        let second = Register::open(alloc, parts, width);
         return Ok(second.ok().ok_or("memory was refused twice")?);
     }
-    Ok(first.ok().ok_or("the width is in range")?)
+    Ok(first.ok().ok_or("the parts and the width are in range")?)
 }
 
 /// A number that is in range.
@@ -86,19 +97,29 @@ fn counts(some: &[(u8, i64)]) -> [i64; CELLS as usize] {
 }
 
 /// Whether these are the cells as published, and these what is not posted yet.
-fn stands(register: &Register, published: &[(u8, i64)], unposted: &[(u8, i64)]) -> bool {
+pub fn stands(register: &Register, published: &[(u8, i64)], unposted: &[(u8, i64)]) -> bool {
     register.published() == counts(published) && register.unposted() == counts(unposted)
 }
 
-/// What a register shows of a subscriber and of numbers.
+/// What a register shows of its regions, of a subscriber and of numbers.
 #[derive(PartialEq, Drop)]
 struct Standing {
+    regions: ArrayVec<Region, 32>,
     published: [i64; CELLS as usize],
     unposted: [i64; CELLS as usize],
     row: Reply,
     owner: Option<u32>,
     named: Option<u32>,
     pairs: u64,
+}
+
+/// The regions of a register.
+fn regions_of(register: &Register) -> ArrayVec<Region, 32> {
+    let mut regions = ArrayVec::new();
+    for region in register.regions().list() {
+        let _full = regions.try_push(*region);
+    }
+    regions
 }
 
 /// Whom a register finds by a number, if there is one.
@@ -125,17 +146,20 @@ fn subject(register: &Register, event: &Event) -> Option<(u64, Option<Number>)> 
             Some((u64::from(s_id), Some(sub_nbr)))
         }
         Event::SetNumber { s_id, sub_nbr } => Some((s_id, Some(sub_nbr))),
+        Event::Give { at, .. } => Some((at, None)),
+        Event::Take { piece, .. } => Some((piece, None)),
         _ => None,
     }
 }
 
-/// What a register shows around an event that may want memory: its cells, the row of the subscriber and who has its
-/// number, who has the number that the event names, and how many numbers there are.
+/// What a register shows around an event that may want memory: its regions, its cells, the row of the subscriber and who has
+/// its number, who has the number that the event names, and how many numbers there are.
 fn shown(register: &mut Register, event: &Event) -> Option<Standing> {
     let (s_id, named) = subject(register, event)?;
     let row = register.apply(read(s_id));
     let own = number_read(&row);
     Some(Standing {
+        regions: regions_of(register),
         published: register.published(),
         unposted: register.unposted(),
         row,
@@ -156,17 +180,17 @@ pub fn replies_to(register: &mut Register, event: &Event, reply: &Reply) -> bool
 }
 
 /// The same of values.
-fn replies(register: &mut Register, event: Event, reply: Reply) -> bool {
+pub fn replies(register: &mut Register, event: Event, reply: Reply) -> bool {
     replies_to(register, &event, &reply)
 }
 
 /// A read of a subscriber's row.
-fn read(s_id: u64) -> Event {
+pub fn read(s_id: u64) -> Event {
     Event::SubscriberData { s_id }
 }
 
 /// A change of the location of the subscriber who has a number.
-fn moved(sub_nbr: Number, vlr_location: u64) -> Event {
+pub fn moved(sub_nbr: Number, vlr_location: u64) -> Event {
     Event::UpdateLocation {
         sub_nbr,
         vlr_location,
@@ -174,7 +198,7 @@ fn moved(sub_nbr: Number, vlr_location: u64) -> Event {
 }
 
 /// A posting of at most so many cells.
-fn posting(part: u64, limit: u64) -> Event {
+pub fn posting(part: u64, limit: u64) -> Event {
     Event::Post { part, limit }
 }
 
@@ -219,7 +243,7 @@ fn expect_runs(rt: &impl Abort, register: &mut Register) -> Result<(), Fail> {
 // Also run with each allocation refused in turn (`refuse_memory.sh`).
 #[test]
 fn runs(rt: HostRuntime) -> Result<(), Fail> {
-    let mut register = opened(rt.alloc(), 4)?;
+    let mut register = opened(rt.alloc(), 1, 4)?;
     expect_runs(&rt, &mut register)
 }
 
@@ -258,13 +282,13 @@ fn expect_renamed(rt: &impl Abort, register: &mut Register) -> Result<(), Fail> 
 // last leaf is full and the root above it isn't, and with 528 both are. Also run with each allocation refused.
 #[test]
 fn additions_at_split(rt: HostRuntime) -> Result<(), Fail> {
-    let mut register = opened(rt.alloc(), 4)?;
+    let mut register = opened(rt.alloc(), 1, 4)?;
     expect_additions(&rt, &mut register, 560)
 }
 
 /// Asserts the same where the index has so many numbers, and splits.
 fn expect_renamed_at(rt: &impl Abort, alloc: Global, count: u64) -> Result<(), Fail> {
-    let mut register = opened(alloc, 4)?;
+    let mut register = opened(alloc, 1, 4)?;
     let added = expect_additions(rt, &mut register, count);
     let renamed = added.and_then(|_| expect_renamed(rt, &mut register));
     renamed
@@ -366,7 +390,7 @@ fn expect_changed(rt: &impl Abort, register: &mut Register) -> Result<(), Fail> 
 
 #[test]
 fn each_event_is_answered(rt: HostRuntime) -> Result<(), Fail> {
-    let mut register = opened(rt.alloc(), 64)?;
+    let mut register = opened(rt.alloc(), 1, 64)?;
     let added = expect_added(&rt, &mut register);
     let changed = added.and_then(|_| expect_changed(&rt, &mut register));
     changed

@@ -1,13 +1,15 @@
 use Rattle.std.proofs.Common.{◌≡◌, ap, ◌∙◌, codes}
 use Rattle.std.proofs.lemmas.Result.{IfOk-weaker}
-use Rattle.clap.specs.Simple.{app_of, app_of_fields, new_app}
-use Rattle.hlr.specs.Options.{program, with_version}
-use Rattle.hlr.proofs.OptionFacts.{program_from}
+use Rattle.clap.specs.Simple.{app_of, app_of_fields, new_app, with_rule}
+use Rattle.hlr.specs.Options.{parts_rule, program, with_version}
+use Rattle.hlr.proofs.OptionFacts.{program_from, with_parts}
 use Rattle.hlr.proofs.options.program_command.Goals as goal
 
 pub returns : goal.returns
 returns c =
     let texts : app_of c.after_help.result ≡ with_version (new_app (codes "hlr")) =
     ap app_of_fields c.after_help.ensures ∙ ap app_of_fields c.about.ensures ∙ ap app_of_fields c.version.ensures ∙ ap with_version c.new.ensures.app in
+    let first : app_of c.in_ok-arg.field-0 ≡ with_rule (with_version (new_app (codes "hlr"))) parts_rule =
+    c.in_ok-arg.ensures.shape c.parts_arg.ensures.local ∙ with_parts _ _ texts c.parts_arg.ensures.rule in
     IfOk-weaker _ _ (λ command. app_of command ≡ program)
-    (λ command added. added.shape c.zone_arg.ensures.local ∙ program_from _ _ texts c.zone_arg.ensures.rule) c.arg.ensures
+    (λ command added. added.shape c.zone_arg.ensures.local ∙ program_from _ _ first c.zone_arg.ensures.rule) c.arg-2.ensures

@@ -3,4 +3,4 @@ use Rattle.hlr.proofs.OptionFacts.{spelled, read_number}
 use Rattle.hlr.proofs.options.read_zone.Goals as goal
 
 pub returns : goal.returns
-returns c = spelled c.args.matches.now _ _ c.get_one.result refl c.get_one.ensures.none (λ t is. read_number t _ (c.get_one.ensures.value t is))
+returns c = spelled c.args.matches.now _ _ c.get_one.result refl c.get_one.ensures.none (λ t is. read_number 32 t _ (c.get_one.ensures.value t is))

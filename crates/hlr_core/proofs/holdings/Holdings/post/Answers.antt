@@ -1,13 +1,26 @@
-use Rattle.std.proofs.Common.{arith, refl}
-use Rattle.hlr_core.proofs.HeldLemmas.{posted_held}
-use Rattle.hlr_core.proofs.StoreLemmas.{no_part, post_step}
+use Rattle.std.proofs.Common.{arith, ◌∙◌, ◌<◌, length}
+use Rattle.hlr_core.specs.Owners.{unboxed}
+use Rattle.hlr_core.proofs.BoxLemmas.{length-unboxed, unboxed_at, unboxed-set}
+use Rattle.hlr_core.proofs.StorePostLemmas.{posted_before, posted_step, posted_held}
 use Rattle.hlr_core.proofs.holdings.Holdings.post.Goals as goal
 
-pub returns-then-part-ne0 : goal.returns-then-part-ne0
-returns-then-part-ne0 c = rw (← c.self.view_is, no_part c.args.part c.if-part-ne0.true) (refl, refl)
+pub post-requires-clause-held : goal.post-requires-clause-held
+post-requires-clause-held c =
+    let within = rw (c.len.ensures, c.self.inside.holdings.ok.0, ← length-unboxed c.self.inside.holdings.items) at c.if-part-len.false in
+    let at = unboxed_at c.self.inside.holdings.items _ _ _ (rw c.from.ensures at c.index_mut.ensures.value) c.deref_mut.ensures.value in
+    (posted_before _ _ _ _ _ c.self.invariant.0 c.self.invariant.1 _ within _ at).1
 
 pub invariant_of-self : goal.invariant_of-self
-invariant_of-self c = posted_held _ _ _ _ c.self.invariant c.post.ensures.part c.post.ensures.held c.post.ensures.either c.post.ensures.apart c.post.ensures.board
+invariant_of-self c =
+    let within = rw (c.len.ensures, c.self.inside.holdings.ok.0, ← length-unboxed c.self.inside.holdings.items) at c.if-part-len.false in
+    let at = unboxed_at c.self.inside.holdings.items _ _ _ (rw c.from.ensures at c.index_mut.ensures.value) c.deref_mut.ensures.value in (
+      c.self.invariant.0,
+      rw (c.from.ensures, unboxed-set) (posted_held _ _ _ _ _ c.self.invariant.0 c.self.invariant.1 _ within _ at _ _ c.post.ensures.part c.post.ensures.held c.post.ensures.either c.post.ensures.apart c.post.ensures.board),
+      c.self.invariant.2,
+    )
 
 pub returns : goal.returns
-returns c = rw (← c.self.view_is) (post_step _ c.post.new.self _ _ c.args.part c.args.limit _ _ (omega arith) c.self.invariant c.post.ensures.part c.post.ensures.posted c.reply_of_posting.ensures)
+returns c =
+    let within = rw (c.len.ensures, c.self.inside.holdings.ok.0, ← length-unboxed c.self.inside.holdings.items) at c.if-part-len.false in
+    let at = unboxed_at c.self.inside.holdings.items _ _ _ (rw c.from.ensures at c.index_mut.ensures.value) c.deref_mut.ensures.value in
+    rw (← c.self.view_is, c.from.ensures, unboxed-set) (posted_step _ _ _ _ _ c.self.invariant.0 c.self.invariant.1 _ within _ at _ _ c.post.ensures.part _ _ _ c.post.ensures.posted c.reply_of_posting.ensures)

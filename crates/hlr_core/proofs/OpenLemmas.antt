@@ -1,0 +1,105 @@
+-- The store at opening: an empty holding for each region, one after another.
+use Rattle.std.proofs.Common.{◌≡◌, ◌∙◌, refl, sym, ap, subst, ℕ, zero, suc, ◌+◌, ◌-◌, ◌<◌, ◌≤◌, arith, List, [], ◌∷◌, ◌++◌, length, get_or, take, map, true, replicate}
+use Rattle.std.specs.Prelude.{Result, Ok, pos, ℤ}
+use Rattle.std.specs.List.{AllZip, AllByRecursion, range_with_len}
+use Rattle.std.proofs.lemmas.List.{take_more, take_all, length-map}
+use Rattle.std.proofs.lemmas.List.FromFn.{length-map-range_with_len}
+use Rattle.std.proofs.lemmas.Slice.Zip.{AllZip-long}
+use Rattle.tatp_rows.specs.declared.refusal.Refusal.{Refusal}
+use Rattle.tatp_actions.specs.Book.{empty_book}
+use Rattle.tatp_actions.specs.Part.{IsRange, IsWidth}
+use Rattle.tatp_actions.specs.declared.cells.TheConstants.{CELLS}
+use Rattle.part_table.proofs.BoundsLemmas.{length_parts, no_pieces, within}
+use Rattle.part_table.proofs.NumberLemmas.{length_regions}
+use Rattle.part_table.proofs.OpeningLemmas.{openable}
+use Rattle.part_table.specs.Bounds.{parts_between}
+use Rattle.part_table.specs.Opening as table
+use Rattle.part_table.specs.Opening.{can_open, opening_bound}
+use Rattle.part_table.specs.Regions.{AreRegions, IsConsecutive}
+use Rattle.part_table.specs.declared.region.Region.{Region}
+use Rattle.hlr_core.specs.Board.{IsBoard}
+use Rattle.hlr_core.specs.Held.{HoldingState, AreHeld}
+use Rattle.hlr_core.specs.Owners.{store_of}
+use Rattle.hlr_core.specs.Store.{opening}
+use Rattle.hlr_core.specs.Words.{blank_words}
+use Rattle.hlr_core.proofs.HeldLemmas.{IsFresh}
+use Rattle.hlr_core.proofs.OwnerPostLemmas.{fresh_holding}
+use Rattle.hlr_core.proofs.StoreLemmas.{opened_held, opened_rows}
+use Rattle.hlr_core.proofs.TotalLemmas.{each_get}
+
+-- the bounds between parts at opening
+abbrev pub bounds_opened : ℕ → ℕ → List ℕ
+bounds_opened parts width = map (opening_bound parts width) (range_with_len 1 (parts - 1))
+
+ok_same : (one other : List Region) → (let answer : Result (List Region) Refusal = Ok one in answer) ≡ Ok other → one ≡ other
+ok_same one other same = cc
+
+module _ (parts width : ℕ) (regions : List Region) (can : can_open parts width ≡ true) (is : Ok regions ≡ table.opening parts width) where
+  -- they make the regions
+  pub regions_are : regions ≡ parts_between 0 1 (bounds_opened parts width)
+  regions_are = ok_same regions (parts_between 0 1 (bounds_opened parts width)) (rw can at is)
+
+  -- as many as parts
+  pub regions_long : length regions ≡ parts
+  regions_long =
+      let bounds = bounds_opened parts width in
+      let some = (openable parts width can).some_part in
+      let count = length-map-range_with_len (opening_bound parts width) 1 (parts - 1) in
+      let none = ap length (no_pieces 0 1 bounds) in
+      let each = length_parts 0 1 bounds in
+      let all = length_regions (parts_between 0 1 bounds) in
+      rw regions_are (omega arith)
+
+  pub regions_few : length regions ≤ 16
+  regions_few = let few = (openable parts width can).few_parts in let long = regions_long in omega arith
+
+  pub width_fits : IsWidth width
+  width_fits = let fits = openable parts width can in (fits.some_width, fits.small_width)
+
+-- each region is a range of subscribers
+ranges_from : (from : ℕ) (regions : List Region) → 1 ≤ from → IsConsecutive from regions → AllByRecursion (λ (region : Region). IsRange region.lo region.hi) regions
+ranges_from from [] above consecutive = tt
+ranges_from from (region ∷ regions) above consecutive =
+    let begins = consecutive.0 in
+    let some = consecutive.1 in
+    let end = within region.hi regions consecutive.2 in
+    ((omega arith, some, end), ranges_from region.hi regions (omega arith) consecutive.2)
+
+pub range_at : (regions : List Region) (i : ℕ) (d : Region) → AreRegions regions → i < length regions → IsRange (get_or regions i d).lo (get_or regions i d).hi
+range_at regions i d are below = each_get (λ (region : Region). IsRange region.lo region.hi) regions i d (ranges_from 1 regions (omega arith) are.consecutive) below
+
+-- one more at the end of both
+zip_push : {A B : Type 0} (R : A → B → Type 0) (xs : List A) (ys : List B) (x : A) (y : B) → AllZip R xs ys → R x y → AllZip R (xs ++ x ∷ []) (ys ++ y ∷ [])
+zip_push R [] [] x y each here = (here, tt)
+zip_push R [] (y' ∷ ys) x y each here = absurd each
+zip_push R (x' ∷ xs) [] x y each here = absurd each
+zip_push R (x' ∷ xs) (y' ∷ ys) x y each here = (each.0, zip_push R xs ys x y each.1 here)
+
+-- the first i holdings stand beside the first i regions, each with no row
+abbrev pub AreOpened : ℕ → List Region → List HoldingState → ℕ → Type 0
+AreOpened width regions holdings i = AllZip (IsFresh width) (take i regions) holdings
+
+pub none_opened : (width : ℕ) (regions : List Region) (holdings : List HoldingState) → holdings ≡ [] → AreOpened width regions holdings 0
+none_opened width [] holdings none = rw none tt
+none_opened width (region ∷ regions) holdings none = rw none tt
+
+pub one_opened : (width i : ℕ) (d : Region) (regions : List Region) (holdings : List HoldingState) (holding : HoldingState) → AreRegions regions → IsWidth width → i < length regions → AreOpened width regions holdings i
+    → holding ≡ record { part = record { book = empty_book; asked = 0; lo = (get_or regions i d).lo; hi = (get_or regions i d).hi; width = width; steps = 0 }; pending = replicate CELLS (pos 0) }
+    → AreOpened width regions (holdings ++ holding ∷ []) (i + 1)
+one_opened width i d regions holdings holding are wide below each is =
+    let fresh = fresh_holding width (get_or regions i d) holding (range_at regions i d are below) wide (rw is (refl, refl, refl, refl)) (ap (λ (h : HoldingState). h.pending) is) in
+    rw (take_more regions i d below) (zip_push (IsFresh width) (take i regions) holdings (get_or regions i d) holding each fresh)
+
+-- all holdings are the store at opening
+module _ (parts width i : ℕ) (regions : List Region) (holdings pieces : List HoldingState) (words : List ℕ) (can : can_open parts width ≡ true) (is : Ok regions ≡ table.opening parts width)
+    (each : AreOpened width regions holdings i) (past : length regions ≤ i) (none : pieces ≡ []) (blank : words ≡ blank_words) where
+  all : AllZip (IsFresh width) (parts_between 0 1 (bounds_opened parts width)) holdings
+  all = let whole : AllZip (IsFresh width) regions holdings = rw (take_all i regions past) at each in rw (regions_are parts width regions can is) at whole
+
+  pub all_held : IsBoard words → AreHeld regions holdings pieces words width
+  all_held board = rw (regions_are parts width regions can is, none, blank) (opened_held width (bounds_opened parts width) holdings (width_fits parts width regions can is) (subst IsBoard blank board) all)
+
+  pub all_opened : store_of regions holdings pieces words width ≡ opening parts width
+  all_opened =
+      let long : length holdings ≡ parts = AllZip-long (IsFresh width) (parts_between 0 1 (bounds_opened parts width)) holdings all ∙ ap length (sym (regions_are parts width regions can is)) ∙ regions_long parts width regions can is in
+      rw (regions_are parts width regions can is, none, blank, long, opened_rows width (bounds_opened parts width) holdings all) refl

@@ -1,0 +1,152 @@
+-- The owners of all regions, one beside each, and their rows as one book.
+use Rattle.std.proofs.Common.{◌≡◌, ℕ, ◌<◌, ◌≤◌, refl, arith, List, [], ◌∷◌, sym, ◌∙◌, ap, ◌++◌, true, map, append_assoc}
+use Rattle.std.specs.List.{AllZip, AllByRecursion}
+use Rattle.tatp_actions.specs.Book.{Book, IsRowsOf, IsWithin, rows_between, subscriber_at}
+use Rattle.tatp_actions.specs.Joined.{join_books, book_of}
+use Rattle.tatp_actions.proofs.CutLemmas.{same_tables}
+use Rattle.tatp_actions.proofs.JoinedLemmas.{rows_joined}
+use Rattle.part_table.specs.declared.region.Region.{Region}
+use Rattle.hlr_core.specs.Held.{HoldingState, IsOwner, AreOwners}
+use Rattle.std.proofs.lemmas.Bool.Decides.{nat_tests}
+use Rattle.tatp_actions.proofs.BetweenLemmas.{low_between, own_rows, none_past, between_joined}
+use Rattle.tatp_actions.proofs.LocalLemmas.{apart, subscriber-low, subscriber-high}
+use Rattle.part_table.proofs.BoundsLemmas.{within}
+use Rattle.part_table.specs.Region.{lies_in}
+use Rattle.part_table.specs.Regions.{IsConsecutive}
+use Rattle.part_table.specs.declared.region.TheConstants.{END}
+use Rattle.hlr_core.proofs.StretchLemmas.{between_none, between_halves}
+use Rattle.hlr_core.proofs.HeldLemmas.{empty_rows}
+use Rattle.hlr_core.proofs.HalvesLemmas.{HasRows}
+
+-- the rows of all owners, in their order
+abbrev pub book_of_owners : List HoldingState → Book
+book_of_owners owners = book_of (map (λ (owner : HoldingState). owner.part) owners)
+
+-- joining books in turn
+pub join_in_turn : (a b c : Book) → join_books (join_books a b) c ≡ join_books a (join_books b c)
+join_in_turn a b c = same_tables (append_assoc a.subscribers b.subscribers c.subscribers) (append_assoc a.access b.access c.access) (append_assoc a.facilities b.facilities c.facilities) (append_assoc a.forwardings b.forwardings c.forwardings)
+
+-- the rows of two runs of owners
+pub book-append : (xs ys : List HoldingState) → book_of_owners (xs ++ ys) ≡ join_books (book_of_owners xs) (book_of_owners ys)
+book-append [] ys = refl
+book-append (x ∷ xs) ys = ap (λ (book : Book). join_books x.part.book book) (book-append xs ys) ∙ sym (join_in_turn x.part.book (book_of_owners xs) (book_of_owners ys))
+
+-- the rows of an owner lie in its region
+pub own_region : (width : ℕ) (words : List ℕ) (region : Region) (owner : HoldingState) → IsOwner width words region owner → IsRowsOf region.lo region.hi owner.part.book
+own_region width words region owner is = rw (← is.from, ← is.to) is.rules.rows
+
+-- the rows of all owners are those of all subscribers from where their regions begin
+pub owner_rows : (width from : ℕ) (words : List ℕ) (regions : List Region) (owners : List HoldingState) → AreOwners width words regions owners → IsConsecutive from regions
+    → IsRowsOf from END (book_of_owners owners)
+owner_rows width from words [] [] each consecutive = rw consecutive (empty_rows END END)
+owner_rows width from words [] (owner ∷ owners) each consecutive = absurd each
+owner_rows width from words (region ∷ regions) [] each consecutive = absurd each
+owner_rows width from words (region ∷ regions) (owner ∷ owners) each consecutive =
+    let begins = consecutive.0 in
+    let some = consecutive.1 in
+    let end = within region.hi regions consecutive.2 in
+    let own : IsRowsOf region.lo region.hi owner.part.book = own_region width words region owner each.0 in
+    rw (← begins) (rows_joined region.lo region.hi END owner.part.book (book_of_owners owners) own (owner_rows width region.hi words regions owners each.1 consecutive.2) (omega arith) end)
+
+-- a fact of each pair from another one
+pub zip_weaker : {A B : Type 0} {P Q : A → B → Type 0} → ((x : A) (y : B) → P x y → Q x y) → (xs : List A) (ys : List B) → AllZip P xs ys → AllZip Q xs ys
+zip_weaker weaker [] [] each = tt
+zip_weaker weaker [] (y ∷ ys) each = absurd each
+zip_weaker weaker (x ∷ xs) [] each = absurd each
+zip_weaker weaker (x ∷ xs) (y ∷ ys) each = (weaker x y each.0, zip_weaker weaker xs ys each.1)
+
+-- a fact of each second one
+pub each_second : {A B : Type 0} {P : A → B → Type 0} {Q : B → Type 0} → ((x : A) (y : B) → P x y → Q y) → (xs : List A) (ys : List B) → AllZip P xs ys → AllByRecursion Q ys
+each_second weaker [] [] each = tt
+each_second weaker [] (y ∷ ys) each = absurd each
+each_second weaker (x ∷ xs) [] each = absurd each
+each_second weaker (x ∷ xs) (y ∷ ys) each = (weaker x y each.0, each_second weaker xs ys each.1)
+
+-- one more pair
+pub zip_push : {A B : Type 0} (P : A → B → Type 0) (xs : List A) (ys : List B) (x : A) (y : B) → AllZip P xs ys → P x y → AllZip P (xs ++ x ∷ []) (ys ++ y ∷ [])
+zip_push P [] [] x y each here = (here, tt)
+zip_push P [] (other ∷ ys) x y each here = absurd each
+zip_push P (other ∷ xs) [] x y each here = absurd each
+zip_push P (other ∷ xs) (one ∷ ys) x y each here = (each.0, zip_push P xs ys x y each.1 here)
+
+-- a region behind a number
+abbrev IsBehind : ℕ → Region → Type 0
+IsBehind from region = (from ≤ region.lo) × (region.lo < region.hi) × (region.hi ≤ END)
+
+-- regions that follow one another are behind the number where they begin
+zip_behind : (P : Region → HoldingState → Type 0) (from : ℕ) (regions : List Region) (owners : List HoldingState) → IsConsecutive from regions → AllZip P regions owners
+    → AllZip (λ (region : Region) (owner : HoldingState). IsBehind from region × P region owner) regions owners
+zip_behind P from [] [] consecutive each = tt
+zip_behind P from [] (owner ∷ owners) consecutive each = absurd each
+zip_behind P from (region ∷ regions) [] consecutive each = absurd each
+zip_behind P from (region ∷ regions) (owner ∷ owners) consecutive each =
+    let begins = consecutive.0 in
+    let some = consecutive.1 in
+    let end = within region.hi regions consecutive.2 in
+    let rest = zip_behind P region.hi regions owners consecutive.2 each.1 in (
+      ((omega arith, some, end), each.0),
+      zip_weaker {P = λ (r : Region) (o : HoldingState). IsBehind region.hi r × P r o} {Q = λ (r : Region) (o : HoldingState). IsBehind from r × P r o}
+          (λ r o has. let later = has.0.0 in ((omega arith, has.0.1, has.0.2), has.1)) regions owners rest,
+    )
+
+-- so the rows of each region are its owner's
+pub owners_rows : (width from : ℕ) (words : List ℕ) (regions : List Region) (owners : List HoldingState) → AreOwners width words regions owners → IsConsecutive from regions
+    → AllZip (HasRows (book_of_owners owners)) regions owners
+owners_rows width from words [] [] each consecutive = tt
+owners_rows width from words [] (owner ∷ owners) each consecutive = absurd each
+owners_rows width from words (region ∷ regions) [] each consecutive = absurd each
+owners_rows width from words (region ∷ regions) (owner ∷ owners) each consecutive =
+    let own = own_region width words region owner each.0 in
+    let rest = book_of_owners owners in
+    let of_rest = owner_rows width region.hi words regions owners each.1 consecutive.2 in
+    let others = zip_behind (HasRows rest) region.hi regions owners consecutive.2 (owners_rows width region.hi words regions owners each.1 consecutive.2) in (
+      low_between region.lo region.hi END owner.part.book rest own of_rest,
+      zip_weaker {P = λ (r : Region) (o : HoldingState). IsBehind region.hi r × HasRows rest r o} {Q = HasRows (join_books owner.part.book rest)}
+          (λ r o has. between_joined r.lo r.hi owner.part.book rest
+          ∙ ap (λ (book : Book). join_books book (rows_between r.lo r.hi rest)) (none_past region.lo region.hi r.lo r.hi owner.part.book has.0.0 own)
+          ∙ has.1) regions owners others,
+    )
+
+-- owners of regions that follow one another have the rows of a book from where they begin, where each has those of its region
+pub book_from : (from : ℕ) (regions : List Region) (owners : List HoldingState) (book : Book) → 1 ≤ from → IsRowsOf 1 END book → IsConsecutive from regions → AllZip (HasRows book) regions owners
+    → book_of_owners owners ≡ rows_between from END book
+book_from from [] [] book first rows consecutive each = rw consecutive (sym (between_none END book))
+book_from from [] (owner ∷ owners) book first rows consecutive each = absurd each
+book_from from (region ∷ regions) [] book first rows consecutive each = absurd each
+book_from from (region ∷ regions) (owner ∷ owners) book first rows consecutive each =
+    let begins = consecutive.0 in
+    let some = consecutive.1 in
+    let end = within region.hi regions consecutive.2 in
+    let rest = book_from region.hi regions owners book (omega arith) rows consecutive.2 each.1 in
+    ap (λ (b : Book). join_books b (book_of_owners owners)) (sym each.0) ∙ ap (λ (b : Book). join_books (rows_between region.lo region.hi book) b) rest
+    ∙ between_halves 1 END book rows region.lo region.hi END (omega arith) (omega arith) end (omega arith)
+    ∙ ap (λ (n : ℕ). rows_between n END book) begins
+
+pub book_stays : (regions : List Region) (owners : List HoldingState) (book : Book) → IsRowsOf 1 END book → IsConsecutive 1 regions → AllZip (HasRows book) regions owners → book_of_owners owners ≡ book
+book_stays regions owners book rows consecutive each = book_from 1 regions owners book (omega arith) rows consecutive each ∙ own_rows 1 END book rows
+
+-- an s_id that lies in a region
+pub lies_within : (s_id : ℕ) (region : Region) → lies_in s_id region ≡ true → IsWithin region.lo region.hi s_id
+lies_within s_id region inside = (grind (arith, nat_tests), grind (arith, nat_tests))
+
+-- an owner's subscribers are those of its region in a book
+abbrev pub HasSubscribers : Book → Region → HoldingState → Type 0
+HasSubscribers book region owner =
+    (s_id : ℕ) → lies_in s_id region ≡ true → IsWithin owner.part.lo owner.part.hi s_id × (subscriber_at book s_id ≡ subscriber_at owner.part.book s_id)
+
+-- so are they in the rows of all
+pub owners_subscriber : (width from : ℕ) (words : List ℕ) (regions : List Region) (owners : List HoldingState) → AreOwners width words regions owners → IsConsecutive from regions
+    → AllZip (HasSubscribers (book_of_owners owners)) regions owners
+owners_subscriber width from words [] [] each consecutive = tt
+owners_subscriber width from words [] (owner ∷ owners) each consecutive = absurd each
+owners_subscriber width from words (region ∷ regions) [] each consecutive = absurd each
+owners_subscriber width from words (region ∷ regions) (owner ∷ owners) each consecutive =
+    let own = own_region width words region owner each.0 in
+    let rest = book_of_owners owners in
+    let parts = apart region.lo region.hi END owner.part.book rest own (owner_rows width region.hi words regions owners each.1 consecutive.2) in
+    let others = zip_behind (HasSubscribers rest) region.hi regions owners consecutive.2 (owners_subscriber width region.hi words regions owners each.1 consecutive.2) in (
+      (λ s_id inside. let here = lies_within s_id region inside in (rw (each.0.from, each.0.to) here, subscriber-low region.hi owner.part.book rest s_id parts here.1)),
+      zip_weaker {P = λ (r : Region) (o : HoldingState). IsBehind region.hi r × HasSubscribers rest r o} {Q = HasSubscribers (join_books owner.part.book rest)}
+          (λ r o has s_id inside. let there = (lies_within s_id r inside).0 in let behind = has.0.0 in let known = has.1 s_id inside in
+          (known.0, subscriber-high region.hi owner.part.book rest s_id parts (omega arith) ∙ known.1)) regions owners others,
+    )

@@ -1,0 +1,75 @@
+use Rattle.std.proofs.Common.{arith, refl, sym, ◌∙◌}
+use Rattle.hlr_core.proofs.BoxLemmas.{length-unboxed, unboxed_at}
+use Rattle.hlr_core.proofs.BoxMoveLemmas.{box_same, chosen, put_again, boxes_joined, store_joined}
+use Rattle.hlr_core.proofs.StoreCountLemmas.{few_owners}
+use Rattle.hlr_core.proofs.StoreMoveLemmas.{taken_within, taken_before}
+use Rattle.hlr_core.proofs.holdings.Holdings.take.Goals as goal
+
+pub remove-taken-requires : goal.remove-taken-requires
+remove-taken-requires c =
+    let within = taken_within _ _ _ _ _ c.self.invariant.0 c.self.invariant.1 _ _ _ (sym c.in_ok-take_answer.ensures) in
+    rw (c.pieces_before_piece-before.ensures, c.self.inside.pieces.ok.0, ← length-unboxed c.self.inside.pieces.items) within.1
+
+pub index_mut-requires : goal.index_mut-requires
+index_mut-requires c =
+    let within = taken_within _ _ _ _ _ c.self.invariant.0 c.self.invariant.1 _ _ _ (sym c.in_ok-take_answer.ensures) in
+    rw (c.self.inside.holdings.ok.0, ← length-unboxed c.self.inside.holdings.items) within.0
+
+pub take-requires-clause-touch : goal.take-requires-clause-touch
+take-requires-clause-touch c =
+    let at = unboxed_at c.self.inside.holdings.items _ _ _ c.index_mut.ensures.value c.deref_mut.ensures.value in
+    let piece = unboxed_at c.self.inside.pieces.items _ _ _ (rw c.pieces_before_piece-before.ensures at c.remove-taken.ensures.value) refl in
+    (taken_before _ _ _ _ _ c.self.invariant.0 c.self.invariant.1 _ _ _ (sym c.in_ok-take_answer.ensures) _ _ at piece).0
+
+pub take-requires-clause-width : goal.take-requires-clause-width
+take-requires-clause-width c =
+    let at = unboxed_at c.self.inside.holdings.items _ _ _ c.index_mut.ensures.value c.deref_mut.ensures.value in
+    let piece = unboxed_at c.self.inside.pieces.items _ _ _ (rw c.pieces_before_piece-before.ensures at c.remove-taken.ensures.value) refl in
+    (taken_before _ _ _ _ _ c.self.invariant.0 c.self.invariant.1 _ _ _ (sym c.in_ok-take_answer.ensures) _ _ at piece).1
+
+pub take-requires-clause-small : goal.take-requires-clause-small
+take-requires-clause-small c =
+    let at = unboxed_at c.self.inside.holdings.items _ _ _ c.index_mut.ensures.value c.deref_mut.ensures.value in
+    let piece = unboxed_at c.self.inside.pieces.items _ _ _ (rw c.pieces_before_piece-before.ensures at c.remove-taken.ensures.value) refl in
+    (taken_before _ _ _ _ _ c.self.invariant.0 c.self.invariant.1 _ _ _ (sym c.in_ok-take_answer.ensures) _ _ at piece).2
+
+pub invariant_of-self : goal.invariant_of-self
+invariant_of-self c =
+    let within = taken_within _ _ _ _ _ c.self.invariant.0 c.self.invariant.1 _ _ _ (sym c.in_ok-take_answer.ensures) in
+    let inside = rw (← c.pieces_before_piece-before.ensures, length-unboxed) at within.1 in
+    let less = c.remove-taken.ensures.len in
+    let room = c.remove-taken.ensures.capacity in
+    let long = c.self.inside.pieces.ok.0 in
+    let many = length-unboxed c.self.inside.pieces.items in
+    let few = (few_owners _ _ _ _ _ c.self.invariant.0 c.self.invariant.1).1 in
+    let fits = c.self.invariant.2 in
+    let put = chosen _ _ _ _ c.insert.ensures.items (c.insert.ensures.succeeds (omega arith)) in
+    let back = put_again c.self.inside.pieces.items _ _ _ _ _ inside c.remove-taken.ensures.value c.remove-taken.ensures.items c.in-Err.ensures.refused.1 put in
+    let same = box_same c.self.inside.holdings.items _ _ _ _ c.index_mut.ensures.value c.deref_mut.ensures.value c.in-Err.ensures.refused.2 in
+    (c.self.invariant.0, rw (same, back) c.self.invariant.1, omega (arith, c.insert.ensures.capacity))
+
+pub returns-in-Err-clause-after : goal.returns-in-Err-clause-after
+returns-in-Err-clause-after c =
+    let within = taken_within _ _ _ _ _ c.self.invariant.0 c.self.invariant.1 _ _ _ (sym c.in_ok-take_answer.ensures) in
+    let inside = rw (← c.pieces_before_piece-before.ensures, length-unboxed) at within.1 in
+    let less = c.remove-taken.ensures.len in
+    let room = c.remove-taken.ensures.capacity in
+    let long = c.self.inside.pieces.ok.0 in
+    let many = length-unboxed c.self.inside.pieces.items in
+    let few = (few_owners _ _ _ _ _ c.self.invariant.0 c.self.invariant.1).1 in
+    let fits = c.self.invariant.2 in
+    let put = chosen _ _ _ _ c.insert.ensures.items (c.insert.ensures.succeeds (omega arith)) in
+    let back = put_again c.self.inside.pieces.items _ _ _ _ _ inside c.remove-taken.ensures.value c.remove-taken.ensures.items c.in-Err.ensures.refused.1 put in
+    let same = box_same c.self.inside.holdings.items _ _ _ _ c.index_mut.ensures.value c.deref_mut.ensures.value c.in-Err.ensures.refused.2 in
+    rw (← c.self.view_is, same, back) refl
+
+pub invariant_of-self-2 : goal.invariant_of-self-2
+invariant_of-self-2 c =
+    let both = boxes_joined _ c.self.inside.holdings.items c.self.inside.pieces.items _ _ c.self.invariant.0 c.self.invariant.1 _ _ _ (sym c.in_ok-take_answer.ensures) _ _ c.index_mut.ensures.value c.deref_mut.ensures.value
+    _ _ c.pieces_before_piece-before.ensures c.remove-taken.ensures.value _ c.in_default.ensures.taken _ c.remove-taken.ensures.items _ c.take-2.ensures.answer _ c.take-2.ensures.after in
+    (both.0, both.1, rw c.remove-taken.ensures.capacity c.self.invariant.2)
+
+pub returns-clause-after : goal.returns-clause-after
+returns-clause-after c =
+    rw (← c.self.view_is) (store_joined _ c.self.inside.holdings.items c.self.inside.pieces.items _ _ c.self.invariant.0 c.self.invariant.1 _ _ _ (sym c.in_ok-take_answer.ensures) _ _ c.index_mut.ensures.value c.deref_mut.ensures.value
+    _ _ c.pieces_before_piece-before.ensures c.remove-taken.ensures.value _ c.in_default.ensures.taken _ c.remove-taken.ensures.items _ c.take-2.ensures.answer _ c.take-2.ensures.after)

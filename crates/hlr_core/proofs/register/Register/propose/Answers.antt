@@ -1,0 +1,9 @@
+use Rattle.hlr_core.proofs.WeightLemmas.{proposed, proposed_counted}
+use Rattle.hlr_core.proofs.register.Register.propose.Goals as goal
+
+pub returns-clause-value : goal.returns-clause-value
+returns-clause-value c =
+    proposed c.args.self.now _ _ _ _ _ c.published.ensures c.zone_weights-weights.ensures.value (rw (c.self.view_is) at c.parts.ensures.value) (rw (c.self.view_is) at c.width.ensures.value) c.propose.ensures.value
+
+pub returns-clause-counted : goal.returns-clause-counted
+returns-clause-counted c = proposed_counted c.args.self.now _ (rw (c.self.view_is) at c.self.invariant.rows.rules) (returns-clause-value c)

@@ -1,0 +1,12 @@
+use Rattle.std.proofs.Common.{◌≡◌, ◌+◌, length, map, take, slice_index_or, pos}
+use Rattle.std.specs.List.{range_with_len}
+use Rattle.tatp_actions.specs.declared.cells.TheConstants.{FIRST_ZONE}
+use Rattle.hlr_core.specs.Store.{weight}
+use Rattle.hlr_core.specs.declared.weights.TheConstants.{ZONES}
+use Rattle.hlr_core.proofs.weights.zone_weights.Given as goal
+
+abbrev pub invariant-loop-zone : goal.invariant-loop-zone
+invariant-loop-zone l = record {
+  wide : length l.weights ≡ ZONES;
+  so_far : take l.zone l.weights ≡ map (λ zone. weight (slice_index_or l.published (FIRST_ZONE + zone) (pos 0))) (range_with_len 0 l.zone);
+}

@@ -1,0 +1,483 @@
+//! Registers of several parts: worked examples of gives, takes, proposals and re-cuts.
+use crate::tests::{
+    DONE, FIELD, MANY_PIECES, MOVING, NO_FACILITY, NO_PART, NO_PIECE, NO_SUBSCRIBER, NOT_ADJACENT,
+    OUT_OF_RANGE, facility_row, moved, number, opened, posting, read, replies, row, stands,
+};
+use crate::{Event, Register, Reply};
+use part_table::{END, Place, Region, Side};
+use std::process::Abort;
+use std::test::Fail;
+use tatp_actions::{CELLS, RowReply};
+use tatp_rows::{Number, Refusal, Subscriber};
+
+/// The region of a part.
+fn part(p: u8, lo: u32, hi: u32) -> Region {
+    Region {
+        lo,
+        hi,
+        place: Place::Part(p),
+    }
+}
+
+/// The region of a loose piece.
+fn piece(n: u8, lo: u32, hi: u32) -> Region {
+    Region {
+        lo,
+        hi,
+        place: Place::Piece(n),
+    }
+}
+
+/// Whether a register has these regions.
+fn has_regions(register: &Register, regions: &[Region]) -> bool {
+    register.regions().list() == regions
+}
+
+/// Whether these are the bounds that a register proposes.
+fn proposes(register: &Register, bounds: &[u64]) -> bool {
+    let proposed = register.propose();
+    proposed.list() == bounds
+}
+
+/// Whether a walk over all rows counts so many in these cells, and none in the others.
+fn scans(register: &Register, counts: &[(u8, u64)]) -> bool {
+    let counted = register.recount();
+    let mut cells = 0u64;
+    for cell in 0..CELLS {
+        cells = cells.wrapping_add(u64::from(counted.get(cell) != 0));
+    }
+    let mut agrees = cells == counts.len() as u64;
+    for (cell, count) in counts {
+        agrees = agrees && *cell < CELLS && counted.get(*cell % CELLS) == *count;
+    }
+    agrees
+}
+
+/// A gift of the stretch on the high side of a bound.
+fn giving(part: u64, at: u64) -> Event {
+    Event::Give {
+        part,
+        side: Side::High,
+        at,
+    }
+}
+
+/// A taking of a loose piece.
+fn taking(piece: u64, part: u64) -> Event {
+    Event::Take { piece, part }
+}
+
+/// Applies events; tells the first that isn't replied to so, if there is one.
+fn difference(register: &mut Register, events: &[Event], want: &[Reply]) -> Option<usize> {
+    for (index, (event, reply)) in events.iter().zip(want).enumerate() {
+        if register.apply(*event) != *reply {
+            return Some(index);
+        }
+    }
+    None
+}
+
+/// A subscriber of the worked example.
+fn example_row(vlr_location: u64, bit_1: u8) -> Result<Subscriber, Fail> {
+    let bits = [bit_1, 0, 0, 0, 0, 0, 0, 0, 0, 0];
+    let row = Subscriber::try_new(7, number(7)?, bits, [0; 10], [0; 10], 1, vlr_location);
+    Ok(row.ok().ok_or("the row is in range")?)
+}
+
+/// A forwarding of the worked example.
+fn forwarded(sf_type: u64, start_time: u64, end_time: u64, numberx: u64) -> Result<Event, Fail> {
+    Ok(Event::InsertForwarding {
+        sub_nbr: number(7)?,
+        sf_type,
+        start_time,
+        end_time,
+        numberx: number(numberx)?,
+    })
+}
+
+/// A change of the subscriber of the worked example.
+fn updated(sf_type: u64) -> Event {
+    Event::UpdateSubscriber {
+        s_id: 7,
+        sf_type,
+        bit_1: 1,
+        data_a: 9,
+    }
+}
+
+/// One subscriber with two facilities and four forwardings, some of it posted.
+fn example_is_filled(register: &mut Register) -> Result<Option<usize>, Fail> {
+    let off = Event::SetActive {
+        s_id: 7,
+        sf_type: 2,
+        is_active: 0,
+    };
+    let events = [
+        Event::AddSubscriber(example_row(268_435_456, 0)?),
+        posting(0, 1),
+        posting(0, 51),
+        moved(number(7)?, 4_294_967_295),
+        posting(0, 51),
+        Event::AddFacility(facility_row(7, 2, 1)?),
+        forwarded(2, 0, 8, 100)?,
+        forwarded(2, 8, 16, 200)?,
+        forwarded(2, 16, 24, 300)?,
+        posting(0, 51),
+        off,
+        updated(3),
+        updated(2),
+        Event::AddFacility(facility_row(7, 1, 1)?),
+        forwarded(1, 16, 3, 400)?,
+    ];
+    let want = [
+        DONE,
+        Reply::Posted(1),
+        Reply::Posted(1),
+        DONE,
+        Reply::Posted(2),
+        DONE,
+        DONE,
+        DONE,
+        DONE,
+        Reply::Posted(4),
+        DONE,
+        NO_FACILITY,
+        DONE,
+        DONE,
+        DONE,
+    ];
+    Ok(difference(register, &events, &want))
+}
+
+/// The subscriber's stretch becomes loose, and the other part takes it.
+fn expect_stretch_moved(rt: &impl Abort, register: &mut Register, seven: Number) {
+    let events = [giving(0, 5), read(7), moved(seven, 5), read(99)];
+    let given = Reply::Given {
+        piece: 1,
+        lo: 5,
+        hi: 65,
+    };
+    let want = [given, MOVING, MOVING, NO_SUBSCRIBER];
+    assert_eq!(rt; difference(register, &events, &want), None);
+    let published = [(0, 1), (1, 1), (2, 1), (18, 1), (20, 5)];
+    assert!(rt; stands(register, &published, &[(0, -1), (1, -1), (20, 2)]));
+    assert_eq!(rt; register.apply(posting(0, 51)), Reply::Posted(5));
+    assert!(rt; stands(register, &[], &[(2, 1), (18, 1), (20, 7)]));
+    assert!(rt; scans(register, &[(2, 1), (18, 1), (20, 7)]));
+    let taken = Reply::Taken { piece: 1, part: 1 };
+    assert_eq!(rt; register.apply(taking(1, 1)), taken);
+    assert!(rt; has_regions(register, &[part(0, 1, 5), part(1, 5, END)]));
+}
+
+/// The part that took it posts it, and hands it back by a re-cut to what is proposed.
+fn expect_handed_back(rt: &impl Abort, register: &mut Register) -> Result<(), Fail> {
+    let there = Reply::Rows(RowReply::Row(example_row(4_294_967_295, 1)?));
+    let counts = [(2, 1), (18, 1), (20, 7)];
+    assert_eq!(rt; register.apply(read(7)), there);
+    assert_eq!(rt; register.apply(posting(1, 51)), Reply::Posted(3));
+    assert!(rt; stands(register, &counts, &[]));
+    assert!(rt; proposes(register, &[9]));
+    assert_eq!(rt; register.recut_to(&[9]), Ok(1));
+    assert!(rt; stands(register, &counts, &[]));
+    assert_eq!(rt; register.apply(posting(0, 51)), Reply::Posted(3));
+    let twice = [(2, 2), (18, 2), (20, 14)];
+    assert!(rt; stands(register, &twice, &[(2, -1), (18, -1), (20, -7)]));
+    assert_eq!(rt; register.apply(posting(1, 51)), Reply::Posted(3));
+    assert!(rt; stands(register, &counts, &[]));
+    Ok(())
+}
+
+/// The worked example of one stretch that goes over, and comes back.
+fn expect_example(rt: &impl Abort, register: &mut Register) -> Result<(), Fail> {
+    assert!(rt; stands(register, &[], &[]) && scans(register, &[]));
+    assert!(rt; has_regions(register, &[part(0, 1, 65), part(1, 65, END)]));
+    assert_eq!(rt; example_is_filled(register)?, None);
+    expect_stretch_moved(rt, register, number(7)?);
+    expect_handed_back(rt, register)
+}
+
+#[test]
+fn stretch_goes_over(rt: HostRuntime) -> Result<(), Fail> {
+    let mut register = opened(rt.alloc(), 2, 4)?;
+    expect_example(&rt, &mut register)
+}
+
+/// Whether gives by two parts are refused out of their ranges.
+fn refuses_gives(register: &mut Register) -> bool {
+    let low = Event::Give {
+        part: 2,
+        side: Side::Low,
+        at: 70,
+    };
+    replies(register, giving(0, 1), OUT_OF_RANGE)
+        && replies(register, giving(0, 65), OUT_OF_RANGE)
+        && replies(register, low, NO_PART)
+}
+
+/// Whether sixteen pieces of one subscriber are given, and no more, and the last is taken and given anew.
+fn gives_sixteen(register: &mut Register) -> bool {
+    let mut are_given = true;
+    for number in 1u8..17 {
+        let lo = 65u32.wrapping_sub(u32::from(number));
+        let given = Reply::Given {
+            piece: number,
+            lo,
+            hi: lo.wrapping_add(1),
+        };
+        are_given = replies(register, giving(0, u64::from(lo)), given) && are_given;
+    }
+    let taken = Reply::Taken { piece: 16, part: 0 };
+    let last = Reply::Given {
+        piece: 16,
+        lo: 49,
+        hi: 50,
+    };
+    are_given
+        && replies(register, giving(0, 48), MANY_PIECES)
+        && replies(register, giving(0, 49), OUT_OF_RANGE)
+        && replies(register, taking(16, 0), taken)
+        && replies(register, giving(0, 49), last)
+}
+
+// Also run with each allocation refused in turn (`refuse_memory.sh`).
+#[test]
+fn gives_of_two_parts(rt: HostRuntime) -> Result<(), Fail> {
+    let mut register = opened(rt.alloc(), 2, 4)?;
+    let refuses = refuses_gives(&mut register);
+    let gives = gives_sixteen(&mut register);
+    assert!(rt; refuses && gives);
+    Ok(())
+}
+
+/// Whether a piece between two parts is taken by its neighbour alone.
+fn takes_from_neighbours(register: &mut Register) -> bool {
+    let given = Reply::Given {
+        piece: 1,
+        lo: 11,
+        hi: 41,
+    };
+    let taken = Reply::Taken { piece: 1, part: 0 };
+    let loose = [
+        part(0, 1, 11),
+        piece(1, 11, 41),
+        part(1, 41, 85),
+        part(2, 85, END),
+    ];
+    replies(register, giving(0, 11), given)
+        && replies(register, taking(1, 2), NOT_ADJACENT)
+        && replies(register, taking(2, 1), NO_PIECE)
+        && replies(register, taking(1, 3), NO_PART)
+        && has_regions(register, &loose)
+        && replies(register, taking(1, 0), taken)
+}
+
+/// Whether re-cuts of three parts answer how many bounds moved, and refuse bounds that don't fit.
+fn recuts_three(register: &mut Register) -> bool {
+    let low = Event::Give {
+        part: 2,
+        side: Side::Low,
+        at: 8,
+    };
+    let given = Reply::Given {
+        piece: 1,
+        lo: 6,
+        hi: 8,
+    };
+    let field = Err(Refusal::Field);
+    register.recut_to(&[90, 100]) == Ok(2)
+        && register.recut_to(&[5, 6]) == Ok(2)
+        && register.recut_to(&[5, 6]) == Ok(0)
+        && register.recut_to(&[6, 6]) == field
+        && register.recut_to(&[6]) == field
+        && register.recut_to(&[1, 9]) == field
+        && register.apply(low) == given
+        && register.recut_to(&[5, 6]) == Err(Refusal::Moving)
+        && register.recut_to(&[6, 6]) == field
+}
+
+#[test]
+fn three_parts(rt: HostRuntime) -> Result<(), Fail> {
+    let mut register = opened(rt.alloc(), 3, 4)?;
+    let takes = takes_from_neighbours(&mut register);
+    let recuts = recuts_three(&mut register);
+    assert!(rt; takes && recuts);
+    Ok(())
+}
+
+/// Whether four parts have their bounds moved up and down, and back.
+fn recuts_four(register: &mut Register) -> bool {
+    let there = [
+        part(0, 1, 20),
+        part(1, 20, 70),
+        part(2, 70, 90),
+        part(3, 90, END),
+    ];
+    proposes(register, &[5, 9, 13])
+        && register.recut_to(&[20, 70, 90]) == Ok(3)
+        && has_regions(register, &there)
+        && register.recut_to(&[33, 65, 97]) == Ok(3)
+}
+
+/// Asserts that nine subscribers of the last zone, once posted, draw all bounds to it.
+fn expect_last_zones(rt: &impl Abort, register: &mut Register) -> Result<(), Fail> {
+    let mut are_added = true;
+    for s_id in 125u64..134 {
+        let added = Event::AddSubscriber(row(s_id, s_id, 1)?);
+        are_added = register.apply(added) == DONE && are_added;
+    }
+    let posted = register.apply(posting(3, 51)) == Reply::Posted(2);
+    assert!(rt; are_added && posted && proposes(register, &[117, 121, 125]));
+    Ok(())
+}
+
+/// Asserts both of four parts.
+fn expect_four(rt: &impl Abort, register: &mut Register) -> Result<(), Fail> {
+    assert!(rt; recuts_four(register));
+    expect_last_zones(rt, register)
+}
+
+#[test]
+fn four_parts(rt: HostRuntime) -> Result<(), Fail> {
+    let mut register = opened(rt.alloc(), 4, 4)?;
+    expect_four(&rt, &mut register)
+}
+
+/// Whether this is the last of sixteen parts, and none has anything to post.
+fn ends_with_sixteenth(register: &mut Register) -> bool {
+    let last = part(15, 121, END);
+    let regions = register.regions().list();
+    regions.len() == 16
+        && regions.last() == Some(&last)
+        && register.apply(posting(15, 51)) == Reply::Posted(0)
+        && register.apply(posting(16, 51)) == NO_PART
+}
+
+#[test]
+fn one_part_and_sixteen(rt: HostRuntime) -> Result<(), Fail> {
+    let one = opened(rt.alloc(), 1, 4)?;
+    assert!(rt; proposes(&one, &[]));
+    let mut sixteen = opened(rt.alloc(), 16, 4)?;
+    let ends = ends_with_sixteenth(&mut sixteen);
+    assert!(rt; ends);
+    Ok(())
+}
+
+#[test]
+fn numbers_of_parts(rt: HostRuntime) -> Result<(), Fail> {
+    let alloc = rt.alloc();
+    for (parts, width) in [(0, 4), (17, 4), (2, 0), (2, 524_289)] {
+        let refused = matches!(Register::open(alloc, parts, width), Err(Refusal::Field));
+        assert!(rt; refused, "{parts} parts, width {width}");
+    }
+    Ok(())
+}
+
+/// Where a re-cut of three parts to 90 and 100 was refused memory: what takes the piece that is loose, if one is. None where
+/// the regions are such as it may not leave.
+fn left_over(register: &Register) -> Option<Option<Event>> {
+    let none = [part(0, 1, 41), part(1, 41, 85), part(2, 85, END)];
+    let second = [
+        part(0, 1, 41),
+        part(1, 41, 85),
+        piece(1, 85, 100),
+        part(2, 100, END),
+    ];
+    let one = [part(0, 1, 41), part(1, 41, 100), part(2, 100, END)];
+    let first = [
+        part(0, 1, 41),
+        piece(1, 41, 90),
+        part(1, 90, 100),
+        part(2, 100, END),
+    ];
+    if has_regions(register, &none) || has_regions(register, &one) {
+        return Some(None);
+    }
+    if has_regions(register, &second) {
+        return Some(Some(taking(1, 1)));
+    }
+    if has_regions(register, &first) {
+        return Some(Some(taking(1, 0)));
+    }
+    None
+}
+
+/// Whether a re-cut that was refused memory left no more than it may, and can be taken up again.
+fn goes_on(register: &mut Register) -> bool {
+    let Some(rest) = left_over(register) else {
+        return false;
+    };
+    if let Some(event) = rest {
+        let taken = register.apply(event);
+        if !matches!(taken, Reply::Taken { .. }) {
+            return false;
+        }
+    }
+    register.recut_to(&[90, 100]).is_ok()
+}
+
+/// What a re-cut leaves of a register.
+type Left = (
+    [i64; CELLS as usize],
+    [i64; CELLS as usize],
+    u64,
+    Option<u32>,
+);
+
+/// The cells of a register, how many numbers there are, and who has one.
+fn left(register: &Register, sub_nbr: Number) -> Left {
+    let index = register.index();
+    (
+        register.published(),
+        register.unposted(),
+        index.len(),
+        index.find(sub_nbr),
+    )
+}
+
+/// Asserts that a re-cut moves the regions alone, though memory may be refused in its middle.
+fn expect_recut(rt: &impl Abort, register: &mut Register) -> Result<(), Fail> {
+    let mut are_added = true;
+    for s_id in [1u64, 40, 41, 60, 84, 85, 99, 100, 127] {
+        let added = Event::AddSubscriber(row(s_id, s_id, 1)?);
+        are_added = replies(register, added, DONE) && are_added;
+    }
+    are_added = register.apply(posting(1, 2)) == Reply::Posted(2) && are_added;
+    let sixty = number(60)?;
+    let before = left(register, sixty);
+    let first = register.recut_to(&[90, 100]);
+    let recut = first == Ok(2) || (first == Err(Refusal::Memory) && goes_on(register));
+    let there = [part(0, 1, 90), part(1, 90, 100), part(2, 100, END)];
+    assert!(rt; are_added && recut && has_regions(register, &there));
+    assert!(rt;
+        left(register, sixty) == before
+            && scans(
+                register,
+                &[
+                    (3, 9),
+                    (19, 1),
+                    (28, 1),
+                    (29, 1),
+                    (33, 1),
+                    (39, 1),
+                    (40, 1),
+                    (43, 2),
+                    (50, 1)
+                ]
+            )
+    );
+    assert!(rt;
+        replies(
+            register,
+            read(60),
+            Reply::Rows(RowReply::Row(row(60, 60, 1)?))
+        )
+    );
+    Ok(())
+}
+
+// Also run with each allocation refused in turn (`refuse_memory.sh`).
+#[test]
+fn recut_of_three(rt: HostRuntime) -> Result<(), Fail> {
+    let mut register = opened(rt.alloc(), 3, 4)?;
+    expect_recut(&rt, &mut register)
+}

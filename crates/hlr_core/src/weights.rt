@@ -1,0 +1,32 @@
+//! The weights of the zones by which bounds are proposed.
+ghost use Rattle.std.specs.Prelude.{◌≡◌, ◌+◌, ◌≤◌, map, slice_index_or, ℤ, pos, All};
+ghost use Rattle.hlr_core.specs.Store.{weight, all_zones};
+
+use part_table::GREATEST_WEIGHT;
+use tatp_actions::{CELLS, FIRST_ZONE};
+
+/// How many zones there are.
+const ZONES: u8 = CELLS - FIRST_ZONE;
+
+/// The weight of a zone of which so much is published: nothing below 0, and no more than all rows that there can be.
+fn weight_of(published: i64) -> u64
+    ensures { result ≡ weight published }
+{
+    match u64::try_from(published) {
+        Ok(count) => count.min(GREATEST_WEIGHT),
+        Err(_) => 0,
+    }
+}
+
+/// The weights of the zones, by the cells as published.
+pub(crate) fn zone_weights(published: &[i64; CELLS as usize]) -> [u64; ZONES as usize]
+    ensures value { result ≡ map (λ zone. weight (slice_index_or published.now (FIRST_ZONE + zone) (pos 0))) all_zones }
+    ensures small { All (λ w. w ≤ GREATEST_WEIGHT) result }
+{
+    let mut weights = [0; ZONES as usize];
+    for zone in 0..ZONES {
+        let cell = FIRST_ZONE + zone;
+        weights[usize::from(zone)] = weight_of(published[usize::from(cell)]);
+    }
+    weights
+}
