@@ -3,16 +3,16 @@ use part_table::Side;
 use tatp_actions::RowReply;
 use tatp_rows::{Access, Facility, Number, Refusal, Subscriber};
 
-/// An event: a transaction, an administrative command, or a posting. Plain numbers are checked when the event is
-/// applied.
+/// An event: a transaction, an administrative command, a posting, a give or a take. Plain numbers are checked when the
+/// event is applied. `Moving` comes where the subscriber lies in a loose piece, before the rows are asked.
 #[derive(Clone, Copy, Debug, PartialEq, Eq)]
 pub enum Event {
-    /// GET_SUBSCRIBER_DATA (TATP, section 3.1): `Field`, `NoSubscriber`.
+    /// GET_SUBSCRIBER_DATA (TATP, section 3.1): `Field`, `Moving`, `NoSubscriber`.
     SubscriberData {
         /// The subscriber, 1..=16,777,216.
         s_id: u64,
     },
-    /// GET_NEW_DESTINATION (TATP, section 3.2): `Field`, `NoDestination`.
+    /// GET_NEW_DESTINATION (TATP, section 3.2): `Field`, `Moving`, `NoDestination`.
     NewDestination {
         /// The subscriber, 1..=16,777,216.
         s_id: u64,
@@ -23,14 +23,14 @@ pub enum Event {
         /// The hour after which they end, 1..=24.
         end_time: u64,
     },
-    /// GET_ACCESS_DATA (TATP, section 3.3): `Field`, `NoAccess`.
+    /// GET_ACCESS_DATA (TATP, section 3.3): `Field`, `Moving`, `NoAccess`.
     AccessData {
         /// The subscriber, 1..=16,777,216.
         s_id: u64,
         /// The type of the access, 1..=4.
         ai_type: u64,
     },
-    /// UPDATE_SUBSCRIBER_DATA (TATP, section 3.4): `Field`, `NoSubscriber`, `NoFacility`.
+    /// UPDATE_SUBSCRIBER_DATA (TATP, section 3.4): `Field`, `Moving`, `NoSubscriber`, `NoFacility`.
     UpdateSubscriber {
         /// The subscriber, 1..=16,777,216.
         s_id: u64,
@@ -41,14 +41,14 @@ pub enum Event {
         /// The new data_a, 0..=255.
         data_a: u64,
     },
-    /// UPDATE_LOCATION (TATP, section 3.5): `Field`, `NoNumber`.
+    /// UPDATE_LOCATION (TATP, section 3.5): `Field`, `NoNumber`, `Moving`.
     UpdateLocation {
         /// The subscriber's number.
         sub_nbr: Number,
         /// The new location, 1..=4,294,967,295.
         vlr_location: u64,
     },
-    /// INSERT_CALL_FORWARDING (TATP, section 3.6): `Field`, `NoNumber`, `NoFacility`, `Exists`, `Memory`.
+    /// INSERT_CALL_FORWARDING (TATP, section 3.6): `Field`, `NoNumber`, `Moving`, `NoFacility`, `Exists`, `Memory`.
     InsertForwarding {
         /// The subscriber's number.
         sub_nbr: Number,
@@ -61,7 +61,7 @@ pub enum Event {
         /// The number that calls are forwarded to.
         numberx: Number,
     },
-    /// DELETE_CALL_FORWARDING (TATP, section 3.7): `Field`, `NoNumber`, `NoForwarding`.
+    /// DELETE_CALL_FORWARDING (TATP, section 3.7): `Field`, `NoNumber`, `Moving`, `NoForwarding`.
     DeleteForwarding {
         /// The subscriber's number.
         sub_nbr: Number,
@@ -70,13 +70,13 @@ pub enum Event {
         /// The hour from which calls are forwarded: 0, 8 or 16.
         start_time: u64,
     },
-    /// Adds a Subscriber row: `Exists`, `NumberTaken`, `Memory`.
+    /// Adds a Subscriber row: `Moving`, `Exists`, `NumberTaken`, `Memory`.
     AddSubscriber(Subscriber),
-    /// Adds an Access_Info row: `NoSubscriber`, `Exists`, `Memory`.
+    /// Adds an Access_Info row: `Moving`, `NoSubscriber`, `Exists`, `Memory`.
     AddAccess(Access),
-    /// Adds a Special_Facility row: `NoSubscriber`, `Exists`, `Memory`.
+    /// Adds a Special_Facility row: `Moving`, `NoSubscriber`, `Exists`, `Memory`.
     AddFacility(Facility),
-    /// Switches a facility on or off: `Field`, `NoFacility`.
+    /// Switches a facility on or off: `Field`, `Moving`, `NoFacility`.
     SetActive {
         /// The subscriber, 1..=16,777,216.
         s_id: u64,
@@ -85,8 +85,8 @@ pub enum Event {
         /// The new is_active, 0 or 1.
         is_active: u64,
     },
-    /// Gives a subscriber another number; nothing changes where it is the one that stands: `Field`, `NoSubscriber`,
-    /// `NumberTaken`, `Memory`.
+    /// Gives a subscriber another number; nothing changes where it is the one that stands: `Field`, `Moving`,
+    /// `NoSubscriber`, `NumberTaken`, `Memory`.
     SetNumber {
         /// The subscriber, 1..=16,777,216.
         s_id: u64,

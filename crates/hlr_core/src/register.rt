@@ -21,8 +21,8 @@ use std::marker::Model;
 use tatp_actions::{Action, CELLS, Cells, RowReply};
 use tatp_rows::{GREATEST_WIDTH, LAST_SUBSCRIBER, Number, Refusal, Subscriber, in_range};
 
-/// A home location register, seen as the store of the definitions: its rows, the words of the board, the slots of
-/// each part and the width of the zones.
+/// A home location register, seen as the store of the definitions: its rows, the regions, the words of the board, the
+/// slots of each part and the width of the zones.
 ///
 /// Each event moves the store by one right step, and after it every cell as published plus its delta not posted yet
 /// is that cell counted over the rows.
@@ -73,7 +73,7 @@ impl Register {
         })
     }
 
-    /// Applies an event, and replies to it.
+    /// Applies an event, and replies to it. A refusal changes nothing; after `Worn` the cells posted before stand.
     pub fn apply(&mut self, event: Event) -> Reply
         ensures { IsStep event self.old result self.new }
     {

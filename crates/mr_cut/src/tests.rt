@@ -198,3 +198,51 @@ fn memory_refused(rt: HostRuntime) -> Result<(), Fail> {
     compare_steps(&rt, SubTree::new(rt.alloc())?, 40, 1, (14, 5, 6));
     Ok(())
 }
+
+// A tree of the keys 1 to `last`.
+fn counted(rt: &impl Abort, mut tree: SubTree<Token>, last: u64) -> SubTree<Token>
+    requires { last < key_limit }
+{
+    for key in 1..=last {
+        assert!(rt; tree.insert(key, Token(key)).is_ok());
+    }
+    tree
+}
+
+// Cuts a tree at a key: the lengths and heights of both parts, and whether the tree is as it was once they are joined.
+fn cut_lengths(rt: &impl Abort, tree: SubTree<Token>, key: u64) -> ([u64; 4], SubTree<Token>) {
+    let whole = (walked(&tree, start()), tree.height());
+    let mut stock = slice_stock(rt, &tree);
+    let cut = slice(tree, key, &mut stock);
+    let seen = [
+        cut.low.len(),
+        cut.high.len(),
+        cut.low.height(),
+        cut.high.height(),
+    ];
+    let mut stock = meld_stock(rt, &cut.low, &cut.high);
+    let (tree, _) = meld(cut.low, cut.high, &mut stock);
+    assert_eq!(rt; (walked(&tree, start()), tree.height()), whole);
+    (seen, tree)
+}
+
+// 33 keys make a tree of height 1, which is cut in front of its first key, in the middle, and behind its last.
+fn compare_cuts(rt: &impl Abort, tree: SubTree<Token>) {
+    let tree = counted(rt, tree, 33);
+    let (first, tree) = cut_lengths(rt, tree, 1);
+    let (middle, tree) = cut_lengths(rt, tree, 17);
+    let (last, _tree) = cut_lengths(rt, tree, 34);
+    assert_eq!(rt;
+        (first, middle, last),
+        ([0, 33, 0, 1], [16, 17, 0, 0], [33, 0, 1, 0])
+    );
+}
+
+#[test]
+fn small_trees(rt: HostRuntime) -> Result<(), Fail> {
+    compare_cuts(&rt, SubTree::new(rt.alloc())?);
+    let tree = counted(&rt, SubTree::new(rt.alloc())?, 1024);
+    let (halves, _tree) = cut_lengths(&rt, tree, 513);
+    assert_eq!(rt; (halves[0], halves[1]), (512, 512));
+    Ok(())
+}

@@ -108,7 +108,7 @@ impl Trees {
 }
 
 impl Part {
-    /// Cuts the part in two at a subscriber within its range: it keeps one half, and gives the other one, on the side
+    /// Cuts the part in two at a subscriber strictly inside its range: it keeps one half, and gives the other one, on the side
     /// that is named, which was never asked, cut or joined.
     ///
     /// `Memory` where the blank nodes can't be had, all of which are taken first: then the part is as before.
@@ -142,7 +142,8 @@ impl Part {
         }
     }
 
-    /// Takes the rows and the range of another part, which begins where this one ends, or ends where it begins.
+    /// Takes the rows and the range of another part of the same width of zones, which begins where this one ends, or ends
+    /// where it begins.
     ///
     /// `Memory` where the blank nodes can't be had, all of which are taken first: then the part is as before, and the
     /// other one is handed back as it was.
