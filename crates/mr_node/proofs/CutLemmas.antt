@@ -11,7 +11,7 @@ use Rattle.mr_node.specs.Levels.{NodePart, NodeKid, NodeBranch, kids_of, rows_of
 use Rattle.mr_node.specs.Growth.{IsGrown}
 use Rattle.mr_node.specs.Search.{IsKidPlace}
 use Rattle.mr_node.specs.Pairs.{IsHalved}
-use Rattle.mr_node.specs.Inside.{IsRoomMade, IsRoomAt, IsSplitAt}
+use Rattle.mr_node.specs.Inside.{IsWholeAgain, IsRoomAt, IsSplitAt}
 use Rattle.mr_node.proofs.PlaceLemmas.{packed_some}
 use Rattle.mr_node.proofs.RunLemmas.{run_length, run_read, run_split, run_written}
 use Rattle.mr_node.proofs.KidLemmas.{IsCutAt, rows_of-append, kid_at, cut_kid}
@@ -47,7 +47,7 @@ module _ {V : Type 0} where
       let wide : w ≡ some.0.node.value.width = subst (λ o. IfSome o (λ k. w ≡ k.node.value.width)) some.1 width in
       record { within = at.within; below = cut.below; above = cut.above; room = subst (λ o. IfSome o (λ k. k.node.value.width < 32)) (sym some.1) (omega (arith, wide)) }
 
-  pub same_alone : (b : NodeBranch V) → IsBranch b → IsRoomMade b b
+  pub same_alone : (b : NodeBranch V) → IsBranch b → IsWholeAgain 0 b b
   same_alone b branch = record { height = refl; len = omega arith; rows = refl; whole = branch }
 
   -- a full child is 32 wide
@@ -95,7 +95,7 @@ module _ {V : Type 0} where
         first = refl;
       }
 
-  pub split_same : (i least : ℕ) (b new : NodeBranch V) (key : ℕ) (k : NodeKid V) → IsBranch b → IsCutAt key (b.height - 1) i (kids_of b) k → IsSplitAt i least b new → IsRoomMade b new
+  pub split_same : (i least : ℕ) (b new : NodeBranch V) (key : ℕ) (k : NodeKid V) → IsBranch b → IsCutAt key (b.height - 1) i (kids_of b) k → IsSplitAt i least b new → IsWholeAgain 0 b new
   split_same i least b new key k branch cut sp =
       let a = take i (kids_of b) in
       let d = drop (i + 1) (kids_of b) in
@@ -161,7 +161,7 @@ module _ {V : Type 0} where
       )
 
   -- a row that came in after room was made
-  pub grown_after : (key : ℕ) (o : Option V) (b mid : NodeBranch V) (k : NodePart V) (child n now : Seen V) (i least count : ℕ) → now ≡ seen_branch b → IsRoomMade b mid → i < mid.len → IsCutAt key (mid.height - 1) i (kids_of mid) (kid_at mid i k) → child ≡ k.node.value → key < key_limit → row_at key_of_pair key now.rows ≡ None → IfSome o (λ v. IsGrown key v child n) → IsSome o → least ≡ min (get_or mid.leasts i 0) key → count ≡ k.count + 1
+  pub grown_after : (key : ℕ) (o : Option V) (b mid : NodeBranch V) (k : NodePart V) (child n now : Seen V) (i least count : ℕ) → now ≡ seen_branch b → IsWholeAgain 0 b mid → i < mid.len → IsCutAt key (mid.height - 1) i (kids_of mid) (kid_at mid i k) → child ≡ k.node.value → key < key_limit → row_at key_of_pair key now.rows ≡ None → IfSome o (λ v. IsGrown key v child n) → IsSome o → least ≡ min (get_or mid.leasts i 0) key → count ≡ k.count + 1
       → (IsBranch (branch_set mid i least (part_grown k count n))) × IfSome o (λ v. IsGrown key v now (seen_branch (branch_set mid i least (part_grown k count n))))
   grown_after key None b mid k child n now i least count e same lt cut ec small none grown some el en = let wrong : ⊥ = cc in absurd wrong
   grown_after key (Some v) b mid k child n now i least count e same lt cut ec small none grown some el en =

@@ -10,7 +10,7 @@ use Rattle.mr_node.specs.Rows.{Seen, key_of_pair, key_limit, KeysBelow, StartsWi
 use Rattle.mr_node.specs.Runs.{entries, IsRun}
 use Rattle.mr_node.specs.Levels.{NodePart, NodeKid, NodeBranch, kids_of, rows_of, IsWell, IsKid, IsKidOf, IsBranchOf}
 use Rattle.mr_node.specs.Pairs.{IsKidNode, IsJoined, AreEvened}
-use Rattle.mr_node.specs.Inside.{AreKidsBeside, IsLooseAt, ArePairKids, IsPairAt, IsSplicedAt, IsMended}
+use Rattle.mr_node.specs.Inside.{AreKidsBeside, IsLooseAt, ArePairKids, IsPairAt, IsSplicedAt, IsWholeAgain}
 use Rattle.mr_node.proofs.PlaceLemmas.{packed_some}
 use Rattle.mr_node.proofs.RunLemmas.{run_length, run_split, run_rest, run_written, run_both}
 use Rattle.mr_node.proofs.KidLemmas.{rows_of-append, kid_at}
@@ -174,7 +174,7 @@ module _ {V : Type 0} where
     after = subst (λ j. AllByRecursion (IsKid (b.height - 1)) (drop j (kids_of b))) (omega (arith, e)) beside.after;
   }
 
-  mended_of : (l : ℕ) (b new : NodeBranch V) → IsBranchOf 15 b → IsSplicedAt l b new → AreKidsBeside l (l + 2) b → IsMended b new
+  mended_of : (l : ℕ) (b new : NodeBranch V) → IsBranchOf 15 b → IsSplicedAt l b new → AreKidsBeside l (l + 2) b → IsWholeAgain 1 b new
   mended_of l b new loose sp beside = record {
     height = sp.height;
     len = sp.len;
@@ -189,14 +189,14 @@ module _ {V : Type 0} where
     };
   }
 
-  pub mended_next : (l : ℕ) (b new : NodeBranch V) → IsLooseAt l b → IsSplicedAt l b new → IsMended b new
+  pub mended_next : (l : ℕ) (b new : NodeBranch V) → IsLooseAt l b → IsSplicedAt l b new → IsWholeAgain 1 b new
   mended_next l b new loose sp = mended_of l b new loose.branch sp (beside_next l b loose.beside)
 
-  pub mended_last : (l m : ℕ) (b new : NodeBranch V) → l ≡ m + 1 → IsLooseAt l b → IsSplicedAt m b new → IsMended b new
+  pub mended_last : (l m : ℕ) (b new : NodeBranch V) → l ≡ m + 1 → IsLooseAt l b → IsSplicedAt m b new → IsWholeAgain 1 b new
   mended_last l m b new e loose sp = mended_of m b new loose.branch sp (beside_last l m b e loose.beside)
 
   -- a child that is half full after all
-  pub mended_same : (l w : ℕ) (b : NodeBranch V) → IsLooseAt l b → l < b.len → IfSome (get_or b.kids l None) (λ k. w ≡ k.node.value.width) → 16 ≤ w → IsMended b b
+  pub mended_same : (l w : ℕ) (b : NodeBranch V) → IsLooseAt l b → l < b.len → IfSome (get_or b.kids l None) (λ k. w ≡ k.node.value.width) → 16 ≤ w → IsWholeAgain 1 b b
   mended_same l w b loose lt width enough =
       let kids = kids_of b in
       let branch = loose.branch in

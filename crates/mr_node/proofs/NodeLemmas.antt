@@ -1,5 +1,6 @@
 -- What becomes of an inner node when a child of it changes in place.
-use Rattle.std.proofs.Common.{◌≡◌, ℕ, ◌+◌, ◌-◌, ◌<◌, ◌≤◌, min, List, ◌∷◌, ◌++◌, length, get_or, set, take, drop, Option, Some, None, IsSome, IfSome, refl, sym, ap, subst, ◌∙◌, arith}
+use Rattle.std.proofs.Common.{◌≡◌, ℕ, Bool, true, false, ◌+◌, ◌-◌, ◌<◌, ◌≤◌, min, List, ◌∷◌, ◌++◌, length, get_or, set, take, drop, Option, Some, None, IsSome, IfSome, refl, sym, ap, subst, ◌∙◌, arith, if◌then◌else◌}
+use mir.Val.{bool_byte}
 use Rattle.std.proofs.lemmas.List.{length-append, set-get_or}
 use Rattle.tatp_rows.specs.Ordered.{IsOrderedBy, row_at, with_row_at, with_row}
 use Rattle.tatp_rows.specs.Spans.{StartsAt}
@@ -8,18 +9,13 @@ use Rattle.tatp_rows.proofs.SpanLemmas.{row_at-part, with_row_at-part, with_row-
 use Rattle.mr_node.specs.Rows.{Seen, key_of_pair, key_limit, KeysBelow}
 use Rattle.mr_node.specs.Levels.{NodePart, NodeKid, NodeBranch, kids_of, rows_of, IsWell, IsKid, IsBranch, seen_branch}
 use Rattle.mr_node.specs.Search.{IsKidPlace}
-use Rattle.mr_node.specs.Growth.{IsGrown, IsRoomAnswer, gained, least_with}
+use Rattle.mr_node.specs.Growth.{IsGrown, IsRoomAnswer, is_done}
 use Rattle.mr_node.specs.declared.room.Room.{Room}
 use Rattle.mr_node.specs.declared.room.Room.TheVariants.{Done, Exists, Full}
 use Rattle.mr_node.proofs.PlaceLemmas.{same_written}
 use Rattle.mr_node.proofs.RunLemmas.{run_written, run_both}
 use Rattle.mr_node.proofs.KidLemmas.{IsCutAt, kid_at, cut_kid, rows_of-append, branch_of, leasts_are, leasts_rise}
 use Rattle.mr_node.proofs.SizeLemmas.{branch_well, few_rows}
-
-gained_one : (answer : Room) → gained answer ≤ 1
-gained_one Done = omega arith
-gained_one Exists = omega arith
-gained_one Full = omega arith
 
 module _ {V : Type 0} where
   -- a child whose node is seen anew
@@ -140,7 +136,7 @@ module _ {V : Type 0} where
       let after = rows_of (drop (i + 1) kids) in
       omega (arith, ap length cut.rows, length-append before (k.1.node.value.rows ++ after), length-append k.1.node.value.rows after)
 
-  pub room_branch : (key i : ℕ) (value : V) (b : NodeBranch V) (k : NodePart V) (n : Seen V) (least count : ℕ) (answer : Room) → IsBranch b → IsKidPlace key i b.len b.leasts → get_or b.kids i None ≡ Some k → key < key_limit → IsRoomAnswer key value k.node.value n answer → least ≡ least_with key answer (get_or b.leasts i 0) → count ≡ k.count + gained answer
+  pub room_branch : (key i : ℕ) (value : V) (b : NodeBranch V) (k : NodePart V) (n : Seen V) (least count : ℕ) (answer : Room) → IsBranch b → IsKidPlace key i b.len b.leasts → get_or b.kids i None ≡ Some k → key < key_limit → IsRoomAnswer key value k.node.value n answer → least ≡ (if is_done answer then min (get_or b.leasts i 0) key else get_or b.leasts i 0) → count ≡ k.count + bool_byte (is_done answer)
       → (IsBranch (branch_set b i least (part_grown k count n))) × IsRoomAnswer key value (seen_branch b) (seen_branch (branch_set b i least (part_grown k count n))) answer
   room_branch key i value b k n least count Done branch at got small h el ec =
       let all = grown_branch key i value b k n least count branch at.within (cut_kid key i b k branch at got) small h.0 h.1 el ec in
@@ -155,15 +151,16 @@ module _ {V : Type 0} where
   pub kid_count_fits : (h least : ℕ) (k : NodePart V) → IsKid h (least, k) → k.count < 18446744073709551615
   kid_count_fits h least k kid = omega (arith, kid.counted, few_rows k.node.value kid.well)
 
-  pub gained_fits : (h least m : ℕ) (k : NodePart V) (answer : Room) → IsKid h (least, k) → m ≡ gained answer → k.count + m < 18446744073709551616
-  gained_fits h least m k answer kid e = omega (arith, kid_count_fits h least k kid, gained_one answer, e)
+  pub kid_gains : (h least m : ℕ) (is_in : Bool) (k : NodePart V) → IsKid h (least, k) → m ≡ bool_byte is_in → k.count + m < 18446744073709551616
+  kid_gains h least m true k kid e = omega (arith, kid_count_fits h least k kid, e)
+  kid_gains h least m false k kid e = omega (arith, kid_count_fits h least k kid, e)
 
   -- the same of the value that was handed down, and of the whole node
-  pub room_answer : (key i : ℕ) (o : Option V) (b : NodeBranch V) (k : NodePart V) (n child now : Seen V) (least count : ℕ) (answer : Room) → now ≡ seen_branch b → child ≡ k.node.value → IsBranch b → IsKidPlace key i b.len b.leasts → get_or b.kids i None ≡ Some k → key < key_limit → IfSome o (λ v. IsRoomAnswer key v child n answer) → IsSome o → least ≡ least_with key answer (get_or b.leasts i 0) → count ≡ k.count + gained answer
+  pub room_answer : (key i : ℕ) (o : Option V) (b : NodeBranch V) (k : NodePart V) (n child now : Seen V) (least count : ℕ) (is_in : Bool) (answer : Room) → now ≡ seen_branch b → child ≡ k.node.value → IsBranch b → IsKidPlace key i b.len b.leasts → get_or b.kids i None ≡ Some k → key < key_limit → IfSome o (λ v. IsRoomAnswer key v child n answer) → IsSome o → is_in ≡ is_done answer → least ≡ (if is_in then min (get_or b.leasts i 0) key else get_or b.leasts i 0) → count ≡ k.count + bool_byte is_in
       → (IsBranch (branch_set b i least (part_grown k count n))) × IfSome o (λ v. IsRoomAnswer key v now (seen_branch (branch_set b i least (part_grown k count n))) answer)
-  room_answer key i None b k n child now least count answer e same branch at got small h some el ec = let wrong : ⊥ = cc in absurd wrong
-  room_answer key i (Some v) b k n child now least count answer e same branch at got small h some el ec =
-      let all = room_branch key i v b k n least count answer branch at got small (subst (λ s. IsRoomAnswer key v s n answer) same h) el ec in
+  room_answer key i None b k n child now least count is_in answer e same branch at got small h some done el ec = let wrong : ⊥ = cc in absurd wrong
+  room_answer key i (Some v) b k n child now least count is_in answer e same branch at got small h some done el ec =
+      let all = room_branch key i v b k n least count answer branch at got small (subst (λ s. IsRoomAnswer key v s n answer) same h) (subst (λ j. least ≡ (if j then min (get_or b.leasts i 0) key else get_or b.leasts i 0)) done el) (subst (λ j. count ≡ k.count + bool_byte j) done ec) in
       (all.0, subst (λ s. IsRoomAnswer key v s (seen_branch (branch_set b i least (part_grown k count n))) answer) (sym e) all.1)
 
   -- a node seen with other rows

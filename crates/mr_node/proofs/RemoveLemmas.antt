@@ -10,7 +10,7 @@ use Rattle.tatp_rows.proofs.SpanLemmas.{without_row-part}
 use Rattle.mr_node.specs.Rows.{Seen, key_of_pair, key_limit, value_at, KeysBelow, StartsWith}
 use Rattle.mr_node.specs.Levels.{NodePart, NodeKid, NodeBranch, kids_of, rows_of, IsWell, IsKid, IsKidOf, IsBranch, seen_branch}
 use Rattle.mr_node.specs.Changes.{IsShrunk}
-use Rattle.mr_node.specs.Inside.{IsLooseAt, IsMended}
+use Rattle.mr_node.specs.Inside.{IsLooseAt, IsWholeAgain}
 use Rattle.mr_node.specs.Steps.{after_steps}
 use Rattle.mr_node.proofs.PlaceLemmas.{packed_fits}
 use Rattle.mr_node.proofs.RunLemmas.{run_length, run_both}
@@ -79,7 +79,7 @@ module _ {V : Type 0} where
         got = get_or-set_same b.kids i (Some x) None (omega (arith, packed_fits b.len b.kids branch.run.packed, lt));
       }
 
-  pub shrunk_branch : (key i : ℕ) (b mid new : NodeBranch V) (x : NodePart V) (now : Seen V) → now ≡ seen_branch b → IsRemovedIn key i b mid x → mid.height ≡ b.height → mid.len ≡ b.len → IsMended mid new → IsShrunk key now (seen_branch new)
+  pub shrunk_branch : (key i : ℕ) (b mid new : NodeBranch V) (x : NodePart V) (now : Seen V) → now ≡ seen_branch b → IsRemovedIn key i b mid x → mid.height ≡ b.height → mid.len ≡ b.len → IsWholeAgain 1 mid new → IsShrunk key now (seen_branch new)
   shrunk_branch key i b mid new x now e removed height len mended =
       subst (λ s. IsShrunk key s (seen_branch new)) (sym e) (record {
         rows = mended.rows ∙ removed.rows;

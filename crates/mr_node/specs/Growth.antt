@@ -1,5 +1,5 @@
 -- What an insertion makes of a node.
-use Rattle.std.specs.Prelude.{◌≡◌, ℕ, ◌≤◌, min, length, Option, None, IsSome}
+use Rattle.std.specs.Prelude.{◌≡◌, ℕ, ◌≤◌, Bool, true, false, length, None, IsSome}
 use Rattle.tatp_rows.specs.Ordered.{row_at, with_row}
 use Rattle.mr_node.specs.declared.room.Room.{Room}
 use Rattle.mr_node.specs.declared.room.Room.TheVariants.{Done, Exists, Full}
@@ -19,20 +19,8 @@ IsRoomAnswer key value old new Done = (row_at key_of_pair key old.rows ≡ None)
 IsRoomAnswer key value old new Exists = IsSome (row_at key_of_pair key old.rows) × (new ≡ old)
 IsRoomAnswer key value old new Full = (row_at key_of_pair key old.rows ≡ None) × (new ≡ old) × (32 ≤ length old.rows)
 
--- what such an insertion leaves of the value that it was given
-abbrev pub left_of : {V : Type 0} → Room → Option V → Option V
-left_of Done value = None
-left_of Exists value = value
-left_of Full value = value
-
--- how many rows more there are
-abbrev pub gained : Room → ℕ
-gained Done = 1
-gained Exists = 0
-gained Full = 0
-
--- the least key of a child after such an insertion below it
-abbrev pub least_with : ℕ → Room → ℕ → ℕ
-least_with key Done least = min least key
-least_with key Exists least = least
-least_with key Full least = least
+-- the row went in
+abbrev pub is_done : Room → Bool
+is_done Done = true
+is_done Exists = false
+is_done Full = false

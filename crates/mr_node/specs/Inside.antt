@@ -39,10 +39,10 @@ pub record IsLooseAt {V : Type 0} (place : ℕ) (b : NodeBranch V) : Type 0 wher
   pub branch : IsBranchOf 15 b
   pub beside : AreKidsBeside place (place + 1) b
 
--- an inner node that is whole again, with the same rows
-pub record IsMended {V : Type 0} (old new : NodeBranch V) : Type 0 where
+-- an inner node that is whole again: the same rows, in so many children fewer at most
+pub record IsWholeAgain {V : Type 0} (fewer : ℕ) (old new : NodeBranch V) : Type 0 where
   pub height : new.height ≡ old.height
-  pub len : old.len ≤ new.len + 1
+  pub len : old.len ≤ new.len + fewer
   pub rows : rows_of (kids_of new) ≡ rows_of (kids_of old)
   pub whole : IsBranch new
 
@@ -60,13 +60,6 @@ pub record IsSplitAt {V : Type 0} (place least : ℕ) (old new : NodeBranch V) :
   pub lower_width : low.1.node.value.width ≡ 16
   pub upper_width : high.1.node.value.width ≡ 16
   pub first : least ≡ high.0
-
--- an inner node in which room was made: the same rows in as many children, or in one more
-pub record IsRoomMade {V : Type 0} (old new : NodeBranch V) : Type 0 where
-  pub height : new.height ≡ old.height
-  pub len : old.len ≤ new.len
-  pub rows : rows_of (kids_of new) ≡ rows_of (kids_of old)
-  pub whole : IsBranch new
 
 -- the key belongs to the child at this place, which has room
 pub record IsRoomAt {V : Type 0} (key place : ℕ) (b : NodeBranch V) : Type 0 where

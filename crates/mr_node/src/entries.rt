@@ -6,7 +6,7 @@ ghost use Rattle.mr_node.specs.Rows.{key_limit, key_of_pair, value_at, StartsWit
 ghost use Rattle.mr_node.specs.Levels.{IsLeaf, pairs_of, seen_leaf};
 ghost use Rattle.mr_node.specs.Entries.{IsThere, IsFree};
 ghost use Rattle.mr_node.specs.Folds.{FoldsRows};
-ghost use Rattle.mr_node.specs.Growth.{IsGrown, IsRoomAnswer, left_of};
+ghost use Rattle.mr_node.specs.Growth.{IsGrown, IsRoomAnswer, is_done};
 
 use crate::keys::{NO_KEY, count_below, put_key, take_key};
 use crate::{Leaf, Room};
@@ -122,7 +122,7 @@ pub(crate) fn insert_entry<V: Drop>(leaf: &mut Leaf<V>, key: u64, value: &mut Op
     requires some { IsSome value.old }
     ensures leaf { IsLeaf leaf.new }
     ensures answer { IfSome value.old (λ v. IsRoomAnswer key v (seen_leaf leaf.old) (seen_leaf leaf.new) result) }
-    ensures value { value.new ≡ left_of result value.old }
+    ensures value { value.new ≡ (if is_done result then None else value.old) }
 {
     match search(leaf, key) {
         Ok(_) => Room::Exists,

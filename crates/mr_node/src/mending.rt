@@ -1,7 +1,7 @@
 //! Inner nodes that lose or get a child.
 ghost use Rattle.std.specs.Prelude.{◌≡◌, ◌+◌, ◌-◌, ◌*◌, ◌<◌, ◌≤◌, ℕ, None, IfSome, length, slice_index_or};
 ghost use Rattle.mr_node.specs.Levels.{IsBranch, IsBranchOf};
-ghost use Rattle.mr_node.specs.Inside.{IsLooseAt, IsPairAt, IsSplicedAt, IsMended, IsSplitAt, IsRoomMade, IsRoomAt};
+ghost use Rattle.mr_node.specs.Inside.{IsLooseAt, IsPairAt, IsSplicedAt, IsWholeAgain, IsSplitAt, IsRoomAt};
 ghost use Rattle.mr_node.specs.Steps.{after_steps};
 
 use crate::kids::{place_of, put_kid, take_kid};
@@ -66,7 +66,7 @@ pub(crate) fn mend<V: Drop>(branch: &mut Branch<Box<Node<V>>>, place: usize, met
     requires loose { IsLooseAt place branch.old }
     requires two { 2 ≤ branch.old.len }
     requires within { place < branch.old.len }
-    ensures mended { IsMended branch.old branch.new }
+    ensures mended { IsWholeAgain 1 branch.old branch.new }
     ensures thin { IfSome (slice_index_or branch.old.kids place None) (λ k. k.node.value.width < 16 → meter.new ≡ after_steps 4 meter.old) }
     ensures enough { IfSome (slice_index_or branch.old.kids place None) (λ k. 16 ≤ k.node.value.width → meter.new ≡ meter.old) }
 {
@@ -116,7 +116,7 @@ pub(crate) fn make_room<V: Drop>(
     requires branch { IsBranch branch.old }
     requires room { branch.old.len < 32 }
     requires stock { 0 < stock.old }
-    ensures same { IsRoomMade branch.old branch.new }
+    ensures same { IsWholeAgain 0 branch.old branch.new }
     ensures place { IsRoomAt key result branch.new }
     ensures stock { stock.new ≤ stock.old }
     ensures used { stock.old ≤ stock.new + 1 }

@@ -6,7 +6,7 @@ ghost use Rattle.mr_node.specs.Rows.{key_limit, key_of_pair, value_at, StartsWit
 ghost use Rattle.mr_node.specs.Levels.{seen, IsNode, IsWell, IsLeaf, IsBranch, seen_leaf, seen_branch};
 ghost use Rattle.mr_node.specs.Folds.{FoldsRows};
 ghost use Rattle.mr_node.specs.Runs.{IsRun};
-ghost use Rattle.mr_node.specs.Growth.{IsGrown, IsRoomAnswer, left_of, gained, least_with};
+ghost use Rattle.mr_node.specs.Growth.{IsGrown, IsRoomAnswer, is_done};
 ghost use Rattle.mr_node.specs.Pairs.{IsKidNode, IsHalved, AreEvened};
 ghost use Rattle.mr_node.specs.Changes.{IsShrunk, IsHeightened, IsLowered};
 ghost use Rattle.mr_node.specs.Parts.{IsHung};
@@ -374,7 +374,7 @@ impl<V: Drop> Node<V> {
         requires small { key < key_limit }
         requires some { IsSome value.old }
         ensures answer { IfSome value.old (λ v. IsRoomAnswer key v self.old self.new result) }
-        ensures value { value.new ≡ left_of result value.old }
+        ensures value { value.new ≡ (if is_done result then None else value.old) }
     {
         match &mut self.body {
             Body::Leaf(leaf) => insert_entry(leaf, key, value),
@@ -384,8 +384,9 @@ impl<V: Drop> Node<V> {
                     Some(kid) => {
                         let node = &mut *kid.node;
                         let answer = node.insert_room(key, value);
-                        kid.count += rows_gained(&answer);
-                        branch.leasts[place] = least_after(branch.leasts[place], key, &answer);
+                        let is_in = answer.is_done();
+                        kid.count += u64::from(is_in);
+                        branch.leasts[place] = least_after(branch.leasts[place], key, is_in);
                         answer
                     }
                     None => unreachable!(),
@@ -412,26 +413,14 @@ fn note_gone<V>(kid: &mut Kid<Box<Node<V>>>, is_gone: bool) -> u64
     kid.node.least()
 }
 
-// How many rows an insertion added.
-fn rows_gained(answer: &Room) -> u64
-    ensures { result ≡ gained answer.now }
+// The least key of a child after an insertion below it, which put a row in or not.
+fn least_after(least: u64, key: u64, is_in: bool) -> u64
+    ensures { result ≡ (if is_in then min least key else least) }
 {
-    match answer {
-        Room::Done => 1,
-        Room::Exists => 0,
-        Room::Full => 0,
+    if is_in {
+        return least.min(key);
     }
-}
-
-// The least key of a child after an insertion below it.
-fn least_after(least: u64, key: u64, answer: &Room) -> u64
-    ensures { result ≡ least_with key answer.now least }
-{
-    match answer {
-        Room::Done => least.min(key),
-        Room::Exists => least,
-        Room::Full => least,
-    }
+    least
 }
 
 // Makes a node a leaf without entries, where it isn't one.

@@ -1,5 +1,8 @@
 //! The answer of an insertion that takes no memory.
 
+ghost use Rattle.std.specs.Prelude.{◌≡◌};
+ghost use Rattle.mr_node.specs.Growth.{is_done};
+
 /// What became of a row that was to go into a node without any new node.
 #[derive(Drop)]
 pub enum Room {
@@ -9,4 +12,17 @@ pub enum Room {
     Exists,
     /// The leaf to which the key belongs is full.
     Full,
+}
+
+impl Room {
+    // Whether the row went in.
+    pub(crate) fn is_done(&self) -> bool
+        ensures { result ≡ is_done self.now }
+    {
+        match self {
+            Room::Done => true,
+            Room::Exists => false,
+            Room::Full => false,
+        }
+    }
 }

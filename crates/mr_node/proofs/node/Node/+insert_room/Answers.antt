@@ -2,7 +2,7 @@ use Rattle.std.proofs.Common.{rules, arith, ◌≡◌, ◌-◌, ◌+◌, get_or,
 use Rattle.mr_node.specs.Levels.{IsNode, IsBranch, seen, seen_branch}
 use Rattle.mr_node.proofs.PlaceLemmas.{got_used, never_none}
 use Rattle.mr_node.proofs.KidLemmas.{cut_kid}
-use Rattle.mr_node.proofs.NodeLemmas.{kids_rise, kids_below, room_answer, gained_fits}
+use Rattle.mr_node.proofs.NodeLemmas.{kids_rise, kids_below, room_answer, kid_gains}
 use Rattle.mr_node.proofs.node.Node.+insert_room.Goals.{In-Inner, In-Some}
 use Rattle.mr_node.proofs.node.Node.+insert_room.Goals as goal
 
@@ -34,18 +34,18 @@ overflow_add-kid g t c =
     let i = c.place_of-place.result in
     let branch = whole g t at.In-Inner in
     let cut = cut_kid c.args.key i b c.in-Some.kid branch c.place_of-place.ensures (got g t at.In-Some branch) in
-    omega (arith, gained_fits (b.height - 1) (get_or b.leasts i 0) c.rows_gained.result c.in-Some.kid c.insert_room-answer.result cut.kid c.rows_gained.ensures)
+    omega (arith, kid_gains (b.height - 1) (get_or b.leasts i 0) c.from.result c.is_done-is_in.result c.in-Some.kid cut.kid c.from.ensures)
 
 pub invariant_of-self-in-Some : goal.invariant_of-self-in-Some
 invariant_of-self-in-Some g t c =
     let at = goal.at.invariant_of-self-in-Some g t c in
     let k = c.in-Some.kid in
     let branch = whole g t at.In-Inner in
-    (room_answer c.args.key c.place_of-place.result c.args.value.now c.in-Inner.branch k c.insert_room-answer.new.self c.deref_mut-node.result.now c.args.self.now c.least_after.result (k.count + c.rows_gained.result) c.insert_room-answer.result (now g t at.In-Inner) c.deref_mut-node.ensures.value branch c.place_of-place.ensures (got g t at.In-Some branch) c.requires.small c.insert_room-answer.ensures.answer c.requires.some c.least_after.ensures (ap (λ n. k.count + n) c.rows_gained.ensures)).0
+    (room_answer c.args.key c.place_of-place.result c.args.value.now c.in-Inner.branch k c.insert_room-answer.new.self c.deref_mut-node.result.now c.args.self.now c.least_after.result (k.count + c.from.result) c.is_done-is_in.result c.insert_room-answer.result (now g t at.In-Inner) c.deref_mut-node.ensures.value branch c.place_of-place.ensures (got g t at.In-Some branch) c.requires.small c.insert_room-answer.ensures.answer c.requires.some c.is_done-is_in.ensures c.least_after.ensures (ap (λ n. k.count + n) c.from.ensures)).0
 
 pub returns-in-Some-clause-answer : goal.returns-in-Some-clause-answer
 returns-in-Some-clause-answer g t c =
     let at = goal.at.returns-in-Some-clause-answer g t c in
     let k = c.in-Some.kid in
     let branch = whole g t at.In-Inner in
-    (room_answer c.args.key c.place_of-place.result c.args.value.now c.in-Inner.branch k c.insert_room-answer.new.self c.deref_mut-node.result.now c.args.self.now c.least_after.result (k.count + c.rows_gained.result) c.insert_room-answer.result (now g t at.In-Inner) c.deref_mut-node.ensures.value branch c.place_of-place.ensures (got g t at.In-Some branch) c.requires.small c.insert_room-answer.ensures.answer c.requires.some c.least_after.ensures (ap (λ n. k.count + n) c.rows_gained.ensures)).1
+    (room_answer c.args.key c.place_of-place.result c.args.value.now c.in-Inner.branch k c.insert_room-answer.new.self c.deref_mut-node.result.now c.args.self.now c.least_after.result (k.count + c.from.result) c.is_done-is_in.result c.insert_room-answer.result (now g t at.In-Inner) c.deref_mut-node.ensures.value branch c.place_of-place.ensures (got g t at.In-Some branch) c.requires.small c.insert_room-answer.ensures.answer c.requires.some c.is_done-is_in.ensures c.least_after.ensures (ap (λ n. k.count + n) c.from.ensures)).1
