@@ -209,40 +209,77 @@ fn counted(rt: &impl Abort, mut tree: SubTree<Token>, last: u64) -> SubTree<Toke
     tree
 }
 
-// Cuts a tree at a key: the lengths and heights of both parts, and whether the tree is as it was once they are joined.
-fn cut_lengths(rt: &impl Abort, tree: SubTree<Token>, key: u64) -> ([u64; 4], SubTree<Token>) {
+// What a cut at a key gave: lengths and heights of both parts, and the steps of the cut and of joining them again.
+#[derive(Clone, Copy, Debug, PartialEq)]
+struct Seen {
+    lengths: (u64, u64),
+    heights: (u64, u64),
+    slice: u64,
+    meld: u64,
+}
+
+// Cuts a tree at a key, and joins its parts again, which gives the rows and the height that it had.
+fn cut_at(rt: &impl Abort, tree: SubTree<Token>, key: u64) -> (Seen, SubTree<Token>) {
     let whole = (walked(&tree, start()), tree.height());
     let mut stock = slice_stock(rt, &tree);
     let cut = slice(tree, key, &mut stock);
-    let seen = [
-        cut.low.len(),
-        cut.high.len(),
-        cut.low.height(),
-        cut.high.height(),
-    ];
+    let lengths = (cut.low.len(), cut.high.len());
+    let heights = (cut.low.height(), cut.high.height());
     let mut stock = meld_stock(rt, &cut.low, &cut.high);
-    let (tree, _) = meld(cut.low, cut.high, &mut stock);
+    let (tree, meld) = meld(cut.low, cut.high, &mut stock);
     assert_eq!(rt; (walked(&tree, start()), tree.height()), whole);
+    let seen = Seen {
+        lengths,
+        heights,
+        slice: cut.steps,
+        meld,
+    };
     (seen, tree)
 }
 
 // 33 keys make a tree of height 1, which is cut in front of its first key, in the middle, and behind its last.
 fn compare_cuts(rt: &impl Abort, tree: SubTree<Token>) {
     let tree = counted(rt, tree, 33);
-    let (first, tree) = cut_lengths(rt, tree, 1);
-    let (middle, tree) = cut_lengths(rt, tree, 17);
-    let (last, _tree) = cut_lengths(rt, tree, 34);
+    let (first, tree) = cut_at(rt, tree, 1);
+    let (middle, tree) = cut_at(rt, tree, 17);
+    let (last, _tree) = cut_at(rt, tree, 34);
     assert_eq!(rt;
-        (first, middle, last),
-        ([0, 33, 0, 1], [16, 17, 0, 0], [33, 0, 1, 0])
+        [
+            (first.lengths, first.heights),
+            (middle.lengths, middle.heights),
+            (last.lengths, last.heights),
+        ],
+        [((0, 33), (0, 1)), ((16, 17), (0, 0)), ((33, 0), (1, 0))]
     );
+    let slices = first.slice.max(middle.slice).max(last.slice);
+    let apart = first.meld.max(last.meld);
+    assert!(rt; slices <= 256 && middle.meld <= 16 && apart <= 32);
+}
+
+// 1,024 keys are cut in two halves. With one key more they make a tree of height 2, which is cut at each key; then a
+// key far behind is put in, cut off, and joined again.
+fn compare_great_cuts(rt: &impl Abort, tree: SubTree<Token>) {
+    let tree = counted(rt, tree, 1024);
+    let (halves, mut tree) = cut_at(rt, tree, 513);
+    let grown = tree.insert(1025, Token(1025)).is_ok();
+    let mut most = 0u64;
+    for key in 1..=1026u64 {
+        let (seen, joined) = cut_at(rt, tree, key);
+        most = most.max(seen.slice);
+        tree = joined;
+    }
+    let grown = grown && tree.insert(2000, Token(2000)).is_ok();
+    let (one, _tree) = cut_at(rt, tree, 2000);
+    assert_eq!(rt;
+        (grown, halves.lengths, one.lengths, one.heights),
+        (true, (512, 512), (1025, 1), (2, 0))
+    );
+    assert!(rt; most <= 576 && one.meld <= 48);
 }
 
 #[test]
 fn small_trees(rt: HostRuntime) -> Result<(), Fail> {
     compare_cuts(&rt, SubTree::new(rt.alloc())?);
-    let tree = counted(&rt, SubTree::new(rt.alloc())?, 1024);
-    let (halves, _tree) = cut_lengths(&rt, tree, 513);
-    assert_eq!(rt; (halves[0], halves[1]), (512, 512));
+    compare_great_cuts(&rt, SubTree::new(rt.alloc())?);
     Ok(())
 }
