@@ -1,11 +1,11 @@
 -- The rules of a book after an edit of one of its tables.
-use Rattle.std.proofs.Common.{◌≡◌, ℕ, ◌<◌, refl, arith, true, List, Option, Some, None, IsSome, sym, subst}
+use Rattle.std.proofs.Common.{◌≡◌, ℕ, ◌<◌, refl, arith, true, List, Option, Some, None, IsSome, subst}
 use Rattle.std.specs.List.{AllByRecursion}
 use Rattle.tatp_rows.proofs.OrderedLemmas.{key_found, each_found, each-weaker, each-with_row_at, each-with_row_at_same, each-with_row, each-without_row, each_both, ordered-with_row_at, ordered-with_row, ordered-without_row, still_found-with_row_at, still_found-with_row}
 use Rattle.tatp_rows.proofs.KeyLemmas.{key_parts}
 use Rattle.tatp_rows.proofs.RowLemmas.{facility_type, forwarding_type, forwarding_ranges}
 use Rattle.tatp_rows.specs.Keys.{key_of, subscriber_key, access_key, facility_key, forwarding_key}
-use Rattle.tatp_rows.specs.Ordered.{IsOrderedBy, row_at, with_row_at, with_row}
+use Rattle.tatp_rows.specs.Ordered.{IsOrderedBy, row_at, with_row}
 use Rattle.tatp_rows.specs.Rows.{SubscriberRow, AccessInfoRow, SpecialFacilityRow, CallForwardingRow, subscriber_in_range, access_in_range, facility_in_range, forwarding_in_range}
 use Rattle.tatp_actions.specs.Book.{Book, IsBook, IsRowsOf, IsWithin, subscriber_at, access_at, facility_at, forwarding_at, put_subscriber, put_facility, more_access, more_facilities, more_forwardings, without_forwarding}
 
@@ -38,21 +38,6 @@ rules_of_subscribers lo hi book rows old ordered in_range within still = record 
 -- the key of the row that is found is that of its subscriber
 pub s_id_found : (book : Book) (s : ℕ) (row : SubscriberRow) → subscriber_at book s ≡ Some row → row.s_id ≡ s
 s_id_found book s row found = let at = key_found subscriber_key (key_of s 0 0) book.subscribers row found in omega (arith, at)
-
--- another row of the same subscriber keeps the rules
-pub rules_of_move : (lo hi : ℕ) (book : Book) (s : ℕ) (row new : SubscriberRow) → IsRowsOf lo hi book → subscriber_at book s ≡ Some row
-    → new.s_id ≡ row.s_id → subscriber_in_range new ≡ true
-    → IsRowsOf lo hi (record book { subscribers = with_row_at subscriber_key (key_of s 0 0) new book.subscribers })
-rules_of_move lo hi book s row new old found same in_range =
-    let is = s_id_found book s row found in
-    let at : subscriber_key new ≡ key_of s 0 0 = omega arith in
-    let was = each_found subscriber_key (λ (r : SubscriberRow). IsWithin lo hi r.s_id) (key_of s 0 0) book.subscribers row old.subscribers found in
-    let within : IsWithin lo hi new.s_id = subst (λ (n : ℕ). IsWithin lo hi n) (sym same) was in
-    rules_of_subscribers lo hi book _ old
-    (ordered-with_row_at subscriber_key (key_of s 0 0) new book.subscribers at old.rules.subscribers_ordered)
-    (each-with_row_at subscriber_key (λ (r : SubscriberRow). subscriber_in_range r ≡ true) (key_of s 0 0) new book.subscribers in_range old.rules.subscribers_in_range)
-    (each-with_row_at subscriber_key (λ (r : SubscriberRow). IsWithin lo hi r.s_id) (key_of s 0 0) new book.subscribers within old.subscribers)
-    (λ j some. still_found-with_row_at subscriber_key (key_of j 0 0) (key_of s 0 0) new book.subscribers at some)
 
 -- one more subscriber keeps the rules
 pub rules_of_addition : (lo hi : ℕ) (book : Book) (row : SubscriberRow) → IsRowsOf lo hi book → subscriber_at book row.s_id ≡ None

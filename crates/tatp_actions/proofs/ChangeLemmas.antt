@@ -20,10 +20,6 @@ note_other k c z other = by_test (k == c) (λ e. absurd (other (grind (arith, na
 pub note_same : (k c : ℕ) (z : ℤ) → k ≡ c → (if k == c then z else pos 0) ≡ z
 note_same k c z same = by_test (k == c) (λ e. rw e refl) (λ e. absurd (grind (arith, nat_tests)))
 
--- two notes move a cell by the sum
-pub two_notes : (j k c : ℕ) (y z : ℤ) → change_at ((j, y) ∷ (k, z) ∷ []) c ≡ (if j == c then y else pos 0) +ℤ (if k == c then z else pos 0)
-two_notes j k c y z = omega (arith, ints)
-
 -- the notes of a move between areas leave the cells of start times and of zones
 pub area_moved-low : (from to c : ℕ) → c < FIRST_AREA → change_at (area_moved from to) c ≡ pos 0
 area_moved-low from to c low =

@@ -2,7 +2,7 @@
 use Rattle.std.proofs.Common.{◌≡◌, ◌∙◌, sym, ap, subst, ℕ, ◌+◌, ◌*◌, ◌<◌, ◌≤◌, arith, true, List, IsSome}
 use Rattle.std.specs.List.{AllByRecursion}
 use Rattle.tatp_rows.proofs.AppendLemmas.{each-left, each-right, ordered-left, ordered-right}
-use Rattle.tatp_rows.proofs.HalfLemmas.{below_each, from_each, halves_joined, below_joined, from_joined}
+use Rattle.tatp_rows.proofs.HalfLemmas.{below_each, from_each, halves_joined}
 use Rattle.tatp_rows.proofs.KeyLemmas.{key_below_is, key_from_is}
 use Rattle.tatp_rows.proofs.OrderedLemmas.{each-weaker, each_from_two, each_both}
 use Rattle.tatp_rows.proofs.RowLemmas.{access_type, facility_type, forwarding_type, forwarding_ranges}
@@ -38,21 +38,6 @@ cut_joined n book rules = same_tables
     (halves_joined access_key (n * 65536) book.access rules.access_ordered)
     (halves_joined facility_key (n * 65536) book.facilities rules.facilities_ordered)
     (halves_joined forwarding_key (n * 65536) book.forwardings rules.forwardings_ordered)
-
--- two books that are apart are the halves of their join
-pub low_of_join : (n : ℕ) (low high : Book) → Apart n low high → cut_low n (join_books low high) ≡ low
-low_of_join n low high parts = same_tables
-    (below_joined subscriber_key (n * 65536) low.subscribers high.subscribers parts.subscribers_below parts.subscribers_from)
-    (below_joined access_key (n * 65536) low.access high.access parts.access_below parts.access_from)
-    (below_joined facility_key (n * 65536) low.facilities high.facilities parts.facilities_below parts.facilities_from)
-    (below_joined forwarding_key (n * 65536) low.forwardings high.forwardings parts.forwardings_below parts.forwardings_from)
-
-pub high_of_join : (n : ℕ) (low high : Book) → Apart n low high → cut_high n (join_books low high) ≡ high
-high_of_join n low high parts = same_tables
-    (from_joined subscriber_key (n * 65536) low.subscribers high.subscribers parts.subscribers_below parts.subscribers_from)
-    (from_joined access_key (n * 65536) low.access high.access parts.access_below parts.access_from)
-    (from_joined facility_key (n * 65536) low.facilities high.facilities parts.facilities_below parts.facilities_from)
-    (from_joined forwarding_key (n * 65536) low.forwardings high.forwardings parts.forwardings_below parts.forwardings_from)
 
 -- each of two books that are apart keeps the rules that their join keeps, in its part of the range
 module _ (lo n hi : ℕ) (low high : Book) (parts : Apart n low high) (rows : IsRowsOf lo hi (join_books low high)) where

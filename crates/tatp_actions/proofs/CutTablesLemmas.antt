@@ -5,14 +5,13 @@ use Rattle.std.specs.Int.{abs_diff}
 use Rattle.std.specs.List.{AllByRecursion, filter}
 use Rattle.std.proofs.lemmas.List.{map-append}
 use Rattle.mr_cut.specs.Cuts.{rows_below, rows_from, AreApart}
-use Rattle.mr_node.specs.Rows.{key_of_pair, KeysBelow, KeysFrom}
 use Rattle.tatp_rows.proofs.AppendLemmas.{each-append}
 use Rattle.tatp_rows.proofs.MapLemmas.{each-unmap}
 use Rattle.tatp_rows.proofs.OrderedLemmas.{by_test, each_from_two}
 use Rattle.tatp_rows.specs.Keys.{key_of, subscriber_key, access_key, facility_key, forwarding_key}
 use Rattle.tatp_rows.specs.Rows.{SubscriberRow, AccessInfoRow, SpecialFacilityRow, CallForwardingRow}
 use Rattle.tatp_rows.specs.Spans.{AllBelow, AllFrom, keys_below, keys_from}
-use Rattle.tatp_actions.specs.Book.{Book, IsRowsOf}
+use Rattle.tatp_actions.specs.Book.{IsRowsOf}
 use Rattle.tatp_actions.specs.Cut.{Heights, low_part, high_part, meld_bound, meld_least}
 use Rattle.tatp_actions.specs.CutTables.{tables_below, tables_from, join_tables, TablesApart}
 use Rattle.tatp_actions.specs.Joined.{join_books, cut_low, cut_high}

@@ -1,8 +1,5 @@
 -- The rules and the counts of a book that is joined of two.
-use Rattle.std.proofs.Common.{◌≡◌, ◌∙◌, refl, sym, ap, subst, ℕ, ◌+◌, ◌-◌, ◌*◌, ◌≤◌, ◌==◌, ◌&&◌, arith, true, List, ◌++◌, IsSome, nat_lt, if◌then◌else◌}
-use Rattle.std.specs.Prelude.{ℤ}
-use Rattle.std.proofs.lemmas.Int.{ints}
-use Rattle.tatp_actions.specs.Change.{IsChange}
+use Rattle.std.proofs.Common.{◌≡◌, ◌∙◌, refl, sym, ap, subst, ℕ, ◌+◌, ◌-◌, ◌*◌, ◌≤◌, ◌==◌, ◌&&◌, arith, true, ◌++◌, IsSome, nat_lt, if◌then◌else◌}
 use Rattle.std.specs.List.{AllByRecursion, sum_by}
 use Rattle.std.proofs.lemmas.List.Sums.{sum_by-append}
 use Rattle.tatp_rows.proofs.AppendLemmas.{each-append, ordered-append}
@@ -104,16 +101,3 @@ module _ (lo n hi : ℕ) (low high : Book) (of_low : IsRowsOf lo n low) (of_high
       (λ e. by_test (nat_lt c FIRST_ZONE)
       (λ f. rw (e, f) (area_joined (c - FIRST_AREA)))
       (λ f. rw (e, f) (zone_joined width (c - FIRST_ZONE))))
-
--- the exact change of one of two books is the exact change of their join
-pub change_joined-low : (lo n hi width : ℕ) (low after high : Book) (notes : List (ℕ × ℤ)) → IsRowsOf lo n low → IsRowsOf lo n after → IsRowsOf n hi high
-    → IsChange width low after notes → IsChange width (join_books low high) (join_books after high) notes
-change_joined-low lo n hi width low after high notes of_low of_after of_high changed c within =
-    let moved = changed c within in
-    rw (cell_joined lo n hi low high of_low of_high width c, cell_joined lo n hi after high of_after of_high width c) (omega (arith, ints))
-
-pub change_joined-high : (lo n hi width : ℕ) (low high after : Book) (notes : List (ℕ × ℤ)) → IsRowsOf lo n low → IsRowsOf n hi high → IsRowsOf n hi after
-    → IsChange width high after notes → IsChange width (join_books low high) (join_books low after) notes
-change_joined-high lo n hi width low high after notes of_low of_high of_after changed c within =
-    let moved = changed c within in
-    rw (cell_joined lo n hi low high of_low of_high width c, cell_joined lo n hi low after of_low of_after width c) (omega (arith, ints))

@@ -11,7 +11,7 @@ use Rattle.tatp_rows.specs.declared.refusal.Refusal.{Refusal}
 use Rattle.tatp_rows.specs.declared.refusal.Refusal.TheVariants as refusal
 use Rattle.tatp_actions.specs.Book.{Book, IsRowsOf}
 use Rattle.tatp_actions.specs.Part.{PartState, IsPart}
-use Rattle.tatp_actions.specs.Inside.{asked_once, changed_once}
+use Rattle.tatp_actions.specs.Inside.{changed_once}
 use Rattle.tatp_actions.specs.Tables.{Tables, AreKeyed, IsKeyed, stored_book, values_of, once_more}
 
 -- the part of these tables
@@ -21,14 +21,6 @@ part_of tables asked lo hi width steps = record { book = stored_book tables; ask
 -- its rules
 abbrev pub Holds : Tables → ℕ → ℕ → ℕ → ℕ → ℕ → Type 0
 Holds tables asked lo hi width steps = IsPart (part_of tables asked lo hi width steps) × AreKeyed tables
-
--- the rows were asked, and are the same
-pub asked_is : (tables tables1 : Tables) (n n1 lo hi width steps : ℕ) → (tables1 ≡ tables) × (n1 ≡ once_more n) → part_of tables1 n1 lo hi width steps ≡ asked_once (part_of tables n lo hi width steps)
-asked_is tables tables1 n n1 lo hi width steps (same, asked) = rw (same, asked) refl
-
-pub asked_holds : (tables tables1 : Tables) (n n1 lo hi width steps : ℕ) → (tables1 ≡ tables) × (n1 ≡ once_more n) → Holds tables n lo hi width steps → Holds tables1 n1 lo hi width steps
-asked_holds tables tables1 n n1 lo hi width steps after (rules, keyed) =
-    (record { range = rules.range; width = rules.width; rows = subst (λ (t : Tables). IsRowsOf lo hi (stored_book t)) (sym after.0) rules.rows }, subst AreKeyed (sym after.0) keyed)
 
 -- the rows were asked, and changed
 pub changed_is : (tables tables1 : Tables) (n n1 lo hi width steps : ℕ) (book : Book) → stored_book tables1 ≡ book → n1 ≡ once_more n → part_of tables1 n1 lo hi width steps ≡ changed_once (part_of tables n lo hi width steps) book

@@ -1,5 +1,5 @@
 -- Tables that are cut at a key or joined, and the trees that hold them: no clause of a public call cites these.
-use Rattle.std.specs.Prelude.{ℕ, ◌+◌, ◌*◌, ◌<◌, ◌≤◌, List, ◌++◌}
+use Rattle.std.specs.Prelude.{ℕ, ◌+◌, ◌*◌, ◌<◌, ◌≤◌, ◌++◌}
 use Rattle.std.specs.Int.{abs_diff}
 use Rattle.mr_cut.specs.Cuts.{rows_below, rows_from, AreApart}
 use Rattle.tatp_actions.specs.Cut.{Heights}

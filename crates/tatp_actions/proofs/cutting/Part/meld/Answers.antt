@@ -1,4 +1,4 @@
-use Rattle.std.proofs.Common.{◌≡◌, ◌∙◌, sym, ℕ, ◌⊎◌, inl, inr}
+use Rattle.std.proofs.Common.{◌∙◌, ◌⊎◌, inl, inr}
 use Rattle.tatp_actions.specs.CutTables.{heights_of}
 use Rattle.tatp_actions.proofs.CutTablesLemmas.{tables_apart, joined_holds, bound_swapped, least_swapped}
 use Rattle.tatp_actions.proofs.cutting.Part.meld.Goals as goal
