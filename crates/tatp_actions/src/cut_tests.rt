@@ -5,8 +5,8 @@ use crate::plain::PlainRows;
 use crate::plain_tests::draws::after;
 use crate::plain_tests::tally::Tally;
 use crate::plain_tests::{expect_same_book, expect_same_rows, expect_turn};
-use crate::tests::expect_added;
 use crate::tests::makers::subscriber;
+use crate::tests::{counts_of, expect_added};
 use crate::{Action, CELLS, Cells, Change, FIRST_ZONE, Part, RowReply, Rows};
 use part_table::Side;
 use std::process::Abort;
@@ -21,8 +21,7 @@ fn sliced(rt: &impl Abort, part: &mut Part, at: u32, side: Side) -> Part
     match part.slice(at, side) {
         Ok(given) => given,
         Err(why) => {
-            assert_eq!(rt; why, Refusal::Memory);
-            assert_eq!(rt; part.recount(), before);
+            assert_eq!(rt; (why, part.recount()), (Refusal::Memory, before));
             part.slice(at, side).expect(rt, "memory")
         }
     }
@@ -34,8 +33,8 @@ fn meld(rt: &impl Abort, part: &mut Part, other: Part) {
     assert_eq!(rt; part.width(), other.width());
     assert!(rt; part.hi() == other.lo() || other.hi() == part.lo());
     if let Err(back) = part.meld(other) {
-        assert_eq!(rt; back.why, Refusal::Memory);
-        assert_eq!(rt; (part.recount(), back.item.recount()), before);
+        let now = (part.recount(), back.item.recount());
+        assert_eq!(rt; (back.why, now), (Refusal::Memory, before));
         assert!(rt; part.meld(back.item).is_ok());
     }
 }
@@ -50,13 +49,15 @@ fn first_from(part: &Part, s_id: u32) -> Option<u32> {
 /// its own subscribers alone.
 fn expect_counts(rt: &impl Abort, low: &Part, high: &Part, at: u32, whole: &Cells) {
     let (below, from) = (low.recount(), high.recount());
+    let mut both = [0u64; CELLS as usize];
     for cell in 0..CELLS {
-        let both = below.get(cell).wrapping_add(from.get(cell));
-        assert_eq!(rt; both, whole.get(cell), "in cell {cell}");
+        both[usize::from(cell)] = below.get(cell).wrapping_add(from.get(cell));
     }
-    let found = (first_from(low, 0), first_from(low, at), first_from(high, 0));
-    assert_eq!(rt; found, (Some(1), None, Some(at)));
-    assert_eq!(rt; (low.hi(), high.lo()), (at, at));
+    let found = [first_from(low, 0), first_from(low, at), first_from(high, 0)];
+    assert_eq!(rt;
+        (both, found, low.hi(), high.lo()),
+        (counts_of(whole), [Some(1), None, Some(at)], at, at)
+    );
 }
 
 /// Asserts that each of two halves has the rows of its subscribers that the plain part has.
@@ -96,8 +97,10 @@ fn expect_move(
 ) {
     let (reply, change) = moved(rt, half, s_id, vlr_location);
     let (plain_reply, plain_change) = moved(rt, plain, s_id, vlr_location);
-    assert_eq!(rt; reply, plain_reply);
-    assert_eq!(rt; change.notes(), plain_change.notes());
+    assert_eq!(rt;
+        (&reply, change.notes()),
+        (&plain_reply, plain_change.notes())
+    );
 }
 
 /// Asserts what two halves are that were cut at a subscriber, and that both act.
@@ -126,8 +129,28 @@ fn heights(part: &Part) -> [u64; 4] {
     ]
 }
 
-/// Cuts a part in two at a subscriber, and joins the halves again: in as many steps as trees of the height 1 may take, of
-/// which no half is higher.
+/// The most steps that a slice of trees of these heights may take.
+fn slice_bound(heights: [u64; 4]) -> u64 {
+    let mut most = 0u64;
+    for height in heights {
+        let levels = height.saturating_add(1);
+        most = most.saturating_add(levels.saturating_mul(levels).saturating_mul(64));
+    }
+    most
+}
+
+/// The most steps that a meld of trees of these heights may take.
+fn meld_bound(heights: [u64; 4], others: [u64; 4]) -> u64 {
+    let mut most = 0u64;
+    for table in 0..4usize {
+        let apart = heights[table].abs_diff(others[table]);
+        most = most.saturating_add(apart.saturating_add(1).saturating_mul(16));
+    }
+    most
+}
+
+/// Cuts a part in two at a subscriber, and joins the halves again, each in no more steps than the heights of the trees
+/// allow.
 fn cut_and_joined(
     rt: &impl Abort,
     part: &mut Part,
@@ -138,15 +161,17 @@ fn cut_and_joined(
     requires { (part.old.lo < at) × (at < part.old.hi) }
 {
     let whole = part.recount();
+    let most = slice_bound(heights(part));
     let mut given = sliced(rt, part, at, side);
-    assert_eq!(rt; (given.asked(), given.last_steps()), (0, 0));
-    assert!(rt; (48..=1_024).contains(&part.last_steps()));
+    let within = (48..=most).contains(&part.last_steps());
+    assert_eq!(rt; (given.asked(), given.last_steps(), within), (0, 0, true));
+    let most = meld_bound(heights(part), heights(&given));
     match side {
         Side::Low => expect_halves(rt, &mut given, part, at, plain, &whole),
         Side::High => expect_halves(rt, part, &mut given, at, plain, &whole),
     }
     meld(rt, part, given);
-    assert!(rt; (16..=128).contains(&part.last_steps()));
+    assert!(rt; (16..=most).contains(&part.last_steps()));
 }
 
 /// Asserts that a part that is cut at drawn subscribers has the rows of the plain part throughout.
@@ -177,29 +202,51 @@ fn expect_cuts(rt: &impl Abort, part: &mut Part, plain: &mut Part<PlainRows>) ->
 fn drawn_cuts(rt: HostRuntime) -> Result<(), Fail> {
     let mut part = Part::new(rt.alloc(), 1, 41, 1)?;
     let mut plain = Part::over(rt.alloc(), PlainRows::new(rt.alloc(), 480), 1, 41, 1);
-    expect_cuts(&rt, &mut part, &mut plain)
+    let done = expect_cuts(&rt, &mut part, &mut plain);
+    drop(part);
+    drop(plain);
+    done
 }
 
-/// Cuts a part of forty subscribers on both sides, and joins it each time.
+/// How many of the first 64 subscribers a part has, each with the row that was added.
+fn kept(part: &mut Part) -> Result<u64, Fail> {
+    let mut rows = 0u64;
+    for s_id in 1..65u32 {
+        let row = subscriber(u64::from(s_id), 1)?;
+        rows = rows.wrapping_add(u64::from(part.subscriber(s_id) == Some(row)));
+    }
+    Ok(rows)
+}
+
+/// Cuts a part of 33 subscribers, whose tree has the height 1, on both sides, and joins it each time: in no more steps
+/// than that tree and three empty ones may take.
 fn expect_two_cuts(rt: &impl Abort, part: &mut Part) -> Result<(), Fail>
-    requires { (part.old.lo ≡ 1) × (part.old.hi ≡ 41) }
+    requires { (part.old.lo ≡ 1) × (part.old.hi ≡ 65) }
 {
-    for s_id in 1..41u64 {
+    for s_id in 1..34u64 {
         let zone = FIRST_ZONE + ((s_id - 1) / 2) as u8;
         expect_added(rt, part, subscriber(s_id, 1)?, &[(3, 1), (zone, 1)]);
     }
+    assert_eq!(rt;
+        (heights(part), part.lo(), part.hi()),
+        ([1, 0, 0, 0], 1, 65)
+    );
     let low = sliced(rt, part, 2, Side::Low);
     meld(rt, part, low);
-    assert_eq!(rt; (part.lo(), part.hi()), (1, 41));
-    let high = sliced(rt, part, 21, Side::High);
+    assert_eq!(rt; (part.lo(), part.hi()), (1, 65));
+    let high = sliced(rt, part, 17, Side::High);
+    let cut = part.last_steps();
     meld(rt, part, high);
-    assert_eq!(rt; (part.lo(), part.hi(), part.recount().get(3)), (1, 41, 40));
+    assert!(rt; cut <= 448 && part.last_steps() <= 64);
+    assert_eq!(rt; (part.lo(), part.hi(), kept(part)?), (1, 65, 33));
     Ok(())
 }
 
 // Also run with each allocation refused in turn (`refuse_memory.sh`).
 #[test]
 fn refused_cuts(rt: HostRuntime) -> Result<(), Fail> {
-    let mut part = Part::new(rt.alloc(), 1, 41, 2)?;
-    expect_two_cuts(&rt, &mut part)
+    let mut part = Part::new(rt.alloc(), 1, 65, 2)?;
+    let done = expect_two_cuts(&rt, &mut part);
+    drop(part);
+    done
 }

@@ -29,9 +29,8 @@ fn expect<R: Rows>(
 {
     let before = part.asked();
     let (answer, change) = part.act(action);
-    assert_eq!(rt; answer, reply);
-    assert_eq!(rt; change.notes(), notes);
-    assert!(rt; part.asked() <= before.saturating_add(8));
+    let few = part.asked() <= before.saturating_add(8);
+    assert_eq!(rt; (&answer, change.notes(), few), (&reply, notes, true));
 }
 
 /// Asserts that an action is done, with these notes.
@@ -60,13 +59,11 @@ pub(crate) fn expect_added(rt: &impl Abort, part: &mut Part, row: Subscriber, no
     let (reply, change) = part.act(Action::AddSubscriber(row));
     if reply == RowReply::Refused(Refusal::Memory) {
         let read = Action::SubscriberData { s_id: row.s_id() };
-        assert!(rt; change.notes().is_empty());
-        assert_eq!(rt; part.recount(), before);
+        assert_eq!(rt; (change.notes().len(), part.recount()), (0, before));
         expect_refused(rt, part, read, Refusal::NoSubscriber);
         expect_done(rt, part, Action::AddSubscriber(row), notes);
     } else {
-        assert_eq!(rt; reply, RowReply::Done);
-        assert_eq!(rt; change.notes(), notes);
+        assert_eq!(rt; (&reply, change.notes()), (&RowReply::Done, notes));
     }
 }
 
@@ -93,6 +90,23 @@ fn expect_moves<R: Rows>(rt: &impl Abort, part: &mut Part<R>, row: Subscriber)
     expect(rt, part, Action::SubscriberData { s_id }, read, &[]);
 }
 
+/// The counts of the cells, one after another.
+pub(crate) fn counts_of(cells: &Cells) -> [u64; CELLS as usize] {
+    let mut counts = [0; CELLS as usize];
+    for cell in 0..CELLS {
+        counts[usize::from(cell)] = cells.get(cell);
+    }
+    counts
+}
+
+/// Whether this is the first row that a part finds from a subscriber on.
+fn finds(part: &Part, s_id: u64, row: &Subscriber) -> bool {
+    match part.first_sub_from(s_id) {
+        Some(found) => *found == *row,
+        None => false,
+    }
+}
+
 /// Asserts what a part of all subscribers counts and finds, where it has these rows: one in each of
 /// the areas 0, 1 and 15, two in zone 0 and one in the last.
 fn expect_counts(
@@ -102,37 +116,32 @@ fn expect_counts(
     second: Subscriber,
     last: Subscriber,
 ) {
-    let cells = part.recount();
-    for cell in 0..CELLS {
-        let want = match cell {
-            3 | 4 | 18 | 50 => 1,
-            19 => 2,
-            _ => 0,
-        };
-        assert_eq!(rt; cells.get(cell), want, "at {cell}");
-    }
-    for (s_id, want) in [
-        (0, Some(first)),
-        (1, Some(first)),
-        (2, Some(second)),
-        (3, Some(last)),
-        (16_777_216, Some(last)),
-        (16_777_217, None),
-        (u64::MAX, None),
-    ] {
-        assert_eq!(rt; part.first_sub_from(s_id).copied(), want, "from {s_id}");
-    }
+    let mut counts = [0; CELLS as usize];
+    counts[3] = 1;
+    counts[4] = 1;
+    counts[18] = 1;
+    counts[19] = 2;
+    counts[50] = 1;
+    let found = [
+        finds(part, 0, &first),
+        finds(part, 1, &first),
+        finds(part, 2, &second),
+        finds(part, 3, &last),
+        finds(part, 16_777_216, &last),
+        part.first_sub_from(16_777_217).is_none(),
+        part.first_sub_from(u64::MAX).is_none(),
+    ];
+    assert_eq!(rt; (counts_of(&part.recount()), found), (counts, [true; 7]));
 }
 
 /// Asserts that a new part has its range and width, and nothing else.
 fn expect_empty(rt: &impl Abort, part: &Part) {
+    let range = (part.lo(), part.hi(), part.width());
+    let none = part.first_sub_from(0).is_none();
     assert_eq!(rt;
-        (part.lo(), part.hi(), part.width()),
-        (1, 16_777_217, 524_288)
+        (range, part.asked(), part.recount(), none),
+        ((1, 16_777_217, 524_288), 0, Cells::zero(), true)
     );
-    assert_eq!(rt; part.asked(), 0);
-    assert_eq!(rt; part.recount(), Cells::zero());
-    assert_eq!(rt; part.first_sub_from(0), None);
 }
 
 #[test]
@@ -147,6 +156,7 @@ fn actions(rt: HostRuntime) -> Result<(), Fail> {
     expect_added(&rt, &mut part, second, &[(4, 1), (19, 1)]);
     expect_counts(&rt, &part, first, second, last);
     expect_moves(&rt, &mut part, first);
+    drop(part);
     Ok(())
 }
 
@@ -166,7 +176,9 @@ fn expect_hundred(rt: &impl Abort, part: &mut Part) -> Result<(), Fail>
 #[test]
 fn refused_nodes(rt: HostRuntime) -> Result<(), Fail> {
     let mut part = Part::new(rt.alloc(), 1, 101, 10)?;
-    expect_hundred(&rt, &mut part)
+    let done = expect_hundred(&rt, &mut part);
+    drop(part);
+    done
 }
 
 /// Asserts that rows with room for one in each table refuse a second one, and nothing else.
@@ -192,8 +204,8 @@ fn other_rows(rt: HostRuntime) -> Result<(), Fail> {
     let second = subscriber(2, 5)?;
     let one = PlainRows::new(rt.alloc(), 1);
     let mut part = Part::over(rt.alloc(), one, 1, 10, 4);
-    assert_eq!(rt; part.asked(), 0);
     expect_one(&rt, &mut part, first, second);
+    drop(part);
     Ok(())
 }
 
@@ -364,7 +376,9 @@ fn answers_of_vectors(rt: HostRuntime) -> Result<(), Fail> {
     let mut rows = PlainRows::new(rt.alloc(), 3);
     fill(&mut rows)?;
     let mut part = Part::over(rt.alloc(), rows, 1, 10, 4);
-    expect_answers(&rt, &mut part)
+    let done = expect_answers(&rt, &mut part);
+    drop(part);
+    done
 }
 
 /// Asserts what the actions on subscriber 7 answer, from an empty part on.
@@ -379,7 +393,9 @@ fn expect_all<R: Rows>(rt: &impl Abort, part: &mut Part<R>) -> Result<(), Fail>
 #[test]
 fn answers_of_trees(rt: HostRuntime) -> Result<(), Fail> {
     let mut part = Part::new(rt.alloc(), 1, 10, 4)?;
-    expect_all(&rt, &mut part)
+    let done = expect_all(&rt, &mut part);
+    drop(part);
+    done
 }
 
 /// What rows answer of a Subscriber row, seen through the bound alone.
@@ -439,50 +455,63 @@ fn keeps_forwarding<R: Rows>(rows: &mut R, row: Forwarding) -> bool {
         && rows.asked() == 29
 }
 
+/// What rows answer of a row of each table.
+fn keeps_rows<R: Rows>(
+    rows: &mut R,
+    first: Subscriber,
+    access: Access,
+    facility: Facility,
+    forwarding: Forwarding,
+) -> [bool; 4] {
+    [
+        keeps_subscriber(rows, first, first.with_vlr_location(9)),
+        keeps_access(rows, access),
+        keeps_facility(rows, facility),
+        keeps_forwarding(rows, forwarding),
+    ]
+}
+
 #[test]
 fn rows_by_their_bound(rt: HostRuntime) -> Result<(), Fail> {
     let first = subscriber(1, 5)?;
-    let facility = facility(7, 2, 1)?;
+    let (access, facility) = (access(7, 4)?, facility(7, 2, 1)?);
+    let forwarding = forwarding(7, 2, 8, 16)?;
     let mut trees = Trees::new(rt.alloc())?;
-    assert!(rt; keeps_subscriber(&mut trees, first, first.with_vlr_location(9)));
-    assert!(rt; keeps_access(&mut trees, access(7, 4)?));
-    assert!(rt; keeps_facility(&mut trees, facility));
-    assert!(rt; keeps_forwarding(&mut trees, forwarding(7, 2, 8, 16)?));
+    let kept = keeps_rows(&mut trees, first, access, facility, forwarding);
+    drop(trees);
+    assert_eq!(rt; kept, [true; 4]);
     Ok(())
 }
 
-/// Asserts how rows of subscriber 7 count by zones of 4: a forwarding in the cell of its start time too, while its
-/// facility is active.
-fn expect_counted(
-    rt: &impl Abort,
+/// How rows of subscriber 7 count by zones of 4, in the cells of the first two start times and of the zone: a forwarding
+/// without its facility, with it, and with an idle one, then an access and a facility too.
+fn counted(
     facilities: &mut SubTree<Facility>,
     access: &Access,
     facility: Facility,
     forwarding: &Forwarding,
-) {
+) -> [(u64, u64, u64); 4] {
     let none = with_forwarding(Cells::zero(), forwarding, 4, facilities);
-    assert_eq!(rt; (none.get(1), none.get(20)), (0, 1));
-    assert!(rt; facilities.insert(facility.key(), facility).is_ok());
+    let _ = facilities.insert(facility.key(), facility);
     let active = with_forwarding(none, forwarding, 4, facilities);
-    assert_eq!(rt; (active.get(1), active.get(20)), (1, 2));
-    let idle = facility.with_is_active(false);
-    assert_eq!(rt; facilities.replace(facility.key(), idle), Ok(facility));
+    let _ = facilities.replace(facility.key(), facility.with_is_active(false));
     let idle = with_forwarding(active, forwarding, 4, facilities);
-    assert_eq!(rt; (idle.get(0), idle.get(1), idle.get(20)), (0, 1, 3));
     let more = with_facility(with_access(idle, access, 4), &facility, 4);
-    assert_eq!(rt; (more.get(0), more.get(1), more.get(20)), (0, 1, 5));
+    [none, active, idle, more].map(|cells| (cells.get(0), cells.get(1), cells.get(20)))
 }
 
 #[test]
 fn counted_rows(rt: HostRuntime) -> Result<(), Fail> {
-    let access = access(7, 4)?;
-    let facility = facility(7, 2, 1)?;
+    let (access, facility) = (access(7, 4)?, facility(7, 2, 1)?);
     let forwarding = forwarding(7, 2, 8, 16)?;
     let mut facilities = SubTree::new(rt.alloc())?;
-    expect_counted(&rt, &mut facilities, &access, facility, &forwarding);
+    let seen = counted(&mut facilities, &access, facility, &forwarding);
+    drop(facilities);
     let mut one = Cells::zero();
     one.count_one(19);
-    assert_eq!(rt; one.get(19), 1);
-    assert!(rt; Change::none().notes().is_empty());
+    assert_eq!(rt;
+        (seen, one.get(19), Change::none().notes().len()),
+        ([(0, 0, 1), (0, 1, 2), (0, 1, 3), (0, 1, 5)], 1, 0)
+    );
     Ok(())
 }

@@ -1,10 +1,11 @@
 //! How often each kind of reply came, and by how much each cell moved.
+use crate::tests::counts_of;
 use crate::{Action, CELLS, Part, RowReply};
 use std::process::Abort;
 use tatp_rows::Refusal;
 
 /// A kind of reply: a row, so many numbers, done with so many notes (below zero where the first is), or refused.
-#[derive(Clone, Copy, Debug, PartialEq, Eq)]
+#[derive(Clone, Copy, PartialEq, Eq)]
 enum Kind {
     Read,
     Numbers(usize),
@@ -132,20 +133,20 @@ impl Tally {
 
     /// Asserts that each kind of reply came often, and no other one in so many turns.
     pub(crate) fn expect_all_kinds(&self, rt: &impl Abort, turns: u32) {
-        let mut left = turns;
-        for (count, kind) in self.counts.iter().zip(KINDS.iter()) {
-            assert!(rt; *count >= 20, "{kind:?} came {count} times");
-            left = left.wrapping_sub(*count);
+        let (mut rare, mut others) = (0u32, turns);
+        for count in self.counts {
+            rare = rare.wrapping_add(u32::from(count < 20));
+            others = others.wrapping_sub(count);
         }
-        assert_eq!(rt; left, 0, "replies of other kinds");
+        assert_eq!(rt;
+            (rare, others),
+            (0, 0),
+            "kinds that came seldom, and replies of others"
+        );
     }
 
     /// Asserts that the cells have moved from zero to what a part counts.
     pub(crate) fn expect_sums(&self, rt: &impl Abort, part: &Part) {
-        let cells = part.recount();
-        for cell in 0..CELLS {
-            let sum = self.sums[usize::from(cell)];
-            assert_eq!(rt; sum, cells.get(cell), "in cell {cell}");
-        }
+        assert_eq!(rt; self.sums, counts_of(&part.recount()));
     }
 }
