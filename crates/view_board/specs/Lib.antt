@@ -1,0 +1,5 @@
+pub mod Words
+pub mod Views
+pub mod Nets
+pub mod Rule
+pub mod Desks

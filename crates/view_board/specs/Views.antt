@@ -1,0 +1,104 @@
+-- What a desk knows of the board: which slots are its own, the numbers of their words, and what it has seen of each word.
+use Rattle.std.specs.Prelude.{◌≡◌, ℕ, ◌+◌, ◌/◌, ◌<◌, ◌≤◌, max, Bool, true, false, ◌&&◌, ◌||◌, not, if◌then◌else◌, List, [], ◌∷◌, length, replicate, slice_index, slice_index_or, slice_set, ℤ}
+use Rattle.std.specs.Int.RustNames.{unsigned_abs}
+use Rattle.view_board.specs.declared.rule.View.{View}
+use Rattle.view_board.specs.declared.words.TheConstants.{SLOTS, SLOT_WORDS, WORDS, LIMIT}
+use Rattle.view_board.specs.Words.{word_of, each_word, each_slot}
+
+-- whether the slot is the desk's
+abbrev pub owned_at : View → ℕ → Bool
+owned_at v slot = slice_index_or v.owned slot false
+
+abbrev pub Owns : View → ℕ → Type 0
+Owns v slot = owned_at v slot ≡ true
+
+-- the slot of the word is the desk's
+abbrev pub OwnsWord : View → ℕ → Type 0
+OwnsWord v w = Owns v (w / SLOT_WORDS)
+
+-- all slots are the desk's
+abbrev pub OwnsAll : View → Type 0
+OwnsAll v = (slot : ℕ) → slot < SLOTS → Owns v slot
+
+-- the desk has a flag for each slot, and for each word a number and what was seen of it
+pub record IsWide (v : View) : Type 0 where
+  pub slots : length v.owned ≡ SLOTS
+  pub numbers : length v.numbers ≡ WORDS
+  pub seen : length v.seen ≡ WORDS
+
+-- the desk that a board opens with owns all slots, and has seen all words
+abbrev pub first_view : List ℕ → View
+first_view words = record { owned = replicate SLOTS true; numbers = words; seen = words; single = true }
+
+-- a word of the desk's own is raised
+abbrev pub raised : View → ℕ → ℕ → View
+raised v w size = record v { numbers = slice_set v.numbers w (slice_index v.numbers w + size) }
+
+-- an amount is posted in a slot and cell
+abbrev pub posted : View → ℕ → ℕ → ℤ → View
+posted v slot cell amount = raised v (word_of slot cell amount) (unsigned_abs amount)
+
+-- an amount would carry its word past the limit
+abbrev pub IsWorn : View → ℕ → ℕ → ℤ → Type 0
+IsWorn v slot cell amount = LIMIT < slice_index v.numbers (word_of slot cell amount) + unsigned_abs amount
+
+-- a word was looked at
+abbrev pub saw : View → ℕ → ℕ → View
+saw v w found = record v { seen = slice_set v.seen w found }
+
+-- all words were looked at
+abbrev pub looked : View → List ℕ → View
+looked v words = record v { seen = words }
+
+-- a right sight: own words exactly, the others at least as they had been seen, and none past the limit
+pub record IsRightSight (v : View) (words : List ℕ) : Type 0 where
+  pub wide : length words ≡ WORDS
+  pub own : (w : ℕ) → OwnsWord v w → slice_index words w ≡ slice_index v.numbers w
+  pub later : (w : ℕ) → slice_index v.seen w ≤ slice_index words w
+  pub small : (w : ℕ) → slice_index words w ≤ LIMIT
+
+-- a slot is given up
+abbrev pub without : View → ℕ → View
+without v slot = record v { owned = slice_set v.owned slot false }
+
+-- a slot with its numbers is handed on, and all that was seen
+abbrev pub alone : View → ℕ → View
+alone v slot = record v { owned = slice_set (replicate SLOTS false) slot true }
+
+-- no slot is in both
+unfoldable pub are_apart : List Bool → List Bool → Bool
+are_apart [] others = true
+are_apart (flag ∷ flags) [] = true
+are_apart (flag ∷ flags) (other ∷ others) = not (flag && other) && are_apart flags others
+
+-- the slots of two desks
+abbrev pub slots_of_both : List Bool → List Bool → List Bool
+slots_of_both flags others = each_slot (λ slot. slice_index_or flags slot false || slice_index_or others slot false)
+
+-- the numbers of two desks: those of the other one where the slot is the other one's
+abbrev pub numbers_of_both : List ℕ → List ℕ → List Bool → List ℕ
+numbers_of_both numbers others flags =
+    each_word (λ w. if slice_index_or flags (w / SLOT_WORDS) false then slice_index others w else slice_index numbers w)
+
+-- what two desks have seen together: the greater of what each has seen
+abbrev pub seen_of_both : List ℕ → List ℕ → List ℕ
+seen_of_both seen others = each_word (λ w. max (slice_index seen w) (slice_index others w))
+
+-- a desk that takes in another one
+abbrev pub both : View → View → View
+both v other = record {
+  owned = slots_of_both v.owned other.owned;
+  numbers = numbers_of_both v.numbers other.numbers other.owned;
+  seen = seen_of_both v.seen other.seen;
+  single = are_apart v.owned other.owned;
+}
+
+-- what is left of a desk that was taken in
+abbrev pub nobody : View
+nobody = record { owned = []; numbers = []; seen = []; single = true }
+
+-- two desks of one board: no slot is both's, and what one has seen of the other's words is at most the other's numbers
+pub record AreApart (v other : View) : Type 0 where
+  pub slots : (slot : ℕ) → Owns v slot → Owns other slot → ⊥
+  pub theirs : (w : ℕ) → OwnsWord other w → slice_index v.seen w ≤ slice_index other.numbers w
+  pub ours : (w : ℕ) → OwnsWord v w → slice_index other.seen w ≤ slice_index v.numbers w

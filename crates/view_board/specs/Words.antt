@@ -1,0 +1,35 @@
+-- The words of the board: 16 slots, each with a plus-word and a minus-word for each cell.
+use Rattle.std.specs.Prelude.{ℕ, ◌+◌, ◌*◌, ◌<◌, ◌≤◌, List, map, Bool, slice_index, ℤ, pos, negsuc, ◌-ℤ◌}
+use Rattle.std.specs.List.{range_with_len}
+use Rattle.view_board.specs.declared.words.TheConstants.{SLOTS, CELLS, SLOT_WORDS, WORDS, LIMIT}
+
+-- where a slot has the plus-word and the minus-word of a cell
+abbrev pub plus_word : ℕ → ℕ → ℕ
+plus_word slot cell = slot * SLOT_WORDS + cell
+
+abbrev pub minus_word : ℕ → ℕ → ℕ
+minus_word slot cell = slot * SLOT_WORDS + CELLS + cell
+
+-- the word that an amount raises in a slot and cell: the plus-word, or for a negative amount the minus-word
+abbrev pub word_of : ℕ → ℕ → ℤ → ℕ
+word_of slot cell (pos n) = plus_word slot cell
+word_of slot cell (negsuc n) = minus_word slot cell
+
+-- the net of a slot in a cell: its plus-word less its minus-word
+abbrev pub slot_net : List ℕ → ℕ → ℕ → ℤ
+slot_net words cell slot = pos (slice_index words (plus_word slot cell)) -ℤ pos (slice_index words (minus_word slot cell))
+
+-- a number for each word, and a flag for each slot
+unfoldable pub each_word : (ℕ → ℕ) → List ℕ
+each_word number = map number (range_with_len 0 WORDS)
+
+unfoldable pub each_slot : (ℕ → Bool) → List Bool
+each_slot flag = map flag (range_with_len 0 SLOTS)
+
+-- no word passes the limit
+abbrev pub AreSmall : List ℕ → Type 0
+AreSmall words = (w : ℕ) → slice_index words w ≤ LIMIT
+
+-- some word passes the limit
+abbrev pub HasGreat : List ℕ → Type 0
+HasGreat words = (w : ℕ) × (LIMIT < slice_index words w)

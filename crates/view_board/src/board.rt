@@ -1,0 +1,177 @@
+//! The board, and what desks do on it.
+ghost use Rattle.std.specs.Prelude.{◌≡◌, ℕ, ◌<◌, ◌≤◌, ◌↔◌, ◌⊎◌, OnOk, OnErr, IfOk, IfErr, IsErr, slice_index};
+ghost use Rattle.view_board.specs.Words.{AreSmall, HasGreat};
+ghost use Rattle.view_board.specs.Views.{Owns, OwnsAll, first_view, posted, IsWorn, looked, IsRightSight, without, alone, both, AreApart};
+ghost use Rattle.view_board.specs.Nets.{NetMoves, NetAdds};
+ghost use Rattle.view_board.specs.Desks.{with_view};
+
+use crate::desk::{Desk, take_numbers, take_slots};
+use crate::rule::{Checks, Cut, Looks, OwnWords, Place, Raises, Together, View};
+use crate::words::{CELLS, LIMIT, SLOTS, Sight, WORDS, word_of};
+use atomic_table::Table;
+use std::alloc::Global;
+use std::marker::{Brand, Model};
+use tatp_rows::Refusal;
+
+/// The words, which threads share. Contracts see it as which board it is.
+#[derive(Drop)]
+pub struct Board {
+    table: Table<(), View, [u64; WORDS], OwnWords, Global>,
+    alloc: Global,
+}
+
+impl Model for Board {
+    ghost use Rattle.std.specs.Prelude.{◌≡◌};
+    ghost use Rattle.atomic_table.specs.Seated.{TableId, table_id_coded};
+    ghost use Rattle.view_board.specs.declared.words.TheConstants.{WORDS};
+
+    ghost Value = { TableId };
+
+    ghost coded = { table_id_coded };
+
+    ghost view = { λ b. b.table.shared.table_id };
+
+    ghost invariant = { λ b. (b.table.shared.table_id.words ≡ WORDS) × (b.table.shared.table_id.slots ≡ 0) };
+}
+
+impl Board {
+    /// A board of these words, and a desk that owns all of it. `Field` where a word passes `LIMIT`, else `Memory`
+    /// where a growth was refused.
+    pub fn open(alloc: Global, words: &[u64; WORDS]) -> Result<(Board, Desk), Refusal>
+        ensures ok { IfOk result (λ opened. AreSmall words.now × (opened.1.board ≡ opened.0) × (opened.1.view ≡ first_view words.now)) }
+        ensures err { IfErr result (λ why. ((why ≡ Refusal.Field) × HasGreat words.now) ⊎ ((why ≡ Refusal.Memory) × AreSmall words.now)) }
+    {
+        if words.iter().any(|word| *word > LIMIT) {
+            return Err(Refusal::Field);
+        }
+        let Ok(numbers) = Box::new(alloc, *words) else {
+            return Err(Refusal::Memory);
+        };
+        let Ok((table, seat)) = Table::of_words(alloc, words, words) else {
+            return Err(Refusal::Memory);
+        };
+        let desk = Desk {
+            seat,
+            owned: [true; SLOTS as usize],
+            numbers,
+        };
+        Ok((Board { table, alloc }, desk))
+    }
+
+    /// Raises the plus-word of an own slot and a cell by a positive amount, or its minus-word by the size of a negative
+    /// one. `Worn` exactly where the word would pass `LIMIT`: then nothing is changed.
+    pub fn add(&self, desk: &mut Desk, slot: u8, cell: u8, amount: i64) -> Result<(), Refusal>
+        requires board { desk.old.board ≡ self.now }
+        requires own { Owns desk.old.view slot }
+        requires cell { cell < CELLS }
+        ensures ok { OnOk result (desk.new ≡ with_view desk.old (posted desk.old.view slot cell amount)) }
+        ensures net { OnOk result (NetMoves desk.old.view desk.new.view cell amount) }
+        ensures err { OnErr result ((desk.new ≡ desk.old) × (result ≡ Err Refusal.Worn)) }
+        ensures worn { IsErr result ↔ IsWorn desk.old.view slot cell amount }
+    {
+        let _ = &desk.owned;
+        let word = word_of(slot, cell, amount);
+        let size = amount.unsigned_abs();
+        match desk.numbers[word].checked_add(size) {
+            Some(sum) if sum <= LIMIT => {
+                self.table
+                    .shared
+                    .fetch_add::<Raises>(&mut desk.seat, word, size);
+                desk.numbers[word] = sum;
+                Ok(())
+            }
+            _ => Err(Refusal::Worn),
+        }
+    }
+
+    /// Looks at all words, one after another, while others may raise theirs.
+    pub fn look(&self, desk: &mut Desk) -> Sight
+        requires { desk.old.board ≡ self.now }
+        ensures right { IsRightSight desk.old.view result.words }
+        ensures seen { desk.new ≡ with_view desk.old (looked desk.old.view result.words) }
+    {
+        let mut words = [0; WORDS];
+        for word in 0..WORDS {
+            words[word] = self.table.shared.load::<Looks>(&mut desk.seat, word);
+        }
+        Sight { words }
+    }
+
+    /// Splits an own slot off: a new desk owns it, and has seen what this one has seen. `Memory` where a growth was
+    /// refused: then nothing is changed.
+    pub fn split(&self, desk: &mut Desk, slot: u8) -> Result<Desk, Refusal>
+        requires board { desk.old.board ≡ self.now }
+        requires own { Owns desk.old.view slot }
+        ensures ok { IfOk result (λ new. (new ≡ with_view desk.old (alone desk.old.view slot)) × (desk.new ≡ with_view desk.old (without desk.old.view slot))) }
+        ensures err { OnErr result ((desk.new ≡ desk.old) × (result ≡ Err Refusal.Memory)) }
+    {
+        self.cut::<Brand>(desk, slot)
+    }
+
+    /// Splits off the slot that `B` names.
+    fn cut<B: Place>(&self, desk: &mut Desk, slot: u8) -> Result<Desk, Refusal>
+        requires place { B.slot ≡ slot }
+        requires board { desk.old.board ≡ self.now }
+        requires own { Owns desk.old.view slot }
+        ensures ok { IfOk result (λ new. (new ≡ with_view desk.old (alone desk.old.view slot)) × (desk.new ≡ with_view desk.old (without desk.old.view slot))) }
+        ensures err { OnErr result ((desk.new ≡ desk.old) × (result ≡ Err Refusal.Memory)) }
+    {
+        let Ok(numbers) = Box::new(self.alloc, *desk.numbers) else {
+            return Err(Refusal::Memory);
+        };
+        let seat = self.table.shared.split_seat::<Cut<B>>(&mut desk.seat);
+        let at = usize::from(slot);
+        desk.owned[at] = false;
+        let mut owned = [false; SLOTS as usize];
+        owned[at] = true;
+        Ok(Desk {
+            seat,
+            owned,
+            numbers,
+        })
+    }
+
+    /// Takes in another desk of the board: the desk owns the slots of both, and has seen what either has seen. It takes
+    /// no memory, and tells that what one had seen of the other's words is at most the other's numbers.
+    pub fn join(&self, desk: &mut Desk, other: Desk)
+        requires board { desk.old.board ≡ self.now }
+        requires other { other.board ≡ self.now }
+        ensures both { desk.new ≡ with_view desk.old (both desk.old.view other.view) }
+        ensures told { AreApart desk.old.view other.view }
+        ensures net { NetAdds desk.new.view desk.old.view other.view }
+    {
+        let Desk {
+            seat,
+            owned,
+            numbers,
+        } = other;
+        self.table
+            .shared
+            .join_seat::<Together>(&mut desk.seat, seat);
+        take_numbers(&mut desk.numbers, &numbers, &owned);
+        take_slots(&mut desk.owned, &owned);
+        self.table.shared.load::<Checks>(&mut desk.seat, 0);
+    }
+
+    /// Ends the board, by the desk that owns all slots, and answers its words.
+    pub fn close(self, desk: Desk) -> [u64; WORDS]
+        requires board { desk.board ≡ self }
+        requires all { OwnsAll desk.view }
+        ensures numbers { result ≡ desk.view.numbers }
+        ensures seen { (w : ℕ) → slice_index desk.view.seen w ≤ slice_index result w }
+    {
+        let Board { table, alloc: _ } = self;
+        let Desk {
+            seat,
+            owned: _,
+            numbers: _,
+        } = desk;
+        let closed = table.close_with(seat);
+        let mut words = [0; WORDS];
+        for word in 0..WORDS {
+            words[word] = closed.word(word);
+        }
+        closed.free();
+        words
+    }
+}

@@ -1,0 +1,79 @@
+//! A desk: the right to raise the words of its slots, and what it knows of the board.
+ghost use Rattle.std.specs.Prelude.{◌≡◌, ℕ, ◌<◌, ◌≤◌, ◌↔◌, ◌^◌, List, Bool, IsTrue, ℤ, pos, neg_ℤ, ◌≤ℤ◌};
+ghost use Rattle.view_board.specs.Views.{Owns, IsWide, slots_of_both, numbers_of_both};
+ghost use Rattle.view_board.specs.Nets.{net_of};
+
+use crate::rule::View;
+use crate::words::{CELLS, SLOT_WORDS, SLOTS, WORDS};
+use atomic_table::Seat;
+use std::marker::Model;
+
+/// A desk owns slots of one board, and has the numbers of their words. Contracts see it as its board and what it knows.
+#[derive(Drop)]
+pub struct Desk {
+    pub(crate) seat: Seat<(), View>,
+    pub(crate) owned: [bool; SLOTS as usize],
+    pub(crate) numbers: Box<[u64; WORDS]>,
+}
+
+impl Model for Desk {
+    ghost use Rattle.view_board.specs.Desks.{Station, Agrees};
+
+    ghost Value = { Station };
+
+    ghost view = { λ d. record { board = d.seat.table_id; view = d.seat.me.0 } };
+
+    ghost invariant = { λ d. Agrees d.seat.me d.owned d.numbers.value };
+}
+
+impl Desk {
+    /// Whether the slot is the desk's.
+    pub fn owns(&self, slot: u8) -> bool
+        ensures { IsTrue result ↔ Owns self.now.view slot }
+    {
+        slot < SLOTS && self.owned[usize::from(slot)]
+    }
+
+    /// What the desk has published of a cell: the sum over its slots of their plus-words less their minus-words.
+    pub fn net(&self, cell: u8) -> i128
+        requires { cell < CELLS }
+        ensures value { result ≡ net_of self.now.view cell }
+        ensures wide { IsWide self.now.view }
+        ensures low { neg_ℤ (pos (2 ^ 68)) ≤ℤ result }
+        ensures high { result ≤ℤ pos (2 ^ 68) }
+    {
+        let mut sum = 0i128;
+        for slot in 0..SLOTS {
+            if self.owned[usize::from(slot)] {
+                let plus = usize::from(slot) * SLOT_WORDS + usize::from(cell);
+                let minus = plus + usize::from(CELLS);
+                sum += i128::from(self.numbers[plus]) - i128::from(self.numbers[minus]);
+            }
+        }
+        sum
+    }
+}
+
+/// Adds the slots of another desk.
+pub(crate) fn take_slots(owned: &mut [bool; SLOTS as usize], others: &[bool; SLOTS as usize])
+    ensures { owned.new ≡ slots_of_both owned.old others.now }
+{
+    for slot in 0..SLOTS as usize {
+        owned[slot] = owned[slot] || others[slot];
+    }
+}
+
+/// Takes over the numbers of the words that are another desk's.
+pub(crate) fn take_numbers(
+    numbers: &mut [u64; WORDS],
+    others: &[u64; WORDS],
+    owned: &[bool; SLOTS as usize],
+)
+    ensures { numbers.new ≡ numbers_of_both numbers.old others.now owned.now }
+{
+    for word in 0..WORDS {
+        if owned[word / SLOT_WORDS] {
+            numbers[word] = others[word];
+        }
+    }
+}

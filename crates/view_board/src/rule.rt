@@ -1,0 +1,77 @@
+//! What a desk knows, the rule that the words and all desks keep, and the steps.
+ghost use Rattle.std.specs.Prelude.{ℕ};
+ghost use Rattle.view_board.specs.Views.{alone, without, both, nobody};
+ghost use Rattle.view_board.specs.Rule.{Raised, Looked, Checked};
+
+use crate::words::WORDS;
+use atomic_table::{Join, Play, Split, TableRule};
+use std::marker::{Brand, PhantomData};
+
+/// What a desk knows: for each slot whether it is its own, for each word its number and what was seen of it, and
+/// that no slot came to it twice. It stands in proofs alone, where its arrays are lists of any length.
+pub struct View {
+    pub owned: [bool; 0],
+    pub numbers: [u64; 0],
+    pub seen: [u64; 0],
+    pub single: bool,
+}
+
+/// Each word of an owned slot is its owner's number.
+pub(crate) struct OwnWords;
+
+impl TableRule<(), View, [u64; WORDS]> for OwnWords {
+    ghost use Rattle.view_board.specs.Views.{first_view};
+    ghost use Rattle.view_board.specs.Rule.{IsRuled};
+
+    ghost holds = { λ _. IsRuled };
+
+    ghost first = { first_view };
+}
+
+/// An own word is raised.
+pub(crate) struct Raises;
+
+impl Play<(), View> for Raises {
+    ghost then = { Raised };
+}
+
+/// Any word is looked at.
+pub(crate) struct Looks;
+
+impl Play<(), View> for Looks {
+    ghost then = { Looked };
+}
+
+/// A look that leaves what was seen, and tells what the rule says of the desk.
+pub(crate) struct Checks;
+
+impl Play<(), View> for Checks {
+    ghost then = { Checked };
+}
+
+/// Which slot is split off. A call picks it.
+pub(crate) trait Place {
+    ghost slot: { ℕ };
+}
+
+impl Place for Brand {
+    ghost slot = { 0 };
+}
+
+/// One slot is split off.
+pub(crate) struct Cut<B: Place>(PhantomData<B>);
+
+impl<B: Place> Split<View> for Cut<B> {
+    ghost left = { λ v. without v B.slot };
+
+    ghost right = { λ v. alone v B.slot };
+}
+
+/// Two desks become one.
+pub(crate) struct Together;
+
+impl Join<View> for Together {
+    ghost both = { both };
+
+    ghost spent = { nobody };
+}
