@@ -1,0 +1,13 @@
+use Rattle.std.proofs.Common.{◌≡◌, ◌∙◌, sym, ap, refl, arith, rules}
+use Rattle.view_board.specs.declared.rule.View.{View}
+use Rattle.view_board.specs.Views.{Owns}
+use Rattle.view_board.specs.Desks.{Station}
+use Rattle.view_board.proofs.SplitLemmas.{splits}
+use Rattle.view_board.proofs.board.Board.cut.Goals as goal
+
+pub split_seat-seat-requires : goal.split_seat-seat-requires
+split_seat-seat-requires g c =
+    let is : c.desk.inside.seat.me.0 ≡ c.args.desk.now.view = ap (λ (d : Station). d.view) c.desk.view_is in
+    let board = ap (λ (d : Station). d.board) c.desk.view_is ∙ (c.requires.board ∙ sym c.self.view_is) in
+    let own : Owns c.desk.inside.seat.me.0 g.B.Place.slot = rw (is, c.requires.place) c.requires.own in
+    (board, rw c.self.invariant.0 (omega arith), splits _ _ _ own)
