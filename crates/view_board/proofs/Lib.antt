@@ -1,6 +1,9 @@
+pub mod FillLemmas
+pub mod JoinLemmas
 pub mod ListLemmas
 pub mod LookLemmas
 pub mod NetLemmas
 pub mod RuleLemmas
 pub mod SplitLemmas
 pub mod StepLemmas
+pub mod SumLemmas
