@@ -47,3 +47,7 @@ all_words value start now n filled wide end = ext_get_or 0 now (each_word value)
 pub all_flags : (value : ℕ → Bool) (start now : List Bool) (n : ℕ) → IsFilledTo false value start now n → length start ≡ SLOTS → SLOTS ≤ n → now ≡ each_slot value
 all_flags value start now n filled wide end = ext_get_or false now (each_slot value) (filled.wide ∙ (wide ∙ sym (length-each_slot value)))
     (λ k below. let within : k < SLOTS = omega (arith, filled.wide) in filled.here k (omega arith) ∙ sym (each_slot_at value k within))
+
+-- all words are copied
+pub all_copied : (from start now : List ℕ) (n : ℕ) → IsFilledTo 0 (λ w. get_or from w 0) start now n → length start ≡ WORDS → length from ≡ WORDS → WORDS ≤ n → now ≡ from
+all_copied from start now n filled wide long end = ext_get_or 0 now from (filled.wide ∙ (wide ∙ sym long)) (λ k below. filled.here k (omega (arith, filled.wide)))

@@ -1,3 +1,4 @@
+pub mod CloseLemmas
 pub mod FillLemmas
 pub mod JoinLemmas
 pub mod ListLemmas

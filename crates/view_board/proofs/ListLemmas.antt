@@ -79,3 +79,9 @@ at_end (first ∷ xs) x y (suc j) e = elim (at_end xs x y j e) [
 pub not_at_end : {A : Type 0} (xs : List A) (x : A) → get_elem? xs (length xs) ≡ some x → ⊥
 not_at_end [] x e = some-ne-none x (sym e)
 not_at_end (first ∷ xs) x e = not_at_end xs x e
+
+-- what is found at a place is read there
+pub found_at : {A : Type 0} (xs : List A) (i : ℕ) (x d : A) → get_elem? xs i ≡ some x → get_or xs i d ≡ x
+found_at [] i x d e = absurd (some-ne-none x (sym e))
+found_at (first ∷ xs) zero x d e = some-injective first x e
+found_at (first ∷ xs) (suc i) x d e = found_at xs i x d e

@@ -6,7 +6,7 @@ use Rattle.std.specs.List.{range_with_len}
 use Rattle.std.proofs.lemmas.Int.{ints}
 use Rattle.std.proofs.lemmas.Bool.{false≢true}
 use Rattle.std.proofs.lemmas.Bool.Decides.{nat_tests}
-use Rattle.std.proofs.lemmas.List.{get_or-set_same, get_or-set_other, ext_get_or, length-set}
+use Rattle.std.proofs.lemmas.List.{at_drop_more, drop_all, get_or-set_same, get_or-set_other, ext_get_or, length-set}
 use Rattle.tatp_rows.proofs.OrderedLemmas.{by_test}
 use Rattle.view_board.specs.declared.rule.View.{View}
 use Rattle.view_board.specs.declared.words.TheConstants.{SLOTS, CELLS, SLOT_WORDS, WORDS}
@@ -23,6 +23,17 @@ word_within slot cell (negsuc n) in_board in_slot = (omega arith, omega arith)
 -- a word of a desk's own is one of the board's
 pub own_within : (v : View) → IsWide v → (w : ℕ) → OwnsWord v w → w < WORDS
 own_within v wide w own = let slot = set_within v.owned (w / SLOT_WORDS) own in omega (arith, wide.slots)
+
+-- the nets of the slots from one on are that one's and those behind it
+pub net_from-next : (flags : List Bool) (from start : ℕ) (words : List ℕ) (cell : ℕ) → from < length flags
+    → net_from (drop from flags) start words cell ≡ (if get_or flags from false then slot_net words cell start else pos 0) +ℤ net_from (drop (from + 1) flags) (start + 1) words cell
+unfolding net_from
+net_from-next flags from start words cell below = at_drop_more (λ flags. net_from flags start words cell) flags from false below
+
+-- behind the last slot there is nothing
+pub net_from-end : (flags : List Bool) (from start : ℕ) (words : List ℕ) (cell : ℕ) → length flags ≤ from → net_from (drop from flags) start words cell ≡ pos 0
+unfolding net_from
+net_from-end flags from start words cell past = rw (drop_all from flags past) refl
 
 module _ (words after : List ℕ) (cell : ℕ) where
   -- the nets of slots of which none moved

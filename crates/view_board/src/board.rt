@@ -103,6 +103,7 @@ impl Board {
         requires board { desk.old.board ≡ self.now }
         requires own { Owns desk.old.view slot }
         ensures ok { IfOk result (λ new. (new ≡ with_view desk.old (alone desk.old.view slot)) × (desk.new ≡ with_view desk.old (without desk.old.view slot))) }
+        ensures net { IfOk result (λ new. NetAdds desk.old.view new.view desk.new.view) }
         ensures err { OnErr result ((desk.new ≡ desk.old) × (result ≡ Err Refusal.Memory)) }
     {
         self.cut::<Brand>(desk, slot)
@@ -114,6 +115,7 @@ impl Board {
         requires board { desk.old.board ≡ self.now }
         requires own { Owns desk.old.view slot }
         ensures ok { IfOk result (λ new. (new ≡ with_view desk.old (alone desk.old.view slot)) × (desk.new ≡ with_view desk.old (without desk.old.view slot))) }
+        ensures net { IfOk result (λ new. NetAdds desk.old.view new.view desk.new.view) }
         ensures err { OnErr result ((desk.new ≡ desk.old) × (result ≡ Err Refusal.Memory)) }
     {
         let Ok(numbers) = Box::new(self.alloc, *desk.numbers) else {

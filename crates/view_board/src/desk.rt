@@ -1,6 +1,7 @@
 //! A desk: the right to raise the words of its slots, and what it knows of the board.
-ghost use Rattle.std.specs.Prelude.{◌≡◌, ℕ, ◌<◌, ◌≤◌, ◌↔◌, ◌^◌, List, Bool, IsTrue, ℤ, pos, neg_ℤ, ◌≤ℤ◌};
-ghost use Rattle.view_board.specs.Views.{Owns, IsWide, slots_of_both, numbers_of_both};
+ghost use Rattle.std.specs.Prelude.{◌≡◌, ℕ, ◌<◌, ◌≤◌, ◌↔◌, ◌^◌, List, Bool, IsTrue, if◌then◌else◌, ℤ, pos, neg_ℤ, ◌≤ℤ◌};
+ghost use Rattle.view_board.specs.Views.{owned_at, Owns, IsWide, slots_of_both, numbers_of_both};
+ghost use Rattle.view_board.specs.Words.{slot_net};
 ghost use Rattle.view_board.specs.Nets.{net_of};
 
 use crate::rule::View;
@@ -42,15 +43,28 @@ impl Desk {
         ensures low { neg_ℤ (pos (2 ^ 68)) ≤ℤ result }
         ensures high { result ≤ℤ pos (2 ^ 68) }
     {
-        let mut sum = 0i128;
+        let _ = &self.owned;
+        let mut sum = 0;
         for slot in 0..SLOTS {
-            if self.owned[usize::from(slot)] {
-                let plus = usize::from(slot) * SLOT_WORDS + usize::from(cell);
-                let minus = plus + usize::from(CELLS);
-                sum += i128::from(self.numbers[plus]) - i128::from(self.numbers[minus]);
-            }
+            sum += self.own_net(slot, cell);
         }
         sum
+    }
+
+    /// The net of a slot in a cell, or 0 where the slot isn't the desk's.
+    fn own_net(&self, slot: u8, cell: u8) -> i128
+        requires slot { slot < SLOTS }
+        requires cell { cell < CELLS }
+        ensures value { result ≡ (if owned_at self.now.view slot then slot_net self.now.view.numbers cell slot else pos 0) }
+        ensures low { neg_ℤ (pos (2 ^ 64)) ≤ℤ result }
+        ensures high { result ≤ℤ pos (2 ^ 64) }
+    {
+        if !self.owned[usize::from(slot)] {
+            return 0;
+        }
+        let plus = usize::from(slot) * SLOT_WORDS + usize::from(cell);
+        let minus = plus + usize::from(CELLS);
+        i128::from(self.numbers[plus]) - i128::from(self.numbers[minus])
     }
 }
 

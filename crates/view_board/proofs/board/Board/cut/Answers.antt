@@ -1,8 +1,10 @@
 use Rattle.std.proofs.Common.{◌≡◌, ◌∙◌, sym, ap, refl, arith, rules}
 use Rattle.view_board.specs.declared.rule.View.{View}
-use Rattle.view_board.specs.Views.{Owns}
+use Rattle.view_board.specs.Views.{Owns, alone, without}
+use Rattle.view_board.specs.Nets.{NetAdds}
 use Rattle.view_board.specs.Desks.{Station}
 use Rattle.view_board.proofs.SplitLemmas.{splits}
+use Rattle.view_board.proofs.SumLemmas.{net_split}
 use Rattle.view_board.proofs.board.Board.cut.Goals as goal
 
 pub split_seat-seat-requires : goal.split_seat-seat-requires
@@ -11,3 +13,11 @@ split_seat-seat-requires g c =
     let board = ap (λ (d : Station). d.board) c.desk.view_is ∙ (c.requires.board ∙ sym c.self.view_is) in
     let own : Owns c.desk.inside.seat.me.0 g.B.Place.slot = rw (is, c.requires.place) c.requires.own in
     (board, rw c.self.invariant.0 (omega arith), splits _ _ _ own)
+
+pub returns-clause-net : goal.returns-clause-net
+returns-clause-net g c =
+    let v : View = c.desk.inside.seat.me.0 in
+    let is : v ≡ c.args.desk.now.view = ap (λ (d : Station). d.view) c.desk.view_is in
+    let own : Owns v c.args.slot = rw is c.requires.own in
+    let sum : NetAdds v (alone v c.args.slot) (without v c.args.slot) = net_split v c.args.slot c.desk.invariant.wide own in
+    ?

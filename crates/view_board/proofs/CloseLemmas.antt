@@ -1,0 +1,20 @@
+-- The board's end.
+use Rattle.std.proofs.Common.{◌≡◌, ℕ, ◌+◌, ◌<◌, ◌≤◌, ◌/◌, List, length, get_or, refl, sym, ap, subst, ◌∙◌, arith}
+use mathlib.Core.Option.{some}
+use lib.ListN.{get_elem?}
+use Rattle.std.proofs.lemmas.List.{ext_get_or}
+use Rattle.atomic_table.specs.Table.{State, Final, Seen}
+use Rattle.view_board.specs.declared.rule.View.{View}
+use Rattle.view_board.specs.declared.words.TheConstants.{WORDS, SLOTS, SLOT_WORDS}
+use Rattle.view_board.specs.Views.{OwnsAll, IsWide}
+use Rattle.view_board.specs.Rule.{IsRuled, Fits}
+
+-- the words at the end are the numbers of the desk that owns all slots, and at least what it has seen
+pub ends : (id : ℕ) (v : View) (words : List ℕ) (slots : List (Unit {0})) → IsWide v → OwnsAll v → Final (Seen IsRuled id v) words slots
+    → (words ≡ v.numbers) × ((w : ℕ) → get_or v.seen w 0 ≤ get_or words w 0)
+ends id v words slots wide all final =
+    let s = final.0 in
+    let rule = final.1.0 in
+    let fits : Fits words v = subst (λ (ws : List ℕ). Fits ws v) final.2 (rule.fits id v final.1.1) in
+    let long : length words ≡ WORDS = subst (λ (ws : List ℕ). length ws ≡ WORDS) final.2 rule.wide in
+    (ext_get_or 0 words v.numbers (long ∙ sym wide.numbers) (λ w below. sym (fits.own w (all (w / SLOT_WORDS) (omega (arith, long))))), fits.seen)

@@ -1,0 +1,36 @@
+use Rattle.std.proofs.Common.{◌≡◌, ◌≤◌, ◌+◌, ◌<◌, ◌∙◌, ◌*◌, ◌^◌, refl, sym, ap, arith, rules, drop, length, get_or, false, if◌then◌else◌, to_z, of_z}
+use Rattle.std.specs.Prelude.{ℤ, pos, neg_ℤ, ◌+ℤ◌, ◌≤ℤ◌}
+use Rattle.std.specs.Int.{w128}
+use Rattle.std.proofs.lemmas.Int.{ints, to_z-of_z}
+use Rattle.view_board.specs.declared.rule.View.{View}
+use Rattle.view_board.specs.declared.words.TheConstants.{SLOTS}
+use Rattle.view_board.specs.Desks.{Station}
+use Rattle.view_board.specs.Nets.{net_from}
+use Rattle.view_board.proofs.NetLemmas.{net_from-next, net_from-end}
+use Rattle.view_board.proofs.desk.Desk.net.Goals as goal
+
+pub loop-slot-preserved : goal.loop-slot-preserved
+loop-slot-preserved c =
+    let v : View = c.args.self.now.view in
+    let slot = c.loop-slot.slot in
+    let slots : length v.owned ≡ SLOTS = rw (← ap (λ (d : Station). d.view) c.self.view_is) c.self.invariant.wide.slots in
+    let next = net_from-next v.owned slot slot v.numbers c.args.cell (omega (arith, slots, c.loop-slot-test.true)) in
+    let before = c.loop-slot.invariant in
+    let own = c.own_net-sum.ensures in
+    let low = own.low in
+    let high = own.high in
+    let added = own.value in
+    let first = to_z-of_z w128 c.own_net-sum.result (omega (arith, ints)) in
+    let sum : to_z w128 (of_z w128 (to_z w128 c.loop-slot.sum-bits +ℤ to_z w128 (of_z w128 c.own_net-sum.result))) ≡ to_z w128 c.loop-slot.sum-bits +ℤ c.own_net-sum.result = rw first (to_z-of_z w128 _ (omega (arith, ints, before.low, before.high))) in
+    record {
+      sum = rw sum (omega (arith, ints, before.sum, next, added));
+      low = rw sum (omega (arith, ints, before.low));
+      high = rw sum (omega (arith, ints, before.high));
+    }
+
+pub returns-clause-value : goal.returns-clause-value
+returns-clause-value c =
+    let v : View = c.args.self.now.view in
+    let slots : length v.owned ≡ SLOTS = rw (← ap (λ (d : Station). d.view) c.self.view_is) c.self.invariant.wide.slots in
+    let last = net_from-end v.owned c.loop-slot.slot c.loop-slot.slot v.numbers c.args.cell (omega (arith, slots, c.loop-slot-test.false)) in
+    omega (arith, ints, c.loop-slot.invariant.sum, last)
