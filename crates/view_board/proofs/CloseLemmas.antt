@@ -1,11 +1,9 @@
 -- The board's end.
-use Rattle.std.proofs.Common.{◌≡◌, ℕ, ◌+◌, ◌<◌, ◌≤◌, ◌/◌, List, length, get_or, refl, sym, ap, subst, ◌∙◌, arith}
-use mathlib.Core.Option.{some}
-use lib.ListN.{get_elem?}
+use Rattle.std.proofs.Common.{◌≡◌, ℕ, ◌≤◌, ◌/◌, List, length, get_or, sym, subst, ◌∙◌, arith}
 use Rattle.std.proofs.lemmas.List.{ext_get_or}
-use Rattle.atomic_table.specs.Table.{State, Final, Seen}
+use Rattle.atomic_table.specs.Table.{Final, Seen}
 use Rattle.view_board.specs.declared.rule.View.{View}
-use Rattle.view_board.specs.declared.words.TheConstants.{WORDS, SLOTS, SLOT_WORDS}
+use Rattle.view_board.specs.declared.words.TheConstants.{WORDS, SLOT_WORDS}
 use Rattle.view_board.specs.Views.{OwnsAll, IsWide}
 use Rattle.view_board.specs.Rule.{IsRuled, Fits}
 

@@ -1,20 +1,19 @@
 -- Two desks that become one.
-use Rattle.std.proofs.Common.{◌≡◌, ◌≢◌, ◌⊎◌, ℕ, zero, suc, ◌+◌, ◌*◌, ◌/◌, ◌<◌, ◌≤◌, max, List, [], ◌∷◌, ◌++◌, length, get_or, set, replicate, Bool, true, false, ◌||◌, if◌then◌else◌, refl, sym, ap, subst, ◌∙◌, inl, inr, arith}
+use Rattle.std.proofs.Common.{◌≡◌, ◌≢◌, ◌⊎◌, ℕ, ◌/◌, ◌<◌, ◌≤◌, max, List, get_or, set, Bool, true, false, ◌||◌, if◌then◌else◌, refl, sym, ap, subst, ◌∙◌, inl, inr, arith}
 use mathlib.Core.Option.{some}
 use lib.ListN.{get_elem?}
-use Rattle.std.proofs.lemmas.Bool.{cases_eq, cases_lt, false≢true}
-use Rattle.std.proofs.lemmas.List.{length-set, get_or_past}
+use Rattle.std.proofs.lemmas.Bool.{cases_lt, false≢true}
+use Rattle.std.proofs.lemmas.List.{get_or_past}
 use Rattle.tatp_rows.proofs.OrderedLemmas.{by_test}
-use Rattle.atomic_table.specs.Table.{State, Me, Joins}
+use Rattle.atomic_table.specs.Table.{Me, Joins}
 use Rattle.atomic_table.proofs.Lists.{at_set}
 use Rattle.view_board.specs.declared.rule.View.{View}
 use Rattle.view_board.specs.declared.words.TheConstants.{SLOTS, SLOT_WORDS, WORDS}
-use Rattle.view_board.specs.Words.{each_word, each_slot}
-use Rattle.view_board.specs.Views.{owned_at, Owns, OwnsWord, IsWide, both, nobody, slots_of_both, numbers_of_both, seen_of_both, AreApart}
-use Rattle.view_board.specs.Rule.{Fits, IsRuled, Checked}
+use Rattle.view_board.specs.Views.{owned_at, Owns, OwnsWord, IsWide, both, nobody, slots_of_both, numbers_of_both, AreApart}
+use Rattle.view_board.specs.Rule.{Fits, IsRuled}
 use Rattle.view_board.specs.Desks.{Agrees}
 use Rattle.view_board.proofs.ListLemmas.{each_word_at, length-each_word, each_slot_at, length-each_slot, set_within, apart_at, apart_by_slots}
-use Rattle.view_board.proofs.RuleLemmas.{AreFit, HaveOneOwner, fit_after}
+use Rattle.view_board.proofs.RuleLemmas.{HaveOneOwner, fit_after}
 
 -- one of two flags is set
 either_set : (a b : Bool) → (a || b) ≡ true → (a ≡ true) ⊎ (b ≡ true)

@@ -5,7 +5,6 @@ use Rattle.std.proofs.lemmas.List.{length-set, get_or-set_same, get_or-set_other
 use Rattle.view_board.specs.declared.rule.View.{View}
 use Rattle.view_board.specs.declared.words.TheConstants.{WORDS, LIMIT}
 use Rattle.view_board.specs.Views.{OwnsWord, IsRightSight, looked, saw}
-use Rattle.view_board.proofs.ListLemmas.{after_set}
 
 -- the words in front of one were looked at, and the desk has seen what was found there
 pub record IsLookedTo (before now : View) (words : List ℕ) (n : ℕ) : Type 0 where

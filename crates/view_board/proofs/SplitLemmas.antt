@@ -1,17 +1,17 @@
 -- A slot that is split off.
-use Rattle.std.proofs.Common.{◌≡◌, ◌≢◌, ℕ, zero, suc, ◌+◌, ◌<◌, ◌≤◌, List, [], ◌∷◌, ◌++◌, length, get_or, set, replicate, Bool, true, false, refl, sym, ap, subst, ◌∙◌, inl, inr, arith}
+use Rattle.std.proofs.Common.{◌≡◌, ℕ, List, [], ◌∷◌, ◌++◌, length, set, replicate, true, false, sym, subst, ◌∙◌, inl, inr}
 use mathlib.Core.Option.{some}
 use lib.ListN.{get_elem?}
 use Rattle.std.proofs.lemmas.Bool.{cases_eq, cases_lt, false≢true}
 use Rattle.std.proofs.lemmas.List.{length-set, get_or-set_same, get_or-set_other, get_or_past}
 use Rattle.tatp_rows.proofs.BlankLemmas.{blank_at}
-use Rattle.atomic_table.specs.Table.{State, Splits}
+use Rattle.atomic_table.specs.Table.{Splits}
 use Rattle.atomic_table.proofs.Lists.{at_set}
 use Rattle.view_board.specs.declared.rule.View.{View}
 use Rattle.view_board.specs.declared.words.TheConstants.{SLOTS}
 use Rattle.view_board.specs.Views.{Owns, without, alone}
 use Rattle.view_board.specs.Rule.{Fits, IsRuled}
-use Rattle.view_board.proofs.ListLemmas.{at_end, not_at_end}
+use Rattle.view_board.proofs.ListLemmas.{at_end}
 use Rattle.view_board.proofs.RuleLemmas.{AreFit, HaveOneOwner, fit_after, one_owner_after}
 
 -- the desk that gives a slot up doesn't own it, and owns no other one than before

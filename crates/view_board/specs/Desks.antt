@@ -1,9 +1,8 @@
 -- A desk as contracts see it: its board, and what it knows.
-use Rattle.std.specs.Prelude.{◌≡◌, ℕ, Bool, true, List, [], length}
+use Rattle.std.specs.Prelude.{◌≡◌, ℕ, Bool, true, List, []}
 use Rattle.atomic_table.specs.Seated.{TableId}
 use Rattle.atomic_table.specs.Table.{Me}
 use Rattle.view_board.specs.declared.rule.View.{View}
-use Rattle.view_board.specs.declared.words.TheConstants.{SLOTS, WORDS}
 use Rattle.view_board.specs.Views.{IsWide}
 
 pub record Station : Type 0 where

@@ -1,4 +1,3 @@
-use Rattle.std.proofs.Common.{arith}
 use Rattle.view_board.proofs.FillLemmas.{all_words}
 use Rattle.view_board.proofs.desk.take_numbers.Goals as goal
 

@@ -1,4 +1,4 @@
-use Rattle.std.proofs.Common.{◌≡◌, ◌/◌, if◌then◌else◌, Bool, false, slice_index, slice_index_or, ℕ}
+use Rattle.std.proofs.Common.{◌/◌, if◌then◌else◌, false, slice_index, slice_index_or, ℕ}
 use Rattle.view_board.specs.declared.words.TheConstants.{SLOT_WORDS}
 use Rattle.view_board.proofs.FillLemmas.{IsFilledTo}
 use Rattle.view_board.proofs.desk.take_numbers.Given as goal

@@ -1,11 +1,10 @@
-use Rattle.std.proofs.Common.{rules, arith, ◌≡◌, ◌≤◌, ◌<◌, ◌+◌, ◌/◌, ◌∙◌, sym, ap, subst, slice_index, get_or, refl, FitsSigned, w64}
+use Rattle.std.proofs.Common.{rules, arith, ◌≡◌, ◌≤◌, ◌<◌, ◌+◌, ◌/◌, ◌∙◌, sym, ap, get_or, refl, FitsSigned, w64}
 use Rattle.std.specs.Int.RustNames.{unsigned_abs}
 use Rattle.std.proofs.lemmas.Int.{to_z-of_z}
 use Rattle.view_board.specs.declared.rule.View.{View}
 use Rattle.view_board.specs.declared.words.TheConstants.{SLOTS, SLOT_WORDS, WORDS, LIMIT}
 use Rattle.view_board.specs.Words.{word_of}
-use Rattle.view_board.specs.Views.{Owns, OwnsWord, IsWide, posted}
-use Rattle.view_board.specs.Views as views
+use Rattle.view_board.specs.Views.{Owns, OwnsWord, posted}
 use Rattle.view_board.specs.Nets.{NetMoves}
 use Rattle.view_board.specs.Desks.{Station}
 use Rattle.view_board.proofs.ListLemmas.{set_within}

@@ -1,7 +1,5 @@
-use Rattle.std.proofs.Common.{◌≡◌, ◌≤◌, ◌∙◌, sym, ap, refl, arith, rules, List, ℕ, length, get_or, slice_index}
-use Rattle.std.proofs.lemmas.List.{ext_get_or}
+use Rattle.std.proofs.Common.{◌≡◌, ◌≤◌, ◌∙◌, sym, ap, refl, List, ℕ, length, get_or}
 use Rattle.view_board.specs.declared.rule.View.{View}
-use Rattle.view_board.specs.declared.words.TheConstants.{WORDS}
 use Rattle.view_board.specs.Desks.{Station}
 use Rattle.view_board.specs.Views.{OwnsAll}
 use Rattle.view_board.proofs.CloseLemmas.{ends}

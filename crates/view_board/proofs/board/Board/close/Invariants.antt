@@ -1,5 +1,4 @@
-use Rattle.std.proofs.Common.{◌≡◌, ◌<◌, length, get_or, ℕ}
-use Rattle.view_board.specs.declared.words.TheConstants.{WORDS}
+use Rattle.std.proofs.Common.{get_or, ℕ}
 use Rattle.view_board.proofs.FillLemmas.{IsFilledTo}
 use Rattle.view_board.proofs.board.Board.close.Given as goal
 

@@ -1,4 +1,5 @@
-use Rattle.std.proofs.Common.{◌≡◌, ◌∙◌, sym, ap, refl, arith, rules}
+use Rattle.std.proofs.Common.{◌≡◌, ◌∙◌, sym, ap, arith}
+use Rattle.atomic_table.specs.Table.{Me}
 use Rattle.view_board.specs.declared.rule.View.{View}
 use Rattle.view_board.specs.Views.{Owns, alone, without}
 use Rattle.view_board.specs.Nets.{NetAdds}
@@ -20,4 +21,6 @@ returns-clause-net g c =
     let is : v ≡ c.args.desk.now.view = ap (λ (d : Station). d.view) c.desk.view_is in
     let own : Owns v c.args.slot = rw is c.requires.own in
     let sum : NetAdds v (alone v c.args.slot) (without v c.args.slot) = net_split v c.args.slot c.desk.invariant.wide own in
-    ?
+    let left : c.split_seat-seat.new.seat.me.0 ≡ without v c.args.slot = ap (λ (m : Me (Unit {0}) View). m.0) c.split_seat-seat.ensures.2 ∙ ap (without v) c.requires.place in
+    let right : c.split_seat-seat.result.me.0 ≡ alone v c.args.slot = ap (λ (m : Me (Unit {0}) View). m.0) c.split_seat-seat.ensures.4 ∙ ap (alone v) c.requires.place in
+    rw (left, right, ← is) sum

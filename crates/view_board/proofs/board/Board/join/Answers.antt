@@ -1,7 +1,7 @@
-use Rattle.std.proofs.Common.{◌≡◌, ◌∙◌, sym, ap, refl, arith, rules}
+use Rattle.std.proofs.Common.{◌≡◌, ◌∙◌, sym, ap, refl, arith}
 use Rattle.atomic_table.specs.Table.{Me}
 use Rattle.view_board.specs.declared.rule.View.{View}
-use Rattle.view_board.specs.Views.{Owns, AreApart, both, numbers_of_both}
+use Rattle.view_board.specs.Views.{AreApart, both, numbers_of_both}
 use Rattle.view_board.specs.Nets.{NetAdds}
 use Rattle.view_board.specs.Desks.{Station}
 use Rattle.view_board.proofs.StepLemmas.{checks}

@@ -1,8 +1,5 @@
-use Rattle.std.proofs.Common.{◌≡◌, ◌∙◌, sym, ap, refl, arith, slice_index, List, ℕ}
-use Rattle.view_board.specs.declared.rule.View.{View}
-use Rattle.view_board.specs.declared.words.TheConstants.{WORDS}
-use Rattle.view_board.specs.Desks.{Station, with_view}
-use Rattle.view_board.specs.Views.{looked}
+use Rattle.std.proofs.Common.{◌∙◌, sym, ap, refl, arith}
+use Rattle.view_board.specs.Desks.{Station}
 use Rattle.view_board.proofs.LookLemmas.{all_looked}
 use Rattle.view_board.proofs.StepLemmas.{looks}
 use Rattle.view_board.proofs.NetLemmas.{own_within}

@@ -1,6 +1,4 @@
-use Rattle.std.proofs.Common.{◌≡◌, ℕ, ◌<◌, ◌≤◌, slice_index, List, length}
-use Rattle.view_board.specs.declared.words.TheConstants.{WORDS}
-use Rattle.view_board.specs.Views.{OwnsWord}
+use Rattle.std.proofs.Common.{◌≡◌}
 use Rattle.view_board.proofs.LookLemmas.{IsLookedTo}
 use Rattle.view_board.proofs.board.Board.look.Given as goal
 

@@ -1,11 +1,10 @@
-use Rattle.std.proofs.Common.{◌≡◌, ◌≤◌, ◌+◌, ◌<◌, ◌∙◌, ◌*◌, ◌^◌, refl, sym, ap, arith, rules, drop, length, get_or, false, if◌then◌else◌, to_z, of_z}
-use Rattle.std.specs.Prelude.{ℤ, pos, neg_ℤ, ◌+ℤ◌, ◌≤ℤ◌}
+use Rattle.std.proofs.Common.{◌≡◌, ap, arith, length, to_z, of_z}
+use Rattle.std.specs.Prelude.{◌+ℤ◌}
 use Rattle.std.specs.Int.{w128}
 use Rattle.std.proofs.lemmas.Int.{ints, to_z-of_z}
 use Rattle.view_board.specs.declared.rule.View.{View}
 use Rattle.view_board.specs.declared.words.TheConstants.{SLOTS}
 use Rattle.view_board.specs.Desks.{Station}
-use Rattle.view_board.specs.Nets.{net_from}
 use Rattle.view_board.proofs.NetLemmas.{net_from-next, net_from-end}
 use Rattle.view_board.proofs.desk.Desk.net.Goals as goal
 
