@@ -1,4 +1,5 @@
 pub mod CloseLemmas
+pub mod EndLemmas
 pub mod FillLemmas
 pub mod JoinLemmas
 pub mod ListLemmas

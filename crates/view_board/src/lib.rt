@@ -8,6 +8,8 @@
 mod board;
 mod desk;
 mod rule;
+#[cfg(test)]
+mod tests;
 mod words;
 
 pub use board::Board;

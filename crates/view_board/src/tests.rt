@@ -1,0 +1,164 @@
+//! What no clause says: that boards and desks can be had, and that desks see what others raise.
+ghost use Rattle.std.specs.Prelude.{◌≡◌, [], IfOk};
+ghost use Rattle.view_board.specs.Views.{Owns, first_view, without, alone};
+ghost use Rattle.view_board.specs.Desks.{with_view};
+
+use super::*;
+use std::alloc::Global;
+use std::test::*;
+use std::thread;
+use std::thread::Threads;
+use tatp_rows::Refusal;
+
+// A board of these words; where a growth was refused, from the second try.
+fn opened(alloc: Global, words: &[u64; WORDS]) -> Result<(Board, Desk), Refusal>
+    ensures { IfOk result (λ opened. (opened.1.board ≡ opened.0) × (opened.1.view ≡ first_view words.now)) }
+{
+    match Board::open(alloc, words) {
+        Err(Refusal::Memory) => Board::open(alloc, words),
+        opened => opened,
+    }
+}
+
+// A slot split off; where a growth was refused, at the second try.
+fn split_off(board: &Board, desk: &mut Desk, slot: u8) -> Result<Desk, Refusal>
+    requires board { desk.old.board ≡ board.now }
+    requires own { Owns desk.old.view slot }
+    ensures { IfOk result (λ new. (new ≡ with_view desk.old (alone desk.old.view slot)) × (desk.new ≡ with_view desk.old (without desk.old.view slot))) }
+{
+    match board.split(desk, slot) {
+        Err(_) => board.split(desk, slot),
+        new => new,
+    }
+}
+
+// Raises the word of slot 3 and cell 5, and its minus-word.
+fn raise_both(board: &Board, mut desk: Desk) -> (Desk, bool)
+    requires board { desk.board ≡ board.now }
+    requires own { Owns desk.view 3 }
+    ensures { (result.0.board ≡ desk.board) × (result.0.view.owned ≡ desk.view.owned) }
+{
+    let plus = board.add(&mut desk, 3, 5, 4).is_ok();
+    let minus = board.add(&mut desk, 3, 5, -6).is_ok();
+    (desk, plus && minus)
+}
+
+// Raises the first word, and looks.
+fn raise_and_look(board: &Board, mut desk: Desk) -> (Desk, Sight)
+    requires board { desk.board ≡ board.now }
+    requires own { Owns desk.view 0 }
+    ensures { (result.0.board ≡ desk.board) × (result.0.view.owned ≡ desk.view.owned) }
+{
+    let _ = board.add(&mut desk, 0, 0, 1);
+    let sight = board.look(&mut desk);
+    (desk, sight)
+}
+
+// The words at the end, of a desk and the one that has its slot 3.
+fn ended(board: Board, mut desk: Desk, other: Desk) -> [u64; WORDS]
+    requires desk { (desk.board ≡ board) × (desk.view.owned ≡ (without (first_view []) 3).owned) }
+    requires other { (other.board ≡ board) × (other.view.owned ≡ (alone (first_view []) 3).owned) }
+{
+    board.join(&mut desk, other);
+    board.close(desk)
+}
+
+// Two desks in two threads.
+fn side_by_side<R: Threads + Sync>(
+    rt: &R,
+    board: &Board,
+    desk: Desk,
+    other: Desk,
+) -> ((Desk, Sight), (Desk, bool))
+    requires ours { (desk.board ≡ board.now) × Owns desk.view 0 }
+    requires theirs { (other.board ≡ board.now) × Owns other.view 3 }
+    ensures ours { (result.0.0.board ≡ board.now) × (result.0.0.view.owned ≡ desk.view.owned) }
+    ensures theirs { (result.1.0.board ≡ board.now) × (result.1.0.view.owned ≡ other.view.owned) }
+{
+    thread::join(
+        rt,
+        || -> (Desk, Sight)
+            requires { (desk.board ≡ board.now) × Owns desk.view 0 }
+            ensures { (result.0.board ≡ board.entry.now) × (result.0.view.owned ≡ desk.view.owned) }
+        { raise_and_look(board, desk) },
+        || -> (Desk, bool)
+            requires { (other.board ≡ board.now) × Owns other.view 3 }
+            ensures { (result.0.board ≡ board.entry.now) × (result.0.view.owned ≡ other.view.owned) }
+        { raise_both(board, other) },
+    )
+}
+
+// Also run with each allocation refused in turn (`refuse_memory.sh`).
+#[test]
+fn two_threads(rt: HostRuntime) -> Result<(), Fail> {
+    let (board, mut first) = opened(rt.alloc(), &[0; WORDS]).ok().ok_or("no board")?;
+    let other = split_off(&board, &mut first, 3).ok().ok_or("no desk")?;
+    let ((first, sight), (other, posted)) = side_by_side(&rt, &board, first, other);
+    let words = ended(board, first, other);
+    let mut wanted = [0; WORDS];
+    wanted[0] = 1;
+    assert!(rt; posted && sight.words[0] == 1);
+    assert!(rt; [0, 4].contains(&sight.words[311]) && [0, 6].contains(&sight.words[362]));
+    wanted[311] = 4;
+    wanted[362] = 6;
+    assert!(rt; words == wanted);
+    Ok(())
+}
+
+// What a desk of slot 3 and the desk that split it off see of each other, and of a desk with no slot.
+fn seen(board: &Board, first: &mut Desk, other: &mut Desk, none: &mut Desk) -> [u64; 5]
+    requires first { first.old.board ≡ board.now }
+    requires other { (other.old.board ≡ board.now) × Owns other.old.view 3 }
+    requires none { none.old.board ≡ board.now }
+    ensures first { (first.new.board ≡ board.now) × (first.new.view.owned ≡ first.old.view.owned) }
+    ensures other { (other.new.board ≡ board.now) × (other.new.view.owned ≡ other.old.view.owned) }
+    ensures none { (none.new.board ≡ board.now) × (none.new.view.owned ≡ none.old.view.owned) }
+{
+    let before = board.look(none).words[311];
+    let _ = board.add(other, 3, 5, 7);
+    let by_first = board.look(first).words;
+    let by_none = board.look(none).words;
+    [before, by_first[0], by_first[311], by_none[0], by_none[311]]
+}
+
+// The first word is at its limit: it can't be raised, and the minus-word beside it can.
+fn raise_at_limit(board: &Board, desk: &mut Desk) -> [bool; 2]
+    requires board { desk.old.board ≡ board.now }
+    requires own { Owns desk.old.view 0 }
+    ensures { (desk.new.board ≡ desk.old.board) × (desk.new.view.owned ≡ desk.old.view.owned) }
+{
+    let worn = board.add(desk, 0, 0, 1).err() == Some(Refusal::Worn);
+    let lowered = board.add(desk, 0, 0, -1).is_ok();
+    [worn, lowered]
+}
+
+// Also run with each allocation refused.
+#[test]
+fn words_at_limit(rt: HostRuntime) -> Result<(), Fail> {
+    let mut words = [0; WORDS];
+    words[0] = LIMIT + 1;
+    assert_eq!(rt; Board::open(rt.alloc(), &words).err(), Some(Refusal::Field));
+    words[0] = LIMIT;
+    let (board, mut desk) = opened(rt.alloc(), &words).ok().ok_or("no board")?;
+    let raised = raise_at_limit(&board, &mut desk);
+    let mut none = split_off(&board, &mut desk, 3).ok().ok_or("no desk")?;
+    let mut other = split_off(&board, &mut none, 3)
+        .ok()
+        .ok_or("no second desk")?;
+    let owned = [desk.owns(3), none.owns(3), other.owns(3), other.owns(16)];
+    let found = seen(&board, &mut desk, &mut other, &mut none);
+    let nets = [desk.net(0), none.net(0), other.net(5)];
+    let end = ended(board, desk, other);
+    words[51] = 1;
+    words[311] = 7;
+    assert_eq!(rt;
+        (raised, owned),
+        ([true, true], [false, false, true, false])
+    );
+    assert_eq!(rt;
+        (found, nets),
+        ([0, LIMIT, 7, LIMIT, 7], [i128::from(LIMIT) - 1, 0, 7])
+    );
+    assert!(rt; end == words);
+    Ok(())
+}
