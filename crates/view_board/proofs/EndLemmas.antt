@@ -1,10 +1,10 @@
 -- A slot that was split off comes back.
-use Rattle.std.proofs.Common.{◌≡◌, ◌≢◌, ◌⊎◌, ℕ, ◌<◌, List, length, get_or, set, replicate, Bool, true, false, refl, sym, ap, subst, ◌∙◌, inl, inr, arith}
+use Rattle.std.proofs.Common.{◌≡◌, ℕ, ◌<◌, set, replicate, true, false, ◌∙◌, inl, inr}
 use Rattle.std.proofs.lemmas.Bool.{cases_eq}
 use Rattle.std.proofs.lemmas.List.{get_or-set_same, get_or-set_other, get_or-replicate, length-replicate}
 use Rattle.view_board.specs.declared.rule.View.{View}
 use Rattle.view_board.specs.declared.words.TheConstants.{SLOTS}
-use Rattle.view_board.specs.Views.{Owns, OwnsAll, both}
+use Rattle.view_board.specs.Views.{OwnsAll, both}
 use Rattle.view_board.proofs.JoinLemmas.{owned_by_both}
 
 -- of two desks one has all slots but one, and the other that one
