@@ -8,6 +8,7 @@ pub mod HalvesLemmas
 pub mod HeldLemmas
 pub mod HoldingsLemmas
 pub mod IndexLemmas
+pub mod KeptLemmas
 pub mod NumbersLemmas
 pub mod OpenLemmas
 pub mod OwnerActLemmas

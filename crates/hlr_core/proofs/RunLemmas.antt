@@ -6,10 +6,6 @@ use Rattle.hlr_core.specs.Store.{Store}
 use Rattle.hlr_core.specs.declared.event.Event.{Event}
 use Rattle.hlr_core.specs.declared.event.Reply.{Reply}
 
--- no event leaves the store
-pub run_none : (s : Store) → IsRun [] s [] s
-run_none s = refl
-
 -- a run, and one more step
 pub run_more : (events : List Event) (event : Event) (answers : List Reply) (answer : Reply) (a b c : Store) → IsRun events a answers b → IsStep event b answer c
     → IsRun (events ++ event ∷ []) a (answers ++ answer ∷ []) c
@@ -23,3 +19,11 @@ pub run_next : (all : List Event) (i : ℕ) (event : Event) (answers answers' : 
     → IsRun (take i all) a answers b → IsStep event b answer c → answers' ≡ answers ++ answer ∷ [] → IsRun (take (i + 1) all) a answers' c
 run_next all i event answers answers' answer a b c within is run step more =
     rw (take_more all i event within, ← is, more) (run_more (take i all) event answers answer a b c run step)
+
+-- two runs, one after the other
+pub run_joined : (events events' : List Event) (answers answers' : List Reply) (a b c : Store) → IsRun events a answers b → IsRun events' b answers' c
+    → IsRun (events ++ events') a (answers ++ answers') c
+run_joined [] events' [] answers' a b c run next = let same : b ≡ a = run in rw same at next
+run_joined (event ∷ events) events' (answer ∷ answers) answers' a b c run next = (run.0, run.1, run_joined events events' answers answers' run.0 b c run.2 next)
+run_joined [] events' (answer ∷ answers) answers' a b c run next = absurd run
+run_joined (event ∷ events) events' [] answers' a b c run next = absurd run

@@ -158,5 +158,5 @@ run_undivided base before after (event ∷ events) (answer ∷ answers) whole ru
     (step_stays before run.0 event answer e run.1) rest))
 
 -- so the kept events have the same replies undivided
-pub same_undivided : (events : List Event) (answers : List Reply) (before after : Store) → IsRun events before answers after → IsSameUndivided events before answers after
-same_undivided events answers before after run = run_undivided (record before { regions = parts_between 0 1 [] }) before after events answers refl run
+pub same_undivided : (events : List Event) (answers : List Reply) (before after : Store) → IsRun events before answers after → IsSameUndivided events before.book answers after.book
+same_undivided events answers before after run base whole = run_undivided base before after events answers whole run

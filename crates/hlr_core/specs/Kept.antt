@@ -1,7 +1,8 @@
 -- Gives and takes change no reply but Moving: what is left of a run without them.
-use Rattle.std.specs.Prelude.{Bool, true, false, ◌&&◌, List, [], ◌∷◌, if◌then◌else◌}
+use Rattle.std.specs.Prelude.{◌≡◌, Bool, true, false, ◌&&◌, List, [], ◌∷◌, if◌then◌else◌}
 use Rattle.tatp_rows.specs.declared.refusal.Refusal.{Refusal}
 use Rattle.tatp_rows.specs.declared.refusal.Refusal.TheVariants as refusal
+use Rattle.tatp_actions.specs.Book.{Book}
 use Rattle.part_table.specs.Bounds.{parts_between}
 use Rattle.hlr_core.specs.Step.{IsRun}
 use Rattle.hlr_core.specs.Store.{Store}
@@ -42,11 +43,9 @@ kept_replies (event ∷ events) [] = []
 kept_replies (event ∷ events) (answer ∷ answers) =
     if is_on_rows event && is_lasting answer then answer ∷ kept_replies events answers else kept_replies events answers
 
--- the store with all rows in one part
-abbrev pub undivided : Store → Store
-undivided store = record store { regions = parts_between 0 1 [] }
-
--- the kept events have the same replies where all rows lie in one part from first to last, and give the same book
-abbrev pub IsSameUndivided : List Event → Store → List Reply → Store → Type 0
+-- whatever the words and slots are: where one part has all rows from first to last, the kept events have the same replies, and lead
+-- from the one book to the other
+abbrev pub IsSameUndivided : List Event → Book → List Reply → Book → Type 0
 IsSameUndivided events before answers after =
-    IsRun (kept_events events answers) (undivided before) (kept_replies events answers) (record (undivided before) { book = after.book })
+    (base : Store) → base.regions ≡ parts_between 0 1 []
+    → IsRun (kept_events events answers) (record base { book = before }) (kept_replies events answers) (record base { book = after })

@@ -136,7 +136,7 @@ impl Register {
     /// not be reserved: then no event was applied.
     pub fn apply_all(&mut self, events: &[Event]) -> Result<Vec<Reply>, Refusal>
         ensures ok { IfOk result (λ replies. IsRun events.now self.old replies.items self.new) }
-        ensures kept { IfOk result (λ replies. IsSameUndivided events.now self.old replies.items self.new) }
+        ensures kept { IfOk result (λ replies. IsSameUndivided events.now self.old.book replies.items self.new.book) }
         ensures err { OnErr result ((result ≡ Err Refusal.Memory) × (self.new ≡ self.old)) }
     {
         // The borrow checker of the kit can push a reply only in a body that names each type inside it.
