@@ -1,6 +1,6 @@
 -- A give and a take of holdings and loose pieces in their boxes.
-use Rattle.std.proofs.Common.{◌≡◌, ◌∙◌, refl, sym, ap, ℕ, ◌<◌, ◌≤◌, arith, List, Bool, true, length, get_or, set}
-use Rattle.std.specs.Prelude.{Ok, Result, Box, insert, remove, if◌then◌else◌}
+use Rattle.std.proofs.Common.{◌≡◌, ◌∙◌, refl, ap, ℕ, ◌<◌, List, length, get_or, set}
+use Rattle.std.specs.Prelude.{Ok, Result, Box, insert, remove}
 use Rattle.std.specs.Box.{with_value}
 use Rattle.std.specs.declared.alloc.Global.{Global}
 use Rattle.tatp_rows.specs.declared.refusal.Refusal.{Refusal}
@@ -23,10 +23,6 @@ use Rattle.hlr_core.proofs.StoreMoveLemmas.{put_back, given_held, given_store, t
 pub box_same : (boxes : List (Box HoldingState Global)) (i : ℕ) (b : Box HoldingState Global) (holding after : HoldingState) → b ≡ get_or boxes i b → holding ≡ b.value → after ≡ holding
     → unboxed (set boxes i (with_value b after)) ≡ unboxed boxes
 box_same boxes i b holding after is has same = unboxed-set boxes i b after ∙ ap (λ (h : HoldingState). set (unboxed boxes) i h) same ∙ set_same (unboxed boxes) i holding (unboxed_at boxes i b holding is has)
-
--- what a passed test chooses
-pub chosen : {X : Type 0} (test : Bool) (x one other : X) → x ≡ (if test then one else other) → test ≡ true → x ≡ one
-chosen test x one other is passed = rw passed at is
 
 -- what was taken out and is put in again
 pub put_again : {X : Type 0} (xs removed again : List X) (k : ℕ) (x y : X) → k < length xs → x ≡ get_or xs k x → removed ≡ remove xs k → y ≡ x → again ≡ insert removed k y → again ≡ xs

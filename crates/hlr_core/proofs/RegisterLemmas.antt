@@ -1,6 +1,6 @@
 -- Right steps of the register, from what its holdings and its index do.
 use Rattle.std.proofs.Common.{◌≡◌, ◌≢◌, ℕ, ◌+◌, refl, List, Bool, true, false, Option, Some, None, Ok, Err, sym, ap, ◌∙◌, inl, inr}
-use Rattle.std.specs.Prelude.{is_some, ◌||◌, IsSome}
+use Rattle.std.specs.Prelude.{is_some, option_map, ◌||◌, IsSome}
 use Rattle.tatp_rows.specs.Rows.{SubscriberRow}
 use Rattle.tatp_rows.specs.declared.refusal.Refusal.TheVariants as refusal
 use Rattle.tatp_rows.specs.Keys.{subscriber_key}
@@ -16,6 +16,8 @@ use Rattle.tatp_actions.specs.declared.action.Action.{Action}
 use Rattle.tatp_actions.specs.declared.action.Action.TheVariants as action
 use Rattle.tatp_actions.specs.declared.action.RowReply.{RowReply}
 use Rattle.tatp_actions.specs.declared.action.RowReply.TheVariants as row_reply
+use Rattle.part_table.specs.Regions.{place_of}
+use Rattle.part_table.specs.declared.region.Place.TheVariants.{Part}
 use Rattle.hlr_core.specs.Asked.{IsAsked, IsAnswered}
 use Rattle.hlr_core.specs.Index.{IsRegister}
 use Rattle.hlr_core.specs.Numbers.{owner_of}
@@ -24,6 +26,7 @@ use Rattle.hlr_core.specs.Store.{Store}
 use Rattle.hlr_core.specs.declared.event.Reply.{Reply}
 use Rattle.hlr_core.specs.declared.event.Reply.TheVariants as reply
 use Rattle.hlr_core.proofs.NumbersLemmas.{owner_is_another, no_twin-with_row}
+use Rattle.hlr_core.proofs.HoldingsLemmas.{home_of_part}
 use Rattle.hlr_core.proofs.IndexLemmas.{index-with_row, free_number, taken_number}
 use Rattle.hlr_core.proofs.PairsLemmas.{outcome_book}
 
@@ -80,12 +83,6 @@ asked_step false wanted act before after rows answer gives asked answered same i
 asked_step true wanted act before after rows answer gives asked answered same is =
     rw (asked.0) (answered_step act before after rows answer same is (is_loose (s_id_of act) before.regions) refl gives (sym asked.1) answered)
 
--- an event that was refused before the rows were asked
-pub unasked_step : (fits : Bool) (wanted : Option Action) (why : Refusal) (before : Store) → IsAsked fits wanted (Err why) → IsRowStep fits wanted before (reply.Refused why) before
-unasked_step false wanted why before is = (ap reply.Refused is, refl)
-unasked_step true None why before is = (ap reply.Refused is, refl)
-unasked_step true (Some act) why before is = absurd is
-
 -- a refusal of the rows comes before that of a number
 pub refused_step : (act : Action) (before : Store) (why : Refusal) → is_loose (s_id_of act) before.regions ≡ false → effect act before.book ≡ (row_reply.Refused why, before.book) → IsRowStep true (Some act) before (reply.Refused why) before
 refused_step act before why home is = rw home (row_reply.Refused why, before.book, inl (cases (takes_number (given_number act) before.book) refl), refl, refl)
@@ -121,9 +118,16 @@ pub record IsHome (row : SubscriberRow) (store : Store) (has : Bool) : Type 0 wh
   pub home : is_loose row.s_id store.regions ≡ false
   pub there : is_some (subscriber_at store.book row.s_id) ≡ has
 
-pub at_home : (s : ℕ) (row : SubscriberRow) (store : Store) (has : Bool) → s ≡ row.s_id → false ≡ is_loose s store.regions
-    → (is_loose s store.regions ≡ false → has ≡ is_some (subscriber_at store.book s)) → IsHome row store has
-at_home s row store has same home there = record { home = rw same at (sym home); there = rw same at (sym (there (sym home))) }
+some_number : (o : Option SubscriberRow) → is_some (option_map (λ (row : SubscriberRow). row.sub_nbr) o) ≡ is_some o
+some_number None = refl
+some_number (Some row) = refl
+
+pub at_home : (s p : ℕ) (row : SubscriberRow) (store : Store) (number : Option ℕ) (has : Bool) → s ≡ row.s_id → place_of s store.regions ≡ Some (Part p)
+    → number ≡ option_map (λ (r : SubscriberRow). r.sub_nbr) (subscriber_at store.book s) → has ≡ is_some number → IsHome row store has
+at_home s p row store number has same place is there = record {
+  home = rw same at (home_of_part store.regions s p place);
+  there = rw same at (sym (there ∙ ap is_some is ∙ some_number (subscriber_at store.book s)));
+}
 
 -- a subscriber who has a row is refused
 pub exists_step : (row : SubscriberRow) (before : Store) → IsHome row before true → IsRowStep true (Some (action.AddSubscriber row)) before (reply.Refused refusal.Exists) before

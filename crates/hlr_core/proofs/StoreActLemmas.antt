@@ -1,8 +1,8 @@
 -- An action on a holding of a store.
-use Rattle.std.proofs.Common.{◌≡◌, ◌∙◌, refl, ℕ, ◌<◌, List, length, get_or, set}
-use Rattle.std.specs.Prelude.{Some, if◌then◌else◌}
+use Rattle.std.proofs.Common.{◌≡◌, ◌∙◌, ℕ, ◌<◌, List, length, get_or, set}
+use Rattle.std.specs.Prelude.{Some}
 use Rattle.std.proofs.lemmas.List.{length-set}
-use Rattle.tatp_actions.specs.Action.{IsOutcome, s_id_of, is_in_range}
+use Rattle.tatp_actions.specs.Action.{IsOutcome, s_id_of}
 use Rattle.tatp_actions.specs.Book.{IsWithin, subscriber_at}
 use Rattle.tatp_actions.specs.Part.{IsPart}
 use Rattle.tatp_actions.specs.declared.action.Action.{Action}
@@ -12,17 +12,12 @@ use Rattle.part_table.specs.Region.{is_part}
 use Rattle.part_table.specs.Regions.{AreRegions, place_of}
 use Rattle.part_table.specs.Woven.{woven}
 use Rattle.part_table.specs.declared.region.Region.{Region}
-use Rattle.hlr_core.specs.Owners.{store_of}
 use Rattle.hlr_core.specs.Held.{HoldingState, AreSmall, MovesWith, AreHeld}
 use Rattle.hlr_core.proofs.HeldLemmas.{owner_small}
 use Rattle.hlr_core.proofs.OwnerLemmas.{book_of_owners, owners_subscriber, lies_within, HasSubscribers}
 use Rattle.hlr_core.proofs.OwnerActLemmas.{found_beside, owner_acts, owners_acted}
-use Rattle.tatp_rows.specs.declared.refusal.Refusal.TheVariants as refusal
-use Rattle.tatp_actions.specs.declared.action.RowReply.TheVariants as row_reply
-use Rattle.hlr_core.specs.Asked.{IsAnswered}
-use Rattle.hlr_core.specs.Step.{is_loose}
 use Rattle.hlr_core.proofs.StoreLemmas.{part_within, part_owned, part_stands}
-use Rattle.part_table.specs.declared.region.Place.TheVariants.{Part, Piece}
+use Rattle.part_table.specs.declared.region.Place.TheVariants.{Part}
 use Rattle.part_table.proofs.BesideLemmas.{part_of_s_id}
 
 module _ (regions : List Region) (holdings pieces : List HoldingState) (words : List ℕ) (width : ℕ) (are : AreRegions regions) (held : AreHeld regions holdings pieces words width) where
@@ -46,12 +41,12 @@ module _ (regions : List Region) (holdings pieces : List HoldingState) (words : 
         (owners_subscriber width 1 words regions (woven regions holdings pieces) held.owners are.consecutive) there.1 (part_stands regions holdings pieces words width are held p there.0 before there.1 is) s_id there.2).1
 
     module _ (act : Action) (place : place_of (s_id_of act) regions ≡ Some (Part p)) (after : HoldingState) where
-      -- what the holding answers is a right answer of the store
-      pub acted_answer : (answer : RowReply) → IsOutcome act before.part.book answer after.part.book
-          → IsAnswered (is_loose (s_id_of act) regions) act (book_of_owners (woven regions holdings pieces)) answer (book_of_owners (woven regions (set holdings p after) pieces))
-      acted_answer answer done =
+      -- what the holding answers is a right outcome on the rows of the store
+      pub acted_outcome : (answer : RowReply) → IsOutcome act before.part.book answer after.part.book
+          → IsOutcome act (book_of_owners (woven regions holdings pieces)) answer (book_of_owners (woven regions (set holdings p after) pieces))
+      acted_outcome answer done =
           let there = part_of_s_id (s_id_of act) p regions are.in_order place in
-          rw (place, woven-set regions holdings pieces held.each_part held.each_piece are.in_order p after there.0 there.1)
+          rw (woven-set regions holdings pieces held.each_part held.each_piece are.in_order p after there.0 there.1)
           (owner_acts width 1 words regions (woven regions holdings pieces) (is_part p) there.0 act before after answer held.owners are.consecutive there.1 (part_stands regions holdings pieces words width are held p there.0 before there.1 is) there.2 done)
 
       -- the store keeps its rules
@@ -68,13 +63,3 @@ module _ (regions : List Region) (holdings pieces : List HoldingState) (words : 
             board = held.board;
             others = rw (length-set holdings p after) held.others;
           }
-
-  -- and of it the book alone moves
-  pub acted_store : (p : ℕ) (after : HoldingState)
-      → store_of regions (set holdings p after) pieces words width ≡ record (store_of regions holdings pieces words width) { book = book_of_owners (woven regions (set holdings p after) pieces) }
-  acted_store p after = rw (length-set holdings p after) refl
-
-  -- a loose piece does nothing
-  pub moving_answer : (act : Action) (n : ℕ) → place_of (s_id_of act) regions ≡ Some (Piece n)
-      → IsAnswered (is_loose (s_id_of act) regions) act (book_of_owners (woven regions holdings pieces)) (row_reply.Refused (if is_in_range act then refusal.Moving else refusal.Field)) (book_of_owners (woven regions holdings pieces))
-  moving_answer act n place = rw place (refl, refl)

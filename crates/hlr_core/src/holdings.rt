@@ -1,10 +1,10 @@
 //! All owners' holdings, the loose pieces, and the board that the holdings post to.
-ghost use Rattle.std.specs.Prelude.{◌≡◌, ◌+◌, ℕ, ◌<◌, ◌≤◌, [], ◌∷◌, false, IfOk, OnErr, is_some, option_map, slice_index, slice_index_or, ℤ, pos};
+ghost use Rattle.std.specs.Prelude.{◌≡◌, ◌+◌, ℕ, ◌<◌, ◌≤◌, [], ◌∷◌, true, Some, IfOk, OnErr, option_map, slice_index, slice_index_or, ℤ, pos};
 ghost use Rattle.part_table.specs.Give.{give_answer, after_give};
-ghost use Rattle.part_table.specs.Regions.{AreRegions};
+ghost use Rattle.part_table.specs.Regions.{AreRegions, place_of};
 ghost use Rattle.part_table.specs.Take.{take_answer, after_take};
 ghost use Rattle.part_table.specs.declared.region.TheConstants.{MOST_PARTS};
-ghost use Rattle.tatp_actions.specs.Action.{s_id_of};
+ghost use Rattle.tatp_actions.specs.Action.{s_id_of, IsOutcome};
 ghost use Rattle.tatp_actions.specs.Book.{IsWithin, IsRowsOf, subscriber_at};
 ghost use Rattle.tatp_actions.specs.Cell.{cell};
 ghost use Rattle.tatp_actions.specs.Part.{IsWidth};
@@ -15,7 +15,7 @@ ghost use Rattle.hlr_core.specs.Store.{Store, HasOpening, opening, published, un
 use crate::board::Board;
 use crate::event::Reply;
 use crate::holding::{Holding, Piece};
-use crate::room::{boxed, places};
+use crate::room::{boxed, insert_reserved, places};
 use crate::sums::{add_counts, add_deltas};
 use part_table::{Place, Regions, Side};
 use std::alloc::Global;
@@ -112,12 +112,26 @@ impl Holdings {
         self.width
     }
 
-    /// Whether an s_id lies in a loose piece.
-    pub fn is_loose(&self, s_id: u32) -> bool
+    /// The part that has a subscriber, or `Moving` where a loose piece has it.
+    pub fn part_of(&self, s_id: u32) -> Result<u8, Refusal>
         requires { IsWithin 1 (LAST_SUBSCRIBER + 1) s_id }
-        ensures { result ≡ is_loose s_id self.now.regions }
+        ensures part { IfOk result (λ part. place_of s_id self.now.regions ≡ Some (Place.Part part)) }
+        ensures moving { OnErr result ((result ≡ Err Refusal.Moving) × (is_loose s_id self.now.regions ≡ true)) }
     {
-        matches!(self.regions.place(s_id), Place::Piece(_))
+        match self.regions.place(s_id) {
+            Place::Part(part) => Ok(part),
+            Place::Piece(_) => Err(Refusal::Moving),
+        }
+    }
+
+    /// Does an action on the rows of its subscriber, whom the part has.
+    pub fn act_in(&mut self, part: u8, action: Action) -> RowReply
+        requires { place_of (s_id_of action) self.old.regions ≡ Some (Place.Part part) }
+        ensures outcome { IsOutcome action self.old.book result self.new.book }
+        ensures same { self.new ≡ record self.old { book = self.new.book } }
+        ensures rows { IsRowsOf 1 (LAST_SUBSCRIBER + 1) self.new.book }
+    {
+        self.holdings[usize::from(part)].act(action)
     }
 
     /// Does an action on the rows of its subscriber. Where a loose piece has them, the answer is `Moving`, after `Field`.
@@ -128,7 +142,7 @@ impl Holdings {
         ensures rows { IsRowsOf 1 (LAST_SUBSCRIBER + 1) self.new.book }
     {
         match self.regions.place(action.s_id()) {
-            Place::Part(p) => self.holdings[usize::from(p)].act(action),
+            Place::Part(part) => self.act_in(part, action),
             Place::Piece(_) if action.is_in_range() => RowReply::Refused(Refusal::Moving),
             Place::Piece(_) => RowReply::Refused(Refusal::Field),
         }
@@ -155,8 +169,7 @@ impl Holdings {
         self.regions.give_answer(part, side, at)?;
         let before = self.regions.pieces_before_part(part);
         let piece = self.holdings[part as usize].give(self.alloc, side, at as u32)?;
-        // There is room: sixteen places were reserved as the store was opened, and fewer pieces are loose.
-        let _ = self.pieces.insert(before, piece);
+        insert_reserved(&mut self.pieces, before, piece);
         self.regions.give(part, side, at)
     }
 
@@ -170,8 +183,7 @@ impl Holdings {
         let before = self.regions.pieces_before_piece(piece);
         let taken = self.pieces.remove(before);
         if let Err(back) = self.holdings[part as usize].take(self.alloc, taken) {
-            // Its place is still reserved.
-            let _ = self.pieces.insert(before, back.item);
+            insert_reserved(&mut self.pieces, before, back.item);
             return Err(back.why);
         }
         self.regions.take(piece, part)
@@ -216,23 +228,12 @@ impl Holdings {
         counts
     }
 
-    /// The number of a subscriber, or `None` where there is no such row; of the subscribers of a loose piece it tells nothing.
-    pub fn number_of(&self, s_id: u32) -> Option<Number>
-        requires { IsWithin 1 (LAST_SUBSCRIBER + 1) s_id }
-        ensures { is_loose s_id self.now.regions ≡ false → result ≡ option_map (λ row. row.sub_nbr) (subscriber_at self.now.book s_id) }
+    /// The number of a subscriber whom the part has, or `None` where there is no such row.
+    pub fn number_in(&self, part: u8, s_id: u32) -> Option<Number>
+        requires { place_of s_id self.now.regions ≡ Some (Place.Part part) }
+        ensures { result ≡ option_map (λ row. row.sub_nbr) (subscriber_at self.now.book s_id) }
     {
-        let Place::Part(p) = self.regions.place(s_id) else {
-            return None;
-        };
-        let row = self.holdings[usize::from(p)].first_sub_from(u64::from(s_id))?;
+        let row = self.holdings[usize::from(part)].first_sub_from(u64::from(s_id))?;
         (row.s_id() == s_id).then_some(row.sub_nbr())
-    }
-
-    /// Whether a subscriber has a row; of the subscribers of a loose piece it tells nothing.
-    pub fn has(&self, s_id: u32) -> bool
-        requires { IsWithin 1 (LAST_SUBSCRIBER + 1) s_id }
-        ensures { is_loose s_id self.now.regions ≡ false → result ≡ is_some (subscriber_at self.now.book s_id) }
-    {
-        self.number_of(s_id).is_some()
     }
 }

@@ -227,10 +227,10 @@ impl Register {
         let Ok(s_id) = in_range(s_id, LAST_SUBSCRIBER) else {
             return Reply::Refused(Refusal::Field);
         };
-        if self.holdings.is_loose(s_id) {
+        let Ok(part) = self.holdings.part_of(s_id) else {
             return Reply::Refused(Refusal::Moving);
-        }
-        let Some(old) = self.holdings.number_of(s_id) else {
+        };
+        let Some(old) = self.holdings.number_in(part, s_id) else {
             return Reply::Refused(Refusal::NoSubscriber);
         };
         // A number tells by its value that it is in range.
@@ -238,24 +238,25 @@ impl Register {
         if let Err(why) = self.index.rename(old, sub_nbr) {
             return Reply::Refused(why);
         }
-        reply_from(self.holdings.act(Action::SetNumber { s_id, sub_nbr }))
+        let renumbering = Action::SetNumber { s_id, sub_nbr };
+        reply_from(self.holdings.act_in(part, renumbering))
     }
 
     fn add_subscriber(&mut self, row: Subscriber) -> Reply
         ensures { IsStep (Event.AddSubscriber row) self.old result self.new }
     {
         let s_id = row.s_id();
-        if self.holdings.is_loose(s_id) {
+        let Ok(part) = self.holdings.part_of(s_id) else {
             return Reply::Refused(Refusal::Moving);
-        }
-        if self.holdings.has(s_id) {
+        };
+        if self.holdings.number_in(part, s_id).is_some() {
             return Reply::Refused(Refusal::Exists);
         }
         let number = row.sub_nbr();
         if let Err(why) = self.index.add(number, s_id) {
             return Reply::Refused(why);
         }
-        match self.holdings.act(Action::AddSubscriber(row)) {
+        match self.holdings.act_in(part, Action::AddSubscriber(row)) {
             RowReply::Done => Reply::Rows(RowReply::Done),
             refused => {
                 self.index.remove(number);

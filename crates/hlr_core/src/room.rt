@@ -1,5 +1,5 @@
 //! Memory that is taken ahead of a change.
-ghost use Rattle.std.specs.Prelude.{◌≡◌, ◌≤◌, [], IfOk, OnErr, vec_capacity};
+ghost use Rattle.std.specs.Prelude.{◌≡◌, ◌<◌, ◌≤◌, [], IfOk, OnErr, insert, vec_capacity, vec_len};
 
 use std::alloc::Global;
 use tatp_rows::Refusal;
@@ -22,4 +22,14 @@ pub fn places<T>(alloc: Global) -> Result<Vec<T>, Refusal>
     ensures err { OnErr result (result ≡ Err Refusal.Memory) }
 {
     Vec::with_capacity(alloc, PLACES).map_err(|_| Refusal::Memory)
+}
+
+/// Puts a value in at a place of a list that has room for it. It takes no memory.
+pub fn insert_reserved<T: Drop>(list: &mut Vec<T>, at: usize, value: T)
+    requires inside { at ≤ vec_len list.old }
+    requires room { vec_len list.old < vec_capacity list.old }
+    ensures items { list.new.items ≡ insert list.old.items at value }
+    ensures capacity { vec_capacity list.old ≤ vec_capacity list.new }
+{
+    let _ = list.insert(at, value);
 }

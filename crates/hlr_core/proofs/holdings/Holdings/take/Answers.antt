@@ -1,6 +1,6 @@
-use Rattle.std.proofs.Common.{arith, refl, sym, ◌∙◌}
+use Rattle.std.proofs.Common.{arith, refl, sym}
 use Rattle.hlr_core.proofs.BoxLemmas.{length-unboxed, unboxed_at}
-use Rattle.hlr_core.proofs.BoxMoveLemmas.{box_same, chosen, put_again, boxes_joined, store_joined}
+use Rattle.hlr_core.proofs.BoxMoveLemmas.{box_same, put_again, boxes_joined, store_joined}
 use Rattle.hlr_core.proofs.StoreCountLemmas.{few_owners}
 use Rattle.hlr_core.proofs.StoreMoveLemmas.{taken_within, taken_before}
 use Rattle.hlr_core.proofs.holdings.Holdings.take.Goals as goal
@@ -33,33 +33,33 @@ take-requires-clause-small c =
     let piece = unboxed_at c.self.inside.pieces.items _ _ _ (rw c.pieces_before_piece-before.ensures at c.remove-taken.ensures.value) refl in
     (taken_before _ _ _ _ _ c.self.invariant.0 c.self.invariant.1 _ _ _ (sym c.in_ok-take_answer.ensures) _ _ at piece).2
 
+pub insert_reserved-requires-clause-inside : goal.insert_reserved-requires-clause-inside
+insert_reserved-requires-clause-inside c =
+    let within = taken_within _ _ _ _ _ c.self.invariant.0 c.self.invariant.1 _ _ _ (sym c.in_ok-take_answer.ensures) in
+    let inside = rw (← c.pieces_before_piece-before.ensures, length-unboxed) at within.1 in
+    omega (arith, c.remove-taken.ensures.len, c.self.inside.pieces.ok.0)
+
+pub insert_reserved-requires-clause-room : goal.insert_reserved-requires-clause-room
+insert_reserved-requires-clause-room c =
+    let within = taken_within _ _ _ _ _ c.self.invariant.0 c.self.invariant.1 _ _ _ (sym c.in_ok-take_answer.ensures) in
+    let inside = rw (← c.pieces_before_piece-before.ensures, length-unboxed) at within.1 in
+    let few = (few_owners _ _ _ _ _ c.self.invariant.0 c.self.invariant.1).1 in
+    let many = length-unboxed c.self.inside.pieces.items in
+    omega (arith, c.remove-taken.ensures.len, c.remove-taken.ensures.capacity, c.self.inside.pieces.ok.0, c.self.invariant.2)
+
 pub invariant_of-self : goal.invariant_of-self
 invariant_of-self c =
     let within = taken_within _ _ _ _ _ c.self.invariant.0 c.self.invariant.1 _ _ _ (sym c.in_ok-take_answer.ensures) in
     let inside = rw (← c.pieces_before_piece-before.ensures, length-unboxed) at within.1 in
-    let less = c.remove-taken.ensures.len in
-    let room = c.remove-taken.ensures.capacity in
-    let long = c.self.inside.pieces.ok.0 in
-    let many = length-unboxed c.self.inside.pieces.items in
-    let few = (few_owners _ _ _ _ _ c.self.invariant.0 c.self.invariant.1).1 in
-    let fits = c.self.invariant.2 in
-    let put = chosen _ _ _ _ c.insert.ensures.items (c.insert.ensures.succeeds (omega arith)) in
-    let back = put_again c.self.inside.pieces.items _ _ _ _ _ inside c.remove-taken.ensures.value c.remove-taken.ensures.items c.in-Err.ensures.refused.1 put in
+    let back = put_again c.self.inside.pieces.items _ _ _ _ _ inside c.remove-taken.ensures.value c.remove-taken.ensures.items c.in-Err.ensures.refused.1 c.insert_reserved.ensures.items in
     let same = box_same c.self.inside.holdings.items _ _ _ _ c.index_mut.ensures.value c.deref_mut.ensures.value c.in-Err.ensures.refused.2 in
-    (c.self.invariant.0, rw (same, back) c.self.invariant.1, omega (arith, c.insert.ensures.capacity))
+    (c.self.invariant.0, rw (same, back) c.self.invariant.1, omega (arith, c.self.invariant.2, c.remove-taken.ensures.capacity, c.insert_reserved.ensures.capacity))
 
 pub returns-in-Err-clause-after : goal.returns-in-Err-clause-after
 returns-in-Err-clause-after c =
     let within = taken_within _ _ _ _ _ c.self.invariant.0 c.self.invariant.1 _ _ _ (sym c.in_ok-take_answer.ensures) in
     let inside = rw (← c.pieces_before_piece-before.ensures, length-unboxed) at within.1 in
-    let less = c.remove-taken.ensures.len in
-    let room = c.remove-taken.ensures.capacity in
-    let long = c.self.inside.pieces.ok.0 in
-    let many = length-unboxed c.self.inside.pieces.items in
-    let few = (few_owners _ _ _ _ _ c.self.invariant.0 c.self.invariant.1).1 in
-    let fits = c.self.invariant.2 in
-    let put = chosen _ _ _ _ c.insert.ensures.items (c.insert.ensures.succeeds (omega arith)) in
-    let back = put_again c.self.inside.pieces.items _ _ _ _ _ inside c.remove-taken.ensures.value c.remove-taken.ensures.items c.in-Err.ensures.refused.1 put in
+    let back = put_again c.self.inside.pieces.items _ _ _ _ _ inside c.remove-taken.ensures.value c.remove-taken.ensures.items c.in-Err.ensures.refused.1 c.insert_reserved.ensures.items in
     let same = box_same c.self.inside.holdings.items _ _ _ _ c.index_mut.ensures.value c.deref_mut.ensures.value c.in-Err.ensures.refused.2 in
     rw (← c.self.view_is, same, back) refl
 

@@ -1,46 +1,46 @@
-use Rattle.std.proofs.Common.{refl, sym}
+use Rattle.std.proofs.Common.{refl}
 use Rattle.tatp_actions.specs.declared.action.Action.TheVariants as action
 use Rattle.hlr_core.proofs.RegisterLemmas.{moving_step, at_home, exists_step, unadded_step, acted_step, added_registered, undone_registered, undone_same, free_to_take}
 use Rattle.hlr_core.proofs.register.Register.add_subscriber.Goals as goal
 
-pub returns-then-is_loose : goal.returns-then-is_loose
-returns-then-is_loose c = rw (← c.self.view_is) (moving_step (action.AddSubscriber c.args.row) _ _ _ (rw c.s_id-s_id.ensures.value at (sym c.if-is_loose.ensures)) refl refl)
+pub returns-in_default : goal.returns-in_default
+returns-in_default c = rw (← c.self.view_is) (moving_step (action.AddSubscriber c.args.row) _ _ _ (rw c.s_id-s_id.ensures.value at c.in_default.ensures.moving.1) refl refl)
 
-pub returns-then-has : goal.returns-then-has
-returns-then-has c =
-    let here = at_home _ c.args.row c.self.inside.holdings _ c.s_id-s_id.ensures.value c.if-is_loose.ensures c.if-has.ensures in
+pub returns-then-is_some : goal.returns-then-is_some
+returns-then-is_some c =
+    let here = at_home _ _ c.args.row c.self.inside.holdings _ _ c.s_id-s_id.ensures.value c.in-Ok.ensures.part c.number_in.ensures c.if-is_some.ensures in
     rw (← c.self.view_is) (exists_step c.args.row _ here)
 
 pub returns-in-Err : goal.returns-in-Err
 returns-in-Err c =
-    let here = at_home _ c.args.row c.self.inside.holdings _ c.s_id-s_id.ensures.value c.if-is_loose.ensures c.if-has.ensures in
+    let here = at_home _ _ c.args.row c.self.inside.holdings _ _ c.s_id-s_id.ensures.value c.in-Ok.ensures.part c.number_in.ensures c.if-is_some.ensures in
     rw (← c.self.view_is) (unadded_step c.args.row _ c.self.inside.index c.add.new.self _ c.self.invariant here (rw c.sub_nbr-number.ensures at c.in-Err.ensures.added))
 
 pub invariant_of-self-in-Done : goal.invariant_of-self-in-Done
 invariant_of-self-in-Done c =
-    let here = at_home _ c.args.row c.self.inside.holdings _ c.s_id-s_id.ensures.value c.if-is_loose.ensures c.if-has.ensures in
-    let added = rw (c.sub_nbr-number.ensures, c.s_id-s_id.ensures.value) at c.in_default.ensures.added in
-    added_registered c.args.row _ _ _ _ c.self.invariant c.in-Done.ensures.rows here.there added.0 added.1 (rw here.home at c.in-Done.ensures.answer)
+    let here = at_home _ _ c.args.row c.self.inside.holdings _ _ c.s_id-s_id.ensures.value c.in-Ok.ensures.part c.number_in.ensures c.if-is_some.ensures in
+    let added = rw (c.sub_nbr-number.ensures, c.s_id-s_id.ensures.value) at c.in_default-add.ensures.added in
+    added_registered c.args.row _ _ _ _ c.self.invariant c.in-Done.ensures.rows here.there added.0 added.1 c.in-Done.ensures.outcome
 
-pub invariant_of-self-in_default-act : goal.invariant_of-self-in_default-act
-invariant_of-self-in_default-act c =
-    let here = at_home _ c.args.row c.self.inside.holdings _ c.s_id-s_id.ensures.value c.if-is_loose.ensures c.if-has.ensures in
-    let added = rw (c.sub_nbr-number.ensures, c.s_id-s_id.ensures.value) at c.in_default.ensures.added in
-    let same = undone_same c.args.row _ _ _ here.there c.in_default-act.not-Done (rw here.home at c.act.ensures.answer) in
-    undone_registered c.args.row _ _ c.act.result _ _ _ c.self.invariant added.0 added.1 (rw c.sub_nbr-number.ensures at c.remove.ensures.pairs) same
+pub invariant_of-self-in_default-act_in : goal.invariant_of-self-in_default-act_in
+invariant_of-self-in_default-act_in c =
+    let here = at_home _ _ c.args.row c.self.inside.holdings _ _ c.s_id-s_id.ensures.value c.in-Ok.ensures.part c.number_in.ensures c.if-is_some.ensures in
+    let added = rw (c.sub_nbr-number.ensures, c.s_id-s_id.ensures.value) at c.in_default-add.ensures.added in
+    let same = undone_same c.args.row _ _ _ here.there c.in_default-act_in.not-Done c.act_in.ensures.outcome in
+    undone_registered c.args.row _ _ c.act_in.result _ _ _ c.self.invariant added.0 added.1 (rw c.sub_nbr-number.ensures at c.remove.ensures.pairs) same
 
 pub returns-in-Done : goal.returns-in-Done
 returns-in-Done c =
-    let here = at_home _ c.args.row c.self.inside.holdings _ c.s_id-s_id.ensures.value c.if-is_loose.ensures c.if-has.ensures in
-    let added = rw (c.sub_nbr-number.ensures, c.s_id-s_id.ensures.value) at c.in_default.ensures.added in
+    let here = at_home _ _ c.args.row c.self.inside.holdings _ _ c.s_id-s_id.ensures.value c.in-Ok.ensures.part c.number_in.ensures c.if-is_some.ensures in
+    let added = rw (c.sub_nbr-number.ensures, c.s_id-s_id.ensures.value) at c.in_default-add.ensures.added in
     rw (← c.self.view_is)
     (acted_step (action.AddSubscriber c.args.row) _ _ _ _ c.s_id-s_id.ensures.in_range here.home (free_to_take (action.AddSubscriber c.args.row) _ _ _ _ c.self.invariant refl added.0)
-    (rw here.home at c.in-Done.ensures.answer) c.in-Done.ensures.same refl)
+    c.in-Done.ensures.outcome c.in-Done.ensures.same refl)
 
-pub returns-in_default-act : goal.returns-in_default-act
-returns-in_default-act c =
-    let here = at_home _ c.args.row c.self.inside.holdings _ c.s_id-s_id.ensures.value c.if-is_loose.ensures c.if-has.ensures in
-    let added = rw (c.sub_nbr-number.ensures, c.s_id-s_id.ensures.value) at c.in_default.ensures.added in
+pub returns-in_default-act_in : goal.returns-in_default-act_in
+returns-in_default-act_in c =
+    let here = at_home _ _ c.args.row c.self.inside.holdings _ _ c.s_id-s_id.ensures.value c.in-Ok.ensures.part c.number_in.ensures c.if-is_some.ensures in
+    let added = rw (c.sub_nbr-number.ensures, c.s_id-s_id.ensures.value) at c.in_default-add.ensures.added in
     rw (← c.self.view_is)
     (acted_step (action.AddSubscriber c.args.row) _ _ _ _ c.s_id-s_id.ensures.in_range here.home (free_to_take (action.AddSubscriber c.args.row) _ _ _ _ c.self.invariant refl added.0)
-    (rw here.home at c.act.ensures.answer) c.act.ensures.same c.reply_from.ensures)
+    c.act_in.ensures.outcome c.act_in.ensures.same c.reply_from.ensures)
