@@ -1,9 +1,8 @@
 -- Sums over the holdings and the pieces, cell by cell: what is published, what is not posted, and the counts.
-use Rattle.std.proofs.Common.{◌≡◌, ◌∙◌, refl, sym, ap, ℕ, zero, suc, ◌+◌, ◌*◌, ◌<◌, ◌≤◌, arith, List, [], ◌∷◌, length, get_or, take}
-use Rattle.std.specs.Prelude.{Some, find, ℤ, pos, ◌+ℤ◌, ◌≤ℤ◌}
+use Rattle.std.proofs.Common.{◌≡◌, ◌∙◌, ℕ, ◌+◌, arith, List}
+use Rattle.std.specs.Prelude.{◌+ℤ◌}
 use Rattle.std.specs.List.{range_with_len}
 use Rattle.std.proofs.lemmas.Int.{ints}
-use Rattle.tatp_actions.specs.declared.cells.TheConstants.{CELLS}
 use Rattle.hlr_core.specs.Words.{net, slot_net}
 use Rattle.hlr_core.proofs.OwnerCountLemmas.{net_divided}
 
@@ -13,7 +12,3 @@ net_more words c n =
     let divided = net_divided words c 0 n 1 in
     let begins : 0 + n ≡ n = omega arith in
     rw begins at divided ∙ omega (arith, ints)
-
--- a net of 0..=2^40
-abbrev pub IsSmallNet : ℤ → Type 0
-IsSmallNet z = (pos 0 ≤ℤ z) × (z ≤ℤ pos 1099511627776)

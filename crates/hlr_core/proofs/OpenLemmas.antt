@@ -1,8 +1,8 @@
 -- The store at opening: an empty holding for each region, one after another.
-use Rattle.std.proofs.Common.{◌≡◌, ◌∙◌, refl, sym, ap, subst, ℕ, zero, suc, ◌+◌, ◌-◌, ◌<◌, ◌≤◌, arith, List, [], ◌∷◌, ◌++◌, length, get_or, take, map, true, replicate}
-use Rattle.std.specs.Prelude.{Result, Ok, pos, ℤ}
+use Rattle.std.proofs.Common.{◌≡◌, ◌∙◌, refl, sym, ap, subst, ℕ, ◌+◌, ◌-◌, ◌<◌, ◌≤◌, arith, List, [], ◌∷◌, ◌++◌, length, get_or, take, map, true, replicate}
+use Rattle.std.specs.Prelude.{Result, Ok, pos}
 use Rattle.std.specs.List.{AllZip, AllByRecursion, range_with_len}
-use Rattle.std.proofs.lemmas.List.{take_more, take_all, length-map}
+use Rattle.std.proofs.lemmas.List.{take_more, take_all}
 use Rattle.std.proofs.lemmas.List.FromFn.{length-map-range_with_len}
 use Rattle.std.proofs.lemmas.Slice.Zip.{AllZip-long}
 use Rattle.tatp_rows.specs.declared.refusal.Refusal.{Refusal}
@@ -25,7 +25,7 @@ use Rattle.hlr_core.specs.Words.{blank_words}
 use Rattle.hlr_core.proofs.HeldLemmas.{IsFresh}
 use Rattle.hlr_core.proofs.OwnerPostLemmas.{fresh_holding}
 use Rattle.hlr_core.proofs.StoreLemmas.{opened_held, opened_rows}
-use Rattle.hlr_core.proofs.TotalLemmas.{each_get}
+use Rattle.tatp_rows.proofs.PlaceLemmas.{each_at}
 
 -- the bounds between parts at opening
 abbrev pub bounds_opened : ℕ → ℕ → List ℕ
@@ -66,7 +66,7 @@ ranges_from from (region ∷ regions) above consecutive =
     ((omega arith, some, end), ranges_from region.hi regions (omega arith) consecutive.2)
 
 pub range_at : (regions : List Region) (i : ℕ) (d : Region) → AreRegions regions → i < length regions → IsRange (get_or regions i d).lo (get_or regions i d).hi
-range_at regions i d are below = each_get (λ (region : Region). IsRange region.lo region.hi) regions i d (ranges_from 1 regions (omega arith) are.consecutive) below
+range_at regions i d are below = each_at (λ (region : Region). IsRange region.lo region.hi) regions i d (ranges_from 1 regions (omega arith) are.consecutive) below
 
 -- one more at the end of both
 zip_push : {A B : Type 0} (R : A → B → Type 0) (xs : List A) (ys : List B) (x : A) (y : B) → AllZip R xs ys → R x y → AllZip R (xs ++ x ∷ []) (ys ++ y ∷ [])

@@ -1,9 +1,7 @@
 -- The counts of all owners: as they add up, and what is published and pending of them.
-use Rattle.std.proofs.Common.{◌≡◌, ◌∙◌, refl, sym, ap, ℕ, zero, suc, ◌+◌, ◌-◌, ◌*◌, ◌<◌, ◌≤◌, arith, List, [], ◌∷◌, ◌++◌, length, take}
+use Rattle.std.proofs.Common.{◌≡◌, ◌∙◌, refl, sym, ap, ℕ, zero, suc, ◌+◌, ◌-◌, ◌*◌, ◌<◌, ◌≤◌, arith, List, [], ◌∷◌, ◌++◌, length}
 use Rattle.std.specs.Prelude.{ℤ, pos, neg_ℤ, ◌+ℤ◌, ◌≤ℤ◌, sum_by}
 use Rattle.std.specs.List.{AllByRecursion, range_with_len}
-use Rattle.std.specs.Int.RustNames.{FitsSigned}
-use mir.Syntax.{w64}
 use Rattle.std.proofs.lemmas.Int.{ints}
 use Rattle.std.proofs.lemmas.List.Sums.{sum_by-cons}
 use Rattle.tatp_actions.specs.Cell.{cell}
@@ -17,13 +15,13 @@ use Rattle.part_table.specs.declared.region.Place.TheVariants.{Part, Piece}
 use Rattle.part_table.specs.declared.region.Region.{Region}
 use Rattle.part_table.specs.declared.region.TheConstants.{END}
 use Rattle.view_delta.specs.Pending.{pending_at}
-use Rattle.hlr_core.specs.Held.{IsOwner, HoldingState, AreOwners, place_net}
+use Rattle.hlr_core.specs.Held.{HoldingState, AreOwners, place_net}
 use Rattle.hlr_core.specs.Store.{Store, unposted}
 use Rattle.hlr_core.specs.Words.{slot_net, net, all_slots}
 use Rattle.hlr_core.specs.declared.board.TheConstants.{SLOTS}
-use Rattle.hlr_core.proofs.HeldLemmas.{empty_cell, pending_fits}
+use Rattle.hlr_core.proofs.HeldLemmas.{empty_cell}
 use Rattle.hlr_core.proofs.WordsLemmas.{net_none}
-use Rattle.hlr_core.proofs.OwnerLemmas.{each_second, book_of_owners, owner_rows, own_region}
+use Rattle.hlr_core.proofs.OwnerLemmas.{book_of_owners, owner_rows, own_region}
 
 -- the count of a cell over the rows of an owner and of those behind it
 cell_behind : (width : ℕ) (words : List ℕ) (region : Region) (regions : List Region) (owner : HoldingState) (owners : List HoldingState) (c : ℕ) → AreOwners width words (region ∷ regions) (owner ∷ owners)
@@ -87,15 +85,6 @@ pub net_of_parts : (words : List ℕ) (c count : ℕ) → count ≤ SLOTS → ((
 unfolding all_slots
 net_of_parts words c count few none = net_of_first_slots words c count SLOTS few none
 
--- slots that have published nothing below 0 and no more than 2^40 have a small net
-pub net_small : (words : List ℕ) (c a n : ℕ) → ((slot : ℕ) → a ≤ slot → slot < a + n → (pos 0 ≤ℤ slot_net words c slot) × (slot_net words c slot ≤ℤ pos 1099511627776))
-    → (pos 0 ≤ℤ net words (range_with_len a n) c) × (net words (range_with_len a n) c ≤ℤ pos (n * 1099511627776))
-net_small words c a zero each = (omega (arith, ints), omega (arith, ints))
-net_small words c a (suc n) each =
-    let here = each a (omega arith) (omega arith) in
-    let rest = net_small words c (a + 1) n (λ slot from below. each slot (omega arith) (omega arith)) in
-    (omega (arith, ints), omega (arith, ints))
-
 -- so a cell as published and what is pending of it are its count over all rows
 pub published_counted : (width count : ℕ) (words : List ℕ) (regions : List Region) (owners : List HoldingState) (c : ℕ) → c < CELLS → AreOwners width words regions owners → IsConsecutive 1 regions
     → parts_of regions ≡ range_with_len 0 count → count ≤ SLOTS → ((slot : ℕ) → count ≤ slot → slot_net words c slot ≡ pos 0)
@@ -123,18 +112,3 @@ sum_small f (x ∷ xs) each =
     let here = each.0 in
     let rest = sum_small f xs each.1 in
     (omega (arith, ints), omega (arith, ints))
-
--- what is pending of each owner is small
-pub each_pending : (width : ℕ) (words : List ℕ) (regions : List Region) (owners : List HoldingState) (c : ℕ) → c < CELLS → AreOwners width words regions owners
-    → AllByRecursion (λ (owner : HoldingState). IsAtMost 1099511627776 (pending_at owner.pending c)) owners
-each_pending width words regions owners c below each =
-    each_second {P = IsOwner width words} {Q = λ (owner : HoldingState). IsAtMost 1099511627776 (pending_at owner.pending c)} (λ region owner is. pending_fits width words region owner is c below) regions owners each
-
--- so sums over at most 32 owners fit 64 bits, and those over the first of them
-pub sum_fits : {X : Type 0} (f : X → ℤ) (xs : List X) → length xs ≤ 32 → AllByRecursion (λ x. IsAtMost 1099511627776 (f x)) xs → FitsSigned w64 (sum_ints f xs)
-sum_fits f xs few each = let small = sum_small f xs each in omega (arith, ints)
-
-pub each-take : {X : Type 0} (P : X → Type 0) (i : ℕ) (xs : List X) → AllByRecursion P xs → AllByRecursion P (take i xs)
-each-take P zero xs each = tt
-each-take P (suc i) [] each = tt
-each-take P (suc i) (x ∷ xs) each = (each.0, each-take P i xs each.1)

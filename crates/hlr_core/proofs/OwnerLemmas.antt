@@ -1,9 +1,8 @@
 -- The owners of all regions, one beside each, and their rows as one book.
-use Rattle.std.proofs.Common.{◌≡◌, ℕ, ◌<◌, ◌≤◌, refl, arith, List, [], ◌∷◌, sym, ◌∙◌, ap, ◌++◌, true, map, append_assoc}
-use Rattle.std.specs.List.{AllZip, AllByRecursion}
+use Rattle.std.proofs.Common.{◌≡◌, ℕ, ◌<◌, ◌≤◌, arith, List, [], ◌∷◌, sym, ◌∙◌, ap, true, map}
+use Rattle.std.specs.List.{AllZip}
 use Rattle.tatp_actions.specs.Book.{Book, IsRowsOf, IsWithin, rows_between, subscriber_at}
 use Rattle.tatp_actions.specs.Joined.{join_books, book_of}
-use Rattle.tatp_actions.proofs.CutLemmas.{same_tables}
 use Rattle.tatp_actions.proofs.JoinedLemmas.{rows_joined}
 use Rattle.part_table.specs.declared.region.Region.{Region}
 use Rattle.hlr_core.specs.Held.{HoldingState, IsOwner, AreOwners}
@@ -21,15 +20,6 @@ use Rattle.hlr_core.proofs.HalvesLemmas.{HasRows}
 -- the rows of all owners, in their order
 abbrev pub book_of_owners : List HoldingState → Book
 book_of_owners owners = book_of (map (λ (owner : HoldingState). owner.part) owners)
-
--- joining books in turn
-pub join_in_turn : (a b c : Book) → join_books (join_books a b) c ≡ join_books a (join_books b c)
-join_in_turn a b c = same_tables (append_assoc a.subscribers b.subscribers c.subscribers) (append_assoc a.access b.access c.access) (append_assoc a.facilities b.facilities c.facilities) (append_assoc a.forwardings b.forwardings c.forwardings)
-
--- the rows of two runs of owners
-pub book-append : (xs ys : List HoldingState) → book_of_owners (xs ++ ys) ≡ join_books (book_of_owners xs) (book_of_owners ys)
-book-append [] ys = refl
-book-append (x ∷ xs) ys = ap (λ (book : Book). join_books x.part.book book) (book-append xs ys) ∙ sym (join_in_turn x.part.book (book_of_owners xs) (book_of_owners ys))
 
 -- the rows of an owner lie in its region
 pub own_region : (width : ℕ) (words : List ℕ) (region : Region) (owner : HoldingState) → IsOwner width words region owner → IsRowsOf region.lo region.hi owner.part.book
@@ -54,20 +44,6 @@ zip_weaker weaker [] [] each = tt
 zip_weaker weaker [] (y ∷ ys) each = absurd each
 zip_weaker weaker (x ∷ xs) [] each = absurd each
 zip_weaker weaker (x ∷ xs) (y ∷ ys) each = (weaker x y each.0, zip_weaker weaker xs ys each.1)
-
--- a fact of each second one
-pub each_second : {A B : Type 0} {P : A → B → Type 0} {Q : B → Type 0} → ((x : A) (y : B) → P x y → Q y) → (xs : List A) (ys : List B) → AllZip P xs ys → AllByRecursion Q ys
-each_second weaker [] [] each = tt
-each_second weaker [] (y ∷ ys) each = absurd each
-each_second weaker (x ∷ xs) [] each = absurd each
-each_second weaker (x ∷ xs) (y ∷ ys) each = (weaker x y each.0, each_second weaker xs ys each.1)
-
--- one more pair
-pub zip_push : {A B : Type 0} (P : A → B → Type 0) (xs : List A) (ys : List B) (x : A) (y : B) → AllZip P xs ys → P x y → AllZip P (xs ++ x ∷ []) (ys ++ y ∷ [])
-zip_push P [] [] x y each here = (here, tt)
-zip_push P [] (other ∷ ys) x y each here = absurd each
-zip_push P (other ∷ xs) [] x y each here = absurd each
-zip_push P (other ∷ xs) (one ∷ ys) x y each here = (each.0, zip_push P xs ys x y each.1 here)
 
 -- a region behind a number
 abbrev IsBehind : ℕ → Region → Type 0

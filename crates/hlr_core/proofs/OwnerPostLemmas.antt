@@ -1,6 +1,6 @@
 -- The owners of all regions at opening and after a posting, and what a posting is of a store.
 use Rattle.std.proofs.Common.{◌≡◌, ◌≢◌, ◌∙◌, refl, ap, subst, ℕ, zero, suc, ◌+◌, ◌<◌, ◌≤◌, arith, List, [], ◌∷◌, map, replicate, true, false, ◌⊎◌, slice_get}
-use Rattle.std.specs.Prelude.{Some, None, find, ◌==◌, pos, Result}
+use Rattle.std.specs.Prelude.{Some, find, ◌==◌, pos, Result}
 use Rattle.std.specs.List.{AllZip, IsDistinct, range_with_len, list_any}
 use Rattle.std.proofs.lemmas.Bool.Decides.{nat_tests}
 use Rattle.tatp_rows.proofs.BlankLemmas.{blank_at}
@@ -122,17 +122,9 @@ slot_of a zero i within = absurd (omega arith)
 slot_of a (suc count) zero within = let same : a + 0 ≡ a = omega arith in rw same refl
 slot_of a (suc count) (suc i) within = let more : a + suc i ≡ a + 1 + i = omega arith in rw more (slot_of (a + 1) count i (omega arith))
 
-no_slot_of : (a count i : ℕ) → count ≤ i → slice_get (map (λ (q : ℕ). q ∷ []) (range_with_len a count)) i ≡ None
-no_slot_of a zero i past = refl
-no_slot_of a (suc count) zero past = absurd (omega arith)
-no_slot_of a (suc count) (suc i) past = no_slot_of (a + 1) count i (omega arith)
-
 -- part p has slot p alone, and there is no other part
 pub slots_at : (count p : ℕ) → p < count → slice_get (map (λ (q : ℕ). q ∷ []) (range_with_len 0 count)) p ≡ Some (p ∷ [])
 slots_at count p within = let same : 0 + p ≡ p = omega arith in rw same at (slot_of 0 count p within)
-
-pub slots_past : (count p : ℕ) → count ≤ p → slice_get (map (λ (q : ℕ). q ∷ []) (range_with_len 0 count)) p ≡ None
-slots_past count p past = no_slot_of 0 count p past
 
 -- a posting of one part is a right step of the store
 pub post_step : (store : Store) (region : Region) (before : HoldingState) (p limit : ℕ) (posted : Result ℕ Refusal) (answer : Reply) (words' : List ℕ) → slots_of store p ≡ Some (p ∷ [])

@@ -34,10 +34,7 @@ pub record IsPosting (count : ℕ → ℕ) (slot limit : ℕ) (start : List ℕ)
   pub few : posted ≤ c
   pub within : posted ≤ limit
 
--- a zero amount is zero, and no other is
-pub zero_is : (z : ℤ) → z ≡ pos 0 → is_zero z ≡ true
-zero_is z e = rw e refl
-
+-- an amount that is not 0
 pub other_is_not : (z : ℤ) → (z ≡ pos 0 → ⊥) → is_zero z ≡ false
 other_is_not (pos zero) never = absurd (never refl)
 other_is_not (pos (suc n)) never = grind (arith, nat_tests)

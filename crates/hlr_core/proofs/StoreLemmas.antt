@@ -1,35 +1,29 @@
 -- The store of holdings and loose pieces, woven by their regions: its rows, and who stands where.
-use Rattle.std.proofs.Common.{◌≡◌, ◌∙◌, refl, sym, ap, ℕ, zero, suc, ◌+◌, ◌<◌, ◌≤◌, arith, List, [], ◌∷◌, length, get_or, set, subst, map, take, ◌-◌, ◌++◌}
+use Rattle.std.proofs.Common.{◌≡◌, ◌∙◌, refl, sym, ap, ℕ, zero, suc, ◌<◌, arith, List, [], ◌∷◌, length, get_or, set, subst}
 use Rattle.std.specs.Prelude.{Some, find, ◌==◌}
-use Rattle.std.specs.List.{AllZip, IsDistinct, range_with_len}
+use Rattle.std.specs.List.{AllZip, IsDistinct}
 use Rattle.std.proofs.lemmas.Slice.Zip.{AllZip-long}
 use Rattle.tatp_actions.specs.Book.{IsRowsOf, empty_book}
-use Rattle.tatp_actions.specs.Part.{IsWidth, IsRange}
+use Rattle.tatp_actions.specs.Part.{IsWidth}
 use Rattle.part_table.proofs.NumberLemmas.{range_distinct, length_regions}
 use Rattle.part_table.proofs.WovenLemmas.{piece_beside, part_beside, woven-parts_between, pieces_before-lt}
 use Rattle.part_table.proofs.WovenCutLemmas.{woven-set}
-use Rattle.part_table.proofs.BoundsLemmas.{length_parts, no_pieces, within}
+use Rattle.part_table.proofs.BoundsLemmas.{length_parts, no_pieces}
 use Rattle.part_table.specs.Bounds.{parts_between}
 use Rattle.part_table.specs.Region.{is_part, is_piece}
-use Rattle.part_table.specs.Regions.{AreRegions, parts_of, IsConsecutive}
+use Rattle.part_table.specs.Regions.{AreRegions, parts_of}
 use Rattle.part_table.specs.Woven.{woven, pieces_before}
 use Rattle.part_table.specs.declared.region.Region.{Region}
 use Rattle.part_table.specs.declared.region.TheConstants.{END}
 use Rattle.hlr_core.specs.Board.{IsBoard}
-use Rattle.hlr_core.specs.Owners.{store_of}
 use Rattle.hlr_core.specs.Held.{HoldingState, IsOwner, AreHeld}
-use Rattle.hlr_core.specs.Store.{Store, HasOpening, opening}
 use Rattle.hlr_core.specs.Words.{blank_words}
 use Rattle.hlr_core.proofs.HeldLemmas.{IsFresh}
 use Rattle.hlr_core.proofs.WordsLemmas.{blank_net}
 use Rattle.hlr_core.proofs.HalvesLemmas.{HasRows}
-use Rattle.hlr_core.proofs.OwnerLemmas.{book_of_owners, owner_rows, owners_rows, zip_push}
+use Rattle.hlr_core.proofs.OwnerLemmas.{book_of_owners, owner_rows, owners_rows}
 use Rattle.hlr_core.proofs.OwnerActLemmas.{found_owner, found_stays}
 use Rattle.hlr_core.proofs.OwnerPostLemmas.{opened_owners, opened_book}
-use Rattle.part_table.proofs.OpeningLemmas.{openable}
-use Rattle.part_table.specs.Opening.{opening_bound}
-use Rattle.std.proofs.lemmas.List.{take_more}
-use Rattle.std.proofs.lemmas.List.FromFn.{length-map-range_with_len}
 
 -- both of two facts, of each pair
 pub zip_both : {A B : Type 0} (P Q : A → B → Type 0) (xs : List A) (ys : List B) → AllZip P xs ys → AllZip Q xs ys → AllZip (λ (x : A) (y : B). P x y × Q x y) xs ys
@@ -99,24 +93,6 @@ module _ (regions : List Region) (holdings pieces : List HoldingState) (words : 
       (sym (woven-set regions holdings pieces held.each_part held.each_piece are.in_order p holding region found)
       ∙ ap (λ (hs : List HoldingState). woven regions hs pieces) (set_same holdings p holding is))
 
--- regions that follow one another are ranges of subscribers
-pub region_range : (from : ℕ) (regions : List Region) (i : ℕ) (d : Region) → 1 ≤ from → i < length regions → IsConsecutive from regions → IsRange (get_or regions i d).lo (get_or regions i d).hi
-region_range from [] i d first inside consecutive = absurd (omega arith)
-region_range from (region ∷ regions) zero d first inside consecutive =
-    let begins = consecutive.0 in
-    let end = within region.hi regions consecutive.2 in
-    (omega arith, consecutive.1, end)
-region_range from (region ∷ regions) (suc i) d first inside consecutive =
-    let begins = consecutive.0 in
-    let some = consecutive.1 in
-    region_range region.hi regions i d (omega arith) (omega arith) consecutive.2
-
--- one more holding for the next region
-pub opened_more : (width i : ℕ) (regions : List Region) (d : Region) (holdings : List HoldingState) (holding : HoldingState) → i < length regions → AllZip (IsFresh width) (take i regions) holdings → IsFresh width (get_or regions i d) holding
-    → AllZip (IsFresh width) (take (i + 1) regions) (holdings ++ holding ∷ [])
-opened_more width i regions d holdings holding inside each fresh =
-    rw (take_more regions i d inside) (zip_push (IsFresh width) (take i regions) holdings (get_or regions i d) holding each fresh)
-
 -- holdings with no row and nothing pending, over blank words and parts alone
 pub opened_held : (width : ℕ) (bounds : List ℕ) (holdings : List HoldingState) → IsWidth width → IsBoard blank_words → AllZip (IsFresh width) (parts_between 0 1 bounds) holdings
     → AreHeld (parts_between 0 1 bounds) holdings [] blank_words width
@@ -146,18 +122,3 @@ opened_rows width bounds holdings each =
     let parts = length_parts 0 1 bounds in
     let all = length_regions regions in
     ap book_of_owners (woven-parts_between 0 1 bounds holdings (omega arith)) ∙ opened_book width regions holdings each
-
--- that is the store at opening
-pub opened_store : (parts width : ℕ) (holdings : List HoldingState) → HasOpening parts width → AllZip (IsFresh width) (parts_between 0 1 (map (opening_bound parts width) (range_with_len 1 (parts - 1)))) holdings
-    → store_of (parts_between 0 1 (map (opening_bound parts width) (range_with_len 1 (parts - 1)))) holdings [] blank_words width ≡ opening parts width
-opened_store parts width holdings can each =
-    let bounds = map (opening_bound parts width) (range_with_len 1 (parts - 1)) in
-    let is = openable parts width can in
-    let long = AllZip-long (IsFresh width) (parts_between 0 1 bounds) holdings each in
-    let none = ap length (no_pieces 0 1 bounds) in
-    let numbers = length_parts 0 1 bounds in
-    let all = length_regions (parts_between 0 1 bounds) in
-    let count = length-map-range_with_len (opening_bound parts width) 1 (parts - 1) in
-    let some = is.some_part in
-    let same : length holdings ≡ parts = omega arith in
-    rw (same, opened_rows width bounds holdings each) refl

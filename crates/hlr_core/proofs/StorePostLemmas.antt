@@ -1,5 +1,5 @@
 -- A posting of a holding of a store.
-use Rattle.std.proofs.Common.{◌≡◌, ◌∙◌, refl, ap, ℕ, ◌<◌, ◌≤◌, arith, List, [], ◌∷◌, length, get_or, set, ◌⊎◌}
+use Rattle.std.proofs.Common.{◌≡◌, ◌∙◌, ap, ℕ, ◌<◌, arith, List, [], ◌∷◌, length, get_or, set, ◌⊎◌}
 use Rattle.std.specs.Prelude.{Some, find, pos, Result}
 use Rattle.std.proofs.lemmas.List.{length-set}
 use Rattle.tatp_actions.specs.declared.cells.TheConstants.{CELLS}
@@ -18,24 +18,17 @@ use Rattle.hlr_core.proofs.HeldLemmas.{part_net}
 use Rattle.hlr_core.proofs.HalvesLemmas.{HasRows}
 use Rattle.hlr_core.proofs.OwnerLemmas.{book_of_owners}
 use Rattle.hlr_core.proofs.OwnerActLemmas.{found_owner}
-use Rattle.hlr_core.proofs.OwnerPostLemmas.{owners_posted, book_posted, others_posted, slots_at, slots_past, post_step}
+use Rattle.hlr_core.proofs.OwnerPostLemmas.{owners_posted, book_posted, others_posted, slots_at, post_step}
 use Rattle.part_table.proofs.BesideLemmas.{place_of_part, part_there}
 use Rattle.tatp_rows.specs.declared.refusal.Refusal.{Refusal}
-use Rattle.tatp_rows.specs.declared.refusal.Refusal.TheVariants as refusal
 use Rattle.tatp_actions.specs.Cell.{cell}
 use Rattle.hlr_core.specs.Step.{IsPostStep, posted_reply}
 use Rattle.hlr_core.specs.Post.{post}
 use Rattle.hlr_core.specs.declared.event.Reply.{Reply}
-use Rattle.hlr_core.specs.declared.event.Reply.TheVariants as reply
 use Rattle.hlr_core.specs.declared.board.TheConstants.{SLOTS}
 use Rattle.hlr_core.proofs.StoreLemmas.{parts_distinct, part_owned, part_stands}
 
 module _ (regions : List Region) (holdings pieces : List HoldingState) (words : List ℕ) (width : ℕ) (are : AreRegions regions) (held : AreHeld regions holdings pieces words width) where
-  -- a posting to no part
-  pub no_part_step : (p limit : ℕ) → length holdings ≤ p
-      → IsPostStep (slots_of (store_of regions holdings pieces words width) p) p limit (store_of regions holdings pieces words width) (reply.Refused refusal.NoPart) (store_of regions holdings pieces words width)
-  no_part_step p limit past = rw (slots_past (length holdings) p past) (refl, refl)
-
   module _ (p : ℕ) (within : p < length holdings) (before : HoldingState) (is : before ≡ get_or holdings p before) where
     -- the region of a part, and its holding
     there : (region : Region) × (find (is_part p) regions ≡ Some region)

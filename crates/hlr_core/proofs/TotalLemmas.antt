@@ -1,14 +1,13 @@
 -- Totals over holdings and loose pieces, one after another: what is pending of a cell, and its count.
-use Rattle.std.proofs.Common.{◌≡◌, ◌∙◌, refl, sym, ap, ℕ, zero, suc, ◌+◌, ◌*◌, ◌^◌, ◌<◌, ◌≤◌, arith, List, [], ◌∷◌, ◌++◌, length, get_or, take}
-use Rattle.std.specs.Prelude.{ℤ, pos, neg_ℤ, ◌+ℤ◌, ◌≤ℤ◌, sum_by}
-use Rattle.std.specs.List.{AllByRecursion, AllZip}
+use Rattle.std.proofs.Common.{◌≡◌, ◌∙◌, sym, ℕ, zero, suc, ◌+◌, ◌^◌, ◌<◌, ◌≤◌, arith, List, [], ◌∷◌, ◌++◌, length, get_or, take}
+use Rattle.std.specs.Prelude.{ℤ, pos, ◌+ℤ◌, sum_by}
+use Rattle.std.specs.List.{AllByRecursion}
 use Rattle.std.proofs.lemmas.Int.{ints}
 use Rattle.std.proofs.lemmas.List.{length-take, take_more, take_all}
 use Rattle.std.proofs.lemmas.List.Sums.{sum_by_more, sum_by_more_le}
 use Rattle.tatp_actions.proofs.CountLemmas.{few_cells}
 use Rattle.tatp_actions.specs.Cell.{cell}
 use Rattle.tatp_actions.specs.declared.cells.TheConstants.{CELLS}
-use Rattle.part_table.proofs.NumberLemmas.{most_pieces}
 use Rattle.part_table.proofs.WovenLemmas.{sum_ints, sum_by-woven}
 use Rattle.part_table.specs.Region.{part_number, piece_number}
 use Rattle.part_table.specs.Regions.{AreRegions, parts_of, pieces_of}
@@ -17,7 +16,7 @@ use Rattle.part_table.specs.declared.region.Place.{Place}
 use Rattle.part_table.specs.declared.region.Place.TheVariants.{Part, Piece}
 use Rattle.part_table.specs.declared.region.Region.{Region}
 use Rattle.view_delta.specs.Pending.{pending_at}
-use Rattle.hlr_core.specs.Held.{HoldingState, AreSmall, IsOwner, AreOwners, AreHeld}
+use Rattle.hlr_core.specs.Held.{HoldingState, AreOwners, AreHeld}
 use Rattle.std.specs.Prelude.{Box}
 use Rattle.std.specs.declared.alloc.Global.{Global}
 use Rattle.hlr_core.proofs.BoxLemmas.{length-unboxed, unboxed_at}
@@ -29,56 +28,34 @@ use Rattle.hlr_core.proofs.OwnerLemmas.{book_of_owners}
 use Rattle.hlr_core.proofs.StoreCountLemmas.{unposted_is}
 use Rattle.hlr_core.proofs.StoreLemmas.{all_rows}
 use Rattle.tatp_rows.proofs.OrderedLemmas.{each-weaker}
+use Rattle.tatp_rows.proofs.PlaceLemmas.{each_at}
+use Rattle.part_table.proofs.StandLemmas.{stands_at}
 
 -- what holds of all, woven, holds of the parts and of the pieces
-each_at : {X : Type 0} (Q : X → Type 0) (place : Place) (parts pieces rest : List X) (numbers piece_numbers : List ℕ) → length parts ≡ length (part_number place ++ numbers)
+each_behind : {X : Type 0} (Q : X → Type 0) (place : Place) (parts pieces rest : List X) (numbers piece_numbers : List ℕ) → length parts ≡ length (part_number place ++ numbers)
     → length pieces ≡ length (piece_number place ++ piece_numbers) → AllByRecursion Q (first_at place parts pieces ++ rest)
     → (AllByRecursion Q rest → AllByRecursion Q (parts_behind place parts) × AllByRecursion Q (pieces_behind place pieces))
     → AllByRecursion Q parts × AllByRecursion Q pieces
-each_at Q (Part p) [] pieces rest numbers piece_numbers each_part each_piece each more = absurd (omega arith)
-each_at Q (Part p) (part ∷ parts) pieces rest numbers piece_numbers each_part each_piece each more = let others = more each.1 in ((each.0, others.0), others.1)
-each_at Q (Piece n) parts [] rest numbers piece_numbers each_part each_piece each more = absurd (omega arith)
-each_at Q (Piece n) parts (piece ∷ pieces) rest numbers piece_numbers each_part each_piece each more = let others = more each.1 in (others.0, (each.0, others.1))
-
-left_behind : {X : Type 0} (place : Place) (parts pieces : List X) (numbers piece_numbers : List ℕ) → length parts ≡ length (part_number place ++ numbers)
-    → length pieces ≡ length (piece_number place ++ piece_numbers) → (length (parts_behind place parts) ≡ length numbers) × (length (pieces_behind place pieces) ≡ length piece_numbers)
-left_behind (Part p) [] pieces numbers piece_numbers each_part each_piece = absurd (omega arith)
-left_behind (Part p) (part ∷ parts) pieces numbers piece_numbers each_part each_piece = (omega arith, each_piece)
-left_behind (Piece n) parts [] numbers piece_numbers each_part each_piece = absurd (omega arith)
-left_behind (Piece n) parts (piece ∷ pieces) numbers piece_numbers each_part each_piece = (each_part, omega arith)
-
-none_in : {X : Type 0} (Q : X → Type 0) (xs : List X) → length xs ≡ 0 → AllByRecursion Q xs
-none_in Q [] none = tt
-none_in Q (x ∷ xs) none = absurd (omega arith)
+each_behind Q (Part p) [] pieces rest numbers piece_numbers each_part each_piece each more = absurd (omega arith)
+each_behind Q (Part p) (part ∷ parts) pieces rest numbers piece_numbers each_part each_piece each more = let others = more each.1 in ((each.0, others.0), others.1)
+each_behind Q (Piece n) parts [] rest numbers piece_numbers each_part each_piece each more = absurd (omega arith)
+each_behind Q (Piece n) parts (piece ∷ pieces) rest numbers piece_numbers each_part each_piece each more = let others = more each.1 in (others.0, (each.0, others.1))
 
 pub each_woven : {X : Type 0} (Q : X → Type 0) (regions : List Region) (parts pieces : List X) → length parts ≡ length (parts_of regions) → length pieces ≡ length (pieces_of regions)
     → AllByRecursion Q (woven regions parts pieces) → AllByRecursion Q parts × AllByRecursion Q pieces
-each_woven Q [] parts pieces each_part each_piece each = (none_in Q parts each_part, none_in Q pieces each_piece)
+each_woven Q [] [] [] each_part each_piece each = (tt, tt)
+each_woven Q [] (part ∷ parts) pieces each_part each_piece each = absurd (omega arith)
+each_woven Q [] [] (piece ∷ pieces) each_part each_piece each = absurd (omega arith)
 each_woven Q (region ∷ regions) parts pieces each_part each_piece each =
-    let left = left_behind region.place parts pieces (parts_of regions) (pieces_of regions) each_part each_piece in
-    each_at Q region.place parts pieces (woven regions (parts_behind region.place parts) (pieces_behind region.place pieces)) (parts_of regions) (pieces_of regions) each_part each_piece each
-    (λ rest. each_woven Q regions (parts_behind region.place parts) (pieces_behind region.place pieces) left.0 left.1 rest)
-
--- an element of a list
-pub each_get : {X : Type 0} (Q : X → Type 0) (xs : List X) (i : ℕ) (d : X) → AllByRecursion Q xs → i < length xs → Q (get_or xs i d)
-each_get Q [] i d each within = absurd (omega arith)
-each_get Q (x ∷ xs) zero d each within = each.0
-each_get Q (x ∷ xs) (suc i) d each within = each_get Q xs i d each.1 (omega arith)
+    let at = stands_at region.place parts pieces (parts_of regions) (pieces_of regions) each_part each_piece in
+    each_behind Q region.place parts pieces (woven regions (parts_behind region.place parts) (pieces_behind region.place pieces)) (parts_of regions) (pieces_of regions) each_part each_piece each
+    (λ rest. each_woven Q regions (parts_behind region.place parts) (pieces_behind region.place pieces) at.parts_left at.pieces_left rest)
 
 each_take : {X : Type 0} (Q : X → Type 0) (xs : List X) (i : ℕ) → AllByRecursion Q xs → AllByRecursion Q (take i xs)
 each_take Q [] zero each = tt
 each_take Q [] (suc i) each = tt
 each_take Q (x ∷ xs) zero each = tt
 each_take Q (x ∷ xs) (suc i) each = (each.0, each_take Q xs i each.1)
-
--- there are at most sixteen of each
-pub few_owners : (regions : List Region) (holdings pieces : List HoldingState) (words : List ℕ) (width : ℕ) → AreRegions regions → AreHeld regions holdings pieces words width → (length holdings ≤ 16) × (length pieces ≤ 16)
-few_owners regions holdings pieces words width are held =
-    let parts = held.each_part in
-    let loose = held.each_piece in
-    let few = are.few_parts in
-    let few' = most_pieces (pieces_of regions) are.numbered are.distinct in
-    (omega arith, omega arith)
 
 -- the zones of an owner have the width, and its pending deltas are small
 pub record IsCountable (width : ℕ) (owner : HoldingState) : Type 0 where
@@ -102,7 +79,7 @@ pub box_countable : (width : ℕ) (boxes : List (Box HoldingState Global)) (i : 
     → b ≡ get_or boxes i b → owner ≡ b.value → IsCountable width owner
 box_countable width boxes i b owner each within is has =
     let at = unboxed_at boxes i b owner is has in
-    rw at (each_get (IsCountable width) (unboxed boxes) i owner each (rw length-unboxed within))
+    rw at (each_at (IsCountable width) (unboxed boxes) i owner each (rw length-unboxed within))
 
 -- a sum with one more, and of all
 sum_last : {X : Type 0} (f : X → ℤ) (xs : List X) (x : X) → sum_ints f (xs ++ x ∷ []) ≡ sum_ints f xs +ℤ f x

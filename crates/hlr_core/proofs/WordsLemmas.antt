@@ -3,16 +3,11 @@ use Rattle.std.proofs.Common.{◌≡◌, ◌≢◌, ℕ, ◌+◌, ◌<◌, ◌�
 use Rattle.std.specs.Prelude.{ℤ, pos, negsuc, ◌+ℤ◌}
 use Rattle.std.specs.List.{range_with_len}
 use Rattle.std.proofs.lemmas.Int.{ints}
-use Rattle.std.proofs.lemmas.List.{get_or-set_same, get_or-set_other, length-set}
+use Rattle.std.proofs.lemmas.List.{get_or-set_same, get_or-set_other}
 use Rattle.tatp_actions.specs.declared.cells.TheConstants.{CELLS}
 use Rattle.hlr_core.specs.declared.board.TheConstants.{WORDS}
 use Rattle.hlr_core.specs.Words.{plus_word, minus_word, slot_net, net, raised, blank_words}
 use Rattle.tatp_rows.proofs.BlankLemmas.{blank_at}
-
--- raising words keeps how many there are
-pub length-raised : (words : List ℕ) (slot c : ℕ) (amount : ℤ) → length (raised words slot c amount) ≡ length words
-length-raised words slot c (pos n) = length-set words _ _
-length-raised words slot c (negsuc n) = length-set words _ _
 
 -- the net of the slot and cell that was raised
 pub slot_net-raised : (words : List ℕ) (slot c : ℕ) (amount : ℤ) → length words ≡ WORDS → slot < 16 → c < CELLS

@@ -1,4 +1,4 @@
-use Rattle.std.proofs.Common.{arith, ◌∙◌, w64}
+use Rattle.std.proofs.Common.{arith, w64}
 use Rattle.std.proofs.lemmas.Int.{ints, to_z-of_z}
 use Rattle.hlr_core.proofs.CellLemmas.{net_more}
 use Rattle.hlr_core.proofs.board.Board.published.Goals as goal

@@ -1,5 +1,3 @@
-use Rattle.std.proofs.Common.{arith, ◌∙◌, ◌<◌, length}
-use Rattle.hlr_core.specs.Owners.{unboxed}
 use Rattle.hlr_core.proofs.BoxLemmas.{length-unboxed, unboxed_at, unboxed-set}
 use Rattle.hlr_core.proofs.StorePostLemmas.{posted_before, posted_step, posted_held}
 use Rattle.hlr_core.proofs.holdings.Holdings.post.Goals as goal

@@ -1,4 +1,4 @@
-use Rattle.std.proofs.Common.{arith, ℕ, refl, ◌∙◌}
+use Rattle.std.proofs.Common.{arith, ℕ}
 use Rattle.tatp_rows.proofs.BlankLemmas.{blank_at}
 use Rattle.tatp_actions.specs.declared.cells.TheConstants.{CELLS}
 use Rattle.hlr_core.proofs.BoxLemmas.{length-unboxed, unboxed_at}

@@ -1,10 +1,11 @@
-use Rattle.std.proofs.Common.{arith, ℤ, refl, ◌∙◌}
+use Rattle.std.proofs.Common.{arith, ℤ}
 use Rattle.std.specs.Prelude.{pos}
 use Rattle.std.proofs.lemmas.Int.{ints}
 use Rattle.tatp_rows.proofs.BlankLemmas.{blank_at}
 use Rattle.tatp_actions.specs.declared.cells.TheConstants.{CELLS}
 use Rattle.hlr_core.proofs.BoxLemmas.{length-unboxed, unboxed_at}
-use Rattle.hlr_core.proofs.TotalLemmas.{all_countable, few_owners, box_countable, none_added, added_small, one_added, added_unposted}
+use Rattle.hlr_core.proofs.StoreCountLemmas.{few_owners}
+use Rattle.hlr_core.proofs.TotalLemmas.{all_countable, box_countable, none_added, added_small, one_added, added_unposted}
 use Rattle.hlr_core.proofs.holdings.Holdings.unposted.Goals as goal
 
 pub loop-holding-init : goal.loop-holding-init
