@@ -11,8 +11,7 @@ use Rattle.tatp_rows.proofs.OrderedLemmas.{by_test}
 use Rattle.tatp_rows.specs.declared.refusal.Refusal.{Refusal}
 use Rattle.tatp_rows.specs.declared.refusal.Refusal.TheVariants.{Field}
 use Rattle.hlr.specs.Fields.{◌>>=◌, number_field, number_fields}
-use Rattle.hlr.specs.Records.{bound_fields, field, recut_of}
-use Rattle.hlr.specs.declared.records.Command.TheVariants as command
+use Rattle.hlr.specs.Records.{bound_fields, bounds_of, field}
 use Rattle.hlr.specs.declared.records.TheConstants.{MOST_BOUNDS}
 
 -- the field at a place, and those behind it
@@ -67,7 +66,7 @@ module _ (fields : List (List ℕ)) (i : ℕ) (ns : List ℕ) where
       }
 
   -- all fields are read
-  pub all_from : AreReadFrom fields i ns → length fields ≤ i → length ns ≤ MOST_BOUNDS → Ok (command.Recut (record { items = ns })) ≡ recut_of fields
+  pub all_from : AreReadFrom fields i ns → length fields ≤ i → length ns ≤ MOST_BOUNDS → Ok (record { items = ns }) ≡ bounds_of fields
   all_from read past few =
       let many = read.many in
       let size = length-drop 1 fields in
@@ -76,7 +75,7 @@ module _ (fields : List (List ℕ)) (i : ℕ) (ns : List ℕ) where
       rw (few_fields (drop 1 fields) (omega arith), whole, append-nil ns) refl
 
   -- a field is no number
-  pub refused_from : (why : Refusal) → AreReadFrom fields i ns → i < length fields → Err why ≡ number_field (field fields i) → Err why ≡ recut_of fields
+  pub refused_from : (why : Refusal) → AreReadFrom fields i ns → i < length fields → Err why ≡ number_field (field fields i) → Err why ≡ bounds_of fields
   refused_from why read inside is =
       let whole : number_fields (drop 1 fields) ≡ Err why = read.whole ∙ rw (fields_from fields i inside, ← is) refl in
       let is_field = refused_number _ why is in
@@ -85,7 +84,7 @@ module _ (fields : List (List ℕ)) (i : ℕ) (ns : List ℕ) where
       (λ e. rw (few_fields (drop 1 fields) (grind (arith, nat_tests)), whole) refl)
 
   -- there are too many fields
-  pub many_from : AreReadFrom fields i ns → i < length fields → MOST_BOUNDS ≤ length ns → Err Field ≡ recut_of fields
+  pub many_from : AreReadFrom fields i ns → i < length fields → MOST_BOUNDS ≤ length ns → Err Field ≡ bounds_of fields
   many_from read inside full =
       let many = read.many in
       let size = length-drop 1 fields in

@@ -2,6 +2,7 @@
 use Rattle.std.specs.Prelude.{ℕ, ◌+◌, ◌==◌, nat_lt, List, [], length, drop, codes, if◌then◌else◌, Option, Some, None, Result, Ok, Err}
 use Rattle.std.specs.Str.{bytes_eq}
 use Rattle.std.specs.Option.{unwrap_or}
+use Rattle.arrayvec.specs.ArrayVec.{ArrayVec}
 use Rattle.csv.specs.Records.{field_at}
 use Rattle.tatp_rows.specs.Number.{number_in}
 use Rattle.tatp_rows.specs.Letters.{letters_in}
@@ -197,11 +198,11 @@ take_of fields = do
 unfoldable pub bound_fields : List (List ℕ) → Result (List ℕ) Refusal
 bound_fields texts = if nat_lt MOST_BOUNDS (length texts) then Err Field else number_fields texts
 
--- recut,b1,.. with any number of bounds
-abbrev pub recut_of : List (List ℕ) → Result Command Refusal
-recut_of fields = do
+-- the bounds of recut,b1,.. with any number of them
+abbrev pub bounds_of : List (List ℕ) → Result (ArrayVec ℕ) Refusal
+bounds_of fields = do
   bounds ← bound_fields (drop 1 fields)
-  Ok (command.Recut (record { items = bounds }))
+  Ok (record { items = bounds })
 
 -- what the fields after the word give, where there are as many as that
 abbrev pub with_fields : ℕ → List (List ℕ) → Result Command Refusal → Result Command Refusal
@@ -229,7 +230,7 @@ command_named (Some word.Give) fields = with_fields 3 fields (give_of fields)
 command_named (Some word.Take) fields = with_fields 2 fields (take_of fields)
 command_named (Some word.Regions) fields = with_fields 0 fields (Ok command.Regions)
 command_named (Some word.Propose) fields = with_fields 0 fields (Ok command.Propose)
-command_named (Some word.Recut) fields = recut_of fields
+command_named (Some word.Recut) fields = Ok command.Recut
 command_named None fields = Err Syntax
 
 -- the command of a record

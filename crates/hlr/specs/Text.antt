@@ -1,6 +1,7 @@
 -- The text that answers a list of records, and what a run writes of it.
 use Rattle.std.specs.Prelude.{◌≡◌, ◌≤◌, ℕ, Bool, true, List, [], ◌∷◌, ◌++◌, length, Option, Result, Ok, Err, ⊤}
 use Rattle.std.specs.Io.KnownBytes.{Appends}
+use Rattle.arrayvec.specs.ArrayVec.{ArrayVec}
 use Rattle.csv.specs.Reading.{AreRecords, Reached, default_config}
 use Rattle.csv.specs.declared.parser.State.{State}
 use Rattle.csv.specs.declared.parser.State.TheVariants as st
@@ -15,7 +16,7 @@ use Rattle.hlr_core.specs.declared.event.Event.{Event}
 use Rattle.hlr_core.specs.declared.event.Reply.{Reply}
 use Rattle.hlr.specs.declared.run.TheConstants.{RECORDS}
 use Rattle.hlr.specs.Lines.{bounds_line, recut_line, refused_line, reply_line}
-use Rattle.hlr.specs.Records.{command_of}
+use Rattle.hlr.specs.Records.{bounds_of, command_of}
 use Rattle.hlr.specs.Sink.{Begins, AppendsFront}
 use Rattle.hlr.specs.Reports.{index_text, regions_text, scan_text, views_text}
 use Rattle.hlr.specs.declared.fault.Fault.{Fault}
@@ -39,20 +40,25 @@ pub record RecutAnswered (before : Store) (bounds : List ℕ) (text : List ℕ) 
 abbrev pub proposal_line : Store → List ℕ
 proposal_line store = bounds_line (proposal (published_weights store) (parts_in store) store.width)
 
--- a command is answered: an event by its reply, a report by its lines, a record that is no command by its refusal
-abbrev pub CommandText : Result Command Refusal → Store → List ℕ → Store → Type 0
-CommandText (Ok (command.Ask event)) before text after = Answered before event text after
-CommandText (Ok command.Views) before text after = (text ≡ views_text (published before) (unposted before)) × (after ≡ before)
-CommandText (Ok command.Scan) before text after = (text ≡ scan_text (λ c. cell before.width c before.book)) × (after ≡ before)
-CommandText (Ok command.Index) before text after = (text ≡ index_text (index_of before.book.subscribers)) × (after ≡ before)
-CommandText (Ok command.Regions) before text after = (text ≡ regions_text before.regions) × (after ≡ before)
-CommandText (Ok command.Propose) before text after = (text ≡ proposal_line before) × (after ≡ before)
-CommandText (Ok (command.Recut bounds)) before text after = RecutAnswered before bounds.items text after
-CommandText (Err why) before text after = (text ≡ refused_line why) × (after ≡ before)
+-- a re-cut to the bounds that were read is answered; what is no list of bounds is answered by its refusal
+abbrev pub RecutText : Result (ArrayVec ℕ) Refusal → Store → List ℕ → Store → Type 0
+RecutText (Ok bounds) before text after = RecutAnswered before bounds.items text after
+RecutText (Err why) before text after = (text ≡ refused_line why) × (after ≡ before)
+
+-- a command of these fields is answered: an event by its reply, a report by its lines, a record that is no command by its refusal
+abbrev pub CommandText : List (List ℕ) → Result Command Refusal → Store → List ℕ → Store → Type 0
+CommandText fields (Ok (command.Ask event)) before text after = Answered before event text after
+CommandText fields (Ok command.Views) before text after = (text ≡ views_text (published before) (unposted before)) × (after ≡ before)
+CommandText fields (Ok command.Scan) before text after = (text ≡ scan_text (λ c. cell before.width c before.book)) × (after ≡ before)
+CommandText fields (Ok command.Index) before text after = (text ≡ index_text (index_of before.book.subscribers)) × (after ≡ before)
+CommandText fields (Ok command.Regions) before text after = (text ≡ regions_text before.regions) × (after ≡ before)
+CommandText fields (Ok command.Propose) before text after = (text ≡ proposal_line before) × (after ≡ before)
+CommandText fields (Ok command.Recut) before text after = RecutText (bounds_of fields) before text after
+CommandText fields (Err why) before text after = (text ≡ refused_line why) × (after ≡ before)
 
 -- a record is answered
 abbrev pub RecordText : List (List ℕ) → Store → List ℕ → Store → Type 0
-RecordText fields = CommandText (command_of fields)
+RecordText fields = CommandText fields (command_of fields)
 
 -- the records are answered one after another
 unfoldable pub RecordsText : List (List (List ℕ)) → Store → List ℕ → Store → Type 0

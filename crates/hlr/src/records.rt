@@ -1,7 +1,7 @@
 //! The commands that records are.
 ghost use Rattle.std.specs.Prelude.{◌≡◌, Some};
 ghost use Rattle.csv.specs.Records.{fields_of};
-ghost use Rattle.hlr.specs.Records.{field, word_named, gsd_of, gnd_of, gad_of, usd_of, ul_of, icf_of, dcf_of, sub_of, acc_of, fac_of, active_of, renaming_of, post_of, side_named, give_of, take_of, recut_of, with_fields, command_named, command_of};
+ghost use Rattle.hlr.specs.Records.{field, word_named, gsd_of, gnd_of, gad_of, usd_of, ul_of, icf_of, dcf_of, sub_of, acc_of, fac_of, active_of, renaming_of, post_of, side_named, give_of, take_of, bounds_of, with_fields, command_named, command_of};
 
 use crate::fields::{parse_byte, parse_bytes, parse_digits, parse_number};
 use arrayvec::ArrayVec;
@@ -28,8 +28,8 @@ pub enum Command {
     Regions,
     /// The report of the bounds that would share the rows out evenly.
     Propose,
-    /// A re-cut to these bounds.
-    Recut(ArrayVec<u64, MOST_BOUNDS>),
+    /// A re-cut to the bounds that its fields spell.
+    Recut,
 }
 
 /// The words that a record may begin with.
@@ -324,9 +324,9 @@ fn read_take(row: &ByteRecord) -> Result<Command, Refusal>
     Ok(Command::Ask(Event::Take { piece, part }))
 }
 
-/// `recut,b1,..`: `Field` too where there are more than 15 bounds.
-fn read_recut(row: &ByteRecord) -> Result<Command, Refusal>
-    ensures { result ≡ recut_of (fields_of row.now) }
+/// The bounds of `recut,b1,..`: `Field` where one is no number, or there are more than 15.
+pub fn read_bounds(row: &ByteRecord) -> Result<ArrayVec<u64, MOST_BOUNDS>, Refusal>
+    ensures { result ≡ bounds_of (fields_of row.now) }
 {
     let mut bounds = ArrayVec::new();
     for i in 1..row.len() {
@@ -336,7 +336,7 @@ fn read_recut(row: &ByteRecord) -> Result<Command, Refusal>
         }
         bounds.push(bound);
     }
-    Ok(Command::Recut(bounds))
+    Ok(bounds)
 }
 
 /// The command that a word and the fields after it give: `Syntax` where there are more or fewer fields than it has, or a
@@ -365,14 +365,14 @@ fn read_fields(word: Word, row: &ByteRecord) -> Result<Command, Refusal>
         Word::Take if row.len() == 3 => read_take(row),
         Word::Regions if row.len() == 1 => Ok(Command::Regions),
         Word::Propose if row.len() == 1 => Ok(Command::Propose),
-        Word::Recut => read_recut(row),
+        Word::Recut => Ok(Command::Recut),
         _ => Err(Refusal::Syntax),
     }
 }
 
 /// The command that a record is: `Syntax` where its first field is no word of this program, it has more or fewer fields
 /// than the command, or a side is neither `low` nor `high`; then `Field` where a field isn't of its form or is out of
-/// its range. Of a re-cut's bounds only their number is tested here, which is at most 15.
+/// its range. The bounds of a re-cut are not read here: a command that has room for fifteen is slow to hand on.
 #[tactic(auto, unfolding(crate::specs::Records::command_of))]
 pub fn read_command(row: &ByteRecord) -> Result<Command, Refusal>
     ensures { result ≡ command_of (fields_of row.now) }

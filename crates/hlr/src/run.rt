@@ -8,13 +8,15 @@ ghost use Rattle.csv.specs.declared.parser.State.TheVariants as state;
 ghost use Rattle.csv.specs.declared.reader.Trim.TheVariants as trim;
 ghost use Rattle.hlr_core.specs.Store.{HasOpening, opening};
 ghost use Rattle.hlr.specs.WholeRecords.{inner_remaining};
+ghost use Rattle.hlr.specs.Records.{command_of};
 ghost use Rattle.hlr.specs.Text.{IsFlushedAfter, Ran, RecordCut, RecordDone};
+ghost use Rattle.hlr.specs.declared.records.Command.TheVariants as command;
 ghost use Rattle.tatp_rows.specs.declared.refusal.Refusal.TheVariants as refusal;
 ghost use Rattle.hlr.specs.declared.fault.Fault.TheVariants as fault;
 
 use crate::fault::{Fault, read_fault};
 use crate::lines::{Line, build_recut, build_refused, build_reply, empty_line};
-use crate::records::{Command, read_command};
+use crate::records::{Command, read_bounds, read_command};
 use crate::reports::{write_index, write_proposal, write_regions, write_scan, write_views};
 use crate::sink::{Sink, Stalled, put_all};
 use crate::whole_records::WholeRecords;
@@ -26,6 +28,28 @@ use tatp_rows::Refusal;
 
 /// How many records a run answers at most.
 pub const RECORDS: u32 = 1_048_576;
+
+/// Answers a re-cut: by how many bounds it moved, or why it was refused.
+///
+/// It is not inlined: its list of bounds would be filled with zeros in each answer to an event.
+#[inline(never)]
+fn write_recut<S: Sink>(
+    row: &ByteRecord,
+    register: &mut Register,
+    line: &mut Line,
+    sink: &mut S,
+) -> Result<(), Stalled>
+    requires { command_of (fields_of row.now) ≡ Ok command.Recut }
+    ensures ok { OnOk result (RecordDone (fields_of row.now) register.old register.new (S.taken sink.old) (S.taken sink.new)) }
+    ensures err { OnErr result (RecordCut (fields_of row.now) register.old register.new (S.taken sink.old) (S.taken sink.new)) }
+    ensures told { OnErr result (S.has_stalled sink.new ≡ true) }
+{
+    match read_bounds(row) {
+        Ok(bounds) => build_recut(line, register.recut_to(bounds.as_slice())),
+        Err(why) => build_refused(line, why),
+    }
+    put_all(sink, line.as_slice())
+}
 
 /// Answers a record. The line is the memory to build the answer in. Where the sink fails, a front of the answer was
 /// taken.
@@ -50,10 +74,7 @@ fn answer<S: Sink>(
         Ok(Command::Index) => write_index(register.index(), line, sink),
         Ok(Command::Regions) => write_regions(register.regions(), line, sink),
         Ok(Command::Propose) => write_proposal(register, line, sink),
-        Ok(Command::Recut(bounds)) => {
-            build_recut(line, register.recut_to(bounds.as_slice()));
-            put_all(sink, line.as_slice())
-        }
+        Ok(Command::Recut) => write_recut(row, register, line, sink),
         Err(why) => {
             build_refused(line, why);
             put_all(sink, line.as_slice())

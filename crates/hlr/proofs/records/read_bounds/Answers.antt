@@ -3,7 +3,7 @@ use Rattle.std.proofs.lemmas.Bool.Decides.{nat_tests}
 use Rattle.std.proofs.lemmas.Result.{err_from_is_err_and}
 use Rattle.hlr.specs.Fields.{number_field}
 use Rattle.hlr.proofs.RecordFacts.{one_from, all_from, refused_from, many_from}
-use Rattle.hlr.proofs.records.read_recut.Goals as goal
+use Rattle.hlr.proofs.records.read_bounds.Goals as goal
 
 pub returns-in_err-bound : goal.returns-in_err-bound
 returns-in_err-bound c =

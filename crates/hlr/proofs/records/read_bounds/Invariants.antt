@@ -2,7 +2,7 @@ use Rattle.std.proofs.Common.{◌≤◌, length}
 use Rattle.csv.specs.Records.{fields_of}
 use Rattle.hlr.specs.declared.records.TheConstants.{MOST_BOUNDS}
 use Rattle.hlr.proofs.RecordFacts.{AreReadFrom}
-use Rattle.hlr.proofs.records.read_recut.Given as goal
+use Rattle.hlr.proofs.records.read_bounds.Given as goal
 
 abbrev pub invariant-loop-i : goal.invariant-loop-i
 invariant-loop-i l = record {
