@@ -3,9 +3,12 @@
 # the gate, and is run before a change of what takes memory lands; it needs gcc, and what `rt ci` (or `rt run` in
 # crates/hlr and `rt test` in the others) leaves in crates/*/out.
 #
-# The program runs a script in which each addition stands twice. With an allocation refused it answers all as it does
-# with memory, but for one addition that is refused,1,Memory and done where it stands again; or it ends with
-# 'hlr: no memory' after the whole answers to the first records, which are those.
+#   ./refuse_memory.sh            both; the last line is 'N failed'
+#   ./refuse_memory.sh program    the program alone
+#
+# The program runs a script in which each record that may want memory stands twice. With an allocation refused it answers
+# all as it does with memory, but for one such record that is refused,1,Memory and done where it stands again; or it ends
+# with 'hlr: no memory' after the whole answers to the first records, which are those.
 set -u
 cd "$(dirname "$0")" || exit 1
 room=$(mktemp -d)
@@ -54,36 +57,91 @@ refusing() {
   REFUSED_CALL=$call REFUSED_FILE=$room/refused LD_PRELOAD=$room/refuse.so "$@"
 }
 
-# 600 subscribers, so that their tree and the index grow twice, 48 rows in each other table, and every command; each
-# record that may want memory stands twice.
-script() {
-  local s
-  for s in $(seq 1 600); do
-    local row
-    row=$(printf 'sub,%d,%015d,0000000000,0000000000,00000000000000000000,1,%d' "$s" "$s" "$((s * 7000000))")
-    printf '%s\n%s\n' "$row" "$row"
-  done
-  for s in $(seq 1 48); do
-    for row in "acc,$s,1,3,4,ABC,ABCDE" "fac,$s,2,1,0,0,ABCDE" "$(printf 'icf,%015d,2,8,16,%015d' "$s" "$s")" \
-      "$(printf 'number,%d,%015d' "$s" "$((s + 1000))")"; do
-      printf '%s\n%s\n' "$row" "$row"
-    done
-  done
-  printf 'gsd,7\nul,000000000001007,5\ngsd,7\ngad,7,1\nusd,7,2,1,9\ngnd,7,2,8,9\nactive,7,2,0\ngnd,7,2,8,9\n'
-  printf 'dcf,000000000001007,2,8\nviews\npost,0,51\nviews\nscan\nindex\ngsd,601\n'
+# row S: the record that adds a subscriber.
+row() {
+  printf 'sub,%d,%015d,0000000000,0000000000,00000000000000000000,1,%d\n' "$1" "$1" "$(($1 * 7000000 % 4294967295 + 1))"
 }
 
-# alike GOT WANTED: the answers are those wanted, or those to the first records, but that one addition may have been
-# refused and then done. A report is whole: its last line is there.
+# twice: each record of the input, twice.
+twice() {
+  local record
+  while IFS= read -r record; do printf '%s\n%s\n' "$record" "$record"; done
+}
+
+# reports: every report.
+reports() {
+  printf 'views\nscan\nindex\nregions\npropose\n'
+}
+
+# cut BOUND BOUND: a re-cut, again after the piece that a refused one may have left is taken.
+cut() {
+  printf 'recut,%d,%d\ntake,1,0\ntake,1,1\ntake,1,2\nrecut,%d,%d\nregions\n' "$1" "$2" "$1" "$2"
+}
+
+# For three parts and zones of 16 subscribers: 600 subscribers, so that their trees and the index grow twice, 120 rows
+# in each other table, and every command, also on subscribers of a loose piece; at the end two pieces are loose. Each
+# record that may want memory stands twice, or is a re-cut as above.
+script() {
+  local s
+  for s in $(seq 1 600); do row "$s"; done | twice
+  for s in $(seq 2 5 600); do
+    printf 'acc,%d,1,3,4,ABC,ABCDE\nfac,%d,2,1,0,0,ABCDE\n' "$s" "$s"
+    printf 'icf,%015d,2,8,16,%015d\nnumber,%d,%015d\n' "$s" "$s" "$s" "$((s + 1000))"
+  done | twice
+  printf 'gsd,7\nul,000000000001007,5\ngsd,7\ngad,7,1\nusd,7,2,1,9\ngnd,7,2,8,9\nactive,7,2,0\ngnd,7,2,8,9\n'
+  printf 'dcf,000000000001007,2,8\nviews\npost,0,51\npost,1,20\n'
+  reports
+  printf 'give,0,high,100\ngive,2,low,400\n' | twice
+  printf 'gsd,100\nul,000000000000100,5\nicf,000000000000101,1,0,8,000000000000101\nnumber,102,000000000009102\n'
+  printf 'acc,399,1,3,4,ABC,ABCDE\ngsd,400\nacc,99,1,3,4,ABC,ABCDE\nacc,99,1,3,4,ABC,ABCDE\nrecut,50,500\n'
+  reports
+  printf 'take,1,1\ntake,2,1\n' | twice
+  reports
+  cut 50 500
+  printf 'post,2,51\n'
+  cut 300 301
+  cut 2 16777216
+  cut 161 337
+  reports
+  for s in $(seq 601 640) $(seq 10001 10040); do row "$s"; done | twice
+  printf 'give,1,low,200\ngive,1,high,250\n' | twice
+  reports
+  printf 'gsd,201\ngsd,641\n'
+}
+
+# alike GOT WANTED SCRIPT: the answers are those wanted, or whole answers to the first records, but that one record may
+# have been refused for want of memory and then done. After a re-cut that was refused, one of the takes may have its
+# piece, and the second re-cut moves what is left. It prints the word of the record that was refused.
 alike() {
-  awk -v wanted="$2" '
-    BEGIN { while ((getline line < wanted) > 0) want[++n] = line }
-    { last = $0 }
+  awk -v wanted="$2" -v script="$3" '
+    # the record of each answer, and where it ends
+    BEGIN {
+      while ((getline record < script) > 0) {
+        word = record
+        sub(/,.*/, "", word)
+        do {
+          if ((getline line < wanted) <= 0) exit(bad = 1)
+          want[++n] = line
+          asked[n] = word
+        } while (word ~ /^(views|scan|index|regions)$/ && line !~ "^" word ",")
+        ends[n] = 1
+      }
+    }
     again != "" { if ($0 != again) exit(bad = 1); again = ""; next }
+    asked[NR] == "take" && mending {
+      if ($0 ~ /^taken,1,[012]$/) { if (taken++) exit(bad = 1) } else if ($0 !~ /^refused,(13,NoPiece|15,NotAdjacent)$/) exit(bad = 1)
+      next
+    }
+    asked[NR] == "recut" && mending { mending = 0; if ($0 !~ /^recut,[012]$/) exit(bad = 1); next }
     $0 == want[NR] { next }
-    $0 == "refused,1,Memory" && want[NR] == "ok" && !refusals { refusals = 1; again = want[NR]; next }
+    $0 == "refused,1,Memory" && want[NR] !~ /^refused,/ && !refusals {
+      refusals = 1
+      print asked[NR]
+      if (asked[NR] == "recut") mending = 1; else again = want[NR]
+      next
+    }
     { exit(bad = 1) }
-    END { exit bad || again != "" || NR > n || last ~ /^(cell|number),/ }' "$1"
+    END { exit bad || again != "" || mending || NR > n || (NR && !ends[NR]) }' "$1"
 }
 
 wrong() {
@@ -92,15 +150,18 @@ wrong() {
 }
 
 program() {
-  local hlr=crates/hlr/out/hlr call=0 ended=0 refused=0
+  local hlr=(crates/hlr/out/hlr --parts 3 --zone 16) call=0 ended=0 refused=0 status word
+  : > "$room/words"
   script > "$room/script"
-  "$hlr" < "$room/script" > "$room/wanted" || exit 1
+  "${hlr[@]}" < "$room/script" > "$room/wanted" || exit 1
+  ! grep -q '^refused,2,Field$' "$room/wanted" || wrong 'a record of the script has a field out of range'
+  alike "$room/wanted" "$room/wanted" "$room/script" || wrong 'the answers are not those of the script'
   while true; do
     call=$((call + 1))
-    refusing $call "$hlr" < "$room/script" > "$room/got" 2> "$room/err"
-    local status=$?
+    refusing $call "${hlr[@]}" < "$room/script" > "$room/got" 2> "$room/err"
+    status=$?
     [ -f "$room/refused" ] || break
-    if ! alike "$room/got" "$room/wanted"; then
+    if ! alike "$room/got" "$room/wanted" "$room/script" >> "$room/words"; then
       wrong "the answers with allocation $call refused"
     elif [ $status = 0 ]; then
       refused=$((refused + 1))
@@ -110,12 +171,14 @@ program() {
       ended=$((ended + 1))
       [ $status = 1 ] || wrong "status $status with allocation $call refused"
       [ "$(cat "$room/err")" = 'hlr: no memory' ] || wrong "with allocation $call refused it said '$(cat "$room/err")'"
-      [ -z "$(tail -c 1 "$room/got")" ] || wrong "half a line with allocation $call refused"
     fi
   done
-  [ $refused -gt 0 ] || wrong 'no addition was refused'
+  for word in sub acc fac icf number give take recut; do
+    grep -q "^$word$" "$room/words" || wrong "no $word was refused"
+  done
   [ $ended -gt 0 ] || wrong 'no run was ended'
-  echo "hlr: $((call - 1)) allocations refused: $refused times one addition, $ended times the run ended"
+  echo "hlr: $((call - 1)) allocations refused: $refused times one record, $ended times the run ended"
+  sort "$room/words" | uniq -c | sort -rn | awk '{ printf "  %s %d", $2, $1 } END { print "" }'
 }
 
 # tests_of CRATE TEST ..: each passes whatever allocation is refused.
@@ -136,13 +199,17 @@ tests_of() {
   done
 }
 
+tests() {
+  tests_of mr_subtree tests::memory_refused
+  tests_of mr_cut tests::memory_refused
+  tests_of number_index tests::numbers
+  tests_of tatp_actions tests::refused_nodes plain_tests::same_actions cut_tests::refused_cuts
+  tests_of view_board tests::two_threads tests::words_at_limit
+  tests_of hlr_core tests::runs tests::additions_at_split tests::renamings_at_split plain_tests::few_drawn_events region_tests::gives_of_two_parts region_tests::recut_of_three
+  tests_of hlr tests::refused_memory_is_told
+}
+
 program
-tests_of mr_subtree tests::memory_refused
-tests_of mr_cut tests::memory_refused
-tests_of number_index tests::numbers
-tests_of tatp_actions tests::refused_nodes plain_tests::same_actions cut_tests::refused_cuts
-tests_of view_board tests::two_threads tests::words_at_limit
-tests_of hlr_core tests::runs tests::additions_at_split tests::renamings_at_split plain_tests::few_drawn_events region_tests::gives_of_two_parts region_tests::recut_of_three
-tests_of hlr tests::refused_memory_is_told
+if [ "${1:-all}" = all ]; then tests; fi
 echo "$failed failed"
 [ "$failed" = 0 ]
