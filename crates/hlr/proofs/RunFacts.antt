@@ -11,10 +11,31 @@ use Rattle.csv.specs.declared.parser.State.TheVariants as st
 use Rattle.csv.specs.declared.reader.Reader.{Reader}
 use Rattle.csv.proofs.ReadFacts.{rows-more, rows-end}
 use Rattle.hlr_core.specs.Store.{Store}
-use Rattle.hlr.specs.Text.{RecordText, RecordsText, RecordDone, RecordCut, WritesWhole, AnsweredRecords, RanWhole, RanFront, Ran}
+use Rattle.hlr.specs.Records.{command_of}
+use Rattle.hlr.specs.Sink.{AppendsFront}
+use Rattle.hlr.specs.Text.{CommandText, RecordText, RecordsText, RecordDone, RecordCut, WritesWhole, AnsweredRecords, RanWhole, RanFront, Ran}
+use Rattle.tatp_rows.specs.declared.refusal.Refusal.{Refusal}
 use Rattle.hlr.specs.declared.fault.Fault.{Fault}
+use Rattle.hlr.specs.declared.records.Command.{Command}
+use Rattle.hlr.specs.declared.sink.Stalled.{Stalled}
 use Rattle.hlr.specs.declared.fault.Fault.TheVariants as fault
 use Rattle.hlr.proofs.SinkFacts.{appends_none, appends_both, appends_kept, begins_all, begins_after}
+
+-- the answer to the command that a record is was put whole, or a front of it
+module _ (fields : List (List ℕ)) (asked : Result Command Refusal) (before after : Store) (old new : Option (List ℕ)) (text piece : List ℕ) (r : Result (Unit {0}) Stalled) where
+  pub answered_whole : asked ≡ command_of fields → CommandText fields asked before text after → piece ≡ text → OnOk r (Appends old new piece) → OnOk r (RecordDone fields before after old new)
+  answered_whole is answer same put = whole r put
+    where
+      whole : (r : Result (Unit {0}) Stalled) → OnOk r (Appends old new piece) → OnOk r (RecordDone fields before after old new)
+      whole (Ok done) grew = record { text = text; answer = rw (← is) answer; grew = rw (← same) grew }
+      whole (Err why) grew = tt
+
+  pub answered_front : asked ≡ command_of fields → CommandText fields asked before text after → piece ≡ text → OnErr r (AppendsFront old new piece) → OnErr r (RecordCut fields before after old new)
+  answered_front is answer same put = front r put
+    where
+      front : (r : Result (Unit {0}) Stalled) → OnErr r (AppendsFront old new piece) → OnErr r (RecordCut fields before after old new)
+      front (Ok done) grew = tt
+      front (Err why) grew = record { text = text; answer = rw (← is) answer; grew = rw (← same) grew }
 
 -- one record more
 pub records_more : (rows : List (List (List ℕ))) (row : List (List ℕ)) (s m t : Store) (text more : List ℕ)
