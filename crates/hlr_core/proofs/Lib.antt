@@ -33,4 +33,3 @@ pub mod TotalLemmas
 pub mod UndividedLemmas
 pub mod WeightLemmas
 pub mod WordsLemmas
-pub mod ZoneCountLemmas

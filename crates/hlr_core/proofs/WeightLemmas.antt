@@ -13,7 +13,7 @@ use Rattle.part_table.specs.Proposal.{proposal}
 use Rattle.part_table.specs.declared.bounds.TheConstants.{GREATEST_WEIGHT}
 use Rattle.hlr_core.specs.Store.{Store, all_zones, weight, published, unposted, published_weights, counted_weights, parts_in}
 use Rattle.hlr_core.specs.declared.weights.TheConstants.{ZONES}
-use Rattle.hlr_core.proofs.ZoneCountLemmas.{few_in_weight}
+use Rattle.tatp_actions.proofs.CountLemmas.{few_in_weight}
 
 -- a weight is at most that of all rows
 weight_at_most : (amount : ℤ) → weight amount ≤ GREATEST_WEIGHT
