@@ -178,7 +178,8 @@ impl Part {
 
     /// The width of the zones, 1..=524,288.
     pub fn width(&self) -> u32
-        ensures { result ≡ self.now.width }
+        ensures value { result ≡ self.now.width }
+        ensures rules { IsPart self.now }
     {
         self.width
     }
