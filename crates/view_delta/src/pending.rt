@@ -35,6 +35,13 @@ impl Pending {
         }
     }
 
+    /// These deltas.
+    pub fn of(deltas: [i64; CELLS as usize]) -> Self
+        ensures { result ≡ deltas }
+    {
+        Pending { deltas }
+    }
+
     /// The delta of a cell.
     pub fn get(&self, cell: u8) -> i64
         requires { cell < CELLS }
