@@ -1,0 +1,100 @@
+-- The local law, from the opening of a holding through its actions and postings.
+use Rattle.std.proofs.Common.{◌≡◌, ℕ, ◌+◌, ◌-◌, ◌*◌, ◌<◌, ◌≤◌, ◌==◌, refl, arith, List, length, set, get_or, ◌∙◌, inl, inr, nat_lt, true, false}
+use Rattle.std.specs.Prelude.{ℤ, pos, neg_ℤ, ◌-ℤ◌, ◌≤ℤ◌}
+use Rattle.std.proofs.lemmas.Bool.{cases_lt}
+use Rattle.std.proofs.lemmas.Bool.Decides.{nat_tests}
+use Rattle.std.proofs.lemmas.Int.{ints}
+use Rattle.std.proofs.lemmas.List.{get_or-set_same, get_or-set_other, get_or_past, length-set}
+use Rattle.tatp_rows.proofs.OrderedLemmas.{by_test}
+use Rattle.tatp_actions.specs.Book.{empty_book}
+use Rattle.tatp_actions.specs.Cell.{cell, active_forwardings, in_area, in_zone}
+use Rattle.tatp_actions.specs.Part.{PartState, IsPart}
+use Rattle.tatp_actions.proofs.CountLemmas.{few_cells}
+use Rattle.tatp_actions.specs.declared.cells.TheConstants.{CELLS}
+use Rattle.view_board.specs.Desks.{Station}
+use Rattle.view_board.specs.Nets.{net_of, NetMoves}
+use Rattle.view_delta.specs.Pending.{pending_at}
+use Rattle.holding.specs.Held.{HoldingState, IsHolding, IsLeastSlot, HasSmallNets, count_of}
+
+-- an empty book has no count
+empty_active : (start : ℕ) → active_forwardings start empty_book ≡ 0
+unfolding active_forwardings
+empty_active start = refl
+
+empty_area : (a : ℕ) → in_area a empty_book ≡ 0
+unfolding in_area
+empty_area a = refl
+
+empty_zone : (width z : ℕ) → in_zone width z empty_book ≡ 0
+unfolding in_zone
+empty_zone width z = refl
+
+pub empty_cell : (width c : ℕ) → cell width c empty_book ≡ 0
+empty_cell width c =
+    by_test (nat_lt c 3) (λ e. rw e (empty_active (8 * c)))
+    (λ e. by_test (nat_lt c 19) (λ f. rw (e, f) (empty_area (c - 3))) (λ f. rw (e, f) (empty_zone width (c - 19))))
+
+-- a part counts few rows
+pub few : (part : PartState) → IsPart part → (c : ℕ) → count_of part c ≤ 1099511627776
+few part rules c = few_cells part.lo part.hi part.width c part.book rules.rows rules.range.2
+
+-- a holding opens: what its desk has not published of its counts is pending
+pub opened : (part : PartState) (counts : List ℕ) (deltas pending : List ℤ) (desk : Station) (slot : ℕ) → IsPart part → IsLeastSlot desk.view slot → HasSmallNets desk.view
+    → ((c : ℕ) → c < CELLS → get_or counts c 0 ≡ count_of part c) → ((c : ℕ) → c < CELLS → pending_at deltas c ≡ pos (get_or counts c 0) -ℤ net_of desk.view c) → pending ≡ deltas
+    → IsHolding (record { part = part; pending = pending; desk = desk; slot = slot })
+opened part counts deltas pending desk slot rules least small are told is = record {
+  rules = rules;
+  slot = least;
+  law = λ c below. (let count = are c below in let delta = told c below in rw is (omega (arith, ints)));
+  small = small;
+}
+
+-- what is pending of a holding is small
+pub pending_small : (holding : HoldingState) → IsHolding holding → (c : ℕ) → c < CELLS
+    → (neg_ℤ (pos 1152921504606846976) ≤ℤ pending_at holding.pending c) × (pending_at holding.pending c ≤ℤ pos 1152921504606846976)
+pending_small holding is c below =
+    let law = is.law c below in
+    let low = (is.small c below).0 in
+    let high = (is.small c below).1 in
+    let most = few holding.part is.rules c in
+    (omega (arith, ints), omega (arith, ints))
+
+-- a delta that was cleared
+pub cleared : (pending : List ℤ) (c : ℕ) → pending_at (set pending c (pos 0)) c ≡ pos 0
+cleared pending c = elim (cases_lt c (length pending)) [
+  | inl within ↦ get_or-set_same pending c (pos 0) (pos 0) within
+  | inr past ↦ get_or_past (set pending c (pos 0)) c (pos 0) (rw length-set past)
+]
+
+-- what was pending of a cell is published
+module _ (part : PartState) (pending pending' : List ℤ) (desk desk' : Station) (slot c : ℕ) (amount : ℤ) (is : IsHolding (record { part = part; pending = pending; desk = desk; slot = slot }))
+    (owned : desk'.view.owned ≡ desk.view.owned) (whole : amount ≡ pending_at pending c) (moves : NetMoves desk.view desk'.view c amount) (none : pending' ≡ set pending c (pos 0)) where
+  here : (k : ℕ) → k < CELLS → (k == c) ≡ true → net_of desk'.view k ≡ pos (count_of part k)
+  here k below e =
+      let same : k ≡ c = grind (arith, nat_tests) in
+      let law = is.law k below in
+      let moved = rw e at (moves k below) in
+      let at_c : pending_at pending k ≡ pending_at pending c = rw same refl in
+      omega (arith, ints)
+
+  elsewhere : (k : ℕ) → k < CELLS → (k == c) ≡ false → net_of desk'.view k ≡ net_of desk.view k
+  elsewhere k below e = let moved = rw e at (moves k below) in omega (arith, ints)
+
+  pub published : IsHolding (record { part = part; pending = pending'; desk = desk'; slot = slot })
+  published = record {
+    rules = is.rules;
+    slot = rw owned is.slot;
+    law = λ k below. rw none (by_test (k == c)
+        (λ e. let same : k ≡ c = grind (arith, nat_tests) in let gone : pending_at (set pending c (pos 0)) k ≡ pos 0 = rw same (cleared pending c) in rw (here k below e, gone) (omega (arith, ints)))
+        (λ e. let apart : k ≡ c → ⊥ = grind (arith, nat_tests) in rw (elsewhere k below e, get_or-set_other pending c k (pos 0) (pos 0) apart) (is.law k below)));
+    small = λ k below. by_test (k == c)
+        (λ e. let most = few part is.rules k in rw (here k below e) (omega (arith, ints), omega (arith, ints)))
+        (λ e. rw (elsewhere k below e) (is.small k below));
+  }
+
+-- one more cell is told
+pub one_told : (amount : ℕ → ℤ) (deltas : List ℤ) (n at : ℕ) (value : ℤ) → length deltas ≡ CELLS → n < CELLS → at ≡ n → value ≡ amount n
+    → ((c : ℕ) → c < n → pending_at deltas c ≡ amount c) → (c : ℕ) → c < n + 1 → pending_at (set deltas at value) c ≡ amount c
+one_told amount deltas n at value wide below there is told c within = rw there (by_test (c == n)
+    (λ e. let same : c ≡ n = grind (arith, nat_tests) in rw same (get_or-set_same deltas n value (pos 0) (omega arith) ∙ is))
+    (λ e. let apart : c ≡ n → ⊥ = grind (arith, nat_tests) in get_or-set_other deltas n c value (pos 0) apart ∙ told c (grind (arith, nat_tests))))

@@ -1,0 +1,48 @@
+use Rattle.std.proofs.Common.{refl, ◌∙◌, sym, ap, arith, subst, Some, None}
+use Rattle.view_delta.specs.Pending.{IsNextNonzero}
+use Rattle.holding.specs.Held.{HoldingState, IsHolding}
+use Rattle.holding.proofs.PostLemmas.{posting_begins, posting_full, posting_ends, posting_turn, posting_worn}
+use Rattle.holding.proofs.holding.Holding.post.Goals as goal
+
+pub loop-cell-init : goal.loop-cell-init
+loop-cell-init g c =
+    let is = subst IsHolding c.self.view_is c.self.invariant in
+    record { part = refl; slot = refl; board = refl; within = omega arith; posting = posting_begins _ _ _ _ _ is.law }
+
+pub loop-cell-preserved : goal.loop-cell-preserved
+loop-cell-preserved g c =
+    let found = subst (λ (h : HoldingState). IsNextNonzero c.loop-cell.from h.pending (Some c.in-Some.cell)) c.self-in-loop-cell.view_is c.in-Some.ensures in
+    let is = c.in-Ok.ensures.posted.1 in
+    record {
+      part = ap (λ (h : HoldingState). h.part) is ∙ c.loop-cell.invariant.part;
+      slot = ap (λ (h : HoldingState). h.slot) is ∙ c.loop-cell.invariant.slot;
+      board = ap (λ (h : HoldingState). h.desk.board) is ∙ c.loop-cell.invariant.board;
+      within = omega (arith, found.1);
+      posting = posting_turn _ _ _ _ c.loop-cell.from c.in-Some.cell c.loop-cell.posted c.loop-cell.self c.post_cell.new.self (sym c.loop-cell.invariant.slot) (λ e. c.if-from-limit.false (c.from.ensures ∙ e)) found c.in-Ok.ensures.posted
+          c.loop-cell.invariant.posting;
+    }
+
+pub returns-then-from-limit-clause-posted : goal.returns-then-from-limit-clause-posted
+returns-then-from-limit-clause-posted g c =
+    let found = subst (λ (h : HoldingState). IsNextNonzero c.loop-cell.from h.pending (Some c.in-Some.cell)) c.self-in-loop-cell.view_is c.in-Some.ensures in
+    posting_full _ _ _ _ c.loop-cell.from c.in-Some.cell c.loop-cell.posted _ _ found (omega arith) c.loop-cell.invariant.posting
+
+pub returns-in-Err-clause-posted : goal.returns-in-Err-clause-posted
+returns-in-Err-clause-posted g c =
+    let found = subst (λ (h : HoldingState). IsNextNonzero c.loop-cell.from h.pending (Some c.in-Some.cell)) c.self-in-loop-cell.view_is c.in-Some.ensures in
+    posting_worn _ _ _ _ c.loop-cell.from c.in-Some.cell c.loop-cell.posted c.loop-cell.self c.post_cell.new.self c.in-Err.why (sym c.loop-cell.invariant.slot) (λ e. c.if-from-limit.false (c.from.ensures ∙ e)) found c.in-Err.ensures.posted
+    c.loop-cell.invariant.posting
+
+pub returns-clause-posted : goal.returns-clause-posted
+returns-clause-posted g c =
+    let none = subst (λ (h : HoldingState). IsNextNonzero c.loop-cell.from h.pending None) c.self-in-loop-cell.view_is c.in_default.ensures in
+    posting_ends _ _ _ _ c.loop-cell.from c.loop-cell.posted _ _ c.loop-cell.invariant.within none c.loop-cell.invariant.posting
+
+pub returns-then-from-limit-clause-before : goal.returns-then-from-limit-clause-before
+returns-then-from-limit-clause-before g c = subst IsHolding c.self.view_is c.self.invariant
+
+pub returns-in-Err-clause-before : goal.returns-in-Err-clause-before
+returns-in-Err-clause-before g c = subst IsHolding c.self.view_is c.self.invariant
+
+pub returns-clause-before : goal.returns-clause-before
+returns-clause-before g c = subst IsHolding c.self.view_is c.self.invariant

@@ -1,0 +1,11 @@
+use Rattle.std.proofs.Common.{◌≡◌, ℕ, ◌<◌, length}
+use Rattle.std.specs.Prelude.{pos, ◌-ℤ◌, slice_index, slice_index_or}
+use Rattle.tatp_actions.specs.declared.cells.TheConstants.{CELLS}
+use Rattle.view_board.specs.Nets.{net_of}
+use Rattle.holding.proofs.holding.unposted.Given as goal
+
+abbrev pub invariant-loop-cell : goal.invariant-loop-cell
+invariant-loop-cell l = record {
+  wide : length l.deltas ≡ CELLS;
+  told : (c : ℕ) → c < l.cell → slice_index_or l.deltas c (pos 0) ≡ pos (slice_index l.counts c) -ℤ net_of l.desk.view c;
+}

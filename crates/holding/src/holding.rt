@@ -1,0 +1,227 @@
+//! A part with what its owner has posted and what it has not.
+ghost use Rattle.std.specs.Prelude.{◌≡◌, ℕ, ◌<◌, ◌≤◌, ◌+◌, option_copied, slice_index, slice_index_or, ℤ, pos, neg_ℤ, ◌-ℤ◌, ◌≤ℤ◌};
+ghost use Rattle.tatp_actions.specs.Action.{s_id_of, IsOutcome};
+ghost use Rattle.tatp_actions.specs.Book.{IsWithin, first_subscriber};
+ghost use Rattle.tatp_actions.specs.declared.cells.TheConstants.{CELLS};
+ghost use Rattle.view_board.specs.Nets.{net_of};
+ghost use Rattle.view_board.specs.Views.{Owns};
+ghost use Rattle.view_board.specs.declared.words.TheConstants.{SLOTS};
+ghost use Rattle.view_delta.specs.Pending.{pending_at};
+ghost use Rattle.holding.specs.Held.{IsHolding, HasSmallNets, IsLeastSlot, count_of};
+ghost use Rattle.holding.specs.Post.{IsCellPosted, post};
+
+use std::alloc::Global;
+use std::marker::Model;
+use tatp_actions::{Action, CELLS, Cells, Part, RowReply, Rows, Trees};
+use tatp_rows::{Refusal, Subscriber};
+use view_board::{Board, Desk, SLOTS};
+use view_delta::Pending;
+
+/// A part with what is pending of each cell, and the desk of its owner. What the desk has published of a cell and what is
+/// pending of it are together the count over the part's rows.
+#[derive(Drop)]
+pub struct Holding<R: Rows = Trees> {
+    pub(crate) part: Part<R>,
+    pub(crate) pending: Pending,
+    pub(crate) desk: Desk,
+    // The least slot of the desk, whose words a posting raises.
+    pub(crate) slot: u8,
+    // For the calls that give parts away and take them.
+    pub(crate) alloc: Global,
+}
+
+impl<R: Rows> Model for Holding<R> {
+    ghost use Rattle.holding.specs.Held.{HoldingState, IsHolding};
+
+    ghost Value = { HoldingState };
+
+    ghost view = { λ h. record { part = h.part; pending = h.pending; desk = h.desk; slot = h.slot } };
+
+    ghost invariant = { λ h. IsHolding (record { part = h.part; pending = h.pending; desk = h.desk; slot = h.slot }) };
+}
+
+/// The least slot of a desk that owns one.
+fn least_slot(desk: &Desk) -> u8
+    requires some { (slot : ℕ) × (slot < SLOTS) × Owns desk.now.view slot }
+    ensures { IsLeastSlot desk.now.view result }
+{
+    for slot in 0..SLOTS {
+        if desk.owns(slot) {
+            return slot;
+        }
+    }
+    unreachable!()
+}
+
+/// A count less what is published of it.
+fn difference(count: u64, net: i128) -> i64
+    requires few { count ≤ 1099511627776 }
+    requires low { neg_ℤ (pos 1099511627776) ≤ℤ net }
+    requires high { net ≤ℤ pos 1099511627776 }
+    ensures { result ≡ pos count -ℤ net }
+{
+    (i128::from(count) - net) as i64
+}
+
+/// By how much counts differ from what a desk has published.
+fn unposted(counts: &Cells, desk: &Desk) -> [i64; CELLS as usize]
+    requires few { (c : ℕ) → c < CELLS → slice_index counts.now c ≤ 1099511627776 }
+    requires small { HasSmallNets desk.now.view }
+    ensures { (c : ℕ) → c < CELLS → slice_index_or result c (pos 0) ≡ pos (slice_index counts.now c) -ℤ net_of desk.now.view c }
+{
+    let mut deltas = [0; CELLS as usize];
+    for cell in 0..CELLS {
+        deltas[usize::from(cell)] = difference(counts.get(cell), desk.net(cell));
+    }
+    deltas
+}
+
+impl<R: Rows> Holding<R> {
+    /// Does an action on the rows, and moves what is pending by its change.
+    ///
+    /// `Memory` comes only in place of `Done` where a row is added. A number that another subscriber has is no refusal here:
+    /// whoever has all parts refuses it. After a refusal the rows are as before.
+    pub fn act(&mut self, action: Action) -> RowReply
+        requires { IsWithin self.old.part.lo self.old.part.hi (s_id_of action) }
+        ensures outcome { IsOutcome action self.old.part.book result self.new.part.book }
+        ensures range { (self.new.part.lo ≡ self.old.part.lo) × (self.new.part.hi ≡ self.old.part.hi) × (self.new.part.width ≡ self.old.part.width) }
+        ensures asked { self.new.part.asked ≤ self.old.part.asked + 8 }
+        ensures desk { (self.new.desk ≡ self.old.desk) × (self.new.slot ≡ self.old.slot) }
+        ensures before { IsHolding self.old }
+        ensures after { IsHolding self.new }
+    {
+        let (reply, change) = self.part.act(action);
+        // A change tells by its notes that they are few and small.
+        let _notes = change.notes();
+        self.pending.note(&change);
+        reply
+    }
+
+    /// Posts what is pending of a cell. `Worn` where the word would pass its limit: then nothing is changed.
+    fn post_cell(&mut self, board: &Board, cell: u8) -> Result<(), Refusal>
+        requires board { self.old.desk.board ≡ board.now }
+        requires cell { cell < CELLS }
+        ensures posted { IsCellPosted cell self.old result self.new }
+        ensures after { IsHolding self.new }
+    {
+        match board.add(&mut self.desk, self.slot, cell, self.pending.get(cell)) {
+            Ok(()) => {
+                self.pending.clear(cell);
+                Ok(())
+            }
+            Err(why) => Err(why),
+        }
+    }
+
+    /// Posts what is pending, cells ascending, each whole and in one step, until `limit` are posted or none is left; tells how
+    /// many were. `Worn` stops it at a cell whose word would pass its limit: the cells before stay posted, and that
+    /// cell stays pending.
+    pub fn post(&mut self, board: &Board, limit: u64) -> Result<u8, Refusal>
+        requires { self.old.desk.board ≡ board.now }
+        ensures posted { (result, self.new.desk.view) ≡ post (count_of self.old.part) self.old.slot limit self.old.desk.view }
+        ensures part { self.new.part ≡ self.old.part }
+        ensures desk { (self.new.desk.board ≡ self.old.desk.board) × (self.new.desk.view.owned ≡ self.old.desk.view.owned) × (self.new.slot ≡ self.old.slot) }
+        ensures before { IsHolding self.old }
+        ensures after { IsHolding self.new }
+    {
+        // This opens the holding, so that its rules are known as the posting begins.
+        let _ = &self.part;
+        let mut posted = 0u8;
+        let mut from = 0u8;
+        while let Some(cell) = self.pending.next_nonzero(from) {
+            if u64::from(posted) == limit {
+                return Ok(posted);
+            }
+            match self.post_cell(board, cell) {
+                Ok(()) => (),
+                Err(why) => return Err(why),
+            }
+            posted += 1;
+            from = cell + 1;
+        }
+        Ok(posted)
+    }
+}
+
+impl Holding {
+    /// A part and the desk of its owner, which owns a slot. The rows are counted once: what the desk has not published of them
+    /// is pending. It keeps the allocator.
+    pub fn of(alloc: Global, part: Part, desk: Desk) -> Self
+        requires slot { (slot : ℕ) × (slot < SLOTS) × Owns desk.view slot }
+        requires small { HasSmallNets desk.view }
+        ensures part { result.part ≡ part }
+        ensures desk { result.desk ≡ desk }
+        ensures rules { IsHolding result }
+    {
+        // A part tells by its width that it keeps the rules.
+        let _width = part.width();
+        let counts = part.recount();
+        let pending = Pending::of(unposted(&counts, &desk));
+        let slot = least_slot(&desk);
+        Holding {
+            part,
+            pending,
+            desk,
+            slot,
+            alloc,
+        }
+    }
+
+    /// The first subscriber of the range.
+    pub fn lo(&self) -> u32
+        ensures value { result ≡ self.now.part.lo }
+        ensures rules { IsHolding self.now }
+    {
+        self.part.lo()
+    }
+
+    /// The end of the range: one past its last subscriber.
+    pub fn hi(&self) -> u32
+        ensures value { result ≡ self.now.part.hi }
+        ensures rules { IsHolding self.now }
+    {
+        self.part.hi()
+    }
+
+    /// The width of the zones.
+    pub fn width(&self) -> u32
+        ensures value { result ≡ self.now.part.width }
+        ensures rules { IsHolding self.now }
+    {
+        self.part.width()
+    }
+
+    /// What is pending of a cell.
+    pub fn pending(&self, cell: u8) -> i64
+        requires { cell < CELLS }
+        ensures value { result ≡ pending_at self.now.pending cell }
+        ensures rules { IsHolding self.now }
+    {
+        self.pending.get(cell)
+    }
+
+    /// What the desk has published of a cell.
+    pub fn net(&self, cell: u8) -> i128
+        requires { cell < CELLS }
+        ensures value { result ≡ net_of self.now.desk.view cell }
+        ensures rules { IsHolding self.now }
+    {
+        self.desk.net(cell)
+    }
+
+    /// The count of each cell, taken by a walk over all rows.
+    pub fn recount(&self) -> Cells
+        ensures value { (c : ℕ) → c < CELLS → slice_index result c ≡ count_of self.now.part c }
+        ensures rules { IsHolding self.now }
+    {
+        self.part.recount()
+    }
+
+    /// The first Subscriber row of the part from a subscriber on.
+    pub fn first_sub_from(&self, s_id: u64) -> Option<&Subscriber>
+        ensures value { option_copied result ≡ first_subscriber s_id self.now.part.book.subscribers }
+        ensures rules { IsHolding self.now }
+    {
+        self.part.first_sub_from(s_id)
+    }
+}

@@ -1,0 +1,11 @@
+//! What a holding is asked to do.
+use tatp_actions::Action;
+
+/// A job for a holding: an action on its rows, or a posting of what is pending.
+#[derive(Clone, Copy, Debug, PartialEq, Eq)]
+pub enum Job {
+    /// Does the action.
+    Act(Action),
+    /// Posts so many cells at most.
+    Post(u64),
+}

@@ -1,0 +1,15 @@
+//! A part of the store with what its owner has posted of the standing counts and what it has not.
+//!
+//! An owner keeps the rows of a range, what is pending of each cell, and a desk: the words of the board that it alone
+//! raises. What its desk has published and what is pending are together the count over its own rows, at every moment at
+//! which a call returns; so owners may work in threads of their own, and no count is ever taken anew.
+#![tactic(auto)]
+
+mod holding;
+mod job;
+mod moving;
+mod piece;
+
+pub use holding::Holding;
+pub use job::Job;
+pub use piece::Piece;

@@ -1,0 +1,96 @@
+//! Pieces that a holding gives away and takes.
+ghost use Rattle.std.specs.Prelude.{◌≡◌, ◌⊎◌, ◌↔◌, IsTrue, IfOk, IfErr, OnOk, OnErr, Err};
+ghost use Rattle.tatp_actions.specs.Cut.{Touch};
+ghost use Rattle.holding.specs.Held.{IsHolding, IsPiece};
+ghost use Rattle.holding.specs.Moved.{IsInside, IsGiven, IsTaken};
+
+use crate::holding::Holding;
+use crate::piece::Piece;
+use part_table::Side;
+use std::alloc::Global;
+use std::mem;
+use tatp_actions::Part;
+use tatp_rows::{Back, Refusal};
+
+/// Whether a subscriber is strictly inside the range of a part.
+fn is_inside(part: &Part, at: u32) -> bool
+    ensures { IsTrue result ↔ IsInside at part.now }
+{
+    part.lo() < at && at < part.hi()
+}
+
+/// Whether the range of one part ends where that of the other one begins.
+fn touches(part: &Part, other: &Part) -> bool
+    ensures { IsTrue result ↔ Touch part.now other.now }
+{
+    part.hi() == other.lo() || other.hi() == part.lo()
+}
+
+/// A value in memory of its own; `Memory` where that is refused.
+fn boxed<T: Drop>(alloc: Global, value: T) -> Result<Box<T>, Refusal>
+    ensures ok { IfOk result (λ boxed. boxed.value ≡ value) }
+    ensures err { OnErr result (result ≡ Err Refusal.Memory) }
+{
+    Box::new(alloc, value).map_err(|_| Refusal::Memory)
+}
+
+impl Holding {
+    /// Gives the stretch on one side of a subscriber away as a loose piece, whose rows are counted once.
+    ///
+    /// `OutOfRange` where the subscriber is not strictly inside the range, `Memory` where a growth was refused: then nothing is
+    /// changed.
+    pub fn give(&mut self, side: Side, at: u32) -> Result<Box<Piece>, Refusal>
+        ensures given { IfOk result (λ piece. IsGiven side at self.old piece.value self.new) }
+        ensures refused { OnErr result (self.new ≡ self.old) }
+        ensures why { IfErr result (λ why. ((why ≡ Refusal.OutOfRange) × (IsInside at self.old.part → ⊥)) ⊎ ((why ≡ Refusal.Memory) × IsInside at self.old.part)) }
+        ensures piece { IfOk result (λ piece. IsPiece piece.value) }
+        ensures before { IsHolding self.old }
+        ensures after { IsHolding self.new }
+    {
+        if !is_inside(&self.part, at) {
+            return Err(Refusal::OutOfRange);
+        }
+        // All memory is had before anything changes: the piece's box, and what the cut takes.
+        let mut piece = boxed(self.alloc, Piece::blank(self.alloc))?;
+        let part = self.part.slice(at, side)?;
+        let counts = part.recount();
+        self.pending.subtract(&counts);
+        let given = Piece { part, counts };
+        *piece = given;
+        Ok(piece)
+    }
+
+    /// Takes a loose piece of the same width of zones. No row is counted.
+    ///
+    /// `NotAdjacent` where it doesn't touch the part, `Memory` where a growth was refused: then nothing is changed, and the piece
+    /// is handed back as it came.
+    pub fn take(&mut self, mut piece: Box<Piece>) -> Result<(), Back<Box<Piece>>>
+        requires { self.old.part.width ≡ piece.value.part.width }
+        ensures taken { OnOk result (IsTaken self.old piece.value self.new) }
+        ensures refused { IfErr result (λ back. (back.item ≡ piece) × (self.new ≡ self.old)) }
+        ensures why { IfErr result (λ back. ((back.why ≡ Refusal.NotAdjacent) × (Touch self.old.part piece.value.part → ⊥)) ⊎ ((back.why ≡ Refusal.Memory) × Touch self.old.part piece.value.part)) }
+        ensures before { IsHolding self.old }
+        ensures after { IsHolding self.new }
+    {
+        if !touches(&self.part, &piece.part) {
+            return Err(Back {
+                why: Refusal::NotAdjacent,
+                item: piece,
+            });
+        }
+        // An empty piece takes no memory.
+        let Piece { part, counts } = mem::replace(&mut *piece, Piece::blank(self.alloc));
+        if let Err(back) = self.part.meld(part) {
+            *piece = Piece {
+                part: back.item,
+                counts,
+            };
+            return Err(Back {
+                why: back.why,
+                item: piece,
+            });
+        }
+        self.pending.add(&counts);
+        Ok(())
+    }
+}

@@ -1,0 +1,104 @@
+//! A loose part.
+ghost use Rattle.std.specs.Prelude.{◌≡◌, ℕ, ◌<◌, ◌≤◌, option_copied, slice_index, pos};
+ghost use Rattle.tatp_actions.specs.Book.{empty_book, first_subscriber};
+ghost use Rattle.tatp_actions.specs.declared.cells.TheConstants.{CELLS};
+ghost use Rattle.view_delta.specs.Pending.{pending_at};
+ghost use Rattle.holding.specs.Held.{IsPiece, count_of};
+
+use std::alloc::Global;
+use std::marker::Model;
+use tatp_actions::{Cells, Part};
+use tatp_rows::Subscriber;
+
+/// A loose part, which a holding gave away and none has taken, with the counts of its rows. None of them is posted, so the
+/// counts are what is pending.
+#[derive(Drop)]
+pub struct Piece {
+    pub(crate) part: Part,
+    pub(crate) counts: Cells,
+}
+
+impl Model for Piece {
+    ghost use Rattle.std.specs.Prelude.{map, pos};
+    ghost use Rattle.holding.specs.Held.{PieceState, IsPiece};
+
+    ghost Value = { PieceState };
+
+    ghost view = { λ p. record { part = p.part; pending = map pos p.counts } };
+
+    ghost invariant = { λ p. IsPiece (record { part = p.part; pending = map pos p.counts }) };
+}
+
+/// A count as a delta.
+fn signed(count: u64) -> i64
+    requires { count ≤ 1099511627776 }
+    ensures { result ≡ pos count }
+{
+    count as i64
+}
+
+impl Piece {
+    /// A piece with no row, which takes no memory.
+    pub(crate) fn blank(alloc: Global) -> Self
+        ensures { result.part.book ≡ empty_book }
+    {
+        let Ok(part) = Part::new(alloc, 1, 2, 1) else {
+            unreachable!()
+        };
+        // A part tells by its width that it keeps the rules.
+        let _width = part.width();
+        Piece {
+            part,
+            counts: Cells::zero(),
+        }
+    }
+
+    /// The first subscriber of the range.
+    pub fn lo(&self) -> u32
+        ensures value { result ≡ self.now.part.lo }
+        ensures rules { IsPiece self.now }
+    {
+        self.part.lo()
+    }
+
+    /// The end of the range: one past its last subscriber.
+    pub fn hi(&self) -> u32
+        ensures value { result ≡ self.now.part.hi }
+        ensures rules { IsPiece self.now }
+    {
+        self.part.hi()
+    }
+
+    /// The width of the zones.
+    pub fn width(&self) -> u32
+        ensures value { result ≡ self.now.part.width }
+        ensures rules { IsPiece self.now }
+    {
+        self.part.width()
+    }
+
+    /// What is pending of a cell: its count.
+    pub fn pending(&self, cell: u8) -> i64
+        requires { cell < CELLS }
+        ensures value { result ≡ pending_at self.now.pending cell }
+        ensures rules { IsPiece self.now }
+    {
+        signed(self.counts.get(cell))
+    }
+
+    /// The count of each cell, taken by a walk over all rows.
+    pub fn recount(&self) -> Cells
+        ensures value { (c : ℕ) → c < CELLS → slice_index result c ≡ count_of self.now.part c }
+        ensures rules { IsPiece self.now }
+    {
+        self.part.recount()
+    }
+
+    /// The first Subscriber row of the piece from a subscriber on.
+    pub fn first_sub_from(&self, s_id: u64) -> Option<&Subscriber>
+        ensures value { option_copied result ≡ first_subscriber s_id self.now.part.book.subscribers }
+        ensures rules { IsPiece self.now }
+    {
+        self.part.first_sub_from(s_id)
+    }
+}
