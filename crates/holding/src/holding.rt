@@ -86,6 +86,7 @@ impl<R: Rows> Holding<R> {
         ensures outcome { IsOutcome action self.old.part.book result self.new.part.book }
         ensures range { (self.new.part.lo ≡ self.old.part.lo) × (self.new.part.hi ≡ self.old.part.hi) × (self.new.part.width ≡ self.old.part.width) }
         ensures asked { self.new.part.asked ≤ self.old.part.asked + 8 }
+        ensures steps { self.new.part.steps ≡ self.old.part.steps }
         ensures desk { (self.new.desk ≡ self.old.desk) × (self.new.slot ≡ self.old.slot) }
         ensures before { IsHolding self.old }
         ensures after { IsHolding self.new }

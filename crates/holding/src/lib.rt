@@ -2,7 +2,7 @@
 //!
 //! An owner keeps the rows of a range, what is pending of each cell, and a desk: the words of the board that it alone
 //! raises. What its desk has published and what is pending are together the count over its own rows, at every moment at
-//! which a call returns; so owners may work in threads of their own, and no count is ever taken anew.
+//! which a call returns; so owners may work in threads of their own, and an action or a posting counts no rows anew.
 #![tactic(auto)]
 
 mod holding;
@@ -13,3 +13,6 @@ mod piece;
 pub use holding::Holding;
 pub use job::Job;
 pub use piece::Piece;
+
+// Rows and words are counted by the same cells.
+const _: () = prove!(view_board::CELLS == tatp_actions::CELLS);

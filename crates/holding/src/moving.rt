@@ -66,6 +66,7 @@ impl Holding {
     /// is handed back as it came.
     pub fn take(&mut self, mut piece: Box<Piece>) -> Result<(), Back<Box<Piece>>>
         requires { self.old.part.width ≡ piece.value.part.width }
+        ensures piece { IsPiece piece.value }
         ensures taken { OnOk result (IsTaken self.old piece.value self.new) }
         ensures refused { IfErr result (λ back. (back.item ≡ piece) × (self.new ≡ self.old)) }
         ensures why { IfErr result (λ back. ((back.why ≡ Refusal.NotAdjacent) × (Touch self.old.part piece.value.part → ⊥)) ⊎ ((back.why ≡ Refusal.Memory) × Touch self.old.part piece.value.part)) }
