@@ -1,4 +1,4 @@
--- Runs: none, and one more step.
+-- Runs: one more step, and two runs one after the other.
 use Rattle.std.proofs.lemmas.List.{take_more}
 use Rattle.std.proofs.Common.{ℕ, ◌<◌, ◌+◌, length, get_or, take, ◌≡◌, refl, List, [], ◌∷◌, ◌++◌}
 use Rattle.hlr_core.specs.Step.{IsStep, IsRun}
