@@ -9,6 +9,8 @@ mod holding;
 mod job;
 mod moving;
 mod piece;
+#[cfg(test)]
+mod tests;
 
 pub use holding::Holding;
 pub use job::Job;
