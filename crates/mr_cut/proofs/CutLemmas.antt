@@ -1,7 +1,8 @@
 -- A tree that is cut at a key.
 use Rattle.std.proofs.Common.{◌≡◌, ℕ, ◌+◌, ◌-◌, ◌*◌, ◌<◌, ◌≤◌, List, [], ◌∷◌, ◌++◌, length, take, drop, nat_lt, nat_le, true, false, sym, ap, subst, ◌∙◌, arith, append-nil, take_at, inl, inr}
 use Rattle.std.specs.List.{AllByRecursion}
-use Rattle.std.proofs.Math.Nat.{add-mul, mul-add}
+use Rattle.std.proofs.Math.Nat.{add-mul, le-mul_of_pos_right, mul-add}
+use Rattle.std.proofs.lemmas.Nat.{mul-le}
 use Rattle.std.proofs.lemmas.Bool.{cases_lt, lt-ltb, lt-leb, le-ltb, le-leb}
 use Rattle.std.proofs.lemmas.List.Elements.{filter-append}
 use Rattle.std.specs.Int.{abs_diff}
@@ -31,6 +32,15 @@ near a b n le me = omega (arith, le, me)
 -- the square of the next number
 square_next : (a b : ℕ) → a ≡ b + 1 → a * a ≡ b * b + (2 * b + 1)
 square_next a b e = ap (λ n. n * n) e ∙ add-mul b 1 (b + 1) ∙ omega (arith, mul-add b b 1)
+
+-- what the path and the joins beside it take together, in a tree of less than 16 levels
+pub both_meters : (k h path joins : ℕ) → k ≡ h → h < 16 → path ≤ 3 * (k + 1) → joins ≤ 32 * ((k + 1) * (k + 1)) → (path + joins ≤ 64 * ((h + 1) * (h + 1))) × (path + joins < 16384)
+both_meters k h path joins e low first second =
+    let one : path ≤ 3 * (h + 1) = omega (arith, e, first) in
+    let two : joins ≤ 32 * ((h + 1) * (h + 1)) = subst (λ n. joins ≤ 32 * ((n + 1) * (n + 1))) e second in
+    let square : h + 1 ≤ (h + 1) * (h + 1) = le-mul_of_pos_right (h + 1) (omega arith) in
+    let most : (h + 1) * (h + 1) ≤ 256 = mul-le (h + 1) (h + 1) 16 16 (omega (arith, low)) (omega (arith, low)) in
+    (omega (arith, one, two, square), omega (arith, one, two, most, low))
 
 module _ {V : Type 0} where
   -- no children: a blank leaf

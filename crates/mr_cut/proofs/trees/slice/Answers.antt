@@ -1,6 +1,6 @@
-use Rattle.std.proofs.Common.{sym, subst, ◌∙◌}
+use Rattle.std.proofs.Common.{arith, sym, subst, ap, ◌∙◌}
 use Rattle.mr_cut.specs.Cuts.{IsCut}
-use Rattle.mr_cut.proofs.CutLemmas.{cut_rows}
+use Rattle.mr_cut.proofs.CutLemmas.{both_meters, cut_rows}
 use Rattle.mr_cut.proofs.trees.slice.Goals as goal
 
 pub returns-clause-low : goal.returns-clause-low
@@ -26,3 +26,26 @@ returns-clause-cut g c =
     let high = c.from_root-2.ensures ∙ c.into_inner-2.ensures in
     let cut = subst (λ s. IsCut c.args.key s c.from_root.result c.from_root-2.result) whole (subst (λ s. IsCut c.args.key c.boxed-root.result.value s c.from_root-2.result) (sym low) (subst (λ s. IsCut c.args.key c.boxed-root.result.value c.cut-low.result.0.value s) (sym high) c.cut-low.ensures.cut)) in
     cut
+
+pub returns-clause-path : goal.returns-clause-path
+returns-clause-path g c =
+    let whole = c.boxed-root.ensures ∙ c.into_root.ensures.same in
+    omega (arith, ap (λ s. s.height) whole, c.new-path.ensures, c.cut-low.ensures.path, c.steps.ensures, c.steps-3.ensures)
+
+pub returns-clause-path_no_fewer : goal.returns-clause-path_no_fewer
+returns-clause-path_no_fewer g c =
+    let whole = c.boxed-root.ensures ∙ c.into_root.ensures.same in
+    omega (arith, ap (λ s. s.height) whole, c.new-path.ensures, c.cut-low.ensures.path_no_fewer, c.steps-3.ensures)
+
+pub overflow_add-result : goal.overflow_add-result
+overflow_add-result g c =
+    omega (arith, (both_meters _ c.args.tree.height c.steps.result c.steps-2.result (ap (λ s. s.height) (c.boxed-root.ensures ∙ c.into_root.ensures.same)) (omega (arith, c.height.ensures.value, c.height.ensures.low)) (omega (arith, c.new-path.ensures, c.cut-low.ensures.path, c.steps.ensures)) (omega (arith, c.new-joins.ensures, c.cut-low.ensures.joins, c.steps-2.ensures))).1)
+
+pub returns-clause-steps : goal.returns-clause-steps
+returns-clause-steps g c =
+    (both_meters _ c.args.tree.height c.steps.result c.steps-2.result (ap (λ s. s.height) (c.boxed-root.ensures ∙ c.into_root.ensures.same)) (omega (arith, c.height.ensures.value, c.height.ensures.low)) (omega (arith, c.new-path.ensures, c.cut-low.ensures.path, c.steps.ensures)) (omega (arith, c.new-joins.ensures, c.cut-low.ensures.joins, c.steps-2.ensures))).0
+
+pub returns-clause-no_fewer : goal.returns-clause-no_fewer
+returns-clause-no_fewer g c =
+    let whole = c.boxed-root.ensures ∙ c.into_root.ensures.same in
+    omega (arith, ap (λ s. s.height) whole, c.new-path.ensures, c.new-joins.ensures, c.cut-low.ensures.joins_no_fewer, c.steps.ensures, c.steps-2.ensures, c.steps-3.ensures)
