@@ -1,3 +1,8 @@
+use Rattle.std.proofs.Common.{◌≡◌, ◌+ℤ◌, arith, pos, subst, sym}
+use Rattle.std.proofs.lemmas.Int.{ints}
+use Rattle.tatp_actions.specs.Cell.{cell}
+use Rattle.view_board.specs.Nets.{net_of}
+use Rattle.view_delta.specs.Pending.{pending_at}
 use Rattle.view_delta.proofs.NoteLemmas.{notes_fit}
 use Rattle.holding.proofs.HeldLemmas.{pending_small}
 use Rattle.holding.proofs.holding.Holding.act.Goals as goal
@@ -5,3 +10,17 @@ use Rattle.holding.proofs.holding.Holding.act.Goals as goal
 pub note-requires : goal.note-requires
 note-requires g c =
     rw (← c.notes-notes.ensures.value) (notes_fit c.self.inside.pending _ c.notes-notes.ensures.small c.notes-notes.ensures.few (pending_small _ c.self.invariant))
+
+pub invariant_of-self : goal.invariant_of-self
+invariant_of-self g c = record {
+  rules = c.act-reply.ensures.after;
+  slot = c.self.invariant.slot;
+  law = λ at lt. subst (λ width. net_of c.self.inside.desk.view at +ℤ pending_at c.note.new.self at ≡ pos (cell width at c.act-reply.new.self.book)) (sym c.act-reply.ensures.range.2) (omega (arith, ints, c.act-reply.ensures.change at lt, c.note.ensures at lt, c.self.invariant.law at lt));
+  small = c.self.invariant.small;
+}
+
+pub returns-clause-before : goal.returns-clause-before
+returns-clause-before g c = rw (← c.self.view_is) c.self.invariant
+
+pub returns-clause-after : goal.returns-clause-after
+returns-clause-after g c = invariant_of-self g c
