@@ -110,6 +110,19 @@ fn meld_stock(rt: &impl Abort, low: &SubTree<Token>, high: &SubTree<Token>) -> S
     }
 }
 
+// Whether a tree is as high as one of so many rows may be: nodes have 16 to 32 of their own, and the root has two
+// children at least where it has any.
+fn is_right_height(tree: &SubTree<Token>) -> bool {
+    let rows = tree.len();
+    match tree.height() {
+        0 => rows <= 32,
+        1 => 32 <= rows && rows <= 1024,
+        2 => 512 <= rows && rows <= 32_768,
+        3 => 8192 <= rows && rows <= 1_048_576,
+        _ => false,
+    }
+}
+
 // Asserts what a tree was cut into.
 fn compare(rt: &impl Abort, cut: &Cut<Token>, key: u64, whole: Walk, height: u64) {
     let low = walked(&cut.low, start());
@@ -119,6 +132,7 @@ fn compare(rt: &impl Abort, cut: &Cut<Token>, key: u64, whole: Walk, height: u64
     assert!(rt; low.rows == 0 || low.last < key);
     assert!(rt; high.rows == 0 || cut.high.first_from(0).map(|row| row.0) >= Some(key));
     assert_eq!(rt; (low.rows, high.rows), (cut.low.len(), cut.high.len()));
+    assert!(rt; is_right_height(&cut.low) && is_right_height(&cut.high));
     assert!(rt; cut.low.height() <= height && cut.high.height() <= height);
     assert!(rt; cut.path <= levels.saturating_mul(32));
     assert!(rt; cut.steps <= levels.saturating_mul(levels).saturating_mul(64));
@@ -139,7 +153,10 @@ fn cut_and_joined(
     let apart = cut.low.height().abs_diff(cut.high.height());
     let mut stock = meld_stock(rt, &cut.low, &cut.high);
     let (tree, steps) = meld(cut.low, cut.high, &mut stock);
-    assert_eq!(rt; walked(&tree, start()), whole);
+    assert_eq!(rt;
+        (walked(&tree, start()), is_right_height(&tree)),
+        (whole, true)
+    );
     assert!(rt; steps <= apart.saturating_add(1).saturating_mul(16));
     *most = Steps {
         slice: most.slice.max(cut.steps),
@@ -218,16 +235,21 @@ struct Seen {
     meld: u64,
 }
 
-// Cuts a tree at a key, and joins its parts again, which gives the rows and the height that it had.
+// Cuts a tree at a key, and joins its parts again: both have the rows of the tree, and the joined one its height.
 fn cut_at(rt: &impl Abort, tree: SubTree<Token>, key: u64) -> (Seen, SubTree<Token>) {
-    let whole = (walked(&tree, start()), tree.height());
+    let whole = walked(&tree, start());
+    let height = tree.height();
     let mut stock = slice_stock(rt, &tree);
     let cut = slice(tree, key, &mut stock);
+    let apart = walked(&cut.high, walked(&cut.low, start()));
     let lengths = (cut.low.len(), cut.high.len());
     let heights = (cut.low.height(), cut.high.height());
     let mut stock = meld_stock(rt, &cut.low, &cut.high);
     let (tree, meld) = meld(cut.low, cut.high, &mut stock);
-    assert_eq!(rt; (walked(&tree, start()), tree.height()), whole);
+    assert_eq!(rt;
+        (apart, walked(&tree, start()), tree.height()),
+        (whole, whole, height)
+    );
     let seen = Seen {
         lengths,
         heights,
@@ -245,15 +267,16 @@ fn compare_cuts(rt: &impl Abort, tree: SubTree<Token>) {
     let (last, _tree) = cut_at(rt, tree, 34);
     assert_eq!(rt;
         [
-            (first.lengths, first.heights),
-            (middle.lengths, middle.heights),
-            (last.lengths, last.heights),
+            (first.lengths, first.heights, first.slice, first.meld),
+            (middle.lengths, middle.heights, middle.slice, middle.meld),
+            (last.lengths, last.heights, last.slice, last.meld),
         ],
-        [((0, 33), (0, 1)), ((16, 17), (0, 0)), ((33, 0), (1, 0))]
+        [
+            ((0, 33), (0, 1), 14, 6),
+            ((16, 17), (0, 0), 13, 5),
+            ((33, 0), (1, 0), 14, 6),
+        ]
     );
-    let slices = first.slice.max(middle.slice).max(last.slice);
-    let apart = first.meld.max(last.meld);
-    assert!(rt; slices <= 256 && middle.meld <= 16 && apart <= 32);
 }
 
 // 1,024 keys are cut in two halves. With one key more they make a tree of height 2, which is cut at each key; then a
@@ -271,10 +294,16 @@ fn compare_great_cuts(rt: &impl Abort, tree: SubTree<Token>) {
     let grown = grown && tree.insert(2000, Token(2000)).is_ok();
     let (one, _tree) = cut_at(rt, tree, 2000);
     assert_eq!(rt;
-        (grown, halves.lengths, one.lengths, one.heights),
-        (true, (512, 512), (1025, 1), (2, 0))
+        (
+            grown,
+            halves.lengths,
+            most,
+            one.lengths,
+            one.heights,
+            one.meld
+        ),
+        (true, (512, 512), 48, (1025, 1), (2, 0), 8)
     );
-    assert!(rt; most <= 576 && one.meld <= 48);
 }
 
 #[test]
