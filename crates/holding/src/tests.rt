@@ -1,6 +1,8 @@
-//! What no clause says: that calls with memory succeed.
+//! What no clause says: that calls with memory succeed, and that owners work in threads of their own.
 ghost use Rattle.std.specs.Prelude.{◌≡◌, ℕ, ◌<◌, ◌≤◌, IsTrue, IfOk};
 ghost use Rattle.tatp_actions.specs.declared.cells.TheConstants.{CELLS};
+ghost use Rattle.view_board.specs.Views.{first_view, without, alone, Owns};
+ghost use Rattle.view_board.specs.Desks.{with_view};
 ghost use Rattle.holding.specs.Held.{HasSmallNets};
 
 use crate::{Holding, Piece};
@@ -8,6 +10,8 @@ use part_table::Side;
 use std::alloc::Global;
 use std::process::Abort;
 use std::test::Fail;
+use std::thread;
+use std::thread::Threads;
 use tatp_actions::{Action, CELLS, Part, RowReply};
 use tatp_rows::{Number, Refusal, Subscriber};
 use view_board::{Board, Desk, LIMIT, WORDS};
@@ -30,7 +34,7 @@ fn has_small_nets(desk: &Desk) -> bool
 
 /// A board of these words; where a growth was refused, at the second try.
 fn board_of(alloc: Global, words: &[u64; WORDS]) -> Result<(Board, Desk), Refusal>
-    ensures { IfOk result (λ opened. opened.1.board ≡ opened.0) }
+    ensures { IfOk result (λ opened. (opened.1.board ≡ opened.0) × (opened.1.view ≡ first_view words.now)) }
 {
     match Board::open(alloc, words) {
         Err(Refusal::Memory) => Board::open(alloc, words),
@@ -39,14 +43,16 @@ fn board_of(alloc: Global, words: &[u64; WORDS]) -> Result<(Board, Desk), Refusa
 }
 
 /// A holding of a range, in zones of 4, over a desk that owns one of the first slots.
-fn opened(rt: &impl Abort, alloc: Global, lo: u32, hi: u32, desk: Desk) -> Result<Holding, Refusal>
-    ensures { IfOk result (λ holding. holding.desk ≡ desk) }
+fn opened(rt: &impl Abort, alloc: Global, lo: u32, hi: u32, desk: Desk) -> Holding
+    ensures { result.desk ≡ desk }
 {
     assert!(rt; 1 <= lo && lo < hi && hi <= 16_777_217);
     assert!(rt; desk.owns(0) || desk.owns(1));
     assert!(rt; has_small_nets(&desk));
-    let part = Part::new(alloc, lo, hi, 4)?;
-    Ok(Holding::of(alloc, part, desk))
+    let Ok(part) = Part::new(alloc, lo, hi, 4) else {
+        unreachable!()
+    };
+    Holding::of(alloc, part, desk)
 }
 
 /// A subscriber in area 1 with its own number.
@@ -56,9 +62,10 @@ fn row(s_id: u64) -> Result<Subscriber, Refusal> {
 }
 
 /// Adds a subscriber, at the second try where a growth was refused. `None` where it isn't of the part.
-fn add(holding: &mut Holding, row: Subscriber) -> Option<RowReply>
+fn add(holding: &mut Holding, number: u64) -> Option<RowReply>
     ensures { holding.new.desk ≡ holding.old.desk }
 {
+    let row = row(number).ok()?;
     let s_id = row.s_id();
     if s_id < holding.lo() || holding.hi() <= s_id {
         return None;
@@ -113,15 +120,10 @@ fn counts(holding: &Holding) -> Counts {
 fn adds_and_posts(
     board: &Board,
     holding: &mut Holding,
-    rows: [Subscriber; 2],
 ) -> ([Option<RowReply>; 3], [Result<u8, Refusal>; 2], [Counts; 3])
     requires { holding.old.desk.board ≡ board.now }
 {
-    let added = [
-        add(holding, rows[0]),
-        add(holding, rows[1]),
-        add(holding, rows[0]),
-    ];
+    let added = [add(holding, 7), add(holding, 8), add(holding, 7)];
     let first = counts(holding);
     let one = holding.post(board, 1);
     let second = counts(holding);
@@ -135,11 +137,10 @@ fn a_worn_word_ends_a_posting(rt: HostRuntime) -> Result<(), Fail> {
     words[4] = 5;
     words[20] = LIMIT;
     words[51 + 20] = LIMIT;
-    let rows = [row(7)?, row(8)?];
     let (board, desk) = board_of(rt.alloc(), &words)?;
-    let mut holding = opened(&rt, rt.alloc(), 1, 65, desk)?;
+    let mut holding = opened(&rt, rt.alloc(), 1, 65, desk);
     let begun = counts(&holding);
-    let (added, posted, then) = adds_and_posts(&board, &mut holding, rows);
+    let (added, posted, then) = adds_and_posts(&board, &mut holding);
     drop(holding);
     assert_eq!(rt;
         (begun, added, posted),
@@ -214,10 +215,9 @@ fn gives_and_takes(holding: &mut Holding) -> Option<Moves> {
 
 #[test]
 fn pieces_are_given_and_taken(rt: HostRuntime) -> Result<(), Fail> {
-    let rows = [row(7)?, row(8)?];
     let (board, desk) = board_of(rt.alloc(), &[0; WORDS])?;
-    let mut holding = opened(&rt, rt.alloc(), 1, 65, desk)?;
-    let (_, posted, _) = adds_and_posts(&board, &mut holding, rows);
+    let mut holding = opened(&rt, rt.alloc(), 1, 65, desk);
+    let (_, posted, _) = adds_and_posts(&board, &mut holding);
     let moves = gives_and_takes(&mut holding);
     let ends = (
         holding.lo(),
@@ -238,6 +238,219 @@ fn pieces_are_given_and_taken(rt: HostRuntime) -> Result<(), Fail> {
                 [true, true],
                 [([2, 2], [-1, -1], [1, 1]), ([2, 2], [0, 0], [2, 2])],
             )),
+        )
+    );
+    Ok(())
+}
+
+/// A slot split off; where a growth was refused, at the second try.
+fn split_off(board: &Board, desk: &mut Desk, slot: u8) -> Result<Desk, Refusal>
+    requires board { desk.old.board ≡ board.now }
+    requires own { Owns desk.old.view slot }
+    ensures { IfOk result (λ new. (new ≡ with_view desk.old (alone desk.old.view slot)) × (desk.new ≡ with_view desk.old (without desk.old.view slot))) }
+{
+    match board.split(desk, slot) {
+        Err(_) => board.split(desk, slot),
+        new => new,
+    }
+}
+
+/// The desks of slot 0, of slot 15 and of the slots between, out of one desk.
+fn three_desks(board: &Board, mut desk: Desk) -> Result<(Desk, Desk, Desk), Refusal>
+    requires { (desk.board ≡ board.now) × Owns desk.view 0 × Owns desk.view 15 }
+    ensures { IfOk result (λ desks. (desks.0.board ≡ board.now) × (desks.1.board ≡ board.now) × (desks.2.board ≡ board.now)) }
+{
+    let first = split_off(board, &mut desk, 0)?;
+    let last = split_off(board, &mut desk, 15)?;
+    Ok((first, last, desk))
+}
+
+/// The words that are posted: of slot 1 those of area 1 and zone 1, each up and down, and of slot 0 those of area 1 and two
+/// zones, up alone.
+type Watched = [u64; 7];
+
+/// What a desk sees of them.
+fn look(board: &Board, desk: &mut Desk) -> Watched
+    requires { desk.old.board ≡ board.now }
+    ensures { desk.new.board ≡ board.now }
+{
+    let words = board.look(desk).words;
+    [
+        words[106], words[157], words[122], words[173], words[4], words[20], words[35],
+    ]
+}
+
+/// Whether two sights show no word below the one before them, and none above the one after them.
+fn are_between(before: &Watched, sights: &[Watched; 2], after: &Watched) -> bool {
+    for sight in sights {
+        for word in 0..7 {
+            if sight[word] < before[word] || after[word] < sight[word] {
+                return false;
+            }
+        }
+    }
+    true
+}
+
+/// The first subscriber of a holding from one on.
+fn first_from(holding: &Holding, s_id: u64) -> Option<u32> {
+    match holding.first_sub_from(s_id) {
+        Some(row) => Some(row.s_id()),
+        None => None,
+    }
+}
+
+/// What a holding has that comes home: its first subscriber and the first from 9 on, and its counts.
+type Home = ([Option<u32>; 2], Counts);
+
+/// What a holding has at its end.
+fn home(holding: Holding) -> Home {
+    (
+        [first_from(&holding, 1), first_from(&holding, 9)],
+        counts(&holding),
+    )
+}
+
+/// What the thread of an owner at work hands back: the holding, whether a subscriber was added, and what a posting answered.
+type Worked = (Holding, bool, Result<u8, Refusal>);
+
+/// What the thread beside it hands back: the holding, what a posting answered, and the desk with what it saw.
+type Beside = (Holding, Result<u8, Refusal>, Desk, [Watched; 2]);
+
+/// Adds a subscriber, and posts.
+fn works(board: &Board, mut holding: Holding, s_id: u64) -> Worked
+    requires { holding.desk.board ≡ board.now }
+    ensures { result.0.desk.board ≡ board.now }
+{
+    let is_added = add(&mut holding, s_id) == Some(RowReply::Done);
+    let posted = holding.post(board, 51);
+    (holding, is_added, posted)
+}
+
+/// Looks, posts, and looks again.
+fn posts_and_looks(board: &Board, mut holding: Holding, mut desk: Desk) -> Beside
+    requires { (holding.desk.board ≡ board.now) × (desk.board ≡ board.now) }
+    ensures { (result.0.desk.board ≡ board.now) × (result.2.board ≡ board.now) }
+{
+    let first = look(board, &mut desk);
+    let posted = holding.post(board, 51);
+    let second = look(board, &mut desk);
+    (holding, posted, desk, [first, second])
+}
+
+/// One owner works in a thread; beside it one posts, and a desk looks.
+fn side_by_side<R: Threads + Sync>(
+    rt: &R,
+    board: &Board,
+    worker: Holding,
+    s_id: u64,
+    other: Holding,
+    desk: Desk,
+) -> (Worked, Beside)
+    requires worker { worker.desk.board ≡ board.now }
+    requires beside { (other.desk.board ≡ board.now) × (desk.board ≡ board.now) }
+    ensures worker { result.0.0.desk.board ≡ board.now }
+    ensures beside { (result.1.0.desk.board ≡ board.now) × (result.1.2.board ≡ board.now) }
+{
+    thread::join(
+        rt,
+        || -> Worked
+            requires { worker.desk.board ≡ board.now }
+            ensures { result.0.desk.board ≡ board.entry.now }
+        { works(board, worker, s_id) },
+        || -> Beside
+            requires { (other.desk.board ≡ board.now) × (desk.board ≡ board.now) }
+            ensures { (result.0.desk.board ≡ board.entry.now) × (result.2.board ≡ board.entry.now) }
+        { posts_and_looks(board, other, desk) },
+    )
+}
+
+/// Gives those from 8 on away, and lets the other holding take them.
+fn hand_over(giver: &mut Holding, taker: &mut Holding) -> bool
+    ensures giver { giver.new.desk ≡ giver.old.desk }
+    ensures taker { taker.new.desk ≡ taker.old.desk }
+{
+    match give(giver, Side::High, 8) {
+        Ok(piece) => take(taker, piece).is_none(),
+        Err(_) => false,
+    }
+}
+
+/// What came of a piece's way: whether each owner's subscriber was added, and the piece went over; what the postings answered;
+/// what came home; what the desk saw before, between and after; and whether its other sights lie between these.
+type Way = (
+    [bool; 3],
+    [Result<u8, Refusal>; 4],
+    [Home; 2],
+    [Watched; 3],
+    [bool; 2],
+);
+
+/// An owner works, and gives to another one, which works then; meanwhile the one that doesn't work posts, and a desk looks.
+fn piece_goes_over<R: Threads + Sync>(
+    rt: &R,
+    board: &Board,
+    low: Holding,
+    high: Holding,
+    mut desk: Desk,
+) -> Way
+    requires holdings { (low.desk.board ≡ board.now) × (high.desk.board ≡ board.now) }
+    requires desk { desk.board ≡ board.now }
+{
+    let before = look(board, &mut desk);
+    let (worked, beside) = side_by_side(rt, board, low, 7, high, desk);
+    let (mut low, low_added, first) = worked;
+    let (mut high, second, mut desk, early) = beside;
+    let is_over = hand_over(&mut low, &mut high);
+    let between = look(board, &mut desk);
+    let (worked, beside) = side_by_side(rt, board, high, 66, low, desk);
+    let (high, high_added, third) = worked;
+    let (low, fourth, mut desk, late) = beside;
+    let after = look(board, &mut desk);
+    let are_right = [
+        are_between(&before, &early, &between),
+        are_between(&between, &late, &after),
+    ];
+    (
+        [low_added, high_added, is_over],
+        [first, second, third, fourth],
+        [home(low), home(high)],
+        [before, between, after],
+        are_right,
+    )
+}
+
+#[test]
+fn owners_work_in_threads(rt: HostRuntime) -> Result<(), Fail> {
+    let (board, desk) = board_of(rt.alloc(), &[0; WORDS])?;
+    let (first, last, desk) = three_desks(&board, desk)?;
+    let mut low = opened(&rt, rt.alloc(), 1, 65, desk);
+    let high = opened(&rt, rt.alloc(), 65, 129, first);
+    let begun = (add(&mut low, 8), low.post(&board, 51));
+    let (are_done, posted, homes, sights, are_right) = piece_goes_over(
+        &rt, &board, low, high, last,
+    );
+    assert_eq!(rt;
+        (begun, are_done, posted, homes),
+        (
+            (Some(RowReply::Done), Ok(2)),
+            [true; 3],
+            [Ok(2), Ok(0), Ok(3), Ok(2)],
+            [
+                ([Some(7), None], ([1, 1], [0, 0], [1, 1])),
+                ([Some(8), Some(66)], ([2, 1], [0, 0], [2, 1]))
+            ],
+        )
+    );
+    assert_eq!(rt;
+        (sights, are_right),
+        (
+            [
+                [1, 0, 1, 0, 0, 0, 0],
+                [2, 0, 2, 0, 0, 0, 0],
+                [2, 1, 2, 1, 2, 1, 1]
+            ],
+            [true, true],
         )
     );
     Ok(())
