@@ -77,27 +77,27 @@ impl Register {
     pub fn apply(&mut self, event: Event) -> Reply
         ensures { IsStep event self.old result self.new }
     {
-        match event {
-            Event::SubscriberData { s_id } => self.ask(checked::subscriber_data(s_id)),
+        let action = match event {
+            Event::SubscriberData { s_id } => checked::subscriber_data(s_id),
             Event::NewDestination {
                 s_id,
                 sf_type,
                 start_time,
                 end_time,
-            } => self.ask(checked::new_destination(s_id, sf_type, start_time, end_time)),
-            Event::AccessData { s_id, ai_type } => self.ask(checked::access_data(s_id, ai_type)),
+            } => checked::new_destination(s_id, sf_type, start_time, end_time),
+            Event::AccessData { s_id, ai_type } => checked::access_data(s_id, ai_type),
             Event::UpdateSubscriber {
                 s_id,
                 sf_type,
                 bit_1,
                 data_a,
-            } => self.ask(checked::update_subscriber(s_id, sf_type, bit_1, data_a)),
+            } => checked::update_subscriber(s_id, sf_type, bit_1, data_a),
             Event::UpdateLocation {
                 sub_nbr,
                 vlr_location,
             } => {
                 let owner = self.index.find(sub_nbr);
-                self.ask(checked::update_location(owner, vlr_location))
+                checked::update_location(owner, vlr_location)
             }
             Event::InsertForwarding {
                 sub_nbr,
@@ -107,7 +107,7 @@ impl Register {
                 numberx,
             } => {
                 let owner = self.index.find(sub_nbr);
-                self.ask(checked::insert_forwarding(owner, sf_type, start_time, end_time, numberx))
+                checked::insert_forwarding(owner, sf_type, start_time, end_time, numberx)
             }
             Event::DeleteForwarding {
                 sub_nbr,
@@ -115,21 +115,22 @@ impl Register {
                 start_time,
             } => {
                 let owner = self.index.find(sub_nbr);
-                self.ask(checked::delete_forwarding(owner, sf_type, start_time))
+                checked::delete_forwarding(owner, sf_type, start_time)
             }
-            Event::AddSubscriber(row) => self.add_subscriber(row),
-            Event::AddAccess(row) => self.ask(checked::add_access(row)),
-            Event::AddFacility(row) => self.ask(checked::add_facility(row)),
+            Event::AddSubscriber(row) => return self.add_subscriber(row),
+            Event::AddAccess(row) => checked::add_access(row),
+            Event::AddFacility(row) => checked::add_facility(row),
             Event::SetActive {
                 s_id,
                 sf_type,
                 is_active,
-            } => self.ask(checked::set_active(s_id, sf_type, is_active)),
-            Event::SetNumber { s_id, sub_nbr } => self.set_number(s_id, sub_nbr),
-            Event::Post { part, limit } => self.post(part, limit),
-            Event::Give { part, side, at } => self.give(part, side, at),
-            Event::Take { piece, part } => self.take(piece, part),
-        }
+            } => checked::set_active(s_id, sf_type, is_active),
+            Event::SetNumber { s_id, sub_nbr } => return self.set_number(s_id, sub_nbr),
+            Event::Post { part, limit } => return self.post(part, limit),
+            Event::Give { part, side, at } => return self.give(part, side, at),
+            Event::Take { piece, part } => return self.take(piece, part),
+        };
+        self.ask(action)
     }
 
     /// Applies events one after another, and gives their replies in order. `Memory` where the list of replies could
