@@ -2,12 +2,11 @@
 ghost use Rattle.std.specs.Prelude.{◌≡◌, IfOk, IfSome, map, codes, false};
 ghost use Rattle.clap.specs.Words.{app_of, fault_of, found_of, matches_of, one_of, rows_of, rule_of};
 ghost use Rattle.clap.specs.Kinds.{FailsBy};
-ghost use Rattle.part_table.specs.Opening.{can_open};
 ghost use Rattle.hlr.specs.Options.{parts_rule, zone_rule, program, Spells, OptionsOf, InRange};
 
 use clap::builder::ValueParser;
 use clap::{Arg, ArgMatches, Command, Error};
-use part_table::MOST_PARTS;
+use part_table::{MOST_PARTS, can_open};
 use std::alloc::{AllocError, Global};
 use tatp_rows::GREATEST_WIDTH;
 
@@ -121,13 +120,6 @@ fn read_zone(matches: &ArgMatches<'_>) -> Option<u32>
     ensures { IfSome result (Spells (one_of (codes "zone") (rows_of (found_of matches.now)))) }
 {
     matches.get_one::<u32>("zone")
-}
-
-/// Whether a register can be opened with so many parts, and zones of this width.
-fn can_open(parts: u8, width: u32) -> bool
-    ensures { result ≡ can_open parts width }
-{
-    1 <= parts && parts <= MOST_PARTS && 1 <= width && width <= GREATEST_WIDTH
 }
 
 /// The options that the program's words ask for, of which the first is the program's name. An error has one of the

@@ -15,11 +15,11 @@ use crate::event::{Event, Reply};
 use crate::holdings::Holdings;
 use crate::weights::zone_weights;
 use number_index::NumberIndex;
-use part_table::{Bounds, MOST_PARTS, Regions, Side};
+use part_table::{Bounds, Regions, Side, can_open};
 use std::alloc::Global;
 use std::marker::Model;
 use tatp_actions::{Action, CELLS, Cells, RowReply};
-use tatp_rows::{GREATEST_WIDTH, LAST_SUBSCRIBER, Number, Refusal, Subscriber, in_range};
+use tatp_rows::{LAST_SUBSCRIBER, Number, Refusal, Subscriber, in_range};
 
 /// A home location register, seen as the store of the definitions: its rows, the regions, the words of the board, the
 /// slots of each part and the width of the zones.
@@ -61,7 +61,7 @@ impl Register {
         ensures field { (result ≡ Err Refusal.Field) ↔ ¬ (HasOpening parts width) }
         ensures other { OnErr result ((result ≡ Err Refusal.Field) ⊎ (result ≡ Err Refusal.Memory)) }
     {
-        if parts == 0 || parts > MOST_PARTS || width == 0 || width > GREATEST_WIDTH {
+        if !can_open(parts, width) {
             return Err(Refusal::Field);
         }
         let holdings = Holdings::open(alloc, parts, width)?;

@@ -18,4 +18,4 @@ mod tests;
 pub use bounds::{Bounds, GREATEST_WEIGHT};
 pub use moves::CutMove;
 pub use region::{END, MOST_PARTS, MOST_PIECES, Place, Region, Side};
-pub use regions::Regions;
+pub use regions::{Regions, can_open};

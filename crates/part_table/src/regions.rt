@@ -162,8 +162,8 @@ impl Regions {
     }
 }
 
-/// Whether a store can have so many parts, and zones of this width.
-fn can_open(parts: u8, width: u32) -> bool
+/// Whether a store can have so many parts, 1..=16, and zones of this width, 1..=524,288 subscribers.
+pub fn can_open(parts: u8, width: u32) -> bool
     ensures { result ≡ can_open parts width }
 {
     1 <= parts && parts <= MOST_PARTS && 1 <= width && width <= GREATEST_WIDTH
