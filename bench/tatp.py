@@ -1,31 +1,47 @@
 #!/usr/bin/env python3
 """Runs `hlr` and the plain Rust program (bench/baseline.rs, `rustc --edition 2021 -O`) on loads of the TATP benchmark, in turns, and counts instructions a command.
 usage: tatp.py HLR BASELINE [RUNS [loads|commands]]     at the repository's top; it works in /tmp/bench
+       tatp.py HLR --parts 1,4,16 [RUNS]
 
 For each load: processor seconds and resident KB of each program, medians of the runs, commands a second, and the ratios; the two programs have to answer the same bytes. For each command: instructions, by callgrind, of 20,000 records of
-it after a store that is made for it, less those of the store alone."""
+it after a store that is made for it, less those of the store alone.
+
+With --parts: `hlr` alone on the same loads with each number of parts, in turns, with zones so wide that the subscribers
+fill all 32, so each part has some. Seconds are of the user and of the processor, medians of the runs; instructions a record, by callgrind, are of a small load."""
 import hashlib, os, random, statistics, subprocess, sys
 
 LOADS = [("1000", "400000"), ("50000", "500000"), ("100000", "0")]
+COUNTED = ("1000", "40000")
 ZONE = ["--zone", "4096"]
-ROOM = "/tmp/bench"
+ROOM = os.environ.get("ROOM", "/tmp/bench")
+
+
+def timed(words, records):
+    """Seconds of the user and of the system, resident KB, and the answers' sum."""
+    with open(records, "rb") as lines, open(ROOM + "/answers", "wb") as answers:
+        told = subprocess.run(["/usr/bin/time", "-f", "%U %S %M"] + words, stdin=lines, stdout=answers, stderr=subprocess.PIPE, text=True, check=True).stderr
+    user, system, resident = told.split()
+    with open(ROOM + "/answers", "rb") as answers:
+        return float(user), float(system), int(resident), hashlib.sha256(answers.read()).hexdigest()
 
 
 def run(program, records):
     """Seconds of the processor (user and system), resident KB, and the answers' sum."""
-    with open(records, "rb") as lines, open(ROOM + "/answers", "wb") as answers:
-        told = subprocess.run(["/usr/bin/time", "-f", "%U %S %M", program] + ZONE, stdin=lines, stdout=answers, stderr=subprocess.PIPE, text=True, check=True).stderr
-    user, system, resident = told.split()
-    with open(ROOM + "/answers", "rb") as answers:
-        return float(user) + float(system), int(resident), hashlib.sha256(answers.read()).hexdigest()
+    user, system, resident, answers = timed([program] + ZONE, records)
+    return user + system, resident, answers
+
+
+def write_load(load):
+    """The file of a load's records, and how many there are."""
+    records = f"{ROOM}/load_{'_'.join(load)}.csv"
+    with open(records, "wb") as lines:
+        subprocess.run([sys.executable, "bench/tatp_load.py", *load], stdout=lines, stderr=subprocess.DEVNULL, check=True)
+    return records, sum(1 for _ in open(records, "rb"))
 
 
 def measure_loads(programs, runs):
     for load in LOADS:
-        records = f"{ROOM}/load_{'_'.join(load)}.csv"
-        with open(records, "wb") as lines:
-            subprocess.run([sys.executable, "bench/tatp_load.py", *load], stdout=lines, check=True)
-        count = sum(1 for _ in open(records, "rb"))
+        records, count = write_load(load)
         found = {name: [] for name in programs}
         for _ in range(runs):
             for name, path in programs.items():
@@ -38,6 +54,29 @@ def measure_loads(programs, runs):
             print(f"  {name}: {medians[name]:.3f} s, {count / medians[name] / 1e6:.2f} million a second, {memory[name]} KB")
         hlr, plain = programs
         print(f"  ratio {medians[plain] / medians[hlr]:.2f}, memory {memory[hlr] / memory[plain]:.2f}", flush=True)
+
+
+def words_of(program, parts, load):
+    """The program with so many parts, and zones so wide that the load's subscribers fill all 32."""
+    return [program, "--zone", str(-(-int(load[0]) // 32)), "--parts", parts]
+
+
+def measure_parts(program, parts, runs):
+    for load in LOADS:
+        records, count = write_load(load)
+        found = {number: [] for number in parts}
+        for _ in range(runs):
+            for number in parts:
+                found[number].append(timed(words_of(program, number, load), records))
+        print(f"{' '.join(load)}: {count} records")
+        for number in parts:
+            user = statistics.median(result[0] for result in found[number])
+            both = statistics.median(result[0] + result[1] for result in found[number])
+            print(f"  {number} parts: user {user:.2f} s, processor {both:.2f} s", flush=True)
+    records, count = write_load(COUNTED)
+    for number in parts:
+        told = instructions_of(words_of(program, number, COUNTED), records)
+        print(f"{' '.join(COUNTED)}, {number} parts: {told // count} instructions a record", flush=True)
 
 
 def sub(s):
@@ -81,15 +120,19 @@ def commands():
     yield "dcf", one + calls, [f"dcf,{s:015},1,{start}" for s in many for start in hours][:20_000]
 
 
+def instructions_of(words, path):
+    told = subprocess.run(
+        ["valgrind", "--tool=callgrind", "--callgrind-out-file=/dev/null"] + words,
+        stdin=open(path, "rb"), stdout=subprocess.DEVNULL, stderr=subprocess.PIPE, text=True, check=True,
+    ).stderr
+    return int(told.split("Collected : ")[1].split()[0])
+
+
 def instructions(program, records):
     path = ROOM + "/counted.csv"
     with open(path, "w") as lines:
         lines.write("\n".join(records) + "\n")
-    told = subprocess.run(
-        ["valgrind", "--tool=callgrind", "--callgrind-out-file=/dev/null", program] + ZONE,
-        stdin=open(path, "rb"), stdout=subprocess.DEVNULL, stderr=subprocess.PIPE, text=True, check=True,
-    ).stderr
-    return int(told.split("Collected : ")[1].split()[0])
+    return instructions_of([program] + ZONE, path)
 
 
 def measure_commands(programs):
@@ -101,6 +144,9 @@ def measure_commands(programs):
 
 
 def main():
+    if sys.argv[2] == "--parts":
+        os.makedirs(ROOM, exist_ok=True)
+        return measure_parts(sys.argv[1], sys.argv[3].split(","), int(sys.argv[4]) if len(sys.argv) > 4 else 5)
     programs = {"hlr": sys.argv[1], "baseline": sys.argv[2]}
     runs = int(sys.argv[3]) if len(sys.argv) > 3 else 5
     part = sys.argv[4] if len(sys.argv) > 4 else "both"
