@@ -1,31 +1,23 @@
 -- One owner and its two halves, a piece and a part: their rules and their rows.
-use Rattle.std.proofs.Common.{◌≡◌, ℕ, ◌+◌, ◌<◌, refl, arith, List, sym, ◌∙◌, ap, subst}
-use Rattle.std.specs.Prelude.{pos, ◌+ℤ◌}
+use Rattle.std.proofs.Common.{◌≡◌, ℕ, ◌<◌, arith, sym, ◌∙◌, ap}
 use Rattle.std.specs.List.{AllZip}
-use Rattle.std.proofs.lemmas.Int.{ints}
 use Rattle.tatp_actions.specs.Book.{Book, IsRowsOf, rows_between}
-use Rattle.tatp_actions.specs.Cell.{cell}
 use Rattle.tatp_actions.specs.Joined.{join_books, cut_low, cut_high}
-use Rattle.tatp_actions.specs.Part.{IsPart, IsWidth}
+use Rattle.tatp_actions.specs.Part.{IsPart}
 use Rattle.tatp_actions.proofs.CutLemmas.{cut_joined, cut_low_rows, cut_high_rows}
-use Rattle.tatp_actions.proofs.JoinedLemmas.{rows_joined, cell_joined}
-use Rattle.tatp_actions.specs.declared.cells.TheConstants.{CELLS}
 use Rattle.part_table.proofs.Owners.{half_owners, joint_region}
 use Rattle.part_table.specs.Give.{halves}
-use Rattle.part_table.specs.declared.region.Place.TheVariants.{Piece}
 use Rattle.part_table.specs.declared.region.Region.{Region}
 use Rattle.part_table.specs.declared.region.Side.{Side}
 use Rattle.part_table.specs.declared.region.Side.TheVariants.{Low, High}
-use Rattle.view_delta.specs.Pending.{pending_at}
-use Rattle.hlr_core.specs.Held.{HoldingState, IsOwner}
+use Rattle.hlr_core.specs.Held.{Owner, IsLawful, IsOwner}
 use Rattle.tatp_actions.proofs.BetweenLemmas.{low_between, high_between}
 use Rattle.part_table.specs.Region.{is_part}
 use Rattle.part_table.specs.declared.region.TheConstants.{END}
 use Rattle.hlr_core.proofs.StretchLemmas.{between_inside, between_halves}
-use Rattle.hlr_core.proofs.HeldLemmas.{piece_net}
 
 -- two owners whose ranges meet at a bound, and one that has the rows of both
-pub record AreHalves (at : ℕ) (whole low high : HoldingState) : Type 0 where
+pub record AreHalves (at : ℕ) (whole low high : Owner) : Type 0 where
   pub from : low.part.lo ≡ whole.part.lo
   pub below : low.part.hi ≡ at
   pub above : high.part.lo ≡ at
@@ -36,7 +28,7 @@ pub record AreHalves (at : ℕ) (whole low high : HoldingState) : Type 0 where
   pub high_rules : IsPart high.part
   pub rows : join_books low.part.book high.part.book ≡ whole.part.book
 
-module _ (at : ℕ) (whole low high : HoldingState) (two : AreHalves at whole low high) where
+module _ (at : ℕ) (whole low high : Owner) (two : AreHalves at whole low high) where
   -- the ranges of their rows
   pub of_low : IsRowsOf low.part.lo at low.part.book
   of_low = rw two.below at two.low_rules.rows
@@ -44,27 +36,8 @@ module _ (at : ℕ) (whole low high : HoldingState) (two : AreHalves at whole lo
   pub of_high : IsRowsOf at high.part.hi high.part.book
   of_high = rw two.above at two.high_rules.rows
 
-  -- the counts add up
-  pub halves_counted : (width c : ℕ) → cell width c whole.part.book ≡ cell width c low.part.book + cell width c high.part.book
-  halves_counted width c = ap (λ (book : Book). cell width c book) (sym two.rows) ∙ cell_joined low.part.lo at high.part.hi low.part.book high.part.book of_low of_high width c
-
-  -- and the one that has the rows of both keeps the rules of a part
-  pub whole_rules : IsPart whole.part
-  whole_rules =
-      let low_range = two.low_rules.range in
-      let high_range = two.high_rules.range in
-      let from = two.from in
-      let to = two.to in
-      let below = two.below in
-      let above = two.above in
-      record {
-        range = (omega arith, omega arith, omega arith);
-        width = subst IsWidth two.low_zones two.low_rules.width;
-        rows = rw (← two.from, ← two.to, ← two.rows) (rows_joined low.part.lo at high.part.hi low.part.book high.part.book of_low of_high (omega arith) (omega arith));
-      }
-
 -- an owner cut at a bound inside its range
-pub cut_halves : (at : ℕ) (whole low high : HoldingState) → whole.part.lo < at → at < whole.part.hi → IsPart whole.part
+pub cut_halves : (at : ℕ) (whole low high : Owner) → whole.part.lo < at → at < whole.part.hi → IsPart whole.part
     → (low.part.lo ≡ whole.part.lo) × (low.part.hi ≡ at) × (low.part.width ≡ whole.part.width) × (low.part.book ≡ cut_low at whole.part.book)
     → (high.part.lo ≡ at) × (high.part.hi ≡ whole.part.hi) × (high.part.width ≡ whole.part.width) × (high.part.book ≡ cut_high at whole.part.book)
     → AreHalves at whole low high
@@ -91,7 +64,7 @@ cut_halves at whole low high above below rules is_low is_high =
     }
 
 -- two owners joined where their ranges meet
-pub meld_halves : (at : ℕ) (whole low high : HoldingState) → IsPart low.part → IsPart high.part → low.part.hi ≡ at → high.part.lo ≡ at
+pub meld_halves : (at : ℕ) (whole low high : Owner) → IsPart low.part → IsPart high.part → low.part.hi ≡ at → high.part.lo ≡ at
     → (low.part.width ≡ whole.part.width) × (high.part.width ≡ whole.part.width)
     → (whole.part.lo ≡ low.part.lo) × (whole.part.hi ≡ high.part.hi) × (whole.part.book ≡ join_books low.part.book high.part.book)
     → AreHalves at whole low high
@@ -107,87 +80,37 @@ meld_halves at whole low high is_low is_high below above zones is = record {
   rows = sym is.2;
 }
 
--- what is pending of a piece are its counts
-abbrev pub IsUnposted : HoldingState → Type 0
-IsUnposted piece = (c : ℕ) → c < CELLS → pending_at piece.pending c ≡ pos (cell piece.part.width c piece.part.book)
-
--- what is pending of one owner is what is pending of two others
-abbrev pub IsSumOf : HoldingState → HoldingState → HoldingState → Type 0
-IsSumOf whole one other = (c : ℕ) → c < CELLS → pending_at whole.pending c ≡ pending_at one.pending c +ℤ pending_at other.pending c
-
 -- the halves are a piece on one side of the bound, and a part
-abbrev pub AreSides : Side → ℕ → HoldingState → HoldingState → HoldingState → Type 0
+abbrev pub AreSides : Side → ℕ → Owner → Owner → Owner → Type 0
 AreSides Low at whole piece part = AreHalves at whole piece part
 AreSides High at whole piece part = AreHalves at whole part piece
 
--- a piece of which nothing is posted keeps the rules beside its region
-pub piece_owned : (width : ℕ) (words : List ℕ) (region : Region) (n : ℕ) (piece : HoldingState) → region.place ≡ Piece n
-    → (piece.part.lo ≡ region.lo) × (piece.part.hi ≡ region.hi) × (piece.part.width ≡ width) → IsPart piece.part → IsUnposted piece
-    → IsOwner width words region piece
-piece_owned width words region n piece place same rules counts = record {
-  from = same.0;
-  to = same.1;
-  zones = same.2;
-  rules = rules;
-  held = λ c below. (let count = counts c below in rw (piece_net words region.place n c place) (omega (arith, ints)));
-  counted = λ c below. rw (piece_net words region.place n c place) (omega (arith, ints), omega (arith, ints));
-}
-
--- what is left of an owner keeps them, for which the same is published
-kept_owned : (width : ℕ) (words : List ℕ) (region half : Region) (owner given kept : HoldingState) → IsOwner width words region owner → half.place ≡ region.place
-    → (kept.part.lo ≡ half.lo) × (kept.part.hi ≡ half.hi) × (kept.part.width ≡ owner.part.width) → IsPart kept.part → IsUnposted given → IsSumOf owner given kept
-    → given.part.width ≡ owner.part.width
-    → ((c : ℕ) → cell owner.part.width c owner.part.book ≡ cell owner.part.width c given.part.book + cell owner.part.width c kept.part.book)
-    → IsOwner width words half kept
-kept_owned width words region half owner given kept is place same rules counts sum zones divided = record {
-  from = same.0;
-  to = same.1;
-  zones = same.2 ∙ is.zones;
-  rules = rules;
-  held = λ c below. (let law = is.held c below in let more = sum c below in let count = rw zones at (counts c below) in let both = divided c in rw (place, same.2) (omega (arith, ints)));
-  counted = λ c below. rw place (is.counted c below);
-}
-
--- so each of them keeps the rules beside its half of the region
-pub halves_owned : (width : ℕ) (words : List ℕ) (region : Region) (n : ℕ) (side : Side) (at : ℕ) (owner given kept : HoldingState) → IsOwner width words region owner
-    → AreSides side at owner given kept → IsUnposted given → IsSumOf owner given kept → AllZip (IsOwner width words) (halves n side at region) (half_owners side given kept)
-halves_owned width words region n Low at owner given kept is two counts sum = (
-  piece_owned width words (record { lo = region.lo; hi = at; place = Piece n }) n given refl (two.from ∙ is.from, two.below, two.low_zones ∙ is.zones) two.low_rules counts,
-  (kept_owned width words region (record { lo = at; hi = region.hi; place = region.place }) owner given kept is refl (two.above, two.to ∙ is.to, two.high_zones) two.high_rules counts sum two.low_zones (λ c. halves_counted at owner given kept two owner.part.width c), tt),
+-- each of them keeps the rules beside its half of the region
+pub halves_owned : (width : ℕ) (region : Region) (n : ℕ) (side : Side) (at : ℕ) (owner given kept : Owner) → IsOwner width region owner
+    → AreSides side at owner given kept → IsLawful given → IsLawful kept → AllZip (IsOwner width) (halves n side at region) (half_owners side given kept)
+halves_owned width region n Low at owner given kept is two of_given of_kept = (
+  record { from = two.from ∙ is.from; to = two.below; zones = two.low_zones ∙ is.zones; keeps = of_given },
+  (record { from = two.above; to = two.to ∙ is.to; zones = two.high_zones ∙ is.zones; keeps = of_kept }, tt),
 )
-halves_owned width words region n High at owner given kept is two counts sum = (
-  kept_owned width words region (record { lo = region.lo; hi = at; place = region.place }) owner given kept is refl (two.from ∙ is.from, two.below, two.low_zones) two.low_rules counts sum two.high_zones (λ c. let both = halves_counted at owner kept given two owner.part.width c in omega arith),
-  (piece_owned width words (record { lo = at; hi = region.hi; place = Piece n }) n given refl (two.above, two.to ∙ is.to, two.high_zones ∙ is.zones) two.high_rules counts, tt),
+halves_owned width region n High at owner given kept is two of_given of_kept = (
+  record { from = two.from ∙ is.from; to = two.below; zones = two.low_zones ∙ is.zones; keeps = of_kept },
+  (record { from = two.above; to = two.to ∙ is.to; zones = two.high_zones ∙ is.zones; keeps = of_given }, tt),
 )
 
 -- a part that took a piece keeps the rules beside the region of both
-pub joint_owned : (width : ℕ) (words : List ℕ) (first second : Region) (n : ℕ) (side : Side) (at : ℕ) (piece part whole : HoldingState) → IsOwner width words first piece → IsOwner width words second part
-    → first.place ≡ Piece n → AreSides side at whole piece part → IsSumOf whole part piece → IsOwner width words (joint_region side first second) whole
-joint_owned width words first second n Low at piece part whole is_piece is_part place two sum = record {
-  from = sym two.from ∙ is_piece.from;
-  to = sym two.to ∙ is_part.to;
-  zones = sym two.high_zones ∙ is_part.zones;
-  rules = whole_rules at whole piece part two;
-  held = λ c below. (let one = rw two.low_zones at (is_piece.held c below) in let other = rw two.high_zones at (is_part.held c below) in
-      let both = halves_counted at whole piece part two whole.part.width c in let more = sum c below in let none = piece_net words first.place n c place in omega (arith, ints));
-  counted = is_part.counted;
-}
-joint_owned width words first second n High at piece part whole is_piece is_part place two sum = record {
-  from = sym two.from ∙ is_part.from;
-  to = sym two.to ∙ is_piece.to;
-  zones = sym two.low_zones ∙ is_part.zones;
-  rules = whole_rules at whole part piece two;
-  held = λ c below. (let one = rw two.high_zones at (is_piece.held c below) in let other = rw two.low_zones at (is_part.held c below) in
-      let both = halves_counted at whole part piece two whole.part.width c in let more = sum c below in let none = piece_net words first.place n c place in omega (arith, ints));
-  counted = is_part.counted;
-}
+pub joint_owned : (width : ℕ) (first second : Region) (side : Side) (at : ℕ) (piece part whole : Owner) → IsOwner width first piece → IsOwner width second part
+    → AreSides side at whole piece part → IsLawful whole → IsOwner width (joint_region side first second) whole
+joint_owned width first second Low at piece part whole is_piece is_part two keeps =
+    record { from = sym two.from ∙ is_piece.from; to = sym two.to ∙ is_part.to; zones = sym two.high_zones ∙ is_part.zones; keeps = keeps }
+joint_owned width first second High at piece part whole is_piece is_part two keeps =
+    record { from = sym two.from ∙ is_part.from; to = sym two.to ∙ is_piece.to; zones = sym two.low_zones ∙ is_part.zones; keeps = keeps }
 
 -- an owner's rows are those of its region in a book
-abbrev pub HasRows : Book → Region → HoldingState → Type 0
+abbrev pub HasRows : Book → Region → Owner → Type 0
 HasRows book region owner = rows_between region.lo region.hi book ≡ owner.part.book
 
 -- the halves of an owner have the rows of the halves of its region
-two_rows : (region : Region) (at : ℕ) (owner low high : HoldingState) (book : Book) → HasRows book region owner → owner.part.lo ≡ region.lo → owner.part.hi ≡ region.hi → AreHalves at owner low high
+two_rows : (region : Region) (at : ℕ) (owner low high : Owner) (book : Book) → HasRows book region owner → owner.part.lo ≡ region.lo → owner.part.hi ≡ region.hi → AreHalves at owner low high
     → (rows_between region.lo at book ≡ low.part.book) × (rows_between at region.hi book ≡ high.part.book)
 two_rows region at owner low high book has from to two =
     let low_range = two.low_rules.range in
@@ -205,30 +128,30 @@ two_rows region at owner low high book has from to two =
       sym (between_inside region.lo at region.hi region.hi book (omega arith) (omega arith)) ∙ ap (λ (b : Book). rows_between at region.hi b) whole ∙ rw same_hi at other,
     )
 
-pub halves_rows : (region : Region) (n : ℕ) (side : Side) (at : ℕ) (owner given kept : HoldingState) (book : Book) → HasRows book region owner → owner.part.lo ≡ region.lo → owner.part.hi ≡ region.hi
+pub halves_rows : (region : Region) (n : ℕ) (side : Side) (at : ℕ) (owner given kept : Owner) (book : Book) → HasRows book region owner → owner.part.lo ≡ region.lo → owner.part.hi ≡ region.hi
     → AreSides side at owner given kept → AllZip (HasRows book) (halves n side at region) (half_owners side given kept)
 halves_rows region n Low at owner given kept book has from to two = let both = two_rows region at owner given kept book has from to two in (both.0, (both.1, tt))
 halves_rows region n High at owner given kept book has from to two = let both = two_rows region at owner kept given book has from to two in (both.0, (both.1, tt))
 
 -- a part that took a piece has the rows of the region of both
-two_regions : (width : ℕ) (words : List ℕ) (first second : Region) (at : ℕ) (low high whole : HoldingState) (book : Book) → IsRowsOf 1 END book → IsOwner width words first low → IsOwner width words second high
+two_regions : (width : ℕ) (first second : Region) (at : ℕ) (low high whole : Owner) (book : Book) → IsRowsOf 1 END book → IsOwner width first low → IsOwner width second high
     → HasRows book first low → HasRows book second high → AreHalves at whole low high → rows_between first.lo second.hi book ≡ whole.part.book
-two_regions width words first second at low high whole book rows is_low is_high of_first of_second both =
+two_regions width first second at low high whole book rows is_low is_high of_first of_second both =
     let from = is_low.from in
     let ends = is_low.to in
     let begins = is_high.from in
     let to = is_high.to in
     let below = both.below in
     let above = both.above in
-    let low_range = is_low.rules.range in
-    let high_range = is_high.rules.range in
+    let low_range = is_low.keeps.rules.range in
+    let high_range = is_high.keeps.rules.range in
     let meets : first.hi ≡ second.lo = sym ends ∙ below ∙ sym above ∙ begins in
     let behind : rows_between first.hi second.hi book ≡ high.part.book = rw (← meets) at of_second in
     sym (between_halves 1 END book rows first.lo first.hi second.hi (omega arith) (omega arith) (omega arith) (omega arith))
     ∙ ap (λ (b : Book). join_books b (rows_between first.hi second.hi book)) of_first ∙ ap (λ (b : Book). join_books low.part.book b) behind ∙ both.rows
 
-pub joint_rows : (width : ℕ) (words : List ℕ) (first second : Region) (side : Side) (at : ℕ) (piece part whole : HoldingState) (book : Book) → IsRowsOf 1 END book
-    → IsOwner width words first piece → IsOwner width words second part → HasRows book first piece → HasRows book second part → AreSides side at whole piece part
+pub joint_rows : (width : ℕ) (first second : Region) (side : Side) (at : ℕ) (piece part whole : Owner) (book : Book) → IsRowsOf 1 END book
+    → IsOwner width first piece → IsOwner width second part → HasRows book first piece → HasRows book second part → AreSides side at whole piece part
     → HasRows book (joint_region side first second) whole
-joint_rows width words first second Low at piece part whole book rows is_piece is_part of_first of_second two = two_regions width words first second at piece part whole book rows is_piece is_part of_first of_second two
-joint_rows width words first second High at piece part whole book rows is_piece is_part of_first of_second two = two_regions width words second first at part piece whole book rows is_part is_piece of_second of_first two
+joint_rows width first second Low at piece part whole book rows is_piece is_part of_first of_second two = two_regions width first second at piece part whole book rows is_piece is_part of_first of_second two
+joint_rows width first second High at piece part whole book rows is_piece is_part of_first of_second two = two_regions width second first at part piece whole book rows is_part is_piece of_second of_first two

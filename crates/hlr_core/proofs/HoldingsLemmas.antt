@@ -1,5 +1,5 @@
 -- The place of a subscriber, as the number of the part whose box is looked up.
-use Rattle.std.proofs.Common.{◌≡◌, refl, sym, false, ℕ, ◌<◌, List, length, get_or}
+use Rattle.std.proofs.Common.{◌≡◌, refl, sym, false, ℕ, ◌<◌, List, length, get_or, ◌⊎◌, inl, inr, Result, Ok, Err}
 use Rattle.std.specs.Prelude.{Some, Box}
 use Rattle.std.specs.declared.alloc.Global.{Global}
 use Rattle.tatp_actions.specs.Book.{IsRowsOf}
@@ -7,10 +7,13 @@ use Rattle.part_table.proofs.BesideLemmas.{part_of_s_id}
 use Rattle.part_table.specs.Regions.{AreRegions, place_of}
 use Rattle.part_table.specs.declared.region.Place.TheVariants.{Part}
 use Rattle.part_table.specs.declared.region.Region.{Region}
-use Rattle.hlr_core.specs.Held.{HoldingState, AreHeld}
-use Rattle.hlr_core.specs.Step.{is_loose}
-use Rattle.hlr_core.specs.Owners.{unboxed}
-use Rattle.hlr_core.proofs.BoxLemmas.{length-unboxed}
+use Rattle.holding.specs.Held.{HoldingState}
+use Rattle.hlr_core.specs.Held.{Owner, of_holding, AreHeld}
+use Rattle.tatp_rows.specs.declared.refusal.Refusal.{Refusal}
+use Rattle.tatp_rows.specs.declared.refusal.Refusal.TheVariants as refusal
+use Rattle.hlr_core.specs.Step.{is_loose, MayAnswer}
+use Rattle.hlr_core.specs.Owners.{seen}
+use Rattle.hlr_core.proofs.BoxLemmas.{length-seen}
 use Rattle.hlr_core.proofs.StoreActLemmas.{acted_within}
 use Rattle.hlr_core.proofs.StoreLemmas.{part_owned}
 
@@ -23,14 +26,25 @@ pub home_of_part : (regions : List Region) (s_id p : ℕ) → place_of s_id regi
 home_of_part regions s_id p place = rw place refl
 
 -- there is a box
-pub box_there : (regions : List Region) (boxes : List (Box HoldingState Global)) (pieces : List HoldingState) (words : List ℕ) (width : ℕ) → AreRegions regions → AreHeld regions (unboxed boxes) pieces words width
+pub box_there : (regions : List Region) (boxes : List (Box HoldingState Global)) (pieces : List Owner) (width : ℕ) → AreRegions regions → AreHeld regions (seen of_holding boxes) pieces width
     → (s_id i n : ℕ) → place_of s_id regions ≡ Some (Part i) → n ≡ length boxes → i < n
-box_there regions boxes pieces words width are held s_id i n place long =
-    rw (long, ← length-unboxed boxes) (acted_within regions (unboxed boxes) pieces words width are held s_id i place)
+box_there regions boxes pieces width are held s_id i n place long =
+    rw (long, ← length-seen of_holding boxes) (acted_within regions (seen of_holding boxes) pieces width are held s_id i place)
 
 -- a part's rows are those of its range
-pub part_rows : (regions : List Region) (holdings pieces : List HoldingState) (words : List ℕ) (width : ℕ) → AreRegions regions → AreHeld regions holdings pieces words width
-    → (s_id p : ℕ) (holding : HoldingState) → place_of s_id regions ≡ Some (Part p) → holding ≡ get_or holdings p holding → IsRowsOf holding.part.lo holding.part.hi holding.part.book
-part_rows regions holdings pieces words width are held s_id p holding place is =
+pub part_rows : (regions : List Region) (holdings pieces : List Owner) (width : ℕ) → AreRegions regions → AreHeld regions holdings pieces width
+    → (s_id p : ℕ) (holding : Owner) → place_of s_id regions ≡ Some (Part p) → holding ≡ get_or holdings p holding → IsRowsOf holding.part.lo holding.part.hi holding.part.book
+part_rows regions holdings pieces width are held s_id p holding place is =
     let there = part_of_s_id s_id p regions are.in_order place in
-    (part_owned regions holdings pieces words width are held p there.0 holding there.1 is).0.rules.rows
+    (part_owned regions holdings pieces width are held p there.0 holding there.1 is).0.keeps.rules.rows
+
+-- a refusal that is want of memory, where the other reason does not stand
+pub only_memory : {P : Type 0} (other why : Refusal) → P → ((why ≡ other) × (P → ⊥)) ⊎ ((why ≡ refusal.Memory) × P) → why ≡ refusal.Memory
+only_memory other why stands told = elim told [
+  | inl none ↦ absurd (none.1 stands)
+  | inr memory ↦ memory.0
+]
+
+-- a give or a take that the regions would do is refused
+pub may_refuse : {A : Type 0} (answer result : Result A Refusal) (told : A) (why : Refusal) → answer ≡ Ok told → result ≡ Err why → why ≡ refusal.Memory → MayAnswer answer result
+may_refuse answer result told why does refused memory = rw (does, refused, memory) (inr refl)

@@ -1,7 +1,6 @@
-pub mod BoardLemmas
 pub mod BoxLemmas
 pub mod BoxMoveLemmas
-pub mod CellLemmas
+pub mod DeskLemmas
 pub mod FirstLemmas
 pub mod GiveTakeLemmas
 pub mod HalvesLemmas
@@ -16,13 +15,13 @@ pub mod OwnerCountLemmas
 pub mod OwnerLemmas
 pub mod OwnerPostLemmas
 pub mod PairsLemmas
-pub mod PieceLemmas
 pub mod PostLemmas
 pub mod PresentLemmas
 pub mod RecutLemmas
 pub mod RegisterLemmas
 pub mod RenamedLemmas
 pub mod RunLemmas
+pub mod ShareLemmas
 pub mod StoreActLemmas
 pub mod StoreCountLemmas
 pub mod StoreLemmas
@@ -32,4 +31,3 @@ pub mod StretchLemmas
 pub mod TotalLemmas
 pub mod UndividedLemmas
 pub mod WeightLemmas
-pub mod WordsLemmas

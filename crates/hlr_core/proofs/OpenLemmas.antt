@@ -1,14 +1,12 @@
 -- The store at opening: an empty holding for each region, one after another.
-use Rattle.std.proofs.Common.{◌≡◌, ◌∙◌, refl, sym, ap, subst, ℕ, ◌+◌, ◌-◌, ◌<◌, ◌≤◌, arith, List, [], ◌∷◌, ◌++◌, length, get_or, take, map, true, replicate}
-use Rattle.std.specs.Prelude.{Result, Ok, pos}
+use Rattle.std.proofs.Common.{◌≡◌, ◌∙◌, refl, sym, ap, ℕ, ◌+◌, ◌-◌, ◌<◌, ◌≤◌, arith, List, [], ◌∷◌, ◌++◌, length, get_or, take, map, true}
+use Rattle.std.specs.Prelude.{Result, Ok}
 use Rattle.std.specs.List.{AllZip, AllByRecursion, range_with_len}
 use Rattle.std.proofs.lemmas.List.{take_more, take_all}
 use Rattle.std.proofs.lemmas.List.FromFn.{length-map-range_with_len}
 use Rattle.std.proofs.lemmas.Slice.Zip.{AllZip-long}
 use Rattle.tatp_rows.specs.declared.refusal.Refusal.{Refusal}
-use Rattle.tatp_actions.specs.Book.{empty_book}
 use Rattle.tatp_actions.specs.Part.{IsRange, IsWidth}
-use Rattle.tatp_actions.specs.declared.cells.TheConstants.{CELLS}
 use Rattle.part_table.proofs.BoundsLemmas.{length_parts, no_pieces, within}
 use Rattle.part_table.proofs.NumberLemmas.{length_regions}
 use Rattle.part_table.proofs.OpeningLemmas.{openable}
@@ -17,13 +15,14 @@ use Rattle.part_table.specs.Opening as table
 use Rattle.part_table.specs.Opening.{can_open, opening_bound}
 use Rattle.part_table.specs.Regions.{AreRegions, IsConsecutive}
 use Rattle.part_table.specs.declared.region.Region.{Region}
-use Rattle.hlr_core.specs.Board.{IsBoard}
-use Rattle.hlr_core.specs.Held.{HoldingState, AreHeld}
+use Rattle.hlr_core.specs.Held.{Owner, of_holding, IsOpened, AreHeld}
+use Rattle.view_board.specs.Desks.{Station}
+use Rattle.view_board.specs.declared.words.TheConstants.{WORDS}
+use Rattle.holding.specs.Held.{HoldingState}
+use Rattle.hlr_core.proofs.ShareLemmas.{AreShared, shared_words}
 use Rattle.hlr_core.specs.Owners.{store_of}
 use Rattle.hlr_core.specs.Store.{opening}
-use Rattle.hlr_core.specs.Words.{blank_words}
-use Rattle.hlr_core.proofs.HeldLemmas.{IsFresh}
-use Rattle.hlr_core.proofs.OwnerPostLemmas.{fresh_holding}
+use Rattle.hlr_core.proofs.HeldLemmas.{IsFresh, fresh_holding}
 use Rattle.hlr_core.proofs.StoreLemmas.{opened_held, opened_rows}
 use Rattle.tatp_rows.proofs.PlaceLemmas.{each_at}
 
@@ -76,30 +75,31 @@ zip_push R (x' ∷ xs) [] x y each here = absurd each
 zip_push R (x' ∷ xs) (y' ∷ ys) x y each here = (each.0, zip_push R xs ys x y each.1 here)
 
 -- the first i holdings stand beside the first i regions, each with no row
-abbrev pub AreOpened : ℕ → List Region → List HoldingState → ℕ → Type 0
+abbrev pub AreOpened : ℕ → List Region → List Owner → ℕ → Type 0
 AreOpened width regions holdings i = AllZip (IsFresh width) (take i regions) holdings
 
-pub none_opened : (width : ℕ) (regions : List Region) (holdings : List HoldingState) → holdings ≡ [] → AreOpened width regions holdings 0
+pub none_opened : (width : ℕ) (regions : List Region) (holdings : List Owner) → holdings ≡ [] → AreOpened width regions holdings 0
 none_opened width [] holdings none = rw none tt
 none_opened width (region ∷ regions) holdings none = rw none tt
 
-pub one_opened : (width i : ℕ) (d : Region) (regions : List Region) (holdings : List HoldingState) (holding : HoldingState) → AreRegions regions → IsWidth width → i < length regions → AreOpened width regions holdings i
-    → holding ≡ record { part = record { book = empty_book; asked = 0; lo = (get_or regions i d).lo; hi = (get_or regions i d).hi; width = width; steps = 0 }; pending = replicate CELLS (pos 0) }
-    → AreOpened width regions (holdings ++ holding ∷ []) (i + 1)
-one_opened width i d regions holdings holding are wide below each is =
-    let fresh = fresh_holding width (get_or regions i d) holding (range_at regions i d are below) wide (rw is (refl, refl, refl, refl)) (ap (λ (h : HoldingState). h.pending) is) in
-    rw (take_more regions i d below) (zip_push (IsFresh width) (take i regions) holdings (get_or regions i d) holding each fresh)
+pub one_opened : (width i : ℕ) (d : Region) (regions : List Region) (holdings : List Owner) (holding : HoldingState) → i < length regions → AreOpened width regions holdings i
+    → IsOpened (get_or regions i d) width holding → AreOpened width regions (holdings ++ of_holding holding ∷ []) (i + 1)
+one_opened width i d regions holdings holding below each is =
+    rw (take_more regions i d below) (zip_push (IsFresh width) (take i regions) holdings (get_or regions i d) (of_holding holding) each (fresh_holding width (get_or regions i d) holding is))
 
--- all holdings are the store at opening
-module _ (parts width i : ℕ) (regions : List Region) (holdings pieces : List HoldingState) (words : List ℕ) (can : can_open parts width ≡ true) (is : Ok regions ≡ table.opening parts width)
-    (each : AreOpened width regions holdings i) (past : length regions ≤ i) (none : pieces ≡ []) (blank : words ≡ blank_words) where
+-- all holdings are those of the store at opening
+module _ (parts width i : ℕ) (regions : List Region) (holdings : List Owner) (can : can_open parts width ≡ true) (is : Ok regions ≡ table.opening parts width)
+    (each : AreOpened width regions holdings i) (past : length regions ≤ i) where
   all : AllZip (IsFresh width) (parts_between 0 1 (bounds_opened parts width)) holdings
   all = let whole : AllZip (IsFresh width) regions holdings = rw (take_all i regions past) at each in rw (regions_are parts width regions can is) at whole
 
-  pub all_held : IsBoard words → AreHeld regions holdings pieces words width
-  all_held board = rw (regions_are parts width regions can is, none, blank) (opened_held width (bounds_opened parts width) holdings (width_fits parts width regions can is) (subst IsBoard blank board) all)
+  pub all_held : (pieces : List Owner) → pieces ≡ [] → AreHeld regions holdings pieces width
+  all_held pieces none = rw (none, regions_are parts width regions can is) (opened_held width (bounds_opened parts width) holdings (width_fits parts width regions can is) all)
 
-  pub all_opened : store_of regions holdings pieces words width ≡ opening parts width
-  all_opened =
-      let long : length holdings ≡ parts = AllZip-long (IsFresh width) (parts_between 0 1 (bounds_opened parts width)) holdings all ∙ ap length (sym (regions_are parts width regions can is)) ∙ regions_long parts width regions can is in
-      rw (regions_are parts width regions can is, none, blank, long, opened_rows width (bounds_opened parts width) holdings all) refl
+  long : length holdings ≡ parts
+  long = AllZip-long (IsFresh width) (parts_between 0 1 (bounds_opened parts width)) holdings all ∙ ap length (sym (regions_are parts width regions can is)) ∙ regions_long parts width regions can is
+
+  pub all_opened : (pieces : List Owner) (words : List ℕ) (spare : Station) (desks : List Station) → pieces ≡ [] → length desks ≡ length holdings → AreShared words spare desks → length words ≡ WORDS
+      → store_of regions holdings pieces spare desks width ≡ record (opening parts width) { words = words }
+  all_opened pieces words spare desks none as_long shared wide =
+      rw (none, regions_are parts width regions can is, opened_rows width (bounds_opened parts width) holdings all, shared_words words spare desks shared wide, shared.slots, as_long, long) refl

@@ -1,206 +1,127 @@
--- A posting, cell by cell.
-use Rattle.std.proofs.Common.{◌≡◌, ℕ, ◌+◌, ◌-◌, ◌<◌, ◌≤◌, refl, arith, zero, suc, true, false, not, List, [], ◌∷◌, take, set, length, sym, subst, ◌∙◌, Some, None, Ok, Err, ◌⊎◌, inl, inr, min}
-use Rattle.std.specs.Prelude.{ℤ, pos, negsuc, ◌+ℤ◌, ◌-ℤ◌}
-use Rattle.std.specs.List.{range_with_len, filter}
-use Rattle.std.proofs.Math.Seq.{take-nil}
-use Rattle.std.proofs.lemmas.Bool.{cases_lt, cases_eq}
-use Rattle.std.proofs.lemmas.Bool.Decides.{nat_tests}
-use Rattle.std.proofs.lemmas.Int.{ints}
-use Rattle.std.proofs.lemmas.List.{get_or-set_same, get_or-set_other, get_or_past, length-set}
-use Rattle.tatp_rows.specs.declared.refusal.Refusal.{Refusal}
-use Rattle.tatp_rows.specs.declared.refusal.Refusal.TheVariants as refusal
+-- A posting of one desk among all: what it is of the words of the board.
+use Rattle.std.proofs.Common.{◌≡◌, ◌∙◌, refl, sym, ap, ℕ, zero, suc, ◌+◌, ◌<◌, ◌≤◌, arith, List, [], ◌∷◌, length, get_or, set, take, true, false, not, Bool, map}
+use Rattle.std.specs.Prelude.{ℤ, pos, ◌-ℤ◌, sum_by}
+use Rattle.std.specs.List.{AllByRecursion, filter, range_with_len}
+use Rattle.std.proofs.lemmas.List.{length-set, map-set}
+use Rattle.std.proofs.lemmas.List.Sums.{sum_by-cons, sum_by-set}
+use Rattle.std.proofs.Math.ListN.{get_or-map}
+use Rattle.atomic_table.specs.Seated.{TableId}
+use Rattle.tatp_rows.proofs.OrderedLemmas.{by_test}
+use Rattle.tatp_rows.proofs.PlaceLemmas.{each_at}
 use Rattle.tatp_actions.specs.declared.cells.TheConstants.{CELLS}
-use Rattle.hlr_core.specs.Board.{IsBoard}
-use Rattle.view_delta.specs.Pending.{pending_at, AreZero, IsNextNonzero}
-use Rattle.hlr_core.specs.Held.{HoldingState, IsCellPosted}
-use Rattle.hlr_core.specs.Post.{is_zero, is_worn, raise_cells, all_cells, post}
-use Rattle.hlr_core.specs.Words.{slot_net, net, raised}
-use Rattle.hlr_core.proofs.BoardLemmas.{raised_board}
-use Rattle.hlr_core.proofs.WordsLemmas.{slot_net-raised, slot_net-raised_cell, slot_net-raised_slot}
+use Rattle.view_board.specs.Desks.{Station, with_view}
+use Rattle.view_board.specs.Views.{IsWide, posted}
+use Rattle.view_board.specs.Words.{word_of}
+use Rattle.view_board.specs.declared.rule.View.{View}
+use Rattle.view_board.specs.declared.words.TheConstants.{SLOTS}
+use Rattle.holding.specs.Held.{IsLeastSlot}
+use Rattle.holding.specs.Post as own
+use Rattle.holding.specs.Post.{all_cells, is_zero, due}
+use Rattle.hlr_core.specs.Desks.{owns_one, words_of, slots_in, IsOfBoard, AreDesks}
+use Rattle.hlr_core.specs.Post.{is_worn, raise_cells, post}
+use Rattle.hlr_core.specs.Words.{net}
+use Rattle.hlr_core.proofs.DeskLemmas.{words_with, words_posted, word_here, net_of_slots, least_of_slots}
+use Rattle.hlr_core.proofs.StoreLemmas.{set_same}
 
--- the cells from one on, with a gap
-abbrev pub open_from : (ℕ → ℤ) → ℕ → ℕ → List ℕ
-open_from gap c left = filter (λ k. not (is_zero (gap k))) (range_with_len c left)
+-- an amount that is posted leaves the desk as wide as it was
+wide_posted : (view : View) (slot c : ℕ) (amount : ℤ) → IsWide view → IsWide (posted view slot c amount)
+wide_posted view slot c amount wide = record { slots = wide.slots; numbers = length-set view.numbers (word_of slot c amount) _ ∙ wide.numbers; seen = wide.seen }
 
--- where a posting stands before cell c: what is left of it gives the whole answer, and the deltas from c on are the gaps
-pub record IsPosting (count : ℕ → ℕ) (slot limit : ℕ) (start : List ℕ) (c posted : ℕ) (pending : List ℤ) (words : List ℕ) : Type 0 where
-  pub goes : (left : ℕ) → c + left ≡ CELLS → raise_cells (λ (k : ℕ). pos (count k) -ℤ net start (slot ∷ []) k) slot (take (limit - posted) (open_from (λ (k : ℕ). pos (count k) -ℤ net start (slot ∷ []) k) c left)) posted words
-      ≡ post count (slot ∷ []) limit start
-  pub ahead : (k : ℕ) → c ≤ k → k < CELLS → pending_at pending k ≡ pos (count k) -ℤ net start (slot ∷ []) k
-  pub held : (k : ℕ) → k < CELLS → net words (slot ∷ []) k +ℤ pending_at pending k ≡ pos (count k)
-  pub either : (k : ℕ) → k < CELLS → (pending_at pending k ≡ pos (count k) -ℤ net start (slot ∷ []) k) ⊎ (pending_at pending k ≡ pos 0)
-  pub apart : (k other : ℕ) → k < CELLS → (other ≡ slot → ⊥) → slot_net words k other ≡ slot_net start k other
-  pub board : IsBoard words
-  pub few : posted ≤ c
-  pub within : posted ≤ limit
+-- cells of which each has the same gap in two ways
+abbrev AreSameGaps : (ℕ → ℤ) → (ℕ → ℤ) → List ℕ → Type 0
+AreSameGaps gap gaps cells = AllByRecursion (λ c. (c < CELLS) × (gap c ≡ gaps c)) cells
 
--- an amount that is not 0
-pub other_is_not : (z : ℤ) → (z ≡ pos 0 → ⊥) → is_zero z ≡ false
-other_is_not (pos zero) never = absurd (never refl)
-other_is_not (pos (suc n)) never = grind (arith, nat_tests)
-other_is_not (negsuc n) never = refl
+cells_same : (gap gaps : ℕ → ℤ) (a n : ℕ) → a + n ≤ CELLS → ((c : ℕ) → c < CELLS → gap c ≡ gaps c) → AreSameGaps gap gaps (range_with_len a n)
+cells_same gap gaps a zero within same = tt
+cells_same gap gaps a (suc n) within same = ((omega arith, same a (omega arith)), cells_same gap gaps (a + 1) n (omega arith) same)
 
--- the cells with a gap, where the first has none, and where it has one
-pub open_past : (gap : ℕ → ℤ) (c left : ℕ) → gap c ≡ pos 0 → open_from gap c (suc left) ≡ open_from gap (c + 1) left
-open_past gap c left none = rw none refl
+open_same : (gap gaps : ℕ → ℤ) (cells : List ℕ) → AreSameGaps gap gaps cells → filter (λ c. not (is_zero (gap c))) cells ≡ filter (λ c. not (is_zero (gaps c))) cells
+open_same gap gaps [] same = refl
+open_same gap gaps (c ∷ cells) same =
+    let rest = open_same gap gaps cells same.1 in
+    by_test (is_zero (gaps c)) (λ e. rw (same.0.1, e) rest) (λ e. rw (same.0.1, e) (ap (λ cs. c ∷ cs) rest))
 
-pub open_here : (gap : ℕ → ℤ) (c left : ℕ) → (gap c ≡ pos 0 → ⊥) → open_from gap c (suc left) ≡ c ∷ open_from gap (c + 1) left
-open_here gap c left some = rw (other_is_not (gap c) some) refl
+each_open : (P : ℕ → Type 0) (test : ℕ → Bool) (cells : List ℕ) → AllByRecursion P cells → AllByRecursion P (filter test cells)
+each_open P test [] each = tt
+each_open P test (c ∷ cells) each = by_test (test c) (λ e. rw e (each.0, each_open P test cells each.1)) (λ e. rw e (each_open P test cells each.1))
 
--- one cell raised, and one that would wear a word
-pub raise_one : (gap : ℕ → ℤ) (slot c : ℕ) (cells : List ℕ) (posted : ℕ) (words : List ℕ) → is_worn words slot c (gap c) ≡ false
-    → raise_cells gap slot (c ∷ cells) posted words ≡ raise_cells gap slot cells (posted + 1) (raised words slot c (gap c))
-raise_one gap slot c cells posted words e = rw e refl
+each_taken : (P : ℕ → Type 0) (limit : ℕ) (cells : List ℕ) → AllByRecursion P cells → AllByRecursion P (take limit cells)
+each_taken P zero [] each = tt
+each_taken P (suc limit) [] each = tt
+each_taken P zero (c ∷ cells) each = tt
+each_taken P (suc limit) (c ∷ cells) each = (each.0, each_taken P limit cells each.1)
 
-pub raise_none : (gap : ℕ → ℤ) (slot c : ℕ) (cells : List ℕ) (posted : ℕ) (words : List ℕ) → is_worn words slot c (gap c) ≡ true
-    → raise_cells gap slot (c ∷ cells) posted words ≡ (Err refusal.Worn, words)
-raise_none gap slot c cells posted words e = rw e refl
-
--- a delta that was cleared
-pub cleared : (pending : List ℤ) (c : ℕ) → pending_at (set pending c (pos 0)) c ≡ pos 0
-cleared pending c = elim (cases_lt c (length pending)) [
-  | inl within ↦ get_or-set_same pending c (pos 0) (pos 0) within
-  | inr past ↦ get_or_past (set pending c (pos 0)) c (pos 0) (rw length-set past)
-]
-
--- the gap of a cell that is still ahead is what is pending
-abbrev gap_of : (ℕ → ℕ) → ℕ → List ℕ → ℕ → ℤ
-gap_of count slot start k = pos (count k) -ℤ net start (slot ∷ []) k
-
--- a posting begins
-pub posting_begins : (count : ℕ → ℕ) (slot limit : ℕ) (start : List ℕ) (pending : List ℤ) → slot < 16 → IsBoard start
-    → ((k : ℕ) → k < CELLS → net start (slot ∷ []) k +ℤ pending_at pending k ≡ pos (count k)) → IsPosting count slot limit start 0 0 pending start
+-- the same cells are due
+due_same : (gap gaps : ℕ → ℤ) (limit : ℕ) → ((c : ℕ) → c < CELLS → gap c ≡ gaps c) → (due gap limit ≡ due gaps limit) × AreSameGaps gap gaps (due gap limit)
 unfolding all_cells
-posting_begins count slot limit start pending own board held = record {
-  goes = λ left whole. let all : left ≡ CELLS = omega arith in let least_is : min slot 16 ≡ slot = omega arith in let limit_is : limit - 0 ≡ limit = omega arith in rw (all, limit_is, least_is) refl;
-  ahead = λ k from below. let law = held k below in omega (arith, ints);
-  held = held;
-  either = λ k below. (let law = held k below in inl (omega (arith, ints)));
-  apart = λ k other below differ. refl;
-  board = board;
-  few = omega arith;
-  within = omega arith;
-}
+due_same gap gaps limit same =
+    let all = cells_same gap gaps 0 CELLS (omega arith) same in (
+      ap (take limit) (open_same gap gaps (range_with_len 0 CELLS) all),
+      each_taken (λ c. (c < CELLS) × (gap c ≡ gaps c)) limit (filter (λ c. not (is_zero (gap c))) (range_with_len 0 CELLS))
+          (each_open (λ c. (c < CELLS) × (gap c ≡ gaps c)) (λ c. not (is_zero (gap c))) (range_with_len 0 CELLS) all),
+    )
 
--- a cell with nothing pending
-pub posting_passes : (count : ℕ → ℕ) (slot limit : ℕ) (start : List ℕ) (c posted : ℕ) (pending : List ℤ) (words : List ℕ) → c < CELLS → pending_at pending c ≡ pos 0
-    → IsPosting count slot limit start c posted pending words → IsPosting count slot limit start (c + 1) posted pending words
-posting_passes count slot limit start c posted pending words below none now = record {
-  goes = λ left whole. let no_gap : gap_of count slot start c ≡ pos 0 = sym (now.ahead c (omega arith) below) ∙ none in
-      let was = now.goes (suc left) (omega arith) in rw (open_past (gap_of count slot start) c left no_gap) at was;
-  ahead = λ k from within. now.ahead k (omega arith) within;
-  held = now.held;
-  either = now.either;
-  apart = now.apart;
-  board = now.board;
-  few = omega (arith, now.few);
-  within = now.within;
-}
+-- what holds of each holds with another one in the place of one
+each_set : {X : Type 0} (P : X → Type 0) (xs : List X) (p : ℕ) (x : X) → AllByRecursion P xs → P x → AllByRecursion P (set xs p x)
+each_set P [] p x each new = tt
+each_set P (first ∷ xs) zero x each new = (new, each.1)
+each_set P (first ∷ xs) (suc p) x each new = (each.0, each_set P xs p x each.1 new)
 
--- a cell that is posted
-pub posting_goes_on : (count : ℕ → ℕ) (slot limit : ℕ) (start : List ℕ) (c posted : ℕ) (pending : List ℤ) (words : List ℕ) → slot < 16 → c < CELLS → (posted ≡ limit → ⊥)
-    → (pending_at pending c ≡ pos 0 → ⊥) → is_worn words slot c (pending_at pending c) ≡ false
-    → IsPosting count slot limit start c posted pending words
-    → IsPosting count slot limit start (c + 1) (posted + 1) (set pending c (pos 0)) (raised words slot c (pending_at pending c))
-posting_goes_on count slot limit start c posted pending words own below room some fits now = record {
-  goes = λ left whole.
-      let gap_is = now.ahead c (omega arith) below in
-      let gap : gap_of count slot start c ≡ pos 0 → ⊥ = λ e. some (gap_is ∙ e) in
-      let fits' : is_worn words slot c (gap_of count slot start c) ≡ false = rw (← gap_is) fits in
-      let one_left : limit - posted ≡ suc (limit - (posted + 1)) = omega (arith, now.within) in
-      let was = now.goes (suc left) (omega arith) in
-      let first = rw (open_here (gap_of count slot start) c left gap, one_left) at was in
-      rw gap_is (sym (raise_one (gap_of count slot start) slot c (take (limit - (posted + 1)) (open_from (gap_of count slot start) (c + 1) left)) posted words fits') ∙ first);
-  ahead = λ k from within. get_or-set_other pending c k (pos 0) (pos 0) (omega arith) ∙ now.ahead k (omega arith) within;
-  held = λ k within. held_at k within;
-  either = λ k within. either_at k within;
-  apart = λ k other within differ. slot_net-raised_slot words slot other c k (pending_at pending c) below within differ ∙ now.apart k other within differ;
-  board = raised_board words slot c (pending_at pending c) now.board fits;
-  few = omega (arith, now.few);
-  within = omega (arith, now.within);
+-- a desk of the same board is one that knows something else
+pub desk_is : (before after : Station) → after.board ≡ before.board → after ≡ with_view before after.view
+desk_is before after same = ap (λ board. record { board = board; view = after.view }) same
+
+module _ (desks : List Station) (p : ℕ) (desk : Station) (within : p < length desks) (is : desk ≡ get_or desks p desk) (once : (slot : ℕ) → slot < SLOTS → sum_by (owns_one slot) desks ≡ 1)
+    (wide : IsWide desk.view) (slot : ℕ) (in_board : slot < SLOTS) (least : IsLeastSlot desk.view slot) where
+  -- cells that are raised one after another
+  raised_same : (gap gaps : ℕ → ℤ) (cells : List ℕ) (done : ℕ) (view : View) → AreSameGaps gap gaps cells → view.owned ≡ desk.view.owned → IsWide view
+      → (raise_cells gap slot cells done (words_with desks p desk within is view)
+      ≡ ((own.raise_cells gaps slot cells done view).0, words_with desks p desk within is (own.raise_cells gaps slot cells done view).1))
+      × IsWide (own.raise_cells gaps slot cells done view).1
+  raised_same gap gaps [] done view same owned now = (refl, now)
+  raised_same gap gaps (c ∷ cells) done view same owned now =
+      let here = word_here desks p desk within is slot least.0 in_board view c (gaps c) (once slot in_board) owned same.0.0 in
+      let more = words_posted desks p desk within is slot least.0 in_board view c (gaps c) owned now same.0.0 in
+      by_test (own.is_worn view slot c (gaps c))
+      (λ e. let worn : is_worn (words_with desks p desk within is view) slot c (gaps c) ≡ true = rw here e in rw (same.0.1, worn, e) (refl, now))
+      (λ e. let fits : is_worn (words_with desks p desk within is view) slot c (gaps c) ≡ false = rw here e in
+      let rest = raised_same gap gaps cells (done + 1) (posted view slot c (gaps c)) same.1 owned (wide_posted view slot c (gaps c) now) in
+      rw (same.0.1, fits, e, ← more) rest)
+
+  -- a posting of the desk is one of its slots
+  pub post_same : (count : ℕ → ℕ) (limit : ℕ)
+      → (post count (slots_in desk) limit (words_of desks) ≡ ((own.post count slot limit desk.view).0, words_with desks p desk within is (own.post count slot limit desk.view).1))
+      × IsWide (own.post count slot limit desk.view).1
+  post_same count limit =
+      let gap = λ (c : ℕ). pos (count c) -ℤ net (words_of desks) (slots_in desk) c in
+      let gaps = own.gap count desk.view in
+      let same = due_same gap gaps limit (λ c below. ap (λ (z : ℤ). pos (count c) -ℤ z) (net_of_slots desks p desk within is once wide c below)) in
+      let start : words_with desks p desk within is desk.view ≡ words_of desks = ap words_of (set_same desks p desk is) in
+      let all = raised_same gap gaps (due gap limit) 0 desk.view same.1 refl wide in
+      let first = ap (λ (words : List ℕ). raise_cells gap slot (due gap limit) 0 words) (sym start) ∙ all.0 in
+      let whole : own.raise_cells gaps slot (due gap limit) 0 desk.view ≡ own.post count slot limit desk.view = ap (λ (cells : List ℕ). own.raise_cells gaps slot cells 0 desk.view) same.0 in
+      rw (least_of_slots desk slot in_board least, ← whole) (first, all.1)
+
+-- where one desk posted, the rules are kept
+pub desks_posted : (board : TableId) (spare : Station) (desks : List Station) (p : ℕ) (before after : Station) → p < length desks → before ≡ get_or desks p before → AreDesks board spare desks
+    → after.board ≡ before.board → after.view.owned ≡ before.view.owned → IsWide after.view → AreDesks board spare (set desks p after)
+desks_posted board spare desks p before after within is rules same owned wide = record {
+  of_board = (rules.of_board.0, each_set (IsOfBoard board) desks p after rules.of_board.1 (record { same = same ∙ of.same; wide = wide }));
+  once = λ slot below. (
+      let sum = rw (← is) at (sum_by-set (owns_one slot) desks p after before within) in
+      let one : owns_one slot after ≡ owns_one slot before = rw owned refl in
+      let was = sum_by-cons (owns_one slot) spare desks in
+      let now = sum_by-cons (owns_one slot) spare (set desks p after) in
+      let all = rules.once slot below in
+      omega arith);
+  idle = rules.idle;
 }
   where
-    held_at : (k : ℕ) → k < CELLS → net (raised words slot c (pending_at pending c)) (slot ∷ []) k +ℤ pending_at (set pending c (pos 0)) k ≡ pos (count k)
-    held_at k within = elim (cases_eq k c) [
-      | inl same ↦ (let law = now.held c below in rw (same, slot_net-raised words slot c (pending_at pending c) now.board.wide own below, cleared pending c) (omega (arith, ints)))
-      | inr other ↦ (let law = now.held k within in rw (slot_net-raised_cell words slot c k (pending_at pending c) below within other, get_or-set_other pending c k (pos 0) (pos 0) other) law)
-    ]
+    of : IsOfBoard board before
+    of = rw is (each_at (IsOfBoard board) desks p before rules.of_board.1 within)
 
-    either_at : (k : ℕ) → k < CELLS → (pending_at (set pending c (pos 0)) k ≡ pos (count k) -ℤ net start (slot ∷ []) k) ⊎ (pending_at (set pending c (pos 0)) k ≡ pos 0)
-    either_at k within = elim (cases_eq k c) [
-      | inl same ↦ inr (rw (same, cleared pending c) refl)
-      | inr other ↦ (rw (get_or-set_other pending c k (pos 0) (pos 0) other) (now.either k within))
-    ]
-
--- the limit is reached
-pub posting_full : (count : ℕ → ℕ) (slot limit : ℕ) (start : List ℕ) (c posted : ℕ) (pending : List ℤ) (words : List ℕ) → c < CELLS → posted ≡ limit
-    → IsPosting count slot limit start c posted pending words → (Ok posted, words) ≡ post count (slot ∷ []) limit start
-posting_full count slot limit start c posted pending words below full now =
-    let none_left : limit - posted ≡ 0 = omega arith in
-    let was = now.goes (CELLS - c) (omega arith) in rw none_left at was
-
--- no cell is left
-pub posting_ends : (count : ℕ → ℕ) (slot limit : ℕ) (start : List ℕ) (c posted : ℕ) (pending : List ℤ) (words : List ℕ) → c ≡ CELLS
-    → IsPosting count slot limit start c posted pending words → (Ok posted, words) ≡ post count (slot ∷ []) limit start
-posting_ends count slot limit start c posted pending words all now =
-    let was = now.goes 0 (omega arith) in rw (take-nil (limit - posted)) at was
-
--- a word would be worn
-pub posting_stops : (count : ℕ → ℕ) (slot limit : ℕ) (start : List ℕ) (c posted : ℕ) (pending : List ℤ) (words : List ℕ) → c < CELLS → (posted ≡ limit → ⊥)
-    → (pending_at pending c ≡ pos 0 → ⊥) → is_worn words slot c (pending_at pending c) ≡ true
-    → IsPosting count slot limit start c posted pending words → (Err refusal.Worn, words) ≡ post count (slot ∷ []) limit start
-posting_stops count slot limit start c posted pending words below room some worn now =
-    let gap_is = now.ahead c (omega arith) below in
-    let gap : gap_of count slot start c ≡ pos 0 → ⊥ = λ e. some (gap_is ∙ e) in
-    let worn' : is_worn words slot c (gap_of count slot start c) ≡ true = rw (← gap_is) worn in
-    let left = CELLS - (c + 1) in
-    let one_left : limit - posted ≡ suc (limit - (posted + 1)) = omega (arith, now.within) in
-    let was = now.goes (suc left) (omega arith) in
-    let first = rw (open_here (gap_of count slot start) c left gap, one_left) at was in
-    sym (raise_none (gap_of count slot start) slot c (take (limit - (posted + 1)) (open_from (gap_of count slot start) (c + 1) left)) posted words worn') ∙ first
-
--- the cells up to one, with nothing pending
-pub posting_skips : (count : ℕ → ℕ) (slot limit : ℕ) (start : List ℕ) (from c posted : ℕ) (pending : List ℤ) (words : List ℕ) → from ≤ c → c ≤ CELLS → AreZero from c pending
-    → IsPosting count slot limit start from posted pending words → IsPosting count slot limit start c posted pending words
-posting_skips count slot limit start from c posted pending words up within none now = steps (c - from) from (omega arith) none now
-  where
-    steps : (n from : ℕ) → from + n ≡ c → AreZero from c pending → IsPosting count slot limit start from posted pending words → IsPosting count slot limit start c posted pending words
-    steps zero from there none now = let same : from ≡ c = omega arith in subst (λ (k : ℕ). IsPosting count slot limit start k posted pending words) same now
-    steps (suc n) from there none now =
-        steps n (from + 1) (omega arith) (λ k ahead below. none k (omega arith) below)
-        (posting_passes count slot limit start from posted pending words (omega arith) (none from (omega arith) (omega arith)) now)
-
--- the next cell with something pending
-pub posting_next : (count : ℕ → ℕ) (slot limit : ℕ) (start : List ℕ) (from c posted : ℕ) (pending : List ℤ) (words : List ℕ) → IsNextNonzero from pending (Some c)
-    → IsPosting count slot limit start from posted pending words → IsPosting count slot limit start c posted pending words
-posting_next count slot limit start from c posted pending words found now = posting_skips count slot limit start from c posted pending words found.0 (omega (arith, found.1)) found.3 now
-
--- no cell is left
-pub posting_done : (count : ℕ → ℕ) (slot limit : ℕ) (start : List ℕ) (from posted : ℕ) (pending : List ℤ) (words : List ℕ) → from ≤ CELLS → IsNextNonzero from pending None
-    → IsPosting count slot limit start from posted pending words → (Ok posted, words) ≡ post count (slot ∷ []) limit start
-posting_done count slot limit start from posted pending words within none now =
-    posting_ends count slot limit start CELLS posted pending words refl (posting_skips count slot limit start from CELLS posted pending words within (omega arith) none now)
-
--- one turn of a posting: where it stands after a cell that was posted, and its answer where the cell was worn
-pub posting_turn : (count : ℕ → ℕ) (slot limit : ℕ) (start : List ℕ) (from c posted : ℕ) (before after : HoldingState) (words words' : List ℕ) → slot < 16 → (posted ≡ limit → ⊥)
-    → IsNextNonzero from before.pending (Some c) → IsCellPosted slot c before words (Ok tt) after words'
-    → IsPosting count slot limit start from posted before.pending words
-    → (after.part ≡ before.part) × IsPosting count slot limit start (c + 1) (posted + 1) after.pending words'
-posting_turn count slot limit start from c posted before after words words' own room found done now =
-    rw (done.1, done.2) (refl, posting_goes_on count slot limit start c posted before.pending words own found.1 room found.2 done.0 (posting_next count slot limit start from c posted before.pending words found now))
-
-pub posting_worn : (count : ℕ → ℕ) (slot limit : ℕ) (start : List ℕ) (from c posted : ℕ) (before after : HoldingState) (words words' : List ℕ) (why : Refusal) → (posted ≡ limit → ⊥)
-    → IsNextNonzero from before.pending (Some c) → IsCellPosted slot c before words (Err why) after words'
-    → IsPosting count slot limit start from posted before.pending words → (Err why, words') ≡ post count (slot ∷ []) limit start
-posting_worn count slot limit start from c posted before after words words' why room found done now =
-    rw (done.1, done.3) (posting_stops count slot limit start c posted before.pending words found.1 room found.2 done.0 (posting_next count slot limit start from c posted before.pending words found now))
-
--- each delta is as it was before the posting, or posted
-pub either_old : (count : ℕ → ℕ) (slot : ℕ) (start : List ℕ) (old new : List ℤ)
-    → ((k : ℕ) → k < CELLS → net start (slot ∷ []) k +ℤ pending_at old k ≡ pos (count k))
-    → ((k : ℕ) → k < CELLS → (pending_at new k ≡ pos (count k) -ℤ net start (slot ∷ []) k) ⊎ (pending_at new k ≡ pos 0))
-    → (k : ℕ) → k < CELLS → (pending_at new k ≡ pending_at old k) ⊎ (pending_at new k ≡ pos 0)
-either_old count slot start old new held either k below = elim (either k below) [
-  | inl gap ↦ (let law = held k below in inl (omega (arith, ints)))
-  | inr zero_now ↦ inr zero_now
-]
+-- and each desk has its slots
+pub slots_posted : (desks : List Station) (p : ℕ) (before after : Station) → before ≡ get_or desks p before → after.view.owned ≡ before.view.owned → map slots_in (set desks p after) ≡ map slots_in desks
+slots_posted desks p before after is owned =
+    let same : slots_in after ≡ slots_in before = rw owned refl in
+    map-set slots_in desks p after ∙ ap (λ slots. set (map slots_in desks) p slots) same ∙ set_same (map slots_in desks) p (slots_in before) (ap slots_in is ∙ sym (get_or-map slots_in desks p before))

@@ -1,5 +1,5 @@
 pub mod Asked
-pub mod Board
+pub mod Desks
 pub mod Held
 pub mod Index
 pub mod Kept

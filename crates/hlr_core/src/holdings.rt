@@ -7,47 +7,93 @@ ghost use Rattle.part_table.specs.declared.region.TheConstants.{MOST_PARTS};
 ghost use Rattle.tatp_actions.specs.Action.{s_id_of, IsOutcome};
 ghost use Rattle.tatp_actions.specs.Book.{IsWithin, IsRowsOf, subscriber_at};
 ghost use Rattle.tatp_actions.specs.Cell.{cell};
-ghost use Rattle.tatp_actions.specs.Part.{IsWidth};
+ghost use Rattle.std.specs.Arc.{arc_value};
+ghost use Rattle.tatp_actions.specs.Part.{IsRange, IsWidth};
+ghost use Rattle.view_board.specs.Desks.{with_view};
+ghost use Rattle.view_board.specs.Views.{Owns, alone, without};
+ghost use Rattle.view_board.specs.Words.{AreSmall};
+ghost use Rattle.view_board.specs.declared.words.TheConstants.{SLOTS};
+ghost use Rattle.holding.specs.Held.{HasSmallNets};
+ghost use Rattle.hlr_core.specs.Desks.{AreLevel};
+ghost use Rattle.hlr_core.specs.Held.{IsOpened};
 ghost use Rattle.hlr_core.specs.Asked.{IsAnswered};
 ghost use Rattle.hlr_core.specs.Step.{IsPostStep, MayAnswer, is_loose, posted_reply};
 ghost use Rattle.hlr_core.specs.Store.{Store, HasOpening, opening, published, unposted, slots_of, parts_in};
 
-use crate::board::Board;
 use crate::event::Reply;
-use crate::holding::{Holding, Piece};
 use crate::room::{boxed, insert_reserved, places};
-use crate::sums::{add_counts, add_deltas};
-use part_table::{Place, Regions, Side};
+use crate::sums::{add_loose, add_pending, add_published};
+use holding::{Holding, Piece};
+use part_table::{Place, Region, Regions, Side};
 use std::alloc::Global;
 use std::marker::Model;
-use tatp_actions::{Action, CELLS, Cells, RowReply};
+use std::sync::Arc;
+use tatp_actions::{Action, CELLS, Cells, Part, RowReply};
 use tatp_rows::{LAST_SUBSCRIBER, Number, Refusal};
+use view_board::{Board, Desk, WORDS};
 
 /// All owners' holdings, by the number of their part, the loose pieces, in the order of their regions, and the board that the
-/// holdings post to: seen as the store of the definitions.
+/// holdings post to, with the desk of the slots that no part has: seen as the store of the definitions.
 #[derive(Drop)]
 pub struct Holdings {
     regions: Regions,
     holdings: Vec<Box<Holding>>,
     pieces: Vec<Box<Piece>>,
-    board: Board,
+    board: Arc<Board>,
+    spare: Desk,
     width: u32,
     alloc: Global,
 }
 
 impl Model for Holdings {
     ghost use Rattle.std.specs.Prelude.{◌≤◌, vec_capacity};
+    ghost use Rattle.std.specs.Arc.{arc_value};
     ghost use Rattle.part_table.specs.Regions.{AreRegions};
-    ghost use Rattle.hlr_core.specs.Held.{AreHeld};
-    ghost use Rattle.hlr_core.specs.Owners.{store_of, unboxed};
+    ghost use Rattle.hlr_core.specs.Desks.{AreDesks, desk_of};
+    ghost use Rattle.hlr_core.specs.Held.{AreHeld, of_holding, of_piece};
+    ghost use Rattle.hlr_core.specs.Owners.{store_of, seen};
     ghost use Rattle.hlr_core.specs.Store.{Store};
     ghost use Rattle.hlr_core.specs.declared.room.TheConstants.{PLACES};
 
     ghost Value = { Store };
 
-    ghost view = { λ h. store_of h.regions (unboxed h.holdings.items) (unboxed h.pieces.items) h.board h.width };
+    ghost view = { λ h. store_of h.regions (seen of_holding h.holdings.items) (seen of_piece h.pieces.items) h.spare (seen desk_of h.holdings.items) h.width };
 
-    ghost invariant = { λ h. AreRegions h.regions × AreHeld h.regions (unboxed h.holdings.items) (unboxed h.pieces.items) h.board h.width × (PLACES ≤ vec_capacity h.pieces) };
+    ghost invariant = { λ h. AreRegions h.regions × AreHeld h.regions (seen of_holding h.holdings.items) (seen of_piece h.pieces.items) h.width
+        × AreDesks (arc_value h.board) h.spare (seen desk_of h.holdings.items) × (PLACES ≤ vec_capacity h.pieces) };
+}
+
+/// A holding with no row, over a slot that is split off the desk of those that no part has yet. `Memory` where a growth was
+/// refused.
+fn opened(
+    alloc: Global,
+    board: &Board,
+    spare: &mut Desk,
+    slot: u8,
+    region: Region,
+    width: u32,
+) -> Result<Box<Holding>, Refusal>
+    requires board { spare.old.board ≡ board.now }
+    requires slot { slot < SLOTS }
+    requires own { Owns spare.old.view slot }
+    requires small { HasSmallNets (alone spare.old.view slot) }
+    requires range { IsRange region.lo region.hi }
+    requires width { IsWidth width }
+    ensures ok { IfOk result (λ holding. IsOpened region width holding.value × (holding.value.desk ≡ with_view spare.old (alone spare.old.view slot))
+        × (spare.new ≡ with_view spare.old (without spare.old.view slot))) }
+    ensures err { OnErr result (result ≡ Err Refusal.Memory) }
+{
+    let desk = board.split(spare, slot)?;
+    let part = Part::new(alloc, region.lo, region.hi, width)?;
+    boxed(alloc, Holding::of(alloc, part, desk))
+}
+
+/// The board in memory that it shares; `Memory` where that is refused.
+fn shared(alloc: Global, board: Board) -> Result<Arc<Board>, Refusal>
+    ensures ok { IfOk result (λ shared. arc_value shared ≡ board) }
+    ensures err { OnErr result (result ≡ Err Refusal.Memory) }
+{
+    Arc::new(alloc, board).map_err(|_| Refusal::Memory)
 }
 
 fn reply_of_posting(posted: Result<u8, Refusal>) -> Reply
@@ -60,24 +106,30 @@ fn reply_of_posting(posted: Result<u8, Refusal>) -> Reply
 }
 
 impl Holdings {
-    /// Empty parts with their shares of all subscribers, no loose piece, and a board of zeros; `Memory` where a growth was
-    /// refused.
-    pub fn open(alloc: Global, parts: u8, width: u32) -> Result<Self, Refusal>
-        requires { HasOpening parts width }
-        ensures ok { IfOk result (λ holdings. holdings ≡ opening parts width) }
+    /// Empty parts with their shares of all subscribers, no loose piece, and a board of these words, of which each part has one
+    /// slot; `Memory` where a growth was refused.
+    pub fn open(alloc: Global, parts: u8, width: u32, words: &[u64; WORDS]) -> Result<Self, Refusal>
+        requires can { HasOpening parts width }
+        requires small { AreSmall words.now }
+        requires level { AreLevel words.now }
+        ensures ok { IfOk result (λ holdings. holdings ≡ record (opening parts width) { words = words.now }) }
         ensures err { OnErr result (result ≡ Err Refusal.Memory) }
     {
         let regions = Regions::opening(parts, width)?;
         let mut holdings = places(alloc)?;
+        let pieces = places(alloc)?;
+        let (board, mut spare) = Board::open(alloc, words)?;
+        let board = shared(alloc, board)?;
         for region in regions.list() {
-            let holding = boxed(alloc, Holding::new(alloc, region.lo, region.hi, width)?)?;
-            holdings.push_reserved(holding);
+            let slot = holdings.len() as u8;
+            holdings.push_reserved(opened(alloc, &board, &mut spare, slot, *region, width)?);
         }
         Ok(Holdings {
             regions,
             holdings,
-            pieces: places(alloc)?,
-            board: Board::open(alloc)?,
+            pieces,
+            board,
+            spare,
             width,
             alloc,
         })
@@ -156,8 +208,7 @@ impl Holdings {
         if part >= self.holdings.len() as u64 {
             return Reply::Refused(Refusal::NoPart);
         }
-        let slot = part as u8;
-        reply_of_posting(self.holdings[usize::from(slot)].post(&mut self.board, slot, limit))
+        reply_of_posting(self.holdings[part as usize].post(&self.board, limit))
     }
 
     /// A part gives the stretch on one side of `at` away, as a loose piece with the least free number; the answer is that
@@ -168,7 +219,7 @@ impl Holdings {
     {
         self.regions.give_answer(part, side, at)?;
         let before = self.regions.pieces_before_part(part);
-        let piece = self.holdings[part as usize].give(self.alloc, side, at as u32)?;
+        let piece = self.holdings[part as usize].give(side, at as u32)?;
         insert_reserved(&mut self.pieces, before, piece);
         self.regions.give(part, side, at)
     }
@@ -182,22 +233,22 @@ impl Holdings {
         self.regions.take_answer(piece, part)?;
         let before = self.regions.pieces_before_piece(piece);
         let taken = self.pieces.remove(before);
-        if let Err(back) = self.holdings[part as usize].take(self.alloc, taken) {
+        if let Err(back) = self.holdings[part as usize].take(taken) {
             insert_reserved(&mut self.pieces, before, back.item);
             return Err(back.why);
         }
         self.regions.take(piece, part)
     }
 
-    /// The cells as published on the board.
+    /// The cells as published: the sum of what the parts' desks have published. The desk of the other slots has a net of 0.
     pub fn published(&self) -> [i64; CELLS as usize]
         ensures { (c : ℕ) → c < CELLS → slice_index_or result c (pos 0) ≡ published self.now c }
     {
-        let mut cells = [0; CELLS as usize];
-        for cell in 0..CELLS {
-            cells[usize::from(cell)] = self.board.published(cell, self.holdings.len() as u8);
+        let mut sums = [0; CELLS as usize];
+        for holding in &self.holdings {
+            add_published(&mut sums, holding);
         }
-        cells
+        sums
     }
 
     /// What is not posted yet of each cell: the sum of what is pending in all holdings and loose pieces.
@@ -206,10 +257,10 @@ impl Holdings {
     {
         let mut sums = [0; CELLS as usize];
         for holding in &self.holdings {
-            add_deltas(&mut sums, &holding.deltas());
+            add_pending(&mut sums, holding);
         }
         for piece in &self.pieces {
-            add_counts(&mut sums, &piece.counts());
+            add_loose(&mut sums, piece);
         }
         sums
     }

@@ -5,10 +5,8 @@
 //! that cell counted over the rows now, and nothing is scanned to answer either.
 #![tactic(auto)]
 
-mod board;
 mod checked;
 mod event;
-mod holding;
 mod holdings;
 #[cfg(test)]
 mod plain;

@@ -20,6 +20,7 @@ use std::alloc::Global;
 use std::marker::Model;
 use tatp_actions::{Action, CELLS, Cells, RowReply};
 use tatp_rows::{LAST_SUBSCRIBER, Number, Refusal, Subscriber, in_range};
+use view_board::WORDS;
 
 /// A home location register, seen as the store of the definitions: its rows, the regions, the words of the board, the
 /// slots of each part and the width of the zones.
@@ -64,7 +65,7 @@ impl Register {
         if !can_open(parts, width) {
             return Err(Refusal::Field);
         }
-        let holdings = Holdings::open(alloc, parts, width)?;
+        let holdings = Holdings::open(alloc, parts, width, &[0; WORDS])?;
         let index = NumberIndex::new(alloc)?;
         Ok(Register {
             holdings,

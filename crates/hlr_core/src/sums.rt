@@ -1,29 +1,42 @@
 //! Sums of deltas and counts, cell by cell.
-ghost use Rattle.std.specs.Prelude.{◌≡◌, ℕ, ◌<◌, ◌≤◌, pos, ◌+ℤ◌, slice_index};
+ghost use Rattle.std.specs.Prelude.{◌≡◌, ℕ, ◌<◌, ◌≤◌, ◌+ℤ◌};
 ghost use Rattle.tatp_actions.specs.declared.cells.TheConstants.{CELLS};
+ghost use Rattle.view_board.specs.Nets.{net_of};
 ghost use Rattle.view_delta.specs.Pending.{pending_at};
 ghost use Rattle.hlr_core.specs.Held.{AreSmall};
 
-use tatp_actions::{CELLS, Cells};
+use holding::{Holding, Piece};
+use tatp_actions::CELLS;
 
-/// Adds a delta to the sum of each cell. Neither is past 2^60, either way.
-pub fn add_deltas(sums: &mut [i64; CELLS as usize], deltas: &[i64; CELLS as usize])
-    requires sums { AreSmall sums.old }
-    requires deltas { AreSmall deltas.now }
-    ensures { (c : ℕ) → c < CELLS → pending_at sums.new c ≡ pending_at sums.old c +ℤ pending_at deltas.now c }
+/// Adds what a holding's desk has published of each cell to a sum. Neither is past 2^60, either way.
+pub fn add_published(sums: &mut [i64; CELLS as usize], holding: &Holding)
+    requires sums { AreSmall (pending_at sums.old) }
+    requires nets { AreSmall (net_of holding.now.desk.view) }
+    ensures { (c : ℕ) → c < CELLS → pending_at sums.new c ≡ pending_at sums.old c +ℤ net_of holding.now.desk.view c }
 {
-    for cell in 0..usize::from(CELLS) {
-        sums[cell] += deltas[cell];
+    for cell in 0..CELLS {
+        sums[usize::from(cell)] += holding.net(cell) as i64;
     }
 }
 
-/// Adds a count to the sum of each cell. Neither is past 2^60, either way.
-pub fn add_counts(sums: &mut [i64; CELLS as usize], counts: &Cells)
-    requires sums { AreSmall sums.old }
-    requires counts { (c : ℕ) → c < CELLS → slice_index counts.now c ≤ 1152921504606846976 }
-    ensures { (c : ℕ) → c < CELLS → pending_at sums.new c ≡ pending_at sums.old c +ℤ pos (slice_index counts.now c) }
+/// Adds what is pending of each cell in a holding to a sum. Neither is past 2^60, either way.
+pub fn add_pending(sums: &mut [i64; CELLS as usize], holding: &Holding)
+    requires sums { AreSmall (pending_at sums.old) }
+    requires deltas { AreSmall (pending_at holding.now.pending) }
+    ensures { (c : ℕ) → c < CELLS → pending_at sums.new c ≡ pending_at sums.old c +ℤ pending_at holding.now.pending c }
 {
     for cell in 0..CELLS {
-        sums[usize::from(cell)] += counts.get(cell) as i64;
+        sums[usize::from(cell)] += holding.pending(cell);
+    }
+}
+
+/// Adds what is pending of each cell in a loose piece to a sum. Neither is past 2^60, either way.
+pub fn add_loose(sums: &mut [i64; CELLS as usize], piece: &Piece)
+    requires sums { AreSmall (pending_at sums.old) }
+    requires deltas { AreSmall (pending_at piece.now.pending) }
+    ensures { (c : ℕ) → c < CELLS → pending_at sums.new c ≡ pending_at sums.old c +ℤ pending_at piece.now.pending c }
+{
+    for cell in 0..CELLS {
+        sums[usize::from(cell)] += piece.pending(cell);
     }
 }

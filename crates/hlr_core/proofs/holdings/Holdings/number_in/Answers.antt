@@ -1,5 +1,6 @@
 use Rattle.std.proofs.Common.{◌∙◌, refl, sym}
-use Rattle.hlr_core.proofs.BoxLemmas.{unboxed_at}
+use Rattle.hlr_core.specs.Held.{of_holding}
+use Rattle.hlr_core.proofs.BoxLemmas.{seen_at}
 use Rattle.hlr_core.proofs.FirstLemmas.{number_of_first, number_of_none}
 use Rattle.hlr_core.proofs.HoldingsLemmas.{place_at, box_there, part_rows}
 use Rattle.hlr_core.proofs.StoreActLemmas.{part_subscriber}
@@ -8,18 +9,18 @@ use Rattle.hlr_core.proofs.holdings.Holdings.number_in.Goals as goal
 pub index-requires : goal.index-requires
 index-requires c =
     let place = place_at c.self.inside.regions c.args.s_id _ _ _ refl (rw (← c.self.view_is) at (sym c.requires)) c.from.ensures in
-    box_there _ _ _ _ _ c.self.invariant.0 c.self.invariant.1 _ _ _ place c.self.inside.holdings.ok.0
+    box_there _ _ _ _ c.self.invariant.0 c.self.invariant.1 _ _ _ place c.self.inside.holdings.ok.0
 
 pub returns-in_err-row : goal.returns-in_err-row
 returns-in_err-row c =
     let place = place_at c.self.inside.regions c.args.s_id _ _ _ refl (rw (← c.self.view_is) at (sym c.requires)) c.from.ensures in
-    let at = unboxed_at c.self.inside.holdings.items _ _ _ c.index.ensures c.deref.ensures in
-    rw (← c.self.view_is, part_subscriber _ _ _ _ _ c.self.invariant.0 c.self.invariant.1 _ _ at c.args.s_id place)
-    (c.from_residual.ensures ∙ number_of_none c.deref.result.now.part.book c.args.s_id (rw c.from-2.ensures at c.in_err-row.ensures))
+    let at = seen_at of_holding c.self.inside.holdings.items _ _ _ c.index.ensures c.deref.ensures in
+    rw (← c.self.view_is, part_subscriber _ _ _ _ c.self.invariant.0 c.self.invariant.1 _ _ at c.args.s_id place)
+    (c.from_residual.ensures ∙ number_of_none c.deref.result.now.part.book c.args.s_id (rw c.from-2.ensures at c.in_err-row.ensures.value))
 
 pub returns : goal.returns
 returns c =
     let place = place_at c.self.inside.regions c.args.s_id _ _ _ refl (rw (← c.self.view_is) at (sym c.requires)) c.from.ensures in
-    let at = unboxed_at c.self.inside.holdings.items _ _ _ c.index.ensures c.deref.ensures in
-    rw (← c.self.view_is, part_subscriber _ _ _ _ _ c.self.invariant.0 c.self.invariant.1 _ _ at c.args.s_id place)
-    (c.then_some.ensures ∙ number_of_first _ _ _ c.args.s_id _ _ c.in_ok-row.row.now (part_rows _ _ _ _ _ c.self.invariant.0 c.self.invariant.1 _ _ _ place at) (rw c.from-2.ensures at c.in_ok-row.ensures) c.s_id.ensures.value c.sub_nbr.ensures)
+    let at = seen_at of_holding c.self.inside.holdings.items _ _ _ c.index.ensures c.deref.ensures in
+    rw (← c.self.view_is, part_subscriber _ _ _ _ c.self.invariant.0 c.self.invariant.1 _ _ at c.args.s_id place)
+    (c.then_some.ensures ∙ number_of_first _ _ _ c.args.s_id _ _ c.in_ok-row.row.now (part_rows _ _ _ _ c.self.invariant.0 c.self.invariant.1 _ _ _ place at) (rw c.from-2.ensures at c.in_ok-row.ensures.value) c.s_id.ensures.value c.sub_nbr.ensures)

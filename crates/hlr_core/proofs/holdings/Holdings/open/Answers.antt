@@ -1,24 +1,54 @@
-use Rattle.std.proofs.Common.{arith, refl, ◌∙◌}
-use Rattle.hlr_core.proofs.BoxLemmas.{unboxed-push}
+use Rattle.std.proofs.Common.{◌≡◌, ◌∙◌, arith, refl, sym, rules, length}
+use Rattle.view_board.specs.declared.words.TheConstants.{WORDS}
+use Rattle.hlr_core.specs.Desks.{desk_of}
+use Rattle.hlr_core.specs.Held.{of_holding}
+use Rattle.hlr_core.proofs.BoxLemmas.{length-seen, seen-push}
 use Rattle.hlr_core.proofs.OpenLemmas.{regions_few, width_fits, range_at, none_opened, one_opened, all_held, all_opened}
+use Rattle.hlr_core.proofs.ShareLemmas.{none_shared, first_of_board, one_of_board, one_shared, level_small, shared_desks}
 use Rattle.hlr_core.proofs.holdings.Holdings.open.Goals as goal
 
 pub loop-region-init : goal.loop-region-init
 loop-region-init c =
     let none = c.in_ok-holdings.ensures.empty in
     let long = c.in_ok-holdings.holdings.ok.0 in
+    let wide : length c.args.words.now ≡ WORDS = search rules in
     record {
       room = c.in_ok-holdings.ensures.room;
       long = long ∙ rw none refl;
       opened = none_opened c.args.width c.list-region-items.result.now _ (rw none refl);
+      of_board = rw none (first_of_board c.args.words.now _ _ (c.in_ok-board.ensures.ok.1 ∙ sym c.in_ok-board-2.ensures.ok) c.in_ok-board.ensures.ok.2 wide, tt);
+      shared = none_shared c.args.words.now _ _ c.in_ok-board.ensures.ok.2 (rw none refl);
     }
 
-pub new-requires-clause-range : goal.new-requires-clause-range
-new-requires-clause-range c = range_at _ _ _ c.list-region-items.ensures.regions c.loop-region-test.true
+pub opened-requires-clause-board : goal.opened-requires-clause-board
+opened-requires-clause-board c = c.loop-region.invariant.of_board.0.same ∙ sym c.deref.ensures
+
+pub opened-requires-clause-slot : goal.opened-requires-clause-slot
+opened-requires-clause-slot c =
+    let few = regions_few c.args.parts c.args.width _ c.requires.can c.in_ok-regions.ensures in
+    let below = rw c.list-region-items.ensures.value at c.loop-region-test.true in
+    omega (arith, c.len-slot.ensures, c.loop-region.invariant.long)
+
+pub opened-requires-clause-own : goal.opened-requires-clause-own
+opened-requires-clause-own c =
+    let few = regions_few c.args.parts c.args.width _ c.requires.can c.in_ok-regions.ensures in
+    let below = rw c.list-region-items.ensures.value at c.loop-region-test.true in
+    let desks = length-seen desk_of c.loop-region.holdings.items in
+    c.loop-region.invariant.shared.left c.len-slot.result (omega (arith, c.len-slot.ensures, c.loop-region.holdings.ok.0)) (omega (arith, c.len-slot.ensures, c.loop-region.invariant.long))
+
+pub opened-requires-clause-small : goal.opened-requires-clause-small
+opened-requires-clause-small c =
+    level_small c.args.words.now c.loop-region.spare.view c.len-slot.result c.requires.level c.loop-region.invariant.of_board.0.wide c.loop-region.invariant.shared.numbers.0
+
+pub opened-requires-clause-range : goal.opened-requires-clause-range
+opened-requires-clause-range c = range_at _ _ _ c.list-region-items.ensures.regions c.loop-region-test.true
+
+pub opened-requires-clause-width : goal.opened-requires-clause-width
+opened-requires-clause-width c = width_fits c.args.parts c.args.width _ c.requires.can c.in_ok-regions.ensures
 
 pub push_reserved-requires : goal.push_reserved-requires
 push_reserved-requires c =
-    let few = regions_few c.args.parts c.args.width _ c.requires c.in_ok-regions.ensures in
+    let few = regions_few c.args.parts c.args.width _ c.requires.can c.in_ok-regions.ensures in
     let room = c.loop-region.invariant.room in
     let long = c.loop-region.invariant.long in
     let below = rw c.list-region-items.ensures.value at c.loop-region-test.true in
@@ -26,12 +56,18 @@ push_reserved-requires c =
 
 pub loop-region-preserved : goal.loop-region-preserved
 loop-region-preserved c =
+    let few = regions_few c.args.parts c.args.width _ c.requires.can c.in_ok-regions.ensures in
     let long = c.loop-region.invariant.long in
+    let below = rw c.list-region-items.ensures.value at c.loop-region-test.true in
+    let desks = length-seen desk_of c.loop-region.holdings.items in
+    let is = c.in_ok-opened.ensures.ok in
     record {
       room = rw c.push_reserved.ensures.capacity c.loop-region.invariant.room;
       long = omega (arith, c.push_reserved.ensures.len);
-      opened = rw (c.push_reserved.ensures.items, unboxed-push) (one_opened _ _ _ _ _ _ c.list-region-items.ensures.regions (width_fits c.args.parts c.args.width _ c.requires c.in_ok-regions.ensures) c.loop-region-test.true
-          c.loop-region.invariant.opened (c.in_ok-holding.ensures.ok ∙ c.in_ok-new.ensures.holding));
+      opened = rw (c.push_reserved.ensures.items, seen-push of_holding) (one_opened _ _ _ _ _ _ c.loop-region-test.true c.loop-region.invariant.opened is.0);
+      of_board = rw (c.push_reserved.ensures.items, seen-push desk_of c.loop-region.holdings.items c.in_ok-opened.field-0, is.1, is.2) (one_of_board c.args.words.now c.loop-region.spare _ c.len-slot.result (omega (arith, c.len-slot.ensures)) (omega (arith, c.len-slot.ensures, c.loop-region.holdings.ok.0)) _ c.loop-region.invariant.of_board);
+      shared = rw (c.push_reserved.ensures.items, seen-push desk_of, is.1, is.2) (one_shared c.args.words.now c.loop-region.spare _ c.len-slot.result (omega (arith, c.len-slot.ensures)) (omega (arith, c.len-slot.ensures, c.loop-region.holdings.ok.0))
+          c.loop-region.invariant.of_board.0.wide c.loop-region.invariant.shared);
     }
 
 pub invariant_of-result : goal.invariant_of-result
@@ -40,12 +76,15 @@ invariant_of-result c =
     let past = rw c.list-region-items.ensures.value at c.loop-region-test.false in
     let opened = rw c.list-region-items.ensures.value at c.loop-region.invariant.opened in (
       are,
-      all_held c.args.parts _ _ _ _ _ _ c.requires c.in_ok-regions.ensures opened past (rw c.in_ok-places.ensures.empty refl) c.in_ok-open.ensures.ok c.in_ok-open.ensures.rules,
-      c.in_ok-places.ensures.room,
+      all_held c.args.parts _ _ _ _ c.requires.can c.in_ok-regions.ensures opened past _ (rw c.in_ok-pieces.ensures.empty refl),
+      shared_desks c.args.words.now _ _ _ c.requires.level c.loop-region.invariant.of_board c.loop-region.invariant.shared,
+      c.in_ok-pieces.ensures.room,
     )
 
 pub returns-clause-ok : goal.returns-clause-ok
 returns-clause-ok c =
     let past = rw c.list-region-items.ensures.value at c.loop-region-test.false in
     let opened = rw c.list-region-items.ensures.value at c.loop-region.invariant.opened in
-    all_opened _ _ _ _ _ _ _ c.requires c.in_ok-regions.ensures opened past (rw c.in_ok-places.ensures.empty refl) c.in_ok-open.ensures.ok
+    let wide : length c.args.words.now ≡ WORDS = search rules in
+    all_opened _ _ _ _ _ c.requires.can c.in_ok-regions.ensures opened past _ _ _ _ (rw c.in_ok-pieces.ensures.empty refl)
+    (length-seen desk_of c.loop-region.holdings.items ∙ sym (length-seen of_holding c.loop-region.holdings.items)) c.loop-region.invariant.shared wide
