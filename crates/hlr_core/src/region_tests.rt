@@ -7,6 +7,7 @@ use crate::tests::{
 use crate::{Event, Register, Reply};
 use part_table::Place::{Part, Piece};
 use part_table::{END, Place, Region, Side};
+use std::alloc::Global;
 use std::process::Abort;
 use std::test::Fail;
 use tatp_actions::{CELLS, RowReply};
@@ -57,14 +58,13 @@ fn taking(piece: u64, part: u64) -> Event {
 }
 
 /// A subscriber of the worked example.
-fn example_row(vlr_location: u64, bit_1: u8) -> Result<Subscriber, Fail> {
+fn example_row(vlr_location: u64, bit_1: u8) -> Result<Subscriber, Refusal> {
     let bits = [bit_1, 0, 0, 0, 0, 0, 0, 0, 0, 0];
-    let row = Subscriber::try_new(7, number(7)?, bits, [0; 10], [0; 10], 1, vlr_location);
-    Ok(row.ok().ok_or("the row is in range")?)
+    Subscriber::try_new(7, number(7)?, bits, [0; 10], [0; 10], 1, vlr_location)
 }
 
 /// A forwarding of the worked example.
-fn forwarded(sf_type: u64, start_time: u64, end_time: u64, numberx: u64) -> Result<Event, Fail> {
+fn forwarded(sf_type: u64, start_time: u64, end_time: u64, numberx: u64) -> Result<Event, Refusal> {
     Ok(Event::InsertForwarding {
         sub_nbr: number(7)?,
         sf_type,
@@ -85,7 +85,7 @@ fn updated(sf_type: u64) -> Event {
 }
 
 /// One subscriber with two facilities and four forwardings, some of it posted.
-fn example_is_filled(register: &mut Register) -> Result<Option<usize>, Fail> {
+fn example_is_filled(register: &mut Register) -> Result<Option<usize>, Refusal> {
     let off = Event::SetActive {
         s_id: 7,
         sf_type: 2,
@@ -128,8 +128,12 @@ fn example_is_filled(register: &mut Register) -> Result<Option<usize>, Fail> {
     Ok(difference(register, &events, &want))
 }
 
+/// The first event that isn't replied to as it should, if there is one; what two calls answered; and whether all that was to
+/// be seen between them was right.
+type Moved = (Option<usize>, [Reply; 2], bool);
+
 /// The subscriber's stretch becomes loose, and the other part takes it.
-fn expect_stretch_moved(rt: &impl Abort, register: &mut Register, seven: Number) {
+fn stretch_is_moved(register: &mut Register, seven: Number) -> Moved {
     let events = [giving(0, 5), read(7), moved(seven, 5), read(99)];
     let given = Reply::Given {
         piece: 1,
@@ -144,16 +148,17 @@ fn expect_stretch_moved(rt: &impl Abort, register: &mut Register, seven: Number)
     let counts = [(2, 1), (18, 1), (20, 7)];
     let counted = stands(register, &[], &counts) && scans(register, &[(2, 1), (18, 1), (20, 7)]);
     let taken = register.apply(taking(1, 1));
-    let replies = (differs, posted, taken);
-    let taking = Reply::Taken { piece: 1, part: 1 };
-    assert_eq!(rt; replies, (None, Reply::Posted(5), taking));
     let there = [region(Part(0), 1, 5), region(Part(1), 5, END)];
-    assert!(rt; loose && counted && has_regions(register, &there));
+    let is_right = loose && counted && has_regions(register, &there);
+    (differs, [posted, taken], is_right)
 }
 
 /// The part that took it posts it, and hands it back by a re-cut to what is proposed.
-fn expect_handed_back(rt: &impl Abort, register: &mut Register) -> Result<(), Fail> {
-    let row = Reply::Rows(RowReply::Row(example_row(4_294_967_295, 1)?));
+fn stretch_is_handed_back(
+    register: &mut Register,
+    row: Subscriber,
+) -> (Moved, Result<u8, Refusal>) {
+    let row = Reply::Rows(RowReply::Row(row));
     let counts = [(2, 1), (18, 1), (20, 7)];
     let first = [read(7), posting(1, 51)];
     let taken = difference(register, &first, &[row, Reply::Posted(3)]);
@@ -164,27 +169,39 @@ fn expect_handed_back(rt: &impl Abort, register: &mut Register) -> Result<(), Fa
     let twice = [(2, 2), (18, 2), (20, 14)];
     let doubled = stands(register, &twice, &[(2, -1), (18, -1), (20, -7)]);
     let taker = register.apply(posting(1, 51));
-    let answers = (taken, moves, giver, taker);
-    let three = Reply::Posted(3);
-    assert_eq!(rt; answers, (None, Ok(1), three, Reply::Posted(3)));
-    assert!(rt; proposed && moved && doubled && stands(register, &counts, &[]));
-    Ok(())
+    let is_right = proposed && moved && doubled && stands(register, &counts, &[]);
+    ((taken, [giver, taker], is_right), moves)
 }
 
 /// The worked example of one stretch that goes over, and comes back.
-fn expect_example(rt: &impl Abort, register: &mut Register) -> Result<(), Fail> {
+fn expect_example(rt: &impl Abort, register: &mut Register) -> Result<(), Refusal> {
+    let (seven, row) = (number(7)?, example_row(4_294_967_295, 1)?);
     let opening = [region(Part(0), 1, 65), region(Part(1), 65, END)];
     let empty = stands(register, &[], &[]) && scans(register, &[]);
-    assert!(rt; empty && has_regions(register, &opening));
-    assert_eq!(rt; example_is_filled(register)?, None);
-    expect_stretch_moved(rt, register, number(7)?);
-    expect_handed_back(rt, register)
+    let opens = empty && has_regions(register, &opening);
+    let filled = example_is_filled(register)?;
+    let moved = stretch_is_moved(register, seven);
+    let back = stretch_is_handed_back(register, row);
+    let taking = Reply::Taken { piece: 1, part: 1 };
+    let three = [Reply::Posted(3), Reply::Posted(3)];
+    assert_eq!(rt;
+        (opens, filled, moved, back),
+        (
+            true,
+            None,
+            (None, [Reply::Posted(5), taking], true),
+            ((None, three, true), Ok(1)),
+        )
+    );
+    Ok(())
 }
 
 #[test]
 fn stretch_goes_over(rt: HostRuntime) -> Result<(), Fail> {
     let mut register = opened(rt.alloc(), 2, 4)?;
-    expect_example(&rt, &mut register)
+    let example = expect_example(&rt, &mut register);
+    drop(register);
+    Ok(example?)
 }
 
 /// Whether gives by two parts are refused out of their ranges.
@@ -230,6 +247,7 @@ fn gives_of_two_parts(rt: HostRuntime) -> Result<(), Fail> {
     let mut register = opened(rt.alloc(), 2, 4)?;
     let refuses = refuses_gives(&mut register);
     let gives = gives_sixteen(&mut register);
+    drop(register);
     assert!(rt; refuses && gives);
     Ok(())
 }
@@ -285,6 +303,7 @@ fn three_parts(rt: HostRuntime) -> Result<(), Fail> {
     let mut register = opened(rt.alloc(), 3, 4)?;
     let takes = takes_from_neighbours(&mut register);
     let recuts = recuts_three(&mut register);
+    drop(register);
     assert!(rt; takes && recuts);
     Ok(())
 }
@@ -303,28 +322,25 @@ fn recuts_four(register: &mut Register) -> bool {
         && register.recut_to(&[33, 65, 97]) == Ok(3)
 }
 
-/// Asserts that nine subscribers of the last zone, once posted, draw all bounds to it.
-fn expect_last_zones(rt: &impl Abort, register: &mut Register) -> Result<(), Fail> {
+/// Whether nine subscribers of the last zone, once posted, draw all bounds to it.
+fn last_zone_draws(register: &mut Register) -> Result<bool, Refusal> {
     let mut are_added = true;
     for s_id in 125u64..134 {
         let added = Event::AddSubscriber(row(s_id, s_id, 1)?);
         are_added = register.apply(added) == DONE && are_added;
     }
     let posted = register.apply(posting(3, 51)) == Reply::Posted(2);
-    assert!(rt; are_added && posted && proposes(register, &[117, 121, 125]));
-    Ok(())
-}
-
-/// Asserts both of four parts.
-fn expect_four(rt: &impl Abort, register: &mut Register) -> Result<(), Fail> {
-    assert!(rt; recuts_four(register));
-    expect_last_zones(rt, register)
+    Ok(are_added && posted && proposes(register, &[117, 121, 125]))
 }
 
 #[test]
 fn four_parts(rt: HostRuntime) -> Result<(), Fail> {
     let mut register = opened(rt.alloc(), 4, 4)?;
-    expect_four(&rt, &mut register)
+    let recuts = recuts_four(&mut register);
+    let draws = last_zone_draws(&mut register);
+    drop(register);
+    assert_eq!(rt; (recuts, draws), (true, Ok(true)));
+    Ok(())
 }
 
 /// Whether this is the last of sixteen parts, and none has anything to post.
@@ -337,13 +353,19 @@ fn ends_with_sixteenth(register: &mut Register) -> bool {
         && register.apply(posting(16, 51)) == NO_PART
 }
 
+/// Whether a register of one part proposes no bound.
+fn one_proposes_none(alloc: Global) -> Result<bool, Refusal> {
+    let one = opened(alloc, 1, 4)?;
+    Ok(proposes(&one, &[]))
+}
+
 #[test]
 fn one_part_and_sixteen(rt: HostRuntime) -> Result<(), Fail> {
-    let one = opened(rt.alloc(), 1, 4)?;
-    assert!(rt; proposes(&one, &[]));
+    let none = one_proposes_none(rt.alloc())?;
     let mut sixteen = opened(rt.alloc(), 16, 4)?;
     let ends = ends_with_sixteenth(&mut sixteen);
-    assert!(rt; ends);
+    drop(sixteen);
+    assert!(rt; none && ends);
     Ok(())
 }
 
@@ -429,8 +451,8 @@ fn left(register: &Register, sub_nbr: Number) -> Left {
     )
 }
 
-/// Asserts that a re-cut moves the regions alone, though memory may be refused in its middle.
-fn expect_recut(rt: &impl Abort, register: &mut Register) -> Result<(), Fail> {
+/// Whether a re-cut moves the regions alone, though memory may be refused in its middle.
+fn recut_moves_regions(register: &mut Register) -> Result<bool, Refusal> {
     let mut are_added = true;
     for s_id in [1u64, 40, 41, 60, 84, 85, 99, 100, 127] {
         let added = Event::AddSubscriber(row(s_id, s_id, 1)?);
@@ -460,13 +482,15 @@ fn expect_recut(rt: &impl Abort, register: &mut Register) -> Result<(), Fail> {
     let stays = left(register, sixty) == before && scans(register, &counts);
     let row = Reply::Rows(RowReply::Row(row(60, 60, 1)?));
     let moved = has_regions(register, &there) && replies(register, read(60), row);
-    assert!(rt; are_added && recut && stays && moved);
-    Ok(())
+    Ok(are_added && recut && stays && moved)
 }
 
 // Also run with each allocation refused in turn (`refuse_memory.sh`).
 #[test]
 fn recut_of_three(rt: HostRuntime) -> Result<(), Fail> {
     let mut register = opened(rt.alloc(), 3, 4)?;
-    expect_recut(&rt, &mut register)
+    let moves = recut_moves_regions(&mut register);
+    drop(register);
+    assert_eq!(rt; moves, Ok(true));
+    Ok(())
 }
