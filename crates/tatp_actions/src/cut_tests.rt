@@ -1,22 +1,19 @@
 //! Parts that are cut in two and joined again, beside the plain program, which isn't cut.
-ghost use Rattle.std.specs.Prelude.{◌≡◌, ◌<◌};
 
 use crate::plain::PlainRows;
 use crate::plain_tests::draws::after;
 use crate::plain_tests::tally::Tally;
-use crate::plain_tests::{expect_same_book, expect_same_rows, expect_turn};
+use crate::plain_tests::{expect_same_book, expect_same_rows, expect_turn, expect_turns};
 use crate::tests::makers::subscriber;
-use crate::tests::{counts_of, expect_added};
-use crate::{Action, CELLS, Cells, Change, FIRST_ZONE, Part, RowReply, Rows};
+use crate::tests::{counts_of, expect_all_added};
+use crate::{Action, CELLS, Cells, Part};
 use part_table::Side;
 use std::process::Abort;
-use std::test::Fail;
 use tatp_rows::Refusal;
 
 /// The half that a part gives; where memory was refused, at the second try, with the part as before in between.
-fn sliced(rt: &impl Abort, part: &mut Part, at: u32, side: Side) -> Part
-    requires { (part.old.lo < at) × (at < part.old.hi) }
-{
+fn sliced(rt: &impl Abort, part: &mut Part, at: u32, side: Side) -> Part {
+    assert!(rt; part.lo < at && at < part.hi);
     let before = part.recount();
     match part.slice(at, side) {
         Ok(given) => given,
@@ -27,15 +24,28 @@ fn sliced(rt: &impl Abort, part: &mut Part, at: u32, side: Side) -> Part
     }
 }
 
-/// Joins a part to another one; where memory was refused, at the second try, with both as before in between.
+/// Joins a part to another one; where memory was refused, hands that one back, with both as before.
+fn try_meld(rt: &impl Abort, part: &mut Part, other: Part) -> Option<Part> {
+    assert!(rt; part.width() == other.width());
+    assert!(rt; part.hi == other.lo || other.hi == part.lo);
+    let before = [part.recount(), other.recount()];
+    match part.meld(other) {
+        Ok(()) => None,
+        Err(back) => {
+            let now = [part.recount(), back.item.recount()];
+            assert_eq!(rt; (back.why, now), (Refusal::Memory, before));
+            Some(back.item)
+        }
+    }
+}
+
+/// Joins a part to another one; where memory was refused, at the second try.
 fn meld(rt: &impl Abort, part: &mut Part, other: Part) {
-    let before = (part.recount(), other.recount());
-    assert_eq!(rt; part.width(), other.width());
-    assert!(rt; part.hi() == other.lo() || other.hi() == part.lo());
-    if let Err(back) = part.meld(other) {
-        let now = (part.recount(), back.item.recount());
-        assert_eq!(rt; (back.why, now), (Refusal::Memory, before));
-        assert!(rt; part.meld(back.item).is_ok());
+    if let Some(other) = try_meld(rt, part, other) {
+        let again = try_meld(rt, part, other);
+        let done = again.is_none();
+        drop(again);
+        assert!(rt; done);
     }
 }
 
@@ -45,17 +55,23 @@ fn first_from(part: &Part, s_id: u32) -> Option<u32> {
     Some(row.s_id())
 }
 
-/// Asserts that two halves that were cut at a subscriber count together what the whole part counted, and that each finds
-/// its own subscribers alone.
-fn expect_counts(rt: &impl Abort, low: &Part, high: &Part, at: u32, whole: &Cells) {
+/// The counts of two parts together.
+fn counts_of_both(low: &Part, high: &Part) -> [u64; CELLS as usize] {
     let (below, from) = (low.recount(), high.recount());
     let mut both = [0u64; CELLS as usize];
     for cell in 0..CELLS {
         both[usize::from(cell)] = below.get(cell).wrapping_add(from.get(cell));
     }
+    both
+}
+
+/// Asserts that two halves that were cut at a subscriber count together what the whole part counted, and that each finds
+/// its own subscribers alone.
+fn expect_counts(rt: &impl Abort, low: &Part, high: &Part, at: u32, whole: &Cells) {
     let found = [first_from(low, 0), first_from(low, at), first_from(high, 0)];
+    let both = counts_of_both(low, high);
     assert_eq!(rt;
-        (both, found, low.hi(), high.lo()),
+        (both, found, low.hi, high.lo),
         (counts_of(whole), [Some(1), None, Some(at)], at, at)
     );
 }
@@ -76,31 +92,9 @@ fn expect_rows(
     }
 }
 
-/// What a part answers and notes, where a subscriber of its range moves to a location.
-fn moved<R: Rows>(
-    rt: &impl Abort,
-    part: &mut Part<R>,
-    s_id: u32,
-    vlr_location: u32,
-) -> (RowReply, Change) {
-    assert!(rt; part.lo <= s_id && s_id < part.hi);
-    part.act(Action::UpdateLocation { s_id, vlr_location })
-}
-
-/// Asserts that a half does as the plain part does, where one of its subscribers moves to a location.
-fn expect_move(
-    rt: &impl Abort,
-    half: &mut Part,
-    plain: &mut Part<PlainRows>,
-    s_id: u32,
-    vlr_location: u32,
-) {
-    let (reply, change) = moved(rt, half, s_id, vlr_location);
-    let (plain_reply, plain_change) = moved(rt, plain, s_id, vlr_location);
-    assert_eq!(rt;
-        (&reply, change.notes()),
-        (&plain_reply, plain_change.notes())
-    );
+/// Subscriber `s_id`, moved to a location.
+fn moved(s_id: u32, vlr_location: u32) -> Action {
+    Action::UpdateLocation { s_id, vlr_location }
 }
 
 /// Asserts what two halves are that were cut at a subscriber, and that both act.
@@ -110,12 +104,13 @@ fn expect_halves(
     high: &mut Part,
     at: u32,
     plain: &mut Part<PlainRows>,
+    tally: &mut Tally,
     whole: &Cells,
 ) {
     expect_counts(rt, low, high, at, whole);
     expect_rows(rt, low, high, at, plain);
-    expect_move(rt, low, plain, 1, at);
-    expect_move(rt, high, plain, at, u32::MAX - at);
+    expect_turn(rt, low, plain, tally, &moved(1, at));
+    expect_turn(rt, high, plain, tally, &moved(at, u32::MAX - at));
 }
 
 /// How high the four trees of a part are.
@@ -149,104 +144,118 @@ fn meld_bound(heights: [u64; 4], others: [u64; 4]) -> u64 {
     most
 }
 
-/// Cuts a part in two at a subscriber, and joins the halves again, each in no more steps than the heights of the trees
-/// allow.
+/// Cuts a part in two at a subscriber, in no more steps than the heights of the trees allow.
+fn cut(rt: &impl Abort, part: &mut Part, at: u32, side: Side) -> Part {
+    let most = slice_bound(heights(part));
+    let given = sliced(rt, part, at, side);
+    let within = (48..=most).contains(&part.last_steps());
+    assert_eq!(rt; (given.asked(), given.last_steps(), within), (0, 0, true));
+    given
+}
+
+/// Joins a part to its other half, in no more steps than the heights of the trees allow.
+fn join(rt: &impl Abort, part: &mut Part, given: Part) {
+    let most = meld_bound(heights(part), heights(&given));
+    meld(rt, part, given);
+    assert!(rt; (16..=most).contains(&part.last_steps()));
+}
+
+/// Cuts a part in two at a subscriber, and joins the halves again.
 fn cut_and_joined(
     rt: &impl Abort,
     part: &mut Part,
     at: u32,
     side: Side,
     plain: &mut Part<PlainRows>,
-)
-    requires { (part.old.lo < at) × (at < part.old.hi) }
-{
+    tally: &mut Tally,
+) {
     let whole = part.recount();
-    let most = slice_bound(heights(part));
-    let mut given = sliced(rt, part, at, side);
-    let within = (48..=most).contains(&part.last_steps());
-    assert_eq!(rt; (given.asked(), given.last_steps(), within), (0, 0, true));
-    let most = meld_bound(heights(part), heights(&given));
+    let mut given = cut(rt, part, at, side);
     match side {
-        Side::Low => expect_halves(rt, &mut given, part, at, plain, &whole),
-        Side::High => expect_halves(rt, part, &mut given, at, plain, &whole),
+        Side::Low => expect_halves(rt, &mut given, part, at, plain, tally, &whole),
+        Side::High => expect_halves(rt, part, &mut given, at, plain, tally, &whole),
     }
-    meld(rt, part, given);
-    assert!(rt; (16..=most).contains(&part.last_steps()));
+    join(rt, part, given);
+}
+
+/// Asserts that a part that is cut at a drawn subscriber and joined again has the rows of the plain part.
+fn expect_cut(
+    rt: &impl Abort,
+    part: &mut Part,
+    plain: &mut Part<PlainRows>,
+    tally: &mut Tally,
+    seed: u64,
+    side: Side,
+) {
+    let at = ((seed >> 33) % 39) as u32 + 2;
+    cut_and_joined(rt, part, at, side, plain, tally);
+    assert_eq!(rt; [part.lo, part.hi, plain.lo, plain.hi], [1, 41, 1, 41]);
+    expect_same_book(rt, part, plain);
 }
 
 /// Asserts that a part that is cut at drawn subscribers has the rows of the plain part throughout.
-fn expect_cuts(rt: &impl Abort, part: &mut Part, plain: &mut Part<PlainRows>) -> Result<(), Fail>
-    requires part { (part.old.lo ≡ 1) × (part.old.hi ≡ 41) }
-    requires plain { (plain.old.lo ≡ 1) × (plain.old.hi ≡ 41) }
-{
-    let mut seed = 11u64;
+fn expect_cuts(rt: &impl Abort, part: &mut Part, plain: &mut Part<PlainRows>) {
     let mut tally = Tally::new();
-    for _ in 0..4_000u32 {
-        seed = after(seed);
-        expect_turn(rt, part, plain, &mut tally, seed)?;
-    }
+    let mut seed = expect_turns(rt, part, plain, &mut tally, 11, 4_000);
     assert_eq!(rt; heights(part), [1, 1, 1, 1]);
-    for turn in 0..30u32 {
+    for _ in 0..15u8 {
         seed = after(seed);
-        let at = ((seed >> 33) % 39) as u32 + 2;
-        let side = if turn % 2 == 0 { Side::Low } else { Side::High };
-        assert!(rt; part.lo() < at && at < part.hi());
-        cut_and_joined(rt, part, at, side, plain);
-        assert_eq!(rt; (part.lo(), part.hi(), plain.lo, plain.hi), (1, 41, 1, 41));
-        expect_same_book(rt, part, plain);
+        expect_cut(rt, part, plain, &mut tally, seed, Side::Low);
+        seed = after(seed);
+        expect_cut(rt, part, plain, &mut tally, seed, Side::High);
     }
-    Ok(())
 }
 
 #[test]
-fn drawn_cuts(rt: HostRuntime) -> Result<(), Fail> {
-    let mut part = Part::new(rt.alloc(), 1, 41, 1)?;
+fn drawn_cuts(rt: HostRuntime) {
+    let mut part = Part::new(rt.alloc(), 1, 41, 1).expect(&rt, "a part");
     let mut plain = Part::over(rt.alloc(), PlainRows::new(rt.alloc(), 480), 1, 41, 1);
-    let done = expect_cuts(&rt, &mut part, &mut plain);
+    expect_cuts(&rt, &mut part, &mut plain);
     drop(part);
     drop(plain);
-    done
 }
 
 /// How many of the first 64 subscribers a part has, each with the row that was added.
-fn kept(part: &mut Part) -> Result<u64, Fail> {
+fn kept(rt: &impl Abort, part: &mut Part) -> u64 {
     let mut rows = 0u64;
     for s_id in 1..65u32 {
-        let row = subscriber(u64::from(s_id), 1)?;
+        let row = subscriber(rt, u64::from(s_id), 1);
         rows = rows.wrapping_add(u64::from(part.subscriber(s_id) == Some(row)));
     }
-    Ok(rows)
+    rows
+}
+
+/// Cuts a part off that ends or begins at a subscriber, and joins it again: how many steps each took.
+fn steps_of_both(rt: &impl Abort, part: &mut Part, at: u32, side: Side) -> (u64, u64) {
+    let given = sliced(rt, part, at, side);
+    let cut = part.last_steps();
+    meld(rt, part, given);
+    (cut, part.last_steps())
 }
 
 /// Cuts a part of 33 subscribers, whose tree has the height 1, on both sides, and joins it each time. An empty tree takes
 /// three steps to be cut and four to be joined, the other one thirteen and five.
-fn expect_two_cuts(rt: &impl Abort, part: &mut Part) -> Result<(), Fail>
-    requires { (part.old.lo ≡ 1) × (part.old.hi ≡ 65) }
-{
-    for s_id in 1..34u64 {
-        let zone = FIRST_ZONE + ((s_id - 1) / 2) as u8;
-        expect_added(rt, part, subscriber(s_id, 1)?, &[(3, 1), (zone, 1)]);
-    }
+fn expect_two_cuts(rt: &impl Abort, part: &mut Part) {
+    expect_all_added(rt, part, 33, 2);
+    assert_eq!(rt; heights(part), [1, 0, 0, 0]);
+    let _ = steps_of_both(rt, part, 2, Side::Low);
+    let range = (part.lo, part.hi);
+    let (cut, joined) = steps_of_both(rt, part, 17, Side::High);
     assert_eq!(rt;
-        (heights(part), part.lo(), part.hi()),
-        ([1, 0, 0, 0], 1, 65)
+        (
+            range,
+            (part.lo, part.hi),
+            (cut, joined),
+            kept(rt, part)
+        ),
+        ((1, 65), (1, 65), (22, 17), 33)
     );
-    let low = sliced(rt, part, 2, Side::Low);
-    meld(rt, part, low);
-    assert_eq!(rt; (part.lo(), part.hi()), (1, 65));
-    let high = sliced(rt, part, 17, Side::High);
-    let cut = part.last_steps();
-    meld(rt, part, high);
-    assert_eq!(rt; (cut, part.last_steps()), (22, 17));
-    assert_eq!(rt; (part.lo(), part.hi(), kept(part)?), (1, 65, 33));
-    Ok(())
 }
 
 // Also run with each allocation refused in turn (`refuse_memory.sh`).
 #[test]
-fn refused_cuts(rt: HostRuntime) -> Result<(), Fail> {
-    let mut part = Part::new(rt.alloc(), 1, 65, 2)?;
-    let done = expect_two_cuts(&rt, &mut part);
+fn refused_cuts(rt: HostRuntime) {
+    let mut part = Part::new(rt.alloc(), 1, 65, 2).expect(&rt, "a part");
+    expect_two_cuts(&rt, &mut part);
     drop(part);
-    done
 }

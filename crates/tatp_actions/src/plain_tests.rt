@@ -1,63 +1,55 @@
 //! The trees against the plain program, on the same drawn actions.
-ghost use Rattle.std.specs.Prelude.{◌≡◌};
-
 pub(crate) mod draws;
 pub(crate) mod tally;
 
 use crate::plain::PlainRows;
-use crate::{Change, Part, RowReply, Rows};
-use draws::{after, draw, drawn_s_id};
+use crate::tests::act;
+use crate::{Action, Change, Part, RowReply, Rows};
+use draws::{after, draw};
 use std::process::Abort;
-use std::test::Fail;
 use tally::Tally;
-use tatp_rows::Refusal;
+use tatp_rows::{Access, Facility, Forwarding, Refusal};
 
-/// What an action drawn by a seed answers and notes, and how often it asks the rows.
-fn drawn<R: Rows>(part: &mut Part<R>, seed: u64) -> Result<(RowReply, Change, u64), Fail>
-    requires { (part.old.lo ≡ 1) × (part.old.hi ≡ 41) }
-    ensures { (part.new.lo ≡ 1) × (part.new.hi ≡ 41) }
-{
-    let before = part.asked();
-    let (reply, change) = part.act(draw(seed)?);
-    Ok((reply, change, part.asked().wrapping_sub(before)))
-}
-
-/// The same at the second try, where a growth was refused, which moves no cell.
-fn drawn_at_last<R: Rows>(
+/// What an action answers and notes, and how often it asks the rows; none where a growth was refused, which moves no cell.
+fn attempted<R: Rows>(
     rt: &impl Abort,
     part: &mut Part<R>,
-    seed: u64,
-) -> Result<(RowReply, Change, u64), Fail>
-    requires { (part.old.lo ≡ 1) × (part.old.hi ≡ 41) }
-    ensures { (part.new.lo ≡ 1) × (part.new.hi ≡ 41) }
-{
-    let (reply, change, asked) = drawn(part, seed)?;
-    if reply != RowReply::Refused(Refusal::Memory) {
-        return Ok((reply, change, asked));
+    action: &Action,
+) -> Option<(RowReply, Change, u64)> {
+    let done = act(rt, part, action);
+    if done.0 == RowReply::Refused(Refusal::Memory) {
+        assert!(rt; done.1.notes().is_empty());
+        return None;
     }
-    assert!(rt; change.notes().is_empty());
-    drawn(part, seed)
+    Some(done)
+}
+
+/// The same at the second try, where a growth was refused.
+fn act_at_last<R: Rows>(
+    rt: &impl Abort,
+    part: &mut Part<R>,
+    action: &Action,
+) -> (RowReply, Change, u64) {
+    match attempted(rt, part, action) {
+        Some(done) => done,
+        None => act(rt, part, action),
+    }
 }
 
 /// The same of the trees, which then hold the rows of the plain part in between.
-fn drawn_on_trees(
+fn act_on_trees(
     rt: &impl Abort,
     part: &mut Part,
     plain: &mut Part<PlainRows>,
-    seed: u64,
-) -> Result<(RowReply, Change, u64), Fail>
-    requires part { (part.old.lo ≡ 1) × (part.old.hi ≡ 41) }
-    requires plain { (plain.old.lo ≡ 1) × (plain.old.hi ≡ 41) }
-    ensures part { (part.new.lo ≡ 1) × (part.new.hi ≡ 41) }
-    ensures plain { (plain.new.lo ≡ 1) × (plain.new.hi ≡ 41) }
-{
-    let (reply, change, asked) = drawn(part, seed)?;
-    if reply != RowReply::Refused(Refusal::Memory) {
-        return Ok((reply, change, asked));
+    action: &Action,
+) -> (RowReply, Change, u64) {
+    match attempted(rt, part, action) {
+        Some(done) => done,
+        None => {
+            expect_same_book(rt, part, plain);
+            act(rt, part, action)
+        }
     }
-    assert!(rt; change.notes().is_empty());
-    expect_same_book(rt, part, plain);
-    drawn(part, seed)
 }
 
 /// Asserts that two parts answer, note and ask alike, and hold the same rows of the subscriber then.
@@ -66,23 +58,49 @@ pub(crate) fn expect_turn(
     part: &mut Part,
     plain: &mut Part<PlainRows>,
     tally: &mut Tally,
-    seed: u64,
-) -> Result<(), Fail>
-    requires part { (part.old.lo ≡ 1) × (part.old.hi ≡ 41) }
-    requires plain { (plain.old.lo ≡ 1) × (plain.old.hi ≡ 41) }
-    ensures part { (part.new.lo ≡ 1) × (part.new.hi ≡ 41) }
-    ensures plain { (plain.new.lo ≡ 1) × (plain.new.hi ≡ 41) }
-{
-    let (reply, change, asked) = drawn_on_trees(rt, part, plain, seed)?;
-    let (plain_reply, plain_change, plain_asked) = drawn_at_last(rt, plain, seed)?;
+    action: &Action,
+) {
+    let (reply, change, asked) = act_on_trees(rt, part, plain, action);
+    let (plain_reply, plain_change, plain_asked) = act_at_last(rt, plain, action);
     assert_eq!(rt;
-        (&reply, change.notes(), asked),
-        (&plain_reply, plain_change.notes(), plain_asked),
-        "by {seed}"
+        (action, &reply, change.notes(), asked),
+        (action, &plain_reply, plain_change.notes(), plain_asked)
     );
-    expect_same_rows(rt, part, plain, drawn_s_id(seed));
-    tally.note(rt, &draw(seed)?, &reply, change.notes());
-    Ok(())
+    expect_same_rows(rt, part, plain, action.s_id());
+    tally.note(rt, action, &reply, change.notes());
+}
+
+/// Asserts the same of so many actions that are drawn from a seed on, and answers the last one's seed.
+pub(crate) fn expect_turns(
+    rt: &impl Abort,
+    part: &mut Part,
+    plain: &mut Part<PlainRows>,
+    tally: &mut Tally,
+    first: u64,
+    turns: u32,
+) -> u64 {
+    let mut seed = first;
+    for _ in 0..turns {
+        seed = after(seed);
+        expect_turn(rt, part, plain, tally, &draw(rt, seed));
+    }
+    seed
+}
+
+/// The rows of a part in the other three tables that a subscriber has by this type.
+fn rows_of<R: Rows>(
+    part: &mut Part<R>,
+    s_id: u32,
+    kind: u8,
+) -> (Option<Access>, Option<Facility>, [Option<Forwarding>; 3]) {
+    let access = part.access(s_id, kind);
+    let facility = part.facility(s_id, kind);
+    let forwardings = [
+        part.forwarding(s_id, kind, 0),
+        part.forwarding(s_id, kind, 8),
+        part.forwarding(s_id, kind, 16),
+    ];
+    (access, facility, forwardings)
 }
 
 /// Asserts that two parts hold the same rows of a subscriber.
@@ -91,60 +109,39 @@ pub(crate) fn expect_same_rows(
     part: &mut Part,
     plain: &mut Part<PlainRows>,
     s_id: u32,
-)
-    ensures part { (part.new.lo ≡ part.old.lo) × (part.new.hi ≡ part.old.hi) }
-    ensures plain { (plain.new.lo ≡ plain.old.lo) × (plain.new.hi ≡ plain.old.hi) }
-{
+) {
     let mut same = part.subscriber(s_id) == plain.subscriber(s_id);
     for kind in 1..5u8 {
-        same &= part.access(s_id, kind) == plain.access(s_id, kind);
-        same &= part.facility(s_id, kind) == plain.facility(s_id, kind);
-        for hour in [0, 8, 16] {
-            let row = plain.forwarding(s_id, kind, hour);
-            same &= part.forwarding(s_id, kind, hour) == row;
-        }
+        same &= rows_of(part, s_id, kind) == rows_of(plain, s_id, kind);
     }
     assert!(rt; same, "of {s_id}");
 }
 
 /// Asserts that two parts hold the same rows of all subscribers.
-pub(crate) fn expect_same_book(rt: &impl Abort, part: &mut Part, plain: &mut Part<PlainRows>)
-    requires part { (part.old.lo ≡ 1) × (part.old.hi ≡ 41) }
-    requires plain { (plain.old.lo ≡ 1) × (plain.old.hi ≡ 41) }
-    ensures part { (part.new.lo ≡ 1) × (part.new.hi ≡ 41) }
-    ensures plain { (plain.new.lo ≡ 1) × (plain.new.hi ≡ 41) }
-{
+pub(crate) fn expect_same_book(rt: &impl Abort, part: &mut Part, plain: &mut Part<PlainRows>) {
     for s_id in 1..41u32 {
         expect_same_rows(rt, part, plain, s_id);
     }
 }
 
 /// Asserts that two parts do alike in 20,000 actions, among them each kind of reply, and that the cells move as they count.
-fn expect_alike(rt: &impl Abort, part: &mut Part, plain: &mut Part<PlainRows>) -> Result<(), Fail>
-    requires part { (part.old.lo ≡ 1) × (part.old.hi ≡ 41) }
-    requires plain { (plain.old.lo ≡ 1) × (plain.old.hi ≡ 41) }
-{
+fn expect_alike(rt: &impl Abort, part: &mut Part, plain: &mut Part<PlainRows>) {
     let mut seed = 7u64;
     let mut tally = Tally::new();
-    for turn in 1..20_001u32 {
-        seed = after(seed);
-        expect_turn(rt, part, plain, &mut tally, seed)?;
-        if turn % 1_000 == 0 {
-            expect_same_book(rt, part, plain);
-            tally.expect_sums(rt, part);
-        }
+    for _ in 0..20u8 {
+        seed = expect_turns(rt, part, plain, &mut tally, seed, 1_000);
+        expect_same_book(rt, part, plain);
+        tally.expect_sums(rt, part);
     }
     tally.expect_all_kinds(rt, 20_000);
-    Ok(())
 }
 
 // Also run with each allocation refused in turn (`refuse_memory.sh`).
 #[test]
-fn same_actions(rt: HostRuntime) -> Result<(), Fail> {
-    let mut part = Part::new(rt.alloc(), 1, 41, 1)?;
+fn same_actions(rt: HostRuntime) {
+    let mut part = Part::new(rt.alloc(), 1, 41, 1).expect(&rt, "a part");
     let mut plain = Part::over(rt.alloc(), PlainRows::new(rt.alloc(), 480), 1, 41, 1);
-    let done = expect_alike(&rt, &mut part, &mut plain);
+    expect_alike(&rt, &mut part, &mut plain);
     drop(part);
     drop(plain);
-    done
 }

@@ -138,11 +138,7 @@ impl Tally {
             rare = rare.wrapping_add(u32::from(count < 20));
             others = others.wrapping_sub(count);
         }
-        assert_eq!(rt;
-            (rare, others),
-            (0, 0),
-            "kinds that came seldom, and replies of others"
-        );
+        assert_eq!(rt; [rare, others], [0, 0]);
     }
 
     /// Asserts that the cells have moved from zero to what a part counts.
