@@ -1,119 +1,9 @@
 ghost use Rattle.std.specs.Prelude.{◌<◌};
+ghost use Rattle.mr_node.specs.Rows.{key_limit};
 
 use super::*;
 use std::process::Abort;
-use std::test::*;
 use tatp_rows::Refusal;
-
-// A value that is neither Copy nor Clone.
-#[derive(Debug, PartialEq, Drop)]
-struct Token(u64);
-
-// Each call once, on a tree without rows.
-fn call_each(rt: &impl Abort, tree: &mut SubTree<Token>) {
-    assert!(rt; tree.insert(7, Token(1)).is_ok());
-    let again = tree
-        .insert(7, Token(2))
-        .err()
-        .map(|back| (back.why, back.item));
-    assert_eq!(rt; again, Some((Refusal::Exists, Token(2))));
-    assert_eq!(rt; tree.get(7), Some(&Token(1)));
-    assert_eq!(rt; tree.replace(7, Token(3)).ok(), Some(Token(1)));
-    assert_eq!(rt; tree.replace(8, Token(4)).err(), Some(Token(4)));
-    assert_eq!(rt; tree.first_from(6).map(|row| row.0), Some(7));
-    let sum = tree.fold(
-        0u64,
-        &|sum, key, token| sum.wrapping_add(key).wrapping_add(token.0),
-    );
-    assert_eq!(rt; (sum, tree.len(), tree.height()), (10, 1, 0));
-    assert_eq!(rt; tree.remove(7), Some(Token(3)));
-    assert_eq!(rt; tree.len(), 0);
-}
-
-#[test]
-fn answers(rt: HostRuntime) -> Result<(), Fail> {
-    let mut tree = SubTree::new(rt.alloc())?;
-    call_each(&rt, &mut tree);
-    Ok(())
-}
-
-// Puts a row in whose key is the number of rows; where memory was refused, at the second try, with all as before.
-fn put(rt: &impl Abort, tree: &mut SubTree<u64>, key: u64)
-    requires { key < 560 }
-{
-    let height = tree.height();
-    if let Err(back) = tree.insert(key, key) {
-        assert_eq!(rt; (back.why, back.item), (Refusal::Memory, key));
-        assert_eq!(rt;
-            (tree.len(), tree.height(), tree.get(key)),
-            (key, height, None)
-        );
-        assert!(rt; tree.insert(key, key).is_ok());
-    }
-}
-
-// Leaves are halved under a root, and the root rises from height 0 to 1 and from 1 to 2.
-fn grow(rt: &impl Abort, tree: &mut SubTree<u64>) {
-    for key in 0..560u64 {
-        put(rt, tree, key);
-    }
-    let sum = tree.fold(0u64, &|sum, _key, value| sum.wrapping_add(*value));
-    assert_eq!(rt; (sum, tree.len(), tree.height()), (156520, 560, 2));
-}
-
-// Nodes become one again, and the root falls from height 2 to 0.
-fn fall(rt: &impl Abort, tree: &mut SubTree<u64>) {
-    for back in 0..560u64 {
-        let key = 559 - back;
-        assert_eq!(rt; tree.remove(key), Some(key));
-    }
-    assert_eq!(rt; (tree.len(), tree.height()), (0, 0));
-}
-
-// Also run with each allocation refused in turn (`refuse_memory.sh`).
-#[test]
-fn memory_refused(rt: HostRuntime) -> Result<(), Fail> {
-    let mut tree = SubTree::new(rt.alloc())?;
-    grow(&rt, &mut tree);
-    fall(&rt, &mut tree);
-    Ok(())
-}
-
-// Keys at both ends, and looks for keys that no row may have.
-fn reach_ends(rt: &impl Abort, tree: &mut SubTree<u64>) {
-    let last = u64::MAX - 2;
-    assert!(rt; tree.insert(0, 1).is_ok());
-    assert!(rt; tree.insert(last, 2).is_ok());
-    for key in 1..100u64 {
-        assert!(rt; tree.insert(key * 1000, key).is_ok());
-    }
-    assert_eq!(rt; (tree.get(0), tree.get(last)), (Some(&1), Some(&2)));
-    assert_eq!(rt; (tree.get(last + 1), tree.get(last + 2)), (None, None));
-    assert_eq!(rt;
-        tree.first_from(99_001).map(|row| (row.0, *row.1)),
-        Some((last, 2))
-    );
-    assert_eq!(rt;
-        [last + 1, u64::MAX].map(|key| tree.first_from(key).is_some()),
-        [false, false]
-    );
-    assert_eq!(rt; tree.replace(u64::MAX, 3).err(), Some(3));
-    assert_eq!(rt;
-        [tree.remove(u64::MAX), tree.remove(last), tree.remove(0)],
-        [None, Some(2), Some(1)]
-    );
-    assert_eq!(rt;
-        (tree.len(), tree.first_from(0).map(|row| row.0)),
-        (99, Some(1000))
-    );
-}
-
-#[test]
-fn ends(rt: HostRuntime) -> Result<(), Fail> {
-    let mut tree = SubTree::new(rt.alloc())?;
-    reach_ends(&rt, &mut tree);
-    Ok(())
-}
 
 // A value of some size that tells the number of which it was made.
 trait Told {
@@ -132,6 +22,16 @@ impl Told for u32 {
     }
 }
 
+impl Told for u64 {
+    fn of(number: u32) -> u64 {
+        u64::from(number)
+    }
+
+    fn number(&self) -> u32 {
+        (*self % 4_294_967_296) as u32
+    }
+}
+
 impl Told for [u64; 3] {
     fn of(number: u32) -> [u64; 3] {
         [7, u64::from(number), 9]
@@ -140,6 +40,185 @@ impl Told for [u64; 3] {
     fn number(&self) -> u32 {
         (self[1] % 4_294_967_296) as u32
     }
+}
+
+// A value that is neither Copy nor Clone.
+#[derive(Drop)]
+struct Token(u32);
+
+impl Told for Token {
+    fn of(number: u32) -> Token {
+        Token(number)
+    }
+
+    fn number(&self) -> u32 {
+        self.0
+    }
+}
+
+// What an insertion answers, with the number of the value that comes back.
+fn added<V: Told + Drop>(tree: &mut SubTree<V>, key: u64, number: u32) -> Option<(Refusal, u32)>
+    requires { key < key_limit }
+{
+    match tree.insert(key, V::of(number)) {
+        Ok(()) => None,
+        Err(back) => Some((back.why, back.item.number())),
+    }
+}
+
+// What a replacement answers, in numbers.
+fn replaced<V: Told + Drop>(tree: &mut SubTree<V>, key: u64, number: u32) -> Result<u32, u32> {
+    match tree.replace(key, V::of(number)) {
+        Ok(old) => Ok(old.number()),
+        Err(value) => Err(value.number()),
+    }
+}
+
+// What a removal answers, in numbers.
+fn removed<V: Told + Drop>(tree: &mut SubTree<V>, key: u64) -> Option<u32> {
+    let value = tree.remove(key)?;
+    Some(value.number())
+}
+
+// What a look at a key answers, in numbers.
+fn found<V: Told>(tree: &SubTree<V>, key: u64) -> Option<u32> {
+    let value = tree.get(key)?;
+    Some(value.number())
+}
+
+// The key of the first row from a key on, and its value's number.
+fn first<V: Told>(tree: &SubTree<V>, from: u64) -> Option<(u64, u32)> {
+    let (key, value) = tree.first_from(from)?;
+    Some((key, value.number()))
+}
+
+// The sum of all keys and numbers.
+fn sum_of<V: Told>(tree: &SubTree<V>) -> u64 {
+    tree.fold(
+        0u64,
+        &|sum, key, value| sum
+            .wrapping_add(key)
+            .wrapping_add(u64::from(value.number())),
+    )
+}
+
+// Each call once, on a tree without rows.
+fn call_each(rt: &impl Abort, tree: &mut SubTree<Token>) {
+    let insertions = [added(tree, 7, 1), added(tree, 7, 2)];
+    let got = found(tree, 7);
+    let replacements = [replaced(tree, 7, 3), replaced(tree, 8, 4)];
+    let seen = (first(tree, 6), sum_of(tree), tree.len(), tree.height());
+    let gone = (removed(tree, 7), tree.len());
+    assert_eq!(rt;
+        ((insertions, got, replacements), seen, gone),
+        (
+            ([None, Some((Refusal::Exists, 2))], Some(1), [Ok(1), Err(4)]),
+            (Some((7, 3)), 10, 1, 0),
+            (Some(3), 0)
+        )
+    );
+}
+
+#[test]
+fn answers(rt: HostRuntime) {
+    let mut tree = SubTree::new(rt.alloc()).expect(&rt, "a tree");
+    call_each(&rt, &mut tree);
+}
+
+// Puts a row in whose key is the number of rows; where memory was refused, at the second try, with all as before.
+fn put(rt: &impl Abort, tree: &mut SubTree<u64>, number: u32)
+    requires { number < 560 }
+{
+    let key = u64::from(number);
+    let height = tree.height();
+    let back = added(tree, key, number);
+    if back.is_some() {
+        assert_eq!(rt;
+            (back, tree.len(), tree.height(), found(tree, key)),
+            (Some((Refusal::Memory, number)), key, height, None)
+        );
+        assert!(rt; added(tree, key, number).is_none());
+    }
+}
+
+// Leaves are halved under a root, and the root rises from height 0 to 1 and from 1 to 2.
+fn grow(rt: &impl Abort, tree: &mut SubTree<u64>) {
+    for number in 0..560u32 {
+        put(rt, tree, number);
+    }
+    assert_eq!(rt;
+        [sum_of(tree), tree.len(), tree.height()],
+        [313_040, 560, 2]
+    );
+}
+
+// Nodes become one again, and the root falls from height 2 to 0.
+fn fall(rt: &impl Abort, tree: &mut SubTree<u64>) {
+    let mut gone = true;
+    for back in 0..560u32 {
+        let number = 559 - back;
+        gone &= removed(tree, u64::from(number)) == Some(number);
+    }
+    assert_eq!(rt; (gone, tree.len(), tree.height()), (true, 0, 0));
+}
+
+// Also run with each allocation refused in turn (`refuse_memory.sh`).
+#[test]
+fn memory_refused(rt: HostRuntime) {
+    let mut tree = SubTree::new(rt.alloc()).expect(&rt, "a tree");
+    grow(&rt, &mut tree);
+    fall(&rt, &mut tree);
+}
+
+// Rows at both ends of the keys, and between them.
+fn fill_ends(rt: &impl Abort, tree: &mut SubTree<u64>, last: u64)
+    requires { last < key_limit }
+{
+    let mut done = added(tree, 0, 1).is_none() && added(tree, last, 2).is_none();
+    for number in 1..100u32 {
+        done &= added(tree, u64::from(number) * 1000, number).is_none();
+    }
+    assert!(rt; done);
+}
+
+// Keys at both ends, and looks for keys that no row may have.
+fn reach_ends(rt: &impl Abort, tree: &mut SubTree<u64>) {
+    let last = u64::MAX - 2;
+    fill_ends(rt, tree, last);
+    let got = [
+        found(tree, 0),
+        found(tree, last),
+        found(tree, last + 1),
+        found(tree, u64::MAX),
+    ];
+    let firsts = [
+        first(tree, 99_001),
+        first(tree, last + 1),
+        first(tree, u64::MAX),
+    ];
+    let missed = replaced(tree, u64::MAX, 3);
+    let gone = [
+        removed(tree, u64::MAX),
+        removed(tree, last),
+        removed(tree, 0),
+    ];
+    assert_eq!(rt;
+        ((got, firsts), (missed, gone), (tree.len(), first(tree, 0))),
+        (
+            (
+                [Some(1), Some(2), None, None],
+                [Some((last, 2)), None, None]
+            ),
+            (Err(3), [None, Some(2), Some(1)]),
+            (99, Some((1000, 1)))
+        )
+    );
+}
+
+#[test]
+fn ends(rt: HostRuntime) {
+    let mut tree = SubTree::new(rt.alloc()).expect(&rt, "a tree");
+    reach_ends(&rt, &mut tree);
 }
 
 // How far the keys of a drawn tree stand apart: 2,000 of them reach over the greater part of all keys.
@@ -151,6 +230,43 @@ fn drawn(turn: u64) -> u64 {
     let first = (start ^ (start >> 30)).wrapping_mul(0xBF58476D1CE4E5B9);
     let second = (first ^ (first >> 27)).wrapping_mul(0x94D049BB133111EB);
     second ^ (second >> 31)
+}
+
+// An insertion into a tree where the plain table has this number, and what the table has then.
+fn insert<V: Told + Drop>(
+    rt: &impl Abort,
+    tree: &mut SubTree<V>,
+    key: u64,
+    was: u32,
+    number: u32,
+) -> u32
+    requires { key < key_limit }
+{
+    let back = added(tree, key, number);
+    if was > 0 {
+        assert!(rt; back == Some((Refusal::Exists, number)));
+        was
+    } else {
+        assert!(rt; back.is_none());
+        number
+    }
+}
+
+// The same of a replacement.
+fn replace<V: Told + Drop>(
+    rt: &impl Abort,
+    tree: &mut SubTree<V>,
+    key: u64,
+    was: u32,
+    number: u32,
+) -> u32 {
+    let (answer, now) = if was > 0 {
+        (Ok(was), number)
+    } else {
+        (Err(number), 0)
+    };
+    assert!(rt; replaced(tree, key, number) == answer);
+    now
 }
 
 // One drawn change of a tree and of a plain table of numbers, where 0 is none: they have to answer alike.
@@ -167,54 +283,32 @@ fn change<V: Told + Drop>(
     let was = table[place];
     let insertions = if turn % 8_000 < 4_000 { 6 } else { 2 };
     let kind = (word >> 20) % 8;
-    if kind < insertions {
-        let back = tree
-            .insert(key, V::of(number))
-            .err()
-            .map(|back| (back.why, back.item.number()));
-        if was > 0 {
-            assert_eq!(rt; back, Some((Refusal::Exists, number)));
-            return;
-        }
-        assert_eq!(rt; back, None);
-        table[place] = number;
-        return;
-    }
-    if kind == 6 {
-        let old = tree
-            .replace(key, V::of(number))
-            .ok()
-            .map(|value| value.number());
-        assert_eq!(rt; old.unwrap_or(0), was);
-        if was > 0 {
-            table[place] = number;
-        }
-        return;
-    }
-    let gone = tree.remove(key).map(|value| value.number());
-    assert_eq!(rt; gone.unwrap_or(0), was);
-    table[place] = 0;
+    table[place] = if kind < insertions {
+        insert(rt, tree, key, was, number)
+    } else if kind == 6 {
+        replace(rt, tree, key, was, number)
+    } else {
+        assert!(rt; removed(tree, key).unwrap_or(0) == was);
+        0
+    };
 }
 
 // The rows of a tree are those of the table: each by its key, and the first from each key on.
 fn compare<V: Told + Drop>(rt: &impl Abort, tree: &SubTree<V>, table: &[u32; 2000]) {
     let mut count = 0u64;
-    let mut first = None;
+    let mut wanted = None;
+    let mut same = true;
     for back in 0..2000usize {
         let place = 1999 - back;
         let key = (place as u64) * APART;
-        let found = tree.get(key).map(|value| value.number());
-        assert_eq!(rt; found.unwrap_or(0), table[place]);
         if table[place] > 0 {
-            first = Some((key, table[place]));
+            wanted = Some((key, table[place]));
             count = count.wrapping_add(1);
         }
-        assert_eq!(rt;
-            tree.first_from(key).map(|row| (row.0, row.1.number())),
-            first
-        );
+        same &= found(tree, key).unwrap_or(0) == table[place];
+        same &= first(tree, key) == wanted;
     }
-    assert_eq!(rt; tree.len(), count);
+    assert_eq!(rt; (same, tree.len()), (true, count));
 }
 
 fn change_all<V: Told + Drop>(rt: &impl Abort, tree: &mut SubTree<V>) {
@@ -226,15 +320,13 @@ fn change_all<V: Told + Drop>(rt: &impl Abort, tree: &mut SubTree<V>) {
 }
 
 #[test]
-fn drawn_changes(rt: HostRuntime) -> Result<(), Fail> {
-    let mut tree = SubTree::<u32>::new(rt.alloc())?;
+fn drawn_changes(rt: HostRuntime) {
+    let mut tree = SubTree::<u32>::new(rt.alloc()).expect(&rt, "a tree");
     change_all(&rt, &mut tree);
-    Ok(())
 }
 
 #[test]
-fn drawn_changes_of_wide_values(rt: HostRuntime) -> Result<(), Fail> {
-    let mut tree = SubTree::<[u64; 3]>::new(rt.alloc())?;
+fn drawn_changes_of_wide_values(rt: HostRuntime) {
+    let mut tree = SubTree::<[u64; 3]>::new(rt.alloc()).expect(&rt, "a tree");
     change_all(&rt, &mut tree);
-    Ok(())
 }
