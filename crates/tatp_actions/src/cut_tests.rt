@@ -242,12 +242,7 @@ fn expect_two_cuts(rt: &impl Abort, part: &mut Part) {
     let range = (part.lo, part.hi);
     let (cut, joined) = steps_of_both(rt, part, 17, Side::High);
     assert_eq!(rt;
-        (
-            range,
-            (part.lo, part.hi),
-            (cut, joined),
-            kept(rt, part)
-        ),
+        (range, (part.lo, part.hi), (cut, joined), kept(rt, part)),
         ((1, 65), (1, 65), (22, 17), 33)
     );
 }
