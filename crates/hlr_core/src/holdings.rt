@@ -42,7 +42,6 @@ pub struct Holdings {
     board: Arc<Board>,
     spare: Desk,
     width: u32,
-    alloc: Global,
 }
 
 impl Model for Holdings {
@@ -131,7 +130,6 @@ impl Holdings {
             board,
             spare,
             width,
-            alloc,
         })
     }
 
