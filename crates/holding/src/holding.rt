@@ -202,6 +202,7 @@ impl Holding {
     }
 
     /// What the desk has published of a cell.
+    #[inline(always)]
     pub fn net(&self, cell: u8) -> i128
         requires { cell < CELLS }
         ensures value { result ≡ net_of self.now.desk.view cell }

@@ -36,6 +36,7 @@ impl Desk {
     }
 
     /// What the desk has published of a cell: the sum over its slots of their plus-words less their minus-words.
+    #[inline(always)]
     pub fn net(&self, cell: u8) -> i128
         requires { cell < CELLS }
         ensures value { result ≡ net_of self.now.view cell }
@@ -52,6 +53,7 @@ impl Desk {
     }
 
     /// The net of a slot in a cell, or 0 where the slot isn't the desk's.
+    #[inline(always)]
     fn own_net(&self, slot: u8, cell: u8) -> i128
         requires slot { slot < SLOTS }
         requires cell { cell < CELLS }
