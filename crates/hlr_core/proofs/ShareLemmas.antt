@@ -13,12 +13,12 @@ use Rattle.tatp_actions.specs.declared.cells.TheConstants.{CELLS}
 use Rattle.view_board.specs.Desks.{Station, with_view}
 use Rattle.view_board.specs.Nets.{net_of, net_from}
 use Rattle.view_board.specs.Views.{owned_at, Owns, IsWide, first_view, alone, without}
-use Rattle.view_board.specs.Words.{slot_net, plus_word, minus_word, AreSmall}
+use Rattle.view_board.specs.Words.{slot_net, plus_word, minus_word}
 use Rattle.view_board.specs.declared.rule.View.{View}
 use Rattle.view_board.specs.declared.words.TheConstants.{SLOTS, SLOT_WORDS, WORDS}
 use Rattle.view_board.proofs.ListLemmas.{length-each_word}
 use Rattle.holding.specs.Held.{HasSmallNets}
-use Rattle.hlr_core.specs.Desks.{owns_one, own_number, words_of, slots_in, IsOfBoard, AreDesks, AreLevel}
+use Rattle.hlr_core.specs.Desks.{owns_one, own_number, words_of, slots_in, IsOfBoard, AreDesks, AreLevel, AreOpening}
 use Rattle.hlr_core.specs.Words.{all_slots, blank_words}
 use Rattle.hlr_core.proofs.DeskLemmas.{words_at}
 
@@ -126,7 +126,7 @@ unfolding net_from
 net_level words c [] start level below within = refl
 net_level words c (flag ∷ flags) start level below within =
     let rest = net_level words c flags (start + 1) level below (omega arith) in
-    let same = level start c (omega arith) below in
+    let same = level start (omega arith) c below in
     let none : slot_net words c start ≡ pos 0 = omega (arith, ints) in
     rw (rest, none) (by_test flag (λ e. rw e refl) (λ e. rw e refl))
 
@@ -163,13 +163,13 @@ pub shared_desks : (words : List ℕ) (board : TableId) (spare : Station) (desks
 shared_desks words board spare desks level each shared =
     record { of_board = each; once = shared.once; idle = λ c below. level_idle words spare.view level each.0.wide shared.numbers.0 c below }
 
--- words that are all 0 are blank, small and level
+-- words that are all 0 are blank, and a register may open with them
 pub zeros_are : replicate {A = ℕ} WORDS 0 ≡ blank_words
 unfolding blank_words
 zeros_are = refl
 
-pub zeros_small : AreSmall (replicate WORDS 0)
-zeros_small w = let zero : get_or (replicate {A = ℕ} WORDS 0) w 0 ≡ 0 = blank_at {A = ℕ} WORDS w 0 in omega arith
-
-pub zeros_level : AreLevel (replicate WORDS 0)
-zeros_level slot c in_board below = blank_at {A = ℕ} WORDS (plus_word slot c) 0 ∙ sym (blank_at {A = ℕ} WORDS (minus_word slot c) 0)
+pub zeros_opening : AreOpening (replicate WORDS 0)
+zeros_opening = record {
+  small = λ w. let zero : get_or (replicate {A = ℕ} WORDS 0) w 0 ≡ 0 = blank_at {A = ℕ} WORDS w 0 in omega arith;
+  level = λ slot in_board c below. blank_at {A = ℕ} WORDS (plus_word slot c) 0 ∙ sym (blank_at {A = ℕ} WORDS (minus_word slot c) 0);
+}

@@ -6,7 +6,7 @@ use Rattle.tatp_actions.specs.declared.cells.TheConstants.{CELLS}
 use Rattle.view_board.specs.Desks.{Station}
 use Rattle.view_board.specs.Nets.{net_of}
 use Rattle.view_board.specs.Views.{owned_at, IsWide}
-use Rattle.view_board.specs.Words.{each_word, plus_word, minus_word}
+use Rattle.view_board.specs.Words.{each_word, plus_word, minus_word, AreSmall}
 use Rattle.view_board.specs.declared.words.TheConstants.{SLOTS, SLOT_WORDS}
 use Rattle.holding.specs.Held.{HoldingState}
 use Rattle.hlr_core.specs.Words.{all_slots}
@@ -42,6 +42,15 @@ pub record AreDesks (board : TableId) (spare : Station) (desks : List Station) :
   pub once : (slot : ℕ) → slot < SLOTS → sum_by (owns_one slot) (spare ∷ desks) ≡ 1
   pub idle : (c : ℕ) → c < CELLS → net_of spare.view c ≡ pos 0
 
--- in each slot and cell the plus-word is the minus-word
+-- in each cell the plus-word of a slot is its minus-word
+abbrev pub IsLevel : List ℕ → ℕ → Type 0
+IsLevel words slot = (c : ℕ) → c < CELLS → slice_index words (plus_word slot c) ≡ slice_index words (minus_word slot c)
+
+-- so it is in each slot
 abbrev pub AreLevel : List ℕ → Type 0
-AreLevel words = (slot c : ℕ) → slot < SLOTS → c < CELLS → slice_index words (plus_word slot c) ≡ slice_index words (minus_word slot c)
+AreLevel words = (slot : ℕ) → slot < SLOTS → IsLevel words slot
+
+-- words that a register may open with: none is past the limit, and each slot has a net of 0 in each cell
+pub record AreOpening (words : List ℕ) : Type 0 where
+  pub small : AreSmall words
+  pub level : AreLevel words

@@ -25,9 +25,9 @@ of_holding holding = record { part = holding.part; pending = holding.pending; vi
 abbrev pub of_piece : PieceState → Owner
 of_piece piece = record { part = piece.part; pending = piece.pending; view = nobody }
 
--- a sum for each cell is small enough that sixteen more of counts fit
-abbrev pub AreSmall : (ℕ → ℤ) → Type 0
-AreSmall sum = (c : ℕ) → c < CELLS → (neg_ℤ (pos 1152921504606846976) ≤ℤ sum c) × (sum c ≤ℤ pos 1152921504606846976)
+-- a sum for each cell is at most 2^60, either way
+abbrev pub AreSummable : (ℕ → ℤ) → Type 0
+AreSummable sum = (c : ℕ) → c < CELLS → (neg_ℤ (pos 1152921504606846976) ≤ℤ sum c) × (sum c ≤ℤ pos 1152921504606846976)
 
 -- the local law: what is published of a cell and what is pending of it are the count over the owner's rows
 pub record IsLawful (owner : Owner) : Type 0 where

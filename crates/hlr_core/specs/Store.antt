@@ -30,6 +30,10 @@ opening parts width = record {
   width = width;
 }
 
+-- the same over words that are there already
+abbrev pub opening_from : ℕ → ℕ → List ℕ → Store
+opening_from parts width words = record (opening parts width) { words = words }
+
 -- a cell as published: the sum of the nets of all slots
 abbrev pub published : Store → ℕ → ℤ
 published store c = net store.words all_slots c

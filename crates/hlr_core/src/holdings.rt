@@ -1,5 +1,5 @@
 //! All owners' holdings, the loose pieces, and the board that the holdings post to.
-ghost use Rattle.std.specs.Prelude.{◌≡◌, ◌+◌, ℕ, ◌<◌, ◌≤◌, [], ◌∷◌, true, Some, IfOk, OnErr, option_map, slice_index, slice_index_or, ℤ, pos};
+ghost use Rattle.std.specs.Prelude.{◌≡◌, ◌+◌, ℕ, ◌<◌, ◌≤◌, ◌⊎◌, [], ◌∷◌, true, Some, IfOk, OnErr, option_map, slice_index, slice_index_or, ℤ, pos};
 ghost use Rattle.part_table.specs.Give.{give_answer, after_give};
 ghost use Rattle.part_table.specs.Regions.{AreRegions, place_of};
 ghost use Rattle.part_table.specs.Take.{take_answer, after_take};
@@ -11,14 +11,14 @@ ghost use Rattle.std.specs.Arc.{arc_value};
 ghost use Rattle.tatp_actions.specs.Part.{IsRange, IsWidth};
 ghost use Rattle.view_board.specs.Desks.{with_view};
 ghost use Rattle.view_board.specs.Views.{Owns, alone, without};
-ghost use Rattle.view_board.specs.Words.{AreSmall};
+ghost use Rattle.view_board.specs.Words.{AreSmall, HasGreat};
 ghost use Rattle.view_board.specs.declared.words.TheConstants.{SLOTS};
 ghost use Rattle.holding.specs.Held.{HasSmallNets};
 ghost use Rattle.hlr_core.specs.Desks.{AreLevel};
 ghost use Rattle.hlr_core.specs.Held.{IsOpened};
 ghost use Rattle.hlr_core.specs.Asked.{IsAnswered};
 ghost use Rattle.hlr_core.specs.Step.{IsPostStep, MayAnswer, is_loose, posted_reply};
-ghost use Rattle.hlr_core.specs.Store.{Store, HasOpening, opening, published, unposted, slots_of, parts_in};
+ghost use Rattle.hlr_core.specs.Store.{Store, HasOpening, opening_from, published, unposted, slots_of, parts_in};
 
 use crate::event::Reply;
 use crate::room::{boxed, insert_reserved, places};
@@ -106,19 +106,18 @@ fn reply_of_posting(posted: Result<u8, Refusal>) -> Reply
 
 impl Holdings {
     /// Empty parts with their shares of all subscribers, no loose piece, and a board of these words, of which each part has one
-    /// slot; `Memory` where a growth was refused.
+    /// slot; `Field` where a word passes `LIMIT`, else `Memory` where a growth was refused.
     pub fn open(alloc: Global, parts: u8, width: u32, words: &[u64; WORDS]) -> Result<Self, Refusal>
         requires can { HasOpening parts width }
-        requires small { AreSmall words.now }
         requires level { AreLevel words.now }
-        ensures ok { IfOk result (λ holdings. holdings ≡ record (opening parts width) { words = words.now }) }
-        ensures err { OnErr result (result ≡ Err Refusal.Memory) }
+        ensures ok { IfOk result (λ holdings. AreSmall words.now × (holdings ≡ opening_from parts width words.now)) }
+        ensures err { OnErr result (((result ≡ Err Refusal.Field) × HasGreat words.now) ⊎ ((result ≡ Err Refusal.Memory) × AreSmall words.now)) }
     {
         let regions = Regions::opening(parts, width)?;
-        let mut holdings = places(alloc)?;
-        let pieces = places(alloc)?;
         let (board, mut spare) = Board::open(alloc, words)?;
         let board = shared(alloc, board)?;
+        let mut holdings = places(alloc)?;
+        let pieces = places(alloc)?;
         for region in regions.list() {
             let slot = holdings.len() as u8;
             holdings.push_reserved(opened(alloc, &board, &mut spare, slot, *region, width)?);

@@ -8,6 +8,7 @@
 mod checked;
 mod event;
 mod holdings;
+mod level;
 #[cfg(test)]
 mod plain;
 #[cfg(test)]

@@ -12,6 +12,7 @@ use std::process::Abort;
 use std::test::Fail;
 use tatp_actions::{CELLS, RowReply};
 use tatp_rows::{Number, Refusal, Subscriber};
+use view_board::{LIMIT, WORDS};
 
 /// The region of a place.
 fn region(place: Place, lo: u32, hi: u32) -> Region {
@@ -378,6 +379,65 @@ fn numbers_of_parts(rt: HostRuntime) -> Result<(), Fail> {
         refused = refused.wrapping_add(u8::from(matches!(opened, Err(Refusal::Field))));
     }
     assert_eq!(rt; refused, 4);
+    Ok(())
+}
+
+/// Words at 0 but for the plus-word and the minus-word of slot 0 and cell 20.
+fn words_with(plus: u64, minus: u64) -> [u64; WORDS] {
+    let mut words = [0; WORDS];
+    words[20] = plus;
+    words[71] = minus;
+    words
+}
+
+/// Whether no register opens over words with these two.
+fn refuses_words(alloc: Global, parts: u8, plus: u64, minus: u64) -> bool {
+    let opened = Register::open_from(alloc, parts, 4, &words_with(plus, minus));
+    matches!(opened, Err(Refusal::Field))
+}
+
+/// Whether the counts of a subscriber are posted with this reply, and so much of cell 20 is published and so much isn't.
+fn posts(
+    register: &mut Register,
+    reply: Reply,
+    published: i64,
+    unposted: i64,
+) -> Result<bool, Refusal> {
+    let added = Event::AddSubscriber(row(7, 7, 1)?);
+    let is_added = replies(register, added, DONE);
+    let is_posted = register.apply(posting(0, 51)) == reply;
+    let cells = (register.published()[20], register.unposted()[20]);
+    Ok(is_added && is_posted && cells == (published, unposted))
+}
+
+/// The same of a register of two parts over words of which both have this value.
+fn posts_over(
+    alloc: Global,
+    word: u64,
+    reply: Reply,
+    published: i64,
+    unposted: i64,
+) -> Result<bool, Refusal> {
+    let words = words_with(word, word);
+    let opened = match Register::open_from(alloc, 2, 4, &words) {
+        Err(Refusal::Memory) => Register::open_from(alloc, 2, 4, &words),
+        opened => opened,
+    };
+    let mut register = opened?;
+    let is_posted = posts(&mut register, reply, published, unposted);
+    drop(register);
+    is_posted
+}
+
+// Also run with each allocation refused in turn (`refuse_memory.sh`).
+#[test]
+fn words_that_stand(rt: HostRuntime) -> Result<(), Fail> {
+    let alloc = rt.alloc();
+    let uneven = refuses_words(alloc, 2, 5, 4) && refuses_words(alloc, 2, 4, 5);
+    let great = refuses_words(alloc, 2, LIMIT + 1, LIMIT + 1) && refuses_words(alloc, 17, 5, 5);
+    let level = posts_over(alloc, 5, Reply::Posted(2), 1, 0)?;
+    let worn = posts_over(alloc, LIMIT, Reply::Refused(Refusal::Worn), 0, 1)?;
+    assert_eq!(rt; (uneven, great, level, worn), (true, true, true, true));
     Ok(())
 }
 

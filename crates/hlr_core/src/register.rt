@@ -8,11 +8,13 @@ ghost use Rattle.hlr_core.specs.Recut.{IsRecut};
 ghost use Rattle.hlr_core.specs.Step.{IsStep, IsRun, IsRowStep, reply_of};
 ghost use Rattle.part_table.specs.Proposal.{proposal};
 ghost use Rattle.part_table.specs.Regions.{AreRegions};
-ghost use Rattle.hlr_core.specs.Store.{Store, HasOpening, opening, published, unposted, parts_in, published_weights, counted_weights};
+ghost use Rattle.hlr_core.specs.Desks.{AreOpening};
+ghost use Rattle.hlr_core.specs.Store.{Store, HasOpening, opening, opening_from, published, unposted, parts_in, published_weights, counted_weights};
 
 use crate::checked;
 use crate::event::{Event, Reply};
 use crate::holdings::Holdings;
+use crate::level::are_level;
 use crate::weights::zone_weights;
 use number_index::NumberIndex;
 use part_table::{Bounds, Regions, Side, can_open};
@@ -62,10 +64,28 @@ impl Register {
         ensures field { (result ≡ Err Refusal.Field) ↔ ¬ (HasOpening parts width) }
         ensures other { OnErr result ((result ≡ Err Refusal.Field) ⊎ (result ≡ Err Refusal.Memory)) }
     {
+        Register::open_from(alloc, parts, width, &[0; WORDS])
+    }
+
+    /// The same over words that a board had when it was closed, as those of a register without rows. `Field` also where a word passes
+    /// `LIMIT`, or where a slot's plus-word of a cell differs from its minus-word.
+    pub fn open_from(
+        alloc: Global,
+        parts: u8,
+        width: u32,
+        words: &[u64; WORDS],
+    ) -> Result<Register, Refusal>
+        ensures ok { IfOk result (λ register. register ≡ opening_from parts width words.now) }
+        ensures field { (result ≡ Err Refusal.Field) ↔ ¬ (HasOpening parts width × AreOpening words.now) }
+        ensures other { OnErr result ((result ≡ Err Refusal.Field) ⊎ (result ≡ Err Refusal.Memory)) }
+    {
         if !can_open(parts, width) {
             return Err(Refusal::Field);
         }
-        let holdings = Holdings::open(alloc, parts, width, &[0; WORDS])?;
+        if !are_level(words) {
+            return Err(Refusal::Field);
+        }
+        let holdings = Holdings::open(alloc, parts, width, words)?;
         let index = NumberIndex::new(alloc)?;
         Ok(Register {
             holdings,

@@ -3,26 +3,27 @@ ghost use Rattle.std.specs.Prelude.{◌≡◌, ℕ, ◌<◌, ◌≤◌, ◌+ℤ�
 ghost use Rattle.tatp_actions.specs.declared.cells.TheConstants.{CELLS};
 ghost use Rattle.view_board.specs.Nets.{net_of};
 ghost use Rattle.view_delta.specs.Pending.{pending_at};
-ghost use Rattle.hlr_core.specs.Held.{AreSmall};
+ghost use Rattle.hlr_core.specs.Held.{AreSummable};
 
 use holding::{Holding, Piece};
 use tatp_actions::CELLS;
 
 /// Adds what a holding's desk has published of each cell to a sum. Neither is past 2^60, either way.
 pub fn add_published(sums: &mut [i64; CELLS as usize], holding: &Holding)
-    requires sums { AreSmall (pending_at sums.old) }
-    requires nets { AreSmall (net_of holding.now.desk.view) }
+    requires sums { AreSummable (pending_at sums.old) }
+    requires nets { AreSummable (net_of holding.now.desk.view) }
     ensures { (c : ℕ) → c < CELLS → pending_at sums.new c ≡ pending_at sums.old c +ℤ net_of holding.now.desk.view c }
 {
+    let nets = holding.nets();
     for cell in 0..CELLS {
-        sums[usize::from(cell)] += holding.net(cell) as i64;
+        sums[usize::from(cell)] += nets[usize::from(cell)] as i64;
     }
 }
 
 /// Adds what is pending of each cell in a holding to a sum. Neither is past 2^60, either way.
 pub fn add_pending(sums: &mut [i64; CELLS as usize], holding: &Holding)
-    requires sums { AreSmall (pending_at sums.old) }
-    requires deltas { AreSmall (pending_at holding.now.pending) }
+    requires sums { AreSummable (pending_at sums.old) }
+    requires deltas { AreSummable (pending_at holding.now.pending) }
     ensures { (c : ℕ) → c < CELLS → pending_at sums.new c ≡ pending_at sums.old c +ℤ pending_at holding.now.pending c }
 {
     for cell in 0..CELLS {
@@ -32,8 +33,8 @@ pub fn add_pending(sums: &mut [i64; CELLS as usize], holding: &Holding)
 
 /// Adds what is pending of each cell in a loose piece to a sum. Neither is past 2^60, either way.
 pub fn add_loose(sums: &mut [i64; CELLS as usize], piece: &Piece)
-    requires sums { AreSmall (pending_at sums.old) }
-    requires deltas { AreSmall (pending_at piece.now.pending) }
+    requires sums { AreSummable (pending_at sums.old) }
+    requires deltas { AreSummable (pending_at piece.now.pending) }
     ensures { (c : ℕ) → c < CELLS → pending_at sums.new c ≡ pending_at sums.old c +ℤ pending_at piece.now.pending c }
 {
     for cell in 0..CELLS {

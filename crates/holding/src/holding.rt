@@ -211,6 +211,14 @@ impl Holding {
         self.desk.net(cell)
     }
 
+    /// What the desk has published of each cell.
+    pub fn nets(&self) -> [i128; CELLS as usize]
+        ensures value { (c : ℕ) → c < CELLS → slice_index_or result c (pos 0) ≡ net_of self.now.desk.view c }
+        ensures rules { IsHolding self.now }
+    {
+        self.desk.nets()
+    }
+
     /// The count of each cell, taken by a walk over all rows.
     pub fn recount(&self) -> Cells
         ensures value { (c : ℕ) → c < CELLS → slice_index result c ≡ count_of self.now.part c }

@@ -1,8 +1,8 @@
 //! A desk: the right to raise the words of its slots, and what it knows of the board.
-ghost use Rattle.std.specs.Prelude.{◌≡◌, ℕ, ◌<◌, ◌≤◌, ◌↔◌, ◌^◌, List, Bool, IsTrue, if◌then◌else◌, ℤ, pos, neg_ℤ, ◌≤ℤ◌};
+ghost use Rattle.std.specs.Prelude.{◌≡◌, ℕ, ◌+◌, ◌<◌, ◌≤◌, ◌↔◌, ◌^◌, List, Bool, IsTrue, if◌then◌else◌, ℤ, pos, neg_ℤ, ◌+ℤ◌, ◌≤ℤ◌, slice_index_or};
 ghost use Rattle.view_board.specs.Views.{owned_at, Owns, IsWide, slots_of_both, numbers_of_both};
 ghost use Rattle.view_board.specs.Words.{slot_net};
-ghost use Rattle.view_board.specs.Nets.{net_of};
+ghost use Rattle.view_board.specs.Nets.{net_of, AreWithin};
 
 use crate::rule::View;
 use crate::words::{CELLS, SLOT_WORDS, SLOTS, WORDS};
@@ -50,6 +50,35 @@ impl Desk {
             sum += self.own_net(slot, cell);
         }
         sum
+    }
+
+    /// What the desk has published of each cell, in one walk over its slots.
+    pub fn nets(&self) -> [i128; CELLS as usize]
+        ensures { (c : ℕ) → c < CELLS → slice_index_or result c (pos 0) ≡ net_of self.now.view c }
+    {
+        let _ = &self.owned;
+        let mut nets = [0; CELLS as usize];
+        for slot in 0..SLOTS {
+            self.add_nets(slot, &mut nets);
+        }
+        nets
+    }
+
+    /// Adds the nets of a slot to a sum for each cell, where the slot is the desk's.
+    #[inline(always)]
+    fn add_nets(&self, slot: u8, sums: &mut [i128; CELLS as usize])
+        requires slot { slot < SLOTS }
+        requires sums { AreWithin slot sums.old }
+        ensures added { (c : ℕ) → c < CELLS → slice_index_or sums.new c (pos 0) ≡
+            slice_index_or sums.old c (pos 0) +ℤ (if owned_at self.now.view slot then slot_net self.now.view.numbers c slot else pos 0) }
+        ensures sums { AreWithin (slot + 1) sums.new }
+    {
+        if !self.owned[usize::from(slot)] {
+            return;
+        }
+        for cell in 0..CELLS {
+            sums[usize::from(cell)] += self.own_net(slot, cell);
+        }
     }
 
     /// The net of a slot in a cell, or 0 where the slot isn't the desk's.

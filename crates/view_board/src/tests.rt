@@ -148,6 +148,7 @@ fn words_at_limit(rt: HostRuntime) -> Result<(), Fail> {
     let owned = [desk.owns(3), none.owns(3), other.owns(3), other.owns(16)];
     let found = seen(&board, &mut desk, &mut other, &mut none);
     let nets = [desk.net(0), none.net(0), other.net(5)];
+    let all = [desk.nets()[0], none.nets()[0], other.nets()[5]];
     let end = ended(board, desk, other);
     words[51] = 1;
     words[311] = 7;
@@ -156,8 +157,12 @@ fn words_at_limit(rt: HostRuntime) -> Result<(), Fail> {
         ([true, true], [false, false, true, false])
     );
     assert_eq!(rt;
-        (found, nets),
-        ([0, LIMIT, 7, LIMIT, 7], [i128::from(LIMIT) - 1, 0, 7])
+        (found, nets, all),
+        (
+            [0, LIMIT, 7, LIMIT, 7],
+            [i128::from(LIMIT) - 1, 0, 7],
+            [i128::from(LIMIT) - 1, 0, 7]
+        )
     );
     assert!(rt; end == words);
     Ok(())

@@ -85,6 +85,8 @@ pub returns-clause-ok : goal.returns-clause-ok
 returns-clause-ok c =
     let past = rw c.list-region-items.ensures.value at c.loop-region-test.false in
     let opened = rw c.list-region-items.ensures.value at c.loop-region.invariant.opened in
-    let wide : length c.args.words.now ≡ WORDS = search rules in
-    all_opened _ _ _ _ _ c.requires.can c.in_ok-regions.ensures opened past _ _ _ _ (rw c.in_ok-pieces.ensures.empty refl)
-    (length-seen desk_of c.loop-region.holdings.items ∙ sym (length-seen of_holding c.loop-region.holdings.items)) c.loop-region.invariant.shared wide
+    let wide : length c.args.words.now ≡ WORDS = search rules in (
+      c.in_ok-board.ensures.ok.0,
+      all_opened _ _ _ _ _ c.requires.can c.in_ok-regions.ensures opened past _ _ _ _ (rw c.in_ok-pieces.ensures.empty refl)
+          (length-seen desk_of c.loop-region.holdings.items ∙ sym (length-seen of_holding c.loop-region.holdings.items)) c.loop-region.invariant.shared wide,
+    )

@@ -1,13 +1,11 @@
-use Rattle.std.proofs.Common.{◌∙◌, ap, List, ℕ}
-use Rattle.hlr_core.specs.Store.{opening}
-use Rattle.hlr_core.proofs.ShareLemmas.{zeros_are, zeros_small, zeros_level}
+use Rattle.std.proofs.Common.{◌≡◌, ap, subst, List, ℕ, IfOk}
+use Rattle.hlr_core.specs.Store.{Store, opening_from}
+use Rattle.hlr_core.proofs.ShareLemmas.{zeros_are, zeros_opening}
 use Rattle.hlr_core.proofs.register.Register.open.Goals as goal
 
-pub open-requires-clause-small : goal.open-requires-clause-small
-open-requires-clause-small c = zeros_small
-
-pub open-requires-clause-level : goal.open-requires-clause-level
-open-requires-clause-level c = zeros_level
-
 pub returns-clause-ok : goal.returns-clause-ok
-returns-clause-ok c = c.in_ok-holdings.ensures.ok ∙ ap (λ (words : List ℕ). record (opening c.args.parts c.args.width) { words = words }) zeros_are
+returns-clause-ok c =
+    subst (λ (store : Store). IfOk c.open_from.result (λ register. register ≡ store)) (ap (λ (words : List ℕ). opening_from c.args.parts c.args.width words) zeros_are) c.open_from.ensures.ok
+
+pub returns-clause-field : goal.returns-clause-field
+returns-clause-field c = (λ field can. c.open_from.ensures.field.0 field (can, zeros_opening), λ none. c.open_from.ensures.field.1 (λ both. none both.0))

@@ -1,0 +1,6 @@
+use Rattle.std.proofs.Common.{ℕ, ◌<◌}
+use Rattle.hlr_core.specs.Desks.{IsLevel}
+use Rattle.hlr_core.proofs.level.are_level.Given as goal
+
+abbrev pub invariant-loop-slot : goal.invariant-loop-slot
+invariant-loop-slot l = (slot : ℕ) → slot < l.slot → IsLevel l.words slot
