@@ -22,6 +22,7 @@ pub mod RegisterLemmas
 pub mod RenamedLemmas
 pub mod RunLemmas
 pub mod ShareLemmas
+pub mod SightLemmas
 pub mod StoreActLemmas
 pub mod StoreCountLemmas
 pub mod StoreLemmas

@@ -21,7 +21,7 @@ use Rattle.view_board.specs.declared.words.TheConstants.{WORDS}
 use Rattle.holding.specs.Held.{HoldingState}
 use Rattle.hlr_core.proofs.ShareLemmas.{AreShared, shared_words}
 use Rattle.hlr_core.specs.Owners.{store_of}
-use Rattle.hlr_core.specs.Store.{opening}
+use Rattle.hlr_core.specs.Store.{opening_from}
 use Rattle.hlr_core.proofs.HeldLemmas.{IsFresh, fresh_holding}
 use Rattle.hlr_core.proofs.StoreLemmas.{opened_held, opened_rows}
 use Rattle.tatp_rows.proofs.PlaceLemmas.{each_at}
@@ -100,6 +100,6 @@ module _ (parts width i : ℕ) (regions : List Region) (holdings : List Owner) (
   long = AllZip-long (IsFresh width) (parts_between 0 1 (bounds_opened parts width)) holdings all ∙ ap length (sym (regions_are parts width regions can is)) ∙ regions_long parts width regions can is
 
   pub all_opened : (pieces : List Owner) (words : List ℕ) (spare : Station) (desks : List Station) → pieces ≡ [] → length desks ≡ length holdings → AreShared words spare desks → length words ≡ WORDS
-      → store_of regions holdings pieces spare desks width ≡ record (opening parts width) { words = words }
+      → store_of regions holdings pieces spare desks width ≡ opening_from parts width words
   all_opened pieces words spare desks none as_long shared wide =
-      rw (none, regions_are parts width regions can is, opened_rows width (bounds_opened parts width) holdings all, shared_words words spare desks shared wide, shared.slots, as_long, long) refl
+      rw (none, regions_are parts width regions can is, opened_rows width (bounds_opened parts width) holdings all, shared_words words spare desks shared wide, shared.slots, shared.seen, as_long, long) refl

@@ -22,12 +22,13 @@ use Rattle.hlr_core.specs.Desks.{owns_one, own_number, words_of, slots_in, IsOfB
 use Rattle.hlr_core.specs.Words.{all_slots, blank_words}
 use Rattle.hlr_core.proofs.DeskLemmas.{words_at}
 
--- the first slots are desks' own, one each, the spare desk has the others, and all desks have the words' numbers
+-- the first slots are desks' own, one each, the spare desk has the others and has seen the words, and all desks have their numbers
 pub record AreShared (words : List ℕ) (spare : Station) (desks : List Station) : Type 0 where
   pub left : (slot : ℕ) → length desks ≤ slot → slot < SLOTS → Owns spare.view slot
   pub once : (slot : ℕ) → slot < SLOTS → sum_by (owns_one slot) (spare ∷ desks) ≡ 1
   pub numbers : AllByRecursion (λ d. d.view.numbers ≡ words) (spare ∷ desks)
   pub slots : map slots_in desks ≡ map (λ p. p ∷ []) (range_with_len 0 (length desks))
+  pub seen : spare.view.seen ≡ words
 
 -- at first the spare desk has all
 pub none_shared : (words : List ℕ) (spare : Station) (desks : List Station) → spare.view ≡ first_view words → desks ≡ [] → AreShared words spare desks
@@ -36,6 +37,7 @@ none_shared words spare desks first none = rw none (record {
   once = λ slot below. rw (sum_by-cons (owns_one slot) spare [], own slot below) refl;
   numbers = (ap (λ (v : View). v.numbers) first, tt);
   slots = refl;
+  seen = ap (λ (v : View). v.seen) first;
 })
   where
     own : (slot : ℕ) → slot < SLOTS → Owns spare.view slot
@@ -105,6 +107,7 @@ module _ (words : List ℕ) (spare : Station) (desks : List Station) (slot : ℕ
         omega arith);
     numbers = (so_far.numbers.0, each_push (λ (d : Station). d.view.numbers ≡ words) desks (with_view spare (alone spare.view slot)) so_far.numbers.1 so_far.numbers.0);
     slots = map-append slots_in desks (with_view spare (alone spare.view slot) ∷ []) ∙ rw (so_far.slots, alone_slots spare slot below, long, next) (numbered_more (length desks));
+    seen = so_far.seen;
   }
     where
       long : length (desks ++ with_view spare (alone spare.view slot) ∷ []) ≡ length desks + 1

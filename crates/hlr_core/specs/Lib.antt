@@ -7,6 +7,7 @@ pub mod Numbers
 pub mod Owners
 pub mod Post
 pub mod Recut
+pub mod Sight
 pub mod Step
 pub mod Store
 pub mod Words

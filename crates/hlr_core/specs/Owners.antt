@@ -20,6 +20,7 @@ store_of regions holdings pieces spare desks width = record {
   book = book_of (map (λ owner. owner.part) (woven regions holdings pieces));
   regions = regions;
   words = words_of (spare ∷ desks);
+  sight = spare.view.seen;
   slots = map slots_in desks;
   width = width;
 }

@@ -1,4 +1,5 @@
--- The store that a register is seen as: its book, the regions, the words of the board, the slots of each part, and the width of the zones.
+-- The store that a register is seen as: its book, the regions, the words of the board, what it has seen of them, the slots of each
+-- part, and the width of the zones.
 use Rattle.std.specs.Prelude.{◌≡◌, ℕ, ◌+◌, ◌-◌, true, List, [], ◌∷◌, map, length, Option, Some, None, ℤ, pos, negsuc, ◌-ℤ◌, min, slice_get}
 use Rattle.std.specs.List.{find, range_with_len}
 use Rattle.tatp_actions.specs.Book.{Book, empty_book, rows_between}
@@ -17,6 +18,7 @@ pub record Store : Type 0 where
   pub book : Book
   pub regions : List Region
   pub words : List ℕ
+  pub sight : List ℕ
   pub slots : List (List ℕ)
   pub width : ℕ
 
@@ -26,13 +28,14 @@ opening parts width = record {
   book = empty_book;
   regions = parts_between 0 1 (map (opening_bound parts width) (range_with_len 1 (parts - 1)));
   words = blank_words;
+  sight = blank_words;
   slots = map (λ p. p ∷ []) (range_with_len 0 parts);
   width = width;
 }
 
 -- the same over words that are there already
 abbrev pub opening_from : ℕ → ℕ → List ℕ → Store
-opening_from parts width words = record (opening parts width) { words = words }
+opening_from parts width words = record (opening parts width) { words = words; sight = words }
 
 -- a cell as published: the sum of the nets of all slots
 abbrev pub published : Store → ℕ → ℤ

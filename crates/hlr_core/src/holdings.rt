@@ -18,6 +18,7 @@ ghost use Rattle.hlr_core.specs.Desks.{AreLevel};
 ghost use Rattle.hlr_core.specs.Held.{IsOpened};
 ghost use Rattle.hlr_core.specs.Asked.{IsAnswered};
 ghost use Rattle.hlr_core.specs.Step.{IsPostStep, MayAnswer, is_loose, posted_reply};
+ghost use Rattle.hlr_core.specs.Sight.{IsSightOf};
 ghost use Rattle.hlr_core.specs.Store.{Store, HasOpening, opening_from, published, unposted, slots_of, parts_in};
 
 use crate::event::Reply;
@@ -30,7 +31,7 @@ use std::marker::Model;
 use std::sync::Arc;
 use tatp_actions::{Action, CELLS, Cells, Part, RowReply};
 use tatp_rows::{LAST_SUBSCRIBER, Number, Refusal};
-use view_board::{Board, Desk, WORDS};
+use view_board::{Board, Desk, Sight, WORDS};
 
 /// All owners' holdings, by the number of their part, the loose pieces, in the order of their regions, and the board that the
 /// holdings post to, with the desk of the slots that no part has: seen as the store of the definitions.
@@ -246,6 +247,15 @@ impl Holdings {
             add_published(&mut sums, holding);
         }
         sums
+    }
+
+    /// What the desk of the slots that no part has sees of all words, one after another.
+    pub fn look(&mut self) -> Sight
+        ensures right { IsSightOf self.old result.words }
+        ensures seen { self.new ≡ record self.old { sight = result.words } }
+    {
+        let board: &Board = &self.board;
+        board.look(&mut self.spare)
     }
 
     /// What is not posted yet of each cell: the sum of what is pending in all holdings and loose pieces.

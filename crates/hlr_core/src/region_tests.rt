@@ -396,35 +396,47 @@ fn refuses_words(alloc: Global, parts: u8, plus: u64, minus: u64) -> bool {
     matches!(opened, Err(Refusal::Field))
 }
 
-/// Whether the counts of a subscriber are posted with this reply, and so much of cell 20 is published and so much isn't.
-fn posts(
-    register: &mut Register,
-    reply: Reply,
-    published: i64,
-    unposted: i64,
-) -> Result<bool, Refusal> {
-    let added = Event::AddSubscriber(row(7, 7, 1)?);
-    let is_added = replies(register, added, DONE);
-    let is_posted = register.apply(posting(0, 51)) == reply;
-    let cells = (register.published()[20], register.unposted()[20]);
-    Ok(is_added && is_posted && cells == (published, unposted))
+/// Whether a sight has these words, and all others are 0.
+fn sees(register: &mut Register, words: &[(usize, u64)]) -> bool {
+    let sight = register.look();
+    let found = sight.words.iter().filter(|word| **word != 0).count();
+    let mut agrees = found == words.len();
+    for (place, word) in words {
+        agrees = agrees && sight.words.get(*place) == Some(word);
+    }
+    agrees
 }
 
-/// The same of a register of two parts over words of which both have this value.
-fn posts_over(
-    alloc: Global,
+/// A posting over words of which two have a value, and what it comes to.
+#[derive(Drop)]
+struct Posting {
     word: u64,
     reply: Reply,
+    raised: u64,
     published: i64,
     unposted: i64,
-) -> Result<bool, Refusal> {
-    let words = words_with(word, word);
+}
+
+/// Whether the counts of a subscriber are posted so, and seen.
+fn posts(register: &mut Register, posting_is: &Posting) -> Result<bool, Refusal> {
+    let word = posting_is.word;
+    let added = Event::AddSubscriber(row(7, 7, 1)?);
+    let is_added = replies(register, added, DONE) && sees(register, &[(20, word), (71, word)]);
+    let is_posted = register.apply(posting(0, 51)) == posting_is.reply;
+    let is_seen = sees(register, &[(3, 1), (20, posting_is.raised), (71, word)]);
+    let cells = (register.published()[20], register.unposted()[20]);
+    Ok(is_added && is_posted && is_seen && cells == (posting_is.published, posting_is.unposted))
+}
+
+/// The same of a register of two parts over such words.
+fn posts_over(alloc: Global, posting_is: &Posting) -> Result<bool, Refusal> {
+    let words = words_with(posting_is.word, posting_is.word);
     let opened = match Register::open_from(alloc, 2, 4, &words) {
         Err(Refusal::Memory) => Register::open_from(alloc, 2, 4, &words),
         opened => opened,
     };
     let mut register = opened?;
-    let is_posted = posts(&mut register, reply, published, unposted);
+    let is_posted = posts(&mut register, posting_is);
     drop(register);
     is_posted
 }
@@ -435,9 +447,23 @@ fn words_that_stand(rt: HostRuntime) -> Result<(), Fail> {
     let alloc = rt.alloc();
     let uneven = refuses_words(alloc, 2, 5, 4) && refuses_words(alloc, 2, 4, 5);
     let great = refuses_words(alloc, 2, LIMIT + 1, LIMIT + 1) && refuses_words(alloc, 17, 5, 5);
-    let level = posts_over(alloc, 5, Reply::Posted(2), 1, 0)?;
-    let worn = posts_over(alloc, LIMIT, Reply::Refused(Refusal::Worn), 0, 1)?;
-    assert_eq!(rt; (uneven, great, level, worn), (true, true, true, true));
+    let level = Posting {
+        word: 5,
+        reply: Reply::Posted(2),
+        raised: 6,
+        published: 1,
+        unposted: 0,
+    };
+    let full = Posting {
+        word: LIMIT,
+        reply: Reply::Refused(Refusal::Worn),
+        raised: LIMIT,
+        published: 0,
+        unposted: 1,
+    };
+    let raised = posts_over(alloc, &level)?;
+    let worn = posts_over(alloc, &full)?;
+    assert_eq!(rt; (uneven, great, raised, worn), (true, true, true, true));
     Ok(())
 }
 

@@ -9,6 +9,7 @@ ghost use Rattle.hlr_core.specs.Step.{IsStep, IsRun, IsRowStep, reply_of};
 ghost use Rattle.part_table.specs.Proposal.{proposal};
 ghost use Rattle.part_table.specs.Regions.{AreRegions};
 ghost use Rattle.hlr_core.specs.Desks.{AreOpening};
+ghost use Rattle.hlr_core.specs.Sight.{IsSightOf};
 ghost use Rattle.hlr_core.specs.Store.{Store, HasOpening, opening, opening_from, published, unposted, parts_in, published_weights, counted_weights};
 
 use crate::checked;
@@ -22,7 +23,7 @@ use std::alloc::Global;
 use std::marker::Model;
 use tatp_actions::{Action, CELLS, Cells, RowReply};
 use tatp_rows::{LAST_SUBSCRIBER, Number, Refusal, Subscriber, in_range};
-use view_board::WORDS;
+use view_board::{Sight, WORDS};
 
 /// A home location register, seen as the store of the definitions: its rows, the regions, the words of the board, the
 /// slots of each part and the width of the zones.
@@ -176,6 +177,14 @@ impl Register {
         ensures { (c : ℕ) → c < CELLS → slice_index_or result c (pos 0) ≡ published self.now c }
     {
         self.holdings.published()
+    }
+
+    /// A sight of the board's words: each is at least what an earlier sight had there. It takes no memory.
+    pub fn look(&mut self) -> Sight
+        ensures right { IsSightOf self.old result.words }
+        ensures seen { self.new ≡ record self.old { sight = result.words } }
+    {
+        self.holdings.look()
     }
 
     /// What is not posted yet of each cell: with what is published, it is the cell counted over the rows now.
