@@ -28,7 +28,7 @@ pub words_at : (desks : List Station) (w : ℕ) → w < WORDS → get_or (words_
 words_at desks w below = each_word_at (λ k. sum_by (own_number k) desks) w below
 
 -- what a desk has published of a slot and cell, if the slot is its own
-abbrev pub own_net : ℕ → ℕ → Station → ℤ
+abbrev own_net : ℕ → ℕ → Station → ℤ
 own_net slot c desk = if owned_at desk.view slot then slot_net desk.view.numbers c slot else pos 0
 
 -- the difference of two sums is the sum of differences

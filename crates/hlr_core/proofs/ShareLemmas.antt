@@ -70,7 +70,7 @@ unfolding all_slots
 alone_slots desk slot below = only_from (owned_at (alone desk.view slot)) 0 SLOTS slot (omega arith) below (alone_at desk.view slot below) (λ other differ. alone_else desk.view slot other differ)
 
 -- each of two
-pub each_push : {X : Type 0} (P : X → Type 0) (xs : List X) (x : X) → AllByRecursion P xs → P x → AllByRecursion P (xs ++ x ∷ [])
+each_push : {X : Type 0} (P : X → Type 0) (xs : List X) (x : X) → AllByRecursion P xs → P x → AllByRecursion P (xs ++ x ∷ [])
 each_push P [] x each here = (here, tt)
 each_push P (first ∷ xs) x each here = (each.0, each_push P xs x each.1 here)
 
@@ -133,7 +133,7 @@ net_level words c (flag ∷ flags) start level below within =
     let none : slot_net words c start ≡ pos 0 = omega (arith, ints) in
     rw (rest, none) (by_test flag (λ e. rw e refl) (λ e. rw e refl))
 
-pub level_idle : (words : List ℕ) (v : View) → AreLevel words → IsWide v → v.numbers ≡ words → (c : ℕ) → c < CELLS → net_of v c ≡ pos 0
+level_idle : (words : List ℕ) (v : View) → AreLevel words → IsWide v → v.numbers ≡ words → (c : ℕ) → c < CELLS → net_of v c ≡ pos 0
 level_idle words v level wide same c below = rw same (net_level words c v.owned 0 level below (omega (arith, wide.slots)))
 
 pub level_small : (words : List ℕ) (v : View) (slot : ℕ) → AreLevel words → IsWide v → v.numbers ≡ words → HasSmallNets (alone v slot)

@@ -1,5 +1,5 @@
 //! All owners' holdings, the loose pieces, and the board that the holdings post to.
-ghost use Rattle.std.specs.Prelude.{◌≡◌, ◌+◌, ℕ, ◌<◌, ◌≤◌, ◌⊎◌, [], ◌∷◌, true, Some, IfOk, OnErr, option_map, slice_index, slice_index_or, ℤ, pos};
+ghost use Rattle.std.specs.Prelude.{◌≡◌, ◌+◌, ℕ, ◌<◌, ◌≤◌, ◌⊎◌, true, Some, IfOk, OnErr, option_map, slice_index, slice_index_or, pos};
 ghost use Rattle.part_table.specs.Give.{give_answer, after_give};
 ghost use Rattle.part_table.specs.Regions.{AreRegions, place_of};
 ghost use Rattle.part_table.specs.Take.{take_answer, after_take};
@@ -202,6 +202,7 @@ impl Holdings {
     pub fn post(&mut self, part: u64, limit: u64) -> Reply
         ensures { IsPostStep (slots_of self.old part) part limit self.old result self.new }
     {
+        // This opens the register, so that its rules are known where it has no such part.
         let _ = &self.board;
         if part >= self.holdings.len() as u64 {
             return Reply::Refused(Refusal::NoPart);

@@ -1,6 +1,3 @@
-ghost use Rattle.std.specs.Prelude.{◌≡◌, ◌≤◌, ◌<◌};
-ghost use Rattle.part_table.specs.declared.region.TheConstants.{END};
-
 use super::*;
 use std::process::Abort;
 use tatp_rows::Refusal;

@@ -46,12 +46,3 @@ module _ {X : Type 0} (key : X → ℕ) where
       let over : k ≤ key x = grind (arith, nat_tests) in
       let above = each-weaker {P = λ z. key x < key z} {Q = λ z. k ≤ key z} (λ z up. omega arith) xs ordered.0 in
       rw (e, f, below_none k xs above, from_all k xs above) refl)
-
-  -- and the halves of a join at its border are the lists that were joined
-  pub below_joined : (k : ℕ) (xs ys : List X) → AllBelow key k xs → AllFrom key k ys → keys_below key k (xs ++ ys) ≡ xs
-  below_joined k [] ys under over = below_none k ys over
-  below_joined k (x ∷ xs) ys under over = let e : nat_lt (key x) k ≡ true = grind (arith, nat_tests) in rw e (ap (λ (rest : List X). x ∷ rest) (below_joined k xs ys under.1 over))
-
-  pub from_joined : (k : ℕ) (xs ys : List X) → AllBelow key k xs → AllFrom key k ys → keys_from key k (xs ++ ys) ≡ ys
-  from_joined k [] ys under over = from_all k ys over
-  from_joined k (x ∷ xs) ys under over = let e : nat_le k (key x) ≡ false = grind (arith, nat_tests) in rw e (from_joined k xs ys under.1 over)

@@ -74,11 +74,6 @@ at_end (first ∷ xs) x y (suc j) e = elim (at_end xs x y j e) [
   | inr last ↦ inr (ap suc last.0, last.1)
 ]
 
--- what stands in a list is not behind its end
-pub not_at_end : {A : Type 0} (xs : List A) (x : A) → get_elem? xs (length xs) ≡ some x → ⊥
-not_at_end [] x e = some-ne-none x (sym e)
-not_at_end (first ∷ xs) x e = not_at_end xs x e
-
 -- what is found at a place is read there
 pub found_at : {A : Type 0} (xs : List A) (i : ℕ) (x d : A) → get_elem? xs i ≡ some x → get_or xs i d ≡ x
 found_at [] i x d e = absurd (some-ne-none x (sym e))
