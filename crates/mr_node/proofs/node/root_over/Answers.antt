@@ -1,4 +1,5 @@
-use Rattle.std.proofs.Common.{arith, ◌+◌, ap, subst, ◌∙◌}
+use Rattle.std.proofs.Common.{rules, arith, ◌≡◌, ◌+◌, refl, sym, ap, subst, ◌∙◌}
+use Rattle.mr_node.specs.Runs.{IsRun}
 use Rattle.mr_node.specs.Pairs.{IsHalved}
 use Rattle.mr_node.proofs.SizeLemmas.{low_tree}
 use Rattle.mr_node.proofs.RootLemmas.{root_branch}
@@ -22,3 +23,20 @@ returns-clause-root g c =
     let half = subst (λ s. IsHalved s low high) c.deref_mut.ensures.value c.halve_into.ensures in
     (root_branch c.args.node.value low high c.no_branch-root.result c.hang.new.branch c.hang-2.new.branch c.requires.well half
     (c.no_branch-root.ensures.height ∙ ap (λ n. n + 1) (c.height.ensures.value ∙ ap (λ s. s.height) c.deref.ensures)) c.no_branch-root.ensures.len c.no_branch-root.ensures.run c.hang.ensures.height c.hang.ensures.len c.hang-2.ensures.height c.hang-2.ensures.len c.hang-2.ensures.run c.hang.ensures.kids c.hang-2.ensures.kids).1
+
+pub halve_into-requires : goal.halve_into-requires
+halve_into-requires g c = (search rules, ap (λ s. s.width) c.deref_mut.ensures.value ∙ c.requires.full)
+
+pub hang-requires : goal.hang-requires
+hang-requires g c =
+    let root = c.no_branch-root.ensures in
+    let empty = subst (λ n. IsRun n c.no_branch-root.result.leasts c.no_branch-root.result.kids) (sym root.len) root.run in
+    let low = c.halve_into.ensures.low in
+    (search rules, (search rules, (empty, (omega (arith, root.len), (omega arith, record { level = refl; enough = low.enough; well = low.well })))))
+
+pub hang-requires-2 : goal.hang-requires-2
+hang-requires-2 g c =
+    let root = c.hang.ensures in
+    let len : c.hang.new.branch.len ≡ 1 = omega (arith, root.len, c.no_branch-root.ensures.len) in
+    let high = c.halve_into.ensures.high in
+    (search rules, (search rules, (root.run, (omega (arith, len), (omega (arith, len), record { level = refl; enough = high.enough; well = high.well })))))

@@ -1,6 +1,6 @@
-use Rattle.std.proofs.Common.{rules, ◌≡◌, ◌+◌, ◌-◌, option_map, sym, ap, subst, ◌∙◌}
+use Rattle.std.proofs.Common.{rules, arith, ◌≡◌, ◌+◌, ◌-◌, option_map, sym, ap, subst, ◌∙◌}
 use Rattle.mr_node.specs.Levels.{kids_of, IsNode, IsBranch, seen, seen_branch}
-use Rattle.mr_node.proofs.PlaceLemmas.{got_used, never_none}
+use Rattle.mr_node.proofs.PlaceLemmas.{packed_fits, got_used, never_none}
 use Rattle.mr_node.proofs.KidLemmas.{cut_kid, kid_at}
 use Rattle.mr_node.proofs.NodeLemmas.{kids_rise, kids_below}
 use Rattle.mr_node.proofs.FirstLemmas.{first_row, first_in_kid, first_in_next, first_no_next}
@@ -69,3 +69,27 @@ place_of-place-requires g t c =
     let branch = c.in-Inner.branch in
     let whole : IsBranch branch = subst IsNode c.in-Inner.is c.self.invariant in
     (search rules, (whole.some, (whole.run, (kids_rise branch whole, kids_below branch whole))))
+
+pub listed : goal.listed
+listed g t c = omega (arith, c.place_of-place.ensures.within, packed_fits c.in-Inner.branch.len c.in-Inner.branch.kids (subst IsNode c.in-Inner.is c.self.invariant).run.packed)
+
+pub bounds-branch-place : goal.bounds-branch-place
+bounds-branch-place g t c = omega (arith, c.place_of-place.ensures.within, (subst IsNode c.in-Inner.is c.self.invariant).run.fits)
+
+pub offset_bounds-branch-place : goal.offset_bounds-branch-place
+offset_bounds-branch-place g t c = omega (arith, c.place_of-place.ensures.within, (subst IsNode c.in-Inner.is c.self.invariant).run.fits)
+
+pub overflow_add-place : goal.overflow_add-place
+overflow_add-place g t c = omega (arith, c.place_of-place.ensures.within, (subst IsNode c.in-Inner.is c.self.invariant).run.fits)
+
+pub overflow_add-place-in-None-first_from : goal.overflow_add-place-in-None-first_from
+overflow_add-place-in-None-first_from g t c = omega (arith, c.place_of-place.ensures.within, (subst IsNode c.in-Inner.is c.self.invariant).run.fits)
+
+pub listed-in-None-first_from : goal.listed-in-None-first_from
+listed-in-None-first_from g t c = omega (arith, c.if-place-branch.false, packed_fits c.in-Inner.branch.len c.in-Inner.branch.kids (subst IsNode c.in-Inner.is c.self.invariant).run.packed)
+
+pub bounds-branch-place-in-None-first_from : goal.bounds-branch-place-in-None-first_from
+bounds-branch-place-in-None-first_from g t c = omega (arith, c.if-place-branch.false, (subst IsNode c.in-Inner.is c.self.invariant).run.fits)
+
+pub offset_bounds-branch-place-in-None-first_from : goal.offset_bounds-branch-place-in-None-first_from
+offset_bounds-branch-place-in-None-first_from g t c = omega (arith, c.if-place-branch.false, (subst IsNode c.in-Inner.is c.self.invariant).run.fits)

@@ -1,6 +1,6 @@
 use Rattle.std.proofs.Common.{rules, arith, ◌≡◌, ◌-◌, ◌+◌, get_or, None, Some, sym, ap, subst, ◌∙◌}
 use Rattle.mr_node.specs.Levels.{IsNode, IsBranch, seen, seen_branch}
-use Rattle.mr_node.proofs.PlaceLemmas.{got_used, never_none}
+use Rattle.mr_node.proofs.PlaceLemmas.{packed_fits, got_used, never_none}
 use Rattle.mr_node.proofs.KidLemmas.{cut_kid}
 use Rattle.mr_node.proofs.NodeLemmas.{kids_rise, kids_below, room_answer, kid_gains}
 use Rattle.mr_node.proofs.node.Node.+insert_room.Goals.{In-Inner, In-Some}
@@ -27,6 +27,14 @@ unreachable-requires g t c =
     let branch = whole g t (goal.at.unreachable-requires g t c).In-Inner in
     never_none c.in-Inner.branch.len c.place_of-place.result _ c.in-Inner.branch.kids branch.run.packed c.place_of-place.ensures.within c.in-None.is
 
+pub insert_room-answer-requires : goal.insert_room-answer-requires
+insert_room-answer-requires g t c κs within =
+    let at = goal.at.insert_room-answer-requires g t c in
+    let b = c.in-Inner.branch in
+    let branch = whole g t at.In-Inner in
+    let cut = cut_kid c.args.key c.place_of-place.result b c.in-Some.kid branch c.place_of-place.ensures (got g t at.In-Some branch) in
+    (omega (arith, ap (λ s. s.height) c.deref_mut-node.ensures.value, cut.kid.level, branch.inner, ap (λ s. s.height) (now g t at.In-Inner), c.decreases), (within, (search rules, (c.requires.small, c.requires.some))))
+
 pub overflow_add-kid : goal.overflow_add-kid
 overflow_add-kid g t c =
     let at = goal.at.overflow_add-kid g t c in
@@ -49,3 +57,24 @@ returns-in-Some-clause-answer g t c =
     let k = c.in-Some.kid in
     let branch = whole g t at.In-Inner in
     (room_answer c.args.key c.place_of-place.result c.args.value.now c.in-Inner.branch k c.insert_room-answer.new.self c.deref_mut-node.result.now c.args.self.now c.least_after.result (k.count + c.from.result) c.is_done-is_in.result c.insert_room-answer.result (now g t at.In-Inner) c.deref_mut-node.ensures.value branch c.place_of-place.ensures (got g t at.In-Some branch) c.requires.small c.insert_room-answer.ensures.answer c.requires.some c.is_done-is_in.ensures c.least_after.ensures (ap (λ n. k.count + n) c.from.ensures)).1
+
+pub listed : goal.listed
+listed g t c = omega (arith, c.place_of-place.ensures.within, packed_fits c.in-Inner.branch.len c.in-Inner.branch.kids (whole g t (goal.at.listed g t c).In-Inner).run.packed)
+
+pub bounds-branch-place : goal.bounds-branch-place
+bounds-branch-place g t c = omega (arith, c.place_of-place.ensures.within, (whole g t (goal.at.bounds-branch-place g t c).In-Inner).run.fits)
+
+pub offset_bounds-branch-place : goal.offset_bounds-branch-place
+offset_bounds-branch-place g t c = omega (arith, c.place_of-place.ensures.within, (whole g t (goal.at.offset_bounds-branch-place g t c).In-Inner).run.fits)
+
+pub bounds-branch-place-in-Some : goal.bounds-branch-place-in-Some
+bounds-branch-place-in-Some g t c = omega (arith, c.place_of-place.ensures.within, (whole g t (goal.at.bounds-branch-place-in-Some g t c).In-Inner).run.fits)
+
+pub offset_bounds-branch-place-in-Some : goal.offset_bounds-branch-place-in-Some
+offset_bounds-branch-place-in-Some g t c = omega (arith, c.place_of-place.ensures.within, (whole g t (goal.at.offset_bounds-branch-place-in-Some g t c).In-Inner).run.fits)
+
+pub bounds-branch-place-in-Some-2 : goal.bounds-branch-place-in-Some-2
+bounds-branch-place-in-Some-2 g t c = omega (arith, c.place_of-place.ensures.within, (whole g t (goal.at.bounds-branch-place-in-Some-2 g t c).In-Inner).run.fits)
+
+pub offset_bounds-branch-place-in-Some-2 : goal.offset_bounds-branch-place-in-Some-2
+offset_bounds-branch-place-in-Some-2 g t c = omega (arith, c.place_of-place.ensures.within, (whole g t (goal.at.offset_bounds-branch-place-in-Some-2 g t c).In-Inner).run.fits)

@@ -1,7 +1,8 @@
-use Rattle.std.proofs.Common.{rules, arith, ◌≡◌, ◌+◌, ◌-◌, ◌<◌, get_or, refl, sym, ap, subst, ◌∙◌}
+use Rattle.std.proofs.Common.{rules, arith, ◌≡◌, ◌+◌, ◌-◌, ◌<◌, get_or, IfSome, refl, sym, ap, subst, ◌∙◌}
 use Rattle.tatp_rows.specs.Ordered.{row_at}
 use Rattle.mr_node.specs.Rows.{key_of_pair}
 use Rattle.mr_node.specs.Levels.{kids_of, IsNode, IsBranch, seen, seen_leaf, seen_branch}
+use Rattle.mr_node.specs.Growth.{IsGrown}
 use Rattle.mr_node.proofs.PlaceLemmas.{got_used, never_none}
 use Rattle.mr_node.proofs.KidLemmas.{IsCutAt, kid_at}
 use Rattle.mr_node.proofs.NodeLemmas.{find_cut, kid_count_fits}
@@ -86,3 +87,9 @@ returns-in-Some-clause-steps g t c =
     let at = goal.at.returns-in-Some-clause-steps g t c in
     let lower = level g t at.After-deref_mut-node (whole g t at.In-Inner) (now g t at.In-Inner) in
     omega (arith, lower, c.tick.ensures, c.insert_split.ensures.steps, c.insert_split.ensures.stock, c.make_room-place.ensures.stock, c.make_room-place.ensures.steps)
+
+pub returns-in-Leaf-clause-grown : goal.returns-in-Leaf-clause-grown
+returns-in-Leaf-clause-grown g t c = subst (λ s. IfSome c.args.value.now (λ v. IsGrown c.args.key v s (seen_leaf c.insert_new.new.leaf))) (sym (ap seen c.in-Leaf.is) ∙ c.self.view_is) c.insert_new.ensures.grown
+
+pub returns-in-Leaf-clause-no_fewer : goal.returns-in-Leaf-clause-no_fewer
+returns-in-Leaf-clause-no_fewer g t c = omega (arith, c.tick.ensures, ap (λ s. s.height) (sym (ap seen c.in-Leaf.is) ∙ c.self.view_is))

@@ -2,7 +2,7 @@ use Rattle.std.proofs.Common.{rules, arith, cond, ◌≡◌, ◌+◌, ◌-◌, o
 use Rattle.mr_node.specs.Rows.{value_at}
 use Rattle.mr_node.specs.Levels.{kids_of, IsNode, IsBranch, seen, seen_leaf, seen_branch}
 use Rattle.mr_node.specs.Changes.{IsShrunk}
-use Rattle.mr_node.proofs.PlaceLemmas.{got_used, never_none}
+use Rattle.mr_node.proofs.PlaceLemmas.{packed_fits, got_used, never_none}
 use Rattle.mr_node.proofs.KidLemmas.{IsCutAt, kid_at, cut_kid}
 use Rattle.mr_node.proofs.SizeLemmas.{leaf_well}
 use Rattle.mr_node.proofs.NodeLemmas.{kids_rise, kids_below, branch_set, find_cut}
@@ -95,3 +95,21 @@ returns-in-Some-clause-steps g t c =
     let after = removed g t at.After-note_gone-least branch (cut g t at.After-deref_mut-node branch) in
     let most = mend_most _ c.note_gone-least.new.kid _ _ after.got c.mend.ensures.thin c.mend.ensures.enough in
     omega (arith, level g t at.After-deref_mut-node branch (now g t at.In-Inner), c.tick.ensures, c.take_at.ensures.steps, most.1)
+
+pub returns-in-Leaf-clause-no_fewer : goal.returns-in-Leaf-clause-no_fewer
+returns-in-Leaf-clause-no_fewer g t c = omega (arith, c.tick.ensures, ap (λ s. s.height) (sym (ap seen c.in-Leaf.is) ∙ c.self.view_is))
+
+pub listed : goal.listed
+listed g t c = omega (arith, c.place_of-place.ensures.within, packed_fits c.in-Inner.branch.len c.in-Inner.branch.kids (whole g t (goal.at.listed g t c).In-Inner).run.packed)
+
+pub bounds-branch-place : goal.bounds-branch-place
+bounds-branch-place g t c = omega (arith, c.place_of-place.ensures.within, (whole g t (goal.at.bounds-branch-place g t c).In-Inner).run.fits)
+
+pub offset_bounds-branch-place : goal.offset_bounds-branch-place
+offset_bounds-branch-place g t c = omega (arith, c.place_of-place.ensures.within, (whole g t (goal.at.offset_bounds-branch-place g t c).In-Inner).run.fits)
+
+pub bounds-branch-place-in-Some : goal.bounds-branch-place-in-Some
+bounds-branch-place-in-Some g t c = omega (arith, c.place_of-place.ensures.within, (whole g t (goal.at.bounds-branch-place-in-Some g t c).In-Inner).run.fits)
+
+pub offset_bounds-branch-place-in-Some : goal.offset_bounds-branch-place-in-Some
+offset_bounds-branch-place-in-Some g t c = omega (arith, c.place_of-place.ensures.within, (whole g t (goal.at.offset_bounds-branch-place-in-Some g t c).In-Inner).run.fits)

@@ -81,3 +81,21 @@ returns-clause-nodes g c = elim c.match-self.branch [
       evened_by w.even-all.result c.match-self.result (seen_branch a) (seen_branch b) (seen_branch w.even-all.new.left) (seen w.let_go.new.body) c.args.self.now c.args.next.now (seen c.match-self.self-inside.body) c.match-self.next
       all.2 w.result-is left right (ap (λ i. seen i.body) w.self-inside-is) w.next-is
 ]
+
+pub even-all-requires-clause-left_run : goal.even-all-requires-clause-left_run
+even-all-requires-clause-left_run g c = (subst IsNode c.in-Inner.is c.self.invariant).run
+
+pub even-all-requires-clause-right_run : goal.even-all-requires-clause-right_run
+even-all-requires-clause-right_run g c = (subst IsNode c.in-Inner-body-2.is c.next.invariant).run
+
+pub unreachable-requires : goal.unreachable-requires
+unreachable-requires g c =
+    let low = ap (λ s. s.height) (sym (ap seen c.in-Leaf.is) ∙ c.self.view_is) in
+    let high = ap (λ s. s.height) (sym (ap seen c.in-Inner-body.is) ∙ c.next.view_is) in
+    omega (arith, low, high, c.requires.level, (subst IsNode c.in-Inner-body.is c.next.invariant).inner)
+
+pub unreachable-requires-in-Leaf-body-2 : goal.unreachable-requires-in-Leaf-body-2
+unreachable-requires-in-Leaf-body-2 g c =
+    let high = ap (λ s. s.height) (sym (ap seen c.in-Inner.is) ∙ c.self.view_is) in
+    let low = ap (λ s. s.height) (sym (ap seen c.in-Leaf-body-2.is) ∙ c.next.view_is) in
+    omega (arith, low, high, c.requires.level, (subst IsNode c.in-Inner.is c.self.invariant).inner)

@@ -78,3 +78,8 @@ returns g c = elim c.match-self.branch [
       let all = halved_branch a w.no_branch-right.result share.new.left share.new.right (subst IsNode w.in-Inner.is c.self.invariant) w.no_branch-right.ensures.run w.no_branch-right.ensures.height (record { left = share.ensures.left_run; right = share.ensures.right_run; list = share.ensures.list; left_height = share.ensures.left_height; right_height = share.ensures.right_height }) (ap (λ s. s.width) now ∙ c.requires) share.ensures.len in
       halved_by (seen_branch a) (seen_branch share.new.left) (seen_branch share.new.right) c.args.self.now (seen c.match-self.self-inside.body) c.match-self.high all.2 now (ap (λ i. seen i.body) w.self-inside-is) (w.high-is ∙ w.put_inner.ensures)
 ]
+
+pub unreachable-requires : goal.unreachable-requires
+unreachable-requires g c =
+    let none = ap (λ s. s.height) (sym (ap seen c.in-Inner-body.is) ∙ c.high.view_is ∙ c.make_blank.ensures) in
+    omega (arith, none, (subst IsNode c.in-Inner-body.is c.high.invariant).inner)
