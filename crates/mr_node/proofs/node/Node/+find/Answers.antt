@@ -1,7 +1,7 @@
-use Rattle.std.proofs.Common.{rules, ◌≡◌, option_map, sym, ap, subst, ◌∙◌}
+use Rattle.std.proofs.Common.{rules, arith, ◌≡◌, option_map, sym, ap, subst, ◌∙◌}
 use Rattle.mr_node.specs.Rows.{value_at}
 use Rattle.mr_node.specs.Levels.{IsNode, IsBranch, seen, seen_branch}
-use Rattle.mr_node.proofs.PlaceLemmas.{got_used, never_none}
+use Rattle.mr_node.proofs.PlaceLemmas.{packed_fits, got_used, never_none}
 use Rattle.mr_node.proofs.NodeLemmas.{find_branch, kids_rise, kids_below}
 use Rattle.mr_node.proofs.node.Node.+find.Goals as goal
 
@@ -27,3 +27,12 @@ place_of-place-requires g t c =
     let branch = c.in-Inner.branch in
     let whole : IsBranch branch = subst IsNode c.in-Inner.is c.self.invariant in
     (search rules, (whole.some, (whole.run, (kids_rise branch whole, kids_below branch whole))))
+
+pub listed : goal.listed
+listed g t c = omega (arith, c.place_of-place.ensures.within, packed_fits c.in-Inner.branch.len c.in-Inner.branch.kids (subst IsNode c.in-Inner.is c.self.invariant).run.packed)
+
+pub bounds-branch-place : goal.bounds-branch-place
+bounds-branch-place g t c = omega (arith, c.place_of-place.ensures.within, (subst IsNode c.in-Inner.is c.self.invariant).run.fits)
+
+pub offset_bounds-branch-place : goal.offset_bounds-branch-place
+offset_bounds-branch-place g t c = omega (arith, c.place_of-place.ensures.within, (subst IsNode c.in-Inner.is c.self.invariant).run.fits)

@@ -1,6 +1,6 @@
-use Rattle.std.proofs.Common.{sym, ap, subst, ◌∙◌}
+use Rattle.std.proofs.Common.{arith, sym, ap, subst, ◌∙◌}
 use Rattle.mr_node.specs.Levels.{pairs_of, IsNode, IsBranch, seen}
-use Rattle.mr_node.proofs.PlaceLemmas.{got_used, never_none}
+use Rattle.mr_node.proofs.PlaceLemmas.{packed_fits, got_used, never_none}
 use Rattle.mr_node.proofs.FoldLemmas.{folds_kid, folds_kids, folds_same}
 use Rattle.mr_node.proofs.node.Node.+fold.Goals as goal
 
@@ -25,3 +25,12 @@ returns-after-loop-place g t c =
     let b = c.in-Inner.branch in
     let whole : IsBranch b = subst IsNode c.in-Inner.is c.self.invariant in
     folds_kids _ c.args.init c.loop-place.folded c.loop-place.place b c.args.self.now.rows whole c.loop-place-test.false (ap (λ s. s.rows) (sym (ap seen c.in-Inner.is) ∙ c.self.view_is)) c.loop-place.invariant
+
+pub listed : goal.listed
+listed g t c = omega (arith, c.loop-place-test.true, packed_fits c.in-Inner.branch.len c.in-Inner.branch.kids (subst IsNode c.in-Inner.is c.self.invariant).run.packed)
+
+pub bounds-branch-place : goal.bounds-branch-place
+bounds-branch-place g t c = omega (arith, c.loop-place-test.true, (subst IsNode c.in-Inner.is c.self.invariant).run.fits)
+
+pub offset_bounds-branch-place : goal.offset_bounds-branch-place
+offset_bounds-branch-place g t c = omega (arith, c.loop-place-test.true, (subst IsNode c.in-Inner.is c.self.invariant).run.fits)

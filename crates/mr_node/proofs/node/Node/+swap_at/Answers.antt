@@ -1,8 +1,8 @@
-use Rattle.std.proofs.Common.{rules, ◌≡◌, get_or, None, Some, option_map, ok_or, sym, ap, subst, ◌∙◌, refl}
+use Rattle.std.proofs.Common.{rules, arith, ◌≡◌, get_or, None, Some, option_map, ok_or, sym, ap, subst, ◌∙◌, refl}
 use Rattle.tatp_rows.specs.Ordered.{with_row_at}
 use Rattle.mr_node.specs.Rows.{key_of_pair, value_at}
 use Rattle.mr_node.specs.Levels.{IsNode, IsBranch, seen, seen_branch}
-use Rattle.mr_node.proofs.PlaceLemmas.{got_used, never_none}
+use Rattle.mr_node.proofs.PlaceLemmas.{packed_fits, got_used, never_none}
 use Rattle.mr_node.proofs.SizeLemmas.{leaf_well, leaf_with, branch_well}
 use Rattle.mr_node.proofs.NodeLemmas.{kids_rise, kids_below, branch_with, part_with, find_branch, IsReplacedIn, replaced_branch, replaced_answer, child_replaced}
 use Rattle.mr_node.proofs.node.Node.+swap_at.Goals.{In-Inner, In-Some, After-swap_at}
@@ -64,3 +64,12 @@ returns-in-Some-clause-value g t c =
     let branch = whole g t at.In-Inner in
     let below = find_branch c.args.key c.place_of-place.result c.in-Inner.branch c.in-Some.kid branch c.place_of-place.ensures (got g t at.In-Some branch) in
     c.swap_at.ensures.value ∙ ap (λ s. ok_or (value_at c.args.key s.rows) c.args.value.now) c.deref_mut-node.ensures.value ∙ sym (ap (λ o. ok_or (option_map (λ p. p.1) o) c.args.value.now) below) ∙ sym (ap (λ s. ok_or (value_at c.args.key s.rows) c.args.value.now) (now g t at.In-Inner))
+
+pub listed : goal.listed
+listed g t c = omega (arith, c.place_of-place.ensures.within, packed_fits c.in-Inner.branch.len c.in-Inner.branch.kids (whole g t (goal.at.listed g t c).In-Inner).run.packed)
+
+pub bounds-branch-place : goal.bounds-branch-place
+bounds-branch-place g t c = omega (arith, c.place_of-place.ensures.within, (whole g t (goal.at.bounds-branch-place g t c).In-Inner).run.fits)
+
+pub offset_bounds-branch-place : goal.offset_bounds-branch-place
+offset_bounds-branch-place g t c = omega (arith, c.place_of-place.ensures.within, (whole g t (goal.at.offset_bounds-branch-place g t c).In-Inner).run.fits)
