@@ -1,4 +1,4 @@
-use Rattle.std.proofs.Common.{rules, arith, refl, ap, ◌∙◌}
+use Rattle.std.proofs.Common.{rules, arith, refl, sym, ap, ◌∙◌}
 use Rattle.tatp_rows.specs.Ordered.{row_at}
 use Rattle.mr_node.specs.Rows.{key_of_pair}
 use Rattle.mr_subtree.proofs.RootFacts.{grown_root, higher_root}
@@ -24,3 +24,8 @@ returns-clause-root g c = (grown_root c.args.key c.args.item.now c.args.root.now
 
 pub returns-clause-rows : goal.returns-clause-rows
 returns-clause-rows g c = (grown_root c.args.key c.args.item.now c.args.root.now c.insert_split-2.new.self c.args.root.now refl c.requires.root c.requires.some c.insert_split-2.ensures.grown).1
+
+pub heighten-requires : goal.heighten-requires
+heighten-requires g c =
+    let full = c.if-width-eq32.true in
+    (search rules, (sym c.width.ensures.value ∙ full, (c.requires.root.well, omega (arith, c.requires.full (sym c.width.ensures.value ∙ full)))))

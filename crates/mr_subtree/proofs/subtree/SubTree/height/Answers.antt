@@ -1,4 +1,4 @@
-use Rattle.std.proofs.Common.{arith}
+use Rattle.std.proofs.Common.{arith, ap, ◌∙◌}
 use Rattle.mr_subtree.proofs.RootFacts.{bounds_seen, low_root}
 use Rattle.mr_subtree.proofs.subtree.SubTree.height.Goals as goal
 
@@ -7,3 +7,6 @@ returns-clause-bounds g c = bounds_seen c.height.result c.self.inside.root c.arg
 
 pub returns-clause-low : goal.returns-clause-low
 returns-clause-low g c = omega (arith, low_root c.self.inside.root c.self.invariant, c.height.ensures.value)
+
+pub returns-clause-value : goal.returns-clause-value
+returns-clause-value g c = c.height.ensures.value ∙ ap (λ s. s.height) c.self.view_is

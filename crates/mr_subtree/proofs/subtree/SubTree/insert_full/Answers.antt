@@ -1,7 +1,7 @@
 use Rattle.std.proofs.Common.{rules, arith, ◌≡◌, ◌≤◌, sym, ap, subst, IfSome, ◌∙◌}
 use Rattle.tatp_rows.specs.Ordered.{row_at, with_row}
 use Rattle.mr_node.specs.Rows.{key_of_pair}
-use Rattle.mr_subtree.proofs.RootFacts.{inserted, filled}
+use Rattle.mr_subtree.proofs.RootFacts.{inserted, no_memory, filled}
 use Rattle.mr_subtree.proofs.subtree.SubTree.insert_full.Goals as goal
 
 pub grow-requires : goal.grow-requires
@@ -12,3 +12,6 @@ grow-requires g c =
 pub returns-clause-answer : goal.returns-clause-answer
 returns-clause-answer g c = inserted c.args.key c.args.item c.args.self.now.rows c.grow.new.root.rows c.requires.missing
     (subst (λ s. IfSome c.args.item (λ value. c.grow.new.root.rows ≡ with_row key_of_pair (c.args.key, value) s.rows)) c.self.view_is c.grow.ensures.rows)
+
+pub returns-then-is_err-clause-answer : goal.returns-then-is_err-clause-answer
+returns-then-is_err-clause-answer g c = no_memory c.args.key c.args.item c.refused.result c.args.self.now.rows c.self.inside.root.rows c.requires.missing (ap (λ s. s.rows) c.self.view_is) c.refused.ensures
