@@ -64,3 +64,9 @@ returns-in-Inner-clause-joins g t c =
     let below = child g t at.After-divide-left in
     let both = parts g t at.After-cut-low in
     omega (arith, below.steps, below.level, both.low_near, both.high_near, c.cut-low.ensures.joins, c.join-low.ensures.steps, c.join-high.ensures.steps)
+
+pub returns-in-Leaf-clause-path_no_fewer : goal.returns-in-Leaf-clause-path_no_fewer
+returns-in-Leaf-clause-path_no_fewer g t c = omega (arith, c.open-body.ensures.steps, c.halves_of.ensures.steps, ap (λ s. s.height) (sym (ap seen c.in-Leaf.is) ∙ c.open-body.ensures.seen))
+
+pub returns-in-Leaf-clause-joins_no_fewer : goal.returns-in-Leaf-clause-joins_no_fewer
+returns-in-Leaf-clause-joins_no_fewer g t c = omega (arith, ap (λ s. s.height) (sym (ap seen c.in-Leaf.is) ∙ c.open-body.ensures.seen))

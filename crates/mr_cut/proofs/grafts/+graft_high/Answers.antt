@@ -68,3 +68,12 @@ returns-clause-steps g t c =
     let lt = lower g t at.After-open-body in
     let off = apart g t at.After-take_kid-kid in
     omega (arith, off.level, lt, c.open-body.ensures.steps, c.graft_high-one.ensures.steps, c.hang_high.ensures.steps)
+
+pub unreachable-requires : goal.unreachable-requires
+unreachable-requires g t c = omega (arith, lower g t (goal.at.unreachable-requires g t c).After-open-body, ap (λ s. s.height) (sym (ap seen c.in-Leaf.is) ∙ c.open-body.ensures.seen))
+
+pub returns-then-height-clause-no_fewer : goal.returns-then-height-clause-no_fewer
+returns-then-height-clause-no_fewer g t c = omega (arith, c.if-height.true, c.height.ensures.value, c.height-2.ensures.value, ap (λ s. s.height) c.deref.ensures, ap (λ s. s.height) c.deref-2.ensures, c.even.ensures.steps)
+
+pub overflow_sub-last : goal.overflow_sub-last
+overflow_sub-last g t c = omega (arith, (subst IsNode c.in-Inner.is c.open-body.ensures.whole).some)

@@ -1,4 +1,5 @@
-use Rattle.std.proofs.Common.{rules, arith, ◌≡◌, ◌+◌, ap, subst, ◌∙◌}
+use Rattle.std.proofs.Common.{rules, arith, ◌≡◌, ◌+◌, refl, sym, ap, subst, ◌∙◌}
+use Rattle.mr_node.specs.Runs.{IsRun}
 use Rattle.mr_cut.specs.Joins.{IsCrownless}
 use Rattle.mr_cut.proofs.JoinLemmas.{low_kid, IsCrown, crown_branch, crowned}
 use Rattle.mr_cut.proofs.joins.crown.Goals.{After-hang-in-Some}
@@ -24,3 +25,17 @@ build_inner-requires g c = (search rules, (search rules, (crown g (goal.at.build
 
 pub returns-in-Some-clause-root : goal.returns-in-Some-clause-root
 returns-in-Some-clause-root g c = rw c.in-Some.is (crowned _ _ _ _ c.build_inner.ensures.seen (crown g (goal.at.returns-in-Some-clause-root g c).After-hang-in-Some))
+
+pub hang-requires : goal.hang-requires
+hang-requires g c =
+    let pair = subst (λ o. IsCrownless c.args.one.value o) c.in-Some.is c.requires.whole in
+    let root = c.no_branch-root.ensures in
+    let empty = subst (λ n. IsRun n c.no_branch-root.result.leasts c.no_branch-root.result.kids) (sym root.len) root.run in
+    (search rules, (search rules, (empty, (omega (arith, root.len), (omega arith, pair.0)))))
+
+pub hang-requires-in-Some : goal.hang-requires-in-Some
+hang-requires-in-Some g c =
+    let pair = subst (λ o. IsCrownless c.args.one.value o) c.in-Some.is c.requires.whole in
+    let root = c.hang.ensures in
+    let len : c.hang.new.branch.len ≡ 1 = omega (arith, root.len, c.no_branch-root.ensures.len) in
+    (search rules, (search rules, (root.run, (omega (arith, len), (omega (arith, len), record { level = refl; enough = pair.1.enough; well = pair.1.well })))))

@@ -1,4 +1,4 @@
-use Rattle.std.proofs.Common.{arith, sym, subst, ap, ◌∙◌}
+use Rattle.std.proofs.Common.{rules, arith, ◌+◌, ◌*◌, ◌≤◌, sym, subst, ap, ◌∙◌}
 use Rattle.mr_cut.specs.Cuts.{IsCut}
 use Rattle.mr_cut.proofs.CutLemmas.{both_meters, cut_rows}
 use Rattle.mr_cut.proofs.trees.slice.Goals as goal
@@ -49,3 +49,8 @@ pub returns-clause-no_fewer : goal.returns-clause-no_fewer
 returns-clause-no_fewer g c =
     let whole = c.boxed-root.ensures ∙ c.into_root.ensures.same in
     omega (arith, ap (λ s. s.height) whole, c.new-path.ensures, c.new-joins.ensures, c.cut-low.ensures.joins_no_fewer, c.steps.ensures, c.steps-2.ensures, c.steps-3.ensures)
+
+pub cut-low-requires : goal.cut-low-requires
+cut-low-requires g c =
+    let whole = c.boxed-root.ensures ∙ c.into_root.ensures.same in
+    (search rules, subst (λ s. (s.height + 2) * (s.height + 2) ≤ c.give.new.self) (sym whole) (omega (arith, c.give.ensures, c.requires.stock)))
