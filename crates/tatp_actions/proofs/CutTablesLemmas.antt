@@ -1,10 +1,12 @@
 -- Stored tables that are cut or joined: which books they are, and the rules of their parts.
-use Rattle.std.proofs.Common.{◌≡◌, ◌∙◌, refl, sym, ap, subst, ℕ, ◌*◌, ◌<◌, ◌≤◌, arith, Bool, List, [], ◌∷◌, nat_lt}
+use Rattle.std.proofs.Common.{◌≡◌, ◌∙◌, refl, sym, ap, subst, ℕ, ◌*◌, ◌<◌, ◌≤◌, ◌==◌, arith, Bool, true, false, List, [], ◌∷◌, length, nat_lt}
 use Rattle.std.specs.Prelude.{nat_le}
 use Rattle.std.specs.Int.{abs_diff}
 use Rattle.std.specs.List.{AllByRecursion, filter}
-use Rattle.std.proofs.lemmas.List.{map-append}
+use Rattle.std.proofs.lemmas.Bool.Decides.{nat_tests}
+use Rattle.std.proofs.lemmas.List.{length-map, map-append}
 use Rattle.mr_cut.specs.Cuts.{rows_below, rows_from, AreApart}
+use Rattle.mr_subtree.specs.Trees.{IsHeightOf}
 use Rattle.tatp_rows.proofs.AppendLemmas.{each-append}
 use Rattle.tatp_rows.proofs.MapLemmas.{each-unmap}
 use Rattle.tatp_rows.proofs.OrderedLemmas.{by_test, each_from_two}
@@ -12,11 +14,12 @@ use Rattle.tatp_rows.specs.Keys.{key_of, subscriber_key, access_key, facility_ke
 use Rattle.tatp_rows.specs.Rows.{SubscriberRow, AccessInfoRow, SpecialFacilityRow, CallForwardingRow}
 use Rattle.tatp_rows.specs.Spans.{AllBelow, AllFrom, keys_below, keys_from}
 use Rattle.tatp_actions.specs.Book.{IsRowsOf}
-use Rattle.tatp_actions.specs.Cut.{Heights, low_part, high_part, meld_bound, meld_least}
-use Rattle.tatp_actions.specs.CutTables.{tables_below, tables_from, join_tables, TablesApart}
+use Rattle.tatp_actions.specs.Cut.{Heights, AreHeightsOf, low_part, high_part, melded, meld_bound, meld_least}
+use Rattle.tatp_actions.specs.CutTables.{tables_below, tables_from, join_tables, TablesApart, tables_of, heights_of}
 use Rattle.tatp_actions.specs.Joined.{join_books, cut_low, cut_high}
 use Rattle.tatp_actions.specs.Part.{PartState, IsWidth}
 use Rattle.tatp_actions.specs.Tables.{Tables, AreKeyed, IsKeyed, stored_book, values_of}
+use Rattle.tatp_actions.specs.declared.trees.Trees.{Trees}
 use Rattle.tatp_actions.proofs.CutLemmas.{same_tables, cut_low_rows, cut_high_rows}
 use Rattle.tatp_actions.proofs.JoinedLemmas.{rows_joined}
 use Rattle.tatp_actions.proofs.LocalLemmas.{apart}
@@ -180,6 +183,19 @@ module _ (low high : Tables) (asked lo n width steps asked' n' hi width' steps' 
         subst AreKeyed (sym is) (join_keyed low high of_low.1 of_high.1),
       )
 
+-- two parts that touch, whose tables were joined: the one that is kept is the low one, or the high one
+module _ (mine other whole : Tables) (asked lo hi width steps asked' lo' hi' width' steps' : ℕ) (part given : PartState) (is : part_of mine asked lo hi width steps ≡ part)
+    (given_is : part_of other asked' lo' hi' width' steps' ≡ given) where
+  pub melded_low : whole ≡ join_tables mine other → hi ≡ lo' → (n s : ℕ) → n ≡ asked → part_of whole n lo hi' width s ≡ record (melded part given) { steps = s }
+  melded_low joined touch n s same =
+      let ends : (hi == lo') ≡ true = grind (arith, nat_tests) in
+      rw (← is, ← given_is, ap stored_book joined ∙ join_book mine other, same, ends) refl
+
+  pub melded_high : whole ≡ join_tables other mine → (hi ≡ lo' → ⊥) → (n s : ℕ) → n ≡ asked → part_of whole n lo' hi width s ≡ record (melded part given) { steps = s }
+  melded_high joined other_way n s same =
+      let begins : (hi == lo') ≡ false = grind (arith, nat_tests) in
+      rw (← is, ← given_is, ap stored_book joined ∙ join_book other mine, same, begins) refl
+
 -- the steps of a join are bounded alike in either order
 apart_swapped : (a b : ℕ) → abs_diff a b ≡ abs_diff b a
 apart_swapped a b = omega arith
@@ -189,3 +205,14 @@ bound_swapped a b = rw (apart_swapped a.subscribers b.subscribers, apart_swapped
 
 pub least_swapped : (a b : Heights) → meld_least a b ≡ meld_least b a
 least_swapped a b = rw (apart_swapped a.subscribers b.subscribers, apart_swapped a.access b.access, apart_swapped a.facilities b.facilities, apart_swapped a.forwardings b.forwardings) refl
+
+-- the heights of trees, as those of their tables' book
+pub heights_are : (trees : Trees) → IsHeightOf trees.subscribers.height (length trees.subscribers.rows) → IsHeightOf trees.access.height (length trees.access.rows)
+    → IsHeightOf trees.facilities.height (length trees.facilities.rows) → IsHeightOf trees.forwardings.height (length trees.forwardings.rows)
+    → AreHeightsOf (heights_of trees) (stored_book (tables_of trees))
+heights_are trees subscribers access facilities forwardings = record {
+  subscribers = rw (length-map trees.subscribers.rows (λ (p : ℕ × SubscriberRow). p.1)) subscribers;
+  access = rw (length-map trees.access.rows (λ (p : ℕ × AccessInfoRow). p.1)) access;
+  facilities = rw (length-map trees.facilities.rows (λ (p : ℕ × SpecialFacilityRow). p.1)) facilities;
+  forwardings = rw (length-map trees.forwardings.rows (λ (p : ℕ × CallForwardingRow). p.1)) forwardings;
+}

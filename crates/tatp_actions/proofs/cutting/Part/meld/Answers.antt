@@ -1,6 +1,6 @@
 use Rattle.std.proofs.Common.{◌∙◌, ◌⊎◌, inl, inr}
 use Rattle.tatp_actions.specs.CutTables.{heights_of}
-use Rattle.tatp_actions.proofs.CutTablesLemmas.{tables_apart, joined_holds, bound_swapped, least_swapped}
+use Rattle.tatp_actions.proofs.CutTablesLemmas.{tables_apart, joined_holds, melded_low, melded_high, bound_swapped, least_swapped}
 use Rattle.tatp_actions.proofs.cutting.Part.meld.Goals as goal
 
 pub join-joined-requires-clause-apart : goal.join-joined-requires-clause-apart
@@ -11,6 +11,11 @@ pub invariant_of-self : goal.invariant_of-self
 invariant_of-self c =
     let joined = rw c.take-trees.ensures.trees at c.join-joined.ensures.rows in
     joined_holds _ _ _ _ _ _ _ _ _ _ _ _ c.self.invariant c.other.invariant c.if-self-lo.true _ _ _ _ (c.put.ensures.trees ∙ joined) c.self.invariant.0.width
+
+pub returns-then-self-lo-clause-melded : goal.returns-then-self-lo-clause-melded
+returns-then-self-lo-clause-melded c =
+    let joined = rw c.take-trees.ensures.trees at c.join-joined.ensures.rows in
+    melded_low _ _ _ _ _ _ _ _ _ _ _ _ _ _ _ c.self.view_is c.other.view_is (c.put.ensures.trees ∙ joined) c.if-self-lo.true _ _ (c.put.ensures.asked ∙ c.take-trees.ensures.asked)
 
 pub returns-then-self-lo-clause-steps : goal.returns-then-self-lo-clause-steps
 returns-then-self-lo-clause-steps c =
@@ -38,6 +43,11 @@ invariant_of-self-2 c =
     let touch = second (rw (← c.self.view_is, ← c.other.view_is) at c.requires.touch) c.if-self-lo.false in
     let joined = rw c.take-trees.ensures.trees at c.join-joined-2.ensures.rows in
     joined_holds _ _ _ _ _ _ _ _ _ _ _ _ c.other.invariant c.self.invariant touch _ _ _ _ (c.put-2.ensures.trees ∙ joined) c.self.invariant.0.width
+
+pub returns-clause-melded : goal.returns-clause-melded
+returns-clause-melded c =
+    let joined = rw c.take-trees.ensures.trees at c.join-joined-2.ensures.rows in
+    melded_high _ _ _ _ _ _ _ _ _ _ _ _ _ _ _ c.self.view_is c.other.view_is (c.put-2.ensures.trees ∙ joined) c.if-self-lo.false _ _ (c.put-2.ensures.asked ∙ c.take-trees.ensures.asked)
 
 pub returns-clause-steps : goal.returns-clause-steps
 returns-clause-steps c =
