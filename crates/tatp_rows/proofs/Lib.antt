@@ -8,4 +8,5 @@ pub mod NumberLemmas
 pub mod OrderedLemmas
 pub mod PlaceLemmas
 pub mod RowLemmas
+pub mod SortLemmas
 pub mod SpanLemmas

@@ -1,8 +1,9 @@
 -- The place of a key in an ordered list, how many elements have a smaller key, and the edits at that place.
-use Rattle.std.proofs.Common.{◌≡◌, ◌≢◌, refl, sym, ap, ◌∙◌, ℕ, zero, suc, ◌+◌, ◌<◌, ◌≤◌, List, [], ◌∷◌, length, get_or, set, true, false, arith}
+use Rattle.std.proofs.Common.{◌≡◌, ◌≢◌, refl, sym, ap, ◌∙◌, ℕ, zero, suc, ◌+◌, ◌-◌, ◌<◌, ◌≤◌, List, [], ◌∷◌, length, get_or, set, drop, true, false, arith}
 use Rattle.std.specs.Prelude.{◌==◌, nat_lt, Some, None}
 use Rattle.std.specs.List.{AllByRecursion, prefix_len, insert, remove}
 use Rattle.std.specs.List.Sorted.{IsPartitionedBy, IsPartitionPoint}
+use Rattle.std.proofs.Math.Seq.{drop-cons}
 use Rattle.std.proofs.lemmas.Bool.Decides.{nat_tests}
 use Rattle.tatp_rows.specs.Ordered.{IsOrderedBy, row_at, with_row_at, with_row, without_row}
 use Rattle.tatp_rows.proofs.OrderedLemmas.{each-weaker, by_test, absent_below, absent_cons}
@@ -15,6 +16,12 @@ pub each_at : {X : Type 0} (P : X → Type 0) (xs : List X) (i : ℕ) (d : X) �
 each_at P [] i d each within = absurd (omega arith)
 each_at P (x ∷ xs) zero d each within = each.0
 each_at P (x ∷ xs) (suc i) d each within = each_at P xs i d each.1 (omega arith)
+
+-- the elements from a place on are that one and those behind it
+pub from_here : {X : Type 0} (xs : List X) (left : ℕ) (x : X) → 0 < left → left ≤ length xs → x ≡ get_or xs (left - 1) x → drop (left - 1) xs ≡ x ∷ drop left xs
+from_here xs left x some within is =
+    let next : suc (left - 1) ≡ left = omega arith in
+    drop-cons xs (left - 1) x (omega arith) ∙ rw (← is, next) refl
 
 module _ {X : Type 0} (key : X → ℕ) where
   -- how many elements at the front have a smaller key
