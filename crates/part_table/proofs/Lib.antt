@@ -2,6 +2,7 @@ pub mod FirstLemmas
 pub mod FrontLemmas
 pub mod LeastLemmas
 pub mod NumberLemmas
+pub mod NumberedLemmas
 pub mod PlaceLemmas
 pub mod CutLemmas
 pub mod JoinLemmas
@@ -19,5 +20,6 @@ pub mod Owners
 pub mod BesideLemmas
 pub mod WovenCutLemmas
 pub mod WovenLemmas
+pub mod WovenNumberedLemmas
 pub mod WovenJoinLemmas
 pub mod OwnerEditLemmas

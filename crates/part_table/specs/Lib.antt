@@ -1,6 +1,7 @@
 pub mod Bounds
 pub mod Give
 pub mod Least
+pub mod Numbered
 pub mod Opening
 pub mod Proposal
 pub mod Recut

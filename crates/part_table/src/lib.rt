@@ -9,6 +9,7 @@ mod cutting;
 mod finding;
 mod joining;
 mod moves;
+mod numbering;
 mod recut;
 mod region;
 mod regions;

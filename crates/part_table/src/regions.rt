@@ -1,17 +1,20 @@
 //! The regions of all s_ids, and what gives and takes do to them.
-ghost use Rattle.std.specs.Prelude.{◌≡◌, ◌<◌, ◌≤◌, Some, count_by};
+ghost use Rattle.std.specs.Prelude.{◌≡◌, ◌<◌, ◌≤◌, Some, count_by, length};
 ghost use Rattle.std.specs.List.{find};
 ghost use Rattle.arrayvec.specs.ArrayVec.{array_vec_len};
 ghost use Rattle.part_table.specs.Give.{give_answer, after_give, cut};
+ghost use Rattle.part_table.specs.Numbered.{over_ranges};
 ghost use Rattle.part_table.specs.Opening.{opening, can_open};
 ghost use Rattle.part_table.specs.Region.{is_part, is_piece, lies_in};
-ghost use Rattle.part_table.specs.Regions.{AreRegions, place_of};
+ghost use Rattle.part_table.specs.Regions.{AreRegions, parts_of, pieces_of, place_of};
+ghost use Rattle.part_table.specs.declared.region.TheConstants.{MOST_PARTS, MOST_PIECES};
 ghost use Rattle.part_table.specs.Take.{take_answer, after_take, touching};
 ghost use Rattle.part_table.specs.Woven.{pieces_before};
 
 use crate::cutting::{given, halves, put_two};
 use crate::finding::{find_part, find_piece, free_number, part_at, piece_at, pieces_in_front};
 use crate::joining::join;
+use crate::numbering::Next;
 use crate::region::{END, MOST_PARTS, Place, Region, Side};
 use arrayvec::ArrayVec;
 use std::marker::Model;
@@ -63,6 +66,31 @@ impl Regions {
             hi: END,
             place: Place::Part(parts - 1),
         });
+        Ok(Regions { list })
+    }
+
+    /// The regions over these ranges of parts and loose pieces, which are numbered anew in their order: the parts from 0, the
+    /// pieces from 1. `NotAdjacent` where the ranges leave a gap or overlap. It takes no memory.
+    pub fn over(ranges: &[Region]) -> Result<Regions, Refusal>
+        requires some { 1 ≤ length (parts_of ranges.now) }
+        requires parts { length (parts_of ranges.now) ≤ MOST_PARTS }
+        requires pieces { length (pieces_of ranges.now) ≤ MOST_PIECES }
+        ensures { result ≡ over_ranges ranges.now }
+    {
+        let mut list = ArrayVec::new();
+        let mut from = 1;
+        let mut next = Next { part: 0, piece: 1 };
+        for range in ranges {
+            if range.lo != from || range.hi <= range.lo {
+                return Err(Refusal::NotAdjacent);
+            }
+            let place = next.place(range.place);
+            list.push(Region { place, ..*range });
+            from = range.hi;
+        }
+        if from != END {
+            return Err(Refusal::NotAdjacent);
+        }
         Ok(Regions { list })
     }
 
