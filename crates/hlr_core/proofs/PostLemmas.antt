@@ -2,7 +2,7 @@
 use Rattle.std.proofs.Common.{◌≡◌, ◌∙◌, refl, sym, ap, ℕ, zero, suc, ◌+◌, ◌<◌, ◌≤◌, arith, List, [], ◌∷◌, length, get_or, set, take, true, false, not, Bool, map}
 use Rattle.std.specs.Prelude.{ℤ, pos, ◌-ℤ◌, sum_by}
 use Rattle.std.specs.List.{AllByRecursion, filter, range_with_len}
-use Rattle.std.proofs.lemmas.List.{length-set, map-set}
+use Rattle.std.proofs.lemmas.List.{map-set}
 use Rattle.std.proofs.lemmas.List.Sums.{sum_by-cons, sum_by-set}
 use Rattle.std.proofs.Math.ListN.{get_or-map}
 use Rattle.atomic_table.specs.Seated.{TableId}
@@ -14,6 +14,7 @@ use Rattle.view_board.specs.Views.{IsWide, posted}
 use Rattle.view_board.specs.Words.{word_of}
 use Rattle.view_board.specs.declared.rule.View.{View}
 use Rattle.view_board.specs.declared.words.TheConstants.{SLOTS}
+use Rattle.holding.proofs.HeldLemmas.{wide_posted}
 use Rattle.holding.specs.Held.{IsLeastSlot}
 use Rattle.holding.specs.Post as own
 use Rattle.holding.specs.Post.{all_cells, is_zero, due}
@@ -22,10 +23,6 @@ use Rattle.hlr_core.specs.Post.{is_worn, raise_cells, post}
 use Rattle.hlr_core.specs.Words.{net}
 use Rattle.hlr_core.proofs.DeskLemmas.{words_with, words_posted, word_here, net_of_slots, least_of_slots}
 use Rattle.hlr_core.proofs.StoreLemmas.{set_same}
-
--- an amount that is posted leaves the desk as wide as it was
-wide_posted : (view : View) (slot c : ℕ) (amount : ℤ) → IsWide view → IsWide (posted view slot c amount)
-wide_posted view slot c amount wide = record { slots = wide.slots; numbers = length-set view.numbers (word_of slot c amount) _ ∙ wide.numbers; seen = wide.seen }
 
 -- cells of which each has the same gap in two ways
 abbrev AreSameGaps : (ℕ → ℤ) → (ℕ → ℤ) → List ℕ → Type 0

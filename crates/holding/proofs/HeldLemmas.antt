@@ -13,6 +13,9 @@ use Rattle.tatp_actions.proofs.CountLemmas.{few_cells}
 use Rattle.tatp_actions.specs.declared.cells.TheConstants.{CELLS}
 use Rattle.view_board.specs.Desks.{Station}
 use Rattle.view_board.specs.Nets.{net_of, NetMoves}
+use Rattle.view_board.specs.Views.{IsWide, posted}
+use Rattle.view_board.specs.Words.{word_of}
+use Rattle.view_board.specs.declared.rule.View.{View}
 use Rattle.view_delta.specs.Pending.{pending_at}
 use Rattle.holding.specs.Held.{HoldingState, IsHolding, IsLeastSlot, HasSmallNets, count_of}
 
@@ -39,14 +42,15 @@ pub few : (part : PartState) → IsPart part → (c : ℕ) → count_of part c �
 few part rules c = few_cells part.lo part.hi part.width c part.book rules.rows rules.range.2
 
 -- a holding opens: what its desk has not published of its counts is pending
-pub opened : (part : PartState) (counts : List ℕ) (deltas pending : List ℤ) (desk : Station) (slot : ℕ) → IsPart part → IsLeastSlot desk.view slot → HasSmallNets desk.view
+pub opened : (part : PartState) (counts : List ℕ) (deltas pending : List ℤ) (desk : Station) (slot : ℕ) → IsPart part → IsLeastSlot desk.view slot → HasSmallNets desk.view → IsWide desk.view
     → ((c : ℕ) → c < CELLS → get_or counts c 0 ≡ count_of part c) → ((c : ℕ) → c < CELLS → pending_at deltas c ≡ pos (get_or counts c 0) -ℤ net_of desk.view c) → pending ≡ deltas
     → IsHolding (record { part = part; pending = pending; desk = desk; slot = slot })
-opened part counts deltas pending desk slot rules least small are told is = record {
+opened part counts deltas pending desk slot rules least small wide are told is = record {
   rules = rules;
   slot = least;
   law = λ c below. (let count = are c below in let delta = told c below in rw is (omega (arith, ints)));
   small = small;
+  wide = wide;
 }
 
 -- what is pending of a holding is small
@@ -66,9 +70,13 @@ cleared pending c = elim (cases_lt c (length pending)) [
   | inr past ↦ get_or_past (set pending c (pos 0)) c (pos 0) (rw length-set past)
 ]
 
+-- an amount that is posted leaves the desk as wide as it was
+pub wide_posted : (view : View) (slot c : ℕ) (amount : ℤ) → IsWide view → IsWide (posted view slot c amount)
+wide_posted view slot c amount wide = record { slots = wide.slots; numbers = length-set view.numbers (word_of slot c amount) _ ∙ wide.numbers; seen = wide.seen }
+
 -- what was pending of a cell is published
 module _ (part : PartState) (pending pending' : List ℤ) (desk desk' : Station) (slot c : ℕ) (amount : ℤ) (is : IsHolding (record { part = part; pending = pending; desk = desk; slot = slot }))
-    (owned : desk'.view.owned ≡ desk.view.owned) (whole : amount ≡ pending_at pending c) (moves : NetMoves desk.view desk'.view c amount) (none : pending' ≡ set pending c (pos 0)) where
+    (owned : desk'.view.owned ≡ desk.view.owned) (whole : amount ≡ pending_at pending c) (moves : NetMoves desk.view desk'.view c amount) (none : pending' ≡ set pending c (pos 0)) (wide : IsWide desk'.view) where
   here : (k : ℕ) → k < CELLS → (k == c) ≡ true → net_of desk'.view k ≡ pos (count_of part k)
   here k below e =
       let same : k ≡ c = grind (arith, nat_tests) in
@@ -90,6 +98,7 @@ module _ (part : PartState) (pending pending' : List ℤ) (desk desk' : Station)
     small = λ k below. by_test (k == c)
         (λ e. let most = few part is.rules k in rw (here k below e) (omega (arith, ints), omega (arith, ints)))
         (λ e. rw (elsewhere k below e) (is.small k below));
+    wide = wide;
   }
 
 -- one more cell is told

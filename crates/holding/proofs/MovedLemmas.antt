@@ -66,6 +66,7 @@ left part given kept pending pending' counts desk slot is rules are both less = 
   slot = is.slot;
   law = λ c below. (let law = is.law c below in let count = are c below in let sum = both c in let now = less c below in omega (arith, ints));
   small = is.small;
+  wide = is.wide;
 }
 
 -- the counts of two parts that become one
@@ -99,6 +100,7 @@ grown part other whole pending pending' counts desk slot is rules are both more 
   slot = is.slot;
   law = λ c below. (let law = is.law c below in let count = are c below in let sum = both c in let now = more c below in omega (arith, ints));
   small = is.small;
+  wide = is.wide;
 }
 
 -- a box that is written twice, at last with what it contained, is the box

@@ -5,7 +5,7 @@ use Rattle.tatp_actions.specs.Part.{PartState, IsPart}
 use Rattle.tatp_actions.specs.declared.cells.TheConstants.{CELLS}
 use Rattle.view_board.specs.Desks.{Station}
 use Rattle.view_board.specs.Nets.{net_of}
-use Rattle.view_board.specs.Views.{Owns}
+use Rattle.view_board.specs.Views.{Owns, IsWide}
 use Rattle.view_board.specs.declared.rule.View.{View}
 use Rattle.view_delta.specs.Pending.{pending_at}
 
@@ -39,6 +39,7 @@ pub record IsHolding (holding : HoldingState) : Type 0 where
   pub slot : IsLeastSlot holding.desk.view holding.slot
   pub law : (c : ℕ) → c < CELLS → net_of holding.desk.view c +ℤ pending_at holding.pending c ≡ pos (count_of holding.part c)
   pub small : HasSmallNets holding.desk.view
+  pub wide : IsWide holding.desk.view
 
 -- the rules of a piece
 pub record IsPiece (piece : PieceState) : Type 0 where

@@ -4,7 +4,7 @@ ghost use Rattle.tatp_actions.specs.Action.{s_id_of, IsOutcome};
 ghost use Rattle.tatp_actions.specs.Book.{IsWithin, first_subscriber};
 ghost use Rattle.tatp_actions.specs.declared.cells.TheConstants.{CELLS};
 ghost use Rattle.view_board.specs.Nets.{net_of};
-ghost use Rattle.view_board.specs.Views.{Owns};
+ghost use Rattle.view_board.specs.Views.{Owns, IsWide};
 ghost use Rattle.view_board.specs.declared.words.TheConstants.{SLOTS};
 ghost use Rattle.view_delta.specs.Pending.{pending_at};
 ghost use Rattle.holding.specs.Held.{IsHolding, HasSmallNets, IsLeastSlot, count_of};
@@ -67,11 +67,13 @@ fn difference(count: u64, net: i128) -> i64
 fn unposted(counts: &Cells, desk: &Desk) -> [i64; CELLS as usize]
     requires few { (c : ℕ) → c < CELLS → slice_index counts.now c ≤ 1099511627776 }
     requires small { HasSmallNets desk.now.view }
-    ensures { (c : ℕ) → c < CELLS → slice_index_or result c (pos 0) ≡ pos (slice_index counts.now c) -ℤ net_of desk.now.view c }
+    ensures deltas { (c : ℕ) → c < CELLS → slice_index_or result c (pos 0) ≡ pos (slice_index counts.now c) -ℤ net_of desk.now.view c }
+    ensures wide { IsWide desk.now.view }
 {
+    let nets = desk.nets();
     let mut deltas = [0; CELLS as usize];
     for cell in 0..CELLS {
-        deltas[usize::from(cell)] = difference(counts.get(cell), desk.net(cell));
+        deltas[usize::from(cell)] = difference(counts.get(cell), nets[usize::from(cell)]);
     }
     deltas
 }

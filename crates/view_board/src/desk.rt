@@ -54,7 +54,8 @@ impl Desk {
 
     /// What the desk has published of each cell, in one walk over its slots.
     pub fn nets(&self) -> [i128; CELLS as usize]
-        ensures { (c : ℕ) → c < CELLS → slice_index_or result c (pos 0) ≡ net_of self.now.view c }
+        ensures wide { IsWide self.now.view }
+        ensures value { (c : ℕ) → c < CELLS → slice_index_or result c (pos 0) ≡ net_of self.now.view c }
     {
         let _ = &self.owned;
         let mut nets = [0; CELLS as usize];

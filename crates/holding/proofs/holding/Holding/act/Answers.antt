@@ -17,6 +17,7 @@ invariant_of-self g c = record {
   slot = c.self.invariant.slot;
   law = λ at lt. subst (λ width. net_of c.self.inside.desk.view at +ℤ pending_at c.note.new.self at ≡ pos (cell width at c.act-reply.new.self.book)) (sym c.act-reply.ensures.range.2) (omega (arith, ints, c.act-reply.ensures.change at lt, c.note.ensures at lt, c.self.invariant.law at lt));
   small = c.self.invariant.small;
+  wide = c.self.invariant.wide;
 }
 
 pub returns-clause-before : goal.returns-clause-before

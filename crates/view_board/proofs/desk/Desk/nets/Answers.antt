@@ -30,8 +30,8 @@ loop-slot-preserved c = record {
   small = c.add_nets.ensures.sums;
 }
 
-pub returns : goal.returns
-returns c = λ k below.
+pub returns-clause-value : goal.returns-clause-value
+returns-clause-value c = λ k below.
     let v : View = c.args.self.now.view in
     let slots : length v.owned ≡ SLOTS = rw (← ap (λ (d : Station). d.view) c.self.view_is) c.self.invariant.wide.slots in
     let last = net_from-end v.owned c.loop-slot.slot c.loop-slot.slot v.numbers k (omega (arith, slots, c.loop-slot-test.false)) in
