@@ -2,12 +2,16 @@ pub mod BoxLemmas
 pub mod BoxMoveLemmas
 pub mod DeskLemmas
 pub mod FirstLemmas
+pub mod GatherLemmas
+pub mod GatheredLemmas
+pub mod GatheredRowsLemmas
 pub mod GiveTakeLemmas
 pub mod HalvesLemmas
 pub mod HeldLemmas
 pub mod HoldingsLemmas
 pub mod IndexLemmas
 pub mod KeptLemmas
+pub mod NotedLemmas
 pub mod NumbersLemmas
 pub mod OpenLemmas
 pub mod OwnerActLemmas

@@ -1,11 +1,14 @@
 pub mod Asked
 pub mod Desks
+pub mod Gather
 pub mod Held
 pub mod Index
 pub mod Kept
+pub mod Noted
 pub mod Numbers
 pub mod Owners
 pub mod Post
+pub mod Prepared
 pub mod Recut
 pub mod Sight
 pub mod Step

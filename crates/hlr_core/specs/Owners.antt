@@ -13,6 +13,10 @@ use Rattle.hlr_core.specs.Store.{Store}
 abbrev pub seen : {X Y : Type 0} → (X → Y) → List (Box X Global) → List Y
 seen as_what boxes = map (λ b. as_what b.value) boxes
 
+-- what boxes contain
+abbrev pub unboxed : {X : Type 0} → List (Box X Global) → List X
+unboxed boxes = map (λ b. b.value) boxes
+
 -- the store of holdings, by the number of their part, and loose pieces, by their regions, with the desks of the holdings and the
 -- spare one
 abbrev pub store_of : List Region → List Owner → List Owner → Station → List Station → ℕ → Store

@@ -1,5 +1,5 @@
 //! All owners' holdings, the loose pieces, and the board that the holdings post to.
-ghost use Rattle.std.specs.Prelude.{◌≡◌, ◌+◌, ℕ, ◌<◌, ◌≤◌, ◌⊎◌, true, Some, IfOk, OnErr, option_map, slice_index, slice_index_or, pos};
+ghost use Rattle.std.specs.Prelude.{◌≡◌, ◌+◌, ℕ, ◌<◌, ◌≤◌, ◌⊎◌, true, Some, IfOk, OnErr, option_map, slice_index, slice_index_or, pos, [], vec_capacity};
 ghost use Rattle.part_table.specs.Give.{give_answer, after_give};
 ghost use Rattle.part_table.specs.Regions.{AreRegions, place_of};
 ghost use Rattle.part_table.specs.Take.{take_answer, after_take};
@@ -10,18 +10,23 @@ ghost use Rattle.tatp_actions.specs.Cell.{cell};
 ghost use Rattle.std.specs.Arc.{arc_value};
 ghost use Rattle.tatp_actions.specs.Part.{IsRange, IsWidth};
 ghost use Rattle.view_board.specs.Desks.{with_view};
-ghost use Rattle.view_board.specs.Views.{Owns, alone, without};
+ghost use Rattle.view_board.specs.Views.{Owns, IsWide, alone, without};
 ghost use Rattle.view_board.specs.Words.{AreSmall, HasGreat};
 ghost use Rattle.view_board.specs.declared.words.TheConstants.{SLOTS};
 ghost use Rattle.holding.specs.Held.{HasSmallNets};
-ghost use Rattle.hlr_core.specs.Desks.{AreLevel};
-ghost use Rattle.hlr_core.specs.Held.{IsOpened};
+ghost use Rattle.hlr_core.specs.Desks.{AreLevel, desk_of};
+ghost use Rattle.hlr_core.specs.Gather.{MayGather, gathered};
+ghost use Rattle.hlr_core.specs.Held.{IsOpened, AreHeld, of_holding, of_piece};
+ghost use Rattle.hlr_core.specs.Owners.{seen, store_of, unboxed};
+ghost use Rattle.hlr_core.specs.Prepared.{IsSurveyed};
+ghost use Rattle.hlr_core.specs.declared.room.TheConstants.{PLACES};
 ghost use Rattle.hlr_core.specs.Asked.{IsAnswered};
 ghost use Rattle.hlr_core.specs.Step.{IsPostStep, MayAnswer, is_loose, posted_reply};
 ghost use Rattle.hlr_core.specs.Sight.{IsSightOf};
 ghost use Rattle.hlr_core.specs.Store.{Store, HasOpening, opening_from, published, unposted, slots_of, parts_in};
 
 use crate::event::Reply;
+use crate::gather::{Frame, Scattered, put_in_order};
 use crate::room::{boxed, insert_reserved, places};
 use crate::sums::{add_loose, add_pending, add_published};
 use holding::{Holding, Piece};
@@ -131,6 +136,67 @@ impl Holdings {
             spare,
             width,
         })
+    }
+
+    /// Takes all apart, as they are: the holdings by the number of their part, the pieces in the order of their regions. It takes
+    /// no memory.
+    pub fn scatter(self) -> Scattered
+        ensures store { store_of self.regions (seen of_holding result.holdings.items) (seen of_piece result.pieces.items) result.frame.spare (seen desk_of result.holdings.items) result.frame.width ≡ self }
+        ensures held { AreRegions self.regions × AreHeld self.regions (seen of_holding result.holdings.items) (seen of_piece result.pieces.items) self.width }
+        ensures desks { MayGather (arc_value result.frame.board) result.frame.spare (unboxed result.holdings.items) }
+    {
+        let Holdings {
+            holdings,
+            pieces,
+            board,
+            spare,
+            width,
+            ..
+        } = self;
+        Scattered {
+            frame: Frame {
+                board,
+                spare,
+                width,
+            },
+            holdings,
+            pieces,
+        }
+    }
+
+    /// Holdings and pieces over these regions, each put in its place among those lists that have room for them.
+    pub fn gathered(
+        scattered: Scattered,
+        regions: Regions,
+        holdings: Vec<Box<Holding>>,
+        pieces: Vec<Box<Piece>>,
+    ) -> Self
+        requires surveyed { IsSurveyed scattered.frame.width (unboxed scattered.holdings.items) (unboxed scattered.pieces.items) regions }
+        requires desks { MayGather (arc_value scattered.frame.board) scattered.frame.spare (unboxed scattered.holdings.items) }
+        requires wide { IsWide scattered.frame.spare.view }
+        requires empty { (holdings.items ≡ []) × (pieces.items ≡ []) }
+        requires room { (PLACES ≤ vec_capacity holdings) × (PLACES ≤ vec_capacity pieces) }
+        ensures value { result ≡ gathered scattered.frame.width scattered.frame.spare (unboxed scattered.holdings.items) (unboxed scattered.pieces.items) }
+        ensures rows { IsRowsOf 1 (LAST_SUBSCRIBER + 1) result.book }
+    {
+        let Scattered {
+            frame,
+            holdings: handed,
+            pieces: loose,
+        } = scattered;
+        let Frame {
+            board,
+            spare,
+            width,
+        } = frame;
+        Holdings {
+            regions,
+            holdings: put_in_order(handed, holdings),
+            pieces: put_in_order(loose, pieces),
+            board,
+            spare,
+            width,
+        }
     }
 
     /// The regions of all subscribers.

@@ -7,8 +7,11 @@
 
 mod checked;
 mod event;
+mod gather;
 mod holdings;
+mod keeper;
 mod level;
+mod numbers;
 #[cfg(test)]
 mod plain;
 #[cfg(test)]
@@ -26,4 +29,5 @@ mod tests;
 mod weights;
 
 pub use event::{Event, Reply};
+pub use gather::{Frame, Scattered};
 pub use register::Register;

@@ -1,5 +1,5 @@
 //! The register: all rows under one roof, no number twice, and every cell as published with what is not posted yet.
-ghost use Rattle.std.specs.Prelude.{◌≡◌, ℕ, [], vec_len, vec_capacity, ◌<◌, ◌≤◌, ◌↔◌, ◌⊎◌, IfOk, OnErr, slice_index, slice_index_or, option_map, Option, Bool, ◌+◌, ℤ, pos, ◌+ℤ◌};
+ghost use Rattle.std.specs.Prelude.{◌≡◌, ℕ, [], vec_len, vec_capacity, ◌<◌, ◌≤◌, ◌↔◌, ◌⊎◌, None, IfOk, IfErr, OnErr, slice_index, slice_index_or, option_map, Option, Bool, ◌+◌, ℤ, pos, ◌+ℤ◌};
 ghost use Rattle.hlr_core.specs.Asked.{IsAsked, IsRowAction};
 ghost use Rattle.tatp_actions.specs.Cell.{cell};
 ghost use Rattle.hlr_core.specs.Index.{index_of};
@@ -8,12 +8,17 @@ ghost use Rattle.hlr_core.specs.Recut.{IsRecut};
 ghost use Rattle.hlr_core.specs.Step.{IsStep, IsRun, IsRowStep, reply_of};
 ghost use Rattle.part_table.specs.Proposal.{proposal};
 ghost use Rattle.part_table.specs.Regions.{AreRegions};
-ghost use Rattle.hlr_core.specs.Desks.{AreOpening};
+ghost use Rattle.std.specs.Arc.{arc_value};
+ghost use Rattle.hlr_core.specs.Desks.{AreOpening, desk_of};
+ghost use Rattle.hlr_core.specs.Gather.{MayGather, misfit, IsRefused, gathered};
+ghost use Rattle.hlr_core.specs.Held.{of_holding, of_piece};
+ghost use Rattle.hlr_core.specs.Owners.{seen, store_of, unboxed};
 ghost use Rattle.hlr_core.specs.Sight.{IsSightOf};
 ghost use Rattle.hlr_core.specs.Store.{Store, HasOpening, opening, opening_from, published, unposted, parts_in, published_weights, counted_weights};
 
 use crate::checked;
 use crate::event::{Event, Reply};
+use crate::gather::{Prepared, Scattered};
 use crate::holdings::Holdings;
 use crate::level::are_level;
 use crate::weights::zone_weights;
@@ -22,7 +27,7 @@ use part_table::{Bounds, Regions, Side, can_open};
 use std::alloc::Global;
 use std::marker::Model;
 use tatp_actions::{Action, CELLS, Cells, RowReply};
-use tatp_rows::{LAST_SUBSCRIBER, Number, Refusal, Subscriber, in_range};
+use tatp_rows::{Back, LAST_SUBSCRIBER, Number, Refusal, Subscriber, in_range};
 use view_board::{Sight, WORDS};
 
 /// A home location register, seen as the store of the definitions: its rows, the regions, the words of the board, the
@@ -90,6 +95,51 @@ impl Register {
         let index = NumberIndex::new(alloc)?;
         Ok(Register {
             holdings,
+            index,
+            alloc,
+        })
+    }
+
+    /// Takes the register apart: its holdings by the number of their part, its loose pieces in the order of their ranges, and
+    /// the frame. The index goes. It takes no memory.
+    pub fn scatter(self) -> Scattered
+        ensures store { store_of self.regions (seen of_holding result.holdings.items) (seen of_piece result.pieces.items) result.frame.spare (seen desk_of result.holdings.items) result.frame.width ≡ self }
+        ensures desks { MayGather (arc_value result.frame.board) result.frame.spare (unboxed result.holdings.items) }
+    {
+        let Register { holdings, .. } = self;
+        holdings.scatter()
+    }
+
+    /// Makes a register of parts, loose pieces and a frame, whatever was done to them: the regions are their ranges, numbered in
+    /// key order, and the index is that of their rows. Nothing is counted.
+    ///
+    /// `NoPart` where there is no holding or more than 16, `ManyPieces` where there are more than 16 pieces, `Field` where a
+    /// width of zones isn't the frame's, `NotAdjacent` where the ranges leave a gap or overlap, `NumberTaken` where two rows
+    /// have one number, `Memory` where a growth was refused, before or after that: each hands all back as it came.
+    pub fn gather(alloc: Global, scattered: Scattered) -> Result<Register, Back<Scattered>>
+        requires { MayGather (arc_value scattered.frame.board) scattered.frame.spare (unboxed scattered.holdings.items) }
+        ensures gathered { IfOk result (λ register. (misfit scattered.frame.width (unboxed scattered.holdings.items) (unboxed scattered.pieces.items) ≡ None)
+            × (register ≡ gathered scattered.frame.width scattered.frame.spare (unboxed scattered.holdings.items) (unboxed scattered.pieces.items))) }
+        ensures refused { IfErr result (λ back. (back.item ≡ scattered)
+            × IsRefused scattered.frame.width (unboxed scattered.holdings.items) (unboxed scattered.pieces.items) back.why) }
+    {
+        let prepared = match scattered.prepare(alloc) {
+            Ok(prepared) => prepared,
+            Err(why) => {
+                return Err(Back {
+                    why,
+                    item: scattered,
+                });
+            }
+        };
+        let Prepared {
+            regions,
+            index,
+            holdings,
+            pieces,
+        } = prepared;
+        Ok(Register {
+            holdings: Holdings::gathered(scattered, regions, holdings, pieces),
             index,
             alloc,
         })

@@ -1,0 +1,9 @@
+use Rattle.std.proofs.Common.{length}
+use Rattle.hlr_core.proofs.NotedLemmas.{IsNoting, rows_from}
+use Rattle.hlr_core.proofs.numbers.note_rows.Given as goal
+
+abbrev pub invariant-loop-row : goal.invariant-loop-row
+invariant-loop-row g l = IsNoting (rows_from l.from (g.K.Keeper.rows_of l.keeper)) (g.K.Keeper.rows_of l.keeper) l.fn.index l.index
+
+abbrev pub decreases-loop-row : goal.decreases-loop-row
+decreases-loop-row g l = length (rows_from l.from (g.K.Keeper.rows_of l.keeper))

@@ -1,0 +1,21 @@
+-- Pairs of numbers and subscribers that are put in one after another, in whatever order. No clause of a public call cites this.
+use Rattle.std.specs.Prelude.{◌≡◌, ℕ, ◌+◌, ◌≤◌, ◌==◌, List, [], ◌∷◌, ◌++◌, sum_by, if◌then◌else◌}
+use Rattle.tatp_rows.specs.Rows.{SubscriberRow}
+use Rattle.hlr_core.specs.Index.{number_pair}
+
+-- the pairs are those that were there and those of some rows: each sum over them adds up
+abbrev pub AreNoted : List SubscriberRow → List (ℕ × ℕ) → List (ℕ × ℕ) → Type 0
+AreNoted rows before after = (f : ℕ × ℕ → ℕ) → sum_by f after ≡ sum_by f before + sum_by (λ row. f (number_pair row)) rows
+
+-- 1 where the pair has the number, else 0
+abbrev pub bears : ℕ → ℕ × ℕ → ℕ
+bears n pair = if pair.0 == n then 1 else 0
+
+-- a number stands twice in some pairs and rows
+abbrev pub HasTwin : List SubscriberRow → List (ℕ × ℕ) → Type 0
+HasTwin rows pairs = (n : ℕ) × (2 ≤ sum_by (bears n) pairs + sum_by (λ row. bears n (number_pair row)) rows)
+
+-- the rows of all keepers in a list, one keeper after another
+abbrev pub rows_of_each : {X : Type 0} → (X → List SubscriberRow) → List X → List SubscriberRow
+rows_of_each rows_in [] = []
+rows_of_each rows_in (keeper ∷ keepers) = rows_in keeper ++ rows_of_each rows_in keepers

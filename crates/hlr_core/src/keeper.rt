@@ -1,0 +1,90 @@
+//! What has the rows of a range: a part's holding, or a loose piece.
+ghost use Rattle.std.specs.Prelude.{◌≡◌, ℕ, List, option_copied};
+ghost use Rattle.tatp_rows.specs.Keys.{subscriber_key};
+ghost use Rattle.tatp_rows.specs.Ordered.{IsOrderedBy};
+ghost use Rattle.tatp_rows.specs.Rows.{SubscriberRow};
+ghost use Rattle.tatp_actions.specs.Book.{first_subscriber};
+ghost use Rattle.part_table.specs.declared.region.Region.{Region};
+ghost use Rattle.holding.specs.Held.{IsHolding, IsPiece};
+ghost use Rattle.hlr_core.specs.Gather.{holding_range, piece_range};
+
+use holding::{Holding, Piece};
+use part_table::{Place, Region};
+use tatp_rows::Subscriber;
+
+/// A keeper of the rows of a range, seen by its range, the width of its zones and its Subscriber rows.
+pub(crate) trait Keeper {
+    ghost range_of: { Self → Region };
+
+    ghost zones_of: { Self → ℕ };
+
+    ghost rows_of: { Self → List SubscriberRow };
+
+    ghost keeps: { Self → Type 0 };
+
+    /// The range, as that of a part or of a loose piece.
+    fn range(&self) -> Region
+        ensures value { result ≡ range_of self.now }
+        ensures rules { keeps self.now };
+
+    /// The width of the zones.
+    fn zones(&self) -> u32
+        ensures { result ≡ zones_of self.now };
+
+    /// The first Subscriber row from a subscriber on.
+    fn first_row(&self, s_id: u64) -> Option<&Subscriber>
+        ensures value { option_copied result ≡ first_subscriber s_id (rows_of self.now) }
+        ensures ordered { IsOrderedBy subscriber_key (rows_of self.now) };
+}
+
+impl Keeper for Holding {
+    ghost range_of = { holding_range };
+
+    ghost zones_of = { λ holding. holding.part.width };
+
+    ghost rows_of = { λ holding. holding.part.book.subscribers };
+
+    ghost keeps = { IsHolding };
+
+    fn range(&self) -> Region {
+        Region {
+            lo: self.lo(),
+            hi: self.hi(),
+            place: Place::Part(0),
+        }
+    }
+
+    fn zones(&self) -> u32 {
+        self.width()
+    }
+
+    fn first_row(&self, s_id: u64) -> Option<&Subscriber> {
+        self.first_sub_from(s_id)
+    }
+}
+
+impl Keeper for Piece {
+    ghost range_of = { piece_range };
+
+    ghost zones_of = { λ piece. piece.part.width };
+
+    ghost rows_of = { λ piece. piece.part.book.subscribers };
+
+    ghost keeps = { IsPiece };
+
+    fn range(&self) -> Region {
+        Region {
+            lo: self.lo(),
+            hi: self.hi(),
+            place: Place::Piece(0),
+        }
+    }
+
+    fn zones(&self) -> u32 {
+        self.width()
+    }
+
+    fn first_row(&self, s_id: u64) -> Option<&Subscriber> {
+        self.first_sub_from(s_id)
+    }
+}
