@@ -25,6 +25,7 @@ pub mod RecutLemmas
 pub mod RegisterLemmas
 pub mod RenamedLemmas
 pub mod RunLemmas
+pub mod ScatterLemmas
 pub mod ShareLemmas
 pub mod SightLemmas
 pub mod StoreActLemmas

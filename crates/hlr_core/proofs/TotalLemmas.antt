@@ -46,7 +46,7 @@ each_behind Q (Part p) (part ∷ parts) pieces rest numbers piece_numbers each_p
 each_behind Q (Piece n) parts [] rest numbers piece_numbers each_part each_piece each more = absurd (omega arith)
 each_behind Q (Piece n) parts (piece ∷ pieces) rest numbers piece_numbers each_part each_piece each more = let others = more each.1 in (others.0, (each.0, others.1))
 
-each_woven : {X : Type 0} (Q : X → Type 0) (regions : List Region) (parts pieces : List X) → length parts ≡ length (parts_of regions) → length pieces ≡ length (pieces_of regions)
+pub each_woven : {X : Type 0} (Q : X → Type 0) (regions : List Region) (parts pieces : List X) → length parts ≡ length (parts_of regions) → length pieces ≡ length (pieces_of regions)
     → AllByRecursion Q (woven regions parts pieces) → AllByRecursion Q parts × AllByRecursion Q pieces
 each_woven Q [] [] [] each_part each_piece each = (tt, tt)
 each_woven Q [] (part ∷ parts) pieces each_part each_piece each = absurd (omega arith)
