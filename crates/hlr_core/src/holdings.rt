@@ -1,6 +1,7 @@
 //! All owners' holdings, the loose pieces, and the board that the holdings post to.
-ghost use Rattle.std.specs.Prelude.{◌≡◌, ◌+◌, ℕ, ◌<◌, ◌≤◌, ◌⊎◌, true, Some, IfOk, OnErr, option_map, slice_index, slice_index_or, pos, [], vec_capacity};
+ghost use Rattle.std.specs.Prelude.{◌≡◌, ◌+◌, ℕ, ◌<◌, ◌≤◌, ◌⊎◌, true, Some, None, IfOk, OnErr, option_map, slice_index, slice_index_or, pos, [], vec_capacity};
 ghost use Rattle.part_table.specs.Give.{give_answer, after_give};
+ghost use Rattle.part_table.specs.Numbered.{numbered};
 ghost use Rattle.part_table.specs.Regions.{AreRegions, place_of};
 ghost use Rattle.part_table.specs.Take.{take_answer, after_take};
 ghost use Rattle.part_table.specs.declared.region.TheConstants.{MOST_PARTS};
@@ -15,7 +16,7 @@ ghost use Rattle.view_board.specs.Words.{AreSmall, HasGreat};
 ghost use Rattle.view_board.specs.declared.words.TheConstants.{SLOTS};
 ghost use Rattle.holding.specs.Held.{HasSmallNets};
 ghost use Rattle.hlr_core.specs.Desks.{AreLevel, desk_of};
-ghost use Rattle.hlr_core.specs.Gather.{MayGather, gathered};
+ghost use Rattle.hlr_core.specs.Gather.{MayGather, misfit, gathered};
 ghost use Rattle.hlr_core.specs.Held.{IsOpened, AreHeld, of_holding, of_piece};
 ghost use Rattle.hlr_core.specs.Owners.{seen, store_of, unboxed};
 ghost use Rattle.hlr_core.specs.Prepared.{IsSurveyed};
@@ -144,6 +145,8 @@ impl Holdings {
         ensures store { store_of self.regions (seen of_holding result.holdings.items) (seen of_piece result.pieces.items) result.frame.spare (seen desk_of result.holdings.items) result.frame.width ≡ self }
         ensures held { AreRegions self.regions × AreHeld self.regions (seen of_holding result.holdings.items) (seen of_piece result.pieces.items) self.width }
         ensures desks { MayGather (arc_value result.frame.board) result.frame.spare (unboxed result.holdings.items) }
+        ensures again { gathered result.frame.width result.frame.spare (unboxed result.holdings.items) (unboxed result.pieces.items) ≡ record self { regions = numbered 0 1 self.regions } }
+        ensures fits { misfit result.frame.width (unboxed result.holdings.items) (unboxed result.pieces.items) ≡ None }
     {
         let Holdings {
             holdings,

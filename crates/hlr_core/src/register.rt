@@ -6,6 +6,7 @@ ghost use Rattle.hlr_core.specs.Index.{index_of};
 ghost use Rattle.hlr_core.specs.Kept.{IsSameUndivided};
 ghost use Rattle.hlr_core.specs.Recut.{IsRecut};
 ghost use Rattle.hlr_core.specs.Step.{IsStep, IsRun, IsRowStep, reply_of};
+ghost use Rattle.part_table.specs.Numbered.{numbered};
 ghost use Rattle.part_table.specs.Proposal.{proposal};
 ghost use Rattle.part_table.specs.Regions.{AreRegions};
 ghost use Rattle.std.specs.Arc.{arc_value};
@@ -101,10 +102,13 @@ impl Register {
     }
 
     /// Takes the register apart: its holdings by the number of their part, its loose pieces in the order of their ranges, and
-    /// the frame. The index goes. It takes no memory.
+    /// the frame. The index goes. It takes no memory. `gather` gives the register back, with its loose pieces numbered from 1 in
+    /// the order of their ranges, and can be refused for want of memory alone.
     pub fn scatter(self) -> Scattered
         ensures store { store_of self.regions (seen of_holding result.holdings.items) (seen of_piece result.pieces.items) result.frame.spare (seen desk_of result.holdings.items) result.frame.width ≡ self }
         ensures desks { MayGather (arc_value result.frame.board) result.frame.spare (unboxed result.holdings.items) }
+        ensures again { gathered result.frame.width result.frame.spare (unboxed result.holdings.items) (unboxed result.pieces.items) ≡ record self { regions = numbered 0 1 self.regions } }
+        ensures fits { (why : Refusal) → IsRefused result.frame.width (unboxed result.holdings.items) (unboxed result.pieces.items) why → why ≡ Refusal.Memory }
     {
         let Register { holdings, .. } = self;
         holdings.scatter()

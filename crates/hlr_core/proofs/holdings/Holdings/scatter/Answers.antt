@@ -1,5 +1,12 @@
 use Rattle.hlr_core.proofs.GatheredLemmas.{may_gather}
+use Rattle.hlr_core.proofs.ScatterLemmas.{boxes_again, boxes_fit}
 use Rattle.hlr_core.proofs.holdings.Holdings.scatter.Goals as goal
 
 pub returns-clause-desks : goal.returns-clause-desks
 returns-clause-desks c = may_gather _ _ c.self.inside.holdings.items c.self.invariant.2
+
+pub returns-clause-again : goal.returns-clause-again
+returns-clause-again c = rw (← c.self.view_is) (boxes_again _ c.self.inside.holdings.items c.self.inside.pieces.items _ c.self.invariant.0 c.self.invariant.1 c.self.inside.spare)
+
+pub returns-clause-fits : goal.returns-clause-fits
+returns-clause-fits c = boxes_fit _ c.self.inside.holdings.items c.self.inside.pieces.items _ c.self.invariant.0 c.self.invariant.1
