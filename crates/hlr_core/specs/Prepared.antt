@@ -6,8 +6,6 @@ use Rattle.part_table.specs.Numbered.{numbered}
 use Rattle.part_table.specs.Regions.{AreRegions}
 use Rattle.part_table.specs.declared.region.Region.{Region}
 use Rattle.part_table.specs.declared.region.TheConstants.{MOST_PARTS, MOST_PIECES}
-use Rattle.view_board.specs.Desks.{Station}
-use Rattle.view_board.specs.Views.{IsWide}
 use Rattle.holding.specs.Held.{HoldingState, PieceState, IsHolding, IsPiece}
 use Rattle.hlr_core.specs.Gather.{misfit, ranges_of, rows_of_all}
 use Rattle.hlr_core.specs.Noted.{AreNoted}
