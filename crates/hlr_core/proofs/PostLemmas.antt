@@ -11,7 +11,6 @@ use Rattle.tatp_rows.proofs.PlaceLemmas.{each_at}
 use Rattle.tatp_actions.specs.declared.cells.TheConstants.{CELLS}
 use Rattle.view_board.specs.Desks.{Station, with_view}
 use Rattle.view_board.specs.Views.{IsWide, posted}
-use Rattle.view_board.specs.Words.{word_of}
 use Rattle.view_board.specs.declared.rule.View.{View}
 use Rattle.view_board.specs.declared.words.TheConstants.{SLOTS}
 use Rattle.holding.proofs.HeldLemmas.{wide_posted}

@@ -1,10 +1,9 @@
-use Rattle.std.proofs.Common.{◌≡◌, ◌∙◌, ap, arith, List}
-use Rattle.std.specs.Prelude.{Box, map}
-use Rattle.std.specs.declared.alloc.Global.{Global}
+use Rattle.std.proofs.Common.{◌≡◌, ◌∙◌, ap, arith}
+use Rattle.std.specs.Prelude.{map}
 use Rattle.tatp_rows.specs.Ordered.{in_order}
 use Rattle.holding.specs.Held.{HoldingState, PieceState}
 use Rattle.hlr_core.specs.Desks.{desk_of}
-use Rattle.hlr_core.specs.Held.{Owner, of_holding, of_piece}
+use Rattle.hlr_core.specs.Held.{of_holding, of_piece}
 use Rattle.hlr_core.specs.Owners.{seen, unboxed}
 use Rattle.hlr_core.proofs.GatheredLemmas.{do_fit, gathered_held, gathered_desks, gathered_store, seen_sorted}
 use Rattle.hlr_core.proofs.StoreLemmas.{all_rows}

@@ -1,5 +1,3 @@
-use Rattle.std.proofs.Common.{◌≡◌, List, ap}
-use Rattle.hlr_core.specs.Store.{Store}
 use Rattle.hlr_core.proofs.GatheredRowsLemmas.{gathered_index}
 use Rattle.hlr_core.proofs.register.Register.gather.Goals as goal
 
