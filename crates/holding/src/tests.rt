@@ -110,7 +110,7 @@ fn take(holding: &mut Holding, piece: Box<Piece>) -> Option<(Refusal, Box<Piece>
 fn counts(holding: &Holding) -> Counts {
     let all = holding.recount();
     (
-        [holding.net(4), holding.net(20)],
+        [holding.net(4), holding.nets()[20]],
         [holding.pending(4), holding.pending(20)],
         [all.get(4), all.get(20)],
     )
