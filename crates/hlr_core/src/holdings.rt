@@ -29,7 +29,7 @@ ghost use Rattle.hlr_core.specs.Store.{Store, HasOpening, opening_from, publishe
 use crate::event::Reply;
 use crate::gather::{Frame, Scattered, put_in_order};
 use crate::room::{boxed, insert_reserved, places};
-use crate::sums::{add_loose, add_pending, add_published};
+use crate::sums::{add_pending, add_published};
 use holding::{Holding, Piece};
 use part_table::{Place, Region, Regions, Side};
 use std::alloc::Global;
@@ -334,10 +334,10 @@ impl Holdings {
     {
         let mut sums = [0; CELLS as usize];
         for holding in &self.holdings {
-            add_pending(&mut sums, holding);
+            add_pending(&mut sums, &**holding);
         }
         for piece in &self.pieces {
-            add_loose(&mut sums, piece);
+            add_pending(&mut sums, &**piece);
         }
         sums
     }

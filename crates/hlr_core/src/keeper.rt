@@ -1,9 +1,11 @@
 //! What has the rows of a range: a part's holding, or a loose piece.
-ghost use Rattle.std.specs.Prelude.{◌≡◌, ℕ, List, option_copied};
+ghost use Rattle.std.specs.Prelude.{◌≡◌, ◌<◌, ℕ, ℤ, List, option_copied};
 ghost use Rattle.tatp_rows.specs.Keys.{subscriber_key};
 ghost use Rattle.tatp_rows.specs.Ordered.{IsOrderedBy};
 ghost use Rattle.tatp_rows.specs.Rows.{SubscriberRow};
 ghost use Rattle.tatp_actions.specs.Book.{first_subscriber};
+ghost use Rattle.tatp_actions.specs.declared.cells.TheConstants.{CELLS};
+ghost use Rattle.view_delta.specs.Pending.{pending_at};
 ghost use Rattle.part_table.specs.declared.region.Region.{Region};
 ghost use Rattle.holding.specs.Held.{IsHolding, IsPiece};
 ghost use Rattle.hlr_core.specs.Gather.{holding_range, piece_range};
@@ -12,13 +14,15 @@ use holding::{Holding, Piece};
 use part_table::{Place, Region};
 use tatp_rows::Subscriber;
 
-/// A keeper of the rows of a range, seen by its range, the width of its zones and its Subscriber rows.
+/// A keeper of the rows of a range, seen by its range, the width of its zones, its Subscriber rows and what is pending.
 pub(crate) trait Keeper {
     ghost range_of: { Self → Region };
 
     ghost zones_of: { Self → ℕ };
 
     ghost rows_of: { Self → List SubscriberRow };
+
+    ghost deltas_of: { Self → List ℤ };
 
     ghost keeps: { Self → Type 0 };
 
@@ -30,6 +34,11 @@ pub(crate) trait Keeper {
     /// The width of the zones.
     fn zones(&self) -> u32
         ensures { result ≡ zones_of self.now };
+
+    /// What is pending of a cell.
+    fn delta(&self, cell: u8) -> i64
+        requires { cell < CELLS }
+        ensures { result ≡ pending_at (deltas_of self.now) cell };
 
     /// The first Subscriber row from a subscriber on.
     fn first_row(&self, s_id: u64) -> Option<&Subscriber>
@@ -43,6 +52,8 @@ impl Keeper for Holding {
     ghost zones_of = { λ holding. holding.part.width };
 
     ghost rows_of = { λ holding. holding.part.book.subscribers };
+
+    ghost deltas_of = { λ holding. holding.pending };
 
     ghost keeps = { IsHolding };
 
@@ -58,6 +69,10 @@ impl Keeper for Holding {
         self.width()
     }
 
+    fn delta(&self, cell: u8) -> i64 {
+        self.pending(cell)
+    }
+
     fn first_row(&self, s_id: u64) -> Option<&Subscriber> {
         self.first_sub_from(s_id)
     }
@@ -69,6 +84,8 @@ impl Keeper for Piece {
     ghost zones_of = { λ piece. piece.part.width };
 
     ghost rows_of = { λ piece. piece.part.book.subscribers };
+
+    ghost deltas_of = { λ piece. piece.pending };
 
     ghost keeps = { IsPiece };
 
@@ -82,6 +99,10 @@ impl Keeper for Piece {
 
     fn zones(&self) -> u32 {
         self.width()
+    }
+
+    fn delta(&self, cell: u8) -> i64 {
+        self.pending(cell)
     }
 
     fn first_row(&self, s_id: u64) -> Option<&Subscriber> {

@@ -5,7 +5,8 @@ ghost use Rattle.view_board.specs.Nets.{net_of};
 ghost use Rattle.view_delta.specs.Pending.{pending_at};
 ghost use Rattle.hlr_core.specs.Held.{AreSummable};
 
-use holding::{Holding, Piece};
+use crate::keeper::Keeper;
+use holding::Holding;
 use tatp_actions::CELLS;
 
 /// Adds what a holding's desk has published of each cell to a sum. Neither is past 2^60, either way.
@@ -20,24 +21,13 @@ pub fn add_published(sums: &mut [i64; CELLS as usize], holding: &Holding)
     }
 }
 
-/// Adds what is pending of each cell in a holding to a sum. Neither is past 2^60, either way.
-pub fn add_pending(sums: &mut [i64; CELLS as usize], holding: &Holding)
+/// Adds what is pending of each cell to a sum. Neither is past 2^60, either way.
+pub fn add_pending<K: Keeper>(sums: &mut [i64; CELLS as usize], keeper: &K)
     requires sums { AreSummable (pending_at sums.old) }
-    requires deltas { AreSummable (pending_at holding.now.pending) }
-    ensures { (c : ℕ) → c < CELLS → pending_at sums.new c ≡ pending_at sums.old c +ℤ pending_at holding.now.pending c }
+    requires deltas { AreSummable (pending_at (K.deltas_of keeper.now)) }
+    ensures { (c : ℕ) → c < CELLS → pending_at sums.new c ≡ pending_at sums.old c +ℤ pending_at (K.deltas_of keeper.now) c }
 {
     for cell in 0..CELLS {
-        sums[usize::from(cell)] += holding.pending(cell);
-    }
-}
-
-/// Adds what is pending of each cell in a loose piece to a sum. Neither is past 2^60, either way.
-pub fn add_loose(sums: &mut [i64; CELLS as usize], piece: &Piece)
-    requires sums { AreSummable (pending_at sums.old) }
-    requires deltas { AreSummable (pending_at piece.now.pending) }
-    ensures { (c : ℕ) → c < CELLS → pending_at sums.new c ≡ pending_at sums.old c +ℤ pending_at piece.now.pending c }
-{
-    for cell in 0..CELLS {
-        sums[usize::from(cell)] += piece.pending(cell);
+        sums[usize::from(cell)] += keeper.delta(cell);
     }
 }

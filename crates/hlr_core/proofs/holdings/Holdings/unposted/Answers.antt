@@ -38,15 +38,15 @@ loop-piece-init c =
     let few = few_owners _ _ _ _ c.self.invariant.0 c.self.invariant.1 in
     none_added deltas _ _ _ (λ k below. added_small deltas _ _ _ _ _ _ (λ owner is. is.pending) each.0 few.0 c.loop-holding.invariant k below)
 
-pub add_loose-requires-clause-sums : goal.add_loose-requires-clause-sums
-add_loose-requires-clause-sums c = λ k below.
+pub add_pending-requires-in-loop-piece-clause-sums : goal.add_pending-requires-in-loop-piece-clause-sums
+add_pending-requires-in-loop-piece-clause-sums c = λ k below.
     let each = all_countable _ _ _ _ c.self.invariant.1 in
     let few = few_owners _ _ _ _ c.self.invariant.0 c.self.invariant.1 in
     let small = added_small deltas _ _ _ _ _ _ (λ owner is. is.pending) each.1 few.1 (rw c.deref-piece-items.ensures.value at c.loop-piece.invariant) k below in
     (omega (arith, ints), omega (arith, ints))
 
-pub add_loose-requires-clause-deltas : goal.add_loose-requires-clause-deltas
-add_loose-requires-clause-deltas c = λ k below.
+pub add_pending-requires-in-loop-piece-clause-deltas : goal.add_pending-requires-in-loop-piece-clause-deltas
+add_pending-requires-in-loop-piece-clause-deltas c = λ k below.
     let each = all_countable _ _ _ _ c.self.invariant.1 in
     let own = box_countable of_piece c.self.inside.width c.deref-piece-items.result.now _ _ c.deref-in-loop-piece.result.now (rw c.deref-piece-items.ensures.value each.1) c.loop-piece-test.true c.piece-item.is c.deref-in-loop-piece.ensures in
     let small = own.pending k below in
@@ -56,7 +56,7 @@ pub loop-piece-preserved : goal.loop-piece-preserved
 loop-piece-preserved c =
     let at = seen_at of_piece c.deref-piece-items.result.now _ _ _ c.piece-item.is c.deref-in-loop-piece.ensures in
     let within = rw (← length-seen of_piece c.deref-piece-items.result.now) at c.loop-piece-test.true in
-    one_added deltas _ _ _ _ _ _ _ within at c.loop-piece.invariant c.add_loose.ensures
+    one_added deltas _ _ _ _ _ _ _ within at c.loop-piece.invariant c.add_pending-in-loop-piece.ensures
 
 pub returns : goal.returns
 returns c =
