@@ -11,7 +11,8 @@ pub mod HeldLemmas
 pub mod HoldingsLemmas
 pub mod IndexLemmas
 pub mod KeptLemmas
-pub mod NotedLemmas
+pub mod MayGatherLemmas
+mod NotedLemmas
 pub mod NumbersLemmas
 pub mod OpenLemmas
 pub mod OwnerActLemmas

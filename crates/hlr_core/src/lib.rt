@@ -8,6 +8,8 @@
 mod checked;
 mod event;
 mod gather;
+#[cfg(test)]
+mod gather_tests;
 mod holdings;
 mod keeper;
 mod level;

@@ -12,15 +12,15 @@ use std::process::Abort;
 use std::test::Fail;
 use tatp_actions::{CELLS, RowReply};
 use tatp_rows::{Number, Refusal, Subscriber};
-use view_board::{LIMIT, WORDS};
+use view_board::{LIMIT, Sight, WORDS};
 
 /// The region of a place.
-fn region(place: Place, lo: u32, hi: u32) -> Region {
+pub fn region(place: Place, lo: u32, hi: u32) -> Region {
     Region { lo, hi, place }
 }
 
 /// Whether a register has these regions.
-fn has_regions(register: &Register, regions: &[Region]) -> bool {
+pub fn has_regions(register: &Register, regions: &[Region]) -> bool {
     register.regions().list() == regions
 }
 
@@ -31,7 +31,7 @@ fn proposes(register: &Register, bounds: &[u64]) -> bool {
 }
 
 /// Whether a walk over all rows counts so many in these cells, and none in the others.
-fn scans(register: &Register, counts: &[(u8, u64)]) -> bool {
+pub fn scans(register: &Register, counts: &[(u8, u64)]) -> bool {
     let counted = register.recount();
     let mut cells = 0u64;
     for cell in 0..CELLS {
@@ -45,7 +45,7 @@ fn scans(register: &Register, counts: &[(u8, u64)]) -> bool {
 }
 
 /// A gift of the stretch on the high side of a bound.
-fn giving(part: u64, at: u64) -> Event {
+pub fn giving(part: u64, at: u64) -> Event {
     Event::Give {
         part,
         side: Side::High,
@@ -86,7 +86,7 @@ fn updated(sf_type: u64) -> Event {
 }
 
 /// One subscriber with two facilities and four forwardings, some of it posted.
-fn example_is_filled(register: &mut Register) -> Result<Option<usize>, Refusal> {
+pub fn example_is_filled(register: &mut Register) -> Result<Option<usize>, Refusal> {
     let off = Event::SetActive {
         s_id: 7,
         sf_type: 2,
@@ -397,14 +397,18 @@ fn refuses_words(alloc: Global, parts: u8, plus: u64, minus: u64) -> bool {
 }
 
 /// Whether a sight has these words, and all others are 0.
-fn sees(register: &mut Register, words: &[(usize, u64)]) -> bool {
-    let sight = register.look();
+pub fn are_seen(sight: &Sight, words: &[(usize, u64)]) -> bool {
     let found = sight.words.iter().filter(|word| **word != 0).count();
     let mut agrees = found == words.len();
     for (place, word) in words {
         agrees = agrees && sight.words.get(*place) == Some(word);
     }
     agrees
+}
+
+/// Whether a register sees these words.
+fn sees(register: &mut Register, words: &[(usize, u64)]) -> bool {
+    are_seen(&register.look(), words)
 }
 
 /// A posting over words of which two have a value, and what it comes to.

@@ -1,0 +1,100 @@
+-- Holdings that may be brought home: with the last of them taken out and put back, and with what the spare desk saw.
+use Rattle.std.proofs.Common.{◌≡◌, ◌∙◌, ℕ, ◌+◌, ◌<◌, arith, List, [], ◌∷◌, ◌++◌, map, refl}
+use Rattle.std.specs.Prelude.{Box, sum_by}
+use Rattle.std.specs.List.{AllByRecursion}
+use Rattle.std.specs.declared.alloc.Global.{Global}
+use Rattle.std.proofs.lemmas.List.Sums.{sum_by-cons, sum_by_push}
+use Rattle.atomic_table.specs.Seated.{TableId}
+use Rattle.view_board.specs.Desks.{Station}
+use Rattle.view_board.specs.declared.words.TheConstants.{SLOTS}
+use Rattle.holding.specs.Held.{HoldingState}
+use Rattle.hlr_core.specs.Desks.{desk_of, owns_one}
+use Rattle.hlr_core.specs.Gather.{MayGather}
+use Rattle.hlr_core.specs.Owners.{seen, unboxed}
+use Rattle.hlr_core.proofs.BoxLemmas.{seen-push}
+use Rattle.hlr_core.proofs.GatherLemmas.{map_twice}
+
+-- a desk of the same board that has the same slots
+pub record IsSameDesk (before after : Station) : Type 0 where
+  pub board : after.board ≡ before.board
+  pub owned : after.view.owned ≡ before.view.owned
+
+-- the desks of what boxes contain
+desks_in : (boxes : List (Box HoldingState Global)) → map desk_of (unboxed boxes) ≡ seen desk_of boxes
+desks_in boxes = map_twice (λ (b : Box HoldingState Global). b.value) desk_of boxes
+
+-- each of a list and one behind it
+each_front : {X : Type 0} (P : X → Type 0) (xs : List X) (x : X) → AllByRecursion P (xs ++ x ∷ []) → AllByRecursion P xs × P x
+each_front P [] x each = (tt, each.0)
+each_front P (first ∷ xs) x each = let rest = each_front P xs x each.1 in ((each.0, rest.0), rest.1)
+
+each_back : {X : Type 0} (P : X → Type 0) (xs : List X) (x : X) → AllByRecursion P xs → P x → AllByRecursion P (xs ++ x ∷ [])
+each_back P [] x each here = (here, tt)
+each_back P (first ∷ xs) x each here = (each.0, each_back P xs x each.1 here)
+
+same_owns : (slot : ℕ) (before after : Station) → IsSameDesk before after → owns_one slot after ≡ owns_one slot before
+same_owns slot before after same = rw same.owned refl
+
+-- two holdings at the end of a list
+module _ (rest : List (Box HoldingState Global)) (first second : Box HoldingState Global) where
+  desks_of_two : map desk_of (unboxed ((rest ++ first ∷ []) ++ second ∷ [])) ≡ (seen desk_of rest ++ first.value.desk ∷ []) ++ second.value.desk ∷ []
+  desks_of_two = desks_in ((rest ++ first ∷ []) ++ second ∷ []) ∙ rw (seen-push desk_of (rest ++ first ∷ []) second, seen-push desk_of rest first) refl
+
+  owned_by_two : (spare : Station) (slot : ℕ)
+      → sum_by (owns_one slot) (spare ∷ map desk_of (unboxed ((rest ++ first ∷ []) ++ second ∷ []))) ≡ owns_one slot spare + sum_by (owns_one slot) (seen desk_of rest) + owns_one slot first.value.desk + owns_one slot second.value.desk
+  owned_by_two spare slot =
+      let head = sum_by-cons (owns_one slot) spare ((seen desk_of rest ++ first.value.desk ∷ []) ++ second.value.desk ∷ []) in
+      let last = sum_by_push (owns_one slot) (seen desk_of rest ++ first.value.desk ∷ []) second.value.desk in
+      let before = sum_by_push (owns_one slot) (seen desk_of rest) first.value.desk in
+      rw desks_of_two (omega arith)
+
+  of_board : (board : TableId) → AllByRecursion (λ (desk : Station). desk.board ≡ board) (seen desk_of rest) → first.value.desk.board ≡ board → second.value.desk.board ≡ board
+      → AllByRecursion (λ (desk : Station). desk.board ≡ board) (map desk_of (unboxed ((rest ++ first ∷ []) ++ second ∷ [])))
+  of_board board others one other =
+      rw desks_of_two (each_back (λ (desk : Station). desk.board ≡ board) (seen desk_of rest ++ first.value.desk ∷ []) second.value.desk (each_back (λ (desk : Station). desk.board ≡ board) (seen desk_of rest) first.value.desk others one) other)
+
+-- they are taken out
+module _ (board : TableId) (spare : Station) (all some rest : List (Box HoldingState Global)) (first second : Box HoldingState Global) (are : all ≡ some ++ second ∷ []) (were : some ≡ rest ++ first ∷ []) (may : MayGather board spare (unboxed all)) where
+  may_two : MayGather board spare (unboxed ((rest ++ first ∷ []) ++ second ∷ []))
+  may_two = rw (are, were) at may
+
+  front : AllByRecursion (λ (desk : Station). desk.board ≡ board) (seen desk_of rest ++ first.value.desk ∷ []) × (second.value.desk.board ≡ board)
+  front = each_front (λ (desk : Station). desk.board ≡ board) (seen desk_of rest ++ first.value.desk ∷ []) second.value.desk (rw (desks_of_two rest first second) at may_two.same.1)
+
+  others : AllByRecursion (λ (desk : Station). desk.board ≡ board) (seen desk_of rest) × (first.value.desk.board ≡ board)
+  others = each_front (λ (desk : Station). desk.board ≡ board) (seen desk_of rest) first.value.desk front.0
+
+  -- their desks are of the board
+  pub first_board : first.value.desk.board ≡ board
+  first_board = others.1
+
+  pub second_board : second.value.desk.board ≡ board
+  second_board = front.1
+
+  -- and put back, as they were or the other way round, over desks of the same slots
+  module _ (first' second' : Box HoldingState Global) (same_first : IsSameDesk first.value.desk first'.value.desk) (same_second : IsSameDesk second.value.desk second'.value.desk) where
+    pub two_back : MayGather board spare (unboxed ((rest ++ first' ∷ []) ++ second' ∷ []))
+    two_back = record {
+      same = (may.same.0, of_board rest first' second' board others.0 (same_first.board ∙ first_board) (same_second.board ∙ second_board));
+      once = λ slot within. (
+        let was = owned_by_two rest first second spare slot in
+        let now = owned_by_two rest first' second' spare slot in
+        let once = may_two.once slot within in
+        let one = same_owns slot first.value.desk first'.value.desk same_first in
+        let other = same_owns slot second.value.desk second'.value.desk same_second in
+        omega arith);
+      idle = may.idle;
+    }
+
+    pub two_turned : MayGather board spare (unboxed ((rest ++ second' ∷ []) ++ first' ∷ []))
+    two_turned = record {
+      same = (may.same.0, of_board rest second' first' board others.0 (same_second.board ∙ second_board) (same_first.board ∙ first_board));
+      once = λ slot within. (
+        let was = owned_by_two rest first second spare slot in
+        let now = owned_by_two rest second' first' spare slot in
+        let once = may_two.once slot within in
+        let one = same_owns slot first.value.desk first'.value.desk same_first in
+        let other = same_owns slot second.value.desk second'.value.desk same_second in
+        omega arith);
+      idle = may.idle;
+    }
