@@ -1,18 +1,21 @@
--- Holdings that may be brought home: with the last of them taken out and put back, and with what the spare desk saw.
-use Rattle.std.proofs.Common.{◌≡◌, ◌∙◌, ℕ, ◌+◌, ◌<◌, arith, List, [], ◌∷◌, ◌++◌, map, refl}
+-- Holdings that may be brought home: those of no part, over a new board, and those of which the last two are taken out and put back.
+use Rattle.std.proofs.Common.{◌≡◌, ◌∙◌, ℕ, ◌+◌, ◌<◌, arith, List, [], ◌∷◌, ◌++◌, length, map, refl}
 use Rattle.std.specs.Prelude.{Box, sum_by}
 use Rattle.std.specs.List.{AllByRecursion}
 use Rattle.std.specs.declared.alloc.Global.{Global}
 use Rattle.std.proofs.lemmas.List.Sums.{sum_by-cons, sum_by_push}
 use Rattle.atomic_table.specs.Seated.{TableId}
 use Rattle.view_board.specs.Desks.{Station}
-use Rattle.view_board.specs.declared.words.TheConstants.{SLOTS}
+use Rattle.view_board.specs.Views.{first_view}
+use Rattle.view_board.specs.declared.words.TheConstants.{SLOTS, WORDS}
 use Rattle.holding.specs.Held.{HoldingState}
-use Rattle.hlr_core.specs.Desks.{desk_of, owns_one}
+use Rattle.hlr_core.specs.Desks.{desk_of, owns_one, AreOpening}
 use Rattle.hlr_core.specs.Gather.{MayGather}
 use Rattle.hlr_core.specs.Owners.{seen, unboxed}
 use Rattle.hlr_core.proofs.BoxLemmas.{seen-push}
 use Rattle.hlr_core.proofs.GatherLemmas.{map_twice}
+use Rattle.hlr_core.proofs.GatheredLemmas.{may_gather}
+use Rattle.hlr_core.proofs.ShareLemmas.{none_shared, first_of_board, shared_desks}
 
 -- a desk of the same board that has the same slots
 pub record IsSameDesk (before after : Station) : Type 0 where
@@ -34,6 +37,11 @@ each_back P (first ∷ xs) x each here = (each.0, each_back P xs x each.1 here)
 
 same_owns : (slot : ℕ) (before after : Station) → IsSameDesk before after → owns_one slot after ≡ owns_one slot before
 same_owns slot before after same = rw same.owned refl
+
+-- a new board's desk alone
+pub new_board : (board : TableId) (spare : Station) (words : List ℕ) → spare.board ≡ board → spare.view ≡ first_view words → AreOpening words → length words ≡ WORDS → MayGather board spare []
+new_board board spare words same first opening wide =
+    may_gather board spare [] (shared_desks words board spare [] opening.level (first_of_board words board spare same first wide, tt) (none_shared words spare [] first refl))
 
 -- two holdings at the end of a list
 module _ (rest : List (Box HoldingState Global)) (first second : Box HoldingState Global) where
@@ -77,12 +85,12 @@ module _ (board : TableId) (spare : Station) (all some rest : List (Box HoldingS
     two_back = record {
       same = (may.same.0, of_board rest first' second' board others.0 (same_first.board ∙ first_board) (same_second.board ∙ second_board));
       once = λ slot within. (
-        let was = owned_by_two rest first second spare slot in
-        let now = owned_by_two rest first' second' spare slot in
-        let once = may_two.once slot within in
-        let one = same_owns slot first.value.desk first'.value.desk same_first in
-        let other = same_owns slot second.value.desk second'.value.desk same_second in
-        omega arith);
+          let was = owned_by_two rest first second spare slot in
+          let now = owned_by_two rest first' second' spare slot in
+          let once = may_two.once slot within in
+          let one = same_owns slot first.value.desk first'.value.desk same_first in
+          let other = same_owns slot second.value.desk second'.value.desk same_second in
+          omega arith);
       idle = may.idle;
     }
 
@@ -90,11 +98,11 @@ module _ (board : TableId) (spare : Station) (all some rest : List (Box HoldingS
     two_turned = record {
       same = (may.same.0, of_board rest second' first' board others.0 (same_second.board ∙ second_board) (same_first.board ∙ first_board));
       once = λ slot within. (
-        let was = owned_by_two rest first second spare slot in
-        let now = owned_by_two rest second' first' spare slot in
-        let once = may_two.once slot within in
-        let one = same_owns slot first.value.desk first'.value.desk same_first in
-        let other = same_owns slot second.value.desk second'.value.desk same_second in
-        omega arith);
+          let was = owned_by_two rest first second spare slot in
+          let now = owned_by_two rest second' first' spare slot in
+          let once = may_two.once slot within in
+          let one = same_owns slot first.value.desk first'.value.desk same_first in
+          let other = same_owns slot second.value.desk second'.value.desk same_second in
+          omega arith);
       idle = may.idle;
     }

@@ -218,7 +218,7 @@ fn refuses_gives(register: &mut Register) -> bool {
 }
 
 /// Whether sixteen pieces of one subscriber are given, and no more, and the last is taken and given anew.
-fn gives_sixteen(register: &mut Register) -> bool {
+pub fn gives_sixteen(register: &mut Register) -> bool {
     let mut are_given = true;
     for number in 1u8..17 {
         let lo = 65u32.wrapping_sub(u32::from(number));
