@@ -411,7 +411,7 @@ fn sees(register: &mut Register, words: &[(usize, u64)]) -> bool {
     are_seen(&register.look(), words)
 }
 
-/// A posting over words of which two have a value, and what it comes to.
+/// A posting over words of which two have a value, what it comes to, and what the same posting answers after it.
 #[derive(Drop)]
 struct Posting {
     word: u64,
@@ -419,17 +419,25 @@ struct Posting {
     raised: u64,
     published: i64,
     unposted: i64,
+    again: Reply,
 }
 
-/// Whether the counts of a subscriber are posted so, and seen.
+/// Whether the words and cells are those after a posting.
+fn is_posted(register: &mut Register, posting_is: &Posting) -> bool {
+    let words = [(4, 1), (20, posting_is.raised), (71, posting_is.word)];
+    let published = [(4, 1), (20, posting_is.published)];
+    sees(register, &words) && stands(register, &published, &[(20, posting_is.unposted)])
+}
+
+/// Whether the counts of a subscriber are posted so, and seen, and the same posting changes nothing more.
 fn posts(register: &mut Register, posting_is: &Posting) -> Result<bool, Refusal> {
     let word = posting_is.word;
-    let added = Event::AddSubscriber(row(7, 7, 1)?);
+    let added = Event::AddSubscriber(row(7, 7, 268_435_456)?);
     let is_added = replies(register, added, DONE) && sees(register, &[(20, word), (71, word)]);
-    let is_posted = register.apply(posting(0, 51)) == posting_is.reply;
-    let is_seen = sees(register, &[(3, 1), (20, posting_is.raised), (71, word)]);
-    let cells = (register.published()[20], register.unposted()[20]);
-    Ok(is_added && is_posted && is_seen && cells == (posting_is.published, posting_is.unposted))
+    let first = register.apply(posting(0, 51)) == posting_is.reply;
+    let is_first = first && is_posted(register, posting_is);
+    let again = register.apply(posting(0, 51)) == posting_is.again;
+    Ok(is_added && is_first && again && is_posted(register, posting_is))
 }
 
 /// The same of a register of two parts over such words.
@@ -457,6 +465,7 @@ fn words_that_stand(rt: HostRuntime) -> Result<(), Fail> {
         raised: 6,
         published: 1,
         unposted: 0,
+        again: Reply::Posted(0),
     };
     let full = Posting {
         word: LIMIT,
@@ -464,6 +473,7 @@ fn words_that_stand(rt: HostRuntime) -> Result<(), Fail> {
         raised: LIMIT,
         published: 0,
         unposted: 1,
+        again: Reply::Refused(Refusal::Worn),
     };
     let raised = posts_over(alloc, &level)?;
     let worn = posts_over(alloc, &full)?;
