@@ -24,19 +24,19 @@ abbrev pub sum_of : (ℕ × ℕ → ℕ) → List SubscriberRow → ℕ
 sum_of f rows = sum_by (λ row. f (number_pair row)) rows
 
 -- a sum over the pairs of the index is that over the rows
-pub sum_by-index_of : (f : ℕ × ℕ → ℕ) (rows : List SubscriberRow) → sum_by f (index_of rows) ≡ sum_of f rows
+sum_by-index_of : (f : ℕ × ℕ → ℕ) (rows : List SubscriberRow) → sum_by f (index_of rows) ≡ sum_of f rows
 sum_by-index_of f [] = refl
 sum_by-index_of f (row ∷ rows) =
     sum_by-with_row key_of_pair f (number_pair row) (index_of rows) ∙ ap (λ n. f (number_pair row) + n) (sum_by-index_of f rows) ∙ sym (sum_by-cons (λ (r : SubscriberRow). f (number_pair r)) row rows)
 
 -- in rising pairs a number stands once or not at all
-pub stands_once : (pairs : List (ℕ × ℕ)) (n : ℕ) → IsOrderedBy key_of_pair pairs → sum_by (bears n) pairs ≤ 1
+stands_once : (pairs : List (ℕ × ℕ)) (n : ℕ) → IsOrderedBy key_of_pair pairs → sum_by (bears n) pairs ≤ 1
 stands_once pairs n ordered =
     let count : sum_by (bears n) pairs ≡ (if is_some (pair_of n pairs) then 1 else 0) = count_of_key key_of_pair n pairs ordered in
     by_test (is_some (pair_of n pairs)) (λ e. let one = rw e at count in omega (arith, one)) (λ e. let none = rw e at count in omega (arith, none))
 
 -- a number that has a pair stands there
-pub stands_there : (pairs : List (ℕ × ℕ)) (n : ℕ) (pair : ℕ × ℕ) → pair_of n pairs ≡ Some pair → 1 ≤ sum_by (bears n) pairs
+stands_there : (pairs : List (ℕ × ℕ)) (n : ℕ) (pair : ℕ × ℕ) → pair_of n pairs ≡ Some pair → 1 ≤ sum_by (bears n) pairs
 stands_there [] n pair found = absurd cc
 stands_there (x ∷ xs) n pair found =
     by_test (x.0 == n)
@@ -44,7 +44,7 @@ stands_there (x ∷ xs) n pair found =
     (λ e. let rest = stands_there xs n pair (rw e at found) in rw (sum_by-cons (bears n) x xs, e) (omega (arith, rest)))
 
 -- and one that has none doesn't
-pub stands_nowhere : (pairs : List (ℕ × ℕ)) (n : ℕ) → pair_of n pairs ≡ None → sum_by (bears n) pairs ≡ 0
+stands_nowhere : (pairs : List (ℕ × ℕ)) (n : ℕ) → pair_of n pairs ≡ None → sum_by (bears n) pairs ≡ 0
 stands_nowhere [] n absent = refl
 stands_nowhere (x ∷ xs) n absent =
     by_test (x.0 == n)
@@ -101,7 +101,7 @@ single_once (row ∷ rows) n alone =
     omega (arith, sum, here, rest))
 
 -- the pairs of rows whose numbers all differ rise
-pub index_rises : (rows : List SubscriberRow) → HasNoTwin rows → IsOrderedBy key_of_pair (index_of rows)
+index_rises : (rows : List SubscriberRow) → HasNoTwin rows → IsOrderedBy key_of_pair (index_of rows)
 index_rises [] alone = tt
 index_rises (row ∷ rows) alone =
     ordered-with_row key_of_pair (number_pair row) (index_of rows)
@@ -151,7 +151,7 @@ first_stands x xs =
     rw (sum_by-cons (is_one x) x xs, first, second) (omega arith)
 
 -- rising pairs with the same sums are the same
-pub same_pairs : (xs ys : List (ℕ × ℕ)) → IsOrderedBy key_of_pair xs → IsOrderedBy key_of_pair ys → ((f : ℕ × ℕ → ℕ) → sum_by f xs ≡ sum_by f ys) → xs ≡ ys
+same_pairs : (xs ys : List (ℕ × ℕ)) → IsOrderedBy key_of_pair xs → IsOrderedBy key_of_pair ys → ((f : ℕ × ℕ → ℕ) → sum_by f xs ≡ sum_by f ys) → xs ≡ ys
 same_pairs [] [] rises risen sums = refl
 same_pairs [] (y ∷ ys) rises risen sums =
     let none = sums (λ pair. 1) in
@@ -230,7 +230,7 @@ noting_end left rows before pairs none noting f =
     omega (arith, past, all)
 
 -- the next of them are noted
-pub noting_next : (now next left rows : List SubscriberRow) (before pairs more : List (ℕ × ℕ)) → now ≡ next ++ left → IsNoting now rows before pairs → AreNoted next pairs more → IsNoting left rows before more
+noting_next : (now next left rows : List SubscriberRow) (before pairs more : List (ℕ × ℕ)) → now ≡ next ++ left → IsNoting now rows before pairs → AreNoted next pairs more → IsNoting left rows before more
 noting_next now next left rows before pairs more parts noting noted = record {
   sums = λ f. (let both : sum_of f now ≡ sum_of f next + sum_of f left = ap (sum_of f) parts ∙ sum_both f next left in
       let so_far = noting.sums f in
@@ -239,7 +239,7 @@ noting_next now next left rows before pairs more parts noting noted = record {
 }
 
 -- the next of them have a number that stands twice
-pub noting_twin : (now next left rows : List SubscriberRow) (before pairs : List (ℕ × ℕ)) → now ≡ next ++ left → IsNoting now rows before pairs → HasTwin next pairs → HasTwin rows before
+noting_twin : (now next left rows : List SubscriberRow) (before pairs : List (ℕ × ℕ)) → now ≡ next ++ left → IsNoting now rows before pairs → HasTwin next pairs → HasTwin rows before
 noting_twin now next left rows before pairs parts noting two =
     let both : sum_of (bears two.0) now ≡ sum_of (bears two.0) next + sum_of (bears two.0) left = ap (sum_of (bears two.0)) parts ∙ sum_both (bears two.0) next left in
     let so_far = noting.sums (bears two.0) in
@@ -247,21 +247,21 @@ noting_twin now next left rows before pairs parts noting two =
     (two.0, omega (arith, both, so_far, twice))
 
 -- one row is noted
-pub noted_one : (row : SubscriberRow) (pairs : List (ℕ × ℕ)) → AreNoted (row ∷ []) pairs (with_row key_of_pair (number_pair row) pairs)
+noted_one : (row : SubscriberRow) (pairs : List (ℕ × ℕ)) → AreNoted (row ∷ []) pairs (with_row key_of_pair (number_pair row) pairs)
 noted_one row pairs f =
     let more = sum_by-with_row key_of_pair f (number_pair row) pairs in
     let one = sum_by-cons (λ (r : SubscriberRow). f (number_pair r)) row [] in
     omega (arith, more, one)
 
 -- a row whose number has a pair
-pub twin_one : (row : SubscriberRow) (pairs : List (ℕ × ℕ)) (pair : ℕ × ℕ) → pair_of row.sub_nbr pairs ≡ Some pair → HasTwin (row ∷ []) pairs
+twin_one : (row : SubscriberRow) (pairs : List (ℕ × ℕ)) (pair : ℕ × ℕ) → pair_of row.sub_nbr pairs ≡ Some pair → HasTwin (row ∷ []) pairs
 twin_one row pairs pair found =
     let there = stands_there pairs row.sub_nbr pair found in
     let one = sum_by-cons (λ (r : SubscriberRow). bears row.sub_nbr (number_pair r)) row [] in
     (row.sub_nbr, omega (arith, there, one, own row))
 
 -- why a row isn't noted
-pub one_refused : (row : SubscriberRow) (pairs : List (ℕ × ℕ)) (why : Refusal) → (IsSome (pair_of row.sub_nbr pairs) → why ≡ NumberTaken) → (pair_of row.sub_nbr pairs ≡ None → why ≡ Memory)
+one_refused : (row : SubscriberRow) (pairs : List (ℕ × ℕ)) (why : Refusal) → (IsSome (pair_of row.sub_nbr pairs) → why ≡ NumberTaken) → (pair_of row.sub_nbr pairs ≡ None → why ≡ Memory)
     → ((why ≡ NumberTaken) × HasTwin (row ∷ []) pairs) ⊎ (why ≡ Memory)
 one_refused row pairs why taken refused = cases (pair_of row.sub_nbr pairs) refl
   where
@@ -303,7 +303,7 @@ first_from s (x ∷ xs) row found =
     (λ e. first_from s xs row (rw e at found))
 
 -- and behind it are those of the subscribers past its own
-pub rows_from_step : (s : ℕ) (rows : List SubscriberRow) (row : SubscriberRow) → IsOrderedBy subscriber_key rows → first_subscriber s rows ≡ Some row → rows_from s rows ≡ row ∷ rows_from (row.s_id + 1) rows
+rows_from_step : (s : ℕ) (rows : List SubscriberRow) (row : SubscriberRow) → IsOrderedBy subscriber_key rows → first_subscriber s rows ≡ Some row → rows_from s rows ≡ row ∷ rows_from (row.s_id + 1) rows
 rows_from_step s [] row ordered found = absurd cc
 rows_from_step s (x ∷ xs) row ordered found =
     by_test (nat_le s x.s_id)

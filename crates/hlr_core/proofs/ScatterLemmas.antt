@@ -95,7 +95,7 @@ module _ {X : Type 0} (key : X → ℕ) where
       (in_order-woven regions behind loose_behind at.parts_left at.pieces_left)
 
 -- a list rises as what is made of it
-pub ordered_made : {X Y : Type 0} (f : X → Y) (key : Y → ℕ) (xs : List X) → IsOrderedBy key (map f xs) → IsOrderedBy (λ x. key (f x)) xs
+ordered_made : {X Y : Type 0} (f : X → Y) (key : Y → ℕ) (xs : List X) → IsOrderedBy key (map f xs) → IsOrderedBy (λ x. key (f x)) xs
 ordered_made f key [] rises = tt
 ordered_made f key (x ∷ xs) rises = (each-unmap f (λ y. key (f x) < key y) xs rises.0, ordered_made f key xs rises.1)
 
@@ -126,7 +126,7 @@ regions_from from (region ∷ regions) follow =
     )
 
 -- and later and later
-pub regions_rise : (from : ℕ) (regions : List Region) → IsConsecutive from regions → IsOrderedBy (λ region. region.lo) regions
+regions_rise : (from : ℕ) (regions : List Region) → IsConsecutive from regions → IsOrderedBy (λ region. region.lo) regions
 regions_rise from [] follow = tt
 regions_rise from (region ∷ regions) follow =
     let some = follow.1 in (
@@ -149,14 +149,14 @@ place_unnumbered p n (Part number) = (refl, refl, refl)
 place_unnumbered p n (Piece number) = (refl, refl, refl)
 
 -- and so are regions
-pub numbered-unnumbered : (p n : ℕ) (regions : List Region) → numbered p n (map unnumbered regions) ≡ numbered p n regions
+numbered-unnumbered : (p n : ℕ) (regions : List Region) → numbered p n (map unnumbered regions) ≡ numbered p n regions
 numbered-unnumbered p n [] = refl
 numbered-unnumbered p n (region ∷ regions) =
     let at = place_unnumbered p n region.place in
     rw (at.0, at.1, at.2) (ap (λ (rest : List Region). record { lo = region.lo; hi = region.hi; place = place_numbered p n region.place } ∷ rest) (numbered-unnumbered (part_after p region.place) (piece_after n region.place) regions))
 
 -- and they follow one another still
-pub unnumbered_follow : (from : ℕ) (regions : List Region) → IsConsecutive from regions → do_follow from (map unnumbered regions) ≡ true
+unnumbered_follow : (from : ℕ) (regions : List Region) → IsConsecutive from regions → do_follow from (map unnumbered regions) ≡ true
 unnumbered_follow from [] follow = grind (arith, nat_tests, follow)
 unnumbered_follow from (region ∷ regions) follow =
     let begins : (region.lo == from) ≡ true = grind (arith, nat_tests, follow.0) in
@@ -178,14 +178,14 @@ ranges_at width region (Piece n) regions holdings (piece ∷ pieces) is each_par
     record { lo = each.0.from k; hi = each.0.to k; place = place_numbered 0 0 (sym is k) } ∷ rest holdings pieces each_part (omega arith) each.1 k
 
 -- the ranges of owners, woven, are their regions without the numbers
-pub ranges-woven : (width : ℕ) (regions : List Region) (holdings : List HoldingState) (pieces : List PieceState) → length holdings ≡ length (parts_of regions) → length pieces ≡ length (pieces_of regions)
+ranges-woven : (width : ℕ) (regions : List Region) (holdings : List HoldingState) (pieces : List PieceState) → length holdings ≡ length (parts_of regions) → length pieces ≡ length (pieces_of regions)
     → AreOwners width regions (woven regions (map of_holding holdings) (map of_piece pieces)) → woven regions (map holding_range holdings) (map piece_range pieces) ≡ map unnumbered regions
 ranges-woven width [] holdings pieces each_part each_piece each = refl
 ranges-woven width (region ∷ regions) holdings pieces each_part each_piece each =
     ranges_at width region region.place regions holdings pieces refl each_part each_piece each (ranges-woven width regions)
 
 -- a test that each element passes
-pub all_pass : {X : Type 0} (test : X → Bool) (P : X → Type 0) (xs : List X) → ((x : X) → P x → test x ≡ true) → AllByRecursion P xs → list_all test xs ≡ true
+all_pass : {X : Type 0} (test : X → Bool) (P : X → Type 0) (xs : List X) → ((x : X) → P x → test x ≡ true) → AllByRecursion P xs → list_all test xs ≡ true
 all_pass test P [] passes each = refl
 all_pass test P (x ∷ xs) passes each = rw (passes x each.0) (all_pass test P xs passes each.1)
 

@@ -15,7 +15,7 @@ bears n pair = if pair.0 == n then 1 else 0
 abbrev pub HasTwin : List SubscriberRow → List (ℕ × ℕ) → Type 0
 HasTwin rows pairs = (n : ℕ) × (2 ≤ sum_by (bears n) pairs + sum_by (λ row. bears n (number_pair row)) rows)
 
--- the rows of all keepers in a list, one keeper after another
+-- the rows of all owners in a list, one owner after another
 abbrev pub rows_of_each : {X : Type 0} → (X → List SubscriberRow) → List X → List SubscriberRow
 rows_of_each rows_in [] = []
-rows_of_each rows_in (keeper ∷ keepers) = rows_in keeper ++ rows_of_each rows_in keepers
+rows_of_each rows_in (owner ∷ owners) = rows_in owner ++ rows_of_each rows_in owners

@@ -66,7 +66,7 @@ impl Model for Holdings {
     ghost view = { λ h. store_of h.regions (seen of_holding h.holdings.items) (seen of_piece h.pieces.items) h.spare (seen desk_of h.holdings.items) h.width };
 
     ghost invariant = { λ h. AreRegions h.regions × AreHeld h.regions (seen of_holding h.holdings.items) (seen of_piece h.pieces.items) h.width
-        × AreDesks (arc_value h.board) h.spare (seen desk_of h.holdings.items) × (PLACES ≤ vec_capacity h.pieces) };
+        × AreDesks (arc_value h.board) h.spare (seen desk_of h.holdings.items) × (PLACES ≤ vec_capacity h.pieces) × (PLACES ≤ vec_capacity h.holdings) };
 }
 
 /// A holding with no row, over a slot that is split off the desk of those that no part has yet. `Memory` where a growth was
@@ -143,7 +143,7 @@ impl Holdings {
     /// no memory.
     pub fn scatter(self) -> Scattered
         ensures store { store_of self.regions (seen of_holding result.holdings.items) (seen of_piece result.pieces.items) result.frame.spare (seen desk_of result.holdings.items) result.frame.width ≡ self }
-        ensures held { AreRegions self.regions × AreHeld self.regions (seen of_holding result.holdings.items) (seen of_piece result.pieces.items) self.width }
+        ensures held { AreHeld self.regions (seen of_holding result.holdings.items) (seen of_piece result.pieces.items) self.width }
         ensures desks { MayGather (arc_value result.frame.board) result.frame.spare (unboxed result.holdings.items) }
         ensures again { gathered result.frame.width result.frame.spare (unboxed result.holdings.items) (unboxed result.pieces.items) ≡ record self { regions = numbered 0 1 self.regions } }
         ensures fits { misfit result.frame.width (unboxed result.holdings.items) (unboxed result.pieces.items) ≡ None }
@@ -167,25 +167,26 @@ impl Holdings {
         }
     }
 
-    /// Holdings and pieces over these regions, each put in its place among those lists that have room for them.
+    /// All that is handed in, over these regions, each holding and piece put in its place. It takes no memory: two empty lists
+    /// have room for them.
     pub fn gathered(
         scattered: Scattered,
         regions: Regions,
-        holdings: Vec<Box<Holding>>,
-        pieces: Vec<Box<Piece>>,
+        room_for_holdings: Vec<Box<Holding>>,
+        room_for_pieces: Vec<Box<Piece>>,
     ) -> Self
         requires surveyed { IsSurveyed scattered.frame.width (unboxed scattered.holdings.items) (unboxed scattered.pieces.items) regions }
         requires desks { MayGather (arc_value scattered.frame.board) scattered.frame.spare (unboxed scattered.holdings.items) }
         requires wide { IsWide scattered.frame.spare.view }
-        requires empty { (holdings.items ≡ []) × (pieces.items ≡ []) }
-        requires room { (PLACES ≤ vec_capacity holdings) × (PLACES ≤ vec_capacity pieces) }
+        requires empty { (room_for_holdings.items ≡ []) × (room_for_pieces.items ≡ []) }
+        requires room { (PLACES ≤ vec_capacity room_for_holdings) × (PLACES ≤ vec_capacity room_for_pieces) }
         ensures value { result ≡ gathered scattered.frame.width scattered.frame.spare (unboxed scattered.holdings.items) (unboxed scattered.pieces.items) }
         ensures rows { IsRowsOf 1 (LAST_SUBSCRIBER + 1) result.book }
     {
         let Scattered {
             frame,
-            holdings: handed,
-            pieces: loose,
+            holdings,
+            pieces,
         } = scattered;
         let Frame {
             board,
@@ -194,8 +195,8 @@ impl Holdings {
         } = frame;
         Holdings {
             regions,
-            holdings: put_in_order(handed, holdings),
-            pieces: put_in_order(loose, pieces),
+            holdings: put_in_order(holdings, room_for_holdings),
+            pieces: put_in_order(pieces, room_for_pieces),
             board,
             spare,
             width,

@@ -11,9 +11,9 @@ mod gather;
 #[cfg(test)]
 mod gather_tests;
 mod holdings;
-mod keeper;
 mod level;
 mod numbers;
+mod owner;
 #[cfg(test)]
 mod plain;
 #[cfg(test)]

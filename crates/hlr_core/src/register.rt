@@ -1,5 +1,5 @@
 //! The register: all rows under one roof, no number twice, and every cell as published with what is not posted yet.
-ghost use Rattle.std.specs.Prelude.{◌≡◌, ℕ, [], vec_len, vec_capacity, ◌<◌, ◌≤◌, ◌↔◌, ◌⊎◌, None, IfOk, IfErr, OnErr, slice_index, slice_index_or, option_map, Option, Bool, ◌+◌, ℤ, pos, ◌+ℤ◌};
+ghost use Rattle.std.specs.Prelude.{◌≡◌, ℕ, [], vec_len, vec_capacity, ◌<◌, ◌≤◌, ◌↔◌, ◌⊎◌, None, IfOk, IfErr, OnErr, slice_index, slice_index_or, Option, Bool, ◌+◌, ℤ, pos, ◌+ℤ◌};
 ghost use Rattle.hlr_core.specs.Asked.{IsAsked, IsRowAction};
 ghost use Rattle.tatp_actions.specs.Cell.{cell};
 ghost use Rattle.hlr_core.specs.Index.{index_of};
@@ -12,7 +12,7 @@ ghost use Rattle.part_table.specs.Regions.{AreRegions};
 ghost use Rattle.std.specs.Arc.{arc_value};
 ghost use Rattle.hlr_core.specs.Desks.{AreOpening, desk_of};
 ghost use Rattle.hlr_core.specs.Gather.{MayGather, misfit, IsRefused, gathered};
-ghost use Rattle.hlr_core.specs.Held.{of_holding, of_piece};
+ghost use Rattle.hlr_core.specs.Held.{AreHeld, of_holding, of_piece};
 ghost use Rattle.hlr_core.specs.Owners.{seen, store_of, unboxed};
 ghost use Rattle.hlr_core.specs.Sight.{IsSightOf};
 ghost use Rattle.hlr_core.specs.Store.{Store, HasOpening, opening, opening_from, published, unposted, parts_in, published_weights, counted_weights};
@@ -31,8 +31,8 @@ use tatp_actions::{Action, CELLS, Cells, RowReply};
 use tatp_rows::{Back, LAST_SUBSCRIBER, Number, Refusal, Subscriber, in_range};
 use view_board::{Sight, WORDS};
 
-/// A home location register, seen as the store of the definitions: its rows, the regions, the words of the board, the
-/// slots of each part and the width of the zones.
+/// A home location register, seen as the store of the definitions: its rows, the regions, the words of the board, what was
+/// seen of them, the slots of each part and the width of the zones.
 ///
 /// Each event moves the store by one right step, and after it every cell as published plus its delta not posted yet
 /// is that cell counted over the rows.
@@ -106,6 +106,7 @@ impl Register {
     /// the order of their ranges, and can be refused for want of memory alone.
     pub fn scatter(self) -> Scattered
         ensures store { store_of self.regions (seen of_holding result.holdings.items) (seen of_piece result.pieces.items) result.frame.spare (seen desk_of result.holdings.items) result.frame.width ≡ self }
+        ensures held { AreHeld self.regions (seen of_holding result.holdings.items) (seen of_piece result.pieces.items) self.width }
         ensures desks { MayGather (arc_value result.frame.board) result.frame.spare (unboxed result.holdings.items) }
         ensures again { gathered result.frame.width result.frame.spare (unboxed result.holdings.items) (unboxed result.pieces.items) ≡ record self { regions = numbered 0 1 self.regions } }
         ensures fits { (why : Refusal) → IsRefused result.frame.width (unboxed result.holdings.items) (unboxed result.pieces.items) why → why ≡ Refusal.Memory }
@@ -115,7 +116,8 @@ impl Register {
     }
 
     /// Makes a register of parts, loose pieces and a frame, whatever was done to them: the regions are their ranges, numbered in
-    /// key order, and the index is that of their rows. Nothing is counted.
+    /// key order, and the index is that of their rows. No row is counted. All desks, the frame's too, are to be the frame's
+    /// board's and to have each slot once, and what the frame's desk has published of each cell is to be 0.
     ///
     /// `NoPart` where there is no holding or more than 16, `ManyPieces` where there are more than 16 pieces, `Field` where a
     /// width of zones isn't the frame's, `NotAdjacent` where the ranges leave a gap or overlap, `NumberTaken` where two rows
@@ -139,11 +141,11 @@ impl Register {
         let Prepared {
             regions,
             index,
-            holdings,
-            pieces,
+            room_for_holdings,
+            room_for_pieces,
         } = prepared;
         Ok(Register {
-            holdings: Holdings::gathered(scattered, regions, holdings, pieces),
+            holdings: Holdings::gathered(scattered, regions, room_for_holdings, room_for_pieces),
             index,
             alloc,
         })
@@ -233,7 +235,8 @@ impl Register {
         self.holdings.published()
     }
 
-    /// A sight of the board's words: each is at least what an earlier sight had there. It takes no memory.
+    /// A sight of the board's words: those of slots that no part has as they are, each other one at least what an earlier sight
+    /// had there, and none past `LIMIT`. It takes no memory.
     pub fn look(&mut self) -> Sight
         ensures right { IsSightOf self.old result.words }
         ensures seen { self.new ≡ record self.old { sight = result.words } }

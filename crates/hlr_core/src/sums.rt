@@ -5,7 +5,7 @@ ghost use Rattle.view_board.specs.Nets.{net_of};
 ghost use Rattle.view_delta.specs.Pending.{pending_at};
 ghost use Rattle.hlr_core.specs.Held.{AreSummable};
 
-use crate::keeper::Keeper;
+use crate::owner::Owner;
 use holding::Holding;
 use tatp_actions::CELLS;
 
@@ -22,12 +22,12 @@ pub fn add_published(sums: &mut [i64; CELLS as usize], holding: &Holding)
 }
 
 /// Adds what is pending of each cell to a sum. Neither is past 2^60, either way.
-pub fn add_pending<K: Keeper>(sums: &mut [i64; CELLS as usize], keeper: &K)
+pub fn add_pending<O: Owner>(sums: &mut [i64; CELLS as usize], owner: &O)
     requires sums { AreSummable (pending_at sums.old) }
-    requires deltas { AreSummable (pending_at (K.deltas_of keeper.now)) }
-    ensures { (c : ℕ) → c < CELLS → pending_at sums.new c ≡ pending_at sums.old c +ℤ pending_at (K.deltas_of keeper.now) c }
+    requires deltas { AreSummable (pending_at (O.deltas_of owner.now)) }
+    ensures { (c : ℕ) → c < CELLS → pending_at sums.new c ≡ pending_at sums.old c +ℤ pending_at (O.deltas_of owner.now) c }
 {
     for cell in 0..CELLS {
-        sums[usize::from(cell)] += keeper.delta(cell);
+        sums[usize::from(cell)] += owner.delta(cell);
     }
 }

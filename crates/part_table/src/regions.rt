@@ -69,8 +69,9 @@ impl Regions {
         Ok(Regions { list })
     }
 
-    /// The regions over these ranges of parts and loose pieces, which are numbered anew in their order: the parts from 0, the
-    /// pieces from 1. `NotAdjacent` where the ranges leave a gap or overlap. It takes no memory.
+    /// The regions over the ranges of 1 to 16 parts and at most 16 loose pieces, which are numbered anew in their order: the parts
+    /// from 0, the pieces from 1. `NotAdjacent` where the first doesn't begin at 1, one is empty or begins elsewhere than the one
+    /// before it ends, or the last doesn't end at 16,777,217. It takes no memory.
     pub fn over(ranges: &[Region]) -> Result<Regions, Refusal>
         requires some { 1 ≤ length (parts_of ranges.now) }
         requires parts { length (parts_of ranges.now) ≤ MOST_PARTS }

@@ -29,6 +29,7 @@ invariant_of-self c =
       rw (seen-set of_holding) (acted_held _ _ _ _ c.self.invariant.0 c.self.invariant.1 _ _ at c.args.action place _ c.act.ensures.range (holding_keeps _ c.act.ensures.after)),
       rw desks c.self.invariant.2,
       c.self.invariant.3,
+      c.self.invariant.4,
     )
 
 pub returns-clause-outcome : goal.returns-clause-outcome

@@ -11,13 +11,13 @@ use Rattle.hlr_core.proofs.holdings.Holdings.gathered.Goals as goal
 
 -- the holdings and pieces in order
 holdings_are : (c : goal.After-put_in_order-2) → seen of_holding c.put_in_order.result.items ≡ map of_holding (in_order (λ holding. holding.part.lo) (unboxed c.args.scattered.holdings.items))
-holdings_are c = ap (seen of_holding) c.put_in_order.ensures.keepers ∙ seen_sorted of_holding (λ (holding : HoldingState). holding.part.lo) c.args.scattered.holdings.items
+holdings_are c = ap (seen of_holding) c.put_in_order.ensures.owners ∙ seen_sorted of_holding (λ (holding : HoldingState). holding.part.lo) c.args.scattered.holdings.items
 
 pieces_are : (c : goal.After-put_in_order-2) → seen of_piece c.put_in_order-2.result.items ≡ map of_piece (in_order (λ piece. piece.part.lo) (unboxed c.args.scattered.pieces.items))
-pieces_are c = ap (seen of_piece) c.put_in_order-2.ensures.keepers ∙ seen_sorted of_piece (λ (piece : PieceState). piece.part.lo) c.args.scattered.pieces.items
+pieces_are c = ap (seen of_piece) c.put_in_order-2.ensures.owners ∙ seen_sorted of_piece (λ (piece : PieceState). piece.part.lo) c.args.scattered.pieces.items
 
 desks_are : (c : goal.After-put_in_order-2) → seen desk_of c.put_in_order.result.items ≡ map desk_of (in_order (λ holding. holding.part.lo) (unboxed c.args.scattered.holdings.items))
-desks_are c = ap (seen desk_of) c.put_in_order.ensures.keepers ∙ seen_sorted desk_of (λ (holding : HoldingState). holding.part.lo) c.args.scattered.holdings.items
+desks_are c = ap (seen desk_of) c.put_in_order.ensures.owners ∙ seen_sorted desk_of (λ (holding : HoldingState). holding.part.lo) c.args.scattered.holdings.items
 
 pub invariant_of-result : goal.invariant_of-result
 invariant_of-result c =
@@ -26,6 +26,7 @@ invariant_of-result c =
       rw (holdings_are c, pieces_are c, is.over) (gathered_held _ _ _ (do_fit _ _ _ is.fits) is.each_holding is.each_piece),
       rw (desks_are c) (gathered_desks _ _ _ c.requires.desks c.requires.wide is.each_holding),
       omega (arith, c.requires.room.1, c.put_in_order-2.ensures.room),
+      omega (arith, c.requires.room.0, c.put_in_order.ensures.room),
     )
 
 pub returns-clause-value : goal.returns-clause-value

@@ -48,7 +48,7 @@ pub invariant_of-self-2 : goal.invariant_of-self-2
 invariant_of-self-2 c =
     let both = boxes_cut _ c.self.inside.holdings.items c.self.inside.pieces.items c.self.inside.spare _ c.self.invariant.0 c.self.invariant.1 _ _ _ _ (sym c.in_ok-give_answer.ensures) _ _ c.index_mut.ensures.value c.deref_mut.ensures.value
     _ _ c.in_ok-piece.ensures.given c.in_ok-piece.ensures.piece c.in_ok-piece.ensures.after _ c.pieces_before_part-before.ensures _ c.insert_reserved.ensures.items _ c.give-2.ensures.answer _ c.give-2.ensures.after _ c.self.invariant.2 in
-    (both.0, both.1, both.2, omega (arith, c.self.invariant.3, c.insert_reserved.ensures.capacity))
+    (both.0, both.1, both.2, omega (arith, c.self.invariant.3, c.insert_reserved.ensures.capacity), c.self.invariant.4)
 
 pub returns-clause-after : goal.returns-clause-after
 returns-clause-after c =

@@ -18,4 +18,4 @@ pub returns-clause-seen : goal.returns-clause-seen
 returns-clause-seen c = rw (← c.self.view_is, c.look.ensures.seen) (rw (words_looked c.self.inside.spare (seen desk_of c.self.inside.holdings.items) c.look.result.words) refl)
 
 pub invariant_of-self : goal.invariant_of-self
-invariant_of-self c = (c.self.invariant.0, c.self.invariant.1, rw c.look.ensures.seen (desks_looked _ _ _ c.self.invariant.2 _ c.look.ensures.right), c.self.invariant.3)
+invariant_of-self c = (c.self.invariant.0, c.self.invariant.1, rw c.look.ensures.seen (desks_looked _ _ _ c.self.invariant.2 _ c.look.ensures.right), c.self.invariant.3, c.self.invariant.4)

@@ -79,6 +79,7 @@ invariant_of-result c =
       all_held c.args.parts _ _ _ _ c.requires.can c.in_ok-regions.ensures opened past _ (rw c.in_ok-pieces.ensures.empty refl),
       shared_desks c.args.words.now _ _ _ c.requires.level c.loop-region.invariant.of_board c.loop-region.invariant.shared,
       c.in_ok-pieces.ensures.room,
+      c.loop-region.invariant.room,
     )
 
 pub returns-clause-ok : goal.returns-clause-ok

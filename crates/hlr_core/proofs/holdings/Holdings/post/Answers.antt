@@ -12,7 +12,7 @@ invariant_of-self c =
     let within = rw (c.len.ensures, c.self.inside.holdings.ok.0) at c.if-part-len.false in
     let held = posted_held _ c.self.inside.holdings.items c.self.inside.pieces.items _ _ _ c.self.invariant.0 c.self.invariant.1 c.self.invariant.2 _ within _ _ c.index_mut.ensures.value c.deref_mut.ensures.value
     _ _ _ c.post.ensures.before c.post.ensures.posted c.post.ensures.part c.post.ensures.desk c.post.ensures.after in
-    (c.self.invariant.0, held.0, held.1, c.self.invariant.3)
+    (c.self.invariant.0, held.0, held.1, c.self.invariant.3, c.self.invariant.4)
 
 pub returns : goal.returns
 returns c =

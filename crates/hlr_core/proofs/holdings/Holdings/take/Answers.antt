@@ -45,7 +45,7 @@ invariant_of-self c =
     let back = put_again c.self.inside.pieces.items _ _ _ _ _ inside c.remove-taken.ensures.value c.remove-taken.ensures.items c.in-Err.ensures.refused.0 c.insert_reserved.ensures.items in
     let owners = seen_same of_holding c.self.inside.holdings.items _ _ _ c.take.new.self c.index_mut.ensures.value c.deref_mut.ensures.value (ap of_holding c.in-Err.ensures.refused.1) in
     let desks = seen_same desk_of c.self.inside.holdings.items _ _ _ c.take.new.self c.index_mut.ensures.value c.deref_mut.ensures.value (ap desk_of c.in-Err.ensures.refused.1) in
-    (c.self.invariant.0, rw (owners, back) c.self.invariant.1, rw desks c.self.invariant.2, omega (arith, c.self.invariant.3, c.remove-taken.ensures.capacity, c.insert_reserved.ensures.capacity))
+    (c.self.invariant.0, rw (owners, back) c.self.invariant.1, rw desks c.self.invariant.2, omega (arith, c.self.invariant.3, c.remove-taken.ensures.capacity, c.insert_reserved.ensures.capacity), c.self.invariant.4)
 
 pub returns-in-Err-clause-answer : goal.returns-in-Err-clause-answer
 returns-in-Err-clause-answer c =
@@ -67,7 +67,7 @@ pub invariant_of-self-2 : goal.invariant_of-self-2
 invariant_of-self-2 c =
     let both = boxes_joined _ c.self.inside.holdings.items c.self.inside.pieces.items c.self.inside.spare _ c.self.invariant.0 c.self.invariant.1 _ _ _ (sym c.in_ok-take_answer.ensures) _ _ c.index_mut.ensures.value c.deref_mut.ensures.value
     _ _ c.pieces_before_piece-before.ensures c.remove-taken.ensures.value _ c.in_default.ensures.taken c.in_default.ensures.after _ c.remove-taken.ensures.items _ c.take-2.ensures.answer _ c.take-2.ensures.after _ c.self.invariant.2 in
-    (both.0, both.1, both.2, rw c.remove-taken.ensures.capacity c.self.invariant.3)
+    (both.0, both.1, both.2, rw c.remove-taken.ensures.capacity c.self.invariant.3, c.self.invariant.4)
 
 pub returns-clause-after : goal.returns-clause-after
 returns-clause-after c =

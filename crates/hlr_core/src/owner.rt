@@ -14,11 +14,11 @@ use holding::{Holding, Piece};
 use part_table::{Place, Region};
 use tatp_rows::Subscriber;
 
-/// A keeper of the rows of a range, seen by its range, the width of its zones, its Subscriber rows and what is pending.
-pub(crate) trait Keeper {
+/// An owner of the rows of a range, seen by its range, the width of its zones, its Subscriber rows and what is pending.
+pub(crate) trait Owner {
     ghost range_of: { Self → Region };
 
-    ghost zones_of: { Self → ℕ };
+    ghost width_of: { Self → ℕ };
 
     ghost rows_of: { Self → List SubscriberRow };
 
@@ -32,8 +32,8 @@ pub(crate) trait Keeper {
         ensures rules { keeps self.now };
 
     /// The width of the zones.
-    fn zones(&self) -> u32
-        ensures { result ≡ zones_of self.now };
+    fn zone_width(&self) -> u32
+        ensures { result ≡ width_of self.now };
 
     /// What is pending of a cell.
     fn delta(&self, cell: u8) -> i64
@@ -46,10 +46,10 @@ pub(crate) trait Keeper {
         ensures ordered { IsOrderedBy subscriber_key (rows_of self.now) };
 }
 
-impl Keeper for Holding {
+impl Owner for Holding {
     ghost range_of = { holding_range };
 
-    ghost zones_of = { λ holding. holding.part.width };
+    ghost width_of = { λ holding. holding.part.width };
 
     ghost rows_of = { λ holding. holding.part.book.subscribers };
 
@@ -65,7 +65,7 @@ impl Keeper for Holding {
         }
     }
 
-    fn zones(&self) -> u32 {
+    fn zone_width(&self) -> u32 {
         self.width()
     }
 
@@ -78,10 +78,10 @@ impl Keeper for Holding {
     }
 }
 
-impl Keeper for Piece {
+impl Owner for Piece {
     ghost range_of = { piece_range };
 
-    ghost zones_of = { λ piece. piece.part.width };
+    ghost width_of = { λ piece. piece.part.width };
 
     ghost rows_of = { λ piece. piece.part.book.subscribers };
 
@@ -97,7 +97,7 @@ impl Keeper for Piece {
         }
     }
 
-    fn zones(&self) -> u32 {
+    fn zone_width(&self) -> u32 {
         self.width()
     }
 
