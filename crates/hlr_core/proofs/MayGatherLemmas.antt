@@ -5,8 +5,8 @@ use Rattle.std.specs.List.{AllByRecursion}
 use Rattle.std.specs.declared.alloc.Global.{Global}
 use Rattle.std.proofs.lemmas.List.Sums.{sum_by-cons, sum_by_push}
 use Rattle.atomic_table.specs.Seated.{TableId}
-use Rattle.view_board.specs.Desks.{Station}
-use Rattle.view_board.specs.Views.{first_view}
+use Rattle.view_board.specs.Desks.{Station, with_view}
+use Rattle.view_board.specs.Views.{first_view, looked}
 use Rattle.view_board.specs.declared.words.TheConstants.{SLOTS, WORDS}
 use Rattle.holding.specs.Held.{HoldingState}
 use Rattle.hlr_core.specs.Desks.{desk_of, owns_one, AreOpening}
@@ -42,6 +42,10 @@ same_owns slot before after same = rw same.owned refl
 pub new_board : (board : TableId) (spare : Station) (words : List ℕ) → spare.board ≡ board → spare.view ≡ first_view words → AreOpening words → length words ≡ WORDS → MayGather board spare []
 new_board board spare words same first opening wide =
     may_gather board spare [] (shared_desks words board spare [] opening.level (first_of_board words board spare same first wide, tt) (none_shared words spare [] first refl))
+
+-- with what the spare desk saw
+pub looked_may : (board : TableId) (spare : Station) (holdings : List HoldingState) (words : List ℕ) → MayGather board spare holdings → MayGather board (with_view spare (looked spare.view words)) holdings
+looked_may board spare holdings words may = record { same = may.same; once = may.once; idle = may.idle }
 
 -- two holdings at the end of a list
 module _ (rest : List (Box HoldingState Global)) (first second : Box HoldingState Global) where
