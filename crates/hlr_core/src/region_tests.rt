@@ -54,7 +54,7 @@ pub fn giving(part: u64, at: u64) -> Event {
 }
 
 /// A taking of a loose piece.
-fn taking(piece: u64, part: u64) -> Event {
+pub fn taking(piece: u64, part: u64) -> Event {
     Event::Take { piece, part }
 }
 
