@@ -1,5 +1,5 @@
 -- Holdings that may be brought home: those of no part, over a new board, and those of which the last two are taken out and put back.
-use Rattle.std.proofs.Common.{◌≡◌, ◌∙◌, ℕ, ◌+◌, ◌<◌, arith, List, [], ◌∷◌, ◌++◌, length, map, refl}
+use Rattle.std.proofs.Common.{◌≡◌, ◌∙◌, ℕ, ◌+◌, arith, List, [], ◌∷◌, ◌++◌, length, map, refl}
 use Rattle.std.specs.Prelude.{Box, sum_by}
 use Rattle.std.specs.List.{AllByRecursion}
 use Rattle.std.specs.declared.alloc.Global.{Global}
@@ -7,7 +7,7 @@ use Rattle.std.proofs.lemmas.List.Sums.{sum_by-cons, sum_by_push}
 use Rattle.atomic_table.specs.Seated.{TableId}
 use Rattle.view_board.specs.Desks.{Station, with_view}
 use Rattle.view_board.specs.Views.{first_view, looked}
-use Rattle.view_board.specs.declared.words.TheConstants.{SLOTS, WORDS}
+use Rattle.view_board.specs.declared.words.TheConstants.{WORDS}
 use Rattle.holding.specs.Held.{HoldingState}
 use Rattle.hlr_core.specs.Desks.{desk_of, owns_one, AreOpening}
 use Rattle.hlr_core.specs.Gather.{MayGather}
