@@ -45,7 +45,7 @@ new_board board spare words same first opening wide =
 
 -- with what the spare desk saw
 pub looked_may : (board : TableId) (spare : Station) (holdings : List HoldingState) (words : List ℕ) → MayGather board spare holdings → MayGather board (with_view spare (looked spare.view words)) holdings
-looked_may board spare holdings words may = record { same = may.same; once = may.once; idle = may.idle }
+looked_may board spare holdings words may = record { same = may.same; shares = record { once = may.shares.once; idle = may.shares.idle } }
 
 -- two holdings at the end of a list
 module _ (rest : List (Box HoldingState Global)) (first second : Box HoldingState Global) where
@@ -88,25 +88,29 @@ module _ (board : TableId) (spare : Station) (all some rest : List (Box HoldingS
     pub two_back : MayGather board spare (unboxed ((rest ++ first' ∷ []) ++ second' ∷ []))
     two_back = record {
       same = (may.same.0, of_board rest first' second' board others.0 (same_first.board ∙ first_board) (same_second.board ∙ second_board));
-      once = λ slot within. (
-          let was = owned_by_two rest first second spare slot in
-          let now = owned_by_two rest first' second' spare slot in
-          let once = may_two.once slot within in
-          let one = same_owns slot first.value.desk first'.value.desk same_first in
-          let other = same_owns slot second.value.desk second'.value.desk same_second in
-          omega arith);
-      idle = may.idle;
+      shares = record {
+        once = λ slot within. (
+            let was = owned_by_two rest first second spare slot in
+            let now = owned_by_two rest first' second' spare slot in
+            let once = may_two.shares.once slot within in
+            let one = same_owns slot first.value.desk first'.value.desk same_first in
+            let other = same_owns slot second.value.desk second'.value.desk same_second in
+            omega arith);
+        idle = may.shares.idle;
+      };
     }
 
     pub two_turned : MayGather board spare (unboxed ((rest ++ second' ∷ []) ++ first' ∷ []))
     two_turned = record {
       same = (may.same.0, of_board rest second' first' board others.0 (same_second.board ∙ second_board) (same_first.board ∙ first_board));
-      once = λ slot within. (
-          let was = owned_by_two rest first second spare slot in
-          let now = owned_by_two rest second' first' spare slot in
-          let once = may_two.once slot within in
-          let one = same_owns slot first.value.desk first'.value.desk same_first in
-          let other = same_owns slot second.value.desk second'.value.desk same_second in
-          omega arith);
-      idle = may.idle;
+      shares = record {
+        once = λ slot within. (
+            let was = owned_by_two rest first second spare slot in
+            let now = owned_by_two rest second' first' spare slot in
+            let once = may_two.shares.once slot within in
+            let one = same_owns slot first.value.desk first'.value.desk same_first in
+            let other = same_owns slot second.value.desk second'.value.desk same_second in
+            omega arith);
+        idle = may.shares.idle;
+      };
     }

@@ -103,14 +103,16 @@ pub desks_posted : (board : TableId) (spare : Station) (desks : List Station) (p
     → after.board ≡ before.board → after.view.owned ≡ before.view.owned → IsWide after.view → AreDesks board spare (set desks p after)
 desks_posted board spare desks p before after within is rules same owned wide = record {
   of_board = (rules.of_board.0, each_set (IsOfBoard board) desks p after rules.of_board.1 (record { same = same ∙ of.same; wide = wide }));
-  once = λ slot below. (
-      let sum = rw (← is) at (sum_by-set (owns_one slot) desks p after before within) in
-      let one : owns_one slot after ≡ owns_one slot before = rw owned refl in
-      let was = sum_by-cons (owns_one slot) spare desks in
-      let now = sum_by-cons (owns_one slot) spare (set desks p after) in
-      let all = rules.once slot below in
-      omega arith);
-  idle = rules.idle;
+  shares = record {
+    once = λ slot below. (
+        let sum = rw (← is) at (sum_by-set (owns_one slot) desks p after before within) in
+        let one : owns_one slot after ≡ owns_one slot before = rw owned refl in
+        let was = sum_by-cons (owns_one slot) spare desks in
+        let now = sum_by-cons (owns_one slot) spare (set desks p after) in
+        let all = rules.shares.once slot below in
+        omega arith);
+    idle = rules.shares.idle;
+  };
 }
   where
     of : IsOfBoard board before

@@ -164,7 +164,7 @@ shared_words words spare desks shared wide =
 -- so they keep the rules of desks
 pub shared_desks : (words : List ℕ) (board : TableId) (spare : Station) (desks : List Station) → AreLevel words → AllByRecursion (IsOfBoard board) (spare ∷ desks) → AreShared words spare desks → AreDesks board spare desks
 shared_desks words board spare desks level each shared =
-    record { of_board = each; once = shared.once; idle = λ c below. level_idle words spare.view level each.0.wide shared.numbers.0 c below }
+    record { of_board = each; shares = record { once = shared.once; idle = λ c below. level_idle words spare.view level each.0.wide shared.numbers.0 c below } }
 
 -- words that are all 0 are blank, and a register may open with them
 pub zeros_are : replicate {A = ℕ} WORDS 0 ≡ blank_words

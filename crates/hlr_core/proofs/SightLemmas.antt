@@ -53,7 +53,7 @@ module _ (board : TableId) (spare : Station) (desks : List Station) (are : AreDe
   -- a slot that no part has is the spare desk's
   spare_owns : (slot : ℕ) → slot < SLOTS → AllByRecursion (λ (d : Station). owned_at d.view slot ≡ false) desks → Owns spare.view slot
   spare_owns slot below each =
-      let once = are.once slot below in
+      let once = are.shares.once slot below in
       let head = sum_by-cons (owns_one slot) spare desks in
       let none = owned_by_none slot below desks each in
       by_test (owned_at spare.view slot) (λ e. e) (λ e. absurd (let no : owns_one slot spare ≡ 0 = rw e refl in omega arith))
@@ -74,8 +74,10 @@ module _ (board : TableId) (spare : Station) (desks : List Station) (are : AreDe
   pub desks_looked : (words : List ℕ) → IsRightSight spare.view words → AreDesks board (with_view spare (looked spare.view words)) desks
   desks_looked words right = record {
     of_board = (record { same = are.of_board.0.same; wide = record { slots = are.of_board.0.wide.slots; numbers = are.of_board.0.wide.numbers; seen = right.wide } }, are.of_board.1);
-    once = λ slot below. sum_by-cons (owns_one slot) (with_view spare (looked spare.view words)) desks ∙ sym (sum_by-cons (owns_one slot) spare desks) ∙ are.once slot below;
-    idle = are.idle;
+    shares = record {
+      once = λ slot below. sum_by-cons (owns_one slot) (with_view spare (looked spare.view words)) desks ∙ sym (sum_by-cons (owns_one slot) spare desks) ∙ are.shares.once slot below;
+      idle = are.shares.idle;
+    };
   }
 
 -- the words stay

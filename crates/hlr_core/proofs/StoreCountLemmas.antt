@@ -42,7 +42,7 @@ module _ (regions : List Region) (boxes : List (Box HoldingState Global)) (loose
       let wide = each-weaker {P = IsOfBoard board} {Q = λ (d : Station). IsWide d.view} (λ d is. is.wide) (spare ∷ seen desk_of boxes) desks.of_board in
       let all = nets_of_desks (spare ∷ seen desk_of boxes) c below wide in
       let same = nets_of_holdings boxes c in
-      let idle = desks.idle c below in
+      let idle = desks.shares.idle c below in
       omega (arith, ints)
 
   -- what is pending of all holdings and pieces is what is not posted

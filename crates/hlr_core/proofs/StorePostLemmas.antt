@@ -87,7 +87,7 @@ module _ (regions : List Region) (boxes : List (Box HoldingState Global)) (loose
 
       core : (post (count_of before.part) (slots_in before.desk) limit (words_of (spare ∷ seen desk_of boxes)) ≡ (posted, words_of (spare ∷ set (seen desk_of boxes) p after.desk))) × IsWide after.desk.view
       core =
-          let all = post_same (spare ∷ seen desk_of boxes) (suc p) before.desk (omega (arith, inside)) desk_at rules.once of_board.wide before.slot in_board lawful.slot (count_of before.part) limit in
+          let all = post_same (spare ∷ seen desk_of boxes) (suc p) before.desk (omega (arith, inside)) desk_at rules.shares.once of_board.wide before.slot in_board lawful.slot (count_of before.part) limit in
           let is_now = desk_is before.desk after.desk desk.0 in
           rw is_now (rw (← done) at all)
 

@@ -36,11 +36,15 @@ pub record IsOfBoard (board : TableId) (desk : Station) : Type 0 where
   pub same : desk.board ≡ board
   pub wide : IsWide desk.view
 
--- the rules of all desks: they are the board's, each slot is of one of them, and what no part has published has a net of 0
-pub record AreDesks (board : TableId) (spare : Station) (desks : List Station) : Type 0 where
-  pub of_board : AllByRecursion (IsOfBoard board) (spare ∷ desks)
+-- each slot is of one of the desks, and what no part has published has a net of 0
+pub record ShareSlots (spare : Station) (desks : List Station) : Type 0 where
   pub once : (slot : ℕ) → slot < SLOTS → sum_by (owns_one slot) (spare ∷ desks) ≡ 1
   pub idle : (c : ℕ) → c < CELLS → net_of spare.view c ≡ pos 0
+
+-- the rules of all desks: they are the board's, and share its slots
+pub record AreDesks (board : TableId) (spare : Station) (desks : List Station) : Type 0 where
+  pub of_board : AllByRecursion (IsOfBoard board) (spare ∷ desks)
+  pub shares : ShareSlots spare desks
 
 -- in each cell the plus-word of a slot is its minus-word
 abbrev pub IsLevel : List ℕ → ℕ → Type 0

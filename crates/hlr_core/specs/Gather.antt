@@ -1,5 +1,5 @@
 -- Holdings and loose pieces that are brought home: whether they make a register, and which.
-use Rattle.std.specs.Prelude.{◌≡◌, ℕ, ◌==◌, ◌<◌, ◌||◌, ◌⊎◌, nat_lt, not, sum_by, pos, List, ◌∷◌, ◌++◌, map, length, Option, Some, None, if◌then◌else◌}
+use Rattle.std.specs.Prelude.{◌≡◌, ℕ, ◌==◌, ◌||◌, ◌⊎◌, nat_lt, not, List, [], ◌∷◌, ◌++◌, map, length, Option, Some, None, if◌then◌else◌}
 use Rattle.std.specs.List.{AllByRecursion, list_all}
 use Rattle.atomic_table.specs.Seated.{TableId}
 use Rattle.tatp_rows.specs.Ordered.{in_order}
@@ -7,16 +7,13 @@ use Rattle.tatp_rows.specs.Rows.{SubscriberRow}
 use Rattle.tatp_rows.specs.declared.refusal.Refusal.{Refusal}
 use Rattle.tatp_rows.specs.declared.refusal.Refusal.TheVariants.{NoPart, ManyPieces, Field, NotAdjacent, NumberTaken, Memory}
 use Rattle.tatp_actions.specs.Joined.{book_of}
-use Rattle.tatp_actions.specs.declared.cells.TheConstants.{CELLS}
 use Rattle.part_table.specs.Numbered.{numbered, do_follow}
 use Rattle.part_table.specs.declared.region.Place.TheVariants.{Part, Piece}
 use Rattle.part_table.specs.declared.region.Region.{Region}
 use Rattle.part_table.specs.declared.region.TheConstants.{MOST_PARTS, MOST_PIECES}
 use Rattle.view_board.specs.Desks.{Station}
-use Rattle.view_board.specs.Nets.{net_of}
-use Rattle.view_board.specs.declared.words.TheConstants.{SLOTS}
 use Rattle.holding.specs.Held.{HoldingState, PieceState}
-use Rattle.hlr_core.specs.Desks.{desk_of, owns_one, words_of, slots_in}
+use Rattle.hlr_core.specs.Desks.{desk_of, ShareSlots, words_of, slots_in}
 use Rattle.hlr_core.specs.Held.{Owner, of_holding, of_piece}
 use Rattle.hlr_core.specs.Numbers.{HasNoTwin}
 use Rattle.hlr_core.specs.Store.{Store}
@@ -36,15 +33,19 @@ piece_range piece = record { lo = piece.part.lo; hi = piece.part.hi; place = Pie
 abbrev pub ranges_of : List HoldingState → List PieceState → List Region
 ranges_of holdings pieces = in_order (λ range. range.lo) (map holding_range holdings ++ map piece_range pieces)
 
+-- the rows of all in a list, one after another
+abbrev pub rows_of_each : {X : Type 0} → (X → List SubscriberRow) → List X → List SubscriberRow
+rows_of_each rows_in [] = []
+rows_of_each rows_in (x ∷ xs) = rows_in x ++ rows_of_each rows_in xs
+
 -- the Subscriber rows as they are handed in
 abbrev pub rows_of_all : List HoldingState → List PieceState → List SubscriberRow
-rows_of_all holdings pieces = (book_of (map (λ owner. owner.part) (owners_of holdings pieces))).subscribers
+rows_of_all holdings pieces = rows_of_each (λ owner. owner.part.book.subscribers) (owners_of holdings pieces)
 
--- all desks are the board's, each slot is of one of them, and the spare one has published a net of 0
+-- all desks are the board's, and share its slots
 pub record MayGather (board : TableId) (spare : Station) (holdings : List HoldingState) : Type 0 where
   pub same : AllByRecursion (λ desk. desk.board ≡ board) (spare ∷ map desk_of holdings)
-  pub once : (slot : ℕ) → slot < SLOTS → sum_by (owns_one slot) (spare ∷ map desk_of holdings) ≡ 1
-  pub idle : (c : ℕ) → c < CELLS → net_of spare.view c ≡ pos 0
+  pub shares : ShareSlots spare (map desk_of holdings)
 
 -- why they make no register, memory and numbers aside
 abbrev pub misfit : ℕ → List HoldingState → List PieceState → Option Refusal

@@ -1,5 +1,5 @@
 -- Pairs of numbers and subscribers that are put in one after another, in whatever order. No clause of a public call cites this.
-use Rattle.std.specs.Prelude.{◌≡◌, ℕ, ◌+◌, ◌≤◌, ◌==◌, List, [], ◌∷◌, ◌++◌, sum_by, if◌then◌else◌}
+use Rattle.std.specs.Prelude.{◌≡◌, ℕ, ◌+◌, ◌≤◌, ◌==◌, List, sum_by, if◌then◌else◌}
 use Rattle.tatp_rows.specs.Rows.{SubscriberRow}
 use Rattle.hlr_core.specs.Index.{number_pair}
 
@@ -14,8 +14,3 @@ bears n pair = if pair.0 == n then 1 else 0
 -- a number stands twice in some pairs and rows
 abbrev pub HasTwin : List SubscriberRow → List (ℕ × ℕ) → Type 0
 HasTwin rows pairs = (n : ℕ) × (2 ≤ sum_by (bears n) pairs + sum_by (λ row. bears n (number_pair row)) rows)
-
--- the rows of all owners in a list, one owner after another
-abbrev pub rows_of_each : {X : Type 0} → (X → List SubscriberRow) → List X → List SubscriberRow
-rows_of_each rows_in [] = []
-rows_of_each rows_in (owner ∷ owners) = rows_in owner ++ rows_of_each rows_in owners

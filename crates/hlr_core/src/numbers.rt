@@ -1,6 +1,7 @@
 //! The numbers of all rows, put into an index one after another.
 ghost use Rattle.std.specs.Prelude.{◌≡◌, ◌⊎◌, OnOk, IfErr};
-ghost use Rattle.hlr_core.specs.Noted.{AreNoted, HasTwin, rows_of_each};
+ghost use Rattle.hlr_core.specs.Noted.{AreNoted, HasTwin};
+ghost use Rattle.hlr_core.specs.Gather.{rows_of_each};
 
 use crate::owner::Owner;
 use number_index::NumberIndex;

@@ -147,8 +147,8 @@ impl<R: Rows> Holding<R> {
 }
 
 impl Holding {
-    /// A part and the desk of its owner, which owns a slot. The rows are counted once: what the desk has not published of them
-    /// is pending. It keeps the allocator.
+    /// A part and the desk of its owner, which owns a slot and has published at most 2^40 of each cell, up or down. The rows are
+    /// counted once: what the desk has not published of them is pending. It keeps the allocator.
     pub fn of(alloc: Global, part: Part, desk: Desk) -> Self
         requires slot { (slot : ℕ) × (slot < SLOTS) × Owns desk.view slot }
         requires small { HasSmallNets desk.view }

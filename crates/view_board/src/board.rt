@@ -58,8 +58,8 @@ impl Board {
         Ok((Board { table, alloc }, desk))
     }
 
-    /// Raises the plus-word of an own slot and a cell by a positive amount, or its minus-word by the size of a negative
-    /// one. `Worn` exactly where the word would pass `LIMIT`: then nothing is changed.
+    /// Raises the plus-word of an own slot and a cell below 51 by a positive amount, or its minus-word by the size of a
+    /// negative one, whatever the amount is. `Worn` exactly where the word would pass `LIMIT`: then nothing is changed.
     pub fn add(&self, desk: &mut Desk, slot: u8, cell: u8, amount: i64) -> Result<(), Refusal>
         requires board { desk.old.board ≡ self.now }
         requires own { Owns desk.old.view slot }
@@ -69,6 +69,7 @@ impl Board {
         ensures err { OnErr result ((desk.new ≡ desk.old) × (result ≡ Err Refusal.Worn)) }
         ensures worn { IsErr result ↔ IsWorn desk.old.view slot cell amount }
     {
+        // This opens the desk, so that its rules are known as the step begins.
         let _ = &desk.owned;
         let word = word_of(slot, cell, amount);
         let size = amount.unsigned_abs();
@@ -84,7 +85,8 @@ impl Board {
         }
     }
 
-    /// Looks at all words, one after another, while others may raise theirs.
+    /// Looks at all words, one after another, while others may raise theirs: own words are exact, each other one is at least
+    /// what the desk has seen of it, and none passes `LIMIT`. Then the sight is what the desk has seen.
     pub fn look(&self, desk: &mut Desk) -> Sight
         requires { desk.old.board ≡ self.now }
         ensures right { IsRightSight desk.old.view result.words }

@@ -44,6 +44,7 @@ impl Desk {
         ensures low { neg_ℤ (pos (2 ^ 68)) ≤ℤ result }
         ensures high { result ≤ℤ pos (2 ^ 68) }
     {
+        // This opens the desk, so that its rules are known as the walk begins.
         let _ = &self.owned;
         let mut sum = 0;
         for slot in 0..SLOTS {
@@ -57,6 +58,7 @@ impl Desk {
         ensures wide { IsWide self.now.view }
         ensures value { (c : ℕ) → c < CELLS → slice_index_or result c (pos 0) ≡ net_of self.now.view c }
     {
+        // This opens the desk, so that its rules are known as the walk begins.
         let _ = &self.owned;
         let mut nets = [0; CELLS as usize];
         for slot in 0..SLOTS {

@@ -1,5 +1,5 @@
 use Rattle.std.proofs.Common.{drop}
-use Rattle.hlr_core.specs.Noted.{rows_of_each}
+use Rattle.hlr_core.specs.Gather.{rows_of_each}
 use Rattle.hlr_core.proofs.NotedLemmas.{IsNoting}
 use Rattle.hlr_core.proofs.numbers.note_all.Given as goal
 
