@@ -28,7 +28,7 @@ ghost use Rattle.hlr_core.specs.Store.{Store, HasOpening, opening_from, publishe
 
 use crate::event::Reply;
 use crate::gather::{Frame, Scattered, put_in_order};
-use crate::room::{boxed, insert_reserved, places};
+use crate::room::{insert_reserved, places};
 use crate::sums::{add_pending, add_published};
 use holding::{Holding, Piece};
 use part_table::{Place, Region, Regions, Side};
@@ -91,15 +91,7 @@ fn opened(
 {
     let desk = board.split(spare, slot)?;
     let part = Part::new(alloc, region.lo, region.hi, width)?;
-    boxed(alloc, Holding::of(alloc, part, desk))
-}
-
-/// The board in memory that it shares; `Memory` where that is refused.
-fn shared(alloc: Global, board: Board) -> Result<Arc<Board>, Refusal>
-    ensures ok { IfOk result (λ shared. arc_value shared ≡ board) }
-    ensures err { OnErr result (result ≡ Err Refusal.Memory) }
-{
-    Arc::new(alloc, board).map_err(|_| Refusal::Memory)
+    Ok(Box::new(alloc, Holding::of(alloc, part, desk))?)
 }
 
 fn reply_of_posting(posted: Result<u8, Refusal>) -> Reply
@@ -122,7 +114,7 @@ impl Holdings {
     {
         let regions = Regions::opening(parts, width)?;
         let (board, mut spare) = Board::open(alloc, words)?;
-        let board = shared(alloc, board)?;
+        let board = Arc::new(alloc, board)?;
         let mut holdings = places(alloc)?;
         let pieces = places(alloc)?;
         for region in regions.list() {

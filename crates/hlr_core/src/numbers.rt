@@ -7,7 +7,7 @@ use crate::owner::Owner;
 use number_index::NumberIndex;
 use tatp_rows::Refusal;
 
-/// Puts the numbers of a owner's rows into the index. `NumberTaken` where one is there already, `Memory` where the
+/// Puts the numbers of an owner's rows into the index. `NumberTaken` where one is there already, `Memory` where the
 /// index can't grow.
 fn note_rows<O: Owner>(index: &mut NumberIndex, owner: &O) -> Result<(), Refusal>
     ensures ok { OnOk result (AreNoted (O.rows_of owner.now) index.old index.new) }

@@ -1,5 +1,5 @@
 //! Pieces that a holding gives away and takes.
-ghost use Rattle.std.specs.Prelude.{◌≡◌, ◌⊎◌, ◌↔◌, IsTrue, IfOk, IfErr, OnOk, OnErr, Err};
+ghost use Rattle.std.specs.Prelude.{◌≡◌, ◌⊎◌, ◌↔◌, IsTrue, IfOk, IfErr, OnOk, OnErr};
 ghost use Rattle.tatp_actions.specs.Cut.{Touch};
 ghost use Rattle.holding.specs.Held.{IsHolding, IsPiece};
 ghost use Rattle.holding.specs.Moved.{IsInside, IsGiven, IsTaken};
@@ -7,7 +7,6 @@ ghost use Rattle.holding.specs.Moved.{IsInside, IsGiven, IsTaken};
 use crate::holding::Holding;
 use crate::piece::Piece;
 use part_table::Side;
-use std::alloc::Global;
 use std::mem;
 use tatp_actions::Part;
 use tatp_rows::{Back, Refusal};
@@ -24,14 +23,6 @@ fn touches(part: &Part, other: &Part) -> bool
     ensures { IsTrue result ↔ Touch part.now other.now }
 {
     part.hi() == other.lo() || other.hi() == part.lo()
-}
-
-/// A value in memory of its own; `Memory` where that is refused.
-fn boxed<T: Drop>(alloc: Global, value: T) -> Result<Box<T>, Refusal>
-    ensures ok { IfOk result (λ boxed. boxed.value ≡ value) }
-    ensures err { OnErr result (result ≡ Err Refusal.Memory) }
-{
-    Box::new(alloc, value).map_err(|_| Refusal::Memory)
 }
 
 impl Holding {
@@ -51,7 +42,7 @@ impl Holding {
             return Err(Refusal::OutOfRange);
         }
         // All memory is had before anything changes: the piece's box, and what the cut takes.
-        let mut piece = boxed(self.alloc, Piece::blank(self.alloc))?;
+        let mut piece = Box::new(self.alloc, Piece::blank(self.alloc))?;
         let part = self.part.slice(at, side)?;
         let counts = part.recount();
         self.pending.subtract(&counts);
