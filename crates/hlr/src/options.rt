@@ -41,7 +41,7 @@ the program waits for more input.
   scan                           counts the rows anew: cell,C,COUNT lines, then scan,LINES
   index                          shows all numbers: number,N,S lines, then index,LINES
   regions                        shows all ranges: part,P,FROM,TO and piece,K,FROM,TO lines, then regions,LINES
-  propose                        shows bounds that share the published rows out evenly: bounds,S,..
+  propose                        shows bounds that give each part about its share of the published rows: bounds,S,..
   recut,S,..                     moves the bounds between the parts to these: recut,MOVES
 
 BITS are 10 digits 0 or 1, HEXES 10 and BYTES 20 hexadecimal digits, and the locations M and V 1 to 4294967295. The

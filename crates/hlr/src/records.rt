@@ -26,7 +26,7 @@ pub enum Command {
     Index,
     /// The report of the regions.
     Regions,
-    /// The report of the bounds that would share the rows out evenly.
+    /// The report of the bounds that would give each part about its share of the rows.
     Propose,
     /// A re-cut to the bounds that its fields spell.
     Recut,
@@ -73,7 +73,7 @@ pub enum Word {
     Index,
     /// `regions`, the report of the regions.
     Regions,
-    /// `propose`, the report of the bounds that would share the rows out evenly.
+    /// `propose`, the report of the bounds that would give each part about its share of the rows.
     Propose,
     /// `recut`, which moves the bounds between parts.
     Recut,

@@ -187,7 +187,7 @@ pub fn write_regions<S: Sink>(
     put_all(sink, line.as_slice())
 }
 
-/// Writes the line of the bounds between parts that would share a register's rows out evenly, as they are published.
+/// Writes the line of the bounds that would give each part about its share of a register's rows, as they are published.
 #[inline(never)]
 pub fn write_proposal<S: Sink>(
     register: &Register,

@@ -74,8 +74,8 @@ impl Register {
         Register::open_from(alloc, parts, width, &[0; WORDS])
     }
 
-    /// The same over words that a board had when it was closed, as those of a register without rows. `Field` also where a word passes
-    /// `LIMIT`, or where a slot's plus-word of a cell differs from its minus-word.
+    /// The same over words that stand already, in each slot and cell as much up as down, since of no rows nothing is published.
+    /// `Field` also where a slot's plus-word of a cell differs from its minus-word, or a word passes `LIMIT`.
     pub fn open_from(
         alloc: Global,
         parts: u8,
@@ -268,8 +268,8 @@ impl Register {
         self.holdings.regions()
     }
 
-    /// The bounds between parts that share the rows out as evenly as bounds between zones can, by what is published of the
-    /// zones; where nothing is unposted, these are the counts of the rows. It takes no memory.
+    /// The bounds between zones that would give each part about its share of the rows, by what is published of the zones;
+    /// where nothing is unposted, these are the counts of the rows. It takes no memory.
     pub fn propose(&self) -> Bounds
         ensures value { result ≡ proposal (published_weights self.now) (parts_in self.now) self.now.width }
         ensures counted { ((c : ℕ) → c < CELLS → unposted self.now c ≡ pos 0)
@@ -388,8 +388,5 @@ fn reserve(alloc: Global, count: usize) -> Result<Vec<Reply>, Refusal>
     ensures ok { IfOk result (λ replies. (replies.items ≡ []) × (vec_len replies ≡ 0) × (vec_capacity replies ≡ count)) }
     ensures err { OnErr result (result ≡ Err Refusal.Memory) }
 {
-    match Vec::with_capacity(alloc, count) {
-        Ok(replies) => Ok(replies),
-        Err(_) => Err(Refusal::Memory),
-    }
+    Ok(Vec::with_capacity(alloc, count)?)
 }

@@ -56,7 +56,7 @@ pub struct Region {
 
 impl Region {
     /// Whether this is the region of the part `p`.
-    pub fn is_part(&self, p: u64) -> bool
+    pub(crate) fn is_part(&self, p: u64) -> bool
         ensures { result ≡ is_part p self.now }
     {
         match self.place {
@@ -66,7 +66,7 @@ impl Region {
     }
 
     /// Whether this is the region of the loose piece `n`.
-    pub fn is_piece(&self, n: u64) -> bool
+    pub(crate) fn is_piece(&self, n: u64) -> bool
         ensures { result ≡ is_piece n self.now }
     {
         match self.place {
@@ -76,7 +76,7 @@ impl Region {
     }
 
     /// Whether this is the region of some part.
-    pub fn is_of_part(&self) -> bool
+    pub(crate) fn is_of_part(&self) -> bool
         ensures { result ≡ is_of_part self.now }
     {
         match self.place {
@@ -86,7 +86,7 @@ impl Region {
     }
 
     /// Whether an s_id lies in the range.
-    pub fn has(&self, s_id: u32) -> bool
+    pub(crate) fn has(&self, s_id: u32) -> bool
         ensures { result ≡ lies_in s_id self.now }
     {
         self.lo <= s_id && s_id < self.hi

@@ -119,7 +119,7 @@ impl Regions {
     }
 
     /// The region of the part `p`, if there is such a part.
-    pub fn region_of_part(&self, p: u64) -> Option<Region>
+    pub(crate) fn region_of_part(&self, p: u64) -> Option<Region>
         ensures { result ≡ find (is_part p) self.now }
     {
         find_part(self.list(), p)
