@@ -23,7 +23,7 @@ use Rattle.mr_node.proofs.SizeLemmas.{leaf_well, branch_well}
 use Rattle.mr_subtree.specs.Trees.{IsRoot}
 use Rattle.mr_cut.specs.Grafts.{IsRest}
 use Rattle.mr_cut.specs.Joins.{IsHeightOfBoth}
-use Rattle.mr_cut.specs.Cuts.{rows_below, rows_from, IsPiece, IsDivided, IsCut}
+use Rattle.mr_cut.specs.Cuts.{rows_below, rows_from, IsSideRoot, IsDivided, IsCut}
 
 -- numbers up to a bound are no further apart
 near : (a b n : ℕ) → a ≤ n → b ≤ n → abs_diff a b ≤ n
@@ -44,18 +44,18 @@ both_meters k h path joins e low first second =
 
 module _ {V : Type 0} where
   -- no children: a blank leaf
-  pub piece_none : (b : NodeBranch V) (x : Seen V) → IsRest b → b.len ≡ 0 → x ≡ record { height = 0; width = 0; rows = [] } → (IsPiece b.height x) × (x.rows ≡ rows_of (kids_of b))
+  pub piece_none : (b : NodeBranch V) (x : Seen V) → IsRest b → b.len ≡ 0 → x ≡ record { height = 0; width = 0; rows = [] } → (IsSideRoot b.height x) × (x.rows ≡ rows_of (kids_of b))
   piece_none b x rest none e =
       let nil : kids_of b ≡ [] = nil_from_length (kids_of b) (run_length b.len b.leasts b.kids rest.run ∙ none) in
-      let blank : IsPiece b.height (record { height = 0; width = 0; rows = [] }) = record {
+      let blank : IsSideRoot b.height (record { height = 0; width = 0; rows = [] }) = record {
         root = record { well = record { fits = omega arith; ordered = tt; keys = tt; at_least = omega arith; at_most = omega arith }; two = λ inner. absurd (omega (arith, inner)) };
         low = omega arith;
         room = λ high. omega arith;
       } in
-      (subst (IsPiece b.height) (sym e) blank, ap (λ s. s.rows) e ∙ sym (ap rows_of nil))
+      (subst (IsSideRoot b.height) (sym e) blank, ap (λ s. s.rows) e ∙ sym (ap rows_of nil))
 
   -- one child: that child
-  pub piece_one : (b : NodeBranch V) (k : NodeKid V) → IsRest b → b.len ≡ 1 → kids_of b ≡ k ∷ drop 1 (kids_of b) → (IsPiece b.height k.1.node.value) × (k.1.node.value.rows ≡ rows_of (kids_of b))
+  pub piece_one : (b : NodeBranch V) (k : NodeKid V) → IsRest b → b.len ≡ 1 → kids_of b ≡ k ∷ drop 1 (kids_of b) → (IsSideRoot b.height k.1.node.value) × (k.1.node.value.rows ≡ rows_of (kids_of b))
   piece_one b k rest one e =
       let none : drop 1 (kids_of b) ≡ [] = drop_all 1 (kids_of b) (omega (arith, run_length b.len b.leasts b.kids rest.run, one)) in
       let list : kids_of b ≡ k ∷ [] = e ∙ ap (λ r. k ∷ r) none in
@@ -72,14 +72,14 @@ module _ {V : Type 0} where
   pub some_kids : (b : NodeBranch V) → IsRest b → 0 < b.len → IsBranch b
   some_kids b rest some = record { inner = rest.inner; some = some; run = rest.run; kids = rest.kids; ordered = rest.ordered; keys = rest.keys }
 
-  pub piece_many : (b : NodeBranch V) (x : Seen V) → IsRest b → 2 ≤ b.len → b.len < 32 → x ≡ seen_branch b → (IsPiece b.height x) × (x.rows ≡ rows_of (kids_of b))
+  pub piece_many : (b : NodeBranch V) (x : Seen V) → IsRest b → 2 ≤ b.len → b.len < 32 → x ≡ seen_branch b → (IsSideRoot b.height x) × (x.rows ≡ rows_of (kids_of b))
   piece_many b x rest two room e =
-      let whole : IsPiece b.height (seen_branch b) = record {
+      let whole : IsSideRoot b.height (seen_branch b) = record {
         root = record { well = branch_well b (some_kids b rest (omega (arith, two))); two = λ inner. two };
         low = omega arith;
         room = λ high. room;
       } in
-      (subst (IsPiece b.height) (sym e) whole, ap (λ s. s.rows) e)
+      (subst (IsSideRoot b.height) (sym e) whole, ap (λ s. s.rows) e)
 
   -- an inner node parted round the child to which a key belongs
   pub record IsPartedAt (key : ℕ) (b front behind : NodeBranch V) (k : NodeKid V) : Type 0 where
@@ -147,10 +147,10 @@ module _ {V : Type 0} where
       parted_of key i b front behind k branch at (height ∙ mid_height) behind_height run behind_run (omega (arith, len, mid_len)) whole
 
   -- and roots over the children on both sides
-  pub divided_of : (key : ℕ) (b front behind : NodeBranch V) (k : NodeKid V) (left right : Seen V) → IsBranch b → IsPartedAt key b front behind k → front.height ≡ b.height → behind.height ≡ b.height → IsPiece front.height left → IsPiece behind.height right → left.rows ≡ rows_of (kids_of front) → right.rows ≡ rows_of (kids_of behind) → IsDivided key b left k.1.node.value right
+  pub divided_of : (key : ℕ) (b front behind : NodeBranch V) (k : NodeKid V) (left right : Seen V) → IsBranch b → IsPartedAt key b front behind k → front.height ≡ b.height → behind.height ≡ b.height → IsSideRoot front.height left → IsSideRoot behind.height right → left.rows ≡ rows_of (kids_of front) → right.rows ≡ rows_of (kids_of behind) → IsDivided key b left k.1.node.value right
   divided_of key b front behind k left right branch parted fh bh lp rp lr rr = record {
-    front = subst (λ h. IsPiece h left) fh lp;
-    back = subst (λ h. IsPiece h right) bh rp;
+    front = subst (λ h. IsSideRoot h left) fh lp;
+    back = subst (λ h. IsSideRoot h right) bh rp;
     level = omega (arith, parted.kid.level, branch.inner);
     rows = ap (λ l. l ++ (k.1.node.value.rows ++ right.rows)) lr ∙ ap (λ l. rows_of (kids_of front) ++ (k.1.node.value.rows ++ l)) rr ∙ parted.rows;
     below = subst (KeysBelow key) (sym lr) parted.below;
@@ -188,7 +188,7 @@ module _ {V : Type 0} where
     high_height = high_join b.height right high y.height divided.back y_height (omega (arith, cut.high_height, divided.level));
   }
     where
-      low_join : (h : ℕ) (piece other : Seen V) (height : ℕ) → IsPiece h piece → IsHeightOfBoth piece other height → other.height < h → height ≤ h
+      low_join : (h : ℕ) (piece other : Seen V) (height : ℕ) → IsSideRoot h piece → IsHeightOfBoth piece other height → other.height < h → height ≤ h
       low_join h piece other height p both lower = elim (cases_lt piece.height h) [
         | inl lt ↦ omega (arith, both.most, lt, lower)
         | inr le ↦
@@ -196,7 +196,7 @@ module _ {V : Type 0} where
             omega (arith, same, both.left (omega (arith, same, lower)) (p.room same))
       ]
 
-      high_join : (h : ℕ) (piece other : Seen V) (height : ℕ) → IsPiece h piece → IsHeightOfBoth other piece height → other.height < h → height ≤ h
+      high_join : (h : ℕ) (piece other : Seen V) (height : ℕ) → IsSideRoot h piece → IsHeightOfBoth other piece height → other.height < h → height ≤ h
       high_join h piece other height p both lower = elim (cases_lt piece.height h) [
         | inl lt ↦ omega (arith, both.most, lt, lower)
         | inr le ↦

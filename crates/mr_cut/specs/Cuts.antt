@@ -28,15 +28,15 @@ pub record IsCut {V : Type 0} (key : ℕ) (whole low high : Seen V) : Type 0 whe
   pub high_height : high.height ≤ whole.height
 
 -- a root over some children of a node of this height, which has room where it is as high
-pub record IsPiece {V : Type 0} (height : ℕ) (s : Seen V) : Type 0 where
+pub record IsSideRoot {V : Type 0} (height : ℕ) (s : Seen V) : Type 0 where
   pub root : IsRoot s
   pub low : s.height ≤ height
   pub room : s.height ≡ height → s.width < 32
 
 -- an inner node divided at the child to which a key belongs
 pub record IsDivided {V : Type 0} (key : ℕ) (b : NodeBranch V) (left mid right : Seen V) : Type 0 where
-  pub front : IsPiece b.height left
-  pub back : IsPiece b.height right
+  pub front : IsSideRoot b.height left
+  pub back : IsSideRoot b.height right
   pub level : mid.height + 1 ≡ b.height
   pub rows : left.rows ++ (mid.rows ++ right.rows) ≡ rows_of (kids_of b)
   pub below : KeysBelow key left.rows

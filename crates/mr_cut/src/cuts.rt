@@ -3,7 +3,7 @@ ghost use Rattle.std.specs.Prelude.{◌≡◌, ◌+◌, ◌*◌, ◌<◌, ◌≤
 ghost use Rattle.mr_node.specs.Levels.{kids_of, rows_of, IsBranch, IsLeaf, seen_leaf};
 ghost use Rattle.mr_node.specs.Steps.{after_steps};
 ghost use Rattle.mr_cut.specs.Grafts.{IsRest};
-ghost use Rattle.mr_cut.specs.Cuts.{IsPiece, IsDivided, IsCut};
+ghost use Rattle.mr_cut.specs.Cuts.{IsSideRoot, IsDivided, IsCut};
 
 use crate::joins::join;
 use mr_node::{
@@ -19,7 +19,7 @@ fn root_of<V: Drop>(
 ) -> Box<Node<V>>
     requires rest { IsRest branch }
     requires some_away { branch.len < 32 }
-    ensures piece { IsPiece branch.height result.value }
+    ensures piece { IsSideRoot branch.height result.value }
     ensures rows { result.value.rows ≡ rows_of (kids_of branch) }
     ensures no_fewer { after_steps 0 meter.old ≤ meter.new }
     ensures steps { meter.new ≤ meter.old + 1 }

@@ -6,7 +6,7 @@ use mr_node::Stock;
 use std::alloc::Global;
 use tatp_rows::Refusal;
 
-/// How many blank nodes a slice of a tree of this height wants: no more than it may take steps.
+/// How many blank nodes a slice of a tree of this height wants: `(height + 2)^2 + 1`, no more than it may take steps.
 pub fn need_slice(height: u64) -> usize
     requires { height < 16 }
     ensures number { result ≡ (height + 2) * (height + 2) + 1 }
@@ -16,7 +16,8 @@ pub fn need_slice(height: u64) -> usize
     levels * levels + 1
 }
 
-/// How many blank nodes a meld of trees of these heights wants: no more than it may take steps.
+/// How many blank nodes a meld of trees of these heights wants: three more than the heights differ by, no more than it may
+/// take steps.
 pub fn need_meld(low: u64, high: u64) -> usize
     requires low { low < 16 }
     requires high { high < 16 }
@@ -26,7 +27,7 @@ pub fn need_meld(low: u64, high: u64) -> usize
     low.abs_diff(high) as usize + 3
 }
 
-/// The blank nodes for a slice of a tree of this height. Memory where they can't be had.
+/// The blank nodes for a slice of a tree of this height (`need_slice`). `Memory` where they can't be had.
 pub fn stock_for_slice<V: Drop>(alloc: Global, height: u64) -> Result<Stock<V>, Refusal>
     requires { height < 16 }
     ensures { MatchResult result (λ stock. stock ≡ (height + 2) * (height + 2) + 1) (λ why. why ≡ Refusal.Memory) }
@@ -34,7 +35,7 @@ pub fn stock_for_slice<V: Drop>(alloc: Global, height: u64) -> Result<Stock<V>, 
     Stock::take(alloc, need_slice(height))
 }
 
-/// The blank nodes for a meld of trees of these heights. Memory where they can't be had.
+/// The blank nodes for a meld of trees of these heights (`need_meld`). `Memory` where they can't be had.
 pub fn stock_for_meld<V: Drop>(alloc: Global, low: u64, high: u64) -> Result<Stock<V>, Refusal>
     requires low { low < 16 }
     requires high { high < 16 }

@@ -41,6 +41,7 @@ pub fn slice<V: Drop>(tree: SubTree<V>, key: u64, stock: &mut Stock<V>) -> Cut<V
     ensures no_fewer { result.path + 8 * tree.height ≤ result.steps }
 {
     let alloc = tree.alloc();
+    // Tells that the height is below 16, on which the steps' bounds rest.
     let _ = tree.height();
     let root = boxed(tree.into_root(), stock.give());
     let mut path = Meter::new();
