@@ -484,35 +484,35 @@ fn words_that_stand(rt: HostRuntime) -> Result<(), Fail> {
 /// Where a re-cut of three parts to 90 and 100 was refused memory: what takes the piece that is loose, if one is. None where
 /// the regions are such as it may not leave.
 fn left_over(register: &Register) -> Option<Option<Event>> {
-    let none = [
+    let untouched = [
         region(Part(0), 1, 41),
         region(Part(1), 41, 85),
         region(Part(2), 85, END),
     ];
-    let second = [
+    let upper_given = [
         region(Part(0), 1, 41),
         region(Part(1), 41, 85),
         region(Piece(1), 85, 100),
         region(Part(2), 100, END),
     ];
-    let one = [
+    let upper_moved = [
         region(Part(0), 1, 41),
         region(Part(1), 41, 100),
         region(Part(2), 100, END),
     ];
-    let first = [
+    let lower_given = [
         region(Part(0), 1, 41),
         region(Piece(1), 41, 90),
         region(Part(1), 90, 100),
         region(Part(2), 100, END),
     ];
-    if has_regions(register, &none) || has_regions(register, &one) {
+    if has_regions(register, &untouched) || has_regions(register, &upper_moved) {
         return Some(None);
     }
-    if has_regions(register, &second) {
+    if has_regions(register, &upper_given) {
         return Some(Some(taking(1, 1)));
     }
-    if has_regions(register, &first) {
+    if has_regions(register, &lower_given) {
         return Some(Some(taking(1, 0)));
     }
     None

@@ -1,6 +1,7 @@
+//! What no clause says: that registers can be had and asked, what they answer then, and what stands where a growth is refused.
 use super::*;
 use arrayvec::ArrayVec;
-use part_table::Region;
+use part_table::{Place, Region};
 use std::alloc::Global;
 use std::process::Abort;
 use std::test::Fail;
@@ -130,7 +131,18 @@ fn number_read(reply: &Reply) -> Option<Number> {
     }
 }
 
-/// The subscriber of an event that may want memory, and the number that it names.
+/// The first subscriber of a loose piece.
+fn first_of_piece(register: &Register, piece: u64) -> Option<u64> {
+    let regions = register.regions();
+    for region in regions.list() {
+        if matches!(region.place, Place::Piece(n) if u64::from(n) == piece) {
+            return Some(u64::from(region.lo));
+        }
+    }
+    None
+}
+
+/// The subscriber of an event that may want memory, or of a piece the first one, and the number that it names.
 fn subject(register: &Register, event: &Event) -> Option<(u64, Option<Number>)> {
     match *event {
         Event::AddSubscriber(row) => Some((u64::from(row.s_id()), Some(row.sub_nbr()))),
@@ -142,7 +154,7 @@ fn subject(register: &Register, event: &Event) -> Option<(u64, Option<Number>)> 
         }
         Event::SetNumber { s_id, sub_nbr } => Some((s_id, Some(sub_nbr))),
         Event::Give { at, .. } => Some((at, None)),
-        Event::Take { piece, .. } => Some((piece, None)),
+        Event::Take { piece, .. } => Some((first_of_piece(register, piece)?, None)),
         _ => None,
     }
 }

@@ -1,3 +1,4 @@
+//! What no clause says: that blank nodes can be had, and what the calls on nodes answer when they succeed.
 ghost use Rattle.std.specs.Prelude.{◌≤◌};
 
 use super::*;

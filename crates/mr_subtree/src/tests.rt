@@ -1,3 +1,5 @@
+//! What no clause says: that insertions succeed and what each call answers then, for values of several sizes, and what stands
+//! where a growth is refused.
 ghost use Rattle.std.specs.Prelude.{◌<◌};
 ghost use Rattle.mr_node.specs.Rows.{key_limit};
 

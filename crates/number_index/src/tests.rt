@@ -1,3 +1,4 @@
+//! What no clause says: that an index can be had and grows, and what stands where a growth is refused.
 use super::*;
 use std::process::Abort;
 use std::test::Fail;

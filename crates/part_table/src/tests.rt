@@ -1,3 +1,4 @@
+//! What no clause says: worked examples of openings, gives, takes, proposals and re-cuts, beside a plain model.
 use super::*;
 use std::process::Abort;
 use tatp_rows::Refusal;

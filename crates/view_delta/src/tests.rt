@@ -1,3 +1,4 @@
+//! What no clause says: what each call answers on a worked example.
 ghost use Rattle.std.specs.Prelude.{◌≡◌, ℕ, ◌<◌, ◌≤◌, slice_index};
 
 use super::*;
