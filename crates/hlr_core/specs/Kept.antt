@@ -1,4 +1,4 @@
--- Gives and takes change no reply but Moving: what is left of a run without them.
+-- Gives and takes change no reply but Moving: what is left of a run without them, postings, and what was answered Moving or Memory.
 use Rattle.std.specs.Prelude.{◌≡◌, Bool, true, false, ◌&&◌, List, [], ◌∷◌, if◌then◌else◌}
 use Rattle.tatp_rows.specs.declared.refusal.Refusal.{Refusal}
 use Rattle.tatp_rows.specs.declared.refusal.Refusal.TheVariants as refusal

@@ -59,7 +59,8 @@ impl Board {
     }
 
     /// Raises the plus-word of an own slot and a cell below 51 by a positive amount, or its minus-word by the size of a
-    /// negative one, whatever the amount is. `Worn` exactly where the word would pass `LIMIT`: then nothing is changed.
+    /// negative one; an amount of 0 raises nothing. `Worn` exactly where the word would pass `LIMIT`, as by the least `i64`
+    /// always: then nothing is changed.
     pub fn add(&self, desk: &mut Desk, slot: u8, cell: u8, amount: i64) -> Result<(), Refusal>
         requires board { desk.old.board ≡ self.now }
         requires own { Owns desk.old.view slot }
