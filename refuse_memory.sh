@@ -111,7 +111,8 @@ script() {
 
 # alike GOT WANTED SCRIPT: the answers are those wanted, or whole answers to the first records, but that one record may
 # have been refused for want of memory and then done. After a re-cut that was refused, one of the takes may have its
-# piece, and the second re-cut moves what is left. It prints the word of the record that was refused.
+# piece, and the second re-cut moves what is left. It prints the word of the record that was refused, and how a refused
+# re-cut left the regions: whole or with a piece loose, and what the second one answers.
 alike() {
   awk -v wanted="$2" -v script="$3" '
     # the record of each answer, and where it ends
@@ -132,7 +133,12 @@ alike() {
       if ($0 ~ /^taken,1,[012]$/) { if (taken++) exit(bad = 1) } else if ($0 !~ /^refused,(13,NoPiece|15,NotAdjacent)$/) exit(bad = 1)
       next
     }
-    asked[NR] == "recut" && mending { mending = 0; if ($0 !~ /^recut,[012]$/) exit(bad = 1); next }
+    asked[NR] == "recut" && mending {
+      mending = 0
+      if ($0 !~ /^recut,[012]$/) exit(bad = 1)
+      print (taken ? "loose" : "whole"), $0
+      next
+    }
     $0 == want[NR] { next }
     $0 == "refused,1,Memory" && want[NR] !~ /^refused,/ && !refusals {
       refusals = 1
@@ -173,12 +179,12 @@ program() {
       [ "$(cat "$room/err")" = 'hlr: no memory' ] || wrong "with allocation $call refused it said '$(cat "$room/err")'"
     fi
   done
-  for word in sub acc fac icf number give take recut; do
+  for word in sub acc fac icf number give take recut 'whole recut,2' 'loose recut,1' 'whole recut,1' 'loose recut,0'; do
     grep -q "^$word$" "$room/words" || wrong "no $word was refused"
   done
   [ $ended -gt 0 ] || wrong 'no run was ended'
   echo "hlr: $((call - 1)) allocations refused: $refused times one record, $ended times the run ended"
-  sort "$room/words" | uniq -c | sort -rn | awk '{ printf "  %s %d", $2, $1 } END { print "" }'
+  sort "$room/words" | uniq -c | sort -rn | awk '{ count = $1; $1 = ""; printf " %s: %d", $0, count } END { print "" }'
 }
 
 # tests_of CRATE TEST ..: each passes whatever allocation is refused.

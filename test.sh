@@ -83,12 +83,18 @@ For more information, try '--help'.
 }
 
 options() {
+  local word
   hlr_on --help < /dev/null
   is '--help: status' "$status" 0
   has '--help' "$room/out" 'Usage: hlr [OPTIONS]'
   has '--help' "$room/out" '--parts <N>'
   has '--help' "$room/out" '--zone <W>'
   is '--help: standard error' "$(wc -c < "$room/err")" 0
+  for word in gsd gnd gad usd ul icf dcf sub acc fac active number post give take views scan index regions propose recut; do
+    is "--help: the command $word" "$(grep -c "^  $word[, ]" "$room/out")" "$([ "$word" = give ] && echo 2 || echo 1)"
+  done
+  has '--help' "$room/out" 'refused,CODE,NAME'
+  has '--help' "$room/out" "The status is 0, or 1 after 'hlr: no memory'"
   # the example that it ends with does what it says
   sed -n "s/^  [$] \(printf .*\) | hlr$/\1/p" "$room/out" > "$room/example"
   sed -n '/^  [$] printf/,/^$/s/^  \([^$].*\)$/\1/p' "$room/out" > "$room/example.out"
