@@ -1,13 +1,15 @@
 #!/usr/bin/env bash
 # What a command costs: `hlr`, reading alone and the plain Rust program over the same bytes, in turn.
 #
-#   bash bench/commands.sh [RUNS]       at the repository's top, once crates/hlr/out/hlr is built; it works in /tmp/bench
+#   bash bench/commands.sh [RUNS [OPTION ..]]    at the repository's top, once crates/hlr/out/hlr is built; the options are those
+#                                                of hlr, which answers alone then; it works in /tmp/bench
 #
 # It prints user seconds (best of RUNS) and resident KB for a million records, and instructions a record, by callgrind on
 # 20,000 records, less those of the 1,000 subscribers alone; at last how long 1,000 `views` take, each of which waits for
 # the answer to the one before.
 set -eu
 runs=${1:-5}
+options=("${@:2}")
 top=$PWD
 room=/tmp/bench
 mkdir -p "$room/crates/reading/src"
@@ -31,41 +33,50 @@ written() {
   esac
 }
 
-# input NAME COUNT: the 1,000 subscribers and so many records of that kind.
+# input NAME COUNT: the 1,000 subscribers and so many records of that kind; of posted each second one is a posting.
 input() {
   rows
   case $1 in
     found | ends | quoted) awk -v n="$2" 'BEGIN { srand(7); while (n--) printf "gsd,%d\n", 1 + int(rand() * 1000) }' | written "$1" ;;
     refused) awk -v n="$2" 'BEGIN { srand(7); while (n--) printf "gsd,%d\n", 1 + int(rand() * 16777216) }' ;;
     moved) awk -v n="$2" 'BEGIN { srand(7); while (n--) printf "ul,%015d,%d\n", 1 + int(rand() * 1000), 1 + int(rand() * 4294967295) }' ;;
+    posted) awk -v n="$2" 'BEGIN { srand(7); for (; n > 0; n -= 2) printf "ul,%015d,%d\npost,0,51\n", 1 + int(rand() * 1000), 1 + int(rand() * 4294967295) }' ;;
     views) awk -v n="$2" 'BEGIN { while (n--) print "views" }' ;;
   esac
 }
 
-# seconds PROGRAM FILE: the best user time, and the most resident memory, of the runs.
+# seconds FILE PROGRAM ..: the best user time, and the most resident memory, of the runs.
 seconds() {
   local turn
   for turn in $(seq "$runs"); do
-    /usr/bin/time -f '%U %M' "$1" < "$2" 2>&1 > /dev/null
+    /usr/bin/time -f '%U %M' "${@:2}" < "$1" 2>&1 > /dev/null
   done | sort -n | awk 'NR == 1 { best = $1 } $2 > most { most = $2 } END { printf "%s s, %s KB", best, most }'
 }
 
+# instructions FILE PROGRAM ..
 instructions() {
-  valgrind --tool=callgrind --callgrind-out-file=/dev/null "$1" < "$2" 2>&1 > /dev/null | sed -n 's/.*Collected : //p'
+  valgrind --tool=callgrind --callgrind-out-file=/dev/null "${@:2}" < "$1" 2>&1 > /dev/null | sed -n 's/.*Collected : //p'
+}
+
+# cost KIND PROGRAM ..: a line of what a record of this kind costs.
+cost() {
+  local before after
+  before=$(instructions "$room/rows.csv" "${@:2}")
+  after=$(instructions "$room/short.csv" "${@:2}")
+  echo "$1 $(basename "$2"): $(seconds "$room/long.csv" "${@:2}"), $(((after - before) / 20000)) instructions a record"
 }
 
 rows > "$room/rows.csv"
-for kind in found ends quoted refused moved views; do
+for kind in found ends quoted refused moved posted views; do
   input $kind 1000000 > "$room/long.csv"
   input $kind 20000 > "$room/short.csv"
-  for program in "$top/crates/hlr/out/hlr" "$reading" "$room/baseline"; do
-    before=$(instructions "$program" "$room/rows.csv")
-    after=$(instructions "$program" "$room/short.csv")
-    echo "$kind $(basename "$program"): $(seconds "$program" "$room/long.csv"), $(((after - before) / 20000)) instructions a record"
-  done
+  cost $kind "$top/crates/hlr/out/hlr" ${options[@]+"${options[@]}"}
+  [ ${#options[@]} = 0 ] || continue
+  cost $kind "$reading"
+  cost $kind "$room/baseline"
 done
 
-coproc "$top/crates/hlr/out/hlr"
+coproc "$top/crates/hlr/out/hlr" ${options[@]+"${options[@]}"}
 start=$(date +%s%N)
 for _ in $(seq 1000); do
   echo views >&"${COPROC[1]}"
