@@ -319,10 +319,10 @@ fn home(holding: Holding) -> Home {
     )
 }
 
-/// What an owner at work has done: the holding, whether a subscriber was added, and what a posting answered.
+/// What the thread of an owner at work hands back: the holding, whether a subscriber was added, and what a posting answered.
 type Worked = (Holding, bool, Result<u8, Refusal>);
 
-/// What the thread of the other owner hands back: the holding, what a posting answered, and the desk with what it saw.
+/// What the thread beside it hands back: the holding, what a posting answered, and the desk with what it saw.
 type Beside = (Holding, Result<u8, Refusal>, Desk, [Watched; 2]);
 
 /// Adds a subscriber, and posts.
@@ -333,25 +333,6 @@ fn works(board: &Board, mut holding: Holding, s_id: u64) -> Worked
     let is_added = add(&mut holding, s_id) == Some(RowReply::Done);
     let posted = holding.post(board, 51);
     (holding, is_added, posted)
-}
-
-/// Works, and then gives those from 8 on away.
-fn works_and_gives(rt: &impl Abort, board: &Board, holding: Holding) -> (Worked, Box<Piece>)
-    requires { holding.desk.board ≡ board.now }
-    ensures { result.0.0.desk.board ≡ board.now }
-{
-    let (mut holding, is_added, posted) = works(board, holding, 7);
-    let piece = give(&mut holding, Side::High, 8).expect(rt, "memory");
-    ((holding, is_added, posted), piece)
-}
-
-/// Takes a piece, and works then. Whether it was taken.
-fn takes_and_works(board: &Board, mut holding: Holding, piece: Box<Piece>) -> (Worked, bool)
-    requires { holding.desk.board ≡ board.now }
-    ensures { result.0.0.desk.board ≡ board.now }
-{
-    let is_taken = take(&mut holding, piece).is_none();
-    (works(board, holding, 66), is_taken)
 }
 
 /// Looks, posts, and looks again.
@@ -365,25 +346,26 @@ fn posts_and_looks(board: &Board, mut holding: Holding, mut desk: Desk) -> Besid
     (holding, posted, desk, [first, second])
 }
 
-/// One owner works and gives in a thread; beside it the other one posts, and a desk looks.
-fn give_beside<R: Threads + Abort + Sync>(
+/// One owner works in a thread; beside it one posts, and a desk looks.
+fn side_by_side<R: Threads + Sync>(
     rt: &R,
     board: &Board,
-    giver: Holding,
+    worker: Holding,
+    s_id: u64,
     other: Holding,
     desk: Desk,
-) -> ((Worked, Box<Piece>), Beside)
-    requires giver { giver.desk.board ≡ board.now }
+) -> (Worked, Beside)
+    requires worker { worker.desk.board ≡ board.now }
     requires beside { (other.desk.board ≡ board.now) × (desk.board ≡ board.now) }
-    ensures giver { result.0.0.0.desk.board ≡ board.now }
+    ensures worker { result.0.0.desk.board ≡ board.now }
     ensures beside { (result.1.0.desk.board ≡ board.now) × (result.1.2.board ≡ board.now) }
 {
     thread::join(
         rt,
-        || -> (Worked, Box<Piece>)
-            requires { giver.desk.board ≡ board.now }
-            ensures { result.0.0.desk.board ≡ board.entry.now }
-        { works_and_gives(rt, board, giver) },
+        || -> Worked
+            requires { worker.desk.board ≡ board.now }
+            ensures { result.0.desk.board ≡ board.entry.now }
+        { works(board, worker, s_id) },
         || -> Beside
             requires { (other.desk.board ≡ board.now) × (desk.board ≡ board.now) }
             ensures { (result.0.desk.board ≡ board.entry.now) × (result.2.board ≡ board.entry.now) }
@@ -391,34 +373,18 @@ fn give_beside<R: Threads + Abort + Sync>(
     )
 }
 
-/// One owner takes a piece, and works; beside it the other one posts in a thread, and a desk looks.
-fn take_beside<R: Threads + Sync>(
-    rt: &R,
-    board: &Board,
-    taker: Holding,
-    piece: Box<Piece>,
-    other: Holding,
-    desk: Desk,
-) -> (Beside, (Worked, bool))
-    requires taker { taker.desk.board ≡ board.now }
-    requires beside { (other.desk.board ≡ board.now) × (desk.board ≡ board.now) }
-    ensures beside { (result.0.0.desk.board ≡ board.now) × (result.0.2.board ≡ board.now) }
-    ensures taker { result.1.0.0.desk.board ≡ board.now }
+/// Gives those from 8 on away, and lets the other holding take them.
+fn hand_over(giver: &mut Holding, taker: &mut Holding) -> bool
+    ensures giver { giver.new.desk ≡ giver.old.desk }
+    ensures taker { taker.new.desk ≡ taker.old.desk }
 {
-    thread::join(
-        rt,
-        || -> Beside
-            requires { (other.desk.board ≡ board.now) × (desk.board ≡ board.now) }
-            ensures { (result.0.desk.board ≡ board.entry.now) × (result.2.board ≡ board.entry.now) }
-        { posts_and_looks(board, other, desk) },
-        || -> (Worked, bool)
-            requires { taker.desk.board ≡ board.now }
-            ensures { result.0.0.desk.board ≡ board.entry.now }
-        { takes_and_works(board, taker, piece) },
-    )
+    match give(giver, Side::High, 8) {
+        Ok(piece) => take(taker, piece).is_none(),
+        Err(_) => false,
+    }
 }
 
-/// What came of a piece's way: whether each owner's subscriber was added, and the piece was taken; what the postings answered;
+/// What came of a piece's way: whether each owner's subscriber was added, and the piece went over; what the postings answered;
 /// what came home; what the desk saw before, between and after; and whether its other sights lie between these.
 type Way = (
     [bool; 3],
@@ -428,9 +394,8 @@ type Way = (
     [bool; 2],
 );
 
-/// An owner works and gives in a thread, and the other one takes in another thread, and works then; meanwhile the one that
-/// doesn't work posts, and a desk looks.
-fn piece_goes_over<R: Threads + Abort + Sync>(
+/// An owner works, and gives to another one, which works then; meanwhile the one that doesn't work posts, and a desk looks.
+fn piece_goes_over<R: Threads + Sync>(
     rt: &R,
     board: &Board,
     low: Holding,
@@ -441,20 +406,21 @@ fn piece_goes_over<R: Threads + Abort + Sync>(
     requires desk { desk.board ≡ board.now }
 {
     let before = look(board, &mut desk);
-    let (given, beside) = give_beside(rt, board, low, high, desk);
-    let ((low, low_added, first), piece) = given;
-    let (high, second, mut desk, early) = beside;
+    let (worked, beside) = side_by_side(rt, board, low, 7, high, desk);
+    let (mut low, low_added, first) = worked;
+    let (mut high, second, mut desk, early) = beside;
+    let is_over = hand_over(&mut low, &mut high);
     let between = look(board, &mut desk);
-    let (beside, taken) = take_beside(rt, board, high, piece, low, desk);
+    let (worked, beside) = side_by_side(rt, board, high, 66, low, desk);
+    let (high, high_added, third) = worked;
     let (low, fourth, mut desk, late) = beside;
-    let ((high, high_added, third), is_taken) = taken;
     let after = look(board, &mut desk);
     let are_right = [
         are_between(&before, &early, &between),
         are_between(&between, &late, &after),
     ];
     (
-        [low_added, high_added, is_taken],
+        [low_added, high_added, is_over],
         [first, second, third, fourth],
         [home(low), home(high)],
         [before, between, after],
