@@ -3,6 +3,7 @@
 #
 #   bash bench/commands.sh [RUNS [OPTION ..]]    at the repository's top, once crates/hlr/out/hlr is built; the options are those
 #                                                of hlr, which answers alone then; it works in /tmp/bench
+#   HLR=PROGRAM bash bench/commands.sh [RUNS]    another hlr
 #
 # It prints user seconds (best of RUNS) and resident KB for a million records, and instructions a record, by callgrind on
 # 20,000 records, less those of the 1,000 subscribers alone; at last how long 1,000 `views` take, each of which waits for
@@ -10,7 +11,7 @@
 set -eu
 runs=${1:-5}
 options=("${@:2}")
-top=$PWD
+hlr=${HLR:-$PWD/crates/hlr/out/hlr}
 room=/tmp/bench
 mkdir -p "$room/crates/reading/src"
 
@@ -70,13 +71,13 @@ rows > "$room/rows.csv"
 for kind in found ends quoted refused moved posted views; do
   input $kind 1000000 > "$room/long.csv"
   input $kind 20000 > "$room/short.csv"
-  cost $kind "$top/crates/hlr/out/hlr" ${options[@]+"${options[@]}"}
+  cost $kind "$hlr" ${options[@]+"${options[@]}"}
   [ ${#options[@]} = 0 ] || continue
   cost $kind "$reading"
   cost $kind "$room/baseline"
 done
 
-coproc "$top/crates/hlr/out/hlr" ${options[@]+"${options[@]}"}
+coproc "$hlr" ${options[@]+"${options[@]}"}
 start=$(date +%s%N)
 for _ in $(seq 1000); do
   echo views >&"${COPROC[1]}"
