@@ -101,6 +101,7 @@ script() {
   printf 'post,2,51\n'
   cut 300 301
   cut 2 16777216
+  cut 2 3
   cut 161 337
   reports
   for s in $(seq 601 640) $(seq 10001 10040); do row "$s"; done | twice
