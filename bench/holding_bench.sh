@@ -1,7 +1,7 @@
 #!/usr/bin/env bash
 # Measures owners that act and post, from the repository's top, in a scratch folder: one, two and four in threads of their
-# own, each with its slot, and one whose postings have a limit of 0. Each turn moves a subscriber from one area to another, and posts both
-# cells. What `rt check` left in crates/*/out is taken along.
+# own, each with its slot, and one whose postings have a limit of 0. Each turn moves a subscriber from one area to another,
+# and posts both cells. What `rt check` left in crates/*/out is taken along.
 set -eu
 room=${1:-/tmp/holding}
 mkdir -p "$room/crates/holding_bench/src" "$room/crates/holding_bench/proofs/work_on" "$room/crates/holding_bench/proofs/has_small_nets"
