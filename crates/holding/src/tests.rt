@@ -81,7 +81,7 @@ fn standing(holding: &Holding) -> ([u32; 2], Counts) {
     ([holding.lo(), holding.hi()], counts(holding))
 }
 
-/// Gives a stretch away; where a growth was refused and all stands as it did, at the second try.
+/// Gives a stretch away; after a refusal that left all as it stood, once more.
 fn give(holding: &mut Holding, side: Side, at: u32) -> Result<Box<Piece>, Refusal>
     ensures { holding.new.desk ≡ holding.old.desk }
 {
@@ -93,7 +93,7 @@ fn give(holding: &mut Holding, side: Side, at: u32) -> Result<Box<Piece>, Refusa
     given
 }
 
-/// Takes a piece; where a growth was refused and all stands as it did, at the second try. Why it was refused, and the piece.
+/// Takes a piece; after Memory that left all as it stood, once more. Why it was refused, and the piece.
 fn take(holding: &mut Holding, piece: Box<Piece>) -> Option<(Refusal, Box<Piece>)>
     ensures { holding.new.desk ≡ holding.old.desk }
 {
