@@ -1,3 +1,4 @@
 pub mod HeldLemmas
 pub mod MovedLemmas
 pub mod PostLemmas
+pub mod CrossingLemmas

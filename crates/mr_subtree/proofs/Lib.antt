@@ -1,1 +1,2 @@
 pub mod RootFacts
+pub mod CrossingLemmas

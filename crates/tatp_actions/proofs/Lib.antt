@@ -18,3 +18,4 @@ pub mod LocalLemmas
 pub mod JoinedLemmas
 pub mod CutLemmas
 pub mod CutTablesLemmas
+pub mod CrossingLemmas

@@ -10,3 +10,4 @@ pub mod PlaceLemmas
 pub mod RowLemmas
 pub mod SortLemmas
 pub mod SpanLemmas
+pub mod CrossingLemmas
