@@ -13,7 +13,7 @@ use Rattle.part_table.proofs.WovenLemmas.{sum_ints}
 use Rattle.view_board.specs.Desks.{Station, with_view}
 use Rattle.view_board.specs.Nets.{net_of, net_from}
 use Rattle.view_board.specs.Views.{owned_at, Owns, IsWide, posted}
-use Rattle.view_board.specs.Words.{plus_word, minus_word, word_of, slot_net}
+use Rattle.view_board.specs.Words.{plus_word, minus_word, word_of, raised_by, slot_net}
 use Rattle.view_board.specs.declared.rule.View.{View}
 use Rattle.view_board.specs.declared.words.TheConstants.{SLOTS, SLOT_WORDS, WORDS}
 use Rattle.view_board.proofs.ListLemmas.{each_word_at, length-each_word}
@@ -21,7 +21,7 @@ use Rattle.view_board.proofs.NetLemmas.{net_from-next, net_from-end, word_within
 use Rattle.holding.specs.Held.{IsLeastSlot}
 use Rattle.hlr_core.specs.Desks.{own_number, owns_one, words_of, slots_in}
 use Rattle.hlr_core.specs.Post.{least}
-use Rattle.hlr_core.specs.Words.{net, all_slots, raised}
+use Rattle.hlr_core.specs.Words.{net, all_slots}
 
 -- a word, read
 pub words_at : (desks : List Station) (w : ℕ) → w < WORDS → get_or (words_of desks) w 0 ≡ sum_by (own_number w) desks
@@ -160,9 +160,9 @@ module _ (desks : List Station) (p : ℕ) (desk : Station) (within : p < length 
 
   module _ (slot : ℕ) (own : Owns desk.view slot) (in_board : slot < SLOTS) where
     -- an amount that the desk posts raises the word
-    pub words_posted : (view : View) (c : ℕ) (amount : ℤ) → view.owned ≡ desk.view.owned → IsWide view → c < CELLS → words_with (posted view slot c amount) ≡ raised (words_with view) slot c amount
+    pub words_posted : (view : View) (c : ℕ) (amount : ℤ) → view.owned ≡ desk.view.owned → IsWide view → c < CELLS → words_with (posted view slot c amount) ≡ raised_by (words_with view) slot c amount
     words_posted view c amount same wide below =
-        ext_get_or 0 (words_with (posted view slot c amount)) (raised (words_with view) slot c amount)
+        ext_get_or 0 (words_with (posted view slot c amount)) (raised_by (words_with view) slot c amount)
         (length-each_word (λ k. sum_by (own_number k) (set desks p (with_view desk (posted view slot c amount))))
         ∙ sym (length-set (words_with view) at (get_or (words_with view) at 0 + unsigned_abs amount) ∙ length-each_word (λ k. sum_by (own_number k) (set desks p (with_view desk view)))))
         (λ w low. let small : w < WORDS = rw (length-each_word (λ k. sum_by (own_number k) (set desks p (with_view desk (posted view slot c amount))))) at low in each w small)
@@ -176,7 +176,7 @@ module _ (desks : List Station) (p : ℕ) (desk : Station) (within : p < length 
         owns : owned_at view slot ≡ true
         owns = rw same own
 
-        each : (w : ℕ) → w < WORDS → get_or (words_with (posted view slot c amount)) w 0 ≡ get_or (raised (words_with view) slot c amount) w 0
+        each : (w : ℕ) → w < WORDS → get_or (words_with (posted view slot c amount)) w 0 ≡ get_or (raised_by (words_with view) slot c amount) w 0
         each w low = elim (cases_eq w at) [
           | inl here ↦ (
               let before = rw (here, there.1, owns) at (word_with view w low) in

@@ -18,6 +18,7 @@ use Rattle.part_table.specs.Woven.{woven}
 use Rattle.part_table.specs.declared.region.Region.{Region}
 use Rattle.view_board.specs.Desks.{Station}
 use Rattle.view_board.specs.Views.{IsWide}
+use Rattle.view_board.specs.declared.rule.View.{View}
 use Rattle.view_board.specs.declared.words.TheConstants.{SLOTS}
 use Rattle.view_board.proofs.ListLemmas.{set_within}
 use Rattle.holding.specs.Held.{HoldingState, PieceState, IsHolding, count_of}
@@ -89,7 +90,9 @@ module _ (regions : List Region) (boxes : List (Box HoldingState Global)) (loose
       core =
           let all = post_same (spare ∷ seen desk_of boxes) (suc p) before.desk (omega (arith, inside)) desk_at rules.shares.once of_board.wide before.slot in_board lawful.slot (count_of before.part) limit in
           let is_now = desk_is before.desk after.desk desk.0 in
-          rw is_now (rw (← done) at all)
+          let told = ap (λ (answer : Result ℕ Refusal × View). answer.0) done in
+          let knows = ap (λ (answer : Result ℕ Refusal × View). answer.1) done in
+          rw is_now (rw (← told, ← knows) at all)
 
       -- the store keeps its rules
       pub posted_held : IsHolding after → AreHeld regions (seen of_holding (set boxes p (with_value b after))) (seen of_piece loose) width × AreDesks board spare (seen desk_of (set boxes p (with_value b after)))

@@ -1,8 +1,7 @@
 -- The words of the board as lists of slots see them. Where a slot has its words, the board says.
-use Rattle.std.specs.Prelude.{ℕ, ◌+◌, List, [], ◌∷◌, replicate, slice_index, slice_set, ℤ, pos, ◌+ℤ◌}
-use Rattle.std.specs.Int.RustNames.{unsigned_abs}
+use Rattle.std.specs.Prelude.{ℕ, List, [], ◌∷◌, replicate, ℤ, pos, ◌+ℤ◌}
 use Rattle.std.specs.List.{range_with_len}
-use Rattle.view_board.specs.Words.{slot_net, word_of}
+use Rattle.view_board.specs.Words.{slot_net}
 use Rattle.view_board.specs.declared.words.TheConstants.{SLOTS, WORDS}
 
 -- all words at 0
@@ -17,8 +16,3 @@ net words (slot ∷ slots) c = slot_net words c slot +ℤ net words slots c
 -- all slots
 unfoldable pub all_slots : List ℕ
 all_slots = range_with_len 0 SLOTS
-
--- the words after an amount is posted in a slot and cell
-abbrev pub raised : List ℕ → ℕ → ℕ → ℤ → List ℕ
-raised words slot c amount =
-    slice_set words (word_of slot c amount) (slice_index words (word_of slot c amount) + unsigned_abs amount)

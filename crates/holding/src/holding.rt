@@ -81,8 +81,9 @@ fn unposted(counts: &Cells, desk: &Desk) -> [i64; CELLS as usize]
 impl<R: Rows> Holding<R> {
     /// Does an action on the rows, and moves what is pending by its change.
     ///
+    /// The subscriber is in the range. `Field` comes first, where a field is out of its range, then the refusals of the rows;
     /// `Memory` comes only in place of `Done` where a row is added. A number that another subscriber has is no refusal here:
-    /// whoever has all parts refuses it. After a refusal the rows are as before.
+    /// whoever has all parts refuses it. After a refusal the rows and what is pending are as before.
     pub fn act(&mut self, action: Action) -> RowReply
         requires { IsWithin self.old.part.lo self.old.part.hi (s_id_of action) }
         ensures outcome { IsOutcome action self.old.part.book result self.new.part.book }
@@ -194,7 +195,7 @@ impl Holding {
         self.part.width()
     }
 
-    /// What is pending of a cell.
+    /// What is pending of a cell below 51.
     pub fn pending(&self, cell: u8) -> i64
         requires { cell < CELLS }
         ensures value { result ≡ pending_at self.now.pending cell }
@@ -203,7 +204,7 @@ impl Holding {
         self.pending.get(cell)
     }
 
-    /// What the desk has published of a cell.
+    /// What the desk has published of a cell below 51.
     #[inline(always)]
     pub fn net(&self, cell: u8) -> i128
         requires { cell < CELLS }

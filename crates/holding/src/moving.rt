@@ -26,7 +26,8 @@ fn touches(part: &Part, other: &Part) -> bool
 }
 
 impl Holding {
-    /// Gives the stretch on one side of a subscriber away as a loose piece, whose rows are counted once.
+    /// Gives the stretch on one side of a subscriber away as a loose piece, whose rows are counted once: on the high side it has
+    /// the subscriber and all above, on the low side all below.
     ///
     /// `OutOfRange` where the subscriber is not strictly inside the range, `Memory` where a growth was refused: then nothing is
     /// changed.

@@ -1,9 +1,8 @@
 -- What a desk knows of the board: which slots are its own, the numbers of their words, and what it has seen of each word.
 use Rattle.std.specs.Prelude.{◌≡◌, ℕ, ◌+◌, ◌/◌, ◌<◌, ◌≤◌, max, Bool, true, false, ◌&&◌, ◌||◌, not, if◌then◌else◌, List, [], ◌∷◌, length, replicate, slice_index, slice_index_or, slice_set, ℤ}
-use Rattle.std.specs.Int.RustNames.{unsigned_abs}
 use Rattle.view_board.specs.declared.rule.View.{View}
 use Rattle.view_board.specs.declared.words.TheConstants.{SLOTS, SLOT_WORDS, WORDS, LIMIT}
-use Rattle.view_board.specs.Words.{word_of, each_word, each_slot}
+use Rattle.view_board.specs.Words.{raised_by, each_word, each_slot}
 
 -- whether the slot is the desk's
 abbrev pub owned_at : View → ℕ → Bool
@@ -36,11 +35,7 @@ raised v w size = record v { numbers = slice_set v.numbers w (slice_index v.numb
 
 -- an amount is posted in a slot and cell
 abbrev pub posted : View → ℕ → ℕ → ℤ → View
-posted v slot cell amount = raised v (word_of slot cell amount) (unsigned_abs amount)
-
--- an amount would carry its word past the limit
-abbrev pub IsWorn : View → ℕ → ℕ → ℤ → Type 0
-IsWorn v slot cell amount = LIMIT < slice_index v.numbers (word_of slot cell amount) + unsigned_abs amount
+posted v slot cell amount = record v { numbers = raised_by v.numbers slot cell amount }
 
 -- a word was looked at
 abbrev pub saw : View → ℕ → ℕ → View

@@ -1,5 +1,6 @@
 -- The words of the board: 16 slots, each with a plus-word and a minus-word for each cell.
-use Rattle.std.specs.Prelude.{ℕ, ◌+◌, ◌*◌, ◌<◌, ◌≤◌, List, map, Bool, slice_index, ℤ, pos, negsuc, ◌-ℤ◌}
+use Rattle.std.specs.Prelude.{ℕ, ◌+◌, ◌*◌, ◌<◌, ◌≤◌, nat_lt, List, map, Bool, slice_index, slice_set, ℤ, pos, negsuc, ◌-ℤ◌}
+use Rattle.std.specs.Int.RustNames.{unsigned_abs}
 use Rattle.std.specs.List.{range_with_len}
 use Rattle.view_board.specs.declared.words.TheConstants.{SLOTS, CELLS, SLOT_WORDS, WORDS, LIMIT}
 
@@ -14,6 +15,15 @@ minus_word slot cell = slot * SLOT_WORDS + CELLS + cell
 abbrev pub word_of : ℕ → ℕ → ℤ → ℕ
 word_of slot cell (pos n) = plus_word slot cell
 word_of slot cell (negsuc n) = minus_word slot cell
+
+-- the words after an amount is posted in a slot and cell
+abbrev pub raised_by : List ℕ → ℕ → ℕ → ℤ → List ℕ
+raised_by words slot cell amount =
+    slice_set words (word_of slot cell amount) (slice_index words (word_of slot cell amount) + unsigned_abs amount)
+
+-- an amount would carry its word past the limit
+abbrev pub is_worn : List ℕ → ℕ → ℕ → ℤ → Bool
+is_worn words slot cell amount = nat_lt LIMIT (slice_index words (word_of slot cell amount) + unsigned_abs amount)
 
 -- the net of a slot in a cell: its plus-word less its minus-word
 abbrev pub slot_net : List ℕ → ℕ → ℕ → ℤ

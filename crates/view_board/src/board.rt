@@ -1,7 +1,7 @@
 //! The board, and what desks do on it.
-ghost use Rattle.std.specs.Prelude.{◌≡◌, ℕ, ◌<◌, ◌≤◌, ◌↔◌, ◌⊎◌, OnOk, OnErr, IfOk, IfErr, IsErr, slice_index};
-ghost use Rattle.view_board.specs.Words.{AreSmall, HasGreat};
-ghost use Rattle.view_board.specs.Views.{Owns, OwnsAll, first_view, posted, IsWorn, looked, IsRightSight, without, alone, both, AreApart};
+ghost use Rattle.std.specs.Prelude.{◌≡◌, ℕ, ◌<◌, ◌≤◌, ◌↔◌, ◌⊎◌, OnOk, OnErr, IfOk, IfErr, IsErr, IsTrue, slice_index};
+ghost use Rattle.view_board.specs.Words.{AreSmall, HasGreat, is_worn};
+ghost use Rattle.view_board.specs.Views.{Owns, OwnsAll, first_view, posted, looked, IsRightSight, without, alone, both, AreApart};
 ghost use Rattle.view_board.specs.Nets.{NetMoves, NetAdds};
 ghost use Rattle.view_board.specs.Desks.{with_view};
 
@@ -68,7 +68,7 @@ impl Board {
         ensures ok { OnOk result (desk.new ≡ with_view desk.old (posted desk.old.view slot cell amount)) }
         ensures net { OnOk result (NetMoves desk.old.view desk.new.view cell amount) }
         ensures err { OnErr result ((desk.new ≡ desk.old) × (result ≡ Err Refusal.Worn)) }
-        ensures worn { IsErr result ↔ IsWorn desk.old.view slot cell amount }
+        ensures worn { IsErr result ↔ IsTrue (is_worn desk.old.view.numbers slot cell amount) }
     {
         // This opens the desk, so that its rules are known as the step begins.
         let _ = &desk.owned;
@@ -100,8 +100,8 @@ impl Board {
         Sight { words }
     }
 
-    /// Splits an own slot off: a new desk owns it, and has seen what this one has seen. `Memory` where a growth was
-    /// refused: then nothing is changed.
+    /// Splits an own slot off: a new desk owns it, and has seen what this one has seen. It may be the last one; a desk with no
+    /// slot can still look and join. `Memory` where a growth was refused: then nothing is changed.
     pub fn split(&self, desk: &mut Desk, slot: u8) -> Result<Desk, Refusal>
         requires board { desk.old.board ≡ self.now }
         requires own { Owns desk.old.view slot }
@@ -158,7 +158,8 @@ impl Board {
         self.table.shared.load::<Checks>(&mut desk.seat, 0);
     }
 
-    /// Ends the board, by the desk that owns all slots, and answers its words.
+    /// Ends the board, by the desk that owns all slots, and answers its words: the desk's numbers, and at least all that it has
+    /// seen.
     pub fn close(self, desk: Desk) -> [u64; WORDS]
         requires board { desk.board ≡ self }
         requires all { OwnsAll desk.view }

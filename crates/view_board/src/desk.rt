@@ -28,14 +28,14 @@ impl Model for Desk {
 }
 
 impl Desk {
-    /// Whether the slot is the desk's.
+    /// Whether the slot is the desk's; one past the last is nobody's.
     pub fn owns(&self, slot: u8) -> bool
         ensures { IsTrue result ↔ Owns self.now.view slot }
     {
         slot < SLOTS && self.owned[usize::from(slot)]
     }
 
-    /// What the desk has published of a cell: the sum over its slots of their plus-words less their minus-words.
+    /// What the desk has published of a cell below 51: the sum over its slots of their plus-words less their minus-words.
     #[inline(always)]
     pub fn net(&self, cell: u8) -> i128
         requires { cell < CELLS }

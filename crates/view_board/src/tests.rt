@@ -105,7 +105,7 @@ fn two_threads(rt: HostRuntime) -> Result<(), Fail> {
     Ok(())
 }
 
-// What a desk of slot 3 and the desk that split it off see of each other, and of a desk with no slot.
+// What the first desk and one with no slot see of what a desk of slot 3 raises.
 fn seen(board: &Board, first: &mut Desk, other: &mut Desk, none: &mut Desk) -> [u64; 5]
     requires first { first.old.board ≡ board.now }
     requires other { (other.old.board ≡ board.now) × Owns other.old.view 3 }

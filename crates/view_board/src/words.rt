@@ -17,7 +17,8 @@ pub const WORDS: usize = SLOTS as usize * SLOT_WORDS;
 /// The greatest value of a word.
 pub const LIMIT: u64 = 9_223_372_036_854_775_807;
 
-/// The words as a look found them, one after another.
+/// The words as a look found them, one after another. The plus-word of slot s and cell c is word `s * SLOT_WORDS + c`, and its
+/// minus-word comes `CELLS` behind; what is published of a cell is the sum of its plus-words less that of its minus-words.
 #[derive(Clone, Copy, Debug, PartialEq, Eq)]
 pub struct Sight {
     pub words: [u64; WORDS],
