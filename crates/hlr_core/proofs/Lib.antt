@@ -20,6 +20,7 @@ pub mod OwnerCountLemmas
 pub mod OwnerLemmas
 pub mod OwnerPostLemmas
 pub mod PairsLemmas
+pub mod PendingLemmas
 pub mod PostLemmas
 pub mod PresentLemmas
 pub mod RecutLemmas

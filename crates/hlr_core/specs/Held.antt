@@ -1,5 +1,5 @@
 -- The owners of all regions, parts and loose pieces, and the rules that they keep together.
-use Rattle.std.specs.Prelude.{◌≡◌, ℕ, ◌<◌, List, length, ℤ, pos, neg_ℤ, ◌+ℤ◌, ◌≤ℤ◌}
+use Rattle.std.specs.Prelude.{◌≡◌, ℕ, ◌<◌, List, [], ◌∷◌, length, ℤ, pos, neg_ℤ, ◌+ℤ◌, ◌≤ℤ◌}
 use Rattle.std.specs.List.{AllZip}
 use Rattle.tatp_actions.specs.Book.{empty_book}
 use Rattle.tatp_actions.specs.Part.{PartState, IsPart, IsWidth}
@@ -24,6 +24,11 @@ of_holding holding = record { part = holding.part; pending = holding.pending; vi
 
 abbrev pub of_piece : PieceState → Owner
 of_piece piece = record { part = piece.part; pending = piece.pending; view = nobody }
+
+-- what is pending of a cell in all owners together
+abbrev pub pending_in : List Owner → ℕ → ℤ
+pending_in [] c = pos 0
+pending_in (owner ∷ owners) c = pending_at owner.pending c +ℤ pending_in owners c
 
 -- a sum for each cell is at most 2^60, either way
 abbrev pub AreSummable : (ℕ → ℤ) → Type 0

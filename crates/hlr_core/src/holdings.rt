@@ -16,8 +16,8 @@ ghost use Rattle.view_board.specs.Words.{AreSmall, HasGreat};
 ghost use Rattle.view_board.specs.declared.words.TheConstants.{SLOTS};
 ghost use Rattle.holding.specs.Held.{HasSmallNets};
 ghost use Rattle.hlr_core.specs.Desks.{AreLevel, desk_of};
-ghost use Rattle.hlr_core.specs.Gather.{MayGather, misfit, gathered};
-ghost use Rattle.hlr_core.specs.Held.{IsOpened, AreHeld, of_holding, of_piece};
+ghost use Rattle.hlr_core.specs.Gather.{MayGather, misfit, gathered, owners_of};
+ghost use Rattle.hlr_core.specs.Held.{IsOpened, AreHeld, of_holding, of_piece, pending_in};
 ghost use Rattle.hlr_core.specs.Owners.{seen, store_of, unboxed};
 ghost use Rattle.hlr_core.specs.Prepared.{IsSurveyed};
 ghost use Rattle.hlr_core.specs.declared.room.TheConstants.{PLACES};
@@ -136,6 +136,7 @@ impl Holdings {
     pub fn scatter(self) -> Scattered
         ensures store { store_of self.regions (seen of_holding result.holdings.items) (seen of_piece result.pieces.items) result.frame.spare (seen desk_of result.holdings.items) result.frame.width ≡ self }
         ensures held { AreHeld self.regions (seen of_holding result.holdings.items) (seen of_piece result.pieces.items) self.width }
+        ensures pending { (c : ℕ) → c < CELLS → pending_in (owners_of (unboxed result.holdings.items) (unboxed result.pieces.items)) c ≡ unposted self c }
         ensures desks { MayGather (arc_value result.frame.board) result.frame.spare (unboxed result.holdings.items) }
         ensures again { gathered result.frame.width result.frame.spare (unboxed result.holdings.items) (unboxed result.pieces.items) ≡ record self { regions = numbered 0 1 self.regions } }
         ensures fits { misfit result.frame.width (unboxed result.holdings.items) (unboxed result.pieces.items) ≡ None }
@@ -174,6 +175,7 @@ impl Holdings {
         requires room { (PLACES ≤ vec_capacity room_for_holdings) × (PLACES ≤ vec_capacity room_for_pieces) }
         ensures value { result ≡ gathered scattered.frame.width scattered.frame.spare (unboxed scattered.holdings.items) (unboxed scattered.pieces.items) }
         ensures rows { IsRowsOf 1 (LAST_SUBSCRIBER + 1) result.book }
+        ensures pending { (c : ℕ) → c < CELLS → unposted result c ≡ pending_in (owners_of (unboxed scattered.holdings.items) (unboxed scattered.pieces.items)) c }
     {
         let Scattered {
             frame,

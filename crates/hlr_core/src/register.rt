@@ -11,8 +11,8 @@ ghost use Rattle.part_table.specs.Proposal.{proposal};
 ghost use Rattle.part_table.specs.Regions.{AreRegions};
 ghost use Rattle.std.specs.Arc.{arc_value};
 ghost use Rattle.hlr_core.specs.Desks.{AreOpening, desk_of};
-ghost use Rattle.hlr_core.specs.Gather.{MayGather, misfit, IsRefused, gathered};
-ghost use Rattle.hlr_core.specs.Held.{AreHeld, of_holding, of_piece};
+ghost use Rattle.hlr_core.specs.Gather.{MayGather, misfit, IsRefused, gathered, owners_of};
+ghost use Rattle.hlr_core.specs.Held.{AreHeld, of_holding, of_piece, pending_in};
 ghost use Rattle.hlr_core.specs.Owners.{seen, store_of, unboxed};
 ghost use Rattle.hlr_core.specs.Sight.{IsSightOf};
 ghost use Rattle.hlr_core.specs.Store.{Store, HasOpening, opening, opening_from, published, unposted, parts_in, published_weights, counted_weights};
@@ -107,6 +107,7 @@ impl Register {
     pub fn scatter(self) -> Scattered
         ensures store { store_of self.regions (seen of_holding result.holdings.items) (seen of_piece result.pieces.items) result.frame.spare (seen desk_of result.holdings.items) result.frame.width ≡ self }
         ensures held { AreHeld self.regions (seen of_holding result.holdings.items) (seen of_piece result.pieces.items) self.width }
+        ensures pending { (c : ℕ) → c < CELLS → pending_in (owners_of (unboxed result.holdings.items) (unboxed result.pieces.items)) c ≡ unposted self c }
         ensures desks { MayGather (arc_value result.frame.board) result.frame.spare (unboxed result.holdings.items) }
         ensures again { gathered result.frame.width result.frame.spare (unboxed result.holdings.items) (unboxed result.pieces.items) ≡ record self { regions = numbered 0 1 self.regions } }
         ensures fits { (why : Refusal) → IsRefused result.frame.width (unboxed result.holdings.items) (unboxed result.pieces.items) why → why ≡ Refusal.Memory }
@@ -126,6 +127,7 @@ impl Register {
         requires { MayGather (arc_value scattered.frame.board) scattered.frame.spare (unboxed scattered.holdings.items) }
         ensures gathered { IfOk result (λ register. (misfit scattered.frame.width (unboxed scattered.holdings.items) (unboxed scattered.pieces.items) ≡ None)
             × (register ≡ gathered scattered.frame.width scattered.frame.spare (unboxed scattered.holdings.items) (unboxed scattered.pieces.items))) }
+        ensures pending { IfOk result (λ register. (c : ℕ) → c < CELLS → unposted register c ≡ pending_in (owners_of (unboxed scattered.holdings.items) (unboxed scattered.pieces.items)) c) }
         ensures refused { IfErr result (λ back. (back.item ≡ scattered)
             × IsRefused scattered.frame.width (unboxed scattered.holdings.items) (unboxed scattered.pieces.items) back.why) }
     {
@@ -235,8 +237,8 @@ impl Register {
         self.holdings.published()
     }
 
-    /// A sight of the board's words: those of slots that no part has as they are, each other one at least what an earlier sight
-    /// had there, and none past `LIMIT`. It takes no memory.
+    /// A sight of the board's words: those of slots that no part has as they are, each other one at least what was seen of it
+    /// before, at first its word at opening, and none past `LIMIT`. It takes no memory.
     pub fn look(&mut self) -> Sight
         ensures right { IsSightOf self.old result.words }
         ensures seen { self.new ≡ record self.old { sight = result.words } }

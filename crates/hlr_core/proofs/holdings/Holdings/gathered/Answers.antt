@@ -1,4 +1,4 @@
-use Rattle.std.proofs.Common.{◌≡◌, ◌∙◌, ap, arith}
+use Rattle.std.proofs.Common.{◌≡◌, ◌∙◌, sym, ap, arith}
 use Rattle.std.specs.Prelude.{map}
 use Rattle.tatp_rows.specs.Ordered.{in_order}
 use Rattle.holding.specs.Held.{HoldingState, PieceState}
@@ -6,6 +6,8 @@ use Rattle.hlr_core.specs.Desks.{desk_of}
 use Rattle.hlr_core.specs.Held.{of_holding, of_piece}
 use Rattle.hlr_core.specs.Owners.{seen, unboxed}
 use Rattle.hlr_core.proofs.GatheredLemmas.{do_fit, gathered_held, gathered_desks, gathered_store, seen_sorted}
+use Rattle.hlr_core.proofs.PendingLemmas.{pending_is, pending_sorted}
+use Rattle.hlr_core.proofs.StoreCountLemmas.{unposted_is}
 use Rattle.hlr_core.proofs.StoreLemmas.{all_rows}
 use Rattle.hlr_core.proofs.holdings.Holdings.gathered.Goals as goal
 
@@ -35,3 +37,9 @@ returns-clause-value c =
 
 pub returns-clause-rows : goal.returns-clause-rows
 returns-clause-rows c = all_rows _ _ _ _ c.requires.surveyed.right (invariant_of-result c).1
+
+pub returns-clause-pending : goal.returns-clause-pending
+returns-clause-pending c k below =
+    let rules = invariant_of-result c in
+    sym (unposted_is _ c.put_in_order.result.items c.put_in_order-2.result.items _ _ _ rules.0 rules.1 rules.2 k below)
+    ∙ pending_is (seen of_holding c.put_in_order.result.items) (seen of_piece c.put_in_order-2.result.items) k ∙ pending_sorted _ _ (unboxed c.args.scattered.holdings.items) (unboxed c.args.scattered.pieces.items) k (holdings_are c) (pieces_are c)
