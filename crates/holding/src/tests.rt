@@ -319,10 +319,10 @@ fn home(holding: Holding) -> Home {
     )
 }
 
-/// What the thread of an owner at work hands back: the holding, whether a subscriber was added, and what a posting answered.
+/// What an owner's work comes to: the holding, whether a subscriber was added, and what a posting answered.
 type Worked = (Holding, bool, Result<u8, Refusal>);
 
-/// What the thread beside it hands back: the holding, what a posting answered, and the desk with what it saw.
+/// What is done beside it comes to: the holding, what a posting answered, and the desk with what it saw.
 type Beside = (Holding, Result<u8, Refusal>, Desk, [Watched; 2]);
 
 /// Adds a subscriber, and posts.
@@ -333,6 +333,28 @@ fn works(board: &Board, mut holding: Holding, s_id: u64) -> Worked
     let is_added = add(&mut holding, s_id) == Some(RowReply::Done);
     let posted = holding.post(board, 51);
     (holding, is_added, posted)
+}
+
+/// Works, and then gives those from 8 on away.
+fn works_and_gives(board: &Board, holding: Holding) -> (Worked, Option<Box<Piece>>)
+    requires { holding.desk.board ≡ board.now }
+    ensures { result.0.0.desk.board ≡ board.now }
+{
+    let (mut holding, is_added, posted) = works(board, holding, 7);
+    let piece = give(&mut holding, Side::High, 8).ok();
+    ((holding, is_added, posted), piece)
+}
+
+/// Takes a piece, and works then. Whether it was taken.
+fn takes_and_works(board: &Board, mut holding: Holding, piece: Option<Box<Piece>>) -> (Worked, bool)
+    requires { holding.desk.board ≡ board.now }
+    ensures { result.0.0.desk.board ≡ board.now }
+{
+    let is_taken = match piece {
+        Some(piece) => take(&mut holding, piece).is_none(),
+        None => false,
+    };
+    (works(board, holding, 66), is_taken)
 }
 
 /// Looks, posts, and looks again.
@@ -346,26 +368,25 @@ fn posts_and_looks(board: &Board, mut holding: Holding, mut desk: Desk) -> Besid
     (holding, posted, desk, [first, second])
 }
 
-/// One owner works in a thread; beside it one posts, and a desk looks.
-fn side_by_side<R: Threads + Sync>(
+/// One owner works in a thread, and gives; beside it one posts, and a desk looks.
+fn give_beside<R: Threads + Sync>(
     rt: &R,
     board: &Board,
-    worker: Holding,
-    s_id: u64,
+    giver: Holding,
     other: Holding,
     desk: Desk,
-) -> (Worked, Beside)
-    requires worker { worker.desk.board ≡ board.now }
+) -> ((Worked, Option<Box<Piece>>), Beside)
+    requires giver { giver.desk.board ≡ board.now }
     requires beside { (other.desk.board ≡ board.now) × (desk.board ≡ board.now) }
-    ensures worker { result.0.0.desk.board ≡ board.now }
+    ensures giver { result.0.0.0.desk.board ≡ board.now }
     ensures beside { (result.1.0.desk.board ≡ board.now) × (result.1.2.board ≡ board.now) }
 {
     thread::join(
         rt,
-        || -> Worked
-            requires { worker.desk.board ≡ board.now }
-            ensures { result.0.desk.board ≡ board.entry.now }
-        { works(board, worker, s_id) },
+        || -> (Worked, Option<Box<Piece>>)
+            requires { giver.desk.board ≡ board.now }
+            ensures { result.0.0.desk.board ≡ board.entry.now }
+        { works_and_gives(board, giver) },
         || -> Beside
             requires { (other.desk.board ≡ board.now) × (desk.board ≡ board.now) }
             ensures { (result.0.desk.board ≡ board.entry.now) × (result.2.board ≡ board.entry.now) }
@@ -373,18 +394,34 @@ fn side_by_side<R: Threads + Sync>(
     )
 }
 
-/// Gives those from 8 on away, and lets the other holding take them.
-fn hand_over(giver: &mut Holding, taker: &mut Holding) -> bool
-    ensures giver { giver.new.desk ≡ giver.old.desk }
-    ensures taker { taker.new.desk ≡ taker.old.desk }
+/// One owner takes in a thread, and works; beside it one posts, and a desk looks.
+fn take_beside<R: Threads + Sync>(
+    rt: &R,
+    board: &Board,
+    taker: Holding,
+    piece: Option<Box<Piece>>,
+    other: Holding,
+    desk: Desk,
+) -> ((Worked, bool), Beside)
+    requires taker { taker.desk.board ≡ board.now }
+    requires beside { (other.desk.board ≡ board.now) × (desk.board ≡ board.now) }
+    ensures taker { result.0.0.0.desk.board ≡ board.now }
+    ensures beside { (result.1.0.desk.board ≡ board.now) × (result.1.2.board ≡ board.now) }
 {
-    match give(giver, Side::High, 8) {
-        Ok(piece) => take(taker, piece).is_none(),
-        Err(_) => false,
-    }
+    thread::join(
+        rt,
+        || -> (Worked, bool)
+            requires { taker.desk.board ≡ board.now }
+            ensures { result.0.0.desk.board ≡ board.entry.now }
+        { takes_and_works(board, taker, piece) },
+        || -> Beside
+            requires { (other.desk.board ≡ board.now) × (desk.board ≡ board.now) }
+            ensures { (result.0.desk.board ≡ board.entry.now) × (result.2.board ≡ board.entry.now) }
+        { posts_and_looks(board, other, desk) },
+    )
 }
 
-/// What came of a piece's way: whether each owner's subscriber was added, and the piece went over; what the postings answered;
+/// What came of a piece's way: whether each owner's subscriber was added, and the piece was taken; what the postings answered;
 /// what came home; what the desk saw before, between and after; and whether its other sights lie between these.
 type Way = (
     [bool; 3],
@@ -394,7 +431,8 @@ type Way = (
     [bool; 2],
 );
 
-/// An owner works, and gives to another one, which works then; meanwhile the one that doesn't work posts, and a desk looks.
+/// An owner works and gives in a thread, and another one takes in the next thread, and works there; meanwhile the one that
+/// doesn't work posts, and a desk looks.
 fn piece_goes_over<R: Threads + Sync>(
     rt: &R,
     board: &Board,
@@ -406,13 +444,12 @@ fn piece_goes_over<R: Threads + Sync>(
     requires desk { desk.board ≡ board.now }
 {
     let before = look(board, &mut desk);
-    let (worked, beside) = side_by_side(rt, board, low, 7, high, desk);
-    let (mut low, low_added, first) = worked;
-    let (mut high, second, mut desk, early) = beside;
-    let is_over = hand_over(&mut low, &mut high);
+    let (given, beside) = give_beside(rt, board, low, high, desk);
+    let ((low, low_added, first), piece) = given;
+    let (high, second, mut desk, early) = beside;
     let between = look(board, &mut desk);
-    let (worked, beside) = side_by_side(rt, board, high, 66, low, desk);
-    let (high, high_added, third) = worked;
+    let (taken, beside) = take_beside(rt, board, high, piece, low, desk);
+    let ((high, high_added, third), is_taken) = taken;
     let (low, fourth, mut desk, late) = beside;
     let after = look(board, &mut desk);
     let are_right = [
@@ -420,7 +457,7 @@ fn piece_goes_over<R: Threads + Sync>(
         are_between(&between, &late, &after),
     ];
     (
-        [low_added, high_added, is_over],
+        [low_added, high_added, is_taken],
         [first, second, third, fourth],
         [home(low), home(high)],
         [before, between, after],

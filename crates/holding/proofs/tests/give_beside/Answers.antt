@@ -1,0 +1,12 @@
+use mathlib.Core.List.{[], ◌∷◌}
+use denote.Exit.{yes}
+use denote.Param.Send.{param_send, arg_send}
+use Rattle.tatp_rows.proofs.CrossingLemmas.{tuple_send}
+use Rattle.holding.proofs.CrossingLemmas.{bool_send, holding_send, posted_send, some_piece_send}
+use Rattle.holding.proofs.tests.give_beside.Goals as goal
+use Rattle.holding.proofs.tests.give_beside.Lts.{arg-0-3}
+
+pub join-requires-send-A : goal.join-requires-send-A
+join-requires-send-A g c κs within =
+    param_send 3 (arg-0-3 g.row.R g.R.laws g.R.Threads-dict κs)
+    (arg_send _ yes _ (tuple_send _ (_ ∷ _ ∷ []) (tuple_send _ (_ ∷ _ ∷ _ ∷ []) (holding_send, (bool_send, (posted_send, tt))), (some_piece_send, tt))))
