@@ -157,7 +157,7 @@ wrong() {
 }
 
 program() {
-  local hlr=(crates/hlr/out/hlr --parts 3 --zone 16) call=0 ended=0 refused=0 status word
+  local hlr=(crates/hlr/out/hlr --parts 3 --zone 16) call=0 ended=0 refused=0 unseen=0 status word
   : > "$room/words"
   script > "$room/script"
   "${hlr[@]}" < "$room/script" > "$room/wanted" || exit 1
@@ -171,7 +171,7 @@ program() {
     if ! alike "$room/got" "$room/wanted" "$room/script" >> "$room/words"; then
       wrong "the answers with allocation $call refused"
     elif [ $status = 0 ]; then
-      refused=$((refused + 1))
+      if cmp -s "$room/got" "$room/wanted"; then unseen=$((unseen + 1)); else refused=$((refused + 1)); fi
       [ "$(wc -l < "$room/got")" = "$(wc -l < "$room/wanted")" ] || wrong "answers are missing with allocation $call refused"
       [ ! -s "$room/err" ] || wrong "a complaint with allocation $call refused: $(cat "$room/err")"
     else
@@ -184,7 +184,7 @@ program() {
     grep -q "^$word$" "$room/words" || wrong "no $word was refused"
   done
   [ $ended -gt 0 ] || wrong 'no run was ended'
-  echo "hlr: $((call - 1)) allocations refused: $refused times one record, $ended times the run ended"
+  echo "hlr: $((call - 1)) allocations refused: $refused times one record, $ended times the run ended, $unseen times all answers were as with memory"
   sort "$room/words" | uniq -c | sort -rn | awk '{ count = $1; $1 = ""; printf " %s: %d", $0, count } END { print "" }'
 }
 

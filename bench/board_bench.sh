@@ -1,6 +1,6 @@
 #!/usr/bin/env bash
 # Measures the board, from the repository's top, in a scratch folder: instructions of an `add`, of a bare `fetch_add`
-# and of a `look` at all words, by callgrind; and the time of posts by one desk, and by two and four in threads, and of two
+# and of a `look` at all words, by callgrind; and the time of looks, of posts by one desk, and by two and four in threads, and of two
 # desks that raise one word each, in one cache line and in lines of their own.
 set -eu
 room=${1:-/tmp/board}
@@ -35,4 +35,7 @@ for kind in bare adds two four near far; do
   for turn in 1 2 3; do
     /usr/bin/time -f "$kind: %e s by the clock, %U s of processors for 30 million each ($turn)" "$bench" $kind 30000000 > /dev/null
   done
+done
+for turn in 1 2 3; do
+  /usr/bin/time -f "looks: %e s by the clock for 100,000 ($turn)" "$bench" looks 100000 > /dev/null
 done

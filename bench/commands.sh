@@ -6,8 +6,8 @@
 #   HLR=PROGRAM bash bench/commands.sh [RUNS]    another hlr
 #
 # It prints user seconds (best of RUNS) and resident KB for a million records, and instructions a record, by callgrind on
-# 20,000 records, less those of the 1,000 subscribers alone; at last how long 1,000 `views` take, each of which waits for
-# the answer to the one before.
+# 20,000 records, less those of the 1,000 subscribers alone; then what a row costs in the reports that walk over all rows; at last
+# how long 1,000 `views` take, each of which waits for the answer to the one before.
 set -eu
 runs=${1:-5}
 options=("${@:2}")
@@ -22,7 +22,7 @@ printf 'reading: csv\n' > "$room/crates.txt"
 reading=$room/crates/reading/out/reading
 
 rows() {
-  awk 'BEGIN { for (s = 1; s <= 1000; s++) printf "sub,%d,%015d,0101010101,0123456789,00112233445566778899,%d,%d\n", s, s, s, s * 4000000 }'
+  awk 'BEGIN { for (s = 1; s <= 1000; s++) printf "sub,%d,%015d,0101010101,0123456789,00112233445566778899,%d,%.0f\n", s, s, s, s * 4000000 }'
 }
 
 # written NAME: the records as they are, with CR LF at their ends, or with each field in quotes.
@@ -34,14 +34,16 @@ written() {
   esac
 }
 
-# input NAME COUNT: the 1,000 subscribers and so many records of that kind; of posted each second one is a posting.
+# input NAME COUNT: the 1,000 subscribers and so many records of that kind. Of posted each second one is a posting; of idle all are,
+# and but for the first they find nothing pending.
 input() {
   rows
   case $1 in
     found | ends | quoted) awk -v n="$2" 'BEGIN { srand(7); while (n--) printf "gsd,%d\n", 1 + int(rand() * 1000) }' | written "$1" ;;
     refused) awk -v n="$2" 'BEGIN { srand(7); while (n--) printf "gsd,%d\n", 1 + int(rand() * 16777216) }' ;;
-    moved) awk -v n="$2" 'BEGIN { srand(7); while (n--) printf "ul,%015d,%d\n", 1 + int(rand() * 1000), 1 + int(rand() * 4294967295) }' ;;
-    posted) awk -v n="$2" 'BEGIN { srand(7); for (; n > 0; n -= 2) printf "ul,%015d,%d\npost,0,51\n", 1 + int(rand() * 1000), 1 + int(rand() * 4294967295) }' ;;
+    moved) awk -v n="$2" 'BEGIN { srand(7); while (n--) printf "ul,%015d,%.0f\n", 1 + int(rand() * 1000), 1 + int(rand() * 4294967295) }' ;;
+    posted) awk -v n="$2" 'BEGIN { srand(7); for (; n > 0; n -= 2) printf "ul,%015d,%.0f\npost,0,51\n", 1 + int(rand() * 1000), 1 + int(rand() * 4294967295) }' ;;
+    idle) awk -v n="$2" 'BEGIN { while (n--) print "post,0,51" }' ;;
     views) awk -v n="$2" 'BEGIN { while (n--) print "views" }' ;;
   esac
 }
@@ -67,14 +69,27 @@ cost() {
   echo "$1 $(basename "$2"): $(seconds "$room/long.csv" "${@:2}"), $(((after - before) / 20000)) instructions a record"
 }
 
+# walked REPORT PROGRAM ..: what each of the 1,000 rows costs in a report that walks over all of them.
+walked() {
+  local before after
+  (rows && for _ in $(seq 100); do echo "$1"; done) > "$room/short.csv"
+  before=$(instructions "$room/rows.csv" "${@:2}")
+  after=$(instructions "$room/short.csv" "${@:2}")
+  echo "$1: $(((after - before) / 100000)) instructions a row"
+}
+
 rows > "$room/rows.csv"
-for kind in found ends quoted refused moved posted views; do
+for kind in found ends quoted refused moved posted idle views; do
   input $kind 1000000 > "$room/long.csv"
   input $kind 20000 > "$room/short.csv"
   cost $kind "$hlr" ${options[@]+"${options[@]}"}
   [ ${#options[@]} = 0 ] || continue
   cost $kind "$reading"
   cost $kind "$room/baseline"
+done
+
+for report in index scan; do
+  walked $report "$hlr" ${options[@]+"${options[@]}"}
 done
 
 coproc "$hlr" ${options[@]+"${options[@]}"}
