@@ -165,11 +165,11 @@ module _ (regions : List Region) (boxes : List (Box HoldingState Global)) (loose
 
 -- the counts of the first i of some owners, added to what was there
 pub record AreCounted (width : ℕ) (owners : List Owner) (start counts : List ℕ) (i : ℕ) : Type 0 where
-  pub few : (c : ℕ) → c < CELLS → get_or start c 0 + sum_by (λ (owner : Owner). cell width c owner.part.book) owners ≤ 1099511627776
+  pub few : (c : ℕ) → c < CELLS → get_or start c 0 + sum_by (λ (owner : Owner). cell width c owner.part.book) owners ≤ 2 ^ 40
   pub counted : (c : ℕ) → c < CELLS → get_or counts c 0 ≡ get_or start c 0 + sum_by (λ (owner : Owner). cell width c owner.part.book) (take i owners)
 
 module _ (width : ℕ) (owners : List Owner) (start : List ℕ) where
-  pub none_counted : ((c : ℕ) → c < CELLS → get_or start c 0 + sum_by (λ (owner : Owner). cell width c owner.part.book) owners ≤ 1099511627776) → AreCounted width owners start start 0
+  pub none_counted : ((c : ℕ) → c < CELLS → get_or start c 0 + sum_by (λ (owner : Owner). cell width c owner.part.book) owners ≤ 2 ^ 40) → AreCounted width owners start start 0
   none_counted few = record { few = few; counted = λ c below. omega arith }
 
   module _ (i : ℕ) (owner : Owner) (counts more : List ℕ) (within : i < length owners) (is : owner ≡ get_or owners i owner) (so_far : AreCounted width owners start counts i)
@@ -206,7 +206,7 @@ module _ (regions : List Region) (holdings pieces : List Owner) (width : ℕ) (a
       ∙ sym (cells_added width 1 regions (woven regions holdings pieces) c held.owners are.consecutive)
 
   -- they are few
-  pub counts_few : (c : ℕ) → sum_by (λ (owner : Owner). cell width c owner.part.book) holdings + sum_by (λ (owner : Owner). cell width c owner.part.book) pieces ≤ 1099511627776
+  pub counts_few : (c : ℕ) → sum_by (λ (owner : Owner). cell width c owner.part.book) holdings + sum_by (λ (owner : Owner). cell width c owner.part.book) pieces ≤ 2 ^ 40
   counts_few c =
       rw (counts_added c) (few_cells 1 16777217 width c (book_of_owners (woven regions holdings pieces)) (all_rows regions holdings pieces width are held) (omega arith))
 

@@ -1,5 +1,5 @@
 -- The owners of all regions, parts and loose pieces, and the rules that they keep together.
-use Rattle.std.specs.Prelude.{◌≡◌, ℕ, ◌<◌, List, [], ◌∷◌, length, ℤ, pos, neg_ℤ, ◌+ℤ◌, ◌≤ℤ◌}
+use Rattle.std.specs.Prelude.{◌≡◌, ℕ, ◌<◌, ◌^◌, List, [], ◌∷◌, length, ℤ, pos, neg_ℤ, ◌+ℤ◌, ◌≤ℤ◌}
 use Rattle.std.specs.List.{AllZip}
 use Rattle.tatp_actions.specs.Book.{empty_book}
 use Rattle.tatp_actions.specs.Part.{PartState, IsPart, IsWidth}
@@ -32,7 +32,7 @@ pending_in (owner ∷ owners) c = pending_at owner.pending c +ℤ pending_in own
 
 -- a sum for each cell is at most 2^60, either way
 abbrev pub AreSummable : (ℕ → ℤ) → Type 0
-AreSummable sum = (c : ℕ) → c < CELLS → (neg_ℤ (pos 1152921504606846976) ≤ℤ sum c) × (sum c ≤ℤ pos 1152921504606846976)
+AreSummable sum = (c : ℕ) → c < CELLS → (neg_ℤ (pos (2 ^ 60)) ≤ℤ sum c) × (sum c ≤ℤ pos (2 ^ 60))
 
 -- the local law: what is published of a cell and what is pending of it are the count over the owner's rows
 pub record IsLawful (owner : Owner) : Type 0 where

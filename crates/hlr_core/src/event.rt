@@ -124,7 +124,7 @@ pub enum Event {
 pub enum Reply {
     /// What the rows answered, and no refusal.
     Rows(RowReply),
-    /// How many cells were posted.
+    /// How many cells were posted, 0..=51.
     Posted(u8),
     /// A part gave a piece away.
     Given {

@@ -218,7 +218,7 @@ impl Holdings {
         self.holdings.len() as u8
     }
 
-    /// The width of the zones.
+    /// The width of the zones, 1..=524,288.
     pub fn width(&self) -> u32
         ensures value { result ≡ self.now.width }
         ensures range { IsWidth result }

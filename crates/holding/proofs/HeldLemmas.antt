@@ -1,5 +1,5 @@
 -- The local law, from the opening of a holding through its actions and postings.
-use Rattle.std.proofs.Common.{◌≡◌, ℕ, ◌+◌, ◌-◌, ◌*◌, ◌<◌, ◌≤◌, ◌==◌, refl, arith, List, length, set, get_or, ◌∙◌, inl, inr, nat_lt, true, false}
+use Rattle.std.proofs.Common.{◌≡◌, ℕ, ◌+◌, ◌-◌, ◌*◌, ◌^◌, ◌<◌, ◌≤◌, ◌==◌, refl, arith, List, length, set, get_or, ◌∙◌, inl, inr, nat_lt, true, false}
 use Rattle.std.specs.Prelude.{ℤ, pos, neg_ℤ, ◌-ℤ◌, ◌≤ℤ◌}
 use Rattle.std.proofs.lemmas.Bool.{cases_lt}
 use Rattle.std.proofs.lemmas.Bool.Decides.{nat_tests}
@@ -38,7 +38,7 @@ empty_cell width c =
     (λ e. by_test (nat_lt c 19) (λ f. rw (e, f) (empty_area (c - 3))) (λ f. rw (e, f) (empty_zone width (c - 19))))
 
 -- a part counts few rows
-pub few : (part : PartState) → IsPart part → (c : ℕ) → count_of part c ≤ 1099511627776
+pub few : (part : PartState) → IsPart part → (c : ℕ) → count_of part c ≤ 2 ^ 40
 few part rules c = few_cells part.lo part.hi part.width c part.book rules.rows rules.range.2
 
 -- a holding opens: what its desk has not published of its counts is pending
@@ -55,7 +55,7 @@ opened part counts deltas pending desk slot rules least small wide are told is =
 
 -- what is pending of a holding is small
 pub pending_small : (holding : HoldingState) → IsHolding holding → (c : ℕ) → c < CELLS
-    → (neg_ℤ (pos 1152921504606846976) ≤ℤ pending_at holding.pending c) × (pending_at holding.pending c ≤ℤ pos 1152921504606846976)
+    → (neg_ℤ (pos (2 ^ 60)) ≤ℤ pending_at holding.pending c) × (pending_at holding.pending c ≤ℤ pos (2 ^ 60))
 pending_small holding is c below =
     let law = is.law c below in
     let low = (is.small c below).0 in

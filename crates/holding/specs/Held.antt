@@ -1,5 +1,5 @@
 -- The local law: what an owner has published of a cell and what it has not posted yet are the count over its own rows.
-use Rattle.std.specs.Prelude.{◌≡◌, ℕ, ◌<◌, List, ℤ, pos, neg_ℤ, ◌+ℤ◌, ◌≤ℤ◌}
+use Rattle.std.specs.Prelude.{◌≡◌, ℕ, ◌<◌, ◌^◌, List, ℤ, pos, neg_ℤ, ◌+ℤ◌, ◌≤ℤ◌}
 use Rattle.tatp_actions.specs.Cell.{cell}
 use Rattle.tatp_actions.specs.Part.{PartState, IsPart}
 use Rattle.tatp_actions.specs.declared.cells.TheConstants.{CELLS}
@@ -27,7 +27,7 @@ count_of part c = cell part.width c part.book
 
 -- what is published of each cell is at most 2^40 in size
 abbrev pub HasSmallNets : View → Type 0
-HasSmallNets view = (c : ℕ) → c < CELLS → (neg_ℤ (pos 1099511627776) ≤ℤ net_of view c) × (net_of view c ≤ℤ pos 1099511627776)
+HasSmallNets view = (c : ℕ) → c < CELLS → (neg_ℤ (pos (2 ^ 40)) ≤ℤ net_of view c) × (net_of view c ≤ℤ pos (2 ^ 40))
 
 -- the slot is the least of those that are owned
 abbrev pub IsLeastSlot : View → ℕ → Type 0

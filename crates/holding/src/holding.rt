@@ -1,5 +1,5 @@
 //! A part with what its owner has posted and what it has not.
-ghost use Rattle.std.specs.Prelude.{◌≡◌, ℕ, ◌<◌, ◌≤◌, ◌+◌, option_copied, slice_index, slice_index_or, ℤ, pos, neg_ℤ, ◌-ℤ◌, ◌≤ℤ◌};
+ghost use Rattle.std.specs.Prelude.{◌≡◌, ℕ, ◌<◌, ◌≤◌, ◌+◌, ◌^◌, option_copied, slice_index, slice_index_or, ℤ, pos, neg_ℤ, ◌-ℤ◌, ◌≤ℤ◌};
 ghost use Rattle.tatp_actions.specs.Action.{s_id_of, IsOutcome};
 ghost use Rattle.tatp_actions.specs.Book.{IsWithin, first_subscriber};
 ghost use Rattle.tatp_actions.specs.declared.cells.TheConstants.{CELLS};
@@ -55,9 +55,9 @@ fn least_slot(desk: &Desk) -> u8
 
 /// A count less what is published of it.
 fn difference(count: u64, net: i128) -> i64
-    requires few { count ≤ 1099511627776 }
-    requires low { neg_ℤ (pos 1099511627776) ≤ℤ net }
-    requires high { net ≤ℤ pos 1099511627776 }
+    requires few { count ≤ 2 ^ 40 }
+    requires low { neg_ℤ (pos (2 ^ 40)) ≤ℤ net }
+    requires high { net ≤ℤ pos (2 ^ 40) }
     ensures { result ≡ pos count -ℤ net }
 {
     (i128::from(count) - net) as i64
@@ -65,7 +65,7 @@ fn difference(count: u64, net: i128) -> i64
 
 /// By how much counts differ from what a desk has published.
 fn unposted(counts: &Cells, desk: &Desk) -> [i64; CELLS as usize]
-    requires few { (c : ℕ) → c < CELLS → slice_index counts.now c ≤ 1099511627776 }
+    requires few { (c : ℕ) → c < CELLS → slice_index counts.now c ≤ 2 ^ 40 }
     requires small { HasSmallNets desk.now.view }
     ensures deltas { (c : ℕ) → c < CELLS → slice_index_or result c (pos 0) ≡ pos (slice_index counts.now c) -ℤ net_of desk.now.view c }
     ensures wide { IsWide desk.now.view }
@@ -108,18 +108,14 @@ impl<R: Rows> Holding<R> {
         ensures posted { IsCellPosted cell self.old result self.new }
         ensures after { IsHolding self.new }
     {
-        match board.add(&mut self.desk, self.slot, cell, self.pending.get(cell)) {
-            Ok(()) => {
-                self.pending.clear(cell);
-                Ok(())
-            }
-            Err(why) => Err(why),
-        }
+        board.add(&mut self.desk, self.slot, cell, self.pending.get(cell))?;
+        self.pending.clear(cell);
+        Ok(())
     }
 
-    /// Posts what is pending, cells ascending, each whole and in one step, until `limit` are posted or none is left; tells how
-    /// many were. `Worn` stops it at a cell whose word would pass its limit: the cells before stay posted, and that
-    /// cell stays pending.
+    /// Posts what is pending to the words of the desk's least slot, cells ascending, each whole and in one step, until `limit`
+    /// are posted or none is left; tells how many were, 0..=51. `Worn` stops it at a cell whose word would pass its limit: the
+    /// cells before stay posted, and that cell stays pending.
     pub fn post(&mut self, board: &Board, limit: u64) -> Result<u8, Refusal>
         requires { self.old.desk.board ≡ board.now }
         ensures posted { (result, self.new.desk.view) ≡ post (count_of self.old.part) self.old.slot limit self.old.desk.view }
@@ -136,10 +132,7 @@ impl<R: Rows> Holding<R> {
             if u64::from(posted) == limit {
                 return Ok(posted);
             }
-            match self.post_cell(board, cell) {
-                Ok(()) => (),
-                Err(why) => return Err(why),
-            }
+            self.post_cell(board, cell)?;
             posted += 1;
             from = cell + 1;
         }
@@ -171,7 +164,7 @@ impl Holding {
         }
     }
 
-    /// The first subscriber of the range.
+    /// The first subscriber of the range, 1..=16,777,216.
     pub fn lo(&self) -> u32
         ensures value { result ≡ self.now.part.lo }
         ensures rules { IsHolding self.now }
@@ -179,7 +172,7 @@ impl Holding {
         self.part.lo()
     }
 
-    /// The end of the range: one past its last subscriber.
+    /// The end of the range: one past its last subscriber, at most 16,777,217.
     pub fn hi(&self) -> u32
         ensures value { result ≡ self.now.part.hi }
         ensures rules { IsHolding self.now }
@@ -187,7 +180,7 @@ impl Holding {
         self.part.hi()
     }
 
-    /// The width of the zones.
+    /// The width of the zones, 1..=524,288.
     pub fn width(&self) -> u32
         ensures value { result ≡ self.now.part.width }
         ensures rules { IsHolding self.now }

@@ -6,6 +6,6 @@ use tatp_actions::Action;
 pub enum Job {
     /// Does the action.
     Act(Action),
-    /// Posts so many cells at most.
+    /// Posts at most so many cells.
     Post(u64),
 }

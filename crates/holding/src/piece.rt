@@ -1,5 +1,5 @@
 //! A loose part.
-ghost use Rattle.std.specs.Prelude.{◌≡◌, ℕ, ◌<◌, ◌≤◌, option_copied, slice_index, pos};
+ghost use Rattle.std.specs.Prelude.{◌≡◌, ℕ, ◌<◌, ◌≤◌, ◌^◌, option_copied, slice_index, pos};
 ghost use Rattle.tatp_actions.specs.Book.{empty_book, first_subscriber};
 ghost use Rattle.tatp_actions.specs.declared.cells.TheConstants.{CELLS};
 ghost use Rattle.view_delta.specs.Pending.{pending_at};
@@ -31,7 +31,7 @@ impl Model for Piece {
 
 /// A count as a delta.
 fn signed(count: u64) -> i64
-    requires { count ≤ 1099511627776 }
+    requires { count ≤ 2 ^ 40 }
     ensures { result ≡ pos count }
 {
     count as i64
@@ -53,7 +53,7 @@ impl Piece {
         }
     }
 
-    /// The first subscriber of the range.
+    /// The first subscriber of the range, 1..=16,777,216.
     pub fn lo(&self) -> u32
         ensures value { result ≡ self.now.part.lo }
         ensures rules { IsPiece self.now }
@@ -61,7 +61,7 @@ impl Piece {
         self.part.lo()
     }
 
-    /// The end of the range: one past its last subscriber.
+    /// The end of the range: one past its last subscriber, at most 16,777,217.
     pub fn hi(&self) -> u32
         ensures value { result ≡ self.now.part.hi }
         ensures rules { IsPiece self.now }
@@ -69,7 +69,7 @@ impl Piece {
         self.part.hi()
     }
 
-    /// The width of the zones.
+    /// The width of the zones, 1..=524,288.
     pub fn width(&self) -> u32
         ensures value { result ≡ self.now.part.width }
         ensures rules { IsPiece self.now }

@@ -1,4 +1,5 @@
 use Rattle.std.proofs.Common.{refl, ◌∙◌, sym, ap, arith, subst, Some, None}
+use Rattle.std.proofs.lemmas.Result.{err_from_is_err_and}
 use Rattle.view_delta.specs.Pending.{IsNextNonzero}
 use Rattle.holding.specs.Held.{HoldingState, IsHolding}
 use Rattle.holding.proofs.PostLemmas.{posting_begins, posting_full, posting_ends, posting_turn, posting_worn}
@@ -12,13 +13,13 @@ loop-cell-init g c =
 pub loop-cell-preserved : goal.loop-cell-preserved
 loop-cell-preserved g c =
     let found = subst (λ (h : HoldingState). IsNextNonzero c.loop-cell.from h.pending (Some c.in-Some.cell)) c.self-in-loop-cell.view_is c.in-Some.ensures in
-    let is = c.in-Ok.ensures.posted.1 in
+    let is = c.in_ok-post_cell.ensures.posted.1 in
     record {
       part = ap (λ (h : HoldingState). h.part) is ∙ c.loop-cell.invariant.part;
       slot = ap (λ (h : HoldingState). h.slot) is ∙ c.loop-cell.invariant.slot;
       board = ap (λ (h : HoldingState). h.desk.board) is ∙ c.loop-cell.invariant.board;
       within = omega (arith, found.1);
-      posting = posting_turn _ _ _ _ c.loop-cell.from c.in-Some.cell c.loop-cell.posted c.loop-cell.self c.post_cell.new.self (sym c.loop-cell.invariant.slot) (λ e. c.if-from-limit.false (c.from.ensures ∙ e)) found c.in-Ok.ensures.posted
+      posting = posting_turn _ _ _ _ c.loop-cell.from c.in-Some.cell c.loop-cell.posted c.loop-cell.self c.post_cell.new.self (sym c.loop-cell.invariant.slot) (λ e. c.if-from-limit.false (c.from.ensures ∙ e)) found c.in_ok-post_cell.ensures.posted
           c.loop-cell.invariant.posting;
     }
 
@@ -27,11 +28,12 @@ returns-then-from-limit-clause-posted g c =
     let found = subst (λ (h : HoldingState). IsNextNonzero c.loop-cell.from h.pending (Some c.in-Some.cell)) c.self-in-loop-cell.view_is c.in-Some.ensures in
     posting_full _ _ _ _ c.loop-cell.from c.in-Some.cell c.loop-cell.posted _ _ found (omega arith) c.loop-cell.invariant.posting
 
-pub returns-in-Err-clause-posted : goal.returns-in-Err-clause-posted
-returns-in-Err-clause-posted g c =
+pub returns-in_err-post_cell-clause-posted : goal.returns-in_err-post_cell-clause-posted
+returns-in_err-post_cell-clause-posted g c =
     let found = subst (λ (h : HoldingState). IsNextNonzero c.loop-cell.from h.pending (Some c.in-Some.cell)) c.self-in-loop-cell.view_is c.in-Some.ensures in
-    posting_worn _ _ _ _ c.loop-cell.from c.in-Some.cell c.loop-cell.posted c.loop-cell.self c.post_cell.new.self c.in-Err.why (sym c.loop-cell.invariant.slot) (λ e. c.if-from-limit.false (c.from.ensures ∙ e)) found c.in-Err.ensures.posted
-    c.loop-cell.invariant.posting
+    let why = err_from_is_err_and c.from_residual.result c.from_residual.ensures.1 in
+    rw (why.1, why.2) (posting_worn _ _ _ _ c.loop-cell.from c.in-Some.cell c.loop-cell.posted c.loop-cell.self c.post_cell.new.self c.in_err-post_cell.field-0.0 (sym c.loop-cell.invariant.slot) (λ e. c.if-from-limit.false (c.from.ensures ∙ e)) found c.in_err-post_cell.ensures.posted
+    c.loop-cell.invariant.posting)
 
 pub returns-clause-posted : goal.returns-clause-posted
 returns-clause-posted g c =
@@ -41,8 +43,8 @@ returns-clause-posted g c =
 pub returns-then-from-limit-clause-before : goal.returns-then-from-limit-clause-before
 returns-then-from-limit-clause-before g c = subst IsHolding c.self.view_is c.self.invariant
 
-pub returns-in-Err-clause-before : goal.returns-in-Err-clause-before
-returns-in-Err-clause-before g c = subst IsHolding c.self.view_is c.self.invariant
+pub returns-in_err-post_cell-clause-before : goal.returns-in_err-post_cell-clause-before
+returns-in_err-post_cell-clause-before g c = subst IsHolding c.self.view_is c.self.invariant
 
 pub returns-clause-before : goal.returns-clause-before
 returns-clause-before g c = subst IsHolding c.self.view_is c.self.invariant
