@@ -319,42 +319,47 @@ fn home(holding: Holding) -> Home {
     )
 }
 
-/// What an owner's work comes to: the holding, whether a subscriber was added, and what a posting answered.
-type Worked = (Holding, bool, Result<u8, Refusal>);
+/// What an owner is to do in its thread, once it took what it was handed: to add a subscriber, and to give all from one on.
+#[derive(Clone, Copy)]
+struct Shift {
+    adds: u64,
+    at: Option<u32>,
+}
+
+/// What comes of it: the holding, whether all was taken and added, and what a posting answered; and the piece that was given.
+type Worked = ((Holding, bool, Result<u8, Refusal>), Option<Box<Piece>>);
 
 /// What is done beside it comes to: the holding, what a posting answered, and the desk with what it saw.
 type Beside = (Holding, Result<u8, Refusal>, Desk, [Watched; 2]);
 
-/// Adds a subscriber, and posts.
-fn works(board: &Board, mut holding: Holding, s_id: u64) -> Worked
-    requires { holding.desk.board ≡ board.now }
-    ensures { result.0.desk.board ≡ board.now }
+/// Whether a holding takes the piece that it is handed, where it is handed one.
+fn begins(holding: &mut Holding, piece: Option<Box<Piece>>) -> bool
+    ensures { holding.new.desk ≡ holding.old.desk }
 {
-    let is_added = add(&mut holding, s_id) == Some(RowReply::Done);
+    match piece {
+        Some(piece) => take(holding, piece).is_none(),
+        None => true,
+    }
+}
+
+/// The piece that a holding gives, of all from a subscriber on, where it is to.
+fn gives(holding: &mut Holding, at: Option<u32>) -> Option<Box<Piece>>
+    ensures { holding.new.desk ≡ holding.old.desk }
+{
+    let at = at?;
+    give(holding, Side::High, at).ok()
+}
+
+/// Takes, adds, posts and gives.
+fn works(board: &Board, mut holding: Holding, piece: Option<Box<Piece>>, shift: Shift) -> Worked
+    requires { holding.desk.board ≡ board.now }
+    ensures { result.0.0.desk.board ≡ board.now }
+{
+    let is_taken = begins(&mut holding, piece);
+    let is_added = add(&mut holding, shift.adds) == Some(RowReply::Done);
     let posted = holding.post(board, 51);
-    (holding, is_added, posted)
-}
-
-/// Works, and then gives those from 8 on away.
-fn works_and_gives(board: &Board, holding: Holding) -> (Worked, Option<Box<Piece>>)
-    requires { holding.desk.board ≡ board.now }
-    ensures { result.0.0.desk.board ≡ board.now }
-{
-    let (mut holding, is_added, posted) = works(board, holding, 7);
-    let piece = give(&mut holding, Side::High, 8).ok();
-    ((holding, is_added, posted), piece)
-}
-
-/// Takes a piece, and works then. Whether it was taken.
-fn takes_and_works(board: &Board, mut holding: Holding, piece: Option<Box<Piece>>) -> (Worked, bool)
-    requires { holding.desk.board ≡ board.now }
-    ensures { result.0.0.desk.board ≡ board.now }
-{
-    let is_taken = match piece {
-        Some(piece) => take(&mut holding, piece).is_none(),
-        None => false,
-    };
-    (works(board, holding, 66), is_taken)
+    let given = gives(&mut holding, shift.at);
+    ((holding, is_taken && is_added, posted), given)
 }
 
 /// Looks, posts, and looks again.
@@ -368,25 +373,27 @@ fn posts_and_looks(board: &Board, mut holding: Holding, mut desk: Desk) -> Besid
     (holding, posted, desk, [first, second])
 }
 
-/// One owner works in a thread, and gives; beside it one posts, and a desk looks.
-fn give_beside<R: Threads + Sync>(
+/// One owner works in a thread; beside it one posts, and a desk looks.
+fn side_by_side<R: Threads + Sync>(
     rt: &R,
     board: &Board,
-    giver: Holding,
+    worker: (Holding, Option<Box<Piece>>),
+    shift: Shift,
     other: Holding,
     desk: Desk,
-) -> ((Worked, Option<Box<Piece>>), Beside)
-    requires giver { giver.desk.board ≡ board.now }
+) -> (Worked, Beside)
+    requires worker { worker.0.desk.board ≡ board.now }
     requires beside { (other.desk.board ≡ board.now) × (desk.board ≡ board.now) }
-    ensures giver { result.0.0.0.desk.board ≡ board.now }
+    ensures worker { result.0.0.0.desk.board ≡ board.now }
     ensures beside { (result.1.0.desk.board ≡ board.now) × (result.1.2.board ≡ board.now) }
 {
+    let (holding, piece) = worker;
     thread::join(
         rt,
-        || -> (Worked, Option<Box<Piece>>)
-            requires { giver.desk.board ≡ board.now }
+        || -> Worked
+            requires { holding.desk.board ≡ board.now }
             ensures { result.0.0.desk.board ≡ board.entry.now }
-        { works_and_gives(board, giver) },
+        { works(board, holding, piece, shift) },
         || -> Beside
             requires { (other.desk.board ≡ board.now) × (desk.board ≡ board.now) }
             ensures { (result.0.desk.board ≡ board.entry.now) × (result.2.board ≡ board.entry.now) }
@@ -394,37 +401,10 @@ fn give_beside<R: Threads + Sync>(
     )
 }
 
-/// One owner takes in a thread, and works; beside it one posts, and a desk looks.
-fn take_beside<R: Threads + Sync>(
-    rt: &R,
-    board: &Board,
-    taker: Holding,
-    piece: Option<Box<Piece>>,
-    other: Holding,
-    desk: Desk,
-) -> ((Worked, bool), Beside)
-    requires taker { taker.desk.board ≡ board.now }
-    requires beside { (other.desk.board ≡ board.now) × (desk.board ≡ board.now) }
-    ensures taker { result.0.0.0.desk.board ≡ board.now }
-    ensures beside { (result.1.0.desk.board ≡ board.now) × (result.1.2.board ≡ board.now) }
-{
-    thread::join(
-        rt,
-        || -> (Worked, bool)
-            requires { taker.desk.board ≡ board.now }
-            ensures { result.0.0.desk.board ≡ board.entry.now }
-        { takes_and_works(board, taker, piece) },
-        || -> Beside
-            requires { (other.desk.board ≡ board.now) × (desk.board ≡ board.now) }
-            ensures { (result.0.desk.board ≡ board.entry.now) × (result.2.board ≡ board.entry.now) }
-        { posts_and_looks(board, other, desk) },
-    )
-}
-
-/// What came of a piece's way: whether each owner's subscriber was added, and the piece was taken; what the postings answered;
+/// What came of a piece's way: whether each owner took and added all; what the postings answered;
 /// what came home; what the desk saw before, between and after; and whether its other sights lie between these.
 type Way = (
-    [bool; 3],
+    [bool; 2],
     [Result<u8, Refusal>; 4],
     [Home; 2],
     [Watched; 3],
@@ -444,12 +424,17 @@ fn piece_goes_over<R: Threads + Sync>(
     requires desk { desk.board ≡ board.now }
 {
     let before = look(board, &mut desk);
-    let (given, beside) = give_beside(rt, board, low, high, desk);
-    let ((low, low_added, first), piece) = given;
+    let gives = Shift {
+        adds: 7,
+        at: Some(8),
+    };
+    let (given, beside) = side_by_side(rt, board, (low, None), gives, high, desk);
+    let ((low, low_done, first), piece) = given;
     let (high, second, mut desk, early) = beside;
     let between = look(board, &mut desk);
-    let (taken, beside) = take_beside(rt, board, high, piece, low, desk);
-    let ((high, high_added, third), is_taken) = taken;
+    let takes = Shift { adds: 66, at: None };
+    let (taken, beside) = side_by_side(rt, board, (high, piece), takes, low, desk);
+    let ((high, high_done, third), _none) = taken;
     let (low, fourth, mut desk, late) = beside;
     let after = look(board, &mut desk);
     let are_right = [
@@ -457,7 +442,7 @@ fn piece_goes_over<R: Threads + Sync>(
         are_between(&between, &late, &after),
     ];
     (
-        [low_added, high_added, is_taken],
+        [low_done, high_done],
         [first, second, third, fourth],
         [home(low), home(high)],
         [before, between, after],
@@ -479,7 +464,7 @@ fn owners_work_in_threads(rt: HostRuntime) -> Result<(), Fail> {
         (begun, are_done, posted, homes),
         (
             (Some(RowReply::Done), Ok(2)),
-            [true; 3],
+            [true; 2],
             [Ok(2), Ok(0), Ok(3), Ok(2)],
             [
                 ([Some(7), None], ([1, 1], [0, 0], [1, 1])),
