@@ -1,7 +1,7 @@
--- A full child that is cut in two halves.
+-- A full child that is parted: halved, or with its neighbour, to which it gave.
 use Rattle.std.proofs.Common.{◌≡◌, ℕ, ◌+◌, ◌-◌, ◌<◌, ◌≤◌, List, [], ◌∷◌, ◌++◌, length, get_or, set, take, drop, Option, Some, None, IsSome, IfSome, min, refl, sym, ap, subst, ◌∙◌, arith, take_at}
 use Rattle.std.specs.List.{AllByRecursion}
-use Rattle.std.proofs.lemmas.List.{append_assoc, drop_at, length-take-le, length-append, get_or_at}
+use Rattle.std.proofs.lemmas.List.{append_assoc, drop_at, length-take-le, length-append, get_or_at, take-append-drop, take-take}
 use Rattle.tatp_rows.specs.Ordered.{IsOrderedBy, row_at, with_row}
 use Rattle.tatp_rows.proofs.AppendLemmas.{each-append, each-left, each-right, ordered-right}
 use Rattle.tatp_rows.proofs.SpanLemmas.{below-weaker, from-weaker, below_start, from_start, starts_left}
@@ -11,7 +11,7 @@ use Rattle.mr_node.specs.Levels.{NodePart, NodeKid, NodeBranch, kids_of, rows_of
 use Rattle.mr_node.specs.Growth.{IsGrown}
 use Rattle.mr_node.specs.Search.{IsKidPlace}
 use Rattle.mr_node.specs.Pairs.{IsHalved}
-use Rattle.mr_node.specs.Inside.{IsWholeAgain, IsRoomAt, IsSplitAt}
+use Rattle.mr_node.specs.Inside.{IsWholeAgain, IsRoomAt, IsPartedAt}
 use Rattle.mr_node.proofs.PlaceLemmas.{packed_some}
 use Rattle.mr_node.proofs.RunLemmas.{run_length, run_read, run_split, run_written}
 use Rattle.mr_node.proofs.KidLemmas.{IsCutAt, rows_of-append, kid_at, cut_kid}
@@ -20,12 +20,17 @@ use Rattle.mr_node.proofs.MendLemmas.{some_rows, starts_front, kid_of_node, node
 
 module _ {V : Type 0} where
   -- what stands in the place of a child that is known by the list
-  got_part : (i : ℕ) (b : NodeBranch V) (p q : List (NodeKid V)) (m : NodeKid V) → IsRun b.len b.leasts b.kids → kids_of b ≡ p ++ (m ∷ q) → length p ≡ i → get_or b.kids i None ≡ Some m.1
-  got_part i b p q m run e len =
+  pub record IsReadAs (i : ℕ) (b : NodeBranch V) (m : NodeKid V) : Type 0 where
+    pub within : i < b.len
+    pub least : get_or b.leasts i 0 ≡ m.0
+    pub part : get_or b.kids i None ≡ Some m.1
+
+  read_part : (i : ℕ) (b : NodeBranch V) (p q : List (NodeKid V)) (m : NodeKid V) → IsRun b.len b.leasts b.kids → kids_of b ≡ p ++ (m ∷ q) → length p ≡ i → IsReadAs i b m
+  read_part i b p q m run e len =
       let lt : i < b.len = omega (arith, run_length b.len b.leasts b.kids run, ap length e, length-append p (m ∷ q), len) in
       let some = packed_some b.len i b.kids run.packed lt in
       let same : (get_or b.leasts i 0, some.0) ≡ m = sym (run_read b.len i some.0 b.leasts b.kids run some.1) ∙ ap (λ l. get_or l i (0, some.0)) e ∙ get_or_at p m q (0, some.0) i len in
-      some.1 ∙ ap Some (ap (λ k. k.1) same)
+      record { within = lt; least = ap (λ k. k.0) same; part = some.1 ∙ ap Some (ap (λ k. k.1) same) }
 
   room_at_of : (key i : ℕ) (b : NodeBranch V) (p q : List (NodeKid V)) (m : NodeKid V) → IsRun b.len b.leasts b.kids → kids_of b ≡ p ++ (m ∷ q) → length p ≡ i → KeysBelow key (rows_of p) → KeysFrom (key + 1) (rows_of q) → m.1.node.value.width < 32 → IsRoomAt key i b
   room_at_of key i b p q m run e len below above room =
@@ -36,7 +41,7 @@ module _ {V : Type 0} where
         within = lt;
         below = subst (λ x. KeysBelow key (rows_of x)) (sym front) below;
         above = subst (λ x. KeysFrom (key + 1) (rows_of x)) (sym back) above;
-        room = subst (λ o. IfSome o (λ k. k.node.value.width < 32)) (sym (got_part i b p q m run e len)) room;
+        room = subst (λ o. IfSome o (λ k. k.node.value.width < 32)) (sym (read_part i b p q m run e len).part) room;
       }
 
   -- a child that has room is found where the key belongs
@@ -59,9 +64,9 @@ module _ {V : Type 0} where
       subst (λ o. IfSome o (λ k. k.node.value.width ≡ 32)) (sym some.1) (omega (arith, wide, big, cut.kid.well.fits))
 
   -- a child was halved, and its upper half put behind it
-  pub split_at : (i least : ℕ) (b mid new : NodeBranch V) (k low high : NodePart V) (x z : Seen V) → IsBranch b → i < b.len → get_or b.kids i None ≡ Some k → mid ≡ record b { kids = set b.kids i (Some low) } → kids_of new ≡ take (i + 1) (kids_of mid) ++ ((least, high) ∷ drop (i + 1) (kids_of mid)) → new.height ≡ mid.height → new.len ≡ mid.len + 1 → IsRun new.len new.leasts new.kids
-      → IsHalved k.node.value x z → low.node.value ≡ x → low.count ≡ length x.rows → high.node.value ≡ z → high.count ≡ length z.rows → (0 < z.width → StartsWith least z.rows) → IsSplitAt i least b new
-  split_at i least b mid new k low high x z branch lt got em en height len run halved el cl eh ch starts =
+  pub parted_halves : (i least : ℕ) (b mid new : NodeBranch V) (k low high : NodePart V) (x z : Seen V) → IsBranch b → i < b.len → get_or b.kids i None ≡ Some k → mid ≡ record b { kids = set b.kids i (Some low) } → kids_of new ≡ take (i + 1) (kids_of mid) ++ ((least, high) ∷ drop (i + 1) (kids_of mid)) → new.height ≡ mid.height → new.len ≡ mid.len + 1 → IsRun new.len new.leasts new.kids
+      → IsHalved k.node.value x z → low.node.value ≡ x → low.count ≡ length x.rows → high.node.value ≡ z → high.count ≡ length z.rows → (0 < z.width → StartsWith least z.rows) → IsPartedAt i (i + 1) b new
+  parted_halves i least b mid new k low high x z branch lt got em en height len run halved el cl eh ch starts =
       let e = kids_of b in
       let h = b.height - 1 in
       let old = run_split b.len i k b.leasts b.kids branch.run got in
@@ -83,62 +88,88 @@ module _ {V : Type 0} where
         high = (least, high);
         list = list;
         height = height ∙ ap (λ n. n.height) em;
-        len = len ∙ ap (λ n. n.len + 1) em;
+        len = omega (arith, len, ap (λ n. n.len) em);
         run = run;
         rows = ap rows_of list ∙ rows_of-append (take i e) (kid_at b i low ∷ ((least, high) ∷ drop (i + 1) e))
             ∙ ap (λ r. rows_of (take i e) ++ r) (ap (λ s. s.rows ++ (high.node.value.rows ++ tail)) el ∙ ap (λ s. x.rows ++ (s.rows ++ tail)) eh ∙ sym (append_assoc x.rows z.rows tail) ∙ ap (λ r. r ++ tail) halved.rows)
             ∙ sym (ap rows_of old ∙ rows_of-append (take i e) (kid_at b i k ∷ drop (i + 1) e));
         lower = kid_of_node h (get_or b.leasts i 0) low x one el cl (starts_front (get_or b.leasts i 0) x.rows z.rows (some_rows h x one) (subst (StartsWith (get_or b.leasts i 0)) (sym halved.rows) kid.first));
         upper = kid_of_node h least high z two eh ch (starts (omega (arith, two.enough)));
-        lower_width = ap (λ s. s.width) el ∙ halved.low_width;
-        upper_width = ap (λ s. s.width) eh ∙ halved.high_width;
-        first = refl;
+        low_room = omega (arith, ap (λ s. s.width) el, halved.low_width);
+        high_room = omega (arith, ap (λ s. s.width) eh, halved.high_width);
       }
 
-  pub split_same : (i least : ℕ) (b new : NodeBranch V) (key : ℕ) (k : NodeKid V) → IsBranch b → IsCutAt key (b.height - 1) i (kids_of b) k → IsSplitAt i least b new → IsWholeAgain 0 b new
-  split_same i least b new key k branch cut sp =
-      let a = take i (kids_of b) in
-      let d = drop (i + 1) (kids_of b) in
+  -- the children in front of a place and from another on
+  front_kids : (h from : ℕ) (kids : List (NodeKid V)) → AllByRecursion (IsKid h) kids → AllByRecursion (IsKid h) (take from kids)
+  front_kids h from kids all = each-left (IsKid h) (take from kids) (drop from kids) (subst (AllByRecursion (IsKid h)) (sym (take-append-drop from kids)) all)
+
+  back_kids : (h to : ℕ) (kids : List (NodeKid V)) → AllByRecursion (IsKid h) kids → AllByRecursion (IsKid h) (drop to kids)
+  back_kids h to kids all = each-right (IsKid h) (take to kids) (drop to kids) (subst (AllByRecursion (IsKid h)) (sym (take-append-drop to kids)) all)
+
+  pub parted_same : (from to : ℕ) (b new : NodeBranch V) → IsBranch b → IsPartedAt from to b new → IsWholeAgain 0 b new
+  parted_same from to b new branch sp =
+      let h = b.height - 1 in
+      let a = take from (kids_of b) in
+      let d = drop to (kids_of b) in
       record {
         height = sp.height;
         len = omega (arith, sp.len);
         rows = sp.rows;
         whole = record {
           inner = omega (arith, sp.height, branch.inner);
-          some = omega (arith, sp.len);
+          some = omega (arith, sp.len, branch.some);
           run = sp.run;
-          kids = subst (λ h. AllByRecursion (IsKid (h - 1)) (kids_of new)) (sym sp.height) (subst (AllByRecursion (IsKid (b.height - 1))) (sym sp.list) (each-append (IsKid (b.height - 1)) a (sp.low ∷ (sp.high ∷ d)) cut.before (sp.lower, (sp.upper, cut.after))));
+          kids = subst (λ n. AllByRecursion (IsKid (n - 1)) (kids_of new)) (sym sp.height) (subst (AllByRecursion (IsKid h)) (sym sp.list) (each-append (IsKid h) a (sp.low ∷ (sp.high ∷ d)) (front_kids h from (kids_of b) branch.kids) (sp.lower, (sp.upper, back_kids h to (kids_of b) branch.kids))));
           ordered = subst (IsOrderedBy key_of_pair) (sym sp.rows) branch.ordered;
           keys = subst (KeysBelow key_limit) (sym sp.rows) branch.keys;
         };
       }
 
-  ordered_tail : (i least : ℕ) (b new : NodeBranch V) → IsBranch b → (sp : IsSplitAt i least b new) → IsOrderedBy key_of_pair (sp.low.1.node.value.rows ++ (sp.high.1.node.value.rows ++ rows_of (drop (i + 1) (kids_of b))))
-  ordered_tail i least b new branch sp =
-      let a = take i (kids_of b) in
-      let d = drop (i + 1) (kids_of b) in
+  ordered_tail : (from to : ℕ) (b new : NodeBranch V) → IsBranch b → (sp : IsPartedAt from to b new) → IsOrderedBy key_of_pair (sp.low.1.node.value.rows ++ (sp.high.1.node.value.rows ++ rows_of (drop to (kids_of b))))
+  ordered_tail from to b new branch sp =
+      let a = take from (kids_of b) in
+      let d = drop to (kids_of b) in
       ordered-right key_of_pair (rows_of a) (sp.low.1.node.value.rows ++ (sp.high.1.node.value.rows ++ rows_of d)) (subst (IsOrderedBy key_of_pair) (sym sp.rows ∙ ap rows_of sp.list ∙ rows_of-append a (sp.low ∷ (sp.high ∷ d))) branch.ordered)
 
-  pub split_low : (i least : ℕ) (b new : NodeBranch V) (key : ℕ) (k : NodeKid V) → i < b.len → IsBranch b → IsCutAt key (b.height - 1) i (kids_of b) k → IsSplitAt i least b new → key < least → IsRoomAt key i new
-  split_low i least b new key k lt branch cut sp less =
-      let d = drop (i + 1) (kids_of b) in
-      let low = sp.low.1.node.value.rows in
-      let high = sp.high.1.node.value.rows in
-      let o = ordered-right key_of_pair low (high ++ rows_of d) (ordered_tail i least b new branch sp) in
-      room_at_of key i new (take i (kids_of b)) (sp.high ∷ d) sp.low sp.run sp.list (length-take-le i (kids_of b) (omega (arith, run_length b.len b.leasts b.kids branch.run, lt))) cut.below
-      (from-weaker key_of_pair (key + 1) sp.high.0 (high ++ rows_of d) (omega (arith, less, sp.first)) (from_start key_of_pair sp.high.0 (high ++ rows_of d) (starts_left key_of_pair sp.high.0 high (rows_of d) sp.upper.first) o))
-      (omega (arith, sp.lower_width))
+  -- the rows in front of a place are below a key where those in front of a later one are
+  below_front : (key from i : ℕ) (kids : List (NodeKid V)) → from ≤ i → KeysBelow key (rows_of (take i kids)) → KeysBelow key (rows_of (take from kids))
+  below_front key from i kids le below =
+      let rest = rows_of (drop from (take i kids)) in
+      let cut = ap rows_of (sym (take-append-drop from (take i kids))) ∙ rows_of-append (take from (take i kids)) (drop from (take i kids)) ∙ ap (λ l. rows_of l ++ rest) (take-take from i kids le) in
+      each-left (λ p. p.0 < key) (rows_of (take from kids)) rest (subst (KeysBelow key) cut below)
 
-  pub split_high : (i least : ℕ) (b new : NodeBranch V) (key : ℕ) (k : NodeKid V) → i < b.len → IsBranch b → IsCutAt key (b.height - 1) i (kids_of b) k → IsSplitAt i least b new → least ≤ key → IsRoomAt key (i + 1) new
-  split_high i least b new key k lt branch cut sp le =
-      let a = take i (kids_of b) in
+  -- where the second of the two stands
+  parted_front : (from i : ℕ) (b new : NodeBranch V) → from ≤ i → i < b.len → IsBranch b → (sp : IsPartedAt from (i + 1) b new) → (kids_of new ≡ (take from (kids_of b) ++ (sp.low ∷ [])) ++ (sp.high ∷ drop (i + 1) (kids_of b))) × (length (take from (kids_of b)) ≡ from) × (length (take from (kids_of b) ++ (sp.low ∷ [])) ≡ from + 1)
+  parted_front from i b new le lt branch sp =
+      let a = take from (kids_of b) in
+      let long : length a ≡ from = length-take-le from (kids_of b) (omega (arith, run_length b.len b.leasts b.kids branch.run, le, lt)) in
+      (sp.list ∙ sym (append_assoc a (sp.low ∷ []) (sp.high ∷ drop (i + 1) (kids_of b))), long, omega (arith, length-append a (sp.low ∷ []), long))
+
+  pub parted_next : (from i : ℕ) (b new : NodeBranch V) → from ≤ i → i < b.len → IsBranch b → (sp : IsPartedAt from (i + 1) b new) → IsReadAs (from + 1) new sp.high
+  parted_next from i b new le lt branch sp =
+      let front = parted_front from i b new le lt branch sp in
+      read_part (from + 1) new (take from (kids_of b) ++ (sp.low ∷ [])) (drop (i + 1) (kids_of b)) sp.high sp.run front.0 front.2
+
+  pub parted_low : (from i : ℕ) (b new : NodeBranch V) (key : ℕ) (k : NodeKid V) → from ≤ i → i < b.len → IsBranch b → IsCutAt key (b.height - 1) i (kids_of b) k → (sp : IsPartedAt from (i + 1) b new) → key < sp.high.0 → IsRoomAt key from new
+  parted_low from i b new key k le lt branch cut sp less =
       let d = drop (i + 1) (kids_of b) in
       let low = sp.low.1.node.value.rows in
       let high = sp.high.1.node.value.rows in
-      let lows = below-weaker key_of_pair sp.high.0 key low (omega (arith, le, sp.first)) (below_start key_of_pair sp.high.0 low high (rows_of d) sp.upper.first (ordered_tail i least b new branch sp)) in
-      let below = subst (KeysBelow key) (sym (rows_of-append a (sp.low ∷ []))) (each-append (λ p. p.0 < key) (rows_of a) (low ++ []) cut.below (each-append (λ p. p.0 < key) low [] lows tt)) in
-      let long = length-take-le i (kids_of b) (omega (arith, run_length b.len b.leasts b.kids branch.run, lt)) in
-      room_at_of key (i + 1) new (a ++ (sp.low ∷ [])) d sp.high sp.run (sp.list ∙ sym (append_assoc a (sp.low ∷ []) (sp.high ∷ d))) (omega (arith, length-append a (sp.low ∷ []), long)) below cut.above (omega (arith, sp.upper_width))
+      let o = ordered-right key_of_pair low (high ++ rows_of d) (ordered_tail from (i + 1) b new branch sp) in
+      room_at_of key from new (take from (kids_of b)) (sp.high ∷ d) sp.low sp.run sp.list (parted_front from i b new le lt branch sp).1 (below_front key from i (kids_of b) le cut.below)
+      (from-weaker key_of_pair (key + 1) sp.high.0 (high ++ rows_of d) (omega (arith, less)) (from_start key_of_pair sp.high.0 (high ++ rows_of d) (starts_left key_of_pair sp.high.0 high (rows_of d) sp.upper.first) o))
+      sp.low_room
+
+  pub parted_high : (from i : ℕ) (b new : NodeBranch V) (key : ℕ) (k : NodeKid V) → from ≤ i → i < b.len → IsBranch b → IsCutAt key (b.height - 1) i (kids_of b) k → (sp : IsPartedAt from (i + 1) b new) → sp.high.0 ≤ key → IsRoomAt key (from + 1) new
+  parted_high from i b new key k le lt branch cut sp more =
+      let a = take from (kids_of b) in
+      let d = drop (i + 1) (kids_of b) in
+      let low = sp.low.1.node.value.rows in
+      let high = sp.high.1.node.value.rows in
+      let lows = below-weaker key_of_pair sp.high.0 key low more (below_start key_of_pair sp.high.0 low high (rows_of d) sp.upper.first (ordered_tail from (i + 1) b new branch sp)) in
+      let below = subst (KeysBelow key) (sym (rows_of-append a (sp.low ∷ []))) (each-append (λ p. p.0 < key) (rows_of a) (low ++ []) (below_front key from i (kids_of b) le cut.below) (each-append (λ p. p.0 < key) low [] lows tt)) in
+      let front = parted_front from i b new le lt branch sp in
+      room_at_of key (from + 1) new (a ++ (sp.low ∷ [])) d sp.high sp.run front.0 front.2 below cut.above sp.high_room
 
   -- the place with room as a cut
   pub cut_of_room : (key i : ℕ) (b : NodeBranch V) (k : NodePart V) → IsBranch b → IsRoomAt key i b → get_or b.kids i None ≡ Some k → (IsCutAt key (b.height - 1) i (kids_of b) (kid_at b i k)) × (k.node.value.width < 32)

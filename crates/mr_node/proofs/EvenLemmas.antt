@@ -9,7 +9,7 @@ use Rattle.mr_node.specs.Rows.{Seen, key_of_pair, key_limit}
 use Rattle.mr_node.specs.declared.body.Body.TheVariants.{Inner as AsInner}
 use Rattle.mr_node.specs.Runs.{IsRun}
 use Rattle.mr_node.specs.Levels.{NodeBody, NodeBranch, IsNode, pairs_of, kids_of, rows_of, IsWell, IsLeaf, IsKid, IsBranch, seen_leaf, seen_branch}
-use Rattle.mr_node.specs.Pairs.{AreEvenWidths, IsKidNode, AreEvened, IsHalved}
+use Rattle.mr_node.specs.Pairs.{AreEvenWidths, IsShare, IsKidNode, AreEvened, IsHalved}
 use Rattle.mr_node.proofs.RunLemmas.{run_length}
 use Rattle.mr_node.proofs.KidLemmas.{rows_of-append}
 use Rattle.mr_node.proofs.ShareLemmas.{appended_sum}
@@ -60,6 +60,7 @@ module _ {V : Type 0} where
   evened false a b x y z wide rows low high well more none even same = record {
     low = record { level = low; enough = even.0; well = well };
     high = subst (IsKidNode a.height) (sym (same refl)) (record { level = high; enough = even.2; well = more (omega (arith, even.2)) });
+    width = ap (λ s. x.width + s.width) (same refl) ∙ wide;
     rows = ap (λ s. x.rows ++ s.rows) (same refl) ∙ rows;
     many = omega (arith, wide, even.4);
   }
@@ -72,6 +73,12 @@ module _ {V : Type 0} where
     low_width = lx;
     high_width = ly;
   }
+
+  -- a share of the widths of two nodes is one of their entries
+  pub share_seen : (a b m n : Seen V) (c d low : ℕ) → IsShare (m.width + n.width) low → a ≡ m → b ≡ n → c ≡ a.width → d ≡ b.width → IsShare (c + d) low
+  share_seen a b m n c d low share em en ec ed =
+      let same : c + d ≡ m.width + n.width = omega (arith, ec, ed, ap (λ s. s.width) em, ap (λ s. s.width) en) in
+      subst (λ k. IsShare k low) (sym same) share
 
   -- two leaves whose rows rise one after another
   pub record AreLeaves (a b : Leaf V) : Type 0 where

@@ -9,6 +9,7 @@ pub mod SizeLemmas
 pub mod NodeLemmas
 pub mod MendLemmas
 pub mod CutLemmas
+pub mod StepLemmas
 pub mod RemoveLemmas
 pub mod EvenLemmas
 pub mod PartLemmas

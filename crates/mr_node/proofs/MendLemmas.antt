@@ -1,16 +1,18 @@
--- Inner nodes two of whose children are evened out.
+-- Inner nodes two of whose children share their entries anew.
 use Rattle.std.proofs.Common.{◌≡◌, ℕ, ◌+◌, ◌-◌, ◌*◌, ◌^◌, ◌<◌, ◌≤◌, List, [], ◌∷◌, ◌++◌, length, get_or, set, take, drop, Option, Some, None, IfSome, Bool, true, false, refl, sym, ap, subst, ◌∙◌, arith, lit<, append-nil, take_at}
 use Rattle.std.specs.List.{AllByRecursion}
+use Rattle.std.proofs.lemmas.List.Sums.{sum_by-cons}
 use Rattle.std.proofs.Math.Nat.{mul-le-mul_right, pow-le-pow_right}
 use Rattle.std.proofs.lemmas.List.{append_assoc, drop-drop, drop_at, length-append, length-take-le, set-set, set_comm, take-append-drop, take-take}
 use Rattle.tatp_rows.specs.Ordered.{IsOrderedBy}
+use Rattle.tatp_rows.proofs.OrderedLemmas.{each-weaker}
 use Rattle.tatp_rows.proofs.AppendLemmas.{each-append, each-left, each-right, ordered-left, ordered-right}
 use Rattle.tatp_rows.proofs.SpanLemmas.{starts_left}
 use Rattle.mr_node.specs.Rows.{Seen, key_of_pair, key_limit, KeysBelow, StartsWith}
 use Rattle.mr_node.specs.Runs.{entries, IsRun}
-use Rattle.mr_node.specs.Levels.{NodePart, NodeKid, NodeBranch, kids_of, rows_of, IsWell, IsKid, IsKidOf, IsBranchOf}
-use Rattle.mr_node.specs.Pairs.{IsKidNode, IsJoined, AreEvened}
-use Rattle.mr_node.specs.Inside.{AreKidsBeside, IsLooseAt, ArePairKids, IsPairAt, IsSplicedAt, IsWholeAgain}
+use Rattle.mr_node.specs.Levels.{NodePart, NodeKid, NodeBranch, kids_of, rows_of, widths_of, IsWell, IsKid, IsKidOf, IsBranch, IsBranchOf}
+use Rattle.mr_node.specs.Pairs.{IsKidNode, IsJoined, IsShare, AreEvened}
+use Rattle.mr_node.specs.Inside.{AreKidsBeside, IsLooseAt, ArePairKids, IsPairAt, IsSplicedAt, IsWholeAgain, IsPartedAt}
 use Rattle.mr_node.proofs.PlaceLemmas.{packed_some}
 use Rattle.mr_node.proofs.RunLemmas.{run_length, run_split, run_rest, run_written, run_both}
 use Rattle.mr_node.proofs.KidLemmas.{rows_of-append, kid_at}
@@ -72,6 +74,33 @@ module _ {V : Type 0} where
         ordered = subst (IsOrderedBy key_of_pair) (ap rows_of list ∙ ap (λ r. low.node.value.rows ++ r) (append-nil high.node.value.rows)) o;
       }
 
+  -- their widths together
+  pub pair_widths : (w p : ℕ) (b : NodeBranch V) (low high : NodePart V) → ArePair w p b low high → widths_of (take 2 (drop p (kids_of b))) ≡ low.node.value.width + high.node.value.width
+  pair_widths w p b low high pair =
+      let width : NodeKid V → ℕ = λ k. k.1.node.value.width in
+      omega (arith, ap widths_of pair.list, sum_by-cons width (kid_at b p low) (kid_at b (p + 1) high ∷ []), sum_by-cons width (kid_at b (p + 1) high) [])
+
+  -- the widths of two neighbours that were looked at
+  pub record AreWidths (least v w : ℕ) (kids : List (NodeKid V)) : Type 0 where
+    pub both : v + w ≡ widths_of kids
+    pub enough : least ≤ v
+    pub first : v ≤ 32
+    pub second : w ≤ 32
+
+  pub widths_at : (least p v w : ℕ) (b : NodeBranch V) → IsBranchOf least b → p + 1 < b.len → IfSome (get_or b.kids p None) (λ k. v ≡ k.node.value.width) → IfSome (get_or b.kids (p + 1) None) (λ k. w ≡ k.node.value.width) → AreWidths least v w (take 2 (drop p (kids_of b)))
+  widths_at least p v w b branch lt one two =
+      let low = packed_some b.len p b.kids branch.run.packed (omega (arith, lt)) in
+      let high = packed_some b.len (p + 1) b.kids branch.run.packed lt in
+      let pair = pair_at least p b low.0 high.0 branch low.1 high.1 in
+      let first : v ≡ low.0.node.value.width = subst (λ o. IfSome o (λ k. v ≡ k.node.value.width)) low.1 one in
+      let second : w ≡ high.0.node.value.width = subst (λ o. IfSome o (λ k. w ≡ k.node.value.width)) high.1 two in
+      record {
+        both = omega (arith, first, second, pair_widths least p b low.0 high.0 pair);
+        enough = omega (arith, first, pair.first.enough);
+        first = omega (arith, first, pair.first.well.fits);
+        second = omega (arith, second, pair.second.well.fits);
+      }
+
   -- a node that is half full has rows
   pub some_rows : (h : ℕ) (s : Seen V) → IsKidNode h s → 0 < length s.rows
   some_rows h s node =
@@ -100,22 +129,24 @@ module _ {V : Type 0} where
   joined_kid : (h : ℕ) (a b x : Seen V) → a.height ≡ h → 15 ≤ a.width → 15 ≤ b.width → IsJoined a b x → IsKidNode h x
   joined_kid h a b x level more much joined = record { level = joined.level ∙ level; enough = omega (arith, joined.width, more, much); well = joined.well }
 
-  pair_kids : (h : ℕ) (joined : Bool) (first least : ℕ) (low high a b : NodePart V) (x z : Seen V) (rows : List (ℕ × V)) → IsKidOf 15 h (first, low) → 15 ≤ high.node.value.width → AreEvened joined low.node.value high.node.value x z → low.node.value.rows ++ high.node.value.rows ≡ rows → a.node.value ≡ x → a.count ≡ length x.rows → b.node.value ≡ z → b.count ≡ length z.rows → (0 < z.width → StartsWith least z.rows) → ArePairKids h joined rows (first, a) (least, b)
-  pair_kids h true first least low high a b x z rows kid wide evened er ea ca eb cb starts = (
+  pair_kids : (h : ℕ) (joined : Bool) (first least : ℕ) (low high a b : NodePart V) (x z : Seen V) (kids : List (NodeKid V)) → IsKidOf 15 h (first, low) → 15 ≤ high.node.value.width → AreEvened joined low.node.value high.node.value x z → low.node.value.rows ++ high.node.value.rows ≡ rows_of kids → widths_of kids ≡ low.node.value.width + high.node.value.width → a.node.value ≡ x → a.count ≡ length x.rows → b.node.value ≡ z → b.count ≡ length z.rows → (0 < z.width → StartsWith least z.rows) → ArePairKids h joined kids (first, a) (least, b)
+  pair_kids h true first least low high a b x z kids kid wide evened er ew ea ca eb cb starts = (
     kid_of_node h first a x (joined_kid h low.node.value high.node.value x kid.level kid.enough wide evened) ea ca (subst (StartsWith first) (sym evened.rows) (starts_left key_of_pair first low.node.value.rows high.node.value.rows kid.first)),
     ap (λ s. s.rows) ea ∙ evened.rows ∙ er,
+    omega (arith, ew, evened.width, ap (λ s. s.width) ea),
   )
-  pair_kids h false first least low high a b x z rows kid wide evened er ea ca eb cb starts =
+  pair_kids h false first least low high a b x z kids kid wide evened er ew ea ca eb cb starts =
       let one = node_at h low.node.value.height x kid.level evened.low in
       let two = node_at h low.node.value.height z kid.level evened.high in (
         kid_of_node h first a x one ea ca (starts_front first x.rows z.rows (some_rows h x one) (subst (StartsWith first) (sym evened.rows) (starts_left key_of_pair first low.node.value.rows high.node.value.rows kid.first))),
         kid_of_node h least b z two eb cb (starts (omega (arith, two.enough))),
         ap (λ s. s.rows ++ b.node.value.rows) ea ∙ ap (λ s. x.rows ++ s.rows) eb ∙ evened.rows ∙ er,
+        omega (arith, ew, evened.width, ap (λ s. s.width) ea, ap (λ s. s.width) eb),
       )
 
-  pub pair_evened : (p : ℕ) (joined : Bool) (b : NodeBranch V) (y : Option (NodePart V)) (low high a c : NodePart V) (least : ℕ) (x z : Seen V) → IsBranchOf 15 b → p + 1 < b.len → ArePair 15 p b low high → AreEvened joined low.node.value high.node.value x z → a.node.value ≡ x → a.count ≡ length x.rows → c.node.value ≡ z → c.count ≡ length z.rows → (0 < z.width → StartsWith least z.rows)
-      → IsPairAt p joined b (record b { leasts = set b.leasts (p + 1) least; kids = set (set (set b.kids (p + 1) y) p (Some a)) (p + 1) (Some c) })
-  pair_evened p joined b y low high a c least x z branch lt pair evened ea ca ec cc starts =
+  pub pair_shared : (p many : ℕ) (joined : Bool) (b : NodeBranch V) (y : Option (NodePart V)) (low high a c : NodePart V) (least : ℕ) (x z : Seen V) → IsBranchOf 15 b → p + 1 < b.len → ArePair 15 p b low high → AreEvened joined low.node.value high.node.value x z → x.width ≡ many → a.node.value ≡ x → a.count ≡ length x.rows → c.node.value ≡ z → c.count ≡ length z.rows → (0 < z.width → StartsWith least z.rows)
+      → IsPairAt p many joined b (record b { leasts = set b.leasts (p + 1) least; kids = set (set (set b.kids (p + 1) y) p (Some a)) (p + 1) (Some c) })
+  pair_shared p many joined b y low high a c least x z branch lt pair evened wide ea ca ec cc starts =
       let all = pair_written b.len p least y a c b.leasts b.kids branch.run lt in
       let rows = sym (ap rows_of pair.list ∙ ap (λ r. low.node.value.rows ++ r) (append-nil high.node.value.rows)) in
       record {
@@ -125,7 +156,8 @@ module _ {V : Type 0} where
         height = refl;
         len = refl;
         run = all.0;
-        kids = pair_kids (b.height - 1) joined (get_or b.leasts p 0) least low high a c x z (rows_of (take 2 (drop p (kids_of b)))) pair.first pair.second.enough evened rows ea ca ec cc starts;
+        kids = pair_kids (b.height - 1) joined (get_or b.leasts p 0) least low high a c x z (take 2 (drop p (kids_of b))) pair.first pair.second.enough evened rows (pair_widths 15 p b low high pair) ea ca ec cc starts;
+        width = ap (λ s. s.width) ea ∙ wide;
       }
 
   -- an inner node with other children in the place of two
@@ -142,13 +174,13 @@ module _ {V : Type 0} where
       }
 
   -- both stay
-  pub spliced_two : (p : ℕ) (b new : NodeBranch V) → IsBranchOf 15 b → IsPairAt p false b new → IsSplicedAt p b new
-  spliced_two p b new branch at =
+  pub spliced_two : (p many : ℕ) (b new : NodeBranch V) → IsBranchOf 15 b → IsPairAt p many false b new → IsSplicedAt p b new
+  spliced_two p many b new branch at =
       spliced_of p b new (at.low ∷ (at.high ∷ [])) (omega (arith, at.len, branch.some)) (omega (arith, at.len)) at.height at.run at.list (ap (λ r. at.low.1.node.value.rows ++ r) (append-nil at.high.1.node.value.rows) ∙ at.kids.2) (at.kids.0, (at.kids.1, tt))
 
   -- the second one went
-  pub spliced_one : (p : ℕ) (b mid new : NodeBranch V) → p + 1 < b.len → IsBranchOf 15 b → IsPairAt p true b mid → new.height ≡ mid.height → new.len + 1 ≡ mid.len → IsRun new.len new.leasts new.kids → kids_of new ≡ take (p + 1) (kids_of mid) ++ drop (p + 1 + 1) (kids_of mid) → IsSplicedAt p b new
-  spliced_one p b mid new lt branch at height len run rest =
+  pub spliced_one : (p many : ℕ) (b mid new : NodeBranch V) → p + 1 < b.len → IsBranchOf 15 b → IsPairAt p many true b mid → new.height ≡ mid.height → new.len + 1 ≡ mid.len → IsRun new.len new.leasts new.kids → kids_of new ≡ take (p + 1) (kids_of mid) ++ drop (p + 1 + 1) (kids_of mid) → IsSplicedAt p b new
+  spliced_one p many b mid new lt branch at height len run rest =
       let e = kids_of b in
       let long = length-take-le p e (omega (arith, run_length b.len b.leasts b.kids branch.run, lt)) in
       let front = take p e ++ (at.low ∷ []) in
@@ -158,6 +190,63 @@ module _ {V : Type 0} where
       let two : drop (p + 1 + 1) (kids_of mid) ≡ drop (p + 2) e = sym (drop-drop 1 (p + 1) (kids_of mid)) ∙ ap (drop 1) (ap (drop (p + 1)) cut ∙ drop_at front (at.high ∷ drop (p + 2) e) (p + 1) wide) in
       let list : kids_of new ≡ take p e ++ ((at.low ∷ []) ++ drop (p + 2) e) = rest ∙ ap (λ r. r ++ drop (p + 1 + 1) (kids_of mid)) one ∙ ap (λ r. front ++ r) two ∙ append_assoc (take p e) (at.low ∷ []) (drop (p + 2) e) in
       spliced_of p b new (at.low ∷ []) (omega (arith, len, at.len, lt)) (omega (arith, len, at.len)) (height ∙ at.height) run list (append-nil at.low.1.node.value.rows ∙ at.kids.1) (at.kids.0, tt)
+
+  -- children that are half full lack one at most
+  pub loosened : (b : NodeBranch V) → IsBranch b → IsBranchOf 15 b
+  loosened b branch =
+      let h = b.height - 1 in
+      record {
+        inner = branch.inner;
+        some = branch.some;
+        run = branch.run;
+        kids = each-weaker {P = IsKid h} {Q = IsKidOf 15 h} (λ k kid. record { level = kid.level; enough = omega (arith, kid.enough); well = kid.well; first = kid.first; counted = kid.counted }) (kids_of b) branch.kids;
+        ordered = branch.ordered;
+        keys = branch.keys;
+      }
+
+  -- a full child and one that has room for many may share anew
+  pub record IsGiving (m i many : ℕ) (b : NodeBranch V) : Type 0 where
+    pub within : m + 1 < b.len
+    pub share : IsShare (widths_of (take 2 (drop m (kids_of b)))) many
+    pub less : many < widths_of (take 2 (drop m (kids_of b)))
+    pub much : widths_of (take 2 (drop m (kids_of b))) < many + 32
+
+  pub giving_at : (i m w many : ℕ) (b : NodeBranch V) → IsBranch b → i ≡ m + 1 → i < b.len → IfSome (get_or b.kids m None) (λ k. w ≡ k.node.value.width) → IfSome (get_or b.kids i None) (λ k. k.node.value.width ≡ 32) → w < many → many < 32 → IsGiving m i many b
+  giving_at i m w many b branch e lt width full few fits =
+      let next : IfSome (get_or b.kids (m + 1) None) (λ k. 32 ≡ k.node.value.width) = full_at (get_or b.kids (m + 1) None) (subst (λ j. IfSome (get_or b.kids j None) (λ k. k.node.value.width ≡ 32)) e full) in
+      let wide = widths_at 16 m w 32 b branch (omega (arith, e, lt)) width next in
+      record {
+        within = omega (arith, e, lt);
+        share = record {
+          fits = omega (arith, fits);
+          within = omega (arith, wide.both, fits);
+          rest = omega (arith, wide.both, few);
+          half = λ less. (omega (arith, few, wide.enough), omega (arith, wide.both, wide.enough, fits), omega (arith, wide.both, wide.enough));
+        };
+        less = omega (arith, wide.both, fits);
+        much = omega (arith, wide.both, few);
+      }
+    where
+      full_at : (o : Option (NodePart V)) → IfSome o (λ k. k.node.value.width ≡ 32) → IfSome o (λ k. 32 ≡ k.node.value.width)
+      full_at None h = tt
+      full_at (Some k) h = sym h
+
+  -- a full child gave to the one before it, and both have room
+  pub parted_given : (i m many : ℕ) (joined : Bool) (b new : NodeBranch V) → i ≡ m + 1 → many < 32 → IsBranch b → IsGiving m i many b → IsPairAt m many joined b new → IsPartedAt m (i + 1) b new
+  parted_given i m many true b new e few branch giving at = absurd (omega (arith, giving.less, at.width, at.kids.2))
+  parted_given i m many false b new e few branch giving at = record {
+    low = at.low;
+    high = at.high;
+    list = at.list ∙ ap (λ j. take m (kids_of b) ++ (at.low ∷ (at.high ∷ drop j (kids_of b)))) (omega (arith, e));
+    height = at.height;
+    len = omega (arith, at.len);
+    run = at.run;
+    rows = (spliced_two m many b new (loosened b branch) at).rows;
+    lower = at.kids.0;
+    upper = at.kids.1;
+    low_room = omega (arith, at.width, few);
+    high_room = omega (arith, at.width, at.kids.3, giving.much);
+  }
 
   -- from the children beside a loose one to those beside a pair that has it
   beside_next : (l : ℕ) (b : NodeBranch V) → AreKidsBeside l (l + 1) b → AreKidsBeside l (l + 2) b

@@ -1,12 +1,11 @@
 -- Two neighbours that share entries: what the last entry's move from one to the other and a turn make of both.
-use Rattle.std.proofs.Common.{◌≡◌, ℕ, ◌+◌, ◌-◌, ◌*◌, ◌<◌, ◌≤◌, suc, zero, List, [], ◌∷◌, ◌++◌, length, reverse, get_or, set, take, drop, min, max, Option, Some, None, refl, sym, ap, subst, ◌∙◌, arith, append-nil, length-append, length-drop, nat_le}
+use Rattle.std.proofs.Common.{◌≡◌, ℕ, ◌+◌, ◌-◌, ◌<◌, ◌≤◌, suc, zero, List, [], ◌∷◌, ◌++◌, length, reverse, get_or, set, take, drop, min, max, Option, Some, None, refl, sym, ap, subst, ◌∙◌, arith, append-nil, length-append, length-drop, eqb, inl, inr}
 use Rattle.std.proofs.lemmas.List.{drop_all, take_all, get_or_default, length-take-le, reverse-append, append_assoc, length-reverse, take-append-drop, get_or_push}
 use Rattle.std.proofs.Math.Nat.{le-max_right, min-le_right}
 use Rattle.std.proofs.Math.Seq.{take-append_seam, drop-append_seam}
 use Rattle.std.specs.List.{refill}
-use Rattle.std.proofs.lemmas.Bool.{leb-true, leb-false}
-use Rattle.tatp_rows.proofs.OrderedLemmas.{by_test}
-use Rattle.mr_node.specs.Pairs.{AreEvenWidths}
+use Rattle.std.proofs.lemmas.Bool.Decides.{eqb_tells}
+use Rattle.mr_node.specs.Pairs.{AreEvenWidths, IsShare}
 use Rattle.mr_node.specs.Runs.{no_key, somes, IsPacked, entries, IsRun}
 use Rattle.mr_node.proofs.PlaceLemmas.{packed_length, packed_fits, packed_some, somes_front, packed_left, packed_right, packed_join, somes_append}
 use Rattle.mr_node.proofs.RunLemmas.{run_length, run_split, run_popped, run_pushed, run_turned}
@@ -266,12 +265,12 @@ module _ {X : Type 0} where
   pub appended_sum : (xs ys ls rs : List X) → xs ++ ys ≡ ls ++ rs → length xs + length ys ≡ length ls + length rs
   appended_sum xs ys ls rs e = omega (arith, ap length e, length-append xs ys, length-append ls rs)
 
--- the widths of two neighbours, of which the left one got all or half
-pub even_widths : (a b c d low both : ℕ) → a ≤ 32 → b ≤ 32 → both ≡ a + b → (both ≤ 32 → low ≡ both) → (32 < both → (2 * low ≤ both) × (both ≤ 2 * low + 1)) → c ≡ low → c + d ≡ a + b → AreEvenWidths (nat_le both 32) c d
-even_widths a b c d low both fits within sum all half got same =
-    by_test (nat_le both 32)
-    (λ e. let one = all (leb-true both 32 e) in
-    rw e (omega (arith, one, got, leb-true both 32 e), omega (arith, one, got, sum, same)))
-    (λ e. let two = half (leb-false both 32 e) in
-    let over = leb-false both 32 e in
-    rw e (omega (arith, two.0, two.1, got, over), omega (arith, two.0, got, sum, fits, within), omega (arith, two.0, got, sum, same, over), omega (arith, two.1, got, sum, same, fits, within), omega (arith, over, sum, same)))
+-- the widths of two neighbours, of which the left one got its share
+pub even_widths : (c d low both : ℕ) → IsShare both low → c ≡ low → c + d ≡ both → AreEvenWidths (eqb d 0) c d
+even_widths c d low both share got same = elim (eqb_tells d 0) [
+  | inl none ↦ rw none.0 (omega (arith, got, share.fits), none.1)
+  | inr some ↦
+      let more : d ≡ 0 → ⊥ = some.1 in
+      let half = share.half (omega (arith, got, same, more)) in
+      rw some.0 (omega (arith, got, half.0), omega (arith, got, share.fits), omega (arith, got, same, half.1), omega (arith, got, same, share.rest), omega (arith, same, half.2))
+]

@@ -1,6 +1,6 @@
 -- The rules of one level of a tree: what holds of a leaf, of an inner node, and of a child of one.
 use Rattle.std.specs.Prelude.{◌≡◌, ℕ, ◌-◌, ◌*◌, ◌^◌, ◌<◌, ◌≤◌, List, length}
-use Rattle.std.specs.List.{AllByRecursion, flat_map}
+use Rattle.std.specs.List.{AllByRecursion, flat_map, sum_by}
 use Rattle.std.specs.declared.boxed.Box.{Box}
 use Rattle.std.specs.declared.alloc.Global.{Global}
 use Rattle.tatp_rows.specs.Ordered.{IsOrderedBy}
@@ -39,6 +39,10 @@ kids_of b = entries b.leasts b.kids
 -- the rows of children, one after another
 abbrev pub rows_of : {V : Type 0} → List (NodeKid V) → List (ℕ × V)
 rows_of kids = flat_map (λ k. k.1.node.value.rows) kids
+
+-- how many entries or children of their own children have together
+abbrev pub widths_of : {V : Type 0} → List (NodeKid V) → ℕ
+widths_of kids = sum_by (λ k. k.1.node.value.width) kids
 
 -- the keys rise and are below the limit, there is room for the width, and the number of rows meets the height
 pub record IsWell {V : Type 0} (s : Seen V) : Type 0 where

@@ -8,6 +8,13 @@ abbrev pub AreEvenWidths : Bool → ℕ → ℕ → Type 0
 AreEvenWidths true c d = (c ≤ 32) × (d ≡ 0)
 AreEvenWidths false c d = (16 ≤ c) × (c ≤ 32) × (16 ≤ d) × (d ≤ 32) × (32 < c + d)
 
+-- how many of two neighbours' entries the first one may get: all, or so many that both are half full
+pub record IsShare (both low : ℕ) : Type 0 where
+  pub fits : low ≤ 32
+  pub within : low ≤ both
+  pub rest : both ≤ low + 32
+  pub half : low < both → (16 ≤ low) × (low + 16 ≤ both) × (32 < both)
+
 -- the node of a child at height h
 pub record IsKidNode {V : Type 0} (h : ℕ) (s : Seen V) : Type 0 where
   pub level : s.height ≡ h
@@ -25,6 +32,7 @@ pub record IsJoined {V : Type 0} (a b x : Seen V) : Type 0 where
 pub record ArePaired {V : Type 0} (a b x y : Seen V) : Type 0 where
   pub low : IsKidNode a.height x
   pub high : IsKidNode a.height y
+  pub width : x.width + y.width ≡ a.width + b.width
   pub rows : x.rows ++ y.rows ≡ a.rows ++ b.rows
   pub many : 32 < a.width + b.width
 

@@ -1,11 +1,18 @@
 //! Inner nodes that lose or get a child.
-ghost use Rattle.std.specs.Prelude.{◌≡◌, ◌+◌, ◌-◌, ◌*◌, ◌<◌, ◌≤◌, ℕ, None, IfSome, length, slice_index_or};
-ghost use Rattle.mr_node.specs.Levels.{IsBranch, IsBranchOf};
-ghost use Rattle.mr_node.specs.Inside.{IsLooseAt, IsPairAt, IsSplicedAt, IsWholeAgain, IsSplitAt, IsRoomAt};
-ghost use Rattle.mr_node.specs.Steps.{after_steps};
+ghost use Rattle.std.specs.Prelude.{◌≡◌, ◌+◌, ◌-◌, ◌*◌, ◌<◌, ◌≤◌, ℕ, None, IfSome, length, take, drop, slice_index_or};
+ghost use Rattle.mr_node.specs.Levels.{kids_of, widths_of, IsBranch, IsBranchOf};
+ghost use Rattle.mr_node.specs.Pairs.{IsShare};
+ghost use Rattle.mr_node.specs.Inside.{IsLooseAt, IsPairAt, IsSplicedAt, IsWholeAgain, IsPartedAt, IsRoomAt};
+ghost use Rattle.mr_node.specs.Steps.{after_steps, IsRoomMade};
 
 use crate::kids::{place_of, put_kid, take_kid};
+use crate::runs::low_of;
 use crate::{Branch, Kid, Meter, Node, Stock};
+
+// A full child gives to the one before it where that one has so many at most,
+const GIVEN_FROM: usize = 24;
+// until it has so many: room is left in both, and rows that come in rising order leave nearly full nodes behind.
+const GIVEN_TO: usize = 29;
 
 // The width of the child at a place.
 fn kid_width<V>(kids: &[Option<Kid<Box<Node<V>>>>; 32], place: usize) -> usize
@@ -26,23 +33,40 @@ fn count_anew<V>(kid: &mut Kid<Box<Node<V>>>)
     kid.count = kid.node.len();
 }
 
-// Evens out the child at `place` and the next one in place: true where the next one is empty now. Four steps.
-fn even_pair<V: Drop>(branch: &mut Branch<Box<Node<V>>>, place: usize, meter: &mut Meter) -> bool
+// The width of the child at `place` and of the next one together.
+fn pair_width<V>(branch: &Branch<Box<Node<V>>>, place: usize) -> usize
+    requires loose { IsBranchOf 15 branch.now }
+    requires within { place + 1 < branch.now.len }
+    ensures both { result ≡ widths_of (take 2 (drop place (kids_of branch.now))) }
+    ensures fits { result ≤ 64 }
+{
+    kid_width(&branch.kids, place) + kid_width(&branch.kids, place + 1)
+}
+
+// Moves entries between the child at `place` and the next one until the first has `low`: true where the next one is
+// empty then. Four steps.
+fn share_pair<V: Drop>(
+    branch: &mut Branch<Box<Node<V>>>,
+    place: usize,
+    low: usize,
+    meter: &mut Meter,
+) -> bool
     requires loose { IsBranchOf 15 branch.old }
     requires within { place + 1 < branch.old.len }
-    ensures pair { IsPairAt place result branch.old branch.new }
+    requires share { IsShare (widths_of (take 2 (drop place (kids_of branch.old)))) low }
+    ensures pair { IsPairAt place low result branch.old branch.new }
     ensures steps { meter.new ≡ after_steps 4 meter.old }
 {
-    let Some(mut high) = branch.kids[place + 1].take() else {
+    let Some(mut next) = branch.kids[place + 1].take() else {
         unreachable!()
     };
     match &mut branch.kids[place] {
-        Some(low) => {
-            let joined = low.node.even_with(&mut *high.node, meter);
-            count_anew(low);
-            count_anew(&mut high);
-            branch.leasts[place + 1] = high.node.least();
-            branch.kids[place + 1] = Some(high);
+        Some(first) => {
+            let joined = first.node.share_with(&mut *next.node, low, meter);
+            count_anew(first);
+            count_anew(&mut next);
+            branch.leasts[place + 1] = next.node.least();
+            branch.kids[place + 1] = Some(next);
             joined
         }
         None => unreachable!(),
@@ -56,7 +80,8 @@ fn join_pair<V: Drop>(branch: &mut Branch<Box<Node<V>>>, place: usize, meter: &m
     ensures spliced { IsSplicedAt place branch.old branch.new }
     ensures steps { meter.new ≡ after_steps 4 meter.old }
 {
-    if even_pair(branch, place, meter) {
+    let low = low_of(pair_width(branch, place));
+    if share_pair(branch, place, low, meter) {
         let _ = take_kid(branch, place + 1);
     }
 }
@@ -80,17 +105,13 @@ pub(crate) fn mend<V: Drop>(branch: &mut Branch<Box<Node<V>>>, place: usize, met
     join_pair(branch, place - 1, meter);
 }
 
-// Halves the full child at a place: its upper half goes into the blank node, behind it. The least key of that half.
-fn split_kid<V: Drop>(
-    branch: &mut Branch<Box<Node<V>>>,
-    place: usize,
-    mut blank: Box<Node<V>>,
-) -> u64
+// Halves the full child at a place: its upper half goes into the blank node, behind it.
+fn split_kid<V: Drop>(branch: &mut Branch<Box<Node<V>>>, place: usize, mut blank: Box<Node<V>>)
     requires branch { IsBranch branch.old }
     requires room { branch.old.len < 32 }
     requires within { place < branch.old.len }
     requires full { IfSome (slice_index_or branch.old.kids place None) (λ k. k.node.value.width ≡ 32) }
-    ensures { IsSplitAt place result branch.old branch.new }
+    ensures { IsPartedAt place (place + 1) branch.old branch.new }
 {
     match &mut branch.kids[place] {
         Some(kid) => {
@@ -103,10 +124,36 @@ fn split_kid<V: Drop>(
     let least = blank.least();
     let count = blank.len();
     put_kid(branch, place + 1, least, Kid { count, node: blank });
-    least
 }
 
-// Finds the child to which a key belongs, and halves it first where it is full: three steps, and one blank.
+// Parts the full child at a place: it gives entries to the one before it where that has room for many, in four steps;
+// else it is halved, in three steps and with one blank node. The place of the first of the two that have its entries.
+fn part_kid<V: Drop>(
+    branch: &mut Branch<Box<Node<V>>>,
+    place: usize,
+    stock: &mut Stock<V>,
+    meter: &mut Meter,
+) -> usize
+    requires branch { IsBranch branch.old }
+    requires room { branch.old.len < 32 }
+    requires within { place < branch.old.len }
+    requires full { IfSome (slice_index_or branch.old.kids place None) (λ k. k.node.value.width ≡ 32) }
+    requires stock { 0 < stock.old }
+    ensures parted { IsPartedAt result (place + 1) branch.old branch.new }
+    ensures place { result ≤ place }
+    ensures stock { stock.new ≤ stock.old }
+    ensures made { IsRoomMade 1 (stock.old - stock.new) meter.old meter.new }
+{
+    if place > 0 && kid_width(&branch.kids, place - 1) <= GIVEN_FROM {
+        share_pair(branch, place - 1, GIVEN_TO, meter);
+        return place - 1;
+    }
+    meter.tick(3);
+    split_kid(branch, place, stock.give());
+    place
+}
+
+// Finds the child to which a key belongs, and parts it first where it is full.
 pub(crate) fn make_room<V: Drop>(
     branch: &mut Branch<Box<Node<V>>>,
     key: u64,
@@ -120,17 +167,15 @@ pub(crate) fn make_room<V: Drop>(
     ensures place { IsRoomAt key result branch.new }
     ensures stock { stock.new ≤ stock.old }
     ensures used { stock.old ≤ stock.new + 1 }
-    ensures no_fewer { after_steps (3 * (stock.old - stock.new)) meter.old ≤ meter.new }
-    ensures steps { meter.new ≤ meter.old + 3 * (stock.old - stock.new) }
+    ensures made { IsRoomMade 1 (stock.old - stock.new) meter.old meter.new }
 {
     let place = place_of(branch, key);
     if kid_width(&branch.kids, place) < 32 {
         return place;
     }
-    meter.tick(3);
-    let least = split_kid(branch, place, stock.give());
-    if least <= key {
-        return place + 1;
+    let low = part_kid(branch, place, stock, meter);
+    if branch.leasts[low + 1] <= key {
+        return low + 1;
     }
-    place
+    low
 }

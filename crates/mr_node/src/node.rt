@@ -7,10 +7,10 @@ ghost use Rattle.mr_node.specs.Levels.{seen, IsNode, IsWell, IsLeaf, IsBranch, s
 ghost use Rattle.mr_node.specs.Folds.{FoldsRows};
 ghost use Rattle.mr_node.specs.Runs.{IsRun};
 ghost use Rattle.mr_node.specs.Growth.{IsGrown, IsRoomAnswer, is_done};
-ghost use Rattle.mr_node.specs.Pairs.{IsKidNode, IsHalved, AreEvened};
+ghost use Rattle.mr_node.specs.Pairs.{IsKidNode, IsHalved, IsShare, AreEvened};
 ghost use Rattle.mr_node.specs.Changes.{IsShrunk, IsHeightened, IsLowered};
 ghost use Rattle.mr_node.specs.Parts.{IsHung};
-ghost use Rattle.mr_node.specs.Steps.{after_steps};
+ghost use Rattle.mr_node.specs.Steps.{after_steps, IsRoomMade};
 
 use crate::entries::{
     find_entry, first_entry, fold_entries, insert_entry, insert_new, no_leaf, remove_entry,
@@ -18,7 +18,7 @@ use crate::entries::{
 };
 use crate::kids::{no_branch, place_of, put_kid, sum_counts, take_kid};
 use crate::mending::{make_room, mend};
-use crate::runs::{even, share};
+use crate::runs::{even, low_of, share};
 use crate::{Body, Branch, Kid, Leaf, Meter, Room, Stock};
 use std::marker::Model;
 use std::mem;
@@ -250,8 +250,9 @@ impl<V: Drop> Node<V> {
         }
     }
 
-    /// Puts a row whose key isn't there in place, and halves each full node on its way first. Two steps a level,
-    /// and three for each node that is halved, which takes one blank node.
+    /// Puts a row whose key isn't there in place. Each full node on its way first gives entries to the one before it,
+    /// where that one has room for many, in four steps; else it is halved, in three steps and with one blank node. Two
+    /// steps a level besides.
     pub fn insert_split(
         &mut self,
         key: u64,
@@ -269,7 +270,8 @@ impl<V: Drop> Node<V> {
         ensures stock { stock.new ≤ stock.old }
         ensures used { stock.old ≤ stock.new + self.old.height }
         ensures no_fewer { after_steps (2 * (self.old.height + 1) + 3 * (stock.old - stock.new)) meter.old ≤ meter.new }
-        ensures steps { meter.new ≤ meter.old + (2 * (self.old.height + 1) + 3 * (stock.old - stock.new)) }
+        ensures steps { meter.new ≤ meter.old + (2 * (self.old.height + 1) + 3 * (stock.old - stock.new) + 4 * (self.old.height - (stock.old - stock.new))) }
+        ensures made { IsRoomMade self.old.height (stock.old - stock.new) (after_steps (2 * (self.old.height + 1)) meter.old) meter.new }
     {
         meter.tick(2);
         match &mut self.body {
@@ -352,16 +354,30 @@ impl<V: Drop> Node<V> {
         ensures nodes { AreEvened result self.old next.old self.new next.new }
         ensures steps { meter.new ≡ after_steps 4 meter.old }
     {
+        let low = low_of(self.width() + next.width());
+        self.share_with(next, low, meter)
+    }
+
+    // Moves entries between a node and its next neighbour of the same height until the first has `low`. True where it has
+    // all rows then; else both are half full. Four steps.
+    pub(crate) fn share_with(&mut self, next: &mut Node<V>, low: usize, meter: &mut Meter) -> bool
+        requires level { self.old.height ≡ next.old.height }
+        requires ordered { IsOrderedBy key_of_pair (self.old.rows ++ next.old.rows) }
+        requires share { IsShare (self.old.width + next.old.width) low }
+        ensures nodes { AreEvened result self.old next.old self.new next.new }
+        ensures width { self.new.width ≡ low }
+        ensures steps { meter.new ≡ after_steps 4 meter.old }
+    {
         meter.tick(4);
         match &mut self.body {
             Body::Leaf(left) => match &mut next.body {
-                Body::Leaf(right) => even(left, right),
+                Body::Leaf(right) => even(left, right, low),
                 Body::Inner(_) => unreachable!(),
             },
             Body::Inner(left) => match &mut next.body {
                 Body::Leaf(_) => unreachable!(),
                 Body::Inner(right) => {
-                    let all = even(left, right);
+                    let all = even(left, right, low);
                     let_go(&mut next.body, all);
                     all
                 }

@@ -2,7 +2,7 @@
 ghost use Rattle.std.specs.Prelude.{◌≡◌, ◌+◌, ◌-◌, ◌*◌, ◌<◌, ◌≤◌, ℕ, List, ◌++◌, length, reverse, take, drop, min, max};
 ghost use Rattle.mr_node.specs.Runs.{IsRun, entries};
 ghost use Rattle.mr_node.specs.Levels.{pairs_of};
-ghost use Rattle.mr_node.specs.Pairs.{AreEvenWidths};
+ghost use Rattle.mr_node.specs.Pairs.{AreEvenWidths, IsShare};
 
 use crate::keys::NO_KEY;
 use crate::places::turn_front;
@@ -156,10 +156,10 @@ pub(crate) fn share<R: Run>(left: &mut R, right: &mut R, low: usize)
     right.turn();
 }
 
-// How many of so many entries the left one of two neighbours gets: all where they fit, else half of them.
-fn low_of(both: usize) -> usize
-    ensures all { both ≤ 32 → result ≡ both }
-    ensures half { 32 < both → (2 * result ≤ both) × (both ≤ 2 * result + 1) }
+/// How many of so many entries the left one of two neighbours gets: all where they fit, else half of them.
+pub(crate) fn low_of(both: usize) -> usize
+    requires { both ≤ 64 }
+    ensures { IsShare both result }
 {
     if both <= 32 {
         return both;
@@ -167,20 +167,20 @@ fn low_of(both: usize) -> usize
     both / 2
 }
 
-/// Makes two neighbours into one where their entries fit one, else into two half full ones: true where it is one.
-pub(crate) fn even<R: Run>(left: &mut R, right: &mut R) -> bool
+/// Moves entries between two neighbours until the left one has `low` of them: true where it has all then; else both are
+/// half full.
+pub(crate) fn even<R: Run>(left: &mut R, right: &mut R, low: usize) -> bool
     requires left_run { R.is_run left.old }
     requires right_run { R.is_run right.old }
-    requires left_fits { length (R.list left.old) ≤ 32 }
-    requires right_fits { length (R.list right.old) ≤ 32 }
+    requires share { IsShare (length (R.list left.old) + length (R.list right.old)) low }
     ensures left_run { R.is_run left.new }
     ensures right_run { R.is_run right.new }
     ensures list { R.list left.new ++ R.list right.new ≡ R.list left.old ++ R.list right.old }
     ensures even { AreEvenWidths result (length (R.list left.new)) (length (R.list right.new)) }
+    ensures len { length (R.list left.new) ≡ low }
     ensures left_height { R.height left.new ≡ R.height left.old }
     ensures right_height { R.height right.new ≡ R.height right.old }
 {
-    let both = left.width() + right.width();
-    share(left, right, low_of(both));
-    both <= 32
+    share(left, right, low);
+    right.width() == 0
 }

@@ -1,5 +1,5 @@
 //! What no clause says: that blank nodes can be had, and what the calls on nodes answer when they succeed.
-ghost use Rattle.std.specs.Prelude.{◌≤◌};
+ghost use Rattle.std.specs.Prelude.{◌<◌, ◌≤◌};
 
 use super::*;
 use std::process::Abort;
@@ -57,6 +57,56 @@ fn grow(rt: &impl Abort, node: &mut Node<u64>, stock: &mut Stock<u64>, meter: &m
     );
 }
 
+// Rows whose leaves have room.
+fn put_rising(rt: &impl Abort, node: &mut Node<u64>, from: u64, to: u64)
+    requires { to < 100 }
+{
+    let mut done = true;
+    for key in from..to {
+        let mut value = Some(key);
+        done &= matches!(node.insert_room(key, &mut value), Room::Done);
+    }
+    assert!(rt; done);
+}
+
+// A row whose leaf, below the root, is full: the root's width then, the blank nodes that are left, and the steps.
+fn put_full(
+    rt: &impl Abort,
+    node: &mut Node<u64>,
+    key: u64,
+    stock: &mut Stock<u64>,
+) -> (usize, usize, u64)
+    requires { key < 100 }
+{
+    let mut meter = Meter::new();
+    let mut value = Some(key);
+    match node.insert_room(key, &mut value) {
+        Room::Full => {
+            assert!(rt; node.height() == 1);
+            assert!(rt; node.width() < 32);
+            assert!(rt; stock.count() > 0);
+            node.insert_split(key, &mut value, stock, &mut meter);
+        }
+        _ => assert!(rt; false),
+    }
+    (node.width(), stock.count(), meter.steps())
+}
+
+// The leaf of the keys 17 to 48 has a neighbour of 16, and gives 13; with one of 29 that of 30 to 61 is halved.
+fn part(rt: &impl Abort, node: &mut Node<u64>, stock: &mut Stock<u64>) {
+    put_rising(rt, node, 33, 49);
+    let given = put_full(rt, node, 49, stock);
+    put_rising(rt, node, 50, 62);
+    let halved = put_full(rt, node, 62, stock);
+    // two steps on each of two levels, and four for a giving, or three and a blank node for a halving
+    assert_eq!(rt; [given, halved], [(2, 3, 8), (3, 2, 7)]);
+    assert_eq!(rt; node.len(), 62);
+    assert_eq!(rt;
+        node.fold(0u64, &|sum, key, _value| sum.wrapping_add(key)),
+        1953
+    );
+}
+
 // A leaf below a root takes a row in, and gives it away.
 fn change(rt: &impl Abort, node: &mut Node<u64>, meter: &mut Meter) {
     let mut value = Some(68);
@@ -101,5 +151,16 @@ fn a_root_grows_and_falls(rt: HostRuntime) -> Result<(), Fail> {
     let mut node = rebuilt(node, &mut meter);
     change(&rt, &mut *node, &mut meter);
     fall(&rt, &mut *node, &mut meter);
+    Ok(())
+}
+
+#[test]
+fn a_full_leaf_gives_or_is_halved(rt: HostRuntime) -> Result<(), Fail> {
+    let mut stock = Stock::take(rt.alloc(), 5)?;
+    let mut node = Node::new();
+    fill(&rt, &mut node);
+    assert!(&rt; node.width() == 32);
+    node.heighten(&mut stock, &mut Meter::new());
+    part(&rt, &mut node, &mut stock);
     Ok(())
 }

@@ -129,7 +129,7 @@ fn answers(rt: HostRuntime) {
 
 // Puts a row in whose key is the number of rows; where memory was refused, at the second try, with all as before.
 fn put(rt: &impl Abort, tree: &mut SubTree<u64>, number: u32)
-    requires { number < 560 }
+    requires { number < 940 }
 {
     let key = u64::from(number);
     let height = tree.height();
@@ -143,22 +143,27 @@ fn put(rt: &impl Abort, tree: &mut SubTree<u64>, number: u32)
     }
 }
 
-// Leaves are halved under a root, and the root rises from height 0 to 1 and from 1 to 2.
+// Leaves give and are halved under a root, and the root rises from height 0 to 1 and from 1 to 2. Each leaf is left with 29
+// rows, so the root has 32 children at 30 * 29 + 33 rows, and rises at the next row whose leaf is full, the 919th.
 fn grow(rt: &impl Abort, tree: &mut SubTree<u64>) {
-    for number in 0..560u32 {
+    for number in 0..918u32 {
+        put(rt, tree, number);
+    }
+    assert_eq!(rt; tree.height(), 1);
+    for number in 918..940u32 {
         put(rt, tree, number);
     }
     assert_eq!(rt;
         [sum_of(tree), tree.len(), tree.height()],
-        [313_040, 560, 2]
+        [882_660, 940, 2]
     );
 }
 
 // Nodes become one again, and the root falls from height 2 to 0.
 fn fall(rt: &impl Abort, tree: &mut SubTree<u64>) {
     let mut gone = true;
-    for back in 0..560u32 {
-        let number = 559 - back;
+    for back in 0..940u32 {
+        let number = 939 - back;
         gone &= removed(tree, u64::from(number)) == Some(number);
     }
     assert_eq!(rt; (gone, tree.len(), tree.height()), (true, 0, 0));
@@ -331,4 +336,45 @@ fn drawn_changes(rt: HostRuntime) {
 fn drawn_changes_of_wide_values(rt: HostRuntime) {
     let mut tree = SubTree::<[u64; 3]>::new(rt.alloc()).expect(&rt, "a tree");
     change_all(&rt, &mut tree);
+}
+
+// Puts the keys 1 to 10,000 in, each a step behind the one before it round a circle of 10,007, which is a prime.
+fn put_round(rt: &impl Abort, tree: &mut SubTree<u32>, step: u64)
+    requires { step < 10_007 }
+{
+    let mut done = true;
+    for turn in 1..10_007u64 {
+        let key = turn * step % 10_007;
+        if key <= 10_000 {
+            done &= added(tree, key, key as u32).is_none();
+        }
+    }
+    assert!(rt; done);
+}
+
+// The rows of a tree are these keys in order; from 15 to 31 of a node's 32 places are used, so the height is 2.
+fn compare_round(rt: &impl Abort, tree: &SubTree<u32>) {
+    let mut same = true;
+    for key in 1..10_001u64 {
+        same &= first(tree, key) == Some((key, key as u32));
+    }
+    assert_eq!(rt;
+        (
+            same,
+            first(tree, 0),
+            first(tree, 10_001),
+            tree.len(),
+            tree.height()
+        ),
+        (true, Some((1, 1)), None, 10_000, 2)
+    );
+}
+
+#[test]
+fn many_keys_in_two_orders(rt: HostRuntime) {
+    for step in [1u64, 6_180] {
+        let mut tree = SubTree::new(rt.alloc()).expect(&rt, "a tree");
+        put_round(&rt, &mut tree, step);
+        compare_round(&rt, &tree);
+    }
 }

@@ -1,8 +1,10 @@
-use Rattle.std.proofs.Common.{rules}
+use Rattle.std.proofs.Common.{rules, arith, ◌+◌, ◌-◌}
 use Rattle.mr_node.proofs.PlaceLemmas.{packed_some}
-use Rattle.mr_node.proofs.KidLemmas.{kid_at, cut_kid}
+use Rattle.mr_node.specs.Levels.{NodeKid, kids_of}
+use Rattle.mr_node.proofs.KidLemmas.{IsCutAt, kid_at, cut_kid}
 use Rattle.mr_node.proofs.NodeLemmas.{kids_rise, kids_below}
-use Rattle.mr_node.proofs.CutLemmas.{room_found, same_alone, full_width, split_same, split_low, split_high}
+use Rattle.mr_node.proofs.CutLemmas.{IsReadAs, room_found, same_alone, full_width, parted_next, parted_same, parted_low, parted_high}
+use Rattle.mr_node.proofs.mending.make_room.Goals.{After-part_kid-low}
 use Rattle.mr_node.proofs.mending.make_room.Goals as goal
 
 pub place_of-place-requires : goal.place_of-place-requires
@@ -17,35 +19,39 @@ returns-then-kid_width-lt32-clause-same g c = same_alone c.args.branch.now c.req
 pub returns-then-kid_width-lt32-clause-place : goal.returns-then-kid_width-lt32-clause-place
 returns-then-kid_width-lt32-clause-place g c = room_found c.args.key c.place_of-place.result c.kid_width.result c.args.branch.now c.requires.branch c.place_of-place.ensures c.kid_width.ensures c.if-kid_width-lt32.true
 
-pub split_kid-least-requires : goal.split_kid-least-requires
-split_kid-least-requires g c =
-    let b = c.args.branch.now in
-    (search rules, (search rules, (c.requires.branch, (c.requires.room, (c.place_of-place.ensures.within, full_width c.args.key c.place_of-place.result c.kid_width.result b c.requires.branch c.place_of-place.ensures c.kid_width.ensures c.if-kid_width-lt32.false)))))
+pub returns-then-kid_width-lt32-clause-made : goal.returns-then-kid_width-lt32-clause-made
+returns-then-kid_width-lt32-clause-made g c = record { given = 0; each = omega arith; no_fewer = omega arith; no_more = omega arith }
 
-pub returns-then-least-key-clause-same : goal.returns-then-least-key-clause-same
-returns-then-least-key-clause-same g c =
+pub part_kid-low-requires : goal.part_kid-low-requires
+part_kid-low-requires g c =
+    let b = c.args.branch.now in
+    (search rules, (search rules, (c.requires.branch, (c.requires.room, (c.place_of-place.ensures.within, (full_width c.args.key c.place_of-place.result c.kid_width.result b c.requires.branch c.place_of-place.ensures c.kid_width.ensures c.if-kid_width-lt32.false, c.requires.stock))))))
+
+-- the full child's cut, and where the second of the two stands
+cut : (g : _) (c : After-part_kid-low g) → (k : NodeKid g.row.V.Denot) × IsCutAt c.args.key (c.args.branch.now.height - 1) c.place_of-place.result (kids_of c.args.branch.now) k
+cut g c =
     let b = c.args.branch.now in
     let i = c.place_of-place.result in
     let some = packed_some b.len i b.kids c.requires.branch.run.packed c.place_of-place.ensures.within in
-    split_same i c.split_kid-least.result b c.split_kid-least.new.branch c.args.key (kid_at b i some.0) c.requires.branch (cut_kid c.args.key i b some.0 c.requires.branch c.place_of-place.ensures some.1) c.split_kid-least.ensures
+    (kid_at b i some.0, cut_kid c.args.key i b some.0 c.requires.branch c.place_of-place.ensures some.1)
 
-pub returns-then-least-key-clause-place : goal.returns-then-least-key-clause-place
-returns-then-least-key-clause-place g c =
-    let b = c.args.branch.now in
-    let i = c.place_of-place.result in
-    let some = packed_some b.len i b.kids c.requires.branch.run.packed c.place_of-place.ensures.within in
-    split_high i c.split_kid-least.result b c.split_kid-least.new.branch c.args.key (kid_at b i some.0) c.place_of-place.ensures.within c.requires.branch (cut_kid c.args.key i b some.0 c.requires.branch c.place_of-place.ensures some.1) c.split_kid-least.ensures c.if-least-key.true
+next : (g : _) (c : After-part_kid-low g) → IsReadAs (c.part_kid-low.result + 1) c.part_kid-low.new.branch c.part_kid-low.ensures.parted.high
+next g c = parted_next c.part_kid-low.result c.place_of-place.result c.args.branch.now c.part_kid-low.new.branch c.part_kid-low.ensures.place c.place_of-place.ensures.within c.requires.branch c.part_kid-low.ensures.parted
+
+pub returns-then-branch-low-clause-same : goal.returns-then-branch-low-clause-same
+returns-then-branch-low-clause-same g c = parted_same c.part_kid-low.result (c.place_of-place.result + 1) c.args.branch.now c.part_kid-low.new.branch c.requires.branch c.part_kid-low.ensures.parted
+
+pub returns-then-branch-low-clause-place : goal.returns-then-branch-low-clause-place
+returns-then-branch-low-clause-place g c =
+    let at = (goal.at.returns-then-branch-low-clause-place g c).After-part_kid-low in
+    let kid = cut g at in
+    parted_high c.part_kid-low.result c.place_of-place.result c.args.branch.now c.part_kid-low.new.branch c.args.key kid.0 c.part_kid-low.ensures.place c.place_of-place.ensures.within c.requires.branch kid.1 c.part_kid-low.ensures.parted (omega (arith, (next g at).least, c.if-branch-low.true))
 
 pub returns-clause-same : goal.returns-clause-same
-returns-clause-same g c =
-    let b = c.args.branch.now in
-    let i = c.place_of-place.result in
-    let some = packed_some b.len i b.kids c.requires.branch.run.packed c.place_of-place.ensures.within in
-    split_same i c.split_kid-least.result b c.split_kid-least.new.branch c.args.key (kid_at b i some.0) c.requires.branch (cut_kid c.args.key i b some.0 c.requires.branch c.place_of-place.ensures some.1) c.split_kid-least.ensures
+returns-clause-same g c = parted_same c.part_kid-low.result (c.place_of-place.result + 1) c.args.branch.now c.part_kid-low.new.branch c.requires.branch c.part_kid-low.ensures.parted
 
 pub returns-clause-place : goal.returns-clause-place
 returns-clause-place g c =
-    let b = c.args.branch.now in
-    let i = c.place_of-place.result in
-    let some = packed_some b.len i b.kids c.requires.branch.run.packed c.place_of-place.ensures.within in
-    split_low i c.split_kid-least.result b c.split_kid-least.new.branch c.args.key (kid_at b i some.0) c.place_of-place.ensures.within c.requires.branch (cut_kid c.args.key i b some.0 c.requires.branch c.place_of-place.ensures some.1) c.split_kid-least.ensures c.if-least-key.false
+    let at = (goal.at.returns-clause-place g c).After-part_kid-low in
+    let kid = cut g at in
+    parted_low c.part_kid-low.result c.place_of-place.result c.args.branch.now c.part_kid-low.new.branch c.args.key kid.0 c.part_kid-low.ensures.place c.place_of-place.ensures.within c.requires.branch kid.1 c.part_kid-low.ensures.parted (omega (arith, (next g at).least, c.if-branch-low.false))

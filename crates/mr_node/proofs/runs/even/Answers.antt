@@ -1,4 +1,5 @@
-use Rattle.std.proofs.Common.{arith, ◌+◌, length}
+use Rattle.std.proofs.Common.{◌+◌, length, eqb, sym, subst}
+use Rattle.mr_node.specs.Pairs.{AreEvenWidths}
 use Rattle.mr_node.proofs.ShareLemmas.{appended_sum, even_widths}
 use Rattle.mr_node.proofs.runs.even.Goals as goal
 
@@ -8,5 +9,5 @@ returns-clause-even g c =
     let r = g.R.Run.list c.args.right.now in
     let x = g.R.Run.list c.share.new.left in
     let y = g.R.Run.list c.share.new.right in
-    even_widths (length l) (length r) (length x) (length y) c.low_of.result (c.width.result + c.width-2.result) c.requires.left_fits c.requires.right_fits
-    (omega (arith, c.width.ensures, c.width-2.ensures)) c.low_of.ensures.all c.low_of.ensures.half c.share.ensures.len (appended_sum x y l r c.share.ensures.list)
+    subst (λ n. AreEvenWidths (eqb n 0) (length x) (length y)) (sym c.width.ensures)
+    (even_widths (length x) (length y) c.args.low (length l + length r) c.requires.share c.share.ensures.len (appended_sum x y l r c.share.ensures.list))

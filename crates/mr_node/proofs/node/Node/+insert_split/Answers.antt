@@ -1,4 +1,4 @@
-use Rattle.std.proofs.Common.{rules, arith, ◌≡◌, ◌+◌, ◌-◌, ◌<◌, get_or, IfSome, refl, sym, ap, subst, ◌∙◌}
+use Rattle.std.proofs.Common.{rules, arith, ◌≡◌, ◌+◌, ◌-◌, ◌*◌, ◌<◌, get_or, IfSome, refl, sym, ap, subst, ◌∙◌}
 use Rattle.tatp_rows.specs.Ordered.{row_at}
 use Rattle.mr_node.specs.Rows.{key_of_pair}
 use Rattle.mr_node.specs.Levels.{kids_of, IsNode, IsBranch, seen, seen_leaf, seen_branch}
@@ -7,7 +7,9 @@ use Rattle.mr_node.proofs.PlaceLemmas.{got_used, never_none}
 use Rattle.mr_node.proofs.KidLemmas.{IsCutAt, kid_at}
 use Rattle.mr_node.proofs.NodeLemmas.{find_cut, kid_count_fits}
 use Rattle.mr_node.proofs.CutLemmas.{cut_of_room, grown_after}
-use Rattle.mr_node.proofs.node.Node.+insert_split.Goals.{In-Inner, After-deref_mut-node}
+use Rattle.mr_node.specs.Steps.{after_steps, IsRoomMade}
+use Rattle.mr_node.proofs.StepLemmas.{room_made, leaf_made, made_fewest, made_most}
+use Rattle.mr_node.proofs.node.Node.+insert_split.Goals.{In-Inner, After-deref_mut-node, After-insert_split}
 use Rattle.mr_node.proofs.node.Node.+insert_split.Goals as goal
 
 -- the node's own part
@@ -76,17 +78,24 @@ returns-in-Some-clause-used g t c =
     let lower = level g t at.After-deref_mut-node (whole g t at.In-Inner) (now g t at.In-Inner) in
     omega (arith, lower, c.insert_split.ensures.used, c.make_room-place.ensures.used)
 
+-- the steps of all levels, of which so many gave
+made : (g : _) (t : _) (c : After-insert_split g t) → IsRoomMade c.args.self.now.height (c.args.stock.now - c.insert_split.new.stock) (after_steps (2 * (c.args.self.now.height + 1)) c.args.meter.now) c.insert_split.new.meter
+made g t c =
+    let deep = goal.at.After-insert_split g t c in
+    room_made c.deref_mut-node.result.now.height c.args.self.now.height c.args.stock.now c.make_room-place.new.stock c.insert_split.new.stock c.args.meter.now c.tick.new.self c.make_room-place.new.meter c.insert_split.new.meter
+    (level g t deep.After-deref_mut-node (whole g t deep.In-Inner) (now g t deep.In-Inner)) c.make_room-place.ensures.stock c.insert_split.ensures.stock c.tick.ensures c.make_room-place.ensures.made c.insert_split.ensures.made
+
+pub returns-in-Some-clause-made : goal.returns-in-Some-clause-made
+returns-in-Some-clause-made g t c = made g t (goal.at.returns-in-Some-clause-made g t c).After-insert_split
+
 pub returns-in-Some-clause-no_fewer : goal.returns-in-Some-clause-no_fewer
-returns-in-Some-clause-no_fewer g t c =
-    let at = goal.at.returns-in-Some-clause-no_fewer g t c in
-    let lower = level g t at.After-deref_mut-node (whole g t at.In-Inner) (now g t at.In-Inner) in
-    omega (arith, lower, c.tick.ensures, c.insert_split.ensures.no_fewer, c.insert_split.ensures.stock, c.make_room-place.ensures.stock, c.make_room-place.ensures.no_fewer)
+returns-in-Some-clause-no_fewer g t c = made_fewest c.args.self.now.height (c.args.stock.now - c.insert_split.new.stock) c.args.meter.now c.insert_split.new.meter (made g t (goal.at.returns-in-Some-clause-no_fewer g t c).After-insert_split)
 
 pub returns-in-Some-clause-steps : goal.returns-in-Some-clause-steps
-returns-in-Some-clause-steps g t c =
-    let at = goal.at.returns-in-Some-clause-steps g t c in
-    let lower = level g t at.After-deref_mut-node (whole g t at.In-Inner) (now g t at.In-Inner) in
-    omega (arith, lower, c.tick.ensures, c.insert_split.ensures.steps, c.insert_split.ensures.stock, c.make_room-place.ensures.stock, c.make_room-place.ensures.steps)
+returns-in-Some-clause-steps g t c = made_most c.args.self.now.height (c.args.stock.now - c.insert_split.new.stock) c.args.meter.now c.insert_split.new.meter (made g t (goal.at.returns-in-Some-clause-steps g t c).After-insert_split)
+
+pub returns-in-Leaf-clause-made : goal.returns-in-Leaf-clause-made
+returns-in-Leaf-clause-made g t c = leaf_made c.args.self.now.height c.args.stock.now c.args.meter.now c.tick.new.self (ap (λ s. s.height) (sym (sym (ap seen c.in-Leaf.is) ∙ c.self.view_is))) c.tick.ensures
 
 pub returns-in-Leaf-clause-grown : goal.returns-in-Leaf-clause-grown
 returns-in-Leaf-clause-grown g t c = subst (λ s. IfSome c.args.value.now (λ v. IsGrown c.args.key v s (seen_leaf c.insert_new.new.leaf))) (sym (ap seen c.in-Leaf.is) ∙ c.self.view_is) c.insert_new.ensures.grown
