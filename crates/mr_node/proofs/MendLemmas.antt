@@ -1,7 +1,8 @@
 -- Inner nodes two of whose children share their entries anew.
-use Rattle.std.proofs.Common.{◌≡◌, ℕ, ◌+◌, ◌-◌, ◌*◌, ◌^◌, ◌<◌, ◌≤◌, List, [], ◌∷◌, ◌++◌, length, get_or, set, take, drop, Option, Some, None, IfSome, Bool, true, false, refl, sym, ap, subst, ◌∙◌, arith, lit<, append-nil, take_at}
+use Rattle.std.proofs.Common.{◌≡◌, ℕ, ◌+◌, ◌-◌, ◌*◌, ◌^◌, ◌<◌, ◌≤◌, List, [], ◌∷◌, ◌++◌, length, get_or, set, take, drop, Option, Some, None, IfSome, Bool, true, false, refl, sym, ap, subst, ◌∙◌, arith, lit<, append-nil, take_at, inl, inr}
 use Rattle.std.specs.List.{AllByRecursion}
 use Rattle.std.proofs.lemmas.List.Sums.{sum_by-cons}
+use Rattle.std.proofs.lemmas.Bool.{cases_lt}
 use Rattle.std.proofs.Math.Nat.{mul-le-mul_right, pow-le-pow_right}
 use Rattle.std.proofs.lemmas.List.{append_assoc, drop-drop, drop_at, length-append, length-take-le, set-set, set_comm, take-append-drop, take-take}
 use Rattle.tatp_rows.specs.Ordered.{IsOrderedBy}
@@ -278,11 +279,20 @@ module _ {V : Type 0} where
     };
   }
 
-  pub mended_next : (l : ℕ) (b new : NodeBranch V) → IsLooseAt l b → IsSplicedAt l b new → IsWholeAgain 1 b new
+  mended_next : (l : ℕ) (b new : NodeBranch V) → IsLooseAt l b → IsSplicedAt l b new → IsWholeAgain 1 b new
   mended_next l b new loose sp = mended_of l b new loose.branch sp (beside_next l b loose.beside)
 
-  pub mended_last : (l m : ℕ) (b new : NodeBranch V) → l ≡ m + 1 → IsLooseAt l b → IsSplicedAt m b new → IsWholeAgain 1 b new
+  mended_last : (l m : ℕ) (b new : NodeBranch V) → l ≡ m + 1 → IsLooseAt l b → IsSplicedAt m b new → IsWholeAgain 1 b new
   mended_last l m b new e loose sp = mended_of m b new loose.branch sp (beside_last l m b e loose.beside)
+
+  -- evened out with the child before it or with the next one
+  pub mended_near : (l m : ℕ) (b new : NodeBranch V) → m ≤ l → l ≤ m + 1 → IsLooseAt l b → IsSplicedAt m b new → IsWholeAgain 1 b new
+  mended_near l m b new below near loose sp = elim (cases_lt m l) [
+    | inl lt ↦ mended_last l m b new (omega (arith, lt, near)) loose sp
+    | inr le ↦
+        let same : m ≡ l = omega (arith, le, below) in
+        mended_next l b new loose (subst (λ j. IsSplicedAt j b new) same sp)
+  ]
 
   -- a child that is half full after all
   pub mended_same : (l w : ℕ) (b : NodeBranch V) → IsLooseAt l b → l < b.len → IfSome (get_or b.kids l None) (λ k. w ≡ k.node.value.width) → 16 ≤ w → IsWholeAgain 1 b b

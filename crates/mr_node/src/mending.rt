@@ -86,6 +86,40 @@ fn join_pair<V: Drop>(branch: &mut Branch<Box<Node<V>>>, place: usize, meter: &m
     }
 }
 
+// The first of the two neighbours that share anew where the child at `place` is thin: it and the one before it where
+// both fit one node, or where it is the last; else it and the next one.
+fn pair_of<V>(branch: &Branch<Box<Node<V>>>, place: usize) -> usize
+    requires loose { IsBranchOf 15 branch.now }
+    requires two { 2 ≤ branch.now.len }
+    requires within { place < branch.now.len }
+    ensures within { result + 1 < branch.now.len }
+    ensures below { result ≤ place }
+    ensures near { place ≤ result + 1 }
+{
+    if place == 0 {
+        return 0;
+    }
+    if place + 1 < branch.len && pair_width(branch, place - 1) > 32 {
+        return place;
+    }
+    place - 1
+}
+
+// Mends an inner node whose child at `place` may be one short of half full, by evening it out with a neighbour. Four
+// steps.
+#[cold]
+#[inline(never)]
+fn mend_thin<V: Drop>(branch: &mut Branch<Box<Node<V>>>, place: usize, meter: &mut Meter)
+    requires loose { IsLooseAt place branch.old }
+    requires two { 2 ≤ branch.old.len }
+    requires within { place < branch.old.len }
+    ensures mended { IsWholeAgain 1 branch.old branch.new }
+    ensures steps { meter.new ≡ after_steps 4 meter.old }
+{
+    let first = pair_of(branch, place);
+    join_pair(branch, first, meter);
+}
+
 // Mends an inner node whose child at `place` may be one short of half full: four steps where it is, else none.
 pub(crate) fn mend<V: Drop>(branch: &mut Branch<Box<Node<V>>>, place: usize, meter: &mut Meter)
     requires loose { IsLooseAt place branch.old }
@@ -98,11 +132,7 @@ pub(crate) fn mend<V: Drop>(branch: &mut Branch<Box<Node<V>>>, place: usize, met
     if kid_width(&branch.kids, place) >= 16 {
         return;
     }
-    if place + 1 < branch.len {
-        join_pair(branch, place, meter);
-        return;
-    }
-    join_pair(branch, place - 1, meter);
+    mend_thin(branch, place, meter);
 }
 
 // Halves the full child at a place: its upper half goes into the blank node, behind it.

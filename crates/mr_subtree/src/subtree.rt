@@ -165,7 +165,7 @@ impl<V: Drop> SubTree<V> {
     }
 }
 
-// How many blank nodes a row takes whose leaf is full: one a level, and three more under a full root.
+// How many blank nodes a row takes at most whose leaf is full: one a level, and three more under a full root.
 fn blanks_wanted<V>(root: &Node<V>) -> usize
     requires { IsRoot root.now }
     ensures each { root.now.height ≤ result }
