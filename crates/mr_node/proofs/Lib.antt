@@ -2,6 +2,7 @@ pub mod PlaceLemmas
 pub mod RunLemmas
 pub mod MoveLemmas
 pub mod ShareLemmas
+pub mod FrontLemmas
 pub mod SearchLemmas
 pub mod EntryLemmas
 pub mod KidLemmas

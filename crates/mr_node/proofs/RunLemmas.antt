@@ -71,6 +71,20 @@ behind n i [] h le lt = absurd (omega (arith, lt))
 behind n zero (k ∷ ks) h le lt = h.0 (omega (arith, le))
 behind n (suc i) (k ∷ ks) h le lt = behind (n - 1) i ks h.1 (omega (arith, le)) (omega (arith, lt))
 
+-- the first keys go, and as many blanks come
+padded_less : (n c : ℕ) (ks : List ℕ) → c ≤ n → IsPadded n ks → IsPadded (n - c) (drop c ks)
+padded_less n zero ks le h = padded_same n (n - zero) ks (omega arith) h
+padded_less n (suc c) [] le h = tt
+padded_less n (suc c) (k ∷ ks) le h = padded_same (n - 1 - c) (n - suc c) (drop c ks) (omega arith) (padded_less (n - 1) c ks (omega (arith, le)) h.1)
+
+padded_blanks : (n c : ℕ) → IsPadded n (replicate c no_key)
+padded_blanks n zero = tt
+padded_blanks n (suc c) = ((λ e. refl), padded_blanks (n - 1) c)
+
+padded_more : (n c : ℕ) (ks : List ℕ) → IsPadded n ks → IsPadded n (ks ++ replicate c no_key)
+padded_more n c [] h = padded_blanks n c
+padded_more n c (k ∷ ks) h = (h.0, padded_more (n - 1) c ks h.1)
+
 module _ {X : Type 0} where
   zip_set : (i : ℕ) (y : X) (ks : List ℕ) (xs : List X) → i < length xs → zip ks (set xs i y) ≡ set (zip ks xs) i (get_or ks i 0, y)
   zip_set i y [] xs lt = refl
@@ -95,6 +109,12 @@ module _ {X : Type 0} where
   zip_none : (ks : List ℕ) → zip {X = X} ks [] ≡ []
   zip_none [] = refl
   zip_none (k ∷ ks) = refl
+
+  zip_drop : (c : ℕ) (ks : List ℕ) (xs : List X) → zip (drop c ks) (drop c xs) ≡ drop c (zip ks xs)
+  zip_drop zero ks xs = refl
+  zip_drop (suc c) [] xs = refl
+  zip_drop (suc c) (k ∷ ks) [] = zip_none (drop c ks)
+  zip_drop (suc c) (k ∷ ks) (x ∷ xs) = zip_drop c ks xs
 
   zip_more : (ks more : List ℕ) (xs : List X) → length xs ≤ length ks → zip (ks ++ more) xs ≡ zip ks xs
   zip_more [] more [] le = zip_none more
@@ -206,6 +226,21 @@ module _ {X : Type 0} where
           keyed = omega (arith, less, length-append (remove ks p) (no_key ∷ []), rest, len, run.keyed);
         },
         zip_more (remove ks p) (no_key ∷ []) (somes new) (omega (arith, less, rest, len, run.keyed, lt)) ∙ ap (zip (remove ks p)) same ∙ zip_remove p ks (somes ps) (omega (arith, lt, len, run.keyed)) (omega (arith, lt, len)) ∙ ap (λ j. take p (entries ks ps) ++ drop j (entries ks ps)) (sym (add-one p)),
+      )
+
+  -- the first entries go
+  pub run_dropped : (n c : ℕ) (ks : List ℕ) (ps new : List (Option X)) → IsRun n ks ps → c ≤ n → IsPacked (n - c) new → somes new ≡ drop c (somes ps) → (IsRun (n - c) (drop c ks ++ replicate c no_key) new) × (entries (drop c ks ++ replicate c no_key) new ≡ drop c (entries ks ps))
+  run_dropped n c ks ps new run le packed e =
+      let used = packed_length n ps run.packed in
+      let left = packed_length (n - c) new packed in
+      let rest : length (somes new) ≤ length (drop c ks) = omega (arith, left, length-drop c ks, run.keyed, used) in (
+        record {
+          fits = omega (arith, run.fits);
+          packed = packed;
+          padded = padded_more (n - c) c (drop c ks) (padded_less n c ks le run.padded);
+          keyed = omega (arith, rest, length-append (drop c ks) (replicate c no_key));
+        },
+        zip_more (drop c ks) (replicate c no_key) (somes new) rest ∙ ap (zip (drop c ks)) e ∙ zip_drop c ks (somes ps),
       )
 
   -- the last entry goes

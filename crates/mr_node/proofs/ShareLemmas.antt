@@ -210,14 +210,16 @@ module _ {X : Type 0} where
         ap (entries (set ls m (get_or ks i 0))) (sym more) ∙ given.3,
       )
 
-  -- a slice that was turned, back in its vector
-  pub turned_back : (ps ws : List (Option X)) → ws ≡ reverse ps → refill (length ps) ps ws ≡ reverse ps
-  turned_back ps ws e =
-      let long : length ws ≡ length ps = ap length e ∙ length-reverse ps in
+  -- a slice of the same length, back in its vector
+  pub refilled : (ps ws : List (Option X)) → length ws ≡ length ps → refill (length ps) ps ws ≡ ws
+  refilled ps ws long =
       ap (λ l. take (length ps) (ws ++ l)) (drop_all (length ws) ps (omega (arith, long)))
       ∙ ap (take (length ps)) (append-nil ws)
       ∙ take_all (length ps) ws (omega (arith, long))
-      ∙ e
+
+  -- one that was turned
+  pub turned_back : (ps ws : List (Option X)) → ws ≡ reverse ps → refill (length ps) ps ws ≡ reverse ps
+  turned_back ps ws e = refilled ps ws (ap length e ∙ length-reverse ps) ∙ e
 
   -- all entries in the other order
   pub leaf_turned : (n : ℕ) (ks keys : List ℕ) (ps new : List (Option X)) → n ≡ length ps → IsRun (length ps) ks ps → keys ≡ reverse (take n ks) ++ drop n ks → new ≡ reverse ps → (IsRun (length new) keys new) × (entries keys new ≡ reverse (entries ks ps))

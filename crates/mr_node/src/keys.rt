@@ -1,5 +1,5 @@
 //! The keys of a node: a plain array of 32 in rising order, with the greatest number behind the last key.
-ghost use Rattle.std.specs.Prelude.{◌≡◌, ◌+◌, ◌-◌, ◌*◌, ◌<◌, ◌≤◌, [], ◌∷◌, ◌++◌, insert, remove, take, slice_index_or, slice_set, nat_lt, if◌then◌else◌};
+ghost use Rattle.std.specs.Prelude.{◌≡◌, ◌+◌, ◌-◌, ◌*◌, ◌<◌, ◌≤◌, [], ◌∷◌, ◌++◌, insert, remove, take, drop, replicate, slice_index_or, slice_set, nat_lt, if◌then◌else◌};
 ghost use Rattle.mr_node.specs.Runs.{no_key};
 ghost use Rattle.mr_node.specs.Search.{IsRising, IsStop};
 
@@ -51,6 +51,15 @@ pub(crate) fn put_key(keys: &mut [u64; 32], place: usize, key: u64)
 {
     keys[31] = key;
     last_to(keys, place);
+}
+
+// Takes the first keys out, and closes the gap.
+pub(crate) fn drop_keys(keys: &mut [u64; 32], count: usize)
+    requires { count ≤ 32 }
+    ensures { keys.new ≡ drop count keys.old ++ replicate count no_key }
+{
+    keys.copy_within(count..32, 0);
+    keys[32 - count..].fill(NO_KEY);
 }
 
 // Takes the key at a place out, and closes the gap.

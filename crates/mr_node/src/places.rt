@@ -1,5 +1,5 @@
 //! Arrays of 32 places, of which the first ones are used.
-ghost use Rattle.std.specs.Prelude.{◌≡◌, ◌+◌, ◌<◌, ◌≤◌, List, [], ◌∷◌, ◌++◌, length, reverse, take, drop, slice_range, insert};
+ghost use Rattle.std.specs.Prelude.{◌≡◌, ◌+◌, ◌-◌, ◌<◌, ◌≤◌, List, [], ◌∷◌, ◌++◌, length, reverse, take, drop, slice_range, insert};
 ghost use Rattle.std.specs.List.{remove_range};
 
 // Moves the last element to `place`, and the elements from there on up.
@@ -17,6 +17,17 @@ pub(crate) fn move_to_end<T>(items: &mut [T], start: usize, end: usize)
     ensures { items.new ≡ remove_range items.old start end ++ slice_range items.old start end }
 {
     items[start..].rotate_left(end - start);
+}
+
+// Moves the values from `count` on down to the front.
+pub(crate) fn close_front<X: Drop>(places: &mut [Option<X>], count: usize)
+    requires { count ≤ length places.old }
+    ensures front { take (length places.old - count) places.new ≡ drop count places.old }
+    ensures len { length places.new ≡ length places.old }
+{
+    for place in count..places.len() {
+        places[place - count] = places[place].take();
+    }
 }
 
 // Turns the order of the first `len` elements round.

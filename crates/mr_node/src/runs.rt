@@ -1,14 +1,15 @@
 //! Two neighbours that share their entries or children anew.
-ghost use Rattle.std.specs.Prelude.{◌≡◌, ◌+◌, ◌-◌, ◌*◌, ◌<◌, ◌≤◌, ℕ, List, ◌++◌, length, reverse, take, drop, min, max};
+ghost use Rattle.std.specs.Prelude.{◌≡◌, ◌+◌, ◌-◌, ◌*◌, ◌<◌, ◌≤◌, ℕ, List, None, ◌++◌, length, reverse, take, drop, min, slice_index_or, slice_set};
 ghost use Rattle.mr_node.specs.Runs.{IsRun, entries};
 ghost use Rattle.mr_node.specs.Levels.{pairs_of};
 ghost use Rattle.mr_node.specs.Pairs.{AreEvenWidths, IsShare};
 
-use crate::keys::NO_KEY;
-use crate::places::turn_front;
+use crate::keys::{NO_KEY, drop_keys};
+use crate::places::{close_front, turn_front};
 use crate::{Branch, Kid, Leaf};
+use arrayvec::ArrayVec;
 
-// A leaf or an inner node's part, as a list of entries that gives and takes at its end.
+// A leaf or an inner node's part, as a list of entries that gives at both ends and takes at its end.
 pub(crate) trait Run {
     type Item;
 
@@ -36,12 +37,57 @@ pub(crate) trait Run {
         ensures height { height self.new ≡ height self.old }
         ensures to_height { height to.new ≡ height to.old };
 
+    // Moves the first entries behind those of another one.
+    fn give_front(&mut self, to: &mut Self, count: usize)
+        requires run { is_run self.old }
+        requires to_run { is_run to.old }
+        requires some { count ≤ length (list self.old) }
+        requires room { length (list to.old) + count ≤ 32 }
+        ensures run { is_run self.new }
+        ensures to_run { is_run to.new }
+        ensures rest { list self.new ≡ drop count (list self.old) }
+        ensures moved { list to.new ≡ list to.old ++ take count (list self.old) }
+        ensures height { height self.new ≡ height self.old }
+        ensures to_height { height to.new ≡ height to.old };
+
     // Turns the order of the entries round.
     fn turn(&mut self)
         requires { is_run self.old }
         ensures run { is_run self.new }
         ensures turned { list self.new ≡ reverse (list self.old) }
         ensures height { height self.new ≡ height self.old };
+}
+
+// Takes the value out of a place.
+fn take_value<V>(values: &mut ArrayVec<Option<V>, 32>, place: usize) -> Option<V>
+    requires { place < length values.old.items }
+    ensures items { values.new.items ≡ slice_set values.old.items place None }
+    ensures value { result ≡ slice_index_or values.old.items place None }
+{
+    values.as_mut_slice()[place].take()
+}
+
+// Moves the first entries of a leaf, seen as its keys and its values, behind those of another one. Their places are
+// left empty.
+fn move_front<V: Drop>(
+    keys: &[u64; 32],
+    values: &mut ArrayVec<Option<V>, 32>,
+    count: usize,
+    to: &mut Leaf<V>,
+)
+    requires run { IsRun (length values.old.items) keys.now values.old.items }
+    requires to_run { IsRun (length to.old.values.items) to.old.keys to.old.values.items }
+    requires some { count ≤ length values.old.items }
+    requires room { length to.old.values.items + count ≤ 32 }
+    ensures to_run { IsRun (length to.new.values.items) to.new.keys to.new.values.items }
+    ensures moved { pairs_of to.new ≡ pairs_of to.old ++ take count (entries keys.now values.old.items) }
+    ensures rest { drop count values.new.items ≡ drop count values.old.items }
+    ensures len { length values.new.items ≡ length values.old.items }
+{
+    for place in 0..count {
+        to.keys[to.values.len()] = keys[place];
+        to.values.push(take_value(values, place));
+    }
 }
 
 impl<V: Drop> Run for Leaf<V> {
@@ -65,6 +111,14 @@ impl<V: Drop> Run for Leaf<V> {
             Some(value) => to.values.push(value),
             None => unreachable!(),
         }
+    }
+
+    fn give_front(&mut self, to: &mut Self, count: usize) {
+        let len = self.values.len();
+        move_front(&self.keys, &mut self.values, count, to);
+        close_front(self.values.as_mut_slice(), count);
+        self.values.truncate(len - count);
+        drop_keys(&mut self.keys, count);
     }
 
     fn turn(&mut self) {
@@ -95,27 +149,18 @@ impl<B: Drop> Run for Branch<B> {
         to.len += 1;
     }
 
+    fn give_front(&mut self, to: &mut Self, count: usize) {
+        let low = to.len + count;
+        self.turn();
+        while to.len < low {
+            self.give_last(to);
+        }
+        self.turn();
+    }
+
     fn turn(&mut self) {
         turn_front(&mut self.leasts, self.len);
         turn_front(&mut self.kids, self.len);
-    }
-}
-
-// Moves entries from the end of the right one to that of the left one, until it has `low`.
-fn fill<R: Run>(left: &mut R, right: &mut R, low: usize)
-    requires left_run { R.is_run left.old }
-    requires right_run { R.is_run right.old }
-    requires fits { low ≤ 32 }
-    requires enough { low ≤ length (R.list left.old) + length (R.list right.old) }
-    ensures left_run { R.is_run left.new }
-    ensures right_run { R.is_run right.new }
-    ensures list { R.list left.new ++ reverse (R.list right.new) ≡ R.list left.old ++ reverse (R.list right.old) }
-    ensures len { length (R.list left.new) ≡ max (length (R.list left.old)) low }
-    ensures left_height { R.height left.new ≡ R.height left.old }
-    ensures right_height { R.height right.new ≡ R.height right.old }
-{
-    while left.width() < low {
-        right.give_last(left);
     }
 }
 
@@ -150,8 +195,12 @@ pub(crate) fn share<R: Run>(left: &mut R, right: &mut R, low: usize)
     ensures left_height { R.height left.new ≡ R.height left.old }
     ensures right_height { R.height right.new ≡ R.height right.old }
 {
+    let have = left.width();
+    if have < low {
+        right.give_front(left, low - have);
+        return;
+    }
     right.turn();
-    fill(left, right, low);
     spill(left, right, low);
     right.turn();
 }
