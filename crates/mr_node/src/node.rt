@@ -358,8 +358,8 @@ impl<V: Drop> Node<V> {
         self.share_with(next, low, meter)
     }
 
-    // Moves entries between a node and its next neighbour of the same height until the first has `low`. True where it has
-    // all rows then; else both are half full. Four steps.
+    // Moves entries between a node and its next neighbour of the same height until the first has `low`. True where it
+    // has all rows then; else both are half full. Four steps.
     pub(crate) fn share_with(&mut self, next: &mut Node<V>, low: usize, meter: &mut Meter) -> bool
         requires level { self.old.height ≡ next.old.height }
         requires ordered { IsOrderedBy key_of_pair (self.old.rows ++ next.old.rows) }
