@@ -1,5 +1,5 @@
 -- Digits that are read one by one.
-use Rattle.std.proofs.Common.{◌≡◌, refl, sym, ◌∙◌, ℕ, ◌+◌, ◌-◌, ◌*◌, ◌<◌, ◌≤◌, List, length, get_or, take, true, false, ◌≢◌, below_more, rules, arith}
+use Rattle.std.proofs.Common.{◌≡◌, refl, sym, ◌∙◌, ℕ, ◌+◌, ◌-◌, ◌*◌, ◌%◌, ◌^◌, add-one, ◌<◌, ◌≤◌, List, length, get_or, take, true, false, ◌≢◌, below_more, rules, arith}
 use Rattle.std.specs.Prelude.{◌==◌, nat_lt, Bool, Ok, Err, slice_set, map}
 use Rattle.std.specs.List.{list_all}
 use Rattle.std.specs.Char.{is_ascii_digit, digit_value}
@@ -8,6 +8,7 @@ use Rattle.std.proofs.lemmas.Bool.Decides.{nat_tests}
 use Rattle.std.proofs.lemmas.Str.Parse.{digits_value-take-le}
 use Rattle.std.proofs.lemmas.List.{take_all, ext_get_or, get_or-map, get_or-set_same, get_or-set_other, length-map, length-set}
 use Rattle.std.proofs.lemmas.Bool.{false≢true}
+use Rattle.std.proofs.Math.Nat.{pow-le-pow_right, pow-suc}
 use Rattle.std.proofs.lemmas.List.Folds.{list_all_more, list_all_at}
 use Rattle.tatp_rows.specs.declared.refusal.Refusal.TheVariants.{Field}
 use Rattle.tatp_rows.proofs.NumberLemmas.{AreDigits, digits_more}
@@ -35,7 +36,7 @@ unfolding number_field
 refused_empty text none = grind (arith, nat_tests)
 
 -- the whole text is read
-pub read_whole : (text : List ℕ) (i value : ℕ) → (length text == 0) ≡ false → length text ≤ i → AreDigits text i value → value < 18446744073709551616 → Ok value ≡ number_field text
+pub read_whole : (text : List ℕ) (i value : ℕ) → 0 < length text → length text ≤ i → AreDigits text i value → value < 18446744073709551616 → Ok value ≡ number_field text
 unfolding number_field
 read_whole text i value some past read fits =
     let whole : take i text ≡ text = take_all i text past in
@@ -43,6 +44,47 @@ read_whole text i value some past read fits =
     let value_is : value ≡ digits_value 10 text = rw whole at read.value_is in
     let below : digits_value 10 text < 18446744073709551616 = omega arith in
     grind (arith, nat_tests)
+
+-- a text that has a byte
+pub some_byte : (text : List ℕ) → (length text == 0) ≡ false → 0 < length text
+some_byte text some = grind (arith, nat_tests)
+
+-- what a byte is, from how far above '0' it lies, round the end of a byte
+pub digit_above : (c above : ℕ) → c < 256 → above ≡ (c + 208) % 256 → above ≤ 9 → (is_ascii_digit c ≡ true) × (above ≡ c - 48)
+digit_above c above byte is small = (grind (arith, nat_tests), omega arith)
+
+pub other_above : (c above : ℕ) → c < 256 → above ≡ (c + 208) % 256 → 9 < above → is_ascii_digit c ≡ false
+other_above c above byte is large = grind (arith, nat_tests)
+
+-- the first i bytes of a short text are digits, and spell this value
+pub record IsReadTo (text : List ℕ) (i value : ℕ) : Type 0 where
+  pub read : AreDigits text i value
+  pub below : value < 10 ^ i
+
+pub short_none : (text : List ℕ) → IsReadTo text 0 0
+short_none text = record { read = record { digits = refl; value_is = refl }; below = omega arith }
+
+pub short_more : (text : List ℕ) (i value above : ℕ) → IsReadTo text i value → i < length text → get_or text i 0 < 256 → above ≡ (get_or text i 0 + 208) % 256 → above ≤ 9
+    → IsReadTo text (i + 1) (value * 10 + above)
+short_more text i value above so inside byte is small =
+    let known = digit_above (get_or text i 0) above byte is small in
+    record {
+      read = digits_more text i value above so.read inside known.0 known.1;
+      below = let below = so.below in let tenfold : 10 ^ (i + 1) ≡ 10 ^ i * 10 = rw add-one (pow-suc 10 i) in omega arith;
+    }
+
+-- while bytes are left there is room for one more digit, and in the end the value fits
+pub short_fits : (text : List ℕ) (i value : ℕ) → IsReadTo text i value → i < length text → length text ≤ 19 → value < 1000000000000000000
+short_fits text i value so inside short =
+    let below = so.below in
+    let most = pow-le-pow_right {n = 10} (omega arith) {i = i} {j = 18} (omega arith) in
+    omega arith
+
+pub short_whole : (text : List ℕ) (i value : ℕ) → (length text == 0) ≡ false → length text ≤ i → i ≤ 19 → IsReadTo text i value → Ok value ≡ number_field text
+short_whole text i value some past short so =
+    let below = so.below in
+    let most = pow-le-pow_right {n = 10} (omega arith) {i = i} {j = 19} (omega arith) in
+    read_whole text i value (some_byte text some) past so.read (omega arith)
 
 -- what passes as a whole passes at each place
 pub passes_at : (p : ℕ → Bool) (xs : List ℕ) (i : ℕ) → list_all p xs ≡ true → i < length xs → p (get_or xs i 0) ≡ true

@@ -1,5 +1,5 @@
 //! What the fields of a command spell.
-ghost use Rattle.std.specs.Prelude.{◌≡◌, ℕ, ◌<◌};
+ghost use Rattle.std.specs.Prelude.{◌≡◌, ℕ, ◌<◌, length};
 ghost use Rattle.std.specs.List.{EachIndex};
 ghost use Rattle.std.specs.Prelude.{slice_index};
 ghost use Rattle.std.specs.Char.{digit_value};
@@ -7,14 +7,13 @@ ghost use Rattle.hlr.specs.Fields.{number_field, byte_field, digits_field, bytes
 
 use tatp_rows::Refusal;
 
-/// The number that a field spells: one or more ASCII digits, leading zeros allowed, with a value of at most
-/// 2^64 - 1. A sign, a space, any other byte or an empty field is `Field`.
-pub fn parse_number(text: &[u8]) -> Result<u64, Refusal>
+// The number that a field of any length spells, as `parse_number`.
+#[cold]
+#[inline(never)]
+fn parse_long(text: &[u8]) -> Result<u64, Refusal>
+    requires { 0 < length text.now }
     ensures { result ≡ number_field text.now }
 {
-    if text.is_empty() {
-        return Err(Refusal::Field);
-    }
     let mut value = 0u64;
     for byte in text {
         if !byte.is_ascii_digit() {
@@ -25,6 +24,29 @@ pub fn parse_number(text: &[u8]) -> Result<u64, Refusal>
             return Err(Refusal::Field);
         }
         value = value * 10 + digit;
+    }
+    Ok(value)
+}
+
+/// The number that a field spells: one or more ASCII digits, leading zeros allowed, with a value of at most
+/// 2^64 - 1. A sign, a space, any other byte or an empty field is `Field`.
+pub fn parse_number(text: &[u8]) -> Result<u64, Refusal>
+    ensures { result ≡ number_field text.now }
+{
+    if text.is_empty() {
+        return Err(Refusal::Field);
+    }
+    // 19 digits always fit.
+    if text.len() > 19 {
+        return parse_long(text);
+    }
+    let mut value = 0u64;
+    for byte in text {
+        let digit = byte.wrapping_sub(b'0');
+        if digit > 9 {
+            return Err(Refusal::Field);
+        }
+        value = value * 10 + u64::from(digit);
     }
     Ok(value)
 }

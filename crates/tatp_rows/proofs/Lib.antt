@@ -1,6 +1,7 @@
 pub mod FilterLemmas
 pub mod AppendLemmas
 pub mod BlankLemmas
+pub mod DigitLemmas
 pub mod HalfLemmas
 pub mod KeyLemmas
 pub mod MapLemmas

@@ -1,5 +1,5 @@
 -- Numbers of subscribers: how their digits are read one by one, and what is written.
-use Rattle.std.proofs.Common.{◌≡◌, refl, ap, ◌∙◌, ℕ, ◌+◌, ◌-◌, ◌*◌, ◌^◌, ◌<◌, ◌≤◌, ◌++◌, List, [], length, get_or, take, true, false, length-append, add-one, rules, arith}
+use Rattle.std.proofs.Common.{◌≡◌, refl, ap, ◌∙◌, ℕ, ◌+◌, ◌-◌, ◌*◌, ◌<◌, ◌≤◌, ◌++◌, List, [], length, get_or, take, true, false, length-append, rules, arith}
 use Rattle.std.specs.Prelude.{decimal, replicate}
 use Rattle.std.specs.List.{list_all}
 use Rattle.std.specs.Char.{is_ascii_digit, digit_value}
@@ -11,7 +11,6 @@ use Rattle.std.proofs.lemmas.Int.Digits.{digits_value_more}
 use Rattle.std.proofs.lemmas.List.{append-nil, length-replicate}
 use Rattle.std.proofs.lemmas.List.Folds.{list_all_more}
 use Rattle.std.proofs.lemmas.Fmt.{length-decimal-le}
-use Rattle.std.proofs.Math.Nat.{pow-le-pow_right, pow-suc}
 use Rattle.tatp_rows.specs.Number.{IsNumber, number_text}
 
 -- what an ASCII digit is worth
@@ -35,22 +34,6 @@ digits_more text i value more read inside digit is =
       value_is = rw (digits_value_more 10 text i inside, ← read.value_is, known.2, is) refl;
     }
 
--- what is known of the first i bytes of 15, which are digits with this value
-pub record IsReadTo (text : List ℕ) (i : ℕ) (value : ℕ) : Type 0 where
-  pub size : length text ≡ 15
-  pub read : AreDigits text i value
-  pub bound : value < 10 ^ i
-
--- one more digit
-pub read_more : (text : List ℕ) (i value more : ℕ) → IsReadTo text i value → i < length text → is_ascii_digit (get_or text i 0) ≡ true → more ≡ get_or text i 0 - 48 → IsReadTo text (i + 1) (value * 10 + more)
-read_more text i value more read inside digit is =
-    let known = digit_is (get_or text i 0) digit in
-    record {
-      size = read.size;
-      read = digits_more text i value more read.read inside digit is;
-      bound = let tenfold : 10 ^ (i + 1) ≡ 10 ^ i * 10 = rw add-one (pow-suc 10 i) in omega arith;
-    }
-
 -- zeros stand before a numeral that is shorter than 15 characters
 padded_numeral : (numeral : List ℕ) → padded_integral (format_spec 32 0 4 15 18446744073709551615) false [] numeral ≡ replicate (15 - length numeral) 48 ++ numeral
 unfolding padded_integral char_count
@@ -67,14 +50,3 @@ pub length-number_text : (n : ℕ) → IsNumber n → length (number_text n) ≡
 length-number_text n number =
     let short = length-decimal-le 15 n (omega arith) (omega arith) (omega arith) in
     rw (length-append, length-replicate) (omega arith)
-
--- while bytes are left the value has room for one more digit, and in the end it is a number
-pub read_within : (text : List ℕ) (i value : ℕ) → IsReadTo text i value → i < length text → value < 100000000000000
-read_within text i value read inside =
-    let size = read.size in
-    let most = pow-le-pow_right {n = 10} (omega arith) {i = i} {j = 14} (omega arith) in
-    let last : value < 10 ^ i = read.bound in
-    omega arith
-
-pub read_whole : (text : List ℕ) (value : ℕ) → IsReadTo text (length text) value → IsNumber value
-read_whole text value read = let size = read.size in let last : value < 10 ^ 15 = rw size at read.bound in last

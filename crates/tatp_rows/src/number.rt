@@ -1,10 +1,14 @@
 //! Numbers of subscribers: 15 decimal digits.
-ghost use Rattle.std.specs.Prelude.{◌≡◌, ℕ, Some};
+ghost use Rattle.std.specs.Prelude.{◌≡◌, ℕ, Some, true};
+ghost use Rattle.std.specs.List.{list_all};
+ghost use Rattle.std.specs.Char.{is_ascii_digit};
+ghost use Rattle.std.specs.Str.Parse.{digits_value};
 ghost use Rattle.tatp_rows.specs.Number.{IsNumber, number_of, number_in, number_text};
 
 use crate::refusal::Refusal;
 use std::fmt;
 use std::marker::Model;
+use std::simd::prelude::*;
 
 /// A subscriber's number (TATP's sub_nbr and numberx, sections 2.1 and 2.4): 15 decimal digits.
 /// Its `Display` writes all 15, with leading zeros, and its default is 15 zeros.
@@ -21,6 +25,29 @@ impl Model for Number {
     ghost invariant = { λ n. IsNumber n.value };
 
     ghost inverse = { λ n. record { value = n } };
+}
+
+// Whether eight bytes are ASCII digits.
+#[inline(always)]
+fn are_digits(bytes: u8x8) -> bool
+    ensures { result ≡ list_all is_ascii_digit bytes }
+{
+    (bytes - u8x8::splat(b'0'))
+        .simd_ge(u8x8::splat(10))
+        .to_bitmask()
+        == 0
+}
+
+// The number that eight ASCII digits spell. As a word they are joined by twos, then by fours, then all.
+#[inline(always)]
+fn eight_digits(text: [u8; 8]) -> u64
+    requires { list_all is_ascii_digit text ≡ true }
+    ensures { result ≡ digits_value 10 text }
+{
+    let ones = u64::from_le_bytes(text) - 0x3030_3030_3030_3030;
+    let twos = (ones * 10 + (ones >> 8)) & 0x00ff_00ff_00ff_00ff;
+    let fours = (twos * 100 + (twos >> 16)) & 0x0000_ffff_0000_ffff;
+    (fours & 0xffff_ffff) * 10_000 + (fours >> 32)
 }
 
 impl Number {
@@ -42,13 +69,14 @@ impl Number {
         if text.len() != 15 {
             return Err(Refusal::Field);
         }
-        let mut value = 0u64;
-        for byte in text {
-            if !byte.is_ascii_digit() {
-                return Err(Refusal::Field);
-            }
-            value = value * 10 + u64::from(*byte - b'0');
+        let first = u8x8::from_slice(text);
+        let last = u8x8::from_slice(&text[7..]);
+        if !are_digits(first) || !are_digits(last) {
+            return Err(Refusal::Field);
         }
+        let mut last = last.to_array();
+        last[0] = b'0';
+        let value = eight_digits(first.to_array()) * 10_000_000 + eight_digits(last);
         Ok(Number { value })
     }
 

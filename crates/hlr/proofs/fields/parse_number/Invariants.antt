@@ -1,5 +1,5 @@
-use Rattle.tatp_rows.proofs.NumberLemmas.{AreDigits}
+use Rattle.hlr.proofs.FieldFacts.{IsReadTo}
 use Rattle.hlr.proofs.fields.parse_number.Given as goal
 
 abbrev pub invariant-loop-byte : goal.invariant-loop-byte
-invariant-loop-byte l = AreDigits l.text l.byte-index l.value
+invariant-loop-byte l = IsReadTo l.text l.byte-index l.value
