@@ -75,7 +75,7 @@ fn options_of<R: AllocGlobal + Print + Eprint>(
 /// Answers standard input on standard output. The answers so far are flushed before a read that may wait, and at the end,
 /// but after `Field` and `Write`.
 fn answer_input<R: AllocGlobal + Input + Print>(rt: &R, options: Options) -> Result<(), Fault> {
-    let Ok(writer) = BufWriter::new(rt.alloc(), io::writer(rt)) else {
+    let Ok(writer) = BufWriter::with_capacity(rt.alloc(), 65_536, io::writer(rt)) else {
         return Err(Fault::Memory);
     };
     let mut sink = Out::new(writer);

@@ -83,7 +83,7 @@ fn answer<S: Sink>(
 }
 
 /// Answers the record that was read last, and flushes the sink before a read that may wait: where no whole record is left
-/// of what was handed on to the reader. Where the sink fails, a front of the answer was taken.
+/// of what was read. Where the sink fails, a front of the answer was taken.
 fn answer_in_time<R: Read, S: Sink>(
     reader: &Reader<WholeRecords<R>>,
     row: &ByteRecord,
@@ -177,7 +177,9 @@ fn run_store<R: Read + Drop, S: Sink>(
     ensures thread { result ≢ Err fault.Thread }
     ensures flushed { IsFlushedAfter result (S.is_flushed sink.new) }
 {
-    let whole = WholeRecords::new(reader);
+    let Ok(whole) = WholeRecords::new(alloc, reader) else {
+        return finish(sink, Err(Fault::Memory));
+    };
     let mut records = ReaderBuilder::new()
         .has_headers(false)
         .flexible(true)

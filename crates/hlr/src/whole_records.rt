@@ -1,8 +1,9 @@
-//! A reader that knows how far it handed on whole records.
-ghost use Rattle.std.specs.Prelude.{◌≡◌};
+//! A reader that knows how far it has read whole records.
+ghost use Rattle.std.specs.Prelude.{◌≡◌, IfOk};
 ghost use Rattle.hlr.specs.WholeRecords.{inner_remaining};
 
-use std::io::{self, Read};
+use std::alloc::Global;
+use std::io::{self, BufReader, Read};
 
 /// Where a text of records stands after a byte.
 #[derive(Clone, Copy, Debug, PartialEq, Eq)]
@@ -83,55 +84,33 @@ fn last_line_end(block: &[u8]) -> Option<usize> {
     None
 }
 
-/// A reader that hands on another one's bytes, and knows how far those that it handed on are whole records.
-#[derive(Drop)]
-pub struct WholeRecords<R> {
-    reader: R,
-    handed: u64,
+/// How many bytes were read, how far they are whole records, and where the text stands behind them.
+#[derive(Clone, Copy, Debug)]
+struct Seen {
+    read: u64,
     whole: u64,
     place: Place,
 }
 
-impl<R> WholeRecords<R> {
-    /// The reader over this one, which handed on nothing.
-    pub fn new(reader: R) -> Self
-        ensures { result.reader ≡ reader }
-    {
-        WholeRecords {
-            reader,
-            handed: 0,
-            whole: 0,
-            place: Place::Start,
-        }
-    }
-
-    /// Whether a whole record was handed on from this byte on, which follows a record.
-    pub fn has_record_from(&self, at: u64) -> bool {
-        at < self.whole
-    }
-
-    /// Notes a block that has no quote and doesn't begin in quotes: each of its lines is a record.
-    fn note_lines(&mut self, block: &[u8])
-        ensures { self.new.reader ≡ self.old.reader }
-    {
+impl Seen {
+    // Notes a block that has no quote and doesn't begin in quotes: each of its lines is a record.
+    fn note_lines(&mut self, block: &[u8]) {
         if let Some(end) = last_line_end(block) {
-            self.whole = self.handed.saturating_add(end as u64);
+            self.whole = self.read.saturating_add(end as u64);
         }
         if let Some(last) = block.last() {
             self.place = place_after(Place::Field, *last);
         }
     }
 
-    /// Notes any block, byte by byte.
-    fn note_bytes(&mut self, block: &[u8])
-        ensures { self.new.reader ≡ self.old.reader }
-    {
+    // Notes any block, byte by byte.
+    fn note_bytes(&mut self, block: &[u8]) {
         let mut place = self.place;
         let mut whole = self.whole;
         for (i, byte) in block.iter().enumerate() {
             let next = place_after(place, *byte);
             if is_end(place, next) {
-                whole = self.handed.saturating_add(i as u64 + 1);
+                whole = self.read.saturating_add(i as u64 + 1);
             }
             place = next;
         }
@@ -139,10 +118,8 @@ impl<R> WholeRecords<R> {
         self.whole = whole;
     }
 
-    /// Notes a block that is handed on.
-    fn note(&mut self, block: &[u8])
-        ensures { self.new.reader ≡ self.old.reader }
-    {
+    // Notes a block that was read.
+    fn note(&mut self, block: &[u8]) {
         match self.place {
             Place::Record | Place::Field | Place::Plain | Place::Closing
                 if !block.contains(&b'"') => {
@@ -150,7 +127,40 @@ impl<R> WholeRecords<R> {
             }
             _ => self.note_bytes(block),
         }
-        self.handed = self.handed.saturating_add(block.len() as u64);
+        self.read = self.read.saturating_add(block.len() as u64);
+    }
+}
+
+/// How many bytes are read at once.
+const BLOCK: usize = 65_536;
+
+/// A reader that reads another one's bytes in blocks, and knows how far those that it read are whole records. It reads
+/// a block where all of the one before is handed on.
+#[derive(Drop)]
+pub struct WholeRecords<R> {
+    reader: BufReader<R>,
+    seen: Seen,
+}
+
+impl<R> WholeRecords<R> {
+    /// Whether a whole record was read from this byte on, which follows a record.
+    pub fn has_record_from(&self, at: u64) -> bool {
+        at < self.seen.whole
+    }
+}
+
+impl<R: Read + Drop> WholeRecords<R> {
+    /// The reader over this one, of which nothing was read; an error where there is no memory for a block.
+    pub fn new(alloc: Global, reader: R) -> io::Result<Self>
+        ensures { IfOk result (λ whole. inner_remaining R.remaining whole ≡ R.remaining reader) }
+    {
+        let reader = BufReader::with_capacity(alloc, BLOCK, reader)?;
+        let seen = Seen {
+            read: 0,
+            whole: 0,
+            place: Place::Start,
+        };
+        Ok(WholeRecords { reader, seen })
     }
 }
 
@@ -158,10 +168,13 @@ impl<R: Read> Read for WholeRecords<R> {
     ghost remaining = { inner_remaining R.remaining };
 
     fn read(&mut self, buf: &mut [u8]) -> io::Result<usize> {
-        let given = self.reader.read(buf);
-        if let Ok(count) = &given {
-            self.note(&buf[..*count]);
+        let is_handed_on = self.reader.buffer().is_empty();
+        let count = self.reader.read(buf)?;
+        if is_handed_on {
+            // What was read is what was handed on of it, and the rest.
+            self.seen.note(&buf[..count]);
+            self.seen.note(self.reader.buffer());
         }
-        given
+        Ok(count)
     }
 }
