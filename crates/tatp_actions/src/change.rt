@@ -14,7 +14,7 @@ use tatp_rows::area;
 pub const NOTES: usize = 8;
 
 /// One up, or one down.
-fn one_step(up: bool) -> i64
+fn one_step(up: bool) -> i8
     ensures value { result ≡ one_step up }
     ensures low { negsuc 7 ≤ℤ result }
     ensures high { result ≤ℤ pos 8 }
@@ -25,7 +25,7 @@ fn one_step(up: bool) -> i64
 /// By how much an action moves the cells: at most eight notes, each a cell and its amount.
 #[derive(Debug, Drop)]
 pub struct Change {
-    notes: ArrayVec<(u8, i64), NOTES>,
+    notes: ArrayVec<(u8, i8), NOTES>,
 }
 
 impl Model for Change {
@@ -52,7 +52,7 @@ impl Change {
     }
 
     /// The notes, each a cell and by how much it moves.
-    pub fn notes(&self) -> &[(u8, i64)]
+    pub fn notes(&self) -> &[(u8, i8)]
         ensures value { result.now ≡ self.now }
         ensures few { length result.now ≤ NOTES }
         ensures small { AllByRecursion IsNote result.now }
@@ -61,7 +61,7 @@ impl Change {
     }
 
     /// Notes that a cell moves by an amount.
-    fn note(&mut self, cell: u8, amount: i64)
+    fn note(&mut self, cell: u8, amount: i8)
         requires room { length self.old < NOTES }
         requires note { IsNote (cell, amount) }
         ensures { self.new ≡ self.old ++ (cell, amount) ∷ [] }
@@ -95,7 +95,7 @@ impl Change {
     }
 
     /// Notes that a cell moves by an amount, where a test holds.
-    fn note_if(&mut self, test: bool, cell: u8, amount: i64)
+    fn note_if(&mut self, test: bool, cell: u8, amount: i8)
         requires room { length self.old < NOTES }
         requires note { IsNote (cell, amount) }
         ensures { self.new ≡ self.old ++ note_if test (cell, amount) }

@@ -31,7 +31,7 @@ fn expect<R: Rows>(
     part: &mut Part<R>,
     action: &Action,
     reply: RowReply,
-    notes: &[(u8, i64)],
+    notes: &[(u8, i8)],
 ) {
     let (answer, change, asked) = act(rt, part, action);
     assert_eq!(rt;
@@ -50,7 +50,7 @@ fn expect_each<R: Rows>(rt: &impl Abort, part: &mut Part<R>, s_id: u32, steps: &
 }
 
 /// Whether a row is added, with these notes; else a growth was refused, and no cell moves.
-fn is_added(rt: &impl Abort, part: &mut Part, row: Subscriber, notes: &[(u8, i64)]) -> bool {
+fn is_added(rt: &impl Abort, part: &mut Part, row: Subscriber, notes: &[(u8, i8)]) -> bool {
     let (reply, change, _) = act(rt, part, &Action::AddSubscriber(row));
     let refused = reply == RowReply::Refused(Refusal::Memory);
     let known = refused || reply == RowReply::Done;
@@ -61,7 +61,7 @@ fn is_added(rt: &impl Abort, part: &mut Part, row: Subscriber, notes: &[(u8, i64
 
 /// Asserts that a row is added with these notes: where a growth was refused, at the second try, with the part as before
 /// in between.
-fn expect_added(rt: &impl Abort, part: &mut Part, row: Subscriber, notes: &[(u8, i64)]) {
+fn expect_added(rt: &impl Abort, part: &mut Part, row: Subscriber, notes: &[(u8, i8)]) {
     let before = part.recount();
     if !is_added(rt, part, row, notes) {
         assert!(rt; part.recount() == before);

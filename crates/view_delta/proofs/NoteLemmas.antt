@@ -1,5 +1,5 @@
 -- What more notes of a change do to a delta.
-use Rattle.std.proofs.Common.{◌≡◌, ℕ, ◌+◌, ◌*◌, ◌<◌, ◌≤◌, ◌==◌, arith, zero, suc, List, [], ◌∷◌, ◌++◌, take, get_or, length, set, true, false, refl, ◌∙◌, if◌then◌else◌, FitsSigned, w64, to_z, of_z}
+use Rattle.std.proofs.Common.{◌≡◌, ℕ, ◌+◌, ◌*◌, ◌<◌, ◌≤◌, ◌==◌, arith, zero, suc, List, [], ◌∷◌, ◌++◌, take, get_or, length, set, true, false, refl, ◌∙◌, if◌then◌else◌, FitsSigned, w8, w64, to_z, of_z}
 use Rattle.std.specs.Prelude.{ℤ, pos, neg_ℤ, ◌+ℤ◌, ◌≤ℤ◌}
 use Rattle.std.specs.List.{AllByRecursion}
 use Rattle.std.proofs.lemmas.Int.{ints, to_z-of_z}
@@ -44,6 +44,13 @@ noted_sum start deltas notes i cell note noted within which is at =
     let more = one_more notes i cell within in
     let here : (note.0 == cell) ≡ true = grind (arith, nat_tests) in
     rw (was, more, ← which, here) (omega (arith, ints))
+
+-- an amount, as it is read from a byte
+pub read_amount : (note : ℕ × ℤ) (amount : ℤ) → IsNote note → amount ≡ to_z w8 (of_z w8 note.1) → amount ≡ note.1
+read_amount note amount is read =
+    let least = is.1 in
+    let most = is.2 in
+    read ∙ to_z-of_z w8 note.1 (omega (arith, ints))
 
 -- a sum of two numbers that fit, as the machine computes it
 pub plain_sum : (a b : ℤ) → FitsSigned w64 a → FitsSigned w64 b → FitsSigned w64 (a +ℤ b) → to_z w64 (of_z w64 (to_z w64 (of_z w64 a) +ℤ to_z w64 (of_z w64 b))) ≡ a +ℤ b

@@ -91,7 +91,7 @@ impl Pending {
         ensures { (c : ℕ) → c < CELLS → pending_at self.new c ≡ pending_at self.old c +ℤ change_at change.now c }
     {
         for (cell, amount) in change.notes() {
-            self.deltas[usize::from(*cell)] += *amount;
+            self.deltas[usize::from(*cell)] += i64::from(*amount);
         }
     }
 

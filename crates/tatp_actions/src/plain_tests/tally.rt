@@ -14,7 +14,7 @@ enum Kind {
 }
 
 /// The kind of a reply with these notes.
-fn kind_of(reply: &RowReply, notes: &[(u8, i64)]) -> Kind {
+fn kind_of(reply: &RowReply, notes: &[(u8, i8)]) -> Kind {
     match reply {
         RowReply::Row(_) | RowReply::AccessRow { .. } => Kind::Read,
         RowReply::Numbers(numbers) => Kind::Numbers(numbers.len()),
@@ -115,7 +115,7 @@ impl Tally {
         rt: &impl Abort,
         action: &Action,
         reply: &RowReply,
-        notes: &[(u8, i64)],
+        notes: &[(u8, i8)],
     ) {
         let name = name_of(action);
         let kind = kind_of(reply, notes);
@@ -127,7 +127,7 @@ impl Tally {
         for (cell, amount) in notes {
             assert!(rt; *cell < CELLS);
             let sum = &mut self.sums[usize::from(*cell)];
-            *sum = sum.wrapping_add_signed(*amount);
+            *sum = sum.wrapping_add_signed(i64::from(*amount));
         }
     }
 

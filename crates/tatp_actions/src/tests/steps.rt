@@ -33,7 +33,7 @@ pub(super) enum Ask {
 /// What is answered.
 pub(super) enum Answer {
     /// Done, with these notes.
-    Done(&'static [(u8, i64)]),
+    Done(&'static [(u8, i8)]),
     Refused(Refusal),
     /// The row with this bit_1, number and location.
     Row(u8, u64, u64),
@@ -92,7 +92,7 @@ pub(super) fn reply_of(
     rt: &impl Abort,
     s_id: u32,
     answer: &Answer,
-) -> (RowReply, &'static [(u8, i64)]) {
+) -> (RowReply, &'static [(u8, i8)]) {
     match *answer {
         Done(notes) => (RowReply::Done, notes),
         Refused(why) => (RowReply::Refused(why), &[]),
