@@ -1,10 +1,10 @@
--- Folds that go on.
+-- Folds and walks that go on.
 use Rattle.std.proofs.Common.{◌≡◌, ℕ, ◌+◌, ◌<◌, ◌≤◌, List, [], ◌∷◌, ◌++◌, length, get_or, take, Option, Some, None, IsSome, IfSome, refl, sym, subst, ◌∙◌, arith, ap, append-nil}
-use Rattle.std.specs.Borrow.{Bor}
+use Rattle.std.specs.Borrow.{Bor, MutBor}
 use Rattle.std.proofs.lemmas.List.{take_all, get_or_default}
 use Rattle.mr_node.specs.declared.body.Leaf.{Leaf}
 use Rattle.mr_node.specs.Levels.{IsLeaf, pairs_of, NodePart, NodeBranch, kids_of, rows_of, IsBranch}
-use Rattle.mr_node.specs.Folds.{FoldsRows}
+use Rattle.mr_node.specs.Folds.{FoldsRows, WalksRows}
 use Rattle.mr_node.proofs.RunLemmas.{run_next, run_length}
 use Rattle.mr_node.proofs.EntryLemmas.{leaf_length, leaf_some}
 use Rattle.mr_node.proofs.KidLemmas.{kid_at, rows_of-append}
@@ -49,3 +49,7 @@ module _ {V A : Type 0} (Gives : A → ℕ → Bor V → A → Type 0) where
 
   pub folds_same : (a b : A) (xs ys : List (ℕ × V)) → xs ≡ ys → FoldsRows Gives a xs b → FoldsRows Gives a ys b
   folds_same a b xs ys e = subst (λ rows. FoldsRows Gives a rows b) e
+
+-- a walk over one row
+pub walks_one : {V A : Type 0} (Gives : MutBor A → ℕ → Bor V → MutBor A → Type 0) (a b : MutBor A) (k : ℕ) (x : V) (r : Bor V) (o : Option V) → o ≡ Some x → r.now ≡ x → Gives a k r b → IfSome o (λ v. WalksRows Gives a.now ((k, v) ∷ []) b.now)
+walks_one {V} {A} Gives a b k x r o is now gives = folds_one (λ (s : A) key row t. (p : MutBor A) × (q : MutBor A) × (p.now ≡ s) × Gives p key row q × (q.now ≡ t)) a.now b.now k x r o is now (a, b, refl, gives, refl)

@@ -5,7 +5,7 @@ ghost use Rattle.tatp_rows.specs.Ordered.{row_at, with_row_at, without_row};
 ghost use Rattle.mr_node.specs.Rows.{key_limit, key_of_pair, value_at, StartsWith};
 ghost use Rattle.mr_node.specs.Levels.{IsLeaf, pairs_of, seen_leaf};
 ghost use Rattle.mr_node.specs.Entries.{IsThere, IsFree};
-ghost use Rattle.mr_node.specs.Folds.{FoldsRows};
+ghost use Rattle.mr_node.specs.Folds.{FoldsRows, WalksRows};
 ghost use Rattle.mr_node.specs.Growth.{IsGrown, IsRoomAnswer, is_done};
 
 use crate::keys::{NO_KEY, count_below, put_key, take_key};
@@ -208,4 +208,27 @@ pub(crate) fn fold_entries<V, A, F: Fn(A, u64, &V) -> A>(leaf: &Leaf<V>, init: A
         folded = fold_entry(leaf.keys[place], &leaf.values.as_slice()[place], folded, f);
     }
     folded
+}
+
+// Hands an entry to a closure, with what it writes to.
+fn walk_entry<V, A, F: Fn(&mut A, u64, &V)>(key: u64, place: &Option<V>, so_far: &mut A, f: &F)
+    requires callable { F.IsAlwaysCallable f.now }
+    requires some { IsSome place.now }
+    ensures { IfSome place.now (λ v. WalksRows (λ a k r b. F.post f.now a k r tt b) so_far.old ((key, v) ∷ []) so_far.new) }
+{
+    match place {
+        Some(value) => f(so_far, key, value),
+        None => unreachable!(),
+    }
+}
+
+// Hands each row of a leaf in order to a closure, with what it writes to.
+pub(crate) fn walk_entries<V, A, F: Fn(&mut A, u64, &V)>(leaf: &Leaf<V>, so_far: &mut A, f: &F)
+    requires callable { F.IsAlwaysCallable f.now }
+    requires leaf { IsLeaf leaf.now }
+    ensures { WalksRows (λ a k r b. F.post f.now a k r tt b) so_far.old (pairs_of leaf.now) so_far.new }
+{
+    for place in 0..leaf.values.len() {
+        walk_entry(leaf.keys[place], &leaf.values.as_slice()[place], so_far, f);
+    }
 }

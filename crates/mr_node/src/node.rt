@@ -4,7 +4,7 @@ ghost use Rattle.std.specs.List.{find};
 ghost use Rattle.tatp_rows.specs.Ordered.{IsOrderedBy, row_at, with_row_at};
 ghost use Rattle.mr_node.specs.Rows.{key_limit, key_of_pair, value_at, StartsWith};
 ghost use Rattle.mr_node.specs.Levels.{seen, IsNode, IsWell, IsLeaf, IsBranch, seen_leaf, seen_branch};
-ghost use Rattle.mr_node.specs.Folds.{FoldsRows};
+ghost use Rattle.mr_node.specs.Folds.{FoldsRows, WalksRows};
 ghost use Rattle.mr_node.specs.Runs.{IsRun};
 ghost use Rattle.mr_node.specs.Growth.{IsGrown, IsRoomAnswer, is_done};
 ghost use Rattle.mr_node.specs.Pairs.{IsKidNode, IsHalved, IsShare, AreEvened};
@@ -14,7 +14,7 @@ ghost use Rattle.mr_node.specs.Steps.{after_steps, IsRoomMade};
 
 use crate::entries::{
     find_entry, first_entry, fold_entries, insert_entry, insert_new, no_leaf, remove_entry,
-    replace_entry,
+    replace_entry, walk_entries,
 };
 use crate::kids::{no_branch, place_of, put_kid, sum_counts, take_kid};
 use crate::mending::{make_room, mend};
@@ -162,6 +162,24 @@ impl<V> Node<V> {
                     }
                 }
                 folded
+            }
+        }
+    }
+
+    /// Hands each row in key order to a closure, with what it writes to. Looking is no step.
+    pub fn walk<A, F: Fn(&mut A, u64, &V)>(&self, so_far: &mut A, f: &F)
+        requires { F.IsAlwaysCallable f.now }
+        ensures { WalksRows (λ a k r b. F.post f.now a k r tt b) so_far.old self.now.rows so_far.new }
+    {
+        match &self.body {
+            Body::Leaf(leaf) => walk_entries(leaf, so_far, f),
+            Body::Inner(branch) => {
+                for place in 0..branch.len {
+                    match &branch.kids[place] {
+                        Some(kid) => kid.node.walk(so_far, f),
+                        None => unreachable!(),
+                    }
+                }
             }
         }
     }

@@ -55,6 +55,9 @@ fn grow(rt: &impl Abort, node: &mut Node<u64>, stock: &mut Stock<u64>, meter: &m
         node.fold(0u64, &|sum, key, _value| sum.wrapping_add(key)),
         561
     );
+    let mut sum = 0u64;
+    node.walk(&mut sum, &|sum, key, _value| *sum = sum.wrapping_add(key));
+    assert_eq!(rt; sum, 561);
 }
 
 // Rows whose leaves have room.

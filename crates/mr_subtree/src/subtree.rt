@@ -3,7 +3,7 @@ ghost use Rattle.std.specs.Prelude.{◌≡◌, ◌+◌, ◌<◌, ◌≤◌, ℕ,
 ghost use Rattle.std.specs.List.{find};
 ghost use Rattle.tatp_rows.specs.Ordered.{row_at, with_row, with_row_at, without_row};
 ghost use Rattle.mr_node.specs.Rows.{key_limit, key_of_pair, value_at};
-ghost use Rattle.mr_node.specs.Folds.{FoldsRows};
+ghost use Rattle.mr_node.specs.Folds.{FoldsRows, WalksRows};
 ghost use Rattle.mr_subtree.specs.Trees.{IsRoot, IsHeightOf, IsInserted};
 
 use mr_node::{Meter, Node, Room, Stock};
@@ -98,6 +98,14 @@ impl<V> SubTree<V> {
         ensures { FoldsRows (λ a k r b. F.post f.now a k r b) init self.now.rows result }
     {
         self.root.fold(init, f)
+    }
+
+    /// Hands each row in key order to a closure, with what it writes to: each call is given a key, and its value.
+    pub fn walk<A, F: Fn(&mut A, u64, &V)>(&self, so_far: &mut A, f: &F)
+        requires { F.IsAlwaysCallable f.now }
+        ensures { WalksRows (λ a k r b. F.post f.now a k r tt b) so_far.old self.now.rows so_far.new }
+    {
+        self.root.walk(so_far, f)
     }
 }
 

@@ -104,18 +104,31 @@ fn sum_of<V: Told>(tree: &SubTree<V>) -> u64 {
     )
 }
 
+// The same sum, by a walk.
+fn walked_sum<V: Told>(tree: &SubTree<V>) -> u64 {
+    let mut sum = 0u64;
+    tree.walk(
+        &mut sum,
+        &|sum, key, value| *sum = sum
+            .wrapping_add(key)
+            .wrapping_add(u64::from(value.number())),
+    );
+    sum
+}
+
 // Each call once, on a tree without rows.
 fn call_each(rt: &impl Abort, tree: &mut SubTree<Token>) {
     let insertions = [added(tree, 7, 1), added(tree, 7, 2)];
     let got = found(tree, 7);
     let replacements = [replaced(tree, 7, 3), replaced(tree, 8, 4)];
-    let seen = (first(tree, 6), sum_of(tree), tree.len(), tree.height());
+    let sums = (sum_of(tree), walked_sum(tree));
+    let seen = (first(tree, 6), sums, tree.len(), tree.height());
     let gone = (removed(tree, 7), tree.len());
     assert_eq!(rt;
         ((insertions, got, replacements), seen, gone),
         (
             ([None, Some((Refusal::Exists, 2))], Some(1), [Ok(1), Err(4)]),
-            (Some((7, 3)), 10, 1, 0),
+            (Some((7, 3)), (10, 10), 1, 0),
             (Some(3), 0)
         )
     );

@@ -1,16 +1,16 @@
 -- How a walk over rows counts them in a cell.
-use Rattle.std.proofs.Common.{◌≡◌, ◌≢◌, refl, sym, ◌∙◌, ap, subst, ℕ, ◌+◌, ◌-◌, ◌*◌, ◌/◌, ◌<◌, ◌≤◌, ◌==◌, ◌&&◌, arith, true, false, Bool, List, [], ◌∷◌, length, get_or, nat_lt, Bor, if◌then◌else◌}
+use Rattle.std.proofs.Common.{◌≡◌, ◌≢◌, refl, sym, ◌∙◌, ap, subst, ℕ, ◌+◌, ◌-◌, ◌*◌, ◌/◌, ◌<◌, ◌≤◌, ◌==◌, ◌&&◌, arith, true, false, Bool, List, [], ◌∷◌, length, get_or, nat_lt, Bor, MutBor, if◌then◌else◌}
 use Rattle.std.specs.Prelude.{◌⊎◌, ⊤}
 use Rattle.std.specs.List.{sum_by}
 use Rattle.std.proofs.lemmas.List.{get_or-set_same, get_or-set_other, length-set}
 use Rattle.std.proofs.lemmas.List.Sums.{sum_by-cons}
 use Rattle.std.proofs.lemmas.Bool.Decides.{nat_tests}
-use Rattle.mr_node.specs.Folds.{FoldsRows}
-use Rattle.tatp_rows.specs.Rows.{SubscriberRow, CallForwardingRow, forwarding_in_range}
+use Rattle.mr_node.specs.Folds.{WalksRows}
+use Rattle.tatp_rows.specs.Rows.{SubscriberRow, SpecialFacilityRow, CallForwardingRow, forwarding_in_range}
 use Rattle.tatp_rows.specs.Zones.{zone_of, area_of}
 use Rattle.tatp_rows.proofs.OrderedLemmas.{by_test}
 use Rattle.tatp_rows.proofs.RowLemmas.{forwarding_ranges}
-use Rattle.tatp_actions.specs.Recount.{one_more_in, with_row_of, with_subscriber, with_forwarding}
+use Rattle.tatp_actions.specs.Recount.{Tallied, one_more_in, with_row_of, with_subscriber, with_forwarding}
 use Rattle.tatp_actions.specs.declared.cells.TheConstants.{FIRST_AREA, FIRST_ZONE}
 
 -- what a row of a subscriber counts in a cell by its zone
@@ -58,33 +58,55 @@ pub record IsCounter {X : Type 0} (c : ℕ) (Good : X → Type 0) (amount : X �
   pub counts_in : (row : X) (counts : List ℕ) → Good row → c < length counts → get_or counts c 0 + 2 < 18446744073709551616 → get_or (more row counts) c 0 ≡ get_or counts c 0 + amount row
   pub little : (row : X) → amount row ≤ 1
 
--- what a walk over pairs has counted: each of them once
-pub record IsCounted {X : Type 0} (c : ℕ) (amount : X → ℕ) (before : List ℕ) (pairs : List (ℕ × X)) (after : List ℕ) : Type 0 where
-  pub keeps : length after ≡ length before
-  pub counts_in : get_or after c 0 ≡ get_or before c 0 + sum_by (λ (pair : ℕ × X). amount pair.1) pairs
+-- counts by zones of a width, beside facilities
+abbrev pub tallied : List (ℕ × SpecialFacilityRow) → ℕ → List ℕ → Tallied
+tallied facilities width counts = record { cells = counts; facilities = facilities; width = width }
+
+-- what a walk over pairs has counted: each of them once, in the counts alone
+pub record IsCounted {X : Type 0} (c : ℕ) (amount : X → ℕ) (before : Tallied) (pairs : List (ℕ × X)) (after : Tallied) : Type 0 where
+  pub same : after ≡ record before { cells = after.cells }
+  pub keeps : length after.cells ≡ length before.cells
+  pub counts_in : get_or after.cells c 0 ≡ get_or before.cells c 0 + sum_by (λ (pair : ℕ × X). amount pair.1) pairs
   pub little : sum_by (λ (pair : ℕ × X). amount pair.1) pairs ≤ length pairs
 
-pub counted_by_fold : {X : Type 0} (c : ℕ) (Good : X → Type 0) (amount : X → ℕ) (more : X → List ℕ → List ℕ) → IsCounter c Good amount more
-    → (step : List ℕ → ℕ → Bor X → List ℕ → Type 0)
-    → ((a : List ℕ) (key : ℕ) (row : Bor X) (b : List ℕ) → step a key row b → Good row.now × (b ≡ more row.now a))
-    → (a : List ℕ) (pairs : List (ℕ × X)) (b : List ℕ) → FoldsRows step a pairs b → c < length a → get_or a c 0 + length pairs + 1 < 18446744073709551616
+pub counted_by_walk : {X : Type 0} (facilities : List (ℕ × SpecialFacilityRow)) (width c : ℕ) (Good : X → Type 0) (amount : X → ℕ) (more : Tallied → X → List ℕ)
+    → IsCounter c Good amount (λ row counts. more (tallied facilities width counts) row) → (gives : MutBor Tallied → ℕ → Bor X → MutBor Tallied → Type 0)
+    → ((a : MutBor Tallied) (key : ℕ) (row : Bor X) (b : MutBor Tallied) → gives a key row b → Good row.now × (b.now ≡ record a.now { cells = more a.now row.now }))
+    → (a : Tallied) (pairs : List (ℕ × X)) (b : Tallied) → a ≡ tallied facilities width a.cells → WalksRows gives a pairs b → c < length a.cells → get_or a.cells c 0 + length pairs + 1 < 18446744073709551616
     → IsCounted c amount a pairs b
-counted_by_fold c Good amount more counter step each a [] b folds within room = record {
-  keeps = sym (ap length folds);
-  counts_in = ap (λ (counts : List ℕ). get_or counts c 0) (sym folds) ∙ plus_zero (get_or a c 0);
+counted_by_walk facilities width c Good amount more counter gives each a [] b over walks within room = record {
+  same = subst (λ (t : Tallied). t ≡ record a { cells = t.cells }) walks refl;
+  keeps = sym (ap (λ (t : Tallied). length t.cells) walks);
+  counts_in = ap (λ (t : Tallied). get_or t.cells c 0) (sym walks) ∙ plus_zero (get_or a.cells c 0);
   little = omega arith;
 }
-counted_by_fold {X} c Good amount more counter step each a (pair ∷ pairs) b folds within room =
-    let next = folds.0 in
-    let here = each a pair.0 folds.1 next folds.3 in
-    let row = counter.counts_in folds.1.now a here.0 within (omega arith) in
-    let at : get_or next c 0 ≡ get_or a c 0 + amount pair.1 =
-    ap (λ (counts : List ℕ). get_or counts c 0) here.1 ∙ row ∙ ap (λ (r : X). get_or a c 0 + amount r) folds.2 in
-    let len : length next ≡ length a = ap length here.1 ∙ counter.keeps folds.1.now a in
+counted_by_walk {X} facilities width c Good amount more counter gives each a (pair ∷ pairs) b over walks within room =
+    let next = walks.0 in
+    let row = walks.1.now in
+    let step = walks.3 in
+    let here = each step.0 pair.0 walks.1 step.1 step.3 in
+    let is : next ≡ record a { cells = more a row } = sym step.4 ∙ here.1 ∙ ap (λ (t : Tallied). record t { cells = more t row }) step.2 in
+    let cells : next.cells ≡ more (tallied facilities width a.cells) row = ap (λ (t : Tallied). t.cells) is ∙ ap (λ (t : Tallied). more t row) over in
+    let next_over : next ≡ tallied facilities width next.cells =
+    is ∙ ap (λ (t : Tallied). record t { cells = more a row }) over ∙ ap (tallied facilities width) (sym (ap (λ (t : Tallied). t.cells) is)) in
+    let counted = counter.counts_in row a.cells here.0 within (omega arith) in
+    let at : get_or next.cells c 0 ≡ get_or a.cells c 0 + amount pair.1 =
+    ap (λ (counts : List ℕ). get_or counts c 0) cells ∙ counted ∙ ap (λ (r : X). get_or a.cells c 0 + amount r) walks.2 in
+    let len : length next.cells ≡ length a.cells = ap length cells ∙ counter.keeps row a.cells in
     let le = counter.little pair.1 in
-    let rest = counted_by_fold c Good amount more counter step each next pairs b folds.4 (omega arith) (omega arith) in
+    let rest = counted_by_walk facilities width c Good amount more counter gives each next pairs b next_over walks.4 (omega arith) (omega arith) in
     let sum = sum_by-cons (λ (p : ℕ × X). amount p.1) pair pairs in
-    record { keeps = rest.keeps ∙ len; counts_in = rw sum (let more_in = rest.counts_in in omega arith); little = rw sum (let few = rest.little in omega arith) }
+    record {
+      same = rest.same ∙ ap (λ (t : Tallied). record t { cells = b.cells }) is;
+      keeps = rest.keeps ∙ len;
+      counts_in = rw sum (let more_in = rest.counts_in in omega arith);
+      little = rw sum (let few = rest.little in omega arith);
+    }
+
+-- the counts of a walk are beside the same facilities, by the same width
+pub still_over : {X : Type 0} (facilities : List (ℕ × SpecialFacilityRow)) (width c : ℕ) (amount : X → ℕ) (a : Tallied) (pairs : List (ℕ × X)) (b : Tallied)
+    → a ≡ tallied facilities width a.cells → IsCounted c amount a pairs b → b ≡ tallied facilities width b.cells
+still_over facilities width c amount a pairs b over counted = counted.same ∙ ap (λ (t : Tallied). record t { cells = b.cells }) over
 
 -- a row of a subscriber
 row_of-length : (width s_id : ℕ) (counts : List ℕ) → length (with_row_of width s_id counts) ≡ length counts

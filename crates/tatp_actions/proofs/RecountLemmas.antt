@@ -1,12 +1,12 @@
 -- What a walk over all rows of a part counts.
-use Rattle.std.proofs.Common.{◌≡◌, refl, sym, ◌∙◌, ap, ℕ, ◌+◌, ◌-◌, ◌*◌, ◌<◌, ◌==◌, ◌&&◌, arith, true, false, Bool, List, [], ◌∷◌, length, get_or, replicate, nat_lt, Bor, if◌then◌else◌}
+use Rattle.std.proofs.Common.{◌≡◌, refl, sym, ◌∙◌, ap, ℕ, ◌+◌, ◌-◌, ◌*◌, ◌<◌, ◌==◌, ◌&&◌, arith, true, false, Bool, List, [], ◌∷◌, length, get_or, replicate, nat_lt, Bor, MutBor, if◌then◌else◌}
 use Rattle.std.specs.Prelude.{count_by}
 use Rattle.std.specs.List.{sum_by}
 use Rattle.std.specs.Option.{option_map_or}
 use Rattle.std.proofs.lemmas.List.{get_or-replicate, length-replicate, length-map}
 use Rattle.std.proofs.lemmas.List.Sums.{sum_by-cons}
 use Rattle.std.proofs.lemmas.Bool.Decides.{nat_tests}
-use Rattle.mr_node.specs.Folds.{FoldsRows}
+use Rattle.mr_node.specs.Folds.{WalksRows}
 use Rattle.tatp_rows.specs.Keys.{key_of, facility_key}
 use Rattle.tatp_rows.specs.Rows.{SubscriberRow, AccessInfoRow, SpecialFacilityRow, CallForwardingRow, forwarding_in_range}
 use Rattle.tatp_rows.specs.Zones.{zone_of, area_of}
@@ -14,10 +14,10 @@ use Rattle.tatp_rows.proofs.MapLemmas.{row_at-pairs}
 use Rattle.tatp_rows.proofs.OrderedLemmas.{by_test}
 use Rattle.tatp_actions.specs.Book.{IsRowsOf}
 use Rattle.tatp_actions.specs.Cell.{cell, active_forwardings, in_area, in_zone, has_active_facility}
-use Rattle.tatp_actions.specs.Recount.{with_row_of, with_subscriber, is_active_in, with_forwarding}
+use Rattle.tatp_actions.specs.Recount.{Tallied, with_row_of, with_subscriber, is_active_in, with_forwarding}
 use Rattle.tatp_actions.specs.Tables.{Tables, AreKeyed, stored_book, values_of}
 use Rattle.tatp_actions.proofs.CountLemmas.{few_subscribers, few_access, few_facilities, few_forwardings}
-use Rattle.tatp_actions.proofs.CounterLemmas.{zone_in, subscriber_in, forwarding_in, counted_by_fold, row_counter, subscriber_counter, forwarding_counter}
+use Rattle.tatp_actions.proofs.CounterLemmas.{zone_in, subscriber_in, forwarding_in, tallied, counted_by_walk, still_over, row_counter, subscriber_counter, forwarding_counter}
 use Rattle.tatp_actions.specs.declared.cells.TheConstants.{CELLS, FIRST_AREA, FIRST_ZONE}
 
 -- sums over pairs
@@ -95,18 +95,20 @@ cell_of_sums width c tables keyed = by_test (nat_lt c FIRST_AREA)
     (λ f. simp (e, f) (zoned tables width (c - FIRST_ZONE))))
 
 -- the walk over the four tables from all counts at 0
-pub recounted : (width c low high : ℕ) (tables : Tables) (zeros b1 b2 b3 b4 : List ℕ)
-    (step1 : List ℕ → ℕ → Bor SubscriberRow → List ℕ → Type 0) (step2 : List ℕ → ℕ → Bor AccessInfoRow → List ℕ → Type 0)
-    (step3 : List ℕ → ℕ → Bor SpecialFacilityRow → List ℕ → Type 0) (step4 : List ℕ → ℕ → Bor CallForwardingRow → List ℕ → Type 0)
-    → ((a : List ℕ) (key : ℕ) (row : Bor SubscriberRow) (b : List ℕ) → step1 a key row b → (area_of row.now.vlr_location < 16) × (b ≡ with_subscriber width row.now a))
-    → ((a : List ℕ) (key : ℕ) (row : Bor AccessInfoRow) (b : List ℕ) → step2 a key row b → b ≡ with_row_of width row.now.s_id a)
-    → ((a : List ℕ) (key : ℕ) (row : Bor SpecialFacilityRow) (b : List ℕ) → step3 a key row b → b ≡ with_row_of width row.now.s_id a)
-    → ((a : List ℕ) (key : ℕ) (row : Bor CallForwardingRow) (b : List ℕ) → step4 a key row b → (forwarding_in_range row.now ≡ true) × (b ≡ with_forwarding width (is_active_in tables.facilities row.now) row.now a))
-    → zeros ≡ replicate CELLS 0 → FoldsRows step1 zeros tables.subscribers b1 → FoldsRows step2 b1 tables.access b2 → FoldsRows step3 b2 tables.facilities b3 → FoldsRows step4 b3 tables.forwardings b4
-    → c < CELLS → AreKeyed tables → IsRowsOf low high (stored_book tables) → get_or b4 c 0 ≡ cell width c (stored_book tables)
-recounted width c low high tables zeros b1 b2 b3 b4 step1 step2 step3 step4 each1 each2 each3 each4 all folds1 folds2 folds3 folds4 within keyed rows =
-    let len : length zeros ≡ CELLS = ap length all ∙ length-replicate {A = ℕ} CELLS 0 in
-    let at : get_or zeros c 0 ≡ 0 = ap (λ (counts : List ℕ). get_or counts c 0) all ∙ get_or-replicate CELLS c 0 0 within in
+pub recounted : (width c low high : ℕ) (tables : Tables) (t0 t1 t2 t3 t4 : Tallied)
+    (gives1 : MutBor Tallied → ℕ → Bor SubscriberRow → MutBor Tallied → Type 0) (gives2 : MutBor Tallied → ℕ → Bor AccessInfoRow → MutBor Tallied → Type 0)
+    (gives3 : MutBor Tallied → ℕ → Bor SpecialFacilityRow → MutBor Tallied → Type 0) (gives4 : MutBor Tallied → ℕ → Bor CallForwardingRow → MutBor Tallied → Type 0)
+    → ((a : MutBor Tallied) (key : ℕ) (row : Bor SubscriberRow) (b : MutBor Tallied) → gives1 a key row b → (area_of row.now.vlr_location < 16) × (b.now ≡ record a.now { cells = with_subscriber a.now.width row.now a.now.cells }))
+    → ((a : MutBor Tallied) (key : ℕ) (row : Bor AccessInfoRow) (b : MutBor Tallied) → gives2 a key row b → b.now ≡ record a.now { cells = with_row_of a.now.width row.now.s_id a.now.cells })
+    → ((a : MutBor Tallied) (key : ℕ) (row : Bor SpecialFacilityRow) (b : MutBor Tallied) → gives3 a key row b → b.now ≡ record a.now { cells = with_row_of a.now.width row.now.s_id a.now.cells })
+    → ((a : MutBor Tallied) (key : ℕ) (row : Bor CallForwardingRow) (b : MutBor Tallied) → gives4 a key row b → (forwarding_in_range row.now ≡ true) × (b.now ≡ record a.now { cells = with_forwarding a.now.width (is_active_in a.now.facilities row.now) row.now a.now.cells }))
+    → t0 ≡ tallied tables.facilities width (replicate CELLS 0) → WalksRows gives1 t0 tables.subscribers t1 → WalksRows gives2 t1 tables.access t2 → WalksRows gives3 t2 tables.facilities t3 → WalksRows gives4 t3 tables.forwardings t4
+    → c < CELLS → AreKeyed tables → IsRowsOf low high (stored_book tables) → get_or t4.cells c 0 ≡ cell width c (stored_book tables)
+recounted width c low high tables t0 t1 t2 t3 t4 gives1 gives2 gives3 gives4 each1 each2 each3 each4 none walks1 walks2 walks3 walks4 within keyed rows =
+    let f = tables.facilities in
+    let cells : t0.cells ≡ replicate CELLS 0 = ap (λ (t : Tallied). t.cells) none in
+    let len : length t0.cells ≡ CELLS = ap length cells ∙ length-replicate {A = ℕ} CELLS 0 in
+    let at : get_or t0.cells c 0 ≡ 0 = ap (λ (counts : List ℕ). get_or counts c 0) cells ∙ get_or-replicate CELLS c 0 0 within in
     let book = stored_book tables in
     let few1 = few_subscribers book rows.rules in
     let few2 = few_access book rows.rules in
@@ -116,13 +118,17 @@ recounted width c low high tables zeros b1 b2 b3 b4 step1 step2 step3 step4 each
     let len2 = length-map tables.access (λ (pair : ℕ × AccessInfoRow). pair.1) in
     let len3 = length-map tables.facilities (λ (pair : ℕ × SpecialFacilityRow). pair.1) in
     let len4 = length-map tables.forwardings (λ (pair : ℕ × CallForwardingRow). pair.1) in
-    let c1 = counted_by_fold c _ _ _ (subscriber_counter width c) step1 each1 zeros tables.subscribers b1 folds1 (omega arith) (omega arith) in
+    let o0 : t0 ≡ tallied f width t0.cells = none ∙ ap (tallied f width) (sym cells) in
+    let c1 = counted_by_walk f width c _ _ (λ (t : Tallied) row. with_subscriber t.width row t.cells) (subscriber_counter width c) gives1 each1 t0 tables.subscribers t1 o0 walks1 (omega arith) (omega arith) in
     let k1 = c1.keeps in let i1 = c1.counts_in in let l1 = c1.little in
-    let c2 = counted_by_fold c _ _ _ (row_counter width c (λ (row : AccessInfoRow). row.s_id)) step2 (λ a key row b step. (tt, each2 a key row b step)) b1 tables.access b2 folds2 (omega arith) (omega arith) in
+    let o1 = still_over f width c _ t0 tables.subscribers t1 o0 c1 in
+    let c2 = counted_by_walk f width c _ _ (λ (t : Tallied) (row : AccessInfoRow). with_row_of t.width row.s_id t.cells) (row_counter width c (λ (row : AccessInfoRow). row.s_id)) gives2 (λ a key row b step. (tt, each2 a key row b step)) t1 tables.access t2 o1 walks2 (omega arith) (omega arith) in
     let k2 = c2.keeps in let i2 = c2.counts_in in let l2 = c2.little in
-    let c3 = counted_by_fold c _ _ _ (row_counter width c (λ (row : SpecialFacilityRow). row.s_id)) step3 (λ a key row b step. (tt, each3 a key row b step)) b2 tables.facilities b3 folds3 (omega arith) (omega arith) in
+    let o2 = still_over f width c _ t1 tables.access t2 o1 c2 in
+    let c3 = counted_by_walk f width c _ _ (λ (t : Tallied) (row : SpecialFacilityRow). with_row_of t.width row.s_id t.cells) (row_counter width c (λ (row : SpecialFacilityRow). row.s_id)) gives3 (λ a key row b step. (tt, each3 a key row b step)) t2 tables.facilities t3 o2 walks3 (omega arith) (omega arith) in
     let k3 = c3.keeps in let i3 = c3.counts_in in let l3 = c3.little in
-    let c4 = counted_by_fold c _ _ _ (forwarding_counter width c (is_active_in tables.facilities)) step4 each4 b3 tables.forwardings b4 folds4 (omega arith) (omega arith) in
+    let o3 = still_over f width c _ t2 tables.facilities t3 o2 c3 in
+    let c4 = counted_by_walk f width c _ _ (λ (t : Tallied) row. with_forwarding t.width (is_active_in t.facilities row) row t.cells) (forwarding_counter width c (is_active_in f)) gives4 each4 t3 tables.forwardings t4 o3 walks4 (omega arith) (omega arith) in
     let i4 = c4.counts_in in
     let sum = cell_of_sums width c tables keyed in
     omega arith

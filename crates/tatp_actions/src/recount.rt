@@ -1,17 +1,43 @@
 //! What a part holds, counted anew from its rows, and its first subscriber from one on.
-ghost use Rattle.std.specs.Prelude.{◌≡◌, ℕ, ◌<◌, true, slice_index, option_copied};
+ghost use Rattle.std.specs.Prelude.{◌≡◌, ℕ, ◌<◌, true, slice_index, replicate, option_copied};
 ghost use Rattle.tatp_rows.specs.Rows.{forwarding_in_range};
 ghost use Rattle.tatp_rows.specs.Zones.{area_of};
 ghost use Rattle.tatp_actions.specs.Book.{first_subscriber};
 ghost use Rattle.tatp_actions.specs.Cell.{cell};
-ghost use Rattle.tatp_actions.specs.Recount.{one_more_in, with_row_of, with_subscriber, is_active_in, with_forwarding};
+ghost use Rattle.tatp_actions.specs.Recount.{one_more_in, with_row_of, with_subscriber, is_active_at, is_active_in, with_forwarding};
 
 use crate::cells::{CELLS, Cells, FIRST_AREA, FIRST_ZONE};
 use crate::part::Part;
 use mr_subtree::SubTree;
+use std::marker::Model;
 use tatp_rows::{
-    Access, Facility, Forwarding, LAST_SUBSCRIBER, Subscriber, area, row_key, subscriber_key, zone,
+    Facility, Forwarding, LAST_SUBSCRIBER, Subscriber, area, row_key, subscriber_key, zone,
 };
+
+/// The counts of the rows so far, by zones of a width and beside the facilities of a part. Rows come in key order, so the zone
+/// of the last subscriber, and whether the last facility that was asked for is active, serve the rows that follow.
+#[derive(Drop)]
+pub(crate) struct Tally<'a> {
+    cells: Cells,
+    facilities: &'a SubTree<Facility>,
+    width: u32,
+    s_id: u32,
+    zone: u8,
+    facility: u64,
+    is_active: bool,
+}
+
+impl<'a> Model for Tally<'a> {
+    ghost use Rattle.std.specs.Prelude.{◌≡◌};
+    ghost use Rattle.tatp_rows.specs.Zones.{zone_of};
+    ghost use Rattle.tatp_actions.specs.Recount.{Tallied, is_active_at};
+
+    ghost Value = { Tallied };
+
+    ghost view = { λ t. record { cells = t.cells; facilities = t.facilities.now.rows; width = t.width } };
+
+    ghost invariant = { λ t. (t.zone ≡ zone_of t.width t.s_id) × (t.is_active ≡ is_active_at t.facility t.facilities.now.rows) };
+}
 
 /// Counts one more in a cell, where its count has room.
 fn count_with_room(cells: &mut Cells, cell: u8)
@@ -23,64 +49,74 @@ fn count_with_room(cells: &mut Cells, cell: u8)
     }
 }
 
-/// The counts with one more row of a subscriber.
-fn with_row_of(cells: Cells, s_id: u32, width: u32) -> Cells
-    ensures { result ≡ with_row_of width s_id cells }
+/// Whether the facility at a key is there, and active.
+fn is_active(facilities: &SubTree<Facility>, key: u64) -> bool
+    ensures { result ≡ is_active_at key facilities.now.rows }
 {
-    let mut counted = cells;
-    count_with_room(&mut counted, FIRST_ZONE + zone(s_id, width));
-    counted
-}
-
-/// The counts with one more Subscriber row.
-fn with_subscriber(cells: Cells, row: &Subscriber, width: u32) -> Cells
-    ensures area { area_of row.now.vlr_location < 16 }
-    ensures counts { result ≡ with_subscriber width row.now cells }
-{
-    let mut counted = cells;
-    count_with_room(&mut counted, FIRST_AREA + area(row.vlr_location()));
-    with_row_of(counted, row.s_id(), width)
-}
-
-/// The counts with one more Access_Info row.
-pub(crate) fn with_access(cells: Cells, row: &Access, width: u32) -> Cells
-    ensures { result ≡ with_row_of width row.now.s_id cells }
-{
-    with_row_of(cells, row.s_id(), width)
-}
-
-/// The counts with one more Special_Facility row.
-pub(crate) fn with_facility(cells: Cells, row: &Facility, width: u32) -> Cells
-    ensures { result ≡ with_row_of width row.now.s_id cells }
-{
-    with_row_of(cells, row.s_id(), width)
-}
-
-/// Whether the facility of a forwarding is active.
-fn is_active(facilities: &SubTree<Facility>, row: &Forwarding) -> bool
-    ensures { result ≡ is_active_in facilities.now.rows row.now }
-{
-    match facilities.get(row_key(row.s_id(), row.sf_type(), 0)) {
+    match facilities.get(key) {
         Some(facility) => facility.is_active(),
         None => false,
     }
 }
 
-/// The counts with one more Call_Forwarding row.
-pub(crate) fn with_forwarding(
-    cells: Cells,
-    row: &Forwarding,
-    width: u32,
-    facilities: &SubTree<Facility>,
-) -> Cells
-    ensures range { forwarding_in_range row.now ≡ true }
-    ensures counts { result ≡ with_forwarding width (is_active_in facilities.now.rows row.now) row.now cells }
-{
-    let mut counted = cells;
-    if is_active(facilities, row) {
-        count_with_room(&mut counted, row.start_time() / 8);
+impl<'a> Tally<'a> {
+    /// No row counted yet.
+    pub(crate) fn zero(facilities: &'a SubTree<Facility>, width: u32) -> Self
+        ensures { result ≡ record { cells = replicate CELLS 0; facilities = facilities.now.rows; width = width } }
+    {
+        Tally {
+            cells: Cells::zero(),
+            facilities,
+            width,
+            s_id: 0,
+            zone: zone(0, width),
+            facility: 0,
+            is_active: is_active(facilities, 0),
+        }
     }
-    with_row_of(counted, row.s_id(), width)
+
+    /// The count of each cell.
+    pub(crate) fn cells(&self) -> Cells
+        ensures { result ≡ self.now.cells }
+    {
+        self.cells
+    }
+
+    /// Counts a row of a subscriber in the cell of its zone: all that a row of Access_Info or Special_Facility counts.
+    pub(crate) fn count_row(&mut self, s_id: u32)
+        ensures { self.new ≡ record self.old { cells = with_row_of self.old.width s_id self.old.cells } }
+    {
+        if s_id != self.s_id {
+            self.s_id = s_id;
+            self.zone = zone(s_id, self.width);
+        }
+        count_with_room(&mut self.cells, FIRST_ZONE + self.zone);
+    }
+
+    /// Counts a Subscriber row.
+    fn count_subscriber(&mut self, row: &Subscriber)
+        ensures area { area_of row.now.vlr_location < 16 }
+        ensures counts { self.new ≡ record self.old { cells = with_subscriber self.old.width row.now self.old.cells } }
+    {
+        count_with_room(&mut self.cells, FIRST_AREA + area(row.vlr_location()));
+        self.count_row(row.s_id());
+    }
+
+    /// Counts a Call_Forwarding row.
+    pub(crate) fn count_forwarding(&mut self, row: &Forwarding)
+        ensures range { forwarding_in_range row.now ≡ true }
+        ensures counts { self.new ≡ record self.old { cells = with_forwarding self.old.width (is_active_in self.old.facilities row.now) row.now self.old.cells } }
+    {
+        let facility = row_key(row.s_id(), row.sf_type(), 0);
+        if facility != self.facility {
+            self.facility = facility;
+            self.is_active = is_active(self.facilities, facility);
+        }
+        if self.is_active {
+            count_with_room(&mut self.cells, row.start_time() / 8);
+        }
+        self.count_row(row.s_id());
+    }
 }
 
 impl Part {
@@ -88,20 +124,17 @@ impl Part {
     pub fn recount(&self) -> Cells
         ensures { (c : ℕ) → c < CELLS → slice_index result c ≡ cell self.now.width c self.now.book }
     {
-        let width = self.width;
         let rows = &self.rows;
-        let zero = Cells::zero();
-        let subscribers = rows
-            .subscribers
-            .fold(zero, &|cells, _, row| with_subscriber(cells, row, width));
-        let access = rows.access.fold(subscribers, &|cells, _, row| with_access(cells, row, width));
-        let facilities = rows
-            .facilities
-            .fold(access, &|cells, _, row| with_facility(cells, row, width));
-        rows.forwardings.fold(
-            facilities,
-            &|cells, _, row| with_forwarding(cells, row, width, &rows.facilities),
-        )
+        let mut tally = Tally::zero(&rows.facilities, self.width);
+        rows.subscribers
+            .walk(&mut tally, &|tally, _, row| tally.count_subscriber(row));
+        rows.access
+            .walk(&mut tally, &|tally, _, row| tally.count_row(row.s_id()));
+        rows.facilities
+            .walk(&mut tally, &|tally, _, row| tally.count_row(row.s_id()));
+        rows.forwardings
+            .walk(&mut tally, &|tally, _, row| tally.count_forwarding(row));
+        tally.cells()
     }
 
     /// The first Subscriber row of the part from a subscriber on: `None` where there is none, as past 16,777,216.

@@ -5,7 +5,7 @@ mod steps;
 
 use super::*;
 use crate::plain::PlainRows;
-use crate::recount::{with_access, with_facility, with_forwarding};
+use crate::recount::Tally;
 use makers::{access, facility, fill, forwarding, subscriber};
 use mr_subtree::SubTree;
 use std::process::Abort;
@@ -284,21 +284,39 @@ fn rows_by_their_bound(rt: HostRuntime) {
     assert_eq!(rt; kept, [true; 4]);
 }
 
-/// How rows of subscriber 7 count by zones of 4, in the cells of the first two start times and of the zone: a forwarding
-/// without its facility, with it, and with an idle one, then an access and a facility too.
+/// The counts of the first two start times and of zone 1.
+fn counts_seen(cells: &Cells) -> (u64, u64, u64) {
+    (cells.get(0), cells.get(1), cells.get(20))
+}
+
+/// How a forwarding of subscriber 7 counts by zones of 4, once and twice.
+fn counted_twice(facilities: &SubTree<Facility>, row: &Forwarding) -> [(u64, u64, u64); 2] {
+    let mut tally = Tally::zero(facilities, 4);
+    tally.count_forwarding(row);
+    let once = tally.cells();
+    tally.count_forwarding(row);
+    [counts_seen(&once), counts_seen(&tally.cells())]
+}
+
+/// How rows of subscriber 7 count by zones of 4: a forwarding without its facility, with it, and with an idle one, and at
+/// last an access, and a facility too.
 fn counted(
     facilities: &mut SubTree<Facility>,
     access: &Access,
     facility: Facility,
     forwarding: &Forwarding,
-) -> [(u64, u64, u64); 4] {
-    let none = with_forwarding(Cells::zero(), forwarding, 4, facilities);
+) -> [[(u64, u64, u64); 2]; 4] {
+    let none = counted_twice(facilities, forwarding);
     let _ = facilities.insert(facility.key(), facility);
-    let active = with_forwarding(none, forwarding, 4, facilities);
+    let active = counted_twice(facilities, forwarding);
     let _ = facilities.replace(facility.key(), facility.with_is_active(false));
-    let idle = with_forwarding(active, forwarding, 4, facilities);
-    let more = with_facility(with_access(idle, access, 4), &facility, 4);
-    [none, active, idle, more].map(|cells| (cells.get(0), cells.get(1), cells.get(20)))
+    let idle = counted_twice(facilities, forwarding);
+    let mut tally = Tally::zero(facilities, 4);
+    tally.count_row(access.s_id());
+    let one = tally.cells();
+    tally.count_row(facility.s_id());
+    let rows = [counts_seen(&one), counts_seen(&tally.cells())];
+    [none, active, idle, rows]
 }
 
 #[test]
@@ -312,6 +330,15 @@ fn counted_rows(rt: HostRuntime) {
     one.count_one(19);
     assert_eq!(rt;
         (seen, one.get(19), Change::none().notes().len()),
-        ([(0, 0, 1), (0, 1, 2), (0, 1, 3), (0, 1, 5)], 1, 0)
+        (
+            [
+                [(0, 0, 1), (0, 0, 2)],
+                [(0, 1, 1), (0, 2, 2)],
+                [(0, 0, 1), (0, 0, 2)],
+                [(0, 0, 1), (0, 0, 2)]
+            ],
+            1,
+            0
+        )
     );
 }

@@ -1,0 +1,6 @@
+use Rattle.std.proofs.Common.{ap}
+use Rattle.mr_node.proofs.FoldLemmas.{folds_same}
+use Rattle.mr_subtree.proofs.subtree.SubTree.walk.Goals as goal
+
+pub returns : goal.returns
+returns g c = folds_same _ c.args.so_far.now _ c.self.inside.root.rows c.args.self.now.rows (ap (λ s. s.rows) c.self.view_is) c.walk.ensures
