@@ -11,7 +11,8 @@ use Rattle.csv.specs.declared.parser.State.TheVariants as st
 use Rattle.csv.specs.declared.reader.Reader.{Reader}
 use Rattle.csv.proofs.ReadFacts.{rows-more, rows-end}
 use Rattle.hlr_core.specs.Store.{Store}
-use Rattle.hlr.specs.Records.{command_of}
+use Rattle.hlr.specs.Records.{command_of, command_named, field, word_named}
+use Rattle.hlr.specs.declared.records.Word.{Word}
 use Rattle.hlr.specs.Sink.{AppendsFront}
 use Rattle.hlr.specs.Text.{CommandText, RecordText, RecordsText, RecordDone, RecordCut, WritesWhole, AnsweredRecords, RanWhole, RanFront, Ran}
 use Rattle.tatp_rows.specs.declared.refusal.Refusal.{Refusal}
@@ -244,3 +245,9 @@ pub ran_flushed : (known source : Option (List ℕ)) (start : Store) (old mid ne
 ran_flushed None source start old mid new done r is ran kept ended = tt
 ran_flushed (Some bytes) source start old mid new done r is ran kept ended =
     ran_finished start (strip_bom bytes) old mid new done r (subst (λ (o : Option (List ℕ)). IfSome o (λ bytes. Ran start bytes old mid done)) is ran) kept ended
+
+-- the answer to a record whose word is known
+pub named_text : (fields : List (List ℕ)) (named : Option Word) (before after : Store) (text : List ℕ) → named ≡ word_named (field fields 0) → CommandText fields (command_named named fields) before text after
+    → RecordText fields before text after
+unfolding command_of
+named_text fields named before after text is answer = subst (λ (w : Option Word). CommandText fields (command_named w fields) before text after) is answer

@@ -1,6 +1,7 @@
 //! A home location register: command records on standard input, an answer for each on standard output.
 #![tactic(auto)]
 
+mod answers;
 mod fault;
 mod fields;
 mod lines;

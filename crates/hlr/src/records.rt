@@ -111,7 +111,7 @@ pub fn word_of(text: &[u8]) -> Option<Word>
 }
 
 /// The field at a place, which is empty where there is none.
-fn field(row: &ByteRecord, i: usize) -> &[u8]
+pub fn field(row: &ByteRecord, i: usize) -> &[u8]
     ensures { result.now ≡ field (fields_of row.now) i }
 {
     row.get(i).unwrap_or(&[])
@@ -340,7 +340,8 @@ pub fn read_bounds(row: &ByteRecord) -> Result<ArrayVec<u64, MOST_BOUNDS>, Refus
 }
 
 /// The command that a word and the fields after it give: `Syntax` where there are more or fewer fields than it has, or a
-/// side is neither `low` nor `high`; then `Field` where one isn't of its form or is out of its range.
+/// side is neither `low` nor `high`; then `Field` where one isn't of its form or is out of its range. The bounds of a re-cut
+/// are not read here: a command that has room for fifteen is slow to hand on.
 fn read_fields(word: Word, row: &ByteRecord) -> Result<Command, Refusal>
     ensures { result ≡ command_named (Some word) (fields_of row.now) }
 {
@@ -370,15 +371,11 @@ fn read_fields(word: Word, row: &ByteRecord) -> Result<Command, Refusal>
     }
 }
 
-/// The command that a record is: `Syntax` where its first field is no word of this program, it has more or fewer fields
-/// than the command, or a side is neither `low` nor `high`; then `Field` where a field isn't of its form or is out of
-/// its range. The bounds of a re-cut are not read here: a command that has room for fifteen is slow to hand on.
+/// The command that a record is whose first field is this word.
 #[tactic(auto, unfolding(crate::specs::Records::command_of))]
-pub fn read_command(row: &ByteRecord) -> Result<Command, Refusal>
+pub fn read_command(word: Word, row: &ByteRecord) -> Result<Command, Refusal>
+    requires { Some word ≡ word_named (field (fields_of row.now) 0) }
     ensures { result ≡ command_of (fields_of row.now) }
 {
-    match word_of(field(row, 0)) {
-        Some(word) => read_fields(word, row),
-        None => Err(Refusal::Syntax),
-    }
+    read_fields(word, row)
 }

@@ -1,5 +1,5 @@
 //! A run: every record of a reader is answered.
-ghost use Rattle.std.specs.Prelude.{◌≡◌, ◌≢◌, ◌⊎◌, ◌↔◌, true, false, Err, Ok, IfSome, OnOk, OnErr};
+ghost use Rattle.std.specs.Prelude.{◌≡◌, ◌≢◌, ◌⊎◌, ◌↔◌, true, false, Some, Err, Ok, IfSome, OnOk, OnErr};
 ghost use Rattle.std.specs.Result.{is_err};
 ghost use Rattle.std.specs.Io.KnownBytes.{Keeps};
 ghost use Rattle.csv.specs.Reading.{Ready, default_config, reader_config, reader_state, reader_trim, source_of, strip_bom};
@@ -8,15 +8,16 @@ ghost use Rattle.csv.specs.declared.parser.State.TheVariants as state;
 ghost use Rattle.csv.specs.declared.reader.Trim.TheVariants as trim;
 ghost use Rattle.hlr_core.specs.Store.{HasOpening, opening};
 ghost use Rattle.hlr.specs.WholeRecords.{inner_remaining};
-ghost use Rattle.hlr.specs.Records.{command_of};
+ghost use Rattle.hlr.specs.Records.{command_of, field, word_named};
 ghost use Rattle.hlr.specs.Text.{IsFlushedAfter, Ran, RecordCut, RecordDone};
 ghost use Rattle.hlr.specs.declared.records.Command.TheVariants as command;
 ghost use Rattle.tatp_rows.specs.declared.refusal.Refusal.TheVariants as refusal;
 ghost use Rattle.hlr.specs.declared.fault.Fault.TheVariants as fault;
 
+use crate::answers::{build_gad, build_gnd, build_gsd};
 use crate::fault::{Fault, read_fault};
 use crate::lines::{Line, build_recut, build_refused, build_reply, empty_line};
-use crate::records::{Command, read_bounds, read_command};
+use crate::records::{Command, Word, field, read_bounds, read_command, word_of};
 use crate::reports::{write_index, write_proposal, write_regions, write_scan, write_views};
 use crate::sink::{Sink, Stalled, put_all};
 use crate::whole_records::WholeRecords;
@@ -51,19 +52,24 @@ fn write_recut<S: Sink>(
     put_all(sink, line.as_slice())
 }
 
-/// Answers a record. The line is the memory to build the answer in. Where the sink fails, a front of the answer was
-/// taken.
-fn answer<S: Sink>(
+/// Answers a record whose word is known. The line is the memory to build the answer in. Where the sink fails, a front of
+/// the answer was taken.
+///
+/// It is not inlined: an event's room would be filled with zeros in each answer to a read.
+#[inline(never)]
+fn answer_other<S: Sink>(
+    word: Word,
     row: &ByteRecord,
     register: &mut Register,
     line: &mut Line,
     sink: &mut S,
 ) -> Result<(), Stalled>
+    requires { Some word ≡ word_named (field (fields_of row.now) 0) }
     ensures ok { OnOk result (RecordDone (fields_of row.now) register.old register.new (S.taken sink.old) (S.taken sink.new)) }
     ensures err { OnErr result (RecordCut (fields_of row.now) register.old register.new (S.taken sink.old) (S.taken sink.new)) }
     ensures told { OnErr result (S.has_stalled sink.new ≡ true) }
 {
-    match read_command(row) {
+    match read_command(word, row) {
         Ok(Command::Ask(event)) => {
             let reply = register.apply(event);
             build_reply(line, &reply);
@@ -77,6 +83,50 @@ fn answer<S: Sink>(
         Ok(Command::Recut) => write_recut(row, register, line, sink),
         Err(why) => {
             build_refused(line, why);
+            put_all(sink, line.as_slice())
+        }
+    }
+}
+
+/// Answers a record whose first field is this word.
+fn answer_word<S: Sink>(
+    word: Word,
+    row: &ByteRecord,
+    register: &mut Register,
+    line: &mut Line,
+    sink: &mut S,
+) -> Result<(), Stalled>
+    requires { Some word ≡ word_named (field (fields_of row.now) 0) }
+    ensures ok { OnOk result (RecordDone (fields_of row.now) register.old register.new (S.taken sink.old) (S.taken sink.new)) }
+    ensures err { OnErr result (RecordCut (fields_of row.now) register.old register.new (S.taken sink.old) (S.taken sink.new)) }
+    ensures told { OnErr result (S.has_stalled sink.new ≡ true) }
+{
+    match word {
+        Word::Gsd => build_gsd(row, register, line),
+        Word::Gad => build_gad(row, register, line),
+        Word::Gnd => build_gnd(row, register, line),
+        other => return answer_other(other, row, register, line, sink),
+    }
+    put_all(sink, line.as_slice())
+}
+
+/// Answers a record. The line is the memory to build the answer in. Where the sink fails, a front of the answer was
+/// taken.
+#[tactic(auto, unfolding(crate::specs::Records::command_of))]
+fn answer<S: Sink>(
+    row: &ByteRecord,
+    register: &mut Register,
+    line: &mut Line,
+    sink: &mut S,
+) -> Result<(), Stalled>
+    ensures ok { OnOk result (RecordDone (fields_of row.now) register.old register.new (S.taken sink.old) (S.taken sink.new)) }
+    ensures err { OnErr result (RecordCut (fields_of row.now) register.old register.new (S.taken sink.old) (S.taken sink.new)) }
+    ensures told { OnErr result (S.has_stalled sink.new ≡ true) }
+{
+    match word_of(field(row, 0)) {
+        Some(word) => answer_word(word, row, register, line, sink),
+        None => {
+            build_refused(line, Refusal::Syntax);
             put_all(sink, line.as_slice())
         }
     }

@@ -11,6 +11,7 @@ pub mod HeldLemmas
 pub mod HoldingsLemmas
 pub mod IndexLemmas
 pub mod KeptLemmas
+pub mod LentLemmas
 pub mod MayGatherLemmas
 mod NotedLemmas
 pub mod NumbersLemmas

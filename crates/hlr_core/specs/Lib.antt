@@ -4,6 +4,7 @@ pub mod Gather
 pub mod Held
 pub mod Index
 pub mod Kept
+pub mod Lent
 pub mod Noted
 pub mod Numbers
 pub mod Owners

@@ -17,6 +17,7 @@ ghost use Rattle.view_board.specs.declared.words.TheConstants.{SLOTS};
 ghost use Rattle.holding.specs.Held.{HasSmallNets};
 ghost use Rattle.hlr_core.specs.Desks.{AreLevel, desk_of};
 ghost use Rattle.hlr_core.specs.Gather.{MayGather, misfit, gathered, owners_of};
+ghost use Rattle.hlr_core.specs.Lent.{HasRowsOf};
 ghost use Rattle.hlr_core.specs.Held.{IsOpened, AreHeld, of_holding, of_piece, pending_in};
 ghost use Rattle.hlr_core.specs.Owners.{seen, store_of, unboxed};
 ghost use Rattle.hlr_core.specs.Prepared.{IsSurveyed};
@@ -234,6 +235,18 @@ impl Holdings {
     {
         match self.regions.place(s_id) {
             Place::Part(part) => Ok(part),
+            Place::Piece(_) => Err(Refusal::Moving),
+        }
+    }
+
+    /// The holding of a subscriber, to be read, or `Moving` where a loose piece has them.
+    pub fn holding_of(&self, s_id: u32) -> Result<&Holding, Refusal>
+        requires { IsWithin 1 (LAST_SUBSCRIBER + 1) s_id }
+        ensures home { IfOk result (λ holding. HasRowsOf s_id self.now holding.now) }
+        ensures moving { OnErr result ((result ≡ Err Refusal.Moving) × (is_loose s_id self.now.regions ≡ true)) }
+    {
+        match self.regions.place(s_id) {
+            Place::Part(part) => Ok(&*self.holdings[usize::from(part)]),
             Place::Piece(_) => Err(Refusal::Moving),
         }
     }

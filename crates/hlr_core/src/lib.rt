@@ -14,6 +14,7 @@ mod gather;
 #[cfg(test)]
 mod gather_tests;
 mod holdings;
+mod lending;
 mod level;
 mod numbers;
 mod owner;

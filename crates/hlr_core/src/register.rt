@@ -23,12 +23,16 @@ use crate::gather::{Prepared, Scattered};
 use crate::holdings::Holdings;
 use crate::level::are_level;
 use crate::weights::zone_weights;
+use arrayvec::ArrayVec;
 use number_index::NumberIndex;
 use part_table::{Bounds, Regions, Side, can_open};
 use std::alloc::Global;
 use std::marker::Model;
 use tatp_actions::{Action, CELLS, Cells, RowReply};
-use tatp_rows::{Back, LAST_SUBSCRIBER, Number, Refusal, Subscriber, in_range};
+use tatp_rows::{
+    Access, Back, LAST_SUBSCRIBER, Number, Refusal, Subscriber, byte_in_range, in_range,
+    is_start_time,
+};
 use view_board::{Sight, WORDS};
 
 /// A home location register, seen as the store of the definitions: its rows, the regions, the words of the board, what was
@@ -151,6 +155,62 @@ impl Register {
             index,
             alloc,
         })
+    }
+
+    /// GET_SUBSCRIBER_DATA (TATP, section 3.1), as `Event::SubscriberData`, but the row is lent from where it lies: `Field`,
+    /// `Moving`, `NoSubscriber`.
+    pub fn lend_subscriber(&self, s_id: u64) -> Result<&Subscriber, Refusal>
+        ensures row { IfOk result (λ row. IsStep (Event.SubscriberData s_id) self.now (Reply.Rows (RowReply.Row row.now)) self.now) }
+        ensures refused { IfErr result (λ why. IsStep (Event.SubscriberData s_id) self.now (Reply.Refused why) self.now) }
+    {
+        let Ok(s_id) = in_range(s_id, LAST_SUBSCRIBER) else {
+            return Err(Refusal::Field);
+        };
+        self.holdings.lend_subscriber(s_id)
+    }
+
+    /// GET_ACCESS_DATA (TATP, section 3.3), as `Event::AccessData`, but the row is lent from where it lies: `Field`, `Moving`,
+    /// `NoAccess`.
+    pub fn lend_access(&self, s_id: u64, ai_type: u64) -> Result<&Access, Refusal>
+        ensures row { IfOk result (λ row. IsStep (Event.AccessData s_id ai_type) self.now
+            (Reply.Rows (RowReply.AccessRow row.now.data1 row.now.data2 row.now.data3 row.now.data4)) self.now) }
+        ensures refused { IfErr result (λ why. IsStep (Event.AccessData s_id ai_type) self.now (Reply.Refused why) self.now) }
+    {
+        let Ok(s_id) = in_range(s_id, LAST_SUBSCRIBER) else {
+            return Err(Refusal::Field);
+        };
+        let Ok(ai_type) = byte_in_range(ai_type, 4) else {
+            return Err(Refusal::Field);
+        };
+        self.holdings.lend_access(s_id, ai_type)
+    }
+
+    /// GET_NEW_DESTINATION (TATP, section 3.2), as `Event::NewDestination`: the numbers, one to three, of forwardings that are
+    /// read where they lie: `Field`, `Moving`, `NoDestination`.
+    pub fn destinations(
+        &self,
+        s_id: u64,
+        sf_type: u64,
+        start_time: u64,
+        end_time: u64,
+    ) -> Result<ArrayVec<Number, 3>, Refusal>
+        ensures numbers { IfOk result (λ numbers. IsStep (Event.NewDestination s_id sf_type start_time end_time) self.now (Reply.Rows (RowReply.Numbers numbers)) self.now) }
+        ensures refused { IfErr result (λ why. IsStep (Event.NewDestination s_id sf_type start_time end_time) self.now (Reply.Refused why) self.now) }
+    {
+        let Ok(s_id) = in_range(s_id, LAST_SUBSCRIBER) else {
+            return Err(Refusal::Field);
+        };
+        let Ok(sf_type) = byte_in_range(sf_type, 4) else {
+            return Err(Refusal::Field);
+        };
+        if !is_start_time(start_time) {
+            return Err(Refusal::Field);
+        }
+        let Ok(end_time) = byte_in_range(end_time, 24) else {
+            return Err(Refusal::Field);
+        };
+        self.holdings
+            .destinations(s_id, sf_type, start_time as u8, end_time)
     }
 
     /// Applies an event, and replies to it. A refusal changes nothing; after `Worn` the cells posted before stand.

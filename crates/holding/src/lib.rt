@@ -7,6 +7,7 @@
 
 mod holding;
 mod job;
+mod lending;
 mod moving;
 mod piece;
 #[cfg(test)]

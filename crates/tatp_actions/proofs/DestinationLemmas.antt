@@ -88,6 +88,12 @@ module _ (book : Book) (s t a e : ℕ) (rules : IsBook book) where
       ∙ ap (λ (ns : List ℕ). (option_to_list (destination s t a e (forwarding_at book s t 0)) ++ ns) ++ map number at_16) (one_kept (forwarding_at book s t 8))
       ∙ ap (λ (ns : List ℕ). (option_to_list (destination s t a e (forwarding_at book s t 0)) ++ option_to_list (destination s t a e (forwarding_at book s t 8))) ++ ns) (one_kept (forwarding_at book s t 16)))
 
+  -- and what they find of an active facility are its destinations
+  pub numbers_lent : (n0 n8 n16 : Option ℕ) (numbers : List ℕ) → true ≡ has_active (facility_at book s t)
+      → n0 ≡ destination s t a e (forwarding_at book s t 0) → n8 ≡ destination s t a e (forwarding_at book s t 8) → n16 ≡ destination s t a e (forwarding_at book s t 16)
+      → numbers ≡ (option_to_list n0 ++ option_to_list n8) ++ option_to_list n16 → numbers ≡ destinations book s t a e
+  numbers_lent n0 n8 n16 numbers active is0 is8 is16 gathered = rw (← active, gathered, is0, is8, is16) three_found
+
 -- the answer to numbers that were found, and to none
 numbers_answered : (book : Book) (ns : List ℕ) → (length ns == 0) ≡ false → new_destination book ns ≡ (reply.Numbers (record { items = ns }), book)
 numbers_answered book [] some = absurd cc

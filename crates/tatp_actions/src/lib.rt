@@ -13,6 +13,7 @@ mod change;
 mod cut_tests;
 mod cutting;
 mod keyed;
+mod lending;
 mod part;
 #[cfg(test)]
 mod plain;

@@ -14,7 +14,7 @@ use arrayvec::ArrayVec;
 use tatp_rows::{Forwarding, Number, Refusal, is_between, is_start_time};
 
 /// The numbers that were found, in order.
-fn numbers_of(
+pub(crate) fn numbers_of(
     first: Option<Number>,
     second: Option<Number>,
     third: Option<Number>,

@@ -1,6 +1,6 @@
 use Rattle.std.proofs.Common.{refl, ◌∙◌}
 use Rattle.hlr.proofs.RunFacts.{answered_whole, answered_front}
-use Rattle.hlr.proofs.run.answer.Goals as goal
+use Rattle.hlr.proofs.run.answer_other.Goals as goal
 
 pub returns-in-Err-clause-ok : goal.returns-in-Err-clause-ok
 returns-in-Err-clause-ok g c =

@@ -1,0 +1,96 @@
+//! The answers to reads, built from rows that the register lends.
+ghost use Rattle.std.specs.Prelude.{◌≡◌, ◌==◌, Some, IfOk, IfErr, length, if◌then◌else◌, Ok, Err};
+ghost use Rattle.csv.specs.Records.{fields_of};
+ghost use Rattle.hlr.specs.Lines.{access_line, numbers_line, refused_line, subscriber_line};
+ghost use Rattle.hlr.specs.Records.{command_named};
+ghost use Rattle.hlr.specs.declared.records.Word.TheVariants as word;
+ghost use Rattle.hlr.specs.Text.{CommandText};
+
+use crate::fields::parse_number;
+use crate::lines::{Line, build_access, build_numbers, build_refused, build_subscriber};
+use crate::records::field;
+use arrayvec::ArrayVec;
+use csv::ByteRecord;
+use hlr_core::Register;
+use tatp_rows::{Access, Number, Refusal, Subscriber};
+
+/// `Syntax` unless a record has so many fields.
+fn check_len(row: &ByteRecord, len: usize) -> Result<(), Refusal>
+    ensures { result ≡ (if length (fields_of row.now) == len then Ok tt else Err Refusal.Syntax) }
+{
+    if row.len() == len {
+        return Ok(());
+    }
+    Err(Refusal::Syntax)
+}
+
+/// The row that `gsd,S` reads: `Syntax`, `Field`, `Moving`, `NoSubscriber`.
+fn find_subscriber<'a>(row: &ByteRecord, register: &'a Register) -> Result<&'a Subscriber, Refusal>
+    ensures found { IfOk result (λ found. CommandText (fields_of row.now) (command_named (Some word.Gsd) (fields_of row.now)) register.now (subscriber_line found.now) register.now) }
+    ensures refused { IfErr result (λ why. CommandText (fields_of row.now) (command_named (Some word.Gsd) (fields_of row.now)) register.now (refused_line why) register.now) }
+{
+    check_len(row, 2)?;
+    let s_id = parse_number(field(row, 1))?;
+    register.lend_subscriber(s_id)
+}
+
+/// The row that `gad,S,ai_type` reads: `Syntax`, `Field`, `Moving`, `NoAccess`.
+fn find_access<'a>(row: &ByteRecord, register: &'a Register) -> Result<&'a Access, Refusal>
+    ensures found { IfOk result (λ found. CommandText (fields_of row.now) (command_named (Some word.Gad) (fields_of row.now)) register.now
+        (access_line found.now.data1 found.now.data2 found.now.data3 found.now.data4) register.now) }
+    ensures refused { IfErr result (λ why. CommandText (fields_of row.now) (command_named (Some word.Gad) (fields_of row.now)) register.now (refused_line why) register.now) }
+{
+    check_len(row, 3)?;
+    let s_id = parse_number(field(row, 1))?;
+    let ai_type = parse_number(field(row, 2))?;
+    register.lend_access(s_id, ai_type)
+}
+
+/// The numbers that `gnd,S,sf_type,start_time,end_time` reads: `Syntax`, `Field`, `Moving`, `NoDestination`.
+fn find_numbers(row: &ByteRecord, register: &Register) -> Result<ArrayVec<Number, 3>, Refusal>
+    ensures found { IfOk result (λ found. CommandText (fields_of row.now) (command_named (Some word.Gnd) (fields_of row.now)) register.now (numbers_line found.items) register.now) }
+    ensures refused { IfErr result (λ why. CommandText (fields_of row.now) (command_named (Some word.Gnd) (fields_of row.now)) register.now (refused_line why) register.now) }
+{
+    check_len(row, 5)?;
+    let s_id = parse_number(field(row, 1))?;
+    let sf_type = parse_number(field(row, 2))?;
+    let start_time = parse_number(field(row, 3))?;
+    let end_time = parse_number(field(row, 4))?;
+    register.destinations(s_id, sf_type, start_time, end_time)
+}
+
+/// Builds the answer to a record whose word is `gsd`: `gsd,S`.
+pub fn build_gsd(row: &ByteRecord, register: &Register, line: &mut Line)
+    ensures { CommandText (fields_of row.now) (command_named (Some word.Gsd) (fields_of row.now)) register.now line.new.items register.now }
+{
+    match find_subscriber(row, register) {
+        Ok(found) => build_subscriber(line, found),
+        Err(why) => build_refused(line, why),
+    }
+}
+
+/// Builds the answer to a record whose word is `gad`: `gad,S,ai_type`.
+pub fn build_gad(row: &ByteRecord, register: &Register, line: &mut Line)
+    ensures { CommandText (fields_of row.now) (command_named (Some word.Gad) (fields_of row.now)) register.now line.new.items register.now }
+{
+    match find_access(row, register) {
+        Ok(found) => build_access(
+            line,
+            found.data1(),
+            found.data2(),
+            found.data3(),
+            found.data4(),
+        ),
+        Err(why) => build_refused(line, why),
+    }
+}
+
+/// Builds the answer to a record whose word is `gnd`: `gnd,S,sf_type,start_time,end_time`.
+pub fn build_gnd(row: &ByteRecord, register: &Register, line: &mut Line)
+    ensures { CommandText (fields_of row.now) (command_named (Some word.Gnd) (fields_of row.now)) register.now line.new.items register.now }
+{
+    match find_numbers(row, register) {
+        Ok(found) => build_numbers(line, &found),
+        Err(why) => build_refused(line, why),
+    }
+}

@@ -1,0 +1,6 @@
+use Rattle.tatp_rows.specs.Keys.{subscriber_key}
+use Rattle.tatp_actions.proofs.StoredLemmas.{found_in}
+use Rattle.tatp_actions.proofs.lending.Part.lend_subscriber.Goals as goal
+
+pub returns : goal.returns
+returns c = rw (← c.self.view_is) (found_in subscriber_key _ _ _ _ c.self.invariant.1.subscribers c.subscriber_key.ensures c.get.ensures)
