@@ -15,7 +15,7 @@ use hlr_core::Register;
 use tatp_rows::{Access, Number, Refusal, Subscriber};
 
 /// `Syntax` unless a record has so many fields.
-fn check_len(row: &ByteRecord, len: usize) -> Result<(), Refusal>
+pub fn check_len(row: &ByteRecord, len: usize) -> Result<(), Refusal>
     ensures { result ≡ (if length (fields_of row.now) == len then Ok tt else Err Refusal.Syntax) }
 {
     if row.len() == len {

@@ -3,6 +3,7 @@ ghost use Rattle.std.specs.Prelude.{◌≡◌, ◌≤◌, ◌<◌, ◌+◌, ◌*
 ghost use Rattle.std.specs.List.{flat_map};
 ghost use Rattle.arrayvec.specs.ArrayVec.{array_vec_len};
 ghost use Rattle.tatp_rows.specs.Number.{number_text};
+ghost use Rattle.hlr_core.specs.Step.{edited_reply};
 ghost use Rattle.hlr.specs.Lines.{hex_digit, hexes_text, bytes_text, numbers_text, ok_line, refused_line, subscriber_line, numbers_line, access_line, total_line, cell_line, counted_line, number_line, place_text, region_line, taken_line, decimals_text, bounds_line, recut_line, row_reply_line, reply_line};
 
 use arrayvec::ArrayVec;
@@ -330,6 +331,16 @@ fn build_row_reply(line: &mut Line, reply: &RowReply)
             data4,
         } => build_access(line, *data1, *data2, *data3, *data4),
         RowReply::Refused(why) => build_refused(line, *why),
+    }
+}
+
+/// Builds the line of what was done, or refused.
+pub fn build_done(line: &mut Line, done: Result<(), Refusal>)
+    ensures { line.new.items ≡ reply_line (edited_reply done) }
+{
+    match done {
+        Ok(()) => build_ok(line),
+        Err(why) => build_refused(line, why),
     }
 }
 

@@ -2,6 +2,7 @@
 #![tactic(auto)]
 
 mod answers;
+mod edits;
 mod fault;
 mod fields;
 mod lines;

@@ -15,8 +15,12 @@ ghost use Rattle.tatp_rows.specs.declared.refusal.Refusal.TheVariants as refusal
 ghost use Rattle.hlr.specs.declared.fault.Fault.TheVariants as fault;
 
 use crate::answers::{build_gad, build_gnd, build_gsd};
+use crate::edits::{
+    add_access, add_facility, add_subscriber, delete_forwarding, insert_forwarding, set_active,
+    set_number, update_location, update_subscriber,
+};
 use crate::fault::{Fault, read_fault};
-use crate::lines::{Line, build_recut, build_refused, build_reply, empty_line};
+use crate::lines::{Line, build_done, build_recut, build_refused, build_reply, empty_line};
 use crate::records::{Command, Word, field, read_bounds, read_command, word_of};
 use crate::reports::{write_index, write_proposal, write_regions, write_scan, write_views};
 use crate::sink::{Sink, Stalled, put_all};
@@ -105,6 +109,15 @@ fn answer_word<S: Sink>(
         Word::Gsd => build_gsd(row, register, line),
         Word::Gad => build_gad(row, register, line),
         Word::Gnd => build_gnd(row, register, line),
+        Word::Usd => build_done(line, update_subscriber(row, register)),
+        Word::Ul => build_done(line, update_location(row, register)),
+        Word::Icf => build_done(line, insert_forwarding(row, register)),
+        Word::Dcf => build_done(line, delete_forwarding(row, register)),
+        Word::Sub => build_done(line, add_subscriber(row, register)),
+        Word::Acc => build_done(line, add_access(row, register)),
+        Word::Fac => build_done(line, add_facility(row, register)),
+        Word::Active => build_done(line, set_active(row, register)),
+        Word::Number => build_done(line, set_number(row, register)),
         other => return answer_other(other, row, register, line, sink),
     }
     put_all(sink, line.as_slice())

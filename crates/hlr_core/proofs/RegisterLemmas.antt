@@ -1,6 +1,6 @@
 -- Right steps of the register, from what its holdings and its index do.
-use Rattle.std.proofs.Common.{◌≡◌, ◌≢◌, ℕ, ◌+◌, refl, List, Bool, true, false, Option, Some, None, Ok, Err, sym, ap, ◌∙◌, inl, inr}
-use Rattle.std.specs.Prelude.{is_some, option_map, ◌||◌, IsSome}
+use Rattle.std.proofs.Common.{◌≡◌, ◌≢◌, ℕ, ◌+◌, refl, List, Bool, true, false, Option, Some, None, Result, Ok, Err, sym, ap, ◌∙◌, inl, inr}
+use Rattle.std.specs.Prelude.{is_some, option_map, ◌||◌, IsSome, IfOk, IfErr, MatchResult}
 use Rattle.tatp_rows.specs.Rows.{SubscriberRow}
 use Rattle.tatp_rows.specs.declared.refusal.Refusal.TheVariants as refusal
 use Rattle.tatp_rows.specs.Keys.{subscriber_key}
@@ -10,7 +10,7 @@ use Rattle.tatp_rows.specs.declared.refusal.Refusal.{Refusal}
 use Rattle.tatp_rows.proofs.OrderedLemmas.{without_row-with_row}
 use Rattle.mr_node.specs.Rows.{key_of_pair}
 use Rattle.number_index.specs.Pairs.{pair_of, IsAdded}
-use Rattle.tatp_actions.specs.Action.{adds_row, is_in_range, s_id_of, effect, add_subscriber, IsOutcome}
+use Rattle.tatp_actions.specs.Action.{adds_row, is_in_range, s_id_of, effect, add_subscriber, done_reply, IsOutcome}
 use Rattle.tatp_actions.specs.Book.{Book, IsRowsOf, subscriber_at}
 use Rattle.tatp_actions.specs.declared.action.Action.{Action}
 use Rattle.tatp_actions.specs.declared.action.Action.TheVariants as action
@@ -21,7 +21,7 @@ use Rattle.part_table.specs.declared.region.Place.TheVariants.{Part}
 use Rattle.hlr_core.specs.Asked.{IsAsked, IsAnswered}
 use Rattle.hlr_core.specs.Index.{IsRegister}
 use Rattle.hlr_core.specs.Numbers.{owner_of}
-use Rattle.hlr_core.specs.Step.{IsRowStep, is_loose, IsWholeOutcome, given_number, takes_number, changes_number, whole_effect, reply_of}
+use Rattle.hlr_core.specs.Step.{IsRowStep, is_loose, IsWholeOutcome, given_number, takes_number, changes_number, whole_effect, reply_of, edited_reply}
 use Rattle.hlr_core.specs.Store.{Store}
 use Rattle.hlr_core.specs.declared.event.Reply.{Reply}
 use Rattle.hlr_core.specs.declared.event.Reply.TheVariants as reply
@@ -82,6 +82,21 @@ asked_step false wanted act before after rows answer gives asked answered same i
     fields_refused act before after rows answer same is (is_loose (s_id_of act) before.regions) asked.1 answered
 asked_step true wanted act before after rows answer gives asked answered same is =
     rw (asked.0) (answered_step act before after rows answer same is (is_loose (s_id_of act) before.regions) refl gives (sym asked.1) answered)
+
+-- the reply to an event that changes rows is the rows' own
+pub edited_is : (done : Result (Unit {0}) Refusal) → edited_reply done ≡ reply_of (done_reply done)
+edited_is (Ok u) = refl
+edited_is (Err why) = refl
+
+-- what is refused is not done
+pub not_done : (why : Refusal) → row_reply.Refused why ≡ row_reply.Done → ⊥
+not_done why is = cc
+
+-- the reply that is made of what was lent, or of a refusal, is as right as these are
+pub lent_is : {A : Type 0} (say : A → Reply) (P : Reply → Type 0) (r : Result A Refusal) (answer : Reply)
+    → MatchResult r (λ x. answer ≡ say x) (λ why. answer ≡ reply.Refused why) → IfOk r (λ x. P (say x)) → IfErr r (λ why. P (reply.Refused why)) → P answer
+lent_is say P (Ok x) answer is ok err = rw is ok
+lent_is say P (Err why) answer is ok err = rw is err
 
 -- a refusal of the rows comes before that of a number
 pub refused_step : (act : Action) (before : Store) (why : Refusal) → is_loose (s_id_of act) before.regions ≡ false → effect act before.book ≡ (row_reply.Refused why, before.book) → IsRowStep true (Some act) before (reply.Refused why) before

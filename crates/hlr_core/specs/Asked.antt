@@ -32,3 +32,8 @@ abbrev pub IsAnswered : Bool → Action → Book → RowReply → Book → Type 
 IsAnswered false act before answer after = IsOutcome act before answer after
 IsAnswered true act before answer after =
     (answer ≡ row_reply.Refused (if is_in_range act then refusal.Moving else refusal.Field)) × (after ≡ before)
+
+-- the action that an edit asks for, which is an action by way of its type
+abbrev pub action_asked : {E : Type 0} → (E → Action) → Result E Refusal → Result Action Refusal
+action_asked action (Ok edit) = Ok (action edit)
+action_asked action (Err why) = Err why

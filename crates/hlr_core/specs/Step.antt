@@ -75,6 +75,11 @@ abbrev pub reply_of : RowReply → Reply
 reply_of (row_reply.Refused why) = reply.Refused why
 reply_of answer = reply.Rows answer
 
+-- the reply to an event that changes rows: it was done, or refused
+abbrev pub edited_reply : Result (Unit {0}) Refusal → Reply
+edited_reply (Ok done) = reply.Rows row_reply.Done
+edited_reply (Err why) = reply.Refused why
+
 -- the place is that of a loose piece
 abbrev pub is_loose_place : Option Place → Bool
 is_loose_place (Some (place.Piece n)) = true

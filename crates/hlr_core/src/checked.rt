@@ -1,13 +1,18 @@
-//! An event's plain numbers, checked, as the action that it asks for.
+//! An event's plain numbers, checked, as the edit that it asks for.
 ghost use Rattle.std.specs.Prelude.{◌≡◌, ◌&&◌, ◌<◌, ◌≤◌, ◌+◌, ℕ, Some, IfOk, OnErr, true, Option, option_map};
 ghost use Rattle.tatp_rows.specs.Rows.{is_between};
 ghost use Rattle.tatp_rows.specs.declared.ranges.TheConstants.{LAST_SUBSCRIBER};
 ghost use Rattle.tatp_actions.specs.Action.{is_in_range};
 ghost use Rattle.tatp_actions.specs.Book.{IsWithin};
-ghost use Rattle.hlr_core.specs.Asked.{IsAsked, IsAskedAlone, IsRowAction};
+ghost use Rattle.tatp_actions.specs.declared.action.Action.TheVariants as action;
+ghost use Rattle.hlr_core.specs.Asked.{IsAsked, IsAskedAlone, IsRowAction, action_asked};
 ghost use Rattle.hlr_core.specs.Step.{has_forwarding_key};
 
-use tatp_actions::Action;
+use tatp_actions::Edit;
+use tatp_actions::edit::{
+    AddAccess, AddFacility, DeleteForwarding, InsertForwarding, SetActive, UpdateLocation,
+    UpdateSubscriber,
+};
 use tatp_rows::{
     Access, Facility, Forwarding, LAST_SUBSCRIBER, Number, Refusal, in_range, is_between,
     is_start_time,
@@ -20,51 +25,16 @@ fn byte(value: u64) -> Result<u8, Refusal>
     u8::try_from(value).map_err(|_| Refusal::Field)
 }
 
-pub(crate) fn subscriber_data(s_id: u64) -> Result<Action, Refusal>
-    ensures action { IfOk result IsRowAction }
-    ensures asked { IsAskedAlone (Action.SubscriberData s_id) result }
-{
-    let s_id = in_range(s_id, LAST_SUBSCRIBER)?;
-    Ok(Action::SubscriberData { s_id })
-}
-
-pub(crate) fn new_destination(
-    s_id: u64,
-    sf_type: u64,
-    start_time: u64,
-    end_time: u64,
-) -> Result<Action, Refusal>
-    ensures action { IfOk result IsRowAction }
-    ensures asked { IsAskedAlone (Action.NewDestination s_id sf_type start_time end_time) result }
-{
-    Ok(Action::NewDestination {
-        s_id: in_range(s_id, LAST_SUBSCRIBER)?,
-        sf_type: byte(sf_type)?,
-        start_time: byte(start_time)?,
-        end_time: byte(end_time)?,
-    })
-}
-
-pub(crate) fn access_data(s_id: u64, ai_type: u64) -> Result<Action, Refusal>
-    ensures action { IfOk result IsRowAction }
-    ensures asked { IsAskedAlone (Action.AccessData s_id ai_type) result }
-{
-    Ok(Action::AccessData {
-        s_id: in_range(s_id, LAST_SUBSCRIBER)?,
-        ai_type: byte(ai_type)?,
-    })
-}
-
 pub(crate) fn update_subscriber(
     s_id: u64,
     sf_type: u64,
     bit_1: u64,
     data_a: u64,
-) -> Result<Action, Refusal>
-    ensures action { IfOk result IsRowAction }
-    ensures asked { IsAskedAlone (Action.UpdateSubscriber s_id sf_type bit_1 data_a) result }
+) -> Result<UpdateSubscriber, Refusal>
+    ensures action { IfOk result (λ edit. IsRowAction (⟦<UpdateSubscriber as Edit>⟧.action edit)) }
+    ensures asked { IsAskedAlone (action.UpdateSubscriber s_id sf_type bit_1 data_a) (action_asked ⟦<UpdateSubscriber as Edit>⟧.action result) }
 {
-    Ok(Action::UpdateSubscriber {
+    Ok(UpdateSubscriber {
         s_id: in_range(s_id, LAST_SUBSCRIBER)?,
         sf_type: byte(sf_type)?,
         bit_1: byte(bit_1)?,
@@ -72,25 +42,28 @@ pub(crate) fn update_subscriber(
     })
 }
 
-pub(crate) fn set_active(s_id: u64, sf_type: u64, is_active: u64) -> Result<Action, Refusal>
-    ensures action { IfOk result IsRowAction }
-    ensures asked { IsAskedAlone (Action.SetActive s_id sf_type is_active) result }
+pub(crate) fn set_active(s_id: u64, sf_type: u64, is_active: u64) -> Result<SetActive, Refusal>
+    ensures action { IfOk result (λ edit. IsRowAction (⟦<SetActive as Edit>⟧.action edit)) }
+    ensures asked { IsAskedAlone (action.SetActive s_id sf_type is_active) (action_asked ⟦<SetActive as Edit>⟧.action result) }
 {
-    Ok(Action::SetActive {
+    Ok(SetActive {
         s_id: in_range(s_id, LAST_SUBSCRIBER)?,
         sf_type: byte(sf_type)?,
         is_active: byte(is_active)?,
     })
 }
 
-pub(crate) fn update_location(owner: Option<u32>, vlr_location: u64) -> Result<Action, Refusal>
+pub(crate) fn update_location(
+    owner: Option<u32>,
+    vlr_location: u64,
+) -> Result<UpdateLocation, Refusal>
     requires { (s_id : ℕ) → owner ≡ Some s_id → IsWithin 1 (LAST_SUBSCRIBER + 1) s_id }
-    ensures action { IfOk result IsRowAction }
-    ensures asked { IsAsked (is_between 1 4294967295 vlr_location) (option_map (λ s_id. Action.UpdateLocation s_id vlr_location) owner) result }
+    ensures action { IfOk result (λ edit. IsRowAction (⟦<UpdateLocation as Edit>⟧.action edit)) }
+    ensures asked { IsAsked (is_between 1 4294967295 vlr_location) (option_map (λ s_id. action.UpdateLocation s_id vlr_location) owner) (action_asked ⟦<UpdateLocation as Edit>⟧.action result) }
 {
     let vlr_location = in_range(vlr_location, u32::MAX)?;
     let s_id = owner.ok_or(Refusal::NoNumber)?;
-    Ok(Action::UpdateLocation { s_id, vlr_location })
+    Ok(UpdateLocation { s_id, vlr_location })
 }
 
 pub(crate) fn insert_forwarding(
@@ -99,11 +72,11 @@ pub(crate) fn insert_forwarding(
     start_time: u64,
     end_time: u64,
     numberx: Number,
-) -> Result<Action, Refusal>
+) -> Result<InsertForwarding, Refusal>
     requires { (s_id : ℕ) → owner ≡ Some s_id → IsWithin 1 (LAST_SUBSCRIBER + 1) s_id }
-    ensures action { IfOk result IsRowAction }
+    ensures action { IfOk result (λ edit. IsRowAction (⟦<InsertForwarding as Edit>⟧.action edit)) }
     ensures asked { IsAsked (has_forwarding_key sf_type start_time && is_between 1 24 end_time)
-        (option_map (λ s_id. Action.InsertForwarding (record { s_id = s_id; sf_type = sf_type; start_time = start_time; end_time = end_time; numberx = numberx })) owner) result }
+        (option_map (λ s_id. action.InsertForwarding (record { s_id = s_id; sf_type = sf_type; start_time = start_time; end_time = end_time; numberx = numberx })) owner) (action_asked ⟦<InsertForwarding as Edit>⟧.action result) }
 {
     let Some(s_id) = owner else {
         // The fields are looked at first, whoever the subscriber would be.
@@ -111,17 +84,17 @@ pub(crate) fn insert_forwarding(
         return Err(Refusal::NoNumber);
     };
     let row = Forwarding::try_new(u64::from(s_id), sf_type, start_time, end_time, numberx)?;
-    Ok(Action::InsertForwarding(row))
+    Ok(InsertForwarding { row })
 }
 
 pub(crate) fn delete_forwarding(
     owner: Option<u32>,
     sf_type: u64,
     start_time: u64,
-) -> Result<Action, Refusal>
+) -> Result<DeleteForwarding, Refusal>
     requires { (s_id : ℕ) → owner ≡ Some s_id → IsWithin 1 (LAST_SUBSCRIBER + 1) s_id }
-    ensures action { IfOk result IsRowAction }
-    ensures asked { IsAsked (has_forwarding_key sf_type start_time) (option_map (λ s_id. Action.DeleteForwarding s_id sf_type start_time) owner) result }
+    ensures action { IfOk result (λ edit. IsRowAction (⟦<DeleteForwarding as Edit>⟧.action edit)) }
+    ensures asked { IsAsked (has_forwarding_key sf_type start_time) (option_map (λ s_id. action.DeleteForwarding s_id sf_type start_time) owner) (action_asked ⟦<DeleteForwarding as Edit>⟧.action result) }
 {
     let sf_type = byte(sf_type)?;
     let start_time = byte(start_time)?;
@@ -129,27 +102,27 @@ pub(crate) fn delete_forwarding(
         return Err(Refusal::Field);
     }
     let s_id = owner.ok_or(Refusal::NoNumber)?;
-    Ok(Action::DeleteForwarding {
+    Ok(DeleteForwarding {
         s_id,
         sf_type,
         start_time,
     })
 }
 
-pub(crate) fn add_access(row: Access) -> Result<Action, Refusal>
-    ensures action { IfOk result IsRowAction }
-    ensures asked { IsAsked true (Some (Action.AddAccess row)) result }
+pub(crate) fn add_access(row: Access) -> Result<AddAccess, Refusal>
+    ensures action { IfOk result (λ edit. IsRowAction (⟦<AddAccess as Edit>⟧.action edit)) }
+    ensures asked { IsAsked true (Some (action.AddAccess row)) (action_asked ⟦<AddAccess as Edit>⟧.action result) }
 {
     // The reader says that the row is in range.
     let _s_id = row.s_id();
-    Ok(Action::AddAccess(row))
+    Ok(AddAccess { row })
 }
 
-pub(crate) fn add_facility(row: Facility) -> Result<Action, Refusal>
-    ensures action { IfOk result IsRowAction }
-    ensures asked { IsAsked true (Some (Action.AddFacility row)) result }
+pub(crate) fn add_facility(row: Facility) -> Result<AddFacility, Refusal>
+    ensures action { IfOk result (λ edit. IsRowAction (⟦<AddFacility as Edit>⟧.action edit)) }
+    ensures asked { IsAsked true (Some (action.AddFacility row)) (action_asked ⟦<AddFacility as Edit>⟧.action result) }
 {
     // The reader says that the row is in range.
     let _s_id = row.s_id();
-    Ok(Action::AddFacility(row))
+    Ok(AddFacility { row })
 }

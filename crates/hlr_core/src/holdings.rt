@@ -5,7 +5,7 @@ ghost use Rattle.part_table.specs.Numbered.{numbered};
 ghost use Rattle.part_table.specs.Regions.{AreRegions, place_of};
 ghost use Rattle.part_table.specs.Take.{take_answer, after_take};
 ghost use Rattle.part_table.specs.declared.region.TheConstants.{MOST_PARTS};
-ghost use Rattle.tatp_actions.specs.Action.{s_id_of, IsOutcome};
+ghost use Rattle.tatp_actions.specs.Action.{s_id_of, done_reply, IsOutcome};
 ghost use Rattle.tatp_actions.specs.Book.{IsWithin, IsRowsOf, subscriber_at};
 ghost use Rattle.tatp_actions.specs.Cell.{cell};
 ghost use Rattle.std.specs.Arc.{arc_value};
@@ -36,7 +36,7 @@ use part_table::{Place, Region, Regions, Side};
 use std::alloc::Global;
 use std::marker::Model;
 use std::sync::Arc;
-use tatp_actions::{Action, CELLS, Cells, Part, RowReply};
+use tatp_actions::{Action, CELLS, Cells, Edit, Part, RowReply};
 use tatp_rows::{LAST_SUBSCRIBER, Number, Refusal};
 use view_board::{Board, Desk, Sight, WORDS};
 
@@ -272,6 +272,30 @@ impl Holdings {
             Place::Part(part) => self.act_in(part, action),
             Place::Piece(_) if action.is_in_range() => RowReply::Refused(Refusal::Moving),
             Place::Piece(_) => RowReply::Refused(Refusal::Field),
+        }
+    }
+
+    /// Does an edit of the rows of its subscriber, whom the part has.
+    pub fn edit_in<E: Edit>(&mut self, part: u8, edit: E) -> Result<(), Refusal>
+        requires { place_of (s_id_of (E.action edit)) self.old.regions ≡ Some (Place.Part part) }
+        ensures outcome { IsOutcome (E.action edit) self.old.book (done_reply result) self.new.book }
+        ensures same { self.new ≡ record self.old { book = self.new.book } }
+        ensures rows { IsRowsOf 1 (LAST_SUBSCRIBER + 1) self.new.book }
+    {
+        self.holdings[usize::from(part)].edit(edit)
+    }
+
+    /// Does an edit of the rows of its subscriber. Where a loose piece has them, the answer is `Moving`, after `Field`.
+    pub fn edit<E: Edit>(&mut self, edit: E) -> Result<(), Refusal>
+        requires { IsWithin 1 (LAST_SUBSCRIBER + 1) (s_id_of (E.action edit)) }
+        ensures answer { IsAnswered (is_loose (s_id_of (E.action edit)) self.old.regions) (E.action edit) self.old.book (done_reply result) self.new.book }
+        ensures same { self.new ≡ record self.old { book = self.new.book } }
+        ensures rows { IsRowsOf 1 (LAST_SUBSCRIBER + 1) self.new.book }
+    {
+        match self.regions.place(edit.s_id()) {
+            Place::Part(part) => self.edit_in(part, edit),
+            Place::Piece(_) if edit.to_action().is_in_range() => Err(Refusal::Moving),
+            Place::Piece(_) => Err(Refusal::Field),
         }
     }
 

@@ -32,6 +32,7 @@ mod room;
 mod sums;
 #[cfg(test)]
 mod tests;
+mod transactions;
 mod weights;
 
 pub use event::{Event, Reply};

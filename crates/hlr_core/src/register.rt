@@ -1,11 +1,10 @@
 //! The register: all rows under one roof, no number twice, and every cell as published with what is not posted yet.
-ghost use Rattle.std.specs.Prelude.{◌≡◌, ℕ, [], vec_len, vec_capacity, ◌<◌, ◌≤◌, ◌↔◌, ◌⊎◌, None, IfOk, IfErr, OnErr, slice_index, slice_index_or, Option, Bool, ◌+◌, ℤ, pos, ◌+ℤ◌};
-ghost use Rattle.hlr_core.specs.Asked.{IsAsked, IsRowAction};
+ghost use Rattle.std.specs.Prelude.{◌≡◌, ℕ, [], vec_len, vec_capacity, ◌<◌, ◌≤◌, ◌↔◌, ◌⊎◌, None, IfOk, IfErr, OnErr, MatchResult, slice_index, slice_index_or, ◌+◌, ℤ, pos, ◌+ℤ◌};
 ghost use Rattle.tatp_actions.specs.Cell.{cell};
 ghost use Rattle.hlr_core.specs.Index.{index_of};
 ghost use Rattle.hlr_core.specs.Kept.{IsSameUndivided};
 ghost use Rattle.hlr_core.specs.Recut.{IsRecut};
-ghost use Rattle.hlr_core.specs.Step.{IsStep, IsRun, IsRowStep, reply_of};
+ghost use Rattle.hlr_core.specs.Step.{IsStep, IsRun, edited_reply};
 ghost use Rattle.part_table.specs.Numbered.{numbered};
 ghost use Rattle.part_table.specs.Proposal.{proposal};
 ghost use Rattle.part_table.specs.Regions.{AreRegions};
@@ -17,7 +16,6 @@ ghost use Rattle.hlr_core.specs.Owners.{seen, store_of, unboxed};
 ghost use Rattle.hlr_core.specs.Sight.{IsSightOf};
 ghost use Rattle.hlr_core.specs.Store.{Store, HasOpening, opening, opening_from, published, unposted, parts_in, published_weights, counted_weights};
 
-use crate::checked;
 use crate::event::{Event, Reply};
 use crate::gather::{Prepared, Scattered};
 use crate::holdings::Holdings;
@@ -28,11 +26,8 @@ use number_index::NumberIndex;
 use part_table::{Bounds, Regions, Side, can_open};
 use std::alloc::Global;
 use std::marker::Model;
-use tatp_actions::{Action, CELLS, Cells, RowReply};
-use tatp_rows::{
-    Access, Back, LAST_SUBSCRIBER, Number, Refusal, Subscriber, byte_in_range, in_range,
-    is_start_time,
-};
+use tatp_actions::{CELLS, Cells, RowReply};
+use tatp_rows::{Access, Back, Number, Refusal, Subscriber};
 use view_board::{Sight, WORDS};
 
 /// A home location register, seen as the store of the definitions: its rows, the regions, the words of the board, what was
@@ -42,8 +37,8 @@ use view_board::{Sight, WORDS};
 /// is that cell counted over the rows.
 #[derive(Drop)]
 pub struct Register {
-    holdings: Holdings,
-    index: NumberIndex,
+    pub(crate) holdings: Holdings,
+    pub(crate) index: NumberIndex,
     alloc: Global,
 }
 
@@ -58,12 +53,44 @@ impl Model for Register {
     ghost invariant = { λ r. IsRegister r.holdings.book r.index };
 }
 
-fn reply_from(answer: RowReply) -> Reply
-    ensures { result ≡ reply_of answer }
+fn row_reply(lent: Result<&Subscriber, Refusal>) -> Reply
+    ensures { MatchResult lent.entry (λ row. result ≡ Reply.Rows (RowReply.Row row.now)) (λ why. result ≡ Reply.Refused why) }
 {
-    match answer {
-        RowReply::Refused(why) => Reply::Refused(why),
-        answered => Reply::Rows(answered),
+    match lent {
+        Ok(row) => Reply::Rows(RowReply::Row(*row)),
+        Err(why) => Reply::Refused(why),
+    }
+}
+
+fn access_reply(lent: Result<&Access, Refusal>) -> Reply
+    ensures { MatchResult lent.entry (λ row. result ≡ Reply.Rows (RowReply.AccessRow row.now.data1 row.now.data2 row.now.data3 row.now.data4)) (λ why. result ≡ Reply.Refused why) }
+{
+    match lent {
+        Ok(row) => Reply::Rows(RowReply::AccessRow {
+            data1: row.data1(),
+            data2: row.data2(),
+            data3: row.data3(),
+            data4: row.data4(),
+        }),
+        Err(why) => Reply::Refused(why),
+    }
+}
+
+fn numbers_reply(found: Result<ArrayVec<Number, 3>, Refusal>) -> Reply
+    ensures { MatchResult found (λ numbers. result ≡ Reply.Rows (RowReply.Numbers numbers)) (λ why. result ≡ Reply.Refused why) }
+{
+    match found {
+        Ok(numbers) => Reply::Rows(RowReply::Numbers(numbers)),
+        Err(why) => Reply::Refused(why),
+    }
+}
+
+fn done_reply(done: Result<(), Refusal>) -> Reply
+    ensures { result ≡ edited_reply done }
+{
+    match done {
+        Ok(()) => Reply::Rows(RowReply::Done),
+        Err(why) => Reply::Refused(why),
     }
 }
 
@@ -157,120 +184,56 @@ impl Register {
         })
     }
 
-    /// GET_SUBSCRIBER_DATA (TATP, section 3.1), as `Event::SubscriberData`, but the row is lent from where it lies: `Field`,
-    /// `Moving`, `NoSubscriber`.
-    pub fn lend_subscriber(&self, s_id: u64) -> Result<&Subscriber, Refusal>
-        ensures row { IfOk result (λ row. IsStep (Event.SubscriberData s_id) self.now (Reply.Rows (RowReply.Row row.now)) self.now) }
-        ensures refused { IfErr result (λ why. IsStep (Event.SubscriberData s_id) self.now (Reply.Refused why) self.now) }
-    {
-        let Ok(s_id) = in_range(s_id, LAST_SUBSCRIBER) else {
-            return Err(Refusal::Field);
-        };
-        self.holdings.lend_subscriber(s_id)
-    }
-
-    /// GET_ACCESS_DATA (TATP, section 3.3), as `Event::AccessData`, but the row is lent from where it lies: `Field`, `Moving`,
-    /// `NoAccess`.
-    pub fn lend_access(&self, s_id: u64, ai_type: u64) -> Result<&Access, Refusal>
-        ensures row { IfOk result (λ row. IsStep (Event.AccessData s_id ai_type) self.now
-            (Reply.Rows (RowReply.AccessRow row.now.data1 row.now.data2 row.now.data3 row.now.data4)) self.now) }
-        ensures refused { IfErr result (λ why. IsStep (Event.AccessData s_id ai_type) self.now (Reply.Refused why) self.now) }
-    {
-        let Ok(s_id) = in_range(s_id, LAST_SUBSCRIBER) else {
-            return Err(Refusal::Field);
-        };
-        let Ok(ai_type) = byte_in_range(ai_type, 4) else {
-            return Err(Refusal::Field);
-        };
-        self.holdings.lend_access(s_id, ai_type)
-    }
-
-    /// GET_NEW_DESTINATION (TATP, section 3.2), as `Event::NewDestination`: the numbers, one to three, of forwardings that are
-    /// read where they lie: `Field`, `Moving`, `NoDestination`.
-    pub fn destinations(
-        &self,
-        s_id: u64,
-        sf_type: u64,
-        start_time: u64,
-        end_time: u64,
-    ) -> Result<ArrayVec<Number, 3>, Refusal>
-        ensures numbers { IfOk result (λ numbers. IsStep (Event.NewDestination s_id sf_type start_time end_time) self.now (Reply.Rows (RowReply.Numbers numbers)) self.now) }
-        ensures refused { IfErr result (λ why. IsStep (Event.NewDestination s_id sf_type start_time end_time) self.now (Reply.Refused why) self.now) }
-    {
-        let Ok(s_id) = in_range(s_id, LAST_SUBSCRIBER) else {
-            return Err(Refusal::Field);
-        };
-        let Ok(sf_type) = byte_in_range(sf_type, 4) else {
-            return Err(Refusal::Field);
-        };
-        if !is_start_time(start_time) {
-            return Err(Refusal::Field);
-        }
-        let Ok(end_time) = byte_in_range(end_time, 24) else {
-            return Err(Refusal::Field);
-        };
-        self.holdings
-            .destinations(s_id, sf_type, start_time as u8, end_time)
-    }
-
     /// Applies an event, and replies to it. A refusal changes nothing; after `Worn` the cells posted before stand.
     pub fn apply(&mut self, event: Event) -> Reply
         ensures { IsStep event self.old result self.new }
     {
-        let action = match event {
-            Event::SubscriberData { s_id } => checked::subscriber_data(s_id),
+        match event {
+            Event::SubscriberData { s_id } => row_reply(self.lend_subscriber(s_id)),
             Event::NewDestination {
                 s_id,
                 sf_type,
                 start_time,
                 end_time,
-            } => checked::new_destination(s_id, sf_type, start_time, end_time),
-            Event::AccessData { s_id, ai_type } => checked::access_data(s_id, ai_type),
+            } => numbers_reply(self.destinations(s_id, sf_type, start_time, end_time)),
+            Event::AccessData { s_id, ai_type } => access_reply(self.lend_access(s_id, ai_type)),
             Event::UpdateSubscriber {
                 s_id,
                 sf_type,
                 bit_1,
                 data_a,
-            } => checked::update_subscriber(s_id, sf_type, bit_1, data_a),
+            } => done_reply(self.update_subscriber(s_id, sf_type, bit_1, data_a)),
             Event::UpdateLocation {
                 sub_nbr,
                 vlr_location,
-            } => {
-                let owner = self.index.find(sub_nbr);
-                checked::update_location(owner, vlr_location)
-            }
+            } => done_reply(self.update_location(sub_nbr, vlr_location)),
             Event::InsertForwarding {
                 sub_nbr,
                 sf_type,
                 start_time,
                 end_time,
                 numberx,
-            } => {
-                let owner = self.index.find(sub_nbr);
-                checked::insert_forwarding(owner, sf_type, start_time, end_time, numberx)
-            }
+            } => done_reply(self.insert_forwarding(
+                sub_nbr, sf_type, start_time, end_time, numberx,
+            )),
             Event::DeleteForwarding {
                 sub_nbr,
                 sf_type,
                 start_time,
-            } => {
-                let owner = self.index.find(sub_nbr);
-                checked::delete_forwarding(owner, sf_type, start_time)
-            }
-            Event::AddSubscriber(row) => return self.add_subscriber(row),
-            Event::AddAccess(row) => checked::add_access(row),
-            Event::AddFacility(row) => checked::add_facility(row),
+            } => done_reply(self.delete_forwarding(sub_nbr, sf_type, start_time)),
+            Event::AddSubscriber(row) => done_reply(self.add_subscriber(row)),
+            Event::AddAccess(row) => done_reply(self.add_access(row)),
+            Event::AddFacility(row) => done_reply(self.add_facility(row)),
             Event::SetActive {
                 s_id,
                 sf_type,
                 is_active,
-            } => checked::set_active(s_id, sf_type, is_active),
-            Event::SetNumber { s_id, sub_nbr } => return self.set_number(s_id, sub_nbr),
-            Event::Post { part, limit } => return self.post(part, limit),
-            Event::Give { part, side, at } => return self.give(part, side, at),
-            Event::Take { piece, part } => return self.take(piece, part),
-        };
-        self.ask(action)
+            } => done_reply(self.set_active(s_id, sf_type, is_active)),
+            Event::SetNumber { s_id, sub_nbr } => done_reply(self.set_number(s_id, sub_nbr)),
+            Event::Post { part, limit } => self.post(part, limit),
+            Event::Give { part, side, at } => self.give(part, side, at),
+            Event::Take { piece, part } => self.take(piece, part),
+        }
     }
 
     /// Applies events one after another, and gives their replies in order. `Memory` where the list of replies could
@@ -356,63 +319,6 @@ impl Register {
         ensures { result.now ≡ index_of self.now.book.subscribers }
     {
         &self.index
-    }
-
-    /// Does an action that gives no number, unless a field was refused.
-    fn ask(&mut self, action: Result<Action, Refusal>) -> Reply
-        requires { IfOk action IsRowAction }
-        ensures { (fits : Bool) (wanted : Option Action) → IsAsked fits wanted action → IsRowStep fits wanted self.old result self.new }
-    {
-        match action {
-            Ok(action) => reply_from(self.holdings.act(action)),
-            Err(why) => Reply::Refused(why),
-        }
-    }
-
-    /// Gives a subscriber another number: the pair in the index first, which may be refused, and then the row, which
-    /// can't be.
-    fn set_number(&mut self, s_id: u64, sub_nbr: Number) -> Reply
-        ensures { IsStep (Event.SetNumber s_id sub_nbr) self.old result self.new }
-    {
-        let Ok(s_id) = in_range(s_id, LAST_SUBSCRIBER) else {
-            return Reply::Refused(Refusal::Field);
-        };
-        let Ok(part) = self.holdings.part_of(s_id) else {
-            return Reply::Refused(Refusal::Moving);
-        };
-        let Some(old) = self.holdings.number_in(part, s_id) else {
-            return Reply::Refused(Refusal::NoSubscriber);
-        };
-        // A number tells by its value that it is in range.
-        let _value = sub_nbr.value();
-        if let Err(why) = self.index.rename(old, sub_nbr) {
-            return Reply::Refused(why);
-        }
-        let renumbering = Action::SetNumber { s_id, sub_nbr };
-        reply_from(self.holdings.act_in(part, renumbering))
-    }
-
-    fn add_subscriber(&mut self, row: Subscriber) -> Reply
-        ensures { IsStep (Event.AddSubscriber row) self.old result self.new }
-    {
-        let s_id = row.s_id();
-        let Ok(part) = self.holdings.part_of(s_id) else {
-            return Reply::Refused(Refusal::Moving);
-        };
-        if self.holdings.number_in(part, s_id).is_some() {
-            return Reply::Refused(Refusal::Exists);
-        }
-        let number = row.sub_nbr();
-        if let Err(why) = self.index.add(number, s_id) {
-            return Reply::Refused(why);
-        }
-        match self.holdings.act_in(part, Action::AddSubscriber(row)) {
-            RowReply::Done => Reply::Rows(RowReply::Done),
-            refused => {
-                self.index.remove(number);
-                reply_from(refused)
-            }
-        }
     }
 
     fn post(&mut self, part: u64, limit: u64) -> Reply

@@ -1,6 +1,6 @@
 //! A part with what its owner has posted and what it has not.
 ghost use Rattle.std.specs.Prelude.{◌≡◌, ℕ, ◌<◌, ◌≤◌, ◌+◌, ◌^◌, option_copied, slice_index, slice_index_or, ℤ, pos, neg_ℤ, ◌-ℤ◌, ◌≤ℤ◌};
-ghost use Rattle.tatp_actions.specs.Action.{s_id_of, IsOutcome};
+ghost use Rattle.tatp_actions.specs.Action.{s_id_of, done_reply, IsOutcome};
 ghost use Rattle.tatp_actions.specs.Book.{IsWithin, first_subscriber};
 ghost use Rattle.tatp_actions.specs.declared.cells.TheConstants.{CELLS};
 ghost use Rattle.view_board.specs.Nets.{net_of};
@@ -12,7 +12,7 @@ ghost use Rattle.holding.specs.Post.{IsCellPosted, post};
 
 use std::alloc::Global;
 use std::marker::Model;
-use tatp_actions::{Action, CELLS, Cells, Part, RowReply, Rows, Trees};
+use tatp_actions::{Action, CELLS, Cells, Edit, Part, RowReply, Rows, Trees};
 use tatp_rows::{Refusal, Subscriber};
 use view_board::{Board, Desk, SLOTS};
 use view_delta::Pending;
@@ -141,6 +141,25 @@ impl<R: Rows> Holding<R> {
 }
 
 impl Holding {
+    /// Does an action that changes rows, as `act` does the action that it is: `Field` first, then the refusals of the rows,
+    /// `Memory` only where a row is added. After a refusal the rows and what is pending are as before.
+    pub fn edit<E: Edit>(&mut self, edit: E) -> Result<(), Refusal>
+        requires { IsWithin self.old.part.lo self.old.part.hi (s_id_of (E.action edit)) }
+        ensures outcome { IsOutcome (E.action edit) self.old.part.book (done_reply result) self.new.part.book }
+        ensures range { (self.new.part.lo ≡ self.old.part.lo) × (self.new.part.hi ≡ self.old.part.hi) × (self.new.part.width ≡ self.old.part.width) }
+        ensures asked { self.new.part.asked ≤ self.old.part.asked + 8 }
+        ensures steps { self.new.part.steps ≡ self.old.part.steps }
+        ensures desk { (self.new.desk ≡ self.old.desk) × (self.new.slot ≡ self.old.slot) }
+        ensures before { IsHolding self.old }
+        ensures after { IsHolding self.new }
+    {
+        let moved = edit.make(&mut self.part)?;
+        // A change tells by its notes that they are few and small.
+        let _notes = moved.notes();
+        self.pending.note(&moved);
+        Ok(())
+    }
+
     /// A part and the desk of its owner, which owns a slot and has published at most 2^40 of each cell, up or down. The rows are
     /// counted once: what the desk has not published of them is pending. It keeps the allocator.
     pub fn of(alloc: Global, part: Part, desk: Desk) -> Self

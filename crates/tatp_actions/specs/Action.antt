@@ -1,9 +1,10 @@
 -- What each action answers, and the book after it.
-use Rattle.std.specs.Prelude.{◌≡◌, ℕ, ◌==◌, ◌&&◌, nat_le, nat_lt, Bool, true, false, List, [], ◌∷◌, map, Option, Some, None, if◌then◌else◌, slice_set, ◌⊎◌}
+use Rattle.std.specs.Prelude.{◌≡◌, ℕ, ◌==◌, ◌&&◌, nat_le, nat_lt, Bool, true, false, List, [], ◌∷◌, map, Option, Some, None, Result, Ok, Err, if◌then◌else◌, slice_set, ◌⊎◌}
 use Rattle.std.specs.List.{filter}
 use Rattle.tatp_rows.specs.Number.{is_number}
 use Rattle.tatp_rows.specs.Rows.{SubscriberRow, AccessInfoRow, SpecialFacilityRow, CallForwardingRow, is_between, is_start_time, subscriber_in_range, access_in_range, facility_in_range, forwarding_in_range}
 use Rattle.tatp_rows.specs.declared.ranges.TheConstants.{LAST_SUBSCRIBER}
+use Rattle.tatp_rows.specs.declared.refusal.Refusal.{Refusal}
 use Rattle.tatp_rows.specs.declared.refusal.Refusal.TheVariants as refusal
 use Rattle.tatp_actions.specs.Book.{Book, subscriber_at, access_at, facility_at, has_active, forwarding_at, put_subscriber, put_facility, more_subscribers, more_access, more_facilities, more_forwardings, without_forwarding}
 use Rattle.tatp_actions.specs.declared.action.Action.{Action}
@@ -156,3 +157,8 @@ IsOutcome action before answer after =
     ⊎ (((is_in_range action ≡ true) × ((answer, after) ≡ effect action before))
     ⊎ ((is_in_range action ≡ true) × (adds_row action ≡ true) × ((effect action before).0 ≡ reply.Done)
     × (answer ≡ reply.Refused refusal.Memory) × (after ≡ before)))
+
+-- what an action that changes rows answers: it was done, or refused
+abbrev pub done_reply : {A : Type 0} → Result A Refusal → RowReply
+done_reply (Ok done) = reply.Done
+done_reply (Err why) = reply.Refused why

@@ -60,6 +60,11 @@ abbrev pub switched : Bool → Bool → Bool → Bool → List (ℕ × ℤ)
 switched up at_0 at_8 at_16 =
     (note_if at_0 (0, one_step up) ++ note_if at_8 (1, one_step up)) ++ note_if at_16 (2, one_step up)
 
+-- the notes of a change; a refusal has none
+abbrev pub notes_of : Result (List (ℕ × ℤ)) Refusal → List (ℕ × ℤ)
+notes_of (Ok notes) = notes
+notes_of (Err why) = []
+
 -- what an action does to a part: a right outcome, the exact change of every cell, the same range and width, no cut or join, and at most eight questions
 pub record Acts (action : Action) (before : PartState) (answer : RowReply) (notes : List (ℕ × ℤ)) (after : PartState) : Type 0 where
   pub outcome : IsOutcome action before.book answer after.book

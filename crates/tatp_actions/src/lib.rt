@@ -12,6 +12,7 @@ mod change;
 #[cfg(test)]
 mod cut_tests;
 mod cutting;
+pub mod edit;
 mod keyed;
 mod lending;
 mod part;
@@ -32,6 +33,7 @@ mod trees;
 pub use action::{Action, RowReply};
 pub use cells::{CELLS, Cells, FIRST_AREA, FIRST_ZONE};
 pub use change::Change;
+pub use edit::Edit;
 pub use part::Part;
 pub use rows::Rows;
 pub use trees::Trees;

@@ -1,7 +1,8 @@
 //! A part of the store: the rows of a range of subscribers.
 ghost use Rattle.std.specs.Prelude.{◌≡◌, ◌+◌, ◌<◌, ◌≤◌, [], IfOk, IfErr};
 ghost use Rattle.tatp_rows.specs.Zones.{zone_of};
-ghost use Rattle.tatp_actions.specs.Action.{s_id_of, IsOutcome};
+ghost use Rattle.tatp_actions.specs.Action.{s_id_of, done_reply, IsOutcome};
+ghost use Rattle.tatp_actions.specs.Inside.{notes_of};
 ghost use Rattle.tatp_actions.specs.Book.{IsWithin, IsRowsOf, empty_book};
 ghost use Rattle.tatp_actions.specs.Change.{IsChange};
 ghost use Rattle.tatp_actions.specs.Part.{PartState, IsPart, IsRange, IsWidth};
@@ -58,6 +59,16 @@ pub(crate) fn refused(why: Refusal) -> (RowReply, Change)
     ensures { result ≡ (RowReply.Refused why, []) }
 {
     (RowReply::Refused(why), Change::none())
+}
+
+/// What a change of rows answers, and its notes.
+fn answered(done: Result<Change, Refusal>) -> (RowReply, Change)
+    ensures { result ≡ (done_reply done, notes_of done) }
+{
+    match done {
+        Ok(change) => (RowReply::Done, change),
+        Err(why) => refused(why),
+    }
 }
 
 impl<R: Rows> Part<R> {
@@ -125,25 +136,25 @@ impl<R: Rows> Part<R> {
                 sf_type,
                 bit_1,
                 data_a,
-            } => self.update_subscriber(s_id, sf_type, bit_1, data_a),
+            } => answered(self.update_subscriber(s_id, sf_type, bit_1, data_a)),
             Action::UpdateLocation { s_id, vlr_location } => {
-                self.update_location(s_id, vlr_location)
+                answered(self.update_location(s_id, vlr_location))
             }
-            Action::InsertForwarding(row) => self.insert_forwarding(row),
+            Action::InsertForwarding(row) => answered(self.insert_forwarding(row)),
             Action::DeleteForwarding {
                 s_id,
                 sf_type,
                 start_time,
-            } => self.delete_forwarding(s_id, sf_type, start_time),
-            Action::AddSubscriber(row) => self.add_subscriber(row),
-            Action::AddAccess(row) => self.add_access(row),
-            Action::AddFacility(row) => self.add_facility(row),
+            } => answered(self.delete_forwarding(s_id, sf_type, start_time)),
+            Action::AddSubscriber(row) => answered(self.add_subscriber(row)),
+            Action::AddAccess(row) => answered(self.add_access(row)),
+            Action::AddFacility(row) => answered(self.add_facility(row)),
             Action::SetActive {
                 s_id,
                 sf_type,
                 is_active,
-            } => self.set_active(s_id, sf_type, is_active),
-            Action::SetNumber { s_id, sub_nbr } => self.set_number(s_id, sub_nbr),
+            } => answered(self.set_active(s_id, sf_type, is_active)),
+            Action::SetNumber { s_id, sub_nbr } => answered(self.set_number(s_id, sub_nbr)),
         };
         // And so that they are known after it.
         let _ = &self.rows;

@@ -3,7 +3,8 @@ ghost use Rattle.std.specs.Prelude.{◌≡◌, ◌+◌, ◌<◌, ◌≤◌, ◌+
 ghost use Rattle.std.specs.Option.{option_to_list};
 ghost use Rattle.arrayvec.specs.ArrayVec.{array_vec_len};
 ghost use Rattle.tatp_actions.specs.Book.{IsWithin, forwarding_at};
-ghost use Rattle.tatp_actions.specs.Inside.{destination, Acts};
+ghost use Rattle.tatp_actions.specs.Action.{done_reply};
+ghost use Rattle.tatp_actions.specs.Inside.{destination, Acts, notes_of};
 ghost use Rattle.tatp_actions.specs.declared.action.Action.{Action};
 
 use crate::action::RowReply;
@@ -133,55 +134,59 @@ impl<R: Rows> Part<R> {
         sf_type: u8,
         bit_1: u8,
         data_a: u8,
-    ) -> (RowReply, Change)
+    ) -> Result<Change, Refusal>
         requires { IsWithin self.old.lo self.old.hi s_id }
-        ensures { Acts (Action.UpdateSubscriber s_id sf_type bit_1 data_a) self.old result.0 result.1 self.new }
+        ensures { Acts (Action.UpdateSubscriber s_id sf_type bit_1 data_a) self.old (done_reply result) (notes_of result) self.new }
     {
         if !is_between(sf_type, 1, 4) || bit_1 > 1 {
-            return refused(Refusal::Field);
+            return Err(Refusal::Field);
         }
         let Some(row) = self.subscriber(s_id) else {
-            return refused(Refusal::NoSubscriber);
+            return Err(Refusal::NoSubscriber);
         };
         let Some(facility) = self.facility(s_id, sf_type) else {
-            return refused(Refusal::NoFacility);
+            return Err(Refusal::NoFacility);
         };
         self.put_subscriber(row.with_bit_1(bit_1));
         self.put_facility(facility.with_data_a(data_a));
-        (RowReply::Done, Change::none())
+        Ok(Change::none())
     }
 
     /// The body of UPDATE_LOCATION: `Field`, `NoSubscriber`.
-    pub(crate) fn update_location(&mut self, s_id: u32, vlr_location: u32) -> (RowReply, Change)
+    pub(crate) fn update_location(
+        &mut self,
+        s_id: u32,
+        vlr_location: u32,
+    ) -> Result<Change, Refusal>
         requires { IsWithin self.old.lo self.old.hi s_id }
-        ensures { Acts (Action.UpdateLocation s_id vlr_location) self.old result.0 result.1 self.new }
+        ensures { Acts (Action.UpdateLocation s_id vlr_location) self.old (done_reply result) (notes_of result) self.new }
     {
         if vlr_location == 0 {
-            return refused(Refusal::Field);
+            return Err(Refusal::Field);
         }
         let Some(row) = self.subscriber(s_id) else {
-            return refused(Refusal::NoSubscriber);
+            return Err(Refusal::NoSubscriber);
         };
         self.put_subscriber(row.with_vlr_location(vlr_location));
         let change = Change::location_moved(row.vlr_location(), vlr_location);
-        (RowReply::Done, change)
+        Ok(change)
     }
 
     /// The body of INSERT_CALL_FORWARDING: `NoFacility`, `Exists`, `Memory`.
-    pub(crate) fn insert_forwarding(&mut self, row: Forwarding) -> (RowReply, Change)
+    pub(crate) fn insert_forwarding(&mut self, row: Forwarding) -> Result<Change, Refusal>
         requires { IsWithin self.old.lo self.old.hi row.s_id }
-        ensures { Acts (Action.InsertForwarding row) self.old result.0 result.1 self.new }
+        ensures { Acts (Action.InsertForwarding row) self.old (done_reply result) (notes_of result) self.new }
     {
         let s_id = row.s_id();
         let Some(facility) = self.facility(s_id, row.sf_type()) else {
-            return refused(Refusal::NoFacility);
+            return Err(Refusal::NoFacility);
         };
         if let Err(why) = self.more_forwardings(row) {
-            return refused(why);
+            return Err(why);
         }
         let zone = self.zone_of(s_id);
         let change = Change::forwarding_moved(true, facility.is_active(), row.start_time(), zone);
-        (RowReply::Done, change)
+        Ok(change)
     }
 
     /// The body of DELETE_CALL_FORWARDING: `Field`, `NoForwarding`.
@@ -190,19 +195,19 @@ impl<R: Rows> Part<R> {
         s_id: u32,
         sf_type: u8,
         start_time: u8,
-    ) -> (RowReply, Change)
+    ) -> Result<Change, Refusal>
         requires { IsWithin self.old.lo self.old.hi s_id }
-        ensures { Acts (Action.DeleteForwarding s_id sf_type start_time) self.old result.0 result.1 self.new }
+        ensures { Acts (Action.DeleteForwarding s_id sf_type start_time) self.old (done_reply result) (notes_of result) self.new }
     {
         if !is_between(sf_type, 1, 4) || !is_start_time(u64::from(start_time)) {
-            return refused(Refusal::Field);
+            return Err(Refusal::Field);
         }
         let Some(_row) = self.remove_forwarding(s_id, sf_type, start_time) else {
-            return refused(Refusal::NoForwarding);
+            return Err(Refusal::NoForwarding);
         };
         let active = self.has_active(s_id, sf_type);
         let zone = self.zone_of(s_id);
         let change = Change::forwarding_moved(false, active, start_time, zone);
-        (RowReply::Done, change)
+        Ok(change)
     }
 }

@@ -1,6 +1,7 @@
 use Rattle.std.proofs.Common.{refl}
 use Rattle.tatp_actions.specs.declared.action.Action.TheVariants as action
-use Rattle.hlr_core.proofs.RegisterLemmas.{moving_step, at_home, exists_step, unadded_step, acted_step, added_registered, undone_registered, undone_same, free_to_take}
+use Rattle.tatp_actions.specs.declared.action.RowReply.TheVariants as row_reply
+use Rattle.hlr_core.proofs.RegisterLemmas.{moving_step, not_done, at_home, exists_step, unadded_step, acted_step, added_registered, undone_registered, undone_same, free_to_take}
 use Rattle.hlr_core.proofs.register.Register.add_subscriber.Goals as goal
 
 pub returns-in_default : goal.returns-in_default
@@ -16,31 +17,31 @@ returns-in-Err c =
     let here = at_home _ _ c.args.row c.self.inside.holdings _ _ c.s_id-s_id.ensures.value c.in-Ok.ensures.part c.number_in.ensures c.if-is_some.ensures in
     rw (← c.self.view_is) (unadded_step c.args.row _ c.self.inside.index c.add.new.self _ c.self.invariant here (rw c.sub_nbr-number.ensures at c.in-Err.ensures.added))
 
-pub invariant_of-self-in-Done : goal.invariant_of-self-in-Done
-invariant_of-self-in-Done c =
+pub invariant_of-self-in-Ok-edit_in : goal.invariant_of-self-in-Ok-edit_in
+invariant_of-self-in-Ok-edit_in c =
     let here = at_home _ _ c.args.row c.self.inside.holdings _ _ c.s_id-s_id.ensures.value c.in-Ok.ensures.part c.number_in.ensures c.if-is_some.ensures in
     let added = rw (c.sub_nbr-number.ensures, c.s_id-s_id.ensures.value) at c.in_default-add.ensures.added in
-    added_registered c.args.row _ _ _ _ c.self.invariant c.in-Done.ensures.rows here.there added.0 added.1 c.in-Done.ensures.outcome
+    added_registered c.args.row _ _ _ _ c.self.invariant c.in-Ok-edit_in.ensures.rows here.there added.0 added.1 c.in-Ok-edit_in.ensures.outcome
 
-pub invariant_of-self-in_default-act_in : goal.invariant_of-self-in_default-act_in
-invariant_of-self-in_default-act_in c =
+pub invariant_of-self-in-Err-edit_in : goal.invariant_of-self-in-Err-edit_in
+invariant_of-self-in-Err-edit_in c =
     let here = at_home _ _ c.args.row c.self.inside.holdings _ _ c.s_id-s_id.ensures.value c.in-Ok.ensures.part c.number_in.ensures c.if-is_some.ensures in
     let added = rw (c.sub_nbr-number.ensures, c.s_id-s_id.ensures.value) at c.in_default-add.ensures.added in
-    let same = undone_same c.args.row _ _ _ here.there c.in_default-act_in.not-Done c.act_in.ensures.outcome in
-    undone_registered c.args.row _ _ c.act_in.result _ _ _ c.self.invariant added.0 added.1 (rw c.sub_nbr-number.ensures at c.remove.ensures.pairs) same
+    let same = undone_same c.args.row _ _ _ here.there (not_done c.in-Err-edit_in.why) c.in-Err-edit_in.ensures.outcome in
+    undone_registered c.args.row _ _ (row_reply.Refused c.in-Err-edit_in.why) _ _ _ c.self.invariant added.0 added.1 (rw c.sub_nbr-number.ensures at c.remove.ensures.pairs) same
 
-pub returns-in-Done : goal.returns-in-Done
-returns-in-Done c =
+pub returns-in-Ok-edit_in : goal.returns-in-Ok-edit_in
+returns-in-Ok-edit_in c =
     let here = at_home _ _ c.args.row c.self.inside.holdings _ _ c.s_id-s_id.ensures.value c.in-Ok.ensures.part c.number_in.ensures c.if-is_some.ensures in
     let added = rw (c.sub_nbr-number.ensures, c.s_id-s_id.ensures.value) at c.in_default-add.ensures.added in
     rw (← c.self.view_is)
     (acted_step (action.AddSubscriber c.args.row) _ _ _ _ c.s_id-s_id.ensures.in_range here.home (free_to_take (action.AddSubscriber c.args.row) _ _ _ _ c.self.invariant refl added.0)
-    c.in-Done.ensures.outcome c.in-Done.ensures.same refl)
+    c.in-Ok-edit_in.ensures.outcome c.in-Ok-edit_in.ensures.same refl)
 
-pub returns-in_default-act_in : goal.returns-in_default-act_in
-returns-in_default-act_in c =
+pub returns-in-Err-edit_in : goal.returns-in-Err-edit_in
+returns-in-Err-edit_in c =
     let here = at_home _ _ c.args.row c.self.inside.holdings _ _ c.s_id-s_id.ensures.value c.in-Ok.ensures.part c.number_in.ensures c.if-is_some.ensures in
     let added = rw (c.sub_nbr-number.ensures, c.s_id-s_id.ensures.value) at c.in_default-add.ensures.added in
     rw (← c.self.view_is)
     (acted_step (action.AddSubscriber c.args.row) _ _ _ _ c.s_id-s_id.ensures.in_range here.home (free_to_take (action.AddSubscriber c.args.row) _ _ _ _ c.self.invariant refl added.0)
-    c.act_in.ensures.outcome c.act_in.ensures.same c.reply_from.ensures)
+    c.in-Err-edit_in.ensures.outcome c.in-Err-edit_in.ensures.same refl)

@@ -3,7 +3,7 @@ use Rattle.tatp_rows.proofs.RowLemmas.{between_ok}
 use Rattle.tatp_rows.specs.declared.ranges.TheConstants.{LAST_SUBSCRIBER}
 use Rattle.tatp_actions.specs.declared.action.Action.TheVariants as action
 use Rattle.hlr_core.proofs.HoldingsLemmas.{home_of_part}
-use Rattle.hlr_core.proofs.RegisterLemmas.{moving_step}
+use Rattle.hlr_core.proofs.RegisterLemmas.{edited_is, moving_step}
 use Rattle.hlr_core.proofs.RenamedLemmas.{renaming_in_range, unnumbered_step, unrenamed_step, renamed_registered, renamed_step}
 use Rattle.hlr_core.proofs.register.Register.set_number.Goals as goal
 
@@ -30,7 +30,7 @@ invariant_of-self-2 c =
     let fits = between_ok 1 LAST_SUBSCRIBER c.args.s_id c.in-Ok.s_id c.in-Ok.ensures in
     let home = home_of_part c.self.inside.holdings.regions c.in-Ok.s_id c.in-Ok-part_of.part c.in-Ok-part_of.ensures.part in
     let in_range = renaming_in_range c.in-Ok.s_id c.args.sub_nbr c.value-value.result (rw (fits.0) fits.1) c.value-value.ensures.value c.value-value.ensures.in_range in
-    renamed_registered c.in-Ok.s_id c.in-Some.old c.args.sub_nbr _ _ _ _ _ c.self.invariant c.act_in.ensures.rows c.in-Some.ensures c.in_default-rename.ensures.renamed in_range c.act_in.ensures.outcome
+    renamed_registered c.in-Ok.s_id c.in-Some.old c.args.sub_nbr _ _ _ _ _ c.self.invariant c.edit_in.ensures.rows c.in-Some.ensures c.in_default-rename.ensures.renamed in_range c.edit_in.ensures.outcome
 
 pub returns : goal.returns
 returns c =
@@ -39,4 +39,4 @@ returns c =
     let in_range = renaming_in_range c.in-Ok.s_id c.args.sub_nbr c.value-value.result (rw (fits.0) fits.1) c.value-value.ensures.value c.value-value.ensures.in_range in
     rw (fits.1, ← fits.0, ← c.self.view_is)
     (renamed_step c.in-Ok.s_id c.in-Some.old c.args.sub_nbr _ _ _ c.rename.new.self _ _ c.self.invariant home c.in-Some.ensures c.in_default-rename.ensures.renamed in_range
-    c.act_in.ensures.outcome c.act_in.ensures.same c.reply_from.ensures)
+    c.edit_in.ensures.outcome c.edit_in.ensures.same (edited_is c.edit_in.result))

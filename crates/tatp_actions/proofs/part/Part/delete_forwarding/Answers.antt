@@ -4,7 +4,7 @@ use Rattle.tatp_actions.proofs.part.Part.delete_forwarding.Goals as goal
 
 pub returns-in_default : goal.returns-in_default
 returns-in_default g c =
-    rw c.refused-in_default.ensures (no_forwarding _ _ _ _ _ c.remove_forwarding.ensures.rules c.requires (sym c.if-not-is_between.ensures) (sym (rw c.from.ensures at c.if-not-is_start_time.ensures))
+    (no_forwarding _ _ _ _ _ c.remove_forwarding.ensures.rules c.requires (sym c.if-not-is_between.ensures) (sym (rw c.from.ensures at c.if-not-is_start_time.ensures))
     c.in_default.ensures.found c.in_default.ensures.kept)
 
 pub returns : goal.returns

@@ -3,7 +3,7 @@ use Rattle.tatp_actions.proofs.part.Part.insert_forwarding.Goals as goal
 
 pub returns-in-Err : goal.returns-in-Err
 returns-in-Err g c =
-    rw c.refused-in-Err.ensures (insertion_refused _ _ _ _ _ c.args.row c.in-Some.facility _ c.s_id-s_id.ensures.value c.sf_type.ensures c.s_id-s_id.ensures.in_range c.facility.ensures.kept
+    (insertion_refused _ _ _ _ _ c.args.row c.in-Some.facility _ c.s_id-s_id.ensures.value c.sf_type.ensures c.s_id-s_id.ensures.in_range c.facility.ensures.kept
     c.in-Some.ensures.found c.in-Err.ensures.added c.in-Err.ensures.kept)
 
 pub returns : goal.returns

@@ -1,0 +1,204 @@
+//! The events on rows, as calls of their own: a read lends its row, and a change goes down to its row with no event, action or
+//! reply made of it.
+ghost use Rattle.std.specs.Prelude.{◌≡◌, IfOk, IfErr, Bool, Option};
+ghost use Rattle.hlr_core.specs.Asked.{IsAsked, IsRowAction, action_asked};
+ghost use Rattle.hlr_core.specs.Step.{IsStep, IsRowStep, edited_reply};
+ghost use Rattle.hlr_core.specs.declared.event.Event.TheVariants as event;
+ghost use Rattle.hlr_core.specs.declared.event.Reply.TheVariants as reply;
+ghost use Rattle.tatp_actions.specs.declared.action.Action.{Action};
+ghost use Rattle.tatp_actions.specs.declared.action.RowReply.TheVariants as row_reply;
+
+use crate::checked;
+use crate::register::Register;
+use arrayvec::ArrayVec;
+use tatp_actions::Edit;
+use tatp_actions::edit::{AddSubscriber, SetNumber};
+use tatp_rows::{
+    Access, Facility, LAST_SUBSCRIBER, Number, Refusal, Subscriber, byte_in_range, in_range,
+    is_start_time,
+};
+
+impl Register {
+    /// GET_SUBSCRIBER_DATA (TATP, section 3.1), as `Event::SubscriberData`, but the row is lent from where it lies: `Field`,
+    /// `Moving`, `NoSubscriber`.
+    pub fn lend_subscriber(&self, s_id: u64) -> Result<&Subscriber, Refusal>
+        ensures row { IfOk result (λ row. IsStep (event.SubscriberData s_id) self.now (reply.Rows (row_reply.Row row.now)) self.now) }
+        ensures refused { IfErr result (λ why. IsStep (event.SubscriberData s_id) self.now (reply.Refused why) self.now) }
+    {
+        let Ok(s_id) = in_range(s_id, LAST_SUBSCRIBER) else {
+            return Err(Refusal::Field);
+        };
+        self.holdings.lend_subscriber(s_id)
+    }
+
+    /// GET_ACCESS_DATA (TATP, section 3.3), as `Event::AccessData`, but the row is lent from where it lies: `Field`, `Moving`,
+    /// `NoAccess`.
+    pub fn lend_access(&self, s_id: u64, ai_type: u64) -> Result<&Access, Refusal>
+        ensures row { IfOk result (λ row. IsStep (event.AccessData s_id ai_type) self.now
+            (reply.Rows (row_reply.AccessRow row.now.data1 row.now.data2 row.now.data3 row.now.data4)) self.now) }
+        ensures refused { IfErr result (λ why. IsStep (event.AccessData s_id ai_type) self.now (reply.Refused why) self.now) }
+    {
+        let Ok(s_id) = in_range(s_id, LAST_SUBSCRIBER) else {
+            return Err(Refusal::Field);
+        };
+        let Ok(ai_type) = byte_in_range(ai_type, 4) else {
+            return Err(Refusal::Field);
+        };
+        self.holdings.lend_access(s_id, ai_type)
+    }
+
+    /// GET_NEW_DESTINATION (TATP, section 3.2), as `Event::NewDestination`: the numbers, one to three, of forwardings that are
+    /// read where they lie: `Field`, `Moving`, `NoDestination`.
+    pub fn destinations(
+        &self,
+        s_id: u64,
+        sf_type: u64,
+        start_time: u64,
+        end_time: u64,
+    ) -> Result<ArrayVec<Number, 3>, Refusal>
+        ensures numbers { IfOk result (λ numbers. IsStep (event.NewDestination s_id sf_type start_time end_time) self.now (reply.Rows (row_reply.Numbers numbers)) self.now) }
+        ensures refused { IfErr result (λ why. IsStep (event.NewDestination s_id sf_type start_time end_time) self.now (reply.Refused why) self.now) }
+    {
+        let Ok(s_id) = in_range(s_id, LAST_SUBSCRIBER) else {
+            return Err(Refusal::Field);
+        };
+        let Ok(sf_type) = byte_in_range(sf_type, 4) else {
+            return Err(Refusal::Field);
+        };
+        if !is_start_time(start_time) {
+            return Err(Refusal::Field);
+        }
+        let Ok(end_time) = byte_in_range(end_time, 24) else {
+            return Err(Refusal::Field);
+        };
+        self.holdings
+            .destinations(s_id, sf_type, start_time as u8, end_time)
+    }
+
+    /// UPDATE_SUBSCRIBER_DATA (TATP, section 3.4), as `Event::UpdateSubscriber`: `Field`, `Moving`, `NoSubscriber`, `NoFacility`.
+    pub fn update_subscriber(
+        &mut self,
+        s_id: u64,
+        sf_type: u64,
+        bit_1: u64,
+        data_a: u64,
+    ) -> Result<(), Refusal>
+        ensures { IsStep (event.UpdateSubscriber s_id sf_type bit_1 data_a) self.old (edited_reply result) self.new }
+    {
+        self.edit(checked::update_subscriber(s_id, sf_type, bit_1, data_a))
+    }
+
+    /// UPDATE_LOCATION (TATP, section 3.5), as `Event::UpdateLocation`: `Field`, `NoNumber`, `Moving`.
+    pub fn update_location(&mut self, sub_nbr: Number, vlr_location: u64) -> Result<(), Refusal>
+        ensures { IsStep (event.UpdateLocation sub_nbr vlr_location) self.old (edited_reply result) self.new }
+    {
+        let owner = self.index.find(sub_nbr);
+        self.edit(checked::update_location(owner, vlr_location))
+    }
+
+    /// INSERT_CALL_FORWARDING (TATP, section 3.6), as `Event::InsertForwarding`: `Field`, `NoNumber`, `Moving`, `NoFacility`, `Exists`, `Memory`.
+    pub fn insert_forwarding(
+        &mut self,
+        sub_nbr: Number,
+        sf_type: u64,
+        start_time: u64,
+        end_time: u64,
+        numberx: Number,
+    ) -> Result<(), Refusal>
+        ensures { IsStep (event.InsertForwarding sub_nbr sf_type start_time end_time numberx) self.old (edited_reply result) self.new }
+    {
+        let owner = self.index.find(sub_nbr);
+        self.edit(checked::insert_forwarding(owner, sf_type, start_time, end_time, numberx))
+    }
+
+    /// DELETE_CALL_FORWARDING (TATP, section 3.7), as `Event::DeleteForwarding`: `Field`, `NoNumber`, `Moving`, `NoForwarding`.
+    pub fn delete_forwarding(
+        &mut self,
+        sub_nbr: Number,
+        sf_type: u64,
+        start_time: u64,
+    ) -> Result<(), Refusal>
+        ensures { IsStep (event.DeleteForwarding sub_nbr sf_type start_time) self.old (edited_reply result) self.new }
+    {
+        let owner = self.index.find(sub_nbr);
+        self.edit(checked::delete_forwarding(owner, sf_type, start_time))
+    }
+
+    /// Adds an Access_Info row, as `Event::AddAccess`: `Moving`, `NoSubscriber`, `Exists`, `Memory`.
+    pub fn add_access(&mut self, row: Access) -> Result<(), Refusal>
+        ensures { IsStep (event.AddAccess row) self.old (edited_reply result) self.new }
+    {
+        self.edit(checked::add_access(row))
+    }
+
+    /// Adds a Special_Facility row, as `Event::AddFacility`: `Moving`, `NoSubscriber`, `Exists`, `Memory`.
+    pub fn add_facility(&mut self, row: Facility) -> Result<(), Refusal>
+        ensures { IsStep (event.AddFacility row) self.old (edited_reply result) self.new }
+    {
+        self.edit(checked::add_facility(row))
+    }
+
+    /// Switches a facility on or off, as `Event::SetActive`: `Field`, `Moving`, `NoFacility`.
+    pub fn set_active(&mut self, s_id: u64, sf_type: u64, is_active: u64) -> Result<(), Refusal>
+        ensures { IsStep (event.SetActive s_id sf_type is_active) self.old (edited_reply result) self.new }
+    {
+        self.edit(checked::set_active(s_id, sf_type, is_active))
+    }
+
+    /// Adds a Subscriber row, as `Event::AddSubscriber`: `Moving`, `Exists`, `NumberTaken`, `Memory`.
+    pub fn add_subscriber(&mut self, row: Subscriber) -> Result<(), Refusal>
+        ensures { IsStep (event.AddSubscriber row) self.old (edited_reply result) self.new }
+    {
+        let s_id = row.s_id();
+        let Ok(part) = self.holdings.part_of(s_id) else {
+            return Err(Refusal::Moving);
+        };
+        if self.holdings.number_in(part, s_id).is_some() {
+            return Err(Refusal::Exists);
+        }
+        let number = row.sub_nbr();
+        if let Err(why) = self.index.add(number, s_id) {
+            return Err(why);
+        }
+        match self.holdings.edit_in(part, AddSubscriber { row }) {
+            Ok(()) => Ok(()),
+            Err(why) => {
+                self.index.remove(number);
+                Err(why)
+            }
+        }
+    }
+
+    /// Gives a subscriber another number, as `Event::SetNumber`: the pair in the index first, which may be refused, and then the
+    /// row, which can't be. `Field`, `Moving`, `NoSubscriber`, `NumberTaken`, `Memory`.
+    pub fn set_number(&mut self, s_id: u64, sub_nbr: Number) -> Result<(), Refusal>
+        ensures { IsStep (event.SetNumber s_id sub_nbr) self.old (edited_reply result) self.new }
+    {
+        let Ok(s_id) = in_range(s_id, LAST_SUBSCRIBER) else {
+            return Err(Refusal::Field);
+        };
+        let Ok(part) = self.holdings.part_of(s_id) else {
+            return Err(Refusal::Moving);
+        };
+        let Some(old) = self.holdings.number_in(part, s_id) else {
+            return Err(Refusal::NoSubscriber);
+        };
+        // A number tells by its value that it is in range.
+        let _value = sub_nbr.value();
+        if let Err(why) = self.index.rename(old, sub_nbr) {
+            return Err(why);
+        }
+        self.holdings.edit_in(part, SetNumber { s_id, sub_nbr })
+    }
+
+    /// Does an edit that gives no number, unless a field was refused.
+    fn edit<E: Edit>(&mut self, asked: Result<E, Refusal>) -> Result<(), Refusal>
+        requires { IfOk asked (λ edit. IsRowAction (E.action edit)) }
+        ensures { (fits : Bool) (wanted : Option Action) → IsAsked fits wanted (action_asked E.action asked) → IsRowStep fits wanted self.old (edited_reply result) self.new }
+    {
+        match asked {
+            Ok(edit) => self.holdings.edit(edit),
+            Err(why) => Err(why),
+        }
+    }
+}

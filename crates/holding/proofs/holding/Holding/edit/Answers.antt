@@ -1,0 +1,33 @@
+use Rattle.std.proofs.Common.{◌≡◌, ◌+ℤ◌, arith, pos, subst, sym}
+use Rattle.std.proofs.lemmas.Int.{ints}
+use Rattle.tatp_actions.specs.Cell.{cell}
+use Rattle.tatp_actions.specs.Inside.{Acts}
+use Rattle.view_board.specs.Nets.{net_of}
+use Rattle.view_delta.specs.Pending.{pending_at}
+use Rattle.view_delta.proofs.NoteLemmas.{notes_fit}
+use Rattle.holding.proofs.HeldLemmas.{pending_small}
+use Rattle.holding.proofs.holding.Holding.edit.Goals as goal
+
+pub note-requires : goal.note-requires
+note-requires g c =
+    rw (← c.notes-notes.ensures.value) (notes_fit c.self.inside.pending _ c.notes-notes.ensures.small c.notes-notes.ensures.few (pending_small _ c.self.invariant))
+
+pub invariant_of-self : goal.invariant_of-self
+invariant_of-self g c = record {
+  rules = c.make.ensures.after;
+  slot = c.self.invariant.slot;
+  law = λ at lt. subst (λ width. net_of c.self.inside.desk.view at +ℤ pending_at c.self.inside.pending at ≡ pos (cell width at c.make.new.part.book)) (sym c.in_err-moved.ensures.acts.range.2)
+      (omega (arith, ints, c.in_err-moved.ensures.acts.change at lt, c.self.invariant.law at lt));
+  small = c.self.invariant.small;
+  wide = c.self.invariant.wide;
+}
+
+pub invariant_of-self-2 : goal.invariant_of-self-2
+invariant_of-self-2 g c = record {
+  rules = c.make.ensures.after;
+  slot = c.self.invariant.slot;
+  law = λ at lt. subst (λ width. net_of c.self.inside.desk.view at +ℤ pending_at c.note.new.self at ≡ pos (cell width at c.make.new.part.book)) (sym c.in_ok-moved.ensures.acts.range.2)
+      (omega (arith, ints, c.in_ok-moved.ensures.acts.change at lt, c.note.ensures at lt, c.self.invariant.law at lt));
+  small = c.self.invariant.small;
+  wide = c.self.invariant.wide;
+}
