@@ -31,13 +31,6 @@ pub box_there : (regions : List Region) (boxes : List (Box HoldingState Global))
 box_there regions boxes pieces width are held s_id i n place long =
     rw (long, ← length-seen of_holding boxes) (acted_within regions (seen of_holding boxes) pieces width are held s_id i place)
 
--- a part's rows are those of its range
-pub part_rows : (regions : List Region) (holdings pieces : List Owner) (width : ℕ) → AreRegions regions → AreHeld regions holdings pieces width
-    → (s_id p : ℕ) (holding : Owner) → place_of s_id regions ≡ Some (Part p) → holding ≡ get_or holdings p holding → IsRowsOf holding.part.lo holding.part.hi holding.part.book
-part_rows regions holdings pieces width are held s_id p holding place is =
-    let there = part_of_s_id s_id p regions are.in_order place in
-    (part_owned regions holdings pieces width are held p there.0 holding there.1 is).0.keeps.rules.rows
-
 -- a refusal that is want of memory, where the other reason does not stand
 pub only_memory : {P : Type 0} (other why : Refusal) → P → ((why ≡ other) × (P → ⊥)) ⊎ ((why ≡ refusal.Memory) × P) → why ≡ refusal.Memory
 only_memory other why stands told = elim told [

@@ -51,10 +51,6 @@ module _ (act : Action) (store : Store) (holding : HoldingState) (has : HasRowsO
   pub is_read : (answer : RowReply) → effect act holding.part.book ≡ (answer, holding.part.book) → IsRead act store answer
   is_read answer does = rw (has.home) (has.answers act answer refl (inr (inl (fits, sym does))))
 
--- a subscriber in a loose piece
-pub moving_read : (act : Action) (store : Store) → is_loose (s_id_of act) store.regions ≡ true → is_in_range act ≡ true → IsRead act store (row_reply.Refused refusal.Moving)
-moving_read act store loose fits = rw (loose, fits) (refl, refl)
-
 -- the answer to numbers that were found, and to none
 pub numbers_read : (book : Book) (numbers : ArrayVec ℕ) → (array_vec_len numbers == 0) ≡ false → new_destination book numbers.items ≡ (row_reply.Numbers numbers, book)
 numbers_read book numbers some = cases numbers.items some
@@ -70,10 +66,6 @@ none_read book (n ∷ ns) none = absurd (grind (arith, nat_tests))
 -- what is read is a right step, which changes nothing
 pub read_step : (act : Action) (store : Store) (answer : RowReply) → given_number act ≡ None → IsRead act store answer → IsActionStep act store (reply_of answer) store
 read_step act store answer gives read = asked_step (is_in_range act) (Some act) act store store answer (reply_of answer) gives (refl, refl) read refl refl
-
--- a field out of range is a right step
-pub field_step : (act : Action) (store : Store) → is_in_range act ≡ false → IsActionStep act store (reply.Refused refusal.Field) store
-field_step act store unfit = rw unfit (refl, refl)
 
 -- what holds at Ok, and at Err, may be said in other words
 pub ok_so : {A : Type 0} {P Q : A → Type 0} (r : Result A Refusal) → ((x : A) → P x → Q x) → IfOk r P → IfOk r Q

@@ -1,7 +1,6 @@
 pub mod BoxLemmas
 pub mod BoxMoveLemmas
 pub mod DeskLemmas
-pub mod FirstLemmas
 pub mod GatherLemmas
 pub mod GatheredLemmas
 pub mod GatheredRowsLemmas

@@ -1,6 +1,6 @@
 -- Right steps of the register, from what its holdings and its index do.
 use Rattle.std.proofs.Common.{◌≡◌, ◌≢◌, ℕ, ◌+◌, refl, List, Bool, true, false, Option, Some, None, Result, Ok, Err, sym, ap, ◌∙◌, inl, inr}
-use Rattle.std.specs.Prelude.{is_some, option_map, ◌||◌, IsSome, IfOk, IfErr, MatchResult}
+use Rattle.std.specs.Prelude.{is_some, option_map, ◌||◌, IsSome}
 use Rattle.tatp_rows.specs.Rows.{SubscriberRow}
 use Rattle.tatp_rows.specs.declared.refusal.Refusal.TheVariants as refusal
 use Rattle.tatp_rows.specs.Keys.{subscriber_key}
@@ -91,12 +91,6 @@ edited_is (Err why) = refl
 -- what is refused is not done
 pub not_done : (why : Refusal) → row_reply.Refused why ≡ row_reply.Done → ⊥
 not_done why is = cc
-
--- the reply that is made of what was lent, or of a refusal, is as right as these are
-pub lent_is : {A : Type 0} (say : A → Reply) (P : Reply → Type 0) (r : Result A Refusal) (answer : Reply)
-    → MatchResult r (λ x. answer ≡ say x) (λ why. answer ≡ reply.Refused why) → IfOk r (λ x. P (say x)) → IfErr r (λ why. P (reply.Refused why)) → P answer
-lent_is say P (Ok x) answer is ok err = rw is ok
-lent_is say P (Err why) answer is ok err = rw is err
 
 -- a refusal of the rows comes before that of a number
 pub refused_step : (act : Action) (before : Store) (why : Refusal) → is_loose (s_id_of act) before.regions ≡ false → effect act before.book ≡ (row_reply.Refused why, before.book) → IsRowStep true (Some act) before (reply.Refused why) before

@@ -36,7 +36,7 @@ use part_table::{Place, Region, Regions, Side};
 use std::alloc::Global;
 use std::marker::Model;
 use std::sync::Arc;
-use tatp_actions::{Action, CELLS, Cells, Edit, Part, RowReply};
+use tatp_actions::{CELLS, Cells, Edit, Part};
 use tatp_rows::{LAST_SUBSCRIBER, Number, Refusal};
 use view_board::{Board, Desk, Sight, WORDS};
 
@@ -251,30 +251,6 @@ impl Holdings {
         }
     }
 
-    /// Does an action on the rows of its subscriber, whom the part has.
-    pub fn act_in(&mut self, part: u8, action: Action) -> RowReply
-        requires { place_of (s_id_of action) self.old.regions ≡ Some (Place.Part part) }
-        ensures outcome { IsOutcome action self.old.book result self.new.book }
-        ensures same { self.new ≡ record self.old { book = self.new.book } }
-        ensures rows { IsRowsOf 1 (LAST_SUBSCRIBER + 1) self.new.book }
-    {
-        self.holdings[usize::from(part)].act(action)
-    }
-
-    /// Does an action on the rows of its subscriber. Where a loose piece has them, the answer is `Moving`, after `Field`.
-    pub fn act(&mut self, action: Action) -> RowReply
-        requires { IsWithin 1 (LAST_SUBSCRIBER + 1) (s_id_of action) }
-        ensures answer { IsAnswered (is_loose (s_id_of action) self.old.regions) action self.old.book result self.new.book }
-        ensures same { self.new ≡ record self.old { book = self.new.book } }
-        ensures rows { IsRowsOf 1 (LAST_SUBSCRIBER + 1) self.new.book }
-    {
-        match self.regions.place(action.s_id()) {
-            Place::Part(part) => self.act_in(part, action),
-            Place::Piece(_) if action.is_in_range() => RowReply::Refused(Refusal::Moving),
-            Place::Piece(_) => RowReply::Refused(Refusal::Field),
-        }
-    }
-
     /// Does an edit of the rows of its subscriber, whom the part has.
     pub fn edit_in<E: Edit>(&mut self, part: u8, edit: E) -> Result<(), Refusal>
         requires { place_of (s_id_of (E.action edit)) self.old.regions ≡ Some (Place.Part part) }
@@ -393,7 +369,7 @@ impl Holdings {
         requires { place_of s_id self.now.regions ≡ Some (Place.Part part) }
         ensures { result ≡ option_map (λ row. row.sub_nbr) (subscriber_at self.now.book s_id) }
     {
-        let row = self.holdings[usize::from(part)].first_sub_from(u64::from(s_id))?;
-        (row.s_id() == s_id).then_some(row.sub_nbr())
+        let row = self.holdings[usize::from(part)].lend_subscriber(s_id)?;
+        Some(row.sub_nbr())
     }
 }

@@ -1,8 +1,9 @@
-use Rattle.std.proofs.Common.{◌∙◌, refl, sym}
+use Rattle.std.proofs.Common.{◌∙◌, ap, refl, sym, Some}
+use Rattle.std.specs.Prelude.{option_map}
+use Rattle.tatp_rows.specs.Rows.{SubscriberRow}
 use Rattle.hlr_core.specs.Held.{of_holding}
 use Rattle.hlr_core.proofs.BoxLemmas.{seen_at}
-use Rattle.hlr_core.proofs.FirstLemmas.{number_of_first, number_of_none}
-use Rattle.hlr_core.proofs.HoldingsLemmas.{place_at, box_there, part_rows}
+use Rattle.hlr_core.proofs.HoldingsLemmas.{place_at, box_there}
 use Rattle.hlr_core.proofs.StoreActLemmas.{part_subscriber}
 use Rattle.hlr_core.proofs.holdings.Holdings.number_in.Goals as goal
 
@@ -16,11 +17,11 @@ returns-in_err-row c =
     let place = place_at c.self.inside.regions c.args.s_id _ _ _ refl (rw (← c.self.view_is) at (sym c.requires)) c.from.ensures in
     let at = seen_at of_holding c.self.inside.holdings.items _ _ _ c.index.ensures c.deref.ensures in
     rw (← c.self.view_is, part_subscriber _ _ _ _ c.self.invariant.0 c.self.invariant.1 _ _ at c.args.s_id place)
-    (c.from_residual.ensures ∙ number_of_none c.deref.result.now.part.book c.args.s_id (rw c.from-2.ensures at c.in_err-row.ensures.value))
+    (c.from_residual.ensures ∙ ap (option_map (λ (row : SubscriberRow). row.sub_nbr)) c.in_err-row.ensures)
 
 pub returns : goal.returns
 returns c =
     let place = place_at c.self.inside.regions c.args.s_id _ _ _ refl (rw (← c.self.view_is) at (sym c.requires)) c.from.ensures in
     let at = seen_at of_holding c.self.inside.holdings.items _ _ _ c.index.ensures c.deref.ensures in
     rw (← c.self.view_is, part_subscriber _ _ _ _ c.self.invariant.0 c.self.invariant.1 _ _ at c.args.s_id place)
-    (c.then_some.ensures ∙ number_of_first _ _ _ c.args.s_id _ _ c.in_ok-row.row.now (part_rows _ _ _ _ c.self.invariant.0 c.self.invariant.1 _ _ _ place at) (rw c.from-2.ensures at c.in_ok-row.ensures.value) c.s_id.ensures.value c.sub_nbr.ensures)
+    (ap Some c.sub_nbr.ensures ∙ ap (option_map (λ (row : SubscriberRow). row.sub_nbr)) c.in_ok-row.ensures)
