@@ -45,6 +45,6 @@ echo "a pair: $(((pairs - alone) / 4)) instructions"
 sum_of() {
   callgrind_annotate ${3:-} --threshold=100 "$2" | grep "$1" | grep -v "'2 " | awk '{ gsub(",", "", $1); sum += $1 } END { print sum + 0 }'
 }
-walks=$(($(sum_of 'node::Node::fold::' "$room/pairs.callgrind" --inclusive=yes) - $(sum_of 'node::Node::fold::' "$room/alone.callgrind" --inclusive=yes)))
+walks=$(($(sum_of 'node::Node::walk::' "$room/pairs.callgrind" --inclusive=yes) - $(sum_of 'node::Node::walk::' "$room/alone.callgrind" --inclusive=yes)))
 copies=$(($(sum_of 'memcpy' "$room/pairs.callgrind") - $(sum_of 'memcpy' "$room/alone.callgrind")))
 echo "  of which walks over rows $((walks / 4)), copies of memory $((copies / 4))"
