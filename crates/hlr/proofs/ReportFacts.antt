@@ -1,14 +1,21 @@
 -- The lines of a report, one after another.
-use Rattle.std.proofs.Common.{◌≡◌, refl, sym, ap, ◌∙◌, subst, ℕ, zero, suc, ◌+◌, ◌-◌, ◌<◌, ◌≤◌, List, [], ◌∷◌, ◌++◌, length, Bool, true, false, Option, Some, None, append_assoc, arith}
+use Rattle.std.proofs.Common.{◌≡◌, refl, sym, ap, ◌∙◌, subst, ℕ, zero, suc, ◌+◌, ◌-◌, ◌<◌, ◌≤◌, ◌==◌, min, List, [], ◌∷◌, ◌++◌, length, get_or, Bool, true, false, Option, Some, None, append_assoc, arith}
 use Rattle.std.specs.Prelude.{ℤ, Result, OnOk, OnErr, nat_le}
-use Rattle.std.specs.List.{AllByRecursion, filter, find, flat_map, range_with_len}
+use Rattle.std.specs.List.{AllByRecursion, filter, flat_map, range_with_len}
 use Rattle.std.proofs.lemmas.Bool.Decides.{nat_tests}
-use Rattle.std.proofs.lemmas.List.{append-nil}
+use Rattle.std.proofs.lemmas.List.{append-nil, length-append}
 use Rattle.std.proofs.lemmas.List.Concat.{flat_map-append}
 use Rattle.std.proofs.lemmas.Result.{on_ok_weaker, on_err_weaker}
 use Rattle.std.specs.Io.KnownBytes.{Appends}
 use Rattle.tatp_rows.proofs.OrderedLemmas.{by_test, each-weaker, filter_all}
 use Rattle.tatp_rows.specs.Ordered.{IsOrderedBy}
+use Rattle.tatp_rows.specs.Spans.{keys_from}
+use Rattle.tatp_rows.specs.Number.{IsNumber}
+use Rattle.tatp_rows.proofs.AppendLemmas.{each-left}
+use Rattle.mr_node.specs.Rows.{key_of_pair}
+use Rattle.mr_node.specs.Pages.{IsPage}
+use Rattle.mr_node.proofs.PageLemmas.{is_emptied}
+use Rattle.number_index.specs.Pairs.{ArePairs}
 use Rattle.tatp_actions.specs.declared.cells.TheConstants.{CELLS}
 use Rattle.hlr.specs.Lines.{total_line}
 use Rattle.hlr.specs.Reports.{cells_where, rows_line, is_counted, is_standing, report_text, scan_text, standing_line, views_text}
@@ -35,6 +42,33 @@ module _ {X : Type 0} (line : X → List ℕ) (all : List X) where
     grew = rw (flat_map-append line to.shown (x ∷ []), append-nil (line x)) (appends_both old mid new _ _ to.grew (rw is at took));
   }
 
+  -- the lines of a front of the rest
+  pub report_goes_on_by : (rest left more : List X) (old mid new : Option (List ℕ)) → ReportTo line all rest old mid → rest ≡ more ++ left → Appends mid new (flat_map line more) → ReportTo line all left old new
+  report_goes_on_by rest left more old mid new to front took = record {
+    shown = to.shown ++ more;
+    all_is = to.all_is ∙ ap (λ xs. to.shown ++ xs) front ∙ sym (append_assoc to.shown more left);
+    grew = rw (flat_map-append line to.shown more) (appends_both old mid new _ _ to.grew took);
+  }
+
+  -- the sink failed in them
+  pub lines_stop_by : (rest left more : List X) (old mid new : Option (List ℕ)) → ReportTo line all rest old mid → rest ≡ more ++ left → AppendsFront mid new (flat_map line more) → AppendsFront old new (flat_map line all)
+  lines_stop_by rest left more old mid new to front took =
+      let whole : flat_map line all ≡ flat_map line to.shown ++ (flat_map line more ++ flat_map line left) =
+      ap (flat_map line) (to.all_is ∙ ap (λ xs. to.shown ++ xs) front) ∙ flat_map-append line to.shown (more ++ left)
+      ∙ ap (λ bytes. flat_map line to.shown ++ bytes) (flat_map-append line more left) in
+      rw whole (front_after old mid new _ _ to.grew (front_wider mid new (flat_map line more) _ took))
+
+  pub report_stops_by : (word : List ℕ) (rest left more : List X) (old mid new : Option (List ℕ)) → ReportTo line all rest old mid → rest ≡ more ++ left → AppendsFront mid new (flat_map line more)
+      → AppendsFront old new (report_text word line all)
+  unfolding report_text
+  report_stops_by word rest left more old mid new to front took = front_wider old new (flat_map line all) _ (lines_stop_by rest left more old mid new to front took)
+
+  -- or in one of them
+  pub lines_stop : (rest left : List X) (x : X) (old mid new : Option (List ℕ)) (bytes : List ℕ) → ReportTo line all rest old mid → rest ≡ x ∷ left → bytes ≡ line x → AppendsFront mid new bytes
+      → AppendsFront old new (flat_map line all)
+  lines_stop rest left x old mid new bytes to first is took =
+      lines_stop_by rest left (x ∷ []) old mid new to first (rw (append-nil (line x)) (rw is at took))
+
   -- the sink failed in a line
   pub report_stops : (word : List ℕ) (rest left : List X) (x : X) (old mid new : Option (List ℕ)) (bytes : List ℕ) → ReportTo line all rest old mid
       → rest ≡ x ∷ left → bytes ≡ line x → AppendsFront mid new bytes → AppendsFront old new (report_text word line all)
@@ -46,7 +80,7 @@ module _ {X : Type 0} (line : X → List ℕ) (all : List X) where
       (rw whole (front_after old mid new _ _ to.grew (front_wider mid new (line x) _ (rw is at took))))
 
   -- all lines were taken
-  report_whole : (rest : List X) (old new : Option (List ℕ)) → ReportTo line all rest old new → rest ≡ [] → Appends old new (flat_map line all)
+  pub report_whole : (rest : List X) (old new : Option (List ℕ)) → ReportTo line all rest old new → rest ≡ [] → Appends old new (flat_map line all)
   report_whole rest old new to none =
       let whole : all ≡ to.shown = to.all_is ∙ ap (λ xs. to.shown ++ xs) none ∙ append-nil to.shown in rw whole to.grew
 
@@ -65,37 +99,85 @@ module _ {X : Type 0} (line : X → List ℕ) (all : List X) where
 
 -- the pairs from a number on
 abbrev pub pairs_from : ℕ → List (ℕ × ℕ) → List (ℕ × ℕ)
-pairs_from from pairs = filter (λ pair. nat_le from pair.0) pairs
+pairs_from from pairs = keys_from key_of_pair from pairs
 
--- the pairs from a number on, where one was found: it, and those after it
-pub pairs_next : (from : ℕ) (pairs : List (ℕ × ℕ)) (pair : ℕ × ℕ) → IsOrderedBy (λ (p : ℕ × ℕ). p.0) pairs → find (λ (p : ℕ × ℕ). nat_le from p.0) pairs ≡ Some pair
-    → (pairs_from from pairs ≡ pair ∷ pairs_from (pair.0 + 1) pairs) × (from ≤ pair.0)
-pairs_next from [] pair rises found = absurd cc
-pairs_next from (x ∷ xs) pair rises found =
+-- where some pair is the first from a number on: the others are those after it
+pairs_next : (from : ℕ) (pairs : List (ℕ × ℕ)) (pair : ℕ × ℕ) (left : List (ℕ × ℕ)) → IsOrderedBy key_of_pair pairs → pairs_from from pairs ≡ pair ∷ left
+    → (left ≡ pairs_from (pair.0 + 1) pairs) × (from ≤ pair.0)
+pairs_next from [] pair left rises first = absurd cc
+pairs_next from (x ∷ xs) pair left rises first =
     by_test (nat_le from x.0)
     (λ e.
-    let same : pair ≡ x = (let is : Some x ≡ Some pair = rw e at found in cc) in
     let above : from ≤ x.0 = grind (arith, nat_tests) in
     let all_from : pairs_from from xs ≡ xs = filter_all _ xs (each-weaker (λ y less. grind (arith, nat_tests)) xs rises.0) in
     let all_after : pairs_from (x.0 + 1) xs ≡ xs = filter_all _ xs (each-weaker (λ y less. grind (arith, nat_tests)) xs rises.0) in
     let not_itself : nat_le (x.0 + 1) x.0 ≡ false = grind (arith, nat_tests) in
-    let first : pairs_from from (x ∷ xs) ≡ x ∷ xs = rw e (ap (λ ys. x ∷ ys) all_from) in
-    let left : pairs_from (x.0 + 1) (x ∷ xs) ≡ xs = rw not_itself all_after in
-    subst (λ (q : ℕ × ℕ). (pairs_from from (x ∷ xs) ≡ q ∷ pairs_from (q.0 + 1) (x ∷ xs)) × (from ≤ q.0)) (sym same)
-    (first ∙ ap (λ ys. x ∷ ys) (sym left), above))
+    let here : x ∷ xs ≡ pair ∷ left = ap (λ ys. x ∷ ys) (sym all_from) ∙ (rw e at first) in
+    let same : x ≡ pair = cc in
+    let rest : xs ≡ left = cc in
+    let after : pairs_from (x.0 + 1) (x ∷ xs) ≡ xs = rw not_itself all_after in
+    subst (λ (q : ℕ × ℕ). (left ≡ pairs_from (q.0 + 1) (x ∷ xs)) × (from ≤ q.0)) same (sym rest ∙ sym after, above))
     (λ e.
-    let rest = pairs_next from xs pair rises.1 (rw e at found) in
-    let above = rest.1 in
+    let next = pairs_next from xs pair left rises.1 (rw e at first) in
+    let above = next.1 in
     let passed : nat_le (pair.0 + 1) x.0 ≡ false = grind (arith, nat_tests) in
-    (rw (e, passed) rest.0, above))
+    (rw passed next.0, above))
 
--- none from a number on, where none was found
-pub pairs_none : (from : ℕ) (pairs : List (ℕ × ℕ)) → find (λ (p : ℕ × ℕ). nat_le from p.0) pairs ≡ None → pairs_from from pairs ≡ []
-pairs_none from [] none = refl
-pairs_none from (x ∷ xs) none =
-    by_test (nat_le from x.0)
-    (λ e. absurd (let is : Some x ≡ None = rw e at none in cc))
-    (λ e. rw e (pairs_none from xs (rw e at none)))
+-- the number after that of the last of some pairs
+abbrev pub number_after : List (ℕ × ℕ) → ℕ
+number_after pairs = (get_or pairs (length pairs - 1) (0, 0)).0 + 1
+
+after_more : (x y : ℕ × ℕ) (page : List (ℕ × ℕ)) → number_after (y ∷ page) ≡ number_after (x ∷ y ∷ page)
+after_more x y page =
+    let short : length (y ∷ page) - 1 ≡ length page = omega arith in
+    let long : length (x ∷ y ∷ page) - 1 ≡ suc (length page) = omega arith in
+    ap (λ i. (get_or (y ∷ page) i (0, 0)).0 + 1) short ∙ sym (ap (λ i. (get_or (x ∷ y ∷ page) i (0, 0)).0 + 1) long)
+
+-- what follows a page of pairs from a number on is the pairs after its last one
+pub pages_next : (from : ℕ) (pairs : List (ℕ × ℕ)) (x : ℕ × ℕ) (page rest : List (ℕ × ℕ)) → IsOrderedBy key_of_pair pairs → pairs_from from pairs ≡ (x ∷ page) ++ rest
+    → rest ≡ pairs_from (number_after (x ∷ page)) pairs
+pages_next from pairs x [] rest rises front = (pairs_next from pairs x rest rises front).0
+pages_next from pairs x (y ∷ page) rest rises front =
+    let next = pairs_next from pairs x ((y ∷ page) ++ rest) rises front in
+    pages_next (x.0 + 1) pairs y page rest rises (sym next.0) ∙ ap (λ n. pairs_from n pairs) (after_more x y page)
+
+-- what each element has, those have that pass a test, and the one at a place
+filter_each : {X : Type 0} (P : X → Type 0) (test : X → Bool) (xs : List X) → AllByRecursion P xs → AllByRecursion P (filter test xs)
+filter_each P test [] each = tt
+filter_each P test (x ∷ xs) each = by_test (test x) (λ e. rw e (each.0, filter_each P test xs each.1)) (λ e. rw e (filter_each P test xs each.1))
+
+at_each : {X : Type 0} (P : X → Type 0) (xs : List X) (i : ℕ) (blank : X) → AllByRecursion P xs → i < length xs → P (get_or xs i blank)
+at_each P [] i blank each within = absurd (omega arith)
+at_each P (x ∷ xs) zero blank each within = each.0
+at_each P (x ∷ xs) (suc i) blank each within = at_each P xs i blank each.1 (omega arith)
+
+-- a page of pairs, and those that follow it
+pub record IsPageStep (from after : ℕ) (pairs page : List (ℕ × ℕ)) : Type 0 where
+  pub front : pairs_from from pairs ≡ page ++ pairs_from after pairs
+  pub less : length (pairs_from after pairs) < length (pairs_from from pairs)
+
+pub page_step : (from after : ℕ) (pairs page : List (ℕ × ℕ)) (test : Bool) → ArePairs pairs → IsPage from pairs page → test ≡ (length page == 0) → test ≡ false
+    → after ≡ min 18446744073709551615 (number_after page) → IsPageStep from after pairs page
+page_step from after pairs [] test are is_page is e at = absurd (let wrong : test ≡ true = is in cc)
+page_step from after pairs (x ∷ page) test are is_page is e at =
+    let numbers : AllByRecursion (λ (p : ℕ × ℕ). IsNumber p.0) (x ∷ page) =
+    each-left _ (x ∷ page) is_page.rest (subst (AllByRecursion (λ (p : ℕ × ℕ). IsNumber p.0)) is_page.front (filter_each (λ (p : ℕ × ℕ). IsNumber p.0) _ pairs are.1)) in
+    let last : IsNumber (get_or (x ∷ page) (length (x ∷ page) - 1) (0, 0)).0 = at_each (λ (p : ℕ × ℕ). IsNumber p.0) (x ∷ page) (length (x ∷ page) - 1) (0, 0) numbers (omega arith) in
+    let same : after ≡ number_after (x ∷ page) = omega (arith, at, last) in
+    let rest = pages_next from pairs x page is_page.rest are.0 is_page.front in
+    let front : pairs_from from pairs ≡ (x ∷ page) ++ pairs_from after pairs = is_page.front ∙ ap (λ r. (x ∷ page) ++ r) (rest ∙ ap (λ n. pairs_from n pairs) (sym same)) in
+    let long : length (pairs_from from pairs) ≡ length (x ∷ page) + length (pairs_from after pairs) = ap length front ∙ length-append (x ∷ page) (pairs_from after pairs) in
+    record { front = front; less = omega (arith, long) }
+
+-- a page that isn't empty has some
+pub page_some : (page : List (ℕ × ℕ)) (test : Bool) → test ≡ (length page == 0) → test ≡ false → 0 < length page
+page_some [] test is e = absurd (let wrong : test ≡ true = is in cc)
+page_some (x ∷ page) test is e = omega arith
+
+-- an empty page: there are no more pairs
+pub page_none : (from : ℕ) (pairs page : List (ℕ × ℕ)) (test : Bool) → IsPage from pairs page → test ≡ (length page == 0) → test ≡ true → pairs_from from pairs ≡ []
+page_none from pairs page test is_page is e =
+    let none = is_emptied page test is e in is_page.front ∙ ap (λ p. p ++ is_page.rest) none ∙ is_page.some none
 
 -- no pair is left out from 0 on
 pub pairs_all : (pairs : List (ℕ × ℕ)) → pairs ≡ pairs_from 0 pairs

@@ -60,8 +60,17 @@ fn push_number(line: &mut Line, number: Number)
     ensures bytes { line.new.items ≡ line.old.items ++ number_text number }
     ensures len { array_vec_len line.new ≤ array_vec_len line.old + 35 }
 {
+    push_digits(line, number.value());
+}
+
+/// Appends the digits of a number, 15 at least.
+fn push_digits(line: &mut Line, number: u64)
+    requires { array_vec_len line.old + 35 ≤ 256 }
+    ensures bytes { line.new.items ≡ line.old.items ++ number_text number }
+    ensures len { array_vec_len line.new ≤ array_vec_len line.old + 35 }
+{
     let mut buffer = Buffer::new();
-    let digits = buffer.format(number.value()).as_bytes();
+    let digits = buffer.format(number).as_bytes();
     push_zeros(line, 15usize.saturating_sub(digits.len()));
     push_bytes(line, digits);
 }
@@ -227,12 +236,12 @@ pub fn build_counted(line: &mut Line, cell: u64, count: u64)
 
 /// Builds the line of a number and the subscriber who has it.
 #[tactic(auto, unfolding(crate::specs::Lines::number_line))]
-pub fn build_number(line: &mut Line, number: Number, s_id: u32)
+pub fn build_number(line: &mut Line, number: u64, s_id: u32)
     ensures { line.new.items ≡ number_line (number, s_id) }
 {
     line.clear();
     push_bytes(line, b"number,");
-    push_number(line, number);
+    push_digits(line, number);
     push_bytes(line, b",");
     push_decimal(line, s_id);
     push_bytes(line, b"\n");

@@ -1,9 +1,11 @@
 //! The reports: their lines go out one by one, and then how many they are.
-ghost use Rattle.std.specs.Prelude.{◌≡◌, ◌<◌, ◌≤◌, true, length, pos, slice_index_or, OnOk, OnErr};
+ghost use Rattle.std.specs.Prelude.{◌≡◌, ◌+◌, ◌-◌, ◌<◌, ◌≤◌, min, true, length, pos, slice_index_or, OnOk, OnErr};
+ghost use Rattle.std.specs.List.{flat_map};
 ghost use Rattle.std.specs.Io.KnownBytes.{Appends};
 ghost use Rattle.tatp_actions.specs.Cell.{cell};
 ghost use Rattle.hlr_core.specs.Store.{published, unposted};
 ghost use Rattle.hlr.specs.Sink.{AppendsFront};
+ghost use Rattle.hlr.specs.Lines.{number_line};
 ghost use Rattle.hlr.specs.Reports.{index_text, regions_text, scan_text, views_text};
 ghost use Rattle.hlr.specs.Text.{proposal_line};
 ghost use Rattle.hlr.specs.Inside.{cells_text, is_shown, shown_line, total_word};
@@ -13,7 +15,7 @@ use crate::lines::{
 };
 use crate::sink::{Sink, Stalled, put_all};
 use hlr_core::Register;
-use number_index::NumberIndex;
+use number_index::{NumberIndex, Page};
 use part_table::Regions;
 use tatp_actions::{CELLS, Cells};
 
@@ -143,6 +145,28 @@ pub fn write_scan<S: Sink>(
     write_cells(&Counts::Rows(&register.recount()), line, sink)
 }
 
+/// Writes the lines of some pairs of a number and a subscriber. Where the sink fails, a front of them was taken.
+fn write_pairs<S: Sink>(pairs: &[(u64, u32)], line: &mut Line, sink: &mut S) -> Result<(), Stalled>
+    ensures ok { OnOk result (Appends (S.taken sink.old) (S.taken sink.new) (flat_map number_line pairs.now)) }
+    ensures err { OnErr result (AppendsFront (S.taken sink.old) (S.taken sink.new) (flat_map number_line pairs.now)) }
+    ensures told { OnErr result (S.has_stalled sink.new ≡ true) }
+{
+    for (number, s_id) in pairs {
+        build_number(line, *number, *s_id);
+        put_all(sink, line.as_slice())?;
+    }
+    Ok(())
+}
+
+/// The number after that of the last pair.
+fn after_last(pairs: &[(u64, u32)]) -> u64
+    requires { 0 < length pairs.now }
+    ensures { result ≡ min (18446744073709551615) ((slice_index_or pairs.now (length pairs.now - 1) (0, 0)).0 + 1) }
+{
+    let (number, _) = pairs[pairs.len() - 1];
+    number.saturating_add(1)
+}
+
 /// Writes the report of the numbers: a line for each pair of the index, by number, and then the line of how many they
 /// are. The line is the memory to build them in. Where the sink fails, a front of the report was taken.
 #[inline(never)]
@@ -156,11 +180,12 @@ pub fn write_index<S: Sink>(
     ensures told { OnErr result (S.has_stalled sink.new ≡ true) }
 {
     let mut from = 0u64;
-    while let Some(pair) = index.first_from(from) {
-        let (number, s_id) = pair;
-        build_number(line, number, s_id);
-        put_all(sink, line.as_slice())?;
-        from = number.value() + 1;
+    let mut page = Page::new();
+    index.page_from(from, &mut page);
+    while !page.is_empty() {
+        write_pairs(page.as_slice(), line, sink)?;
+        from = after_last(page.as_slice());
+        index.page_from(from, &mut page);
     }
     build_total(line, b"index,", index.len());
     put_all(sink, line.as_slice())

@@ -16,4 +16,5 @@ pub mod EvenLemmas
 pub mod PartLemmas
 pub mod RootLemmas
 pub mod FirstLemmas
+pub mod PageLemmas
 pub mod FoldLemmas

@@ -17,7 +17,7 @@ cut_fits n i xs none long e le fits = (omega (arith, long, le, ap length e), ome
 
 module _ {V : Type 0} where
   -- from where a search stops on there are no lesser keys
-  cut_from : (key i : ℕ) (leaf : Leaf V) → IsLeaf leaf → key ≤ no_key → length leaf.values.items ≤ length leaf.keys → IsStop key i leaf.keys → KeysFrom key (drop i (pairs_of leaf))
+  pub cut_from : (key i : ℕ) (leaf : Leaf V) → IsLeaf leaf → key ≤ no_key → length leaf.values.items ≤ length leaf.keys → IsStop key i leaf.keys → KeysFrom key (drop i (pairs_of leaf))
   cut_from key i leaf h small long stop = elim (cases_lt i (length leaf.values.items)) [
     | inl lt ↦ let some = leaf_some i leaf h lt in back_from key i some.0 leaf h some.1 (stop.here (omega (arith, lt, long)))
     | inr le ↦ subst (KeysFrom key) (sym (drop_all i (pairs_of leaf) (omega (arith, le, leaf_length leaf h)))) tt

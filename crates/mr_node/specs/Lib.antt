@@ -6,6 +6,7 @@ pub mod Growth
 pub mod Inside
 pub mod Levels
 pub mod Pairs
+pub mod Pages
 pub mod Parts
 pub mod Rows
 pub mod Runs

@@ -6,6 +6,7 @@ ghost use Rattle.mr_node.specs.Rows.{key_limit, key_of_pair, value_at, StartsWit
 ghost use Rattle.mr_node.specs.Levels.{IsLeaf, pairs_of, seen_leaf};
 ghost use Rattle.mr_node.specs.Entries.{IsThere, IsFree};
 ghost use Rattle.mr_node.specs.Folds.{FoldsRows, WalksRows};
+ghost use Rattle.mr_node.specs.Pages.{IsPage};
 ghost use Rattle.mr_node.specs.Growth.{IsGrown, IsRoomAnswer, is_done};
 
 use crate::keys::{NO_KEY, count_below, put_key, take_key};
@@ -230,5 +231,28 @@ pub(crate) fn walk_entries<V, A, F: Fn(&mut A, u64, &V)>(leaf: &Leaf<V>, so_far:
 {
     for place in 0..leaf.values.len() {
         walk_entry(leaf.keys[place], &leaf.values.as_slice()[place], so_far, f);
+    }
+}
+
+// A copy of the value in a used place.
+fn copy_of<V: Copy>(place: &Option<V>) -> V
+    requires { IsSome place.now }
+    ensures { place.now ≡ Some result }
+{
+    match place {
+        Some(value) => *value,
+        None => unreachable!(),
+    }
+}
+
+// Puts the rows of a leaf from a key on into an empty page.
+pub(crate) fn page_entries<V: Copy>(leaf: &Leaf<V>, key: u64, page: &mut ArrayVec<(u64, V), 32>)
+    requires leaf { IsLeaf leaf.now }
+    requires empty { page.old.items ≡ [] }
+    ensures { IsPage key (pairs_of leaf.now) page.new.items }
+{
+    let stop = count_below(&leaf.keys, key);
+    for place in stop..leaf.values.len() {
+        page.push((leaf.keys[place], copy_of(&leaf.values.as_slice()[place])));
     }
 }

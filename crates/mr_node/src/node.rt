@@ -5,6 +5,7 @@ ghost use Rattle.tatp_rows.specs.Ordered.{IsOrderedBy, row_at, with_row_at};
 ghost use Rattle.mr_node.specs.Rows.{key_limit, key_of_pair, value_at, StartsWith};
 ghost use Rattle.mr_node.specs.Levels.{seen, IsNode, IsWell, IsLeaf, IsBranch, seen_leaf, seen_branch};
 ghost use Rattle.mr_node.specs.Folds.{FoldsRows, WalksRows};
+ghost use Rattle.mr_node.specs.Pages.{IsPage};
 ghost use Rattle.mr_node.specs.Runs.{IsRun};
 ghost use Rattle.mr_node.specs.Growth.{IsGrown, IsRoomAnswer, is_done};
 ghost use Rattle.mr_node.specs.Pairs.{IsKidNode, IsHalved, IsShare, AreEvened};
@@ -13,13 +14,14 @@ ghost use Rattle.mr_node.specs.Parts.{IsHung};
 ghost use Rattle.mr_node.specs.Steps.{after_steps, IsRoomMade};
 
 use crate::entries::{
-    find_entry, first_entry, fold_entries, insert_entry, insert_new, no_leaf, remove_entry,
-    replace_entry, walk_entries,
+    find_entry, first_entry, fold_entries, insert_entry, insert_new, no_leaf, page_entries,
+    remove_entry, replace_entry, walk_entries,
 };
 use crate::kids::{no_branch, place_of, put_kid, sum_counts, take_kid};
 use crate::mending::{make_room, mend};
 use crate::runs::{even, low_of, share};
 use crate::{Body, Branch, Kid, Leaf, Meter, Room, Stock};
+use arrayvec::ArrayVec;
 use std::marker::Model;
 use std::mem;
 
@@ -190,6 +192,36 @@ impl<V> Node<V> {
         ensures whole { IsNode result }
     {
         self.body
+    }
+}
+
+impl<V: Copy> Node<V> {
+    /// Puts the next rows from a key on into an empty page, as many as one leaf has: some where there are any. Looking is
+    /// no step.
+    pub fn page_from(&self, key: u64, page: &mut ArrayVec<(u64, V), 32>)
+        requires { page.old.items ≡ [] }
+        ensures { IsPage key self.now.rows page.new.items }
+    {
+        match &self.body {
+            Body::Leaf(leaf) => page_entries(leaf, key, page),
+            Body::Inner(branch) => {
+                let place = place_of(branch, key);
+                match &branch.kids[place] {
+                    Some(kid) => kid.node.page_from(key, page),
+                    None => unreachable!(),
+                }
+                if !page.is_empty() {
+                    return;
+                }
+                if place + 1 >= branch.len {
+                    return;
+                }
+                match &branch.kids[place + 1] {
+                    Some(next) => next.node.page_from(key, page),
+                    None => unreachable!(),
+                }
+            }
+        }
     }
 }
 

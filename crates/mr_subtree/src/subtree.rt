@@ -4,8 +4,10 @@ ghost use Rattle.std.specs.List.{find};
 ghost use Rattle.tatp_rows.specs.Ordered.{row_at, with_row, with_row_at, without_row};
 ghost use Rattle.mr_node.specs.Rows.{key_limit, key_of_pair, value_at};
 ghost use Rattle.mr_node.specs.Folds.{FoldsRows, WalksRows};
+ghost use Rattle.mr_node.specs.Pages.{IsPage};
 ghost use Rattle.mr_subtree.specs.Trees.{IsRoot, IsHeightOf, IsInserted};
 
+use arrayvec::ArrayVec;
 use mr_node::{Meter, Node, Room, Stock};
 use std::alloc::Global;
 use std::marker::Model;
@@ -106,6 +108,16 @@ impl<V> SubTree<V> {
         ensures { WalksRows (λ a k r b. F.post f.now a k r tt b) so_far.old self.now.rows so_far.new }
     {
         self.root.walk(so_far, f)
+    }
+}
+
+impl<V: Copy> SubTree<V> {
+    /// Puts the next rows from a key on into an empty page, as many as one leaf has: some where there are any.
+    pub fn page_from(&self, key: u64, page: &mut ArrayVec<(u64, V), 32>)
+        requires { page.old.items ≡ [] }
+        ensures { IsPage key self.now.rows page.new.items }
+    {
+        self.root.page_from(key, page)
     }
 }
 

@@ -3,13 +3,18 @@ ghost use Rattle.std.specs.Prelude.{◌≡◌, ◌<◌, ◌≤◌, ℕ, [], leng
 ghost use Rattle.std.specs.List.{find};
 ghost use Rattle.tatp_rows.specs.Ordered.{without_row};
 ghost use Rattle.tatp_rows.specs.Number.{IsNumber};
+ghost use Rattle.mr_node.specs.Pages.{IsPage};
 ghost use Rattle.mr_node.specs.Rows.{key_of_pair};
 ghost use Rattle.number_index.specs.Pairs.{ArePairs, owner_in, IsAdded, IsRenamed};
 
+use arrayvec::ArrayVec;
 use mr_subtree::SubTree;
 use std::alloc::Global;
 use std::marker::Model;
 use tatp_rows::{Number, Refusal};
+
+/// Some pairs of a number and a subscriber, one after another: at most 32.
+pub type Page = ArrayVec<(u64, u32), 32>;
 
 /// Which subscriber has a number, seen as the list of pairs (number, s_id), whose numbers rise.
 #[derive(Drop)]
@@ -59,6 +64,15 @@ impl NumberIndex {
     {
         let (value, s_id) = self.tree.first_from(number)?;
         Some((as_number(value), *s_id))
+    }
+
+    /// Puts the next pairs from a number on into a page, in place of what it held: some where there are any.
+    pub fn page_from(&self, number: u64, page: &mut Page)
+        ensures page { IsPage number self.now page.new.items }
+        ensures pairs { ArePairs self.now }
+    {
+        page.clear();
+        self.tree.page_from(number, page);
     }
 
     /// Adds a pair. `NumberTaken` where a subscriber has the number, `Memory` where the index can't grow: then it is as

@@ -1,0 +1,6 @@
+use Rattle.std.proofs.Common.{subst}
+use Rattle.mr_node.specs.Pages.{IsPage}
+use Rattle.mr_subtree.proofs.subtree.SubTree.page_from.Goals as goal
+
+pub returns : goal.returns
+returns g c = subst (λ s. IsPage c.args.key s.rows c.page_from.new.page.items) c.self.view_is c.page_from.ensures
