@@ -7,6 +7,7 @@ pub mod KeyLemmas
 pub mod MapLemmas
 pub mod NumberLemmas
 pub mod OrderedLemmas
+pub mod PackLemmas
 pub mod PlaceLemmas
 pub mod RowLemmas
 pub mod SortLemmas

@@ -300,7 +300,7 @@ each_between low high (n ∷ ns) each =
     both_from (is_between low high n) (list_all (is_between low high) ns) (between_from low high n first.0 first.1)
     (each_between low high ns (λ k within. each (suc k) (omega arith)))
 
-between_each : (low high : ℕ) (ns : List ℕ) → list_all (is_between low high) ns ≡ true → EachIndex ns (λ k. (low ≤ get_or ns k 0) × (get_or ns k 0 ≤ high))
+pub between_each : (low high : ℕ) (ns : List ℕ) → list_all (is_between low high) ns ≡ true → EachIndex ns (λ k. (low ≤ get_or ns k 0) × (get_or ns k 0 ≤ high))
 between_each low high [] all k within = absurd (omega arith)
 between_each low high (n ∷ ns) all zero within = between_is low high n (both (is_between low high n) (list_all (is_between low high) ns) all).0
 between_each low high (n ∷ ns) all (suc k) within = between_each low high ns (both (is_between low high n) (list_all (is_between low high) ns) all).1 k (omega arith)

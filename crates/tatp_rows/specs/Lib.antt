@@ -2,6 +2,7 @@ pub mod Keys
 pub mod Letters
 pub mod Number
 pub mod Ordered
+pub mod Packed
 pub mod Refusal
 pub mod Rows
 pub mod Spans

@@ -1,5 +1,7 @@
 //! Rows of the table Subscriber.
-ghost use Rattle.std.specs.Prelude.{◌≡◌, ◌≤◌, IsTrue, slice_set};
+ghost use Rattle.std.specs.Prelude.{◌≡◌, ◌≤◌, ◌<◌, ◌^◌, IsTrue, slice_index, slice_set};
+ghost use Rattle.std.specs.List.{EachIndex};
+ghost use Rattle.tatp_rows.specs.Packed.{packed, unpacked};
 ghost use Rattle.tatp_rows.specs.Rows.{SubscriberRow, subscriber_in_range, subscriber_of};
 ghost use Rattle.tatp_rows.specs.Keys.{subscriber_key};
 
@@ -12,47 +14,94 @@ use std::marker::Model;
 /// A row of the table Subscriber (TATP, section 2.1).
 #[derive(Clone, Copy, Debug, PartialEq, Eq)]
 pub struct Subscriber {
-    s_id: u32,
     sub_nbr: Number,
-    bits: [u8; 10],
-    hexes: [u8; 10],
-    bytes: [u8; 10],
+    // hex_1 lies in the lowest four bits.
+    hexes: u64,
+    s_id: u32,
     msc_location: u32,
     vlr_location: u32,
+    // bit_1 is the lowest one.
+    bits: u16,
+    bytes: [u8; 10],
 }
 
 impl Model for Subscriber {
+    ghost use Rattle.std.specs.Prelude.{◌<◌, ◌^◌, IsTrue};
+    ghost use Rattle.std.proofs.Common.{arith};
+    ghost use Rattle.tatp_rows.specs.Packed.{packed, packed_back, unpacked};
+    ghost use Rattle.tatp_rows.specs.Rows.{SubscriberRow, subscriber_in_range};
+
     ghost Value = { SubscriberRow };
 
     ghost view = { λ s. record {
       s_id = s.s_id;
       sub_nbr = s.sub_nbr;
-      bits = s.bits;
-      hexes = s.hexes;
+      bits = unpacked 2 10 s.bits;
+      hexes = unpacked 16 10 s.hexes;
       bytes = s.bytes;
       msc_location = s.msc_location;
       vlr_location = s.vlr_location;
     } };
 
-    ghost invariant = { λ s. IsTrue (subscriber_in_range (record {
+    ghost invariant = { λ s. (s.bits < 2 ^ 10) × (s.hexes < 16 ^ 10) × IsTrue (subscriber_in_range (record {
       s_id = s.s_id;
       sub_nbr = s.sub_nbr;
-      bits = s.bits;
-      hexes = s.hexes;
+      bits = unpacked 2 10 s.bits;
+      hexes = unpacked 16 10 s.hexes;
       bytes = s.bytes;
       msc_location = s.msc_location;
       vlr_location = s.vlr_location;
     })) };
 
     ghost inverse = { λ s. record {
-      s_id = s.s_id;
       sub_nbr = s.sub_nbr;
-      bits = s.bits;
-      hexes = s.hexes;
-      bytes = s.bytes;
+      hexes = packed 16 s.hexes;
+      s_id = s.s_id;
       msc_location = s.msc_location;
       vlr_location = s.vlr_location;
+      bits = packed 2 s.bits;
+      bytes = s.bytes;
     } };
+
+    ghost inverse_ok = { λ a h i. record {
+      sub_nbr = a.sub_nbr;
+      hexes = packed_back 16 10 a.hexes (omega arith) h.1 i;
+      s_id = a.s_id;
+      msc_location = a.msc_location;
+      vlr_location = a.vlr_location;
+      bits = packed_back 2 10 a.bits (omega arith) h.0 i;
+      bytes = a.bytes;
+    } };
+}
+
+// Digits to a base, packed in one number, the first one lowest.
+#[inline(always)]
+fn pack(digits: &[u8; 10], base: u64) -> u64
+    requires base { (2 ≤ base) × (base ≤ 16) }
+    requires digits { EachIndex digits.now (λ k. slice_index digits.now k < base) }
+    ensures value { result ≡ packed base digits.now }
+    ensures below { result < base ^ 10 }
+{
+    let mut value = 0u64;
+    for i in 0..10 {
+        value = value * base + u64::from(digits[9 - i]);
+    }
+    value
+}
+
+// The ten digits to a base that are packed in a number.
+#[inline(always)]
+fn unpack(value: u64, base: u64) -> [u8; 10]
+    requires { (2 ≤ base) × (base ≤ 16) }
+    ensures { result ≡ unpacked base 10 value }
+{
+    let mut digits = [0u8; 10];
+    let mut rest = value;
+    for i in 0..10 {
+        digits[i] = (rest % base) as u8;
+        rest /= base;
+    }
+    digits
 }
 
 impl Subscriber {
@@ -89,13 +138,13 @@ impl Subscriber {
         let msc_location = in_range(msc_location, 4_294_967_295)?;
         let vlr_location = in_range(vlr_location, 4_294_967_295)?;
         Ok(Subscriber {
-            s_id,
             sub_nbr,
-            bits,
-            hexes,
-            bytes,
+            hexes: pack(&hexes, 16),
+            s_id,
             msc_location,
             vlr_location,
+            bits: pack(&bits, 2) as u16,
+            bytes,
         })
     }
 
@@ -115,8 +164,7 @@ impl Subscriber {
         requires { bit_1 ≤ 1 }
         ensures { result ≡ record self { bits = slice_set self.bits 0 bit_1 } }
     {
-        let mut bits = self.bits;
-        bits[0] = bit_1;
+        let bits = self.bits - self.bits % 2 + u16::from(bit_1);
         Subscriber { bits, ..self }
     }
 
@@ -156,14 +204,14 @@ impl Subscriber {
     pub fn bits(&self) -> [u8; 10]
         ensures { result ≡ self.now.bits }
     {
-        self.bits
+        unpack(u64::from(self.bits), 2)
     }
 
     /// hex_1 to hex_10, each 0..=15.
     pub fn hexes(&self) -> [u8; 10]
         ensures { result ≡ self.now.hexes }
     {
-        self.hexes
+        unpack(self.hexes, 16)
     }
 
     /// byte2_1 to byte2_10.

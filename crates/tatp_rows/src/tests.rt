@@ -90,6 +90,75 @@ fn subscribers(rt: HostRuntime) -> Result<(), Fail> {
     Ok(())
 }
 
+/// Rows with their fields at both ends of the ranges, and with digits that tell their places: s_id, number, bits, hexes,
+/// bytes and both locations.
+const ENDS: [(u64, u64, [u8; 10], [u8; 10], [u8; 10], u64); 5] = [
+    (1, 0, [0; 10], [0; 10], [0; 10], 1),
+    (
+        16_777_216,
+        999_999_999_999_999,
+        [1; 10],
+        [15; 10],
+        [255; 10],
+        4_294_967_295,
+    ),
+    (
+        1,
+        999_999_999_999_999,
+        [1, 0, 0, 0, 0, 0, 0, 0, 0, 0],
+        [15, 0, 0, 0, 0, 0, 0, 0, 0, 0],
+        [255, 0, 0, 0, 0, 0, 0, 0, 0, 0],
+        4_294_967_295,
+    ),
+    (
+        16_777_216,
+        0,
+        [0, 0, 0, 0, 0, 0, 0, 0, 0, 1],
+        [0, 0, 0, 0, 0, 0, 0, 0, 0, 15],
+        [0, 0, 0, 0, 0, 0, 0, 0, 0, 255],
+        1,
+    ),
+    (
+        8_388_608,
+        123_456_789_012_345,
+        [0, 1, 1, 0, 1, 0, 0, 1, 1, 0],
+        [1, 2, 3, 4, 5, 6, 7, 8, 9, 10],
+        [1, 2, 3, 4, 5, 6, 7, 8, 9, 10],
+        2_147_483_648,
+    ),
+];
+
+#[test]
+fn subscribers_at_the_ends_of_their_ranges(rt: HostRuntime) -> Result<(), Fail> {
+    for (s_id, number, bits, hexes, bytes, location) in ENDS {
+        let number = Number::try_new(number)?;
+        let row = Subscriber::try_new(s_id, number, bits, hexes, bytes, location, location)?;
+        assert_eq!(rt;
+            (
+                u64::from(row.s_id()),
+                row.sub_nbr(),
+                u64::from(row.msc_location()),
+                u64::from(row.vlr_location())
+            ),
+            (s_id, number, location, location)
+        );
+        assert_eq!(rt;
+            (row.bits(), row.hexes(), row.bytes()),
+            (bits, hexes, bytes)
+        );
+        assert_eq!(rt;
+            (
+                row.with_bit_1(bits[0].min(1)) == row,
+                row.with_bit_1(0).bits()[0],
+                row.with_bit_1(1).bits()[0],
+                row.with_bit_1(1).hexes()
+            ),
+            (true, 0, 1, hexes)
+        );
+    }
+    Ok(())
+}
+
 #[test]
 fn accesses(rt: HostRuntime) -> Result<(), Fail> {
     let three = Letters::from_bytes(b"ABZ")?;
