@@ -88,6 +88,12 @@ pub edited_is : (done : Result (Unit {0}) Refusal) → edited_reply done ≡ rep
 edited_is (Ok u) = refl
 edited_is (Err why) = refl
 
+-- an event that is refused as it is asked for is a right step
+pub unasked_step : (fits : Bool) (wanted : Option Action) (why : Refusal) (before : Store) → IsAsked fits wanted (Err why) → IsRowStep fits wanted before (reply.Refused why) before
+unasked_step false wanted why before field = rw field (refl, refl)
+unasked_step true None why before missing = rw missing (refl, refl)
+unasked_step true (Some act) why before clash = absurd clash
+
 -- what is refused is not done
 pub not_done : (why : Refusal) → row_reply.Refused why ≡ row_reply.Done → ⊥
 not_done why is = cc

@@ -157,9 +157,7 @@ impl Register {
             return Err(Refusal::Exists);
         }
         let number = row.sub_nbr();
-        if let Err(why) = self.index.add(number, s_id) {
-            return Err(why);
-        }
+        self.index.add(number, s_id)?;
         match self.holdings.edit_in(part, AddSubscriber { row }) {
             Ok(()) => Ok(()),
             Err(why) => {
@@ -185,9 +183,7 @@ impl Register {
         };
         // A number tells by its value that it is in range.
         let _value = sub_nbr.value();
-        if let Err(why) = self.index.rename(old, sub_nbr) {
-            return Err(why);
-        }
+        self.index.rename(old, sub_nbr)?;
         self.holdings.edit_in(part, SetNumber { s_id, sub_nbr })
     }
 
@@ -196,9 +192,7 @@ impl Register {
         requires { IfOk asked (λ edit. IsRowAction (E.action edit)) }
         ensures { (fits : Bool) (wanted : Option Action) → IsAsked fits wanted (action_asked E.action asked) → IsRowStep fits wanted self.old (edited_reply result) self.new }
     {
-        match asked {
-            Ok(edit) => self.holdings.edit(edit),
-            Err(why) => Err(why),
-        }
+        let edit = asked?;
+        self.holdings.edit(edit)
     }
 }

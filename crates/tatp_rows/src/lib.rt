@@ -24,7 +24,9 @@ pub use forwarding::Forwarding;
 pub use keys::{row_key, subscriber_key};
 pub use letters::Letters;
 pub use number::Number;
-pub use ranges::{GREATEST_WIDTH, LAST_SUBSCRIBER, byte_in_range, in_range, is_between, is_start_time};
+pub use ranges::{
+    GREATEST_WIDTH, LAST_SUBSCRIBER, byte_in_range, in_range, is_between, is_start_time,
+};
 pub use refusal::{Back, Refusal};
 pub use subscriber::Subscriber;
 pub use zones::{area, zone};

@@ -1,13 +1,19 @@
+use Rattle.std.proofs.lemmas.Result.{err_from_is_err_and}
 use Rattle.tatp_actions.specs.Action.{done_reply}
 use Rattle.hlr_core.proofs.PairsLemmas.{answered_registered}
-use Rattle.hlr_core.proofs.RegisterLemmas.{asked_step, edited_is}
+use Rattle.hlr_core.proofs.RegisterLemmas.{asked_step, edited_is, unasked_step}
 use Rattle.hlr_core.proofs.register.Register.edit.Goals as goal
 
 pub invariant_of-self : goal.invariant_of-self
 invariant_of-self g c =
-    answered_registered _ (g.E.Edit.action c.in-Ok.edit) _ _ (done_reply c.edit.result) _ (rw (c.in-Ok.is) at c.requires).1 c.self.invariant c.edit.ensures.rows c.edit.ensures.answer
+    answered_registered _ (g.E.Edit.action c.in_ok-edit.edit) _ _ (done_reply c.edit.result) _ (rw (c.in_ok-edit.was) at c.requires).1 c.self.invariant c.edit.ensures.rows c.edit.ensures.answer
 
-pub returns-in-Ok : goal.returns-in-Ok
-returns-in-Ok g c = λ fits wanted asked.
-    rw (← c.self.view_is) (asked_step fits wanted (g.E.Edit.action c.in-Ok.edit) _ _ (done_reply c.edit.result) _ (rw (c.in-Ok.is) at c.requires).1 (rw (c.in-Ok.is) at asked) c.edit.ensures.answer
+pub returns : goal.returns
+returns g c = λ fits wanted asked.
+    rw (← c.self.view_is) (asked_step fits wanted (g.E.Edit.action c.in_ok-edit.edit) _ _ (done_reply c.edit.result) _ (rw (c.in_ok-edit.was) at c.requires).1 (rw (c.in_ok-edit.was) at asked) c.edit.ensures.answer
     c.edit.ensures.same (edited_is c.edit.result))
+
+pub returns-in_err-edit : goal.returns-in_err-edit
+returns-in_err-edit g c = λ fits wanted asked.
+    let p = err_from_is_err_and c.from_residual.result c.from_residual.ensures.1 in
+    rw (p.1, p.2) (unasked_step fits wanted c.in_err-edit.field-0.0 _ (rw (c.in_err-edit.was) at asked))
