@@ -1,8 +1,9 @@
 -- How the text of a run grows, record by record.
 use Rattle.std.proofs.Common.{◌≡◌, refl, sym, ap, ◌∙◌, subst, ℕ, ◌+◌, ◌≤◌, ◌<◌, List, [], ◌∷◌, ◌++◌, length, Option, Some, None, Bool, true, false, append_assoc, length-append, ◌⊎◌, inl, inr, arith}
-use Rattle.std.specs.Prelude.{IfSome, option_map, Result, Ok, Err, OnOk, OnErr}
+use Rattle.std.specs.Prelude.{◌==◌, IfSome, IfOk, IfErr, MatchResult, option_map, Result, Ok, Err, OnOk, OnErr}
 use Rattle.std.specs.Result.{is_err}
 use Rattle.std.proofs.lemmas.Bool.{false≢true}
+use Rattle.std.proofs.lemmas.Bool.Decides.{nat_tests}
 use Rattle.std.proofs.lemmas.List.{append-nil}
 use Rattle.std.specs.Io.KnownBytes.{Appends, Keeps}
 use Rattle.csv.specs.Reading.{ReadRecord, Reached, default_config, reader_config, reader_state, source_of, strip_bom}
@@ -12,12 +13,20 @@ use Rattle.csv.specs.declared.reader.Reader.{Reader}
 use Rattle.csv.proofs.ReadFacts.{rows-more, rows-end}
 use Rattle.hlr_core.specs.Store.{Store}
 use Rattle.hlr.specs.Records.{command_of, command_named, field, word_named}
+use Rattle.hlr.specs.declared.records.Report.{Report}
+use Rattle.hlr.specs.declared.records.Report.TheVariants as report
 use Rattle.hlr.specs.declared.records.Word.{Word}
+use Rattle.hlr.specs.declared.records.Word.TheVariants as word
+use Rattle.hlr.specs.Inside.{word_of_report, command_of_report}
+use Rattle.hlr.specs.Lines.{reply_line, refused_line}
+use Rattle.hlr_core.specs.declared.event.Reply.{Reply}
 use Rattle.hlr.specs.Sink.{AppendsFront}
 use Rattle.hlr.specs.Text.{CommandText, RecordText, RecordsText, RecordDone, RecordCut, WritesWhole, AnsweredRecords, RanWhole, RanFront, Ran}
 use Rattle.tatp_rows.specs.declared.refusal.Refusal.{Refusal}
+use Rattle.tatp_rows.specs.declared.refusal.Refusal.TheVariants as refusal
 use Rattle.hlr.specs.declared.fault.Fault.{Fault}
-use Rattle.hlr.specs.declared.records.Command.{Command}
+use Rattle.hlr.specs.Command.{Command}
+use Rattle.hlr.specs.Command.{Command as command}
 use Rattle.hlr.specs.declared.sink.Stalled.{Stalled}
 use Rattle.hlr.specs.declared.fault.Fault.TheVariants as fault
 use Rattle.hlr.proofs.SinkFacts.{appends_none, appends_both, appends_kept, begins_all, begins_after}
@@ -251,3 +260,36 @@ pub named_text : (fields : List (List ℕ)) (named : Option Word) (before after 
     → RecordText fields before text after
 unfolding command_of
 named_text fields named before after text is answer = subst (λ (w : Option Word). CommandText fields (command_named w fields) before text after) is answer
+
+-- a number that isn't 1, as a test
+not_one : (n : ℕ) → (n ≡ 1 → ⊥) → (n == 1) ≡ false
+not_one n more = grind (arith, nat_tests)
+
+-- a record of one field, whose word is that of a report
+pub report_named : (fields : List (List ℕ)) (asked : Report) → Some (word_of_report asked) ≡ word_named (field fields 0) → length fields ≡ 1 → Ok (command_of_report asked) ≡ command_of fields
+unfolding command_of
+report_named fields report.Views is one = rw (← is, one) refl
+report_named fields report.Scan is one = rw (← is, one) refl
+report_named fields report.Index is one = rw (← is, one) refl
+report_named fields report.Regions is one = rw (← is, one) refl
+report_named fields report.Propose is one = rw (← is, one) refl
+
+-- and one of more or fewer fields
+pub report_refused : (fields : List (List ℕ)) (asked : Report) → Some (word_of_report asked) ≡ word_named (field fields 0) → (length fields ≡ 1 → ⊥) → Err refusal.Syntax ≡ command_of fields
+unfolding command_of
+report_refused fields report.Views is more = rw (← is, not_one (length fields) more) refl
+report_refused fields report.Scan is more = rw (← is, not_one (length fields) more) refl
+report_refused fields report.Index is more = rw (← is, not_one (length fields) more) refl
+report_refused fields report.Regions is more = rw (← is, not_one (length fields) more) refl
+report_refused fields report.Propose is more = rw (← is, not_one (length fields) more) refl
+
+-- a record whose word is that of a re-cut
+pub recut_named : (fields : List (List ℕ)) → Some word.Recut ≡ word_named (field fields 0) → command_of fields ≡ Ok command.Recut
+unfolding command_of
+recut_named fields is = rw (← is) refl
+
+-- the line of what was told, or refused, answers as these do
+pub told_text : (P : List ℕ → Type 0) (told : Result Reply Refusal) (line : List ℕ) → MatchResult told (λ reply. line ≡ reply_line reply) (λ why. line ≡ refused_line why)
+    → IfOk told (λ reply. P (reply_line reply)) → IfErr told (λ why. P (refused_line why)) → P line
+told_text P (Ok reply) line is done refused = rw is done
+told_text P (Err why) line is done refused = rw is refused

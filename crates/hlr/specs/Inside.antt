@@ -1,6 +1,12 @@
--- What the calls that write a report of the cells say of the counts that they are given; no clause of `run_alone` cites this.
+-- What the calls that write reports promise each other; no clause of `run_alone` cites this.
 use Rattle.std.specs.Prelude.{ℕ, Bool, List, codes, ℤ, pos, slice_index, slice_index_or}
 use Rattle.hlr.specs.Reports.{report_text, cells_where, is_standing, standing_line, is_counted, rows_line}
+use Rattle.hlr.specs.Command.{Command}
+use Rattle.hlr.specs.Command.{Command as command}
+use Rattle.hlr.specs.declared.records.Report.{Report}
+use Rattle.hlr.specs.declared.records.Report.TheVariants as report
+use Rattle.hlr.specs.declared.records.Word.{Word}
+use Rattle.hlr.specs.declared.records.Word.TheVariants as word
 use Rattle.hlr.specs.declared.reports.Counts.{Counts}
 use Rattle.hlr.specs.declared.reports.Counts.TheVariants as counts
 
@@ -26,3 +32,18 @@ shown_line (counts.Rows cells) = rows_line (slice_index cells.now)
 -- the report, which is that of `views` or of `scan`
 abbrev pub cells_text : Counts → List ℕ
 cells_text counts = report_text (total_word counts) (shown_line counts) (cells_where (is_shown counts))
+
+-- the word of a report, and the command that it is
+abbrev pub word_of_report : Report → Word
+word_of_report report.Views = word.Views
+word_of_report report.Scan = word.Scan
+word_of_report report.Index = word.Index
+word_of_report report.Regions = word.Regions
+word_of_report report.Propose = word.Propose
+
+abbrev pub command_of_report : Report → Command
+command_of_report report.Views = command.Views
+command_of_report report.Scan = command.Scan
+command_of_report report.Index = command.Index
+command_of_report report.Regions = command.Regions
+command_of_report report.Propose = command.Propose

@@ -13,8 +13,8 @@ use Rattle.part_table.specs.declared.region.Side.{Side}
 use Rattle.part_table.specs.declared.region.Side.TheVariants.{Low, High}
 use Rattle.hlr_core.specs.declared.event.Event.TheVariants as event
 use Rattle.hlr.specs.Fields.{◌>>=◌, number_field, number_fields, byte_field, digits_field, bytes_field}
-use Rattle.hlr.specs.declared.records.Command.{Command}
-use Rattle.hlr.specs.declared.records.Command.TheVariants as command
+use Rattle.hlr.specs.Command.{Command}
+use Rattle.hlr.specs.Command.{Command as command}
 use Rattle.hlr.specs.declared.records.TheConstants.{MOST_BOUNDS}
 use Rattle.hlr.specs.declared.records.Word.{Word}
 use Rattle.hlr.specs.declared.records.Word.TheVariants as word

@@ -21,8 +21,8 @@ use Rattle.hlr.specs.Sink.{Begins, AppendsFront}
 use Rattle.hlr.specs.Reports.{index_text, regions_text, scan_text, views_text}
 use Rattle.hlr.specs.declared.fault.Fault.{Fault}
 use Rattle.hlr.specs.declared.fault.Fault.TheVariants as fault
-use Rattle.hlr.specs.declared.records.Command.{Command}
-use Rattle.hlr.specs.declared.records.Command.TheVariants as command
+use Rattle.hlr.specs.Command.{Command}
+use Rattle.hlr.specs.Command.{Command as command}
 
 -- an event is answered by the line of a right reply
 pub record Answered (before : Store) (event : Event) (text : List ℕ) (after : Store) : Type 0 where

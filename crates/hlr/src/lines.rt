@@ -1,5 +1,5 @@
 //! The lines of the answers.
-ghost use Rattle.std.specs.Prelude.{◌≡◌, ◌≤◌, ◌<◌, ◌+◌, ◌*◌, ◌++◌, ◌∷◌, [], length, codes, replicate};
+ghost use Rattle.std.specs.Prelude.{◌≡◌, ◌≤◌, ◌<◌, ◌+◌, ◌*◌, ◌++◌, ◌∷◌, [], length, codes, replicate, MatchResult};
 ghost use Rattle.std.specs.List.{flat_map};
 ghost use Rattle.arrayvec.specs.ArrayVec.{array_vec_len};
 ghost use Rattle.tatp_rows.specs.Number.{number_text};
@@ -370,5 +370,15 @@ pub fn build_reply(line: &mut Line, reply: &Reply)
         }
         Reply::Taken { piece, part } => build_taken(line, *piece, *part),
         Reply::Refused(why) => build_refused(line, *why),
+    }
+}
+
+/// Builds the line of a reply, or of a refusal.
+pub fn build_told(line: &mut Line, told: Result<Reply, Refusal>)
+    ensures { MatchResult told (λ reply. line.new.items ≡ reply_line reply) (λ why. line.new.items ≡ refused_line why) }
+{
+    match told {
+        Ok(reply) => build_reply(line, &reply),
+        Err(why) => build_refused(line, why),
     }
 }

@@ -6,6 +6,7 @@ mod edits;
 mod fault;
 mod fields;
 mod lines;
+mod moves;
 mod options;
 mod records;
 mod reports;

@@ -10,7 +10,8 @@ ghost use Rattle.hlr_core.specs.Store.{HasOpening, opening};
 ghost use Rattle.hlr.specs.WholeRecords.{inner_remaining};
 ghost use Rattle.hlr.specs.Records.{command_of, field, word_named};
 ghost use Rattle.hlr.specs.Text.{IsFlushedAfter, Ran, RecordCut, RecordDone};
-ghost use Rattle.hlr.specs.declared.records.Command.TheVariants as command;
+ghost use Rattle.hlr.specs.Command.{Command as command};
+ghost use Rattle.hlr.specs.Inside.{word_of_report};
 ghost use Rattle.tatp_rows.specs.declared.refusal.Refusal.TheVariants as refusal;
 ghost use Rattle.hlr.specs.declared.fault.Fault.TheVariants as fault;
 
@@ -20,8 +21,9 @@ use crate::edits::{
     set_number, update_location, update_subscriber,
 };
 use crate::fault::{Fault, read_fault};
-use crate::lines::{Line, build_done, build_recut, build_refused, build_reply, empty_line};
-use crate::records::{Command, Word, field, read_bounds, read_command, word_of};
+use crate::lines::{Line, build_done, build_recut, build_refused, build_told, empty_line};
+use crate::moves::{give, post, take};
+use crate::records::{Report, Word, field, read_bounds, word_of};
 use crate::reports::{write_index, write_proposal, write_regions, write_scan, write_views};
 use crate::sink::{Sink, Stalled, put_all};
 use crate::whole_records::WholeRecords;
@@ -56,39 +58,29 @@ fn write_recut<S: Sink>(
     put_all(sink, line.as_slice())
 }
 
-/// Answers a record whose word is known. The line is the memory to build the answer in. Where the sink fails, a front of
-/// the answer was taken.
-///
-/// It is not inlined: an event's room would be filled with zeros in each answer to a read.
-#[inline(never)]
-fn answer_other<S: Sink>(
-    word: Word,
+/// Answers a record whose word is that of a report: `Syntax` where it has a further field.
+fn answer_report<S: Sink>(
+    report: Report,
     row: &ByteRecord,
-    register: &mut Register,
+    register: &Register,
     line: &mut Line,
     sink: &mut S,
 ) -> Result<(), Stalled>
-    requires { Some word ≡ word_named (field (fields_of row.now) 0) }
-    ensures ok { OnOk result (RecordDone (fields_of row.now) register.old register.new (S.taken sink.old) (S.taken sink.new)) }
-    ensures err { OnErr result (RecordCut (fields_of row.now) register.old register.new (S.taken sink.old) (S.taken sink.new)) }
+    requires { Some (word_of_report report) ≡ word_named (field (fields_of row.now) 0) }
+    ensures ok { OnOk result (RecordDone (fields_of row.now) register.now register.now (S.taken sink.old) (S.taken sink.new)) }
+    ensures err { OnErr result (RecordCut (fields_of row.now) register.now register.now (S.taken sink.old) (S.taken sink.new)) }
     ensures told { OnErr result (S.has_stalled sink.new ≡ true) }
 {
-    match read_command(word, row) {
-        Ok(Command::Ask(event)) => {
-            let reply = register.apply(event);
-            build_reply(line, &reply);
-            put_all(sink, line.as_slice())
-        }
-        Ok(Command::Views) => write_views(register, line, sink),
-        Ok(Command::Scan) => write_scan(register, line, sink),
-        Ok(Command::Index) => write_index(register.index(), line, sink),
-        Ok(Command::Regions) => write_regions(register.regions(), line, sink),
-        Ok(Command::Propose) => write_proposal(register, line, sink),
-        Ok(Command::Recut) => write_recut(row, register, line, sink),
-        Err(why) => {
-            build_refused(line, why);
-            put_all(sink, line.as_slice())
-        }
+    if row.len() != 1 {
+        build_refused(line, Refusal::Syntax);
+        return put_all(sink, line.as_slice());
+    }
+    match report {
+        Report::Views => write_views(register, line, sink),
+        Report::Scan => write_scan(register, line, sink),
+        Report::Index => write_index(register.index(), line, sink),
+        Report::Regions => write_regions(register.regions(), line, sink),
+        Report::Propose => write_proposal(register, line, sink),
     }
 }
 
@@ -118,7 +110,15 @@ fn answer_word<S: Sink>(
         Word::Fac => build_done(line, add_facility(row, register)),
         Word::Active => build_done(line, set_active(row, register)),
         Word::Number => build_done(line, set_number(row, register)),
-        other => return answer_other(other, row, register, line, sink),
+        Word::Post => build_told(line, post(row, register)),
+        Word::Give => build_told(line, give(row, register)),
+        Word::Take => build_told(line, take(row, register)),
+        Word::Views => return answer_report(Report::Views, row, register, line, sink),
+        Word::Scan => return answer_report(Report::Scan, row, register, line, sink),
+        Word::Index => return answer_report(Report::Index, row, register, line, sink),
+        Word::Regions => return answer_report(Report::Regions, row, register, line, sink),
+        Word::Propose => return answer_report(Report::Propose, row, register, line, sink),
+        Word::Recut => return write_recut(row, register, line, sink),
     }
     put_all(sink, line.as_slice())
 }

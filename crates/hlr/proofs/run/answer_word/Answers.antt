@@ -1,8 +1,8 @@
 use Rattle.std.proofs.Common.{refl}
 use Rattle.csv.specs.Records.{fields_of}
 use Rattle.hlr.specs.Text.{RecordText}
-use Rattle.hlr.proofs.RunFacts.{answered_whole, answered_front, named_text}
-use Rattle.hlr.proofs.run.answer_word.Goals.{in-Gsd, in-Gad, in-Gnd, in-Usd, in-Ul, in-Icf, in-Dcf, in-Sub, in-Acc, in-Fac, in-Active, in-Number, After-put_all}
+use Rattle.hlr.proofs.RunFacts.{answered_whole, answered_front, named_text, recut_named, told_text}
+use Rattle.hlr.proofs.run.answer_word.Goals.{in-Gsd, in-Gad, in-Gnd, in-Usd, in-Ul, in-Icf, in-Dcf, in-Sub, in-Acc, in-Fac, in-Active, in-Number, in-Post, in-Give, in-Take, After-put_all}
 use Rattle.hlr.proofs.run.answer_word.Goals as goal
 
 -- what the line answers
@@ -20,6 +20,9 @@ answer_text g c = elim c.match-word.branch [
   | in-Fac w ↦ named_text _ _ _ _ _ c.requires (rw (w.in-Fac.is, w.line-is, w.build_done-in-Fac.ensures, w.register-is) w.add_facility.ensures)
   | in-Active w ↦ named_text _ _ _ _ _ c.requires (rw (w.in-Active.is, w.line-is, w.build_done-in-Active.ensures, w.register-is) w.set_active.ensures)
   | in-Number w ↦ named_text _ _ _ _ _ c.requires (rw (w.in-Number.is, w.line-is, w.build_done-in-Number.ensures, w.register-is) w.set_number.ensures)
+  | in-Post w ↦ named_text _ _ _ _ _ c.requires (rw (w.in-Post.is, w.line-is, w.register-is) (told_text _ w.post.result _ w.build_told.ensures w.post.ensures.done w.post.ensures.refused))
+  | in-Give w ↦ named_text _ _ _ _ _ c.requires (rw (w.in-Give.is, w.line-is, w.register-is) (told_text _ w.give.result _ w.build_told-in-Give.ensures w.give.ensures.done w.give.ensures.refused))
+  | in-Take w ↦ named_text _ _ _ _ _ c.requires (rw (w.in-Take.is, w.line-is, w.register-is) (told_text _ w.take.result _ w.build_told-in-Take.ensures w.take.ensures.done w.take.ensures.refused))
 ]
 
 pub returns-clause-ok : goal.returns-clause-ok
@@ -27,3 +30,6 @@ returns-clause-ok g c = answered_whole _ _ _ _ _ _ _ _ _ refl (answer_text g c) 
 
 pub returns-clause-err : goal.returns-clause-err
 returns-clause-err g c = answered_front _ _ _ _ _ _ _ _ _ refl (answer_text g c) c.as_slice.ensures.value c.put_all.ensures.err
+
+pub write_recut-requires : goal.write_recut-requires
+write_recut-requires g c = recut_named _ (rw (c.in-Recut.is) at c.requires)
