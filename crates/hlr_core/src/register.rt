@@ -85,7 +85,7 @@ fn numbers_reply(found: Result<ArrayVec<Number, 3>, Refusal>) -> Reply
     }
 }
 
-fn done_reply(done: Result<(), Refusal>) -> Reply
+fn edited_reply(done: Result<(), Refusal>) -> Reply
     ensures { result ≡ edited_reply done }
 {
     match done {
@@ -202,34 +202,34 @@ impl Register {
                 sf_type,
                 bit_1,
                 data_a,
-            } => done_reply(self.update_subscriber(s_id, sf_type, bit_1, data_a)),
+            } => edited_reply(self.update_subscriber(s_id, sf_type, bit_1, data_a)),
             Event::UpdateLocation {
                 sub_nbr,
                 vlr_location,
-            } => done_reply(self.update_location(sub_nbr, vlr_location)),
+            } => edited_reply(self.update_location(sub_nbr, vlr_location)),
             Event::InsertForwarding {
                 sub_nbr,
                 sf_type,
                 start_time,
                 end_time,
                 numberx,
-            } => done_reply(self.insert_forwarding(
+            } => edited_reply(self.insert_forwarding(
                 sub_nbr, sf_type, start_time, end_time, numberx,
             )),
             Event::DeleteForwarding {
                 sub_nbr,
                 sf_type,
                 start_time,
-            } => done_reply(self.delete_forwarding(sub_nbr, sf_type, start_time)),
-            Event::AddSubscriber(row) => done_reply(self.add_subscriber(row)),
-            Event::AddAccess(row) => done_reply(self.add_access(row)),
-            Event::AddFacility(row) => done_reply(self.add_facility(row)),
+            } => edited_reply(self.delete_forwarding(sub_nbr, sf_type, start_time)),
+            Event::AddSubscriber(row) => edited_reply(self.add_subscriber(row)),
+            Event::AddAccess(row) => edited_reply(self.add_access(row)),
+            Event::AddFacility(row) => edited_reply(self.add_facility(row)),
             Event::SetActive {
                 s_id,
                 sf_type,
                 is_active,
-            } => done_reply(self.set_active(s_id, sf_type, is_active)),
-            Event::SetNumber { s_id, sub_nbr } => done_reply(self.set_number(s_id, sub_nbr)),
+            } => edited_reply(self.set_active(s_id, sf_type, is_active)),
+            Event::SetNumber { s_id, sub_nbr } => edited_reply(self.set_number(s_id, sub_nbr)),
             Event::Post { part, limit } => self.post(part, limit),
             Event::Give { part, side, at } => self.give(part, side, at),
             Event::Take { piece, part } => self.take(piece, part),

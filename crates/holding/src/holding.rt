@@ -101,6 +101,25 @@ impl<R: Rows> Holding<R> {
         reply
     }
 
+    /// Does an action that changes rows, as `act` does the action that it is: `Field` first, then the refusals of the rows,
+    /// `Memory` only where a row is added. After a refusal the rows and what is pending are as before.
+    pub fn edit<E: Edit>(&mut self, edit: E) -> Result<(), Refusal>
+        requires { IsWithin self.old.part.lo self.old.part.hi (s_id_of (E.action edit)) }
+        ensures outcome { IsOutcome (E.action edit) self.old.part.book (done_reply result) self.new.part.book }
+        ensures range { (self.new.part.lo ≡ self.old.part.lo) × (self.new.part.hi ≡ self.old.part.hi) × (self.new.part.width ≡ self.old.part.width) }
+        ensures asked { self.new.part.asked ≤ self.old.part.asked + 8 }
+        ensures steps { self.new.part.steps ≡ self.old.part.steps }
+        ensures desk { (self.new.desk ≡ self.old.desk) × (self.new.slot ≡ self.old.slot) }
+        ensures before { IsHolding self.old }
+        ensures after { IsHolding self.new }
+    {
+        let moved = edit.make(&mut self.part)?;
+        // A change tells by its notes that they are few and small.
+        let _notes = moved.notes();
+        self.pending.note(&moved);
+        Ok(())
+    }
+
     /// Posts what is pending of a cell. `Worn` where the word would pass its limit: then nothing is changed.
     fn post_cell(&mut self, board: &Board, cell: u8) -> Result<(), Refusal>
         requires board { self.old.desk.board ≡ board.now }
@@ -141,25 +160,6 @@ impl<R: Rows> Holding<R> {
 }
 
 impl Holding {
-    /// Does an action that changes rows, as `act` does the action that it is: `Field` first, then the refusals of the rows,
-    /// `Memory` only where a row is added. After a refusal the rows and what is pending are as before.
-    pub fn edit<E: Edit>(&mut self, edit: E) -> Result<(), Refusal>
-        requires { IsWithin self.old.part.lo self.old.part.hi (s_id_of (E.action edit)) }
-        ensures outcome { IsOutcome (E.action edit) self.old.part.book (done_reply result) self.new.part.book }
-        ensures range { (self.new.part.lo ≡ self.old.part.lo) × (self.new.part.hi ≡ self.old.part.hi) × (self.new.part.width ≡ self.old.part.width) }
-        ensures asked { self.new.part.asked ≤ self.old.part.asked + 8 }
-        ensures steps { self.new.part.steps ≡ self.old.part.steps }
-        ensures desk { (self.new.desk ≡ self.old.desk) × (self.new.slot ≡ self.old.slot) }
-        ensures before { IsHolding self.old }
-        ensures after { IsHolding self.new }
-    {
-        let moved = edit.make(&mut self.part)?;
-        // A change tells by its notes that they are few and small.
-        let _notes = moved.notes();
-        self.pending.note(&moved);
-        Ok(())
-    }
-
     /// A part and the desk of its owner, which owns a slot and has published at most 2^40 of each cell, up or down. The rows are
     /// counted once: what the desk has not published of them is pending. It keeps the allocator.
     pub fn of(alloc: Global, part: Part, desk: Desk) -> Self

@@ -11,6 +11,7 @@ ghost use Rattle.tatp_actions.specs.declared.action.Action.TheVariants as action
 use crate::action::Action;
 use crate::change::Change;
 use crate::part::Part;
+use crate::rows::Rows;
 use tatp_rows::{Access, Facility, Forwarding, Number, Refusal, Subscriber};
 
 /// An action that changes the rows of one subscriber.
@@ -26,7 +27,7 @@ pub trait Edit: Copy {
         ensures { result ≡ action self.now };
 
     /// Does the action on the rows of a part that has the subscriber: by how much each cell moves, or why it was refused.
-    fn make(self, part: &mut Part) -> Result<Change, Refusal>
+    fn make<R: Rows>(self, part: &mut Part<R>) -> Result<Change, Refusal>
         requires { IsWithin part.old.lo part.old.hi (s_id_of (action self)) }
         ensures acts { Acts (action self) part.old (done_reply result) (notes_of result) part.new }
         ensures after { IsPart part.new };
@@ -61,10 +62,10 @@ impl Edit for UpdateSubscriber {
         }
     }
 
-    fn make(self, part: &mut Part) -> Result<Change, Refusal> {
+    fn make<R: Rows>(self, part: &mut Part<R>) -> Result<Change, Refusal> {
         let done = part.update_subscriber(self.s_id, self.sf_type, self.bit_1, self.data_a);
-        // A part tells by its width that it keeps its rules.
-        let _width = part.width();
+        // This opens the part, so that its rules are known.
+        let _ = &part.rows;
         done
     }
 }
@@ -92,10 +93,10 @@ impl Edit for UpdateLocation {
         }
     }
 
-    fn make(self, part: &mut Part) -> Result<Change, Refusal> {
+    fn make<R: Rows>(self, part: &mut Part<R>) -> Result<Change, Refusal> {
         let done = part.update_location(self.s_id, self.vlr_location);
-        // A part tells by its width that it keeps its rules.
-        let _width = part.width();
+        // This opens the part, so that its rules are known.
+        let _ = &part.rows;
         done
     }
 }
@@ -118,10 +119,10 @@ impl Edit for InsertForwarding {
         Action::InsertForwarding(self.row)
     }
 
-    fn make(self, part: &mut Part) -> Result<Change, Refusal> {
+    fn make<R: Rows>(self, part: &mut Part<R>) -> Result<Change, Refusal> {
         let done = part.insert_forwarding(self.row);
-        // A part tells by its width that it keeps its rules.
-        let _width = part.width();
+        // This opens the part, so that its rules are known.
+        let _ = &part.rows;
         done
     }
 }
@@ -152,10 +153,10 @@ impl Edit for DeleteForwarding {
         }
     }
 
-    fn make(self, part: &mut Part) -> Result<Change, Refusal> {
+    fn make<R: Rows>(self, part: &mut Part<R>) -> Result<Change, Refusal> {
         let done = part.delete_forwarding(self.s_id, self.sf_type, self.start_time);
-        // A part tells by its width that it keeps its rules.
-        let _width = part.width();
+        // This opens the part, so that its rules are known.
+        let _ = &part.rows;
         done
     }
 }
@@ -178,10 +179,10 @@ impl Edit for AddSubscriber {
         Action::AddSubscriber(self.row)
     }
 
-    fn make(self, part: &mut Part) -> Result<Change, Refusal> {
+    fn make<R: Rows>(self, part: &mut Part<R>) -> Result<Change, Refusal> {
         let done = part.add_subscriber(self.row);
-        // A part tells by its width that it keeps its rules.
-        let _width = part.width();
+        // This opens the part, so that its rules are known.
+        let _ = &part.rows;
         done
     }
 }
@@ -204,10 +205,10 @@ impl Edit for AddAccess {
         Action::AddAccess(self.row)
     }
 
-    fn make(self, part: &mut Part) -> Result<Change, Refusal> {
+    fn make<R: Rows>(self, part: &mut Part<R>) -> Result<Change, Refusal> {
         let done = part.add_access(self.row);
-        // A part tells by its width that it keeps its rules.
-        let _width = part.width();
+        // This opens the part, so that its rules are known.
+        let _ = &part.rows;
         done
     }
 }
@@ -230,10 +231,10 @@ impl Edit for AddFacility {
         Action::AddFacility(self.row)
     }
 
-    fn make(self, part: &mut Part) -> Result<Change, Refusal> {
+    fn make<R: Rows>(self, part: &mut Part<R>) -> Result<Change, Refusal> {
         let done = part.add_facility(self.row);
-        // A part tells by its width that it keeps its rules.
-        let _width = part.width();
+        // This opens the part, so that its rules are known.
+        let _ = &part.rows;
         done
     }
 }
@@ -264,10 +265,10 @@ impl Edit for SetActive {
         }
     }
 
-    fn make(self, part: &mut Part) -> Result<Change, Refusal> {
+    fn make<R: Rows>(self, part: &mut Part<R>) -> Result<Change, Refusal> {
         let done = part.set_active(self.s_id, self.sf_type, self.is_active);
-        // A part tells by its width that it keeps its rules.
-        let _width = part.width();
+        // This opens the part, so that its rules are known.
+        let _ = &part.rows;
         done
     }
 }
@@ -295,10 +296,10 @@ impl Edit for SetNumber {
         }
     }
 
-    fn make(self, part: &mut Part) -> Result<Change, Refusal> {
+    fn make<R: Rows>(self, part: &mut Part<R>) -> Result<Change, Refusal> {
         let done = part.set_number(self.s_id, self.sub_nbr);
-        // A part tells by its width that it keeps its rules.
-        let _width = part.width();
+        // This opens the part, so that its rules are known.
+        let _ = &part.rows;
         done
     }
 }
