@@ -289,7 +289,8 @@ unfolding command_of
 recut_named fields is = rw (← is) refl
 
 -- the line of what was told, or refused, answers as these do
-pub told_text : (P : List ℕ → Type 0) (told : Result Reply Refusal) (line : List ℕ) → MatchResult told (λ reply. line ≡ reply_line reply) (λ why. line ≡ refused_line why)
-    → IfOk told (λ reply. P (reply_line reply)) → IfErr told (λ why. P (refused_line why)) → P line
-told_text P (Ok reply) line is done refused = rw is done
-told_text P (Err why) line is done refused = rw is refused
+pub told_text : (fields : List (List ℕ)) (asked : Result Command Refusal) (before after : Store) (told : Result Reply Refusal) (line : List ℕ)
+    → MatchResult told (λ reply. line ≡ reply_line reply) (λ why. line ≡ refused_line why)
+    → IfOk told (λ reply. CommandText fields asked before (reply_line reply) after) → IfErr told (λ why. CommandText fields asked before (refused_line why) after) → CommandText fields asked before line after
+told_text fields asked before after (Ok reply) line is done refused = rw is done
+told_text fields asked before after (Err why) line is done refused = rw is refused

@@ -20,9 +20,9 @@ answer_text g c = elim c.match-word.branch [
   | in-Fac w ↦ named_text _ _ _ _ _ c.requires (rw (w.in-Fac.is, w.line-is, w.build_done-in-Fac.ensures, w.register-is) w.add_facility.ensures)
   | in-Active w ↦ named_text _ _ _ _ _ c.requires (rw (w.in-Active.is, w.line-is, w.build_done-in-Active.ensures, w.register-is) w.set_active.ensures)
   | in-Number w ↦ named_text _ _ _ _ _ c.requires (rw (w.in-Number.is, w.line-is, w.build_done-in-Number.ensures, w.register-is) w.set_number.ensures)
-  | in-Post w ↦ named_text _ _ _ _ _ c.requires (rw (w.in-Post.is, w.line-is, w.register-is) (told_text _ w.post.result _ w.build_told.ensures w.post.ensures.done w.post.ensures.refused))
-  | in-Give w ↦ named_text _ _ _ _ _ c.requires (rw (w.in-Give.is, w.line-is, w.register-is) (told_text _ w.give.result _ w.build_told-in-Give.ensures w.give.ensures.done w.give.ensures.refused))
-  | in-Take w ↦ named_text _ _ _ _ _ c.requires (rw (w.in-Take.is, w.line-is, w.register-is) (told_text _ w.take.result _ w.build_told-in-Take.ensures w.take.ensures.done w.take.ensures.refused))
+  | in-Post w ↦ named_text _ _ _ _ _ c.requires (rw (w.in-Post.is, w.line-is) (told_text (fields_of c.args.row.now) _ c.args.register.now c.match-word.register w.post.result _ w.build_told.ensures (rw (w.register-is) w.post.ensures.done) (rw (w.register-is) w.post.ensures.refused)))
+  | in-Give w ↦ named_text _ _ _ _ _ c.requires (rw (w.in-Give.is, w.line-is) (told_text (fields_of c.args.row.now) _ c.args.register.now c.match-word.register w.give.result _ w.build_told-in-Give.ensures (rw (w.register-is) w.give.ensures.done) (rw (w.register-is) w.give.ensures.refused)))
+  | in-Take w ↦ named_text _ _ _ _ _ c.requires (rw (w.in-Take.is, w.line-is) (told_text (fields_of c.args.row.now) _ c.args.register.now c.match-word.register w.take.result _ w.build_told-in-Take.ensures (rw (w.register-is) w.take.ensures.done) (rw (w.register-is) w.take.ensures.refused)))
 ]
 
 pub returns-clause-ok : goal.returns-clause-ok
