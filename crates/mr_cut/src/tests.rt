@@ -204,8 +204,8 @@ fn drawn_trees(rt: HostRuntime) -> Result<(), Fail> {
     compare_steps(&rt, SubTree::new(rt.alloc())?, 0, 1, (3, 3, 4));
     compare_steps(&rt, SubTree::new(rt.alloc())?, 1, 1, (3, 3, 4));
     compare_steps(&rt, SubTree::new(rt.alloc())?, 33, 33, (14, 5, 6));
-    compare_steps(&rt, SubTree::new(rt.alloc())?, 1025, 300, (43, 9, 13));
-    compare_steps(&rt, SubTree::new(rt.alloc())?, 40_000, 40, (70, 12, 13));
+    compare_steps(&rt, SubTree::new(rt.alloc())?, 1025, 300, (42, 9, 13));
+    compare_steps(&rt, SubTree::new(rt.alloc())?, 40_000, 40, (75, 12, 13));
     Ok(())
 }
 
