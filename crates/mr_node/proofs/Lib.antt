@@ -14,6 +14,7 @@ pub mod StepLemmas
 pub mod RemoveLemmas
 pub mod EvenLemmas
 pub mod PartLemmas
+pub mod ReviseLemmas
 pub mod RootLemmas
 pub mod FirstLemmas
 pub mod PageLemmas

@@ -166,10 +166,3 @@ module _ {V : Type 0} where
   -- a node seen with other rows
   abbrev pub seen_with : Seen V → List (ℕ × V) → Seen V
   seen_with s rows = record s { rows = rows }
-
-  pub child_replaced : (key : ℕ) (value : V) (n now old : Seen V) → n ≡ record now { rows = with_row_at key_of_pair key (key, value) now.rows } → now ≡ old → n ≡ record old { rows = with_row_at key_of_pair key (key, value) old.rows }
-  child_replaced key value n now old e same = e ∙ ap (λ s. seen_with s (with_row_at key_of_pair key (key, value) s.rows)) same
-
-  pub replaced_answer : (key : ℕ) (value : V) (b new : NodeBranch V) (now : Seen V) → now ≡ seen_branch b → seen_branch new ≡ record (seen_branch b) { rows = rows_of (kids_of new) } → rows_of (kids_of new) ≡ with_row_at key_of_pair key (key, value) (rows_of (kids_of b)) → seen_branch new ≡ record now { rows = with_row_at key_of_pair key (key, value) now.rows }
-  replaced_answer key value b new now e same rows =
-      same ∙ ap (λ r. seen_with (seen_branch b) r) rows ∙ sym (ap (λ s. seen_with s (with_row_at key_of_pair key (key, value) s.rows)) e)

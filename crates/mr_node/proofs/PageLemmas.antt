@@ -1,23 +1,23 @@
 -- The next rows from a key on.
-use Rattle.std.proofs.Common.{◌≡◌, ℕ, ◌+◌, ◌-◌, ◌<◌, ◌≤◌, List, [], ◌∷◌, ◌++◌, length, get_or, take, drop, Option, Some, None, Bool, true, false, ◌==◌, refl, sym, ap, subst, ◌∙◌, arith, append_assoc, append-nil, leb}
-use Rattle.std.specs.List.{AllByRecursion, filter}
+use Rattle.std.proofs.Common.{◌≡◌, ℕ, ◌+◌, ◌-◌, ◌<◌, ◌≤◌, List, [], ◌∷◌, ◌++◌, length, get_or, take, drop, Option, Some, None, Bool, true, false, ◌==◌, refl, sym, ap, subst, ◌∙◌, arith, append_assoc, append-nil}
+use Rattle.std.specs.List.{AllByRecursion}
 use Rattle.std.proofs.lemmas.Bool.Decides.{nat_tests}
-use Rattle.std.proofs.lemmas.List.{take_all, drop_all, drop_at, length-take, length-append, get_or_default}
+use Rattle.std.proofs.lemmas.List.{take_all, take-append-drop, drop_at, length-take, length-append, get_or_default}
 use Rattle.std.proofs.lemmas.List.Elements.{filter-append}
-use Rattle.tatp_rows.specs.Spans.{AllBelow, AllFrom, keys_from}
-use Rattle.tatp_rows.proofs.AppendLemmas.{each-left}
+use Rattle.tatp_rows.specs.Spans.{keys_from}
+use Rattle.tatp_rows.proofs.AppendLemmas.{each-right}
 use Rattle.tatp_rows.proofs.OrderedLemmas.{each-weaker, filter_all, filter_none}
-use Rattle.tatp_rows.proofs.SpanLemmas.{from-weaker}
 use Rattle.mr_node.specs.declared.body.Leaf.{Leaf}
-use Rattle.mr_node.specs.Rows.{key_of_pair, KeysBelow, KeysFrom, StartsWith}
+use Rattle.mr_node.specs.Rows.{key_of_pair, KeysBelow, KeysFrom}
 use Rattle.mr_node.specs.Runs.{no_key}
 use Rattle.mr_node.specs.Search.{IsStop, IsKidPlace}
-use Rattle.mr_node.specs.Levels.{IsLeaf, pairs_of, NodePart, NodeKid, NodeBranch, kids_of, rows_of, IsKid, IsBranch}
+use Rattle.mr_node.specs.Levels.{IsLeaf, pairs_of, NodePart, NodeBranch, kids_of, rows_of, IsKid, IsBranch}
 use Rattle.mr_node.specs.Pages.{IsPage}
 use Rattle.mr_node.proofs.RunLemmas.{run_next, run_rest, run_length}
-use Rattle.mr_node.proofs.EntryLemmas.{leaf_length, leaf_some, stop_fits, cut_below}
+use Rattle.mr_node.proofs.EntryLemmas.{leaf_length, stop_fits, cut_below}
 use Rattle.mr_node.proofs.PartLemmas.{cut_from}
-use Rattle.mr_node.proofs.KidLemmas.{IsCutAt, kid_at, cut_kid}
+use Rattle.mr_node.proofs.KidLemmas.{kid_at, cut_kid, rows_of-append}
+use Rattle.mr_node.proofs.PlaceLemmas.{packed_some}
 
 -- a test for an empty page
 pub is_filled : {X : Type 0} (page : List X) (test : Bool) → test ≡ (length page == 0) → test ≡ false → page ≡ [] → ⊥
@@ -44,19 +44,6 @@ module _ {V : Type 0} where
 
   from_append : (key : ℕ) (a b : List (ℕ × V)) → keys_from key_of_pair key (a ++ b) ≡ keys_from key_of_pair key a ++ keys_from key_of_pair key b
   from_append key a b = filter-append _ a b
-
-  -- the rows from a key on, from the child on to which it belongs
-  from_kid : (key h i : ℕ) (kids : List (NodeKid V)) (k : NodeKid V) → IsCutAt key h i kids k
-      → keys_from key_of_pair key (rows_of kids) ≡ keys_from key_of_pair key k.1.node.value.rows ++ keys_from key_of_pair key (rows_of (drop (i + 1) kids))
-  from_kid key h i kids k cut =
-      ap (keys_from key_of_pair key) cut.rows
-      ∙ from_append key (rows_of (take i kids)) (k.1.node.value.rows ++ rows_of (drop (i + 1) kids))
-      ∙ ap (λ none. none ++ keys_from key_of_pair key (k.1.node.value.rows ++ rows_of (drop (i + 1) kids))) (from_none key (rows_of (take i kids)) cut.below)
-      ∙ from_append key k.1.node.value.rows (rows_of (drop (i + 1) kids))
-
-  -- rows that start somewhere are some
-  no_start : (rows : List (ℕ × V)) (least : ℕ) → StartsWith least rows → rows ≡ [] → ⊥
-  no_start rows least starts none = subst (StartsWith least) none starts
 
   -- the page of a leaf so far: what stands from the place where the search stopped up to another one
   abbrev pub IsPageTo : Leaf V → ℕ → ℕ → List (ℕ × V) → Type 0
@@ -93,43 +80,53 @@ module _ {V : Type 0} where
         some = λ none. refl;
       }
 
-  -- no child follows
-  pub no_more_kids : (i : ℕ) (b : NodeBranch V) → IsBranch b → b.len ≤ i + 1 → drop (i + 1) (kids_of b) ≡ []
-  no_more_kids i b branch le = drop_all (i + 1) (kids_of b) (omega (arith, run_length b.len b.leasts b.kids branch.run, le))
+  -- a child in its place
+  pub kid_in : (i : ℕ) (b : NodeBranch V) (k : NodePart V) → IsBranch b → get_or b.kids i None ≡ Some k → IsKid (b.height - 1) (kid_at b i k)
+  kid_in i b k branch got =
+      let kids = kids_of b in
+      let back = each-right (IsKid (b.height - 1)) (take i kids) (drop i kids) (subst (AllByRecursion (IsKid (b.height - 1))) (sym (take-append-drop i kids)) branch.kids) in
+      (subst (AllByRecursion (IsKid (b.height - 1))) (run_rest b.len i k b.leasts b.kids branch.run got) back).0
 
-  -- the page of a child, where it is not empty, or no child follows
-  pub page_in_kid : (key h i : ℕ) (kids : List (NodeKid V)) (k : NodeKid V) (page : List (ℕ × V)) → IsCutAt key h i kids k → IsPage key k.1.node.value.rows page
-      → (page ≡ [] → drop (i + 1) kids ≡ []) → IsPage key (rows_of kids) page
-  page_in_kid key h i kids k page cut in_kid last =
-      let behind = rows_of (drop (i + 1) kids) in
+  -- no child before this place has a row from the key on
+  abbrev pub NoneTo : ℕ → ℕ → NodeBranch V → Type 0
+  NoneTo key i b = keys_from key_of_pair key (rows_of (take i (kids_of b))) ≡ []
+
+  pub none_before : (key i : ℕ) (b : NodeBranch V) → IsBranch b → IsKidPlace key i b.len b.leasts → NoneTo key i b
+  none_before key i b branch at =
+      let kid = packed_some b.len i b.kids branch.run.packed at.within in
+      from_none key (rows_of (take i (kids_of b))) (cut_kid key i b kid.0 branch at kid.1).below
+
+  -- so the rows from it on up to the next child are those of this one
+  none_to_kid : (key i : ℕ) (b : NodeBranch V) (k : NodePart V) → IsBranch b → get_or b.kids i None ≡ Some k → NoneTo key i b
+      → keys_from key_of_pair key (rows_of (take (i + 1) (kids_of b))) ≡ keys_from key_of_pair key k.node.value.rows
+  none_to_kid key i b k branch got none =
+      let front = rows_of (take i (kids_of b)) in
+      let rows = ap rows_of (run_next b.len i k b.leasts b.kids branch.run got) ∙ rows_of-append (take i (kids_of b)) (kid_at b i k ∷ []) ∙ ap (λ r. front ++ r) (append-nil k.node.value.rows) in
+      ap (keys_from key_of_pair key) rows ∙ from_append key front k.node.value.rows ∙ ap (λ r. r ++ keys_from key_of_pair key k.node.value.rows) none
+
+  pub none_to_next : (key i : ℕ) (b : NodeBranch V) (k : NodePart V) → IsBranch b → get_or b.kids i None ≡ Some k → NoneTo key i b → IsPage key k.node.value.rows [] → NoneTo key (i + 1) b
+  none_to_next key i b k branch got none in_kid = none_to_kid key i b k branch got none ∙ in_kid.front ∙ in_kid.some refl
+
+  -- the page of a child that has one
+  pub page_in_kid : (key i : ℕ) (b : NodeBranch V) (k : NodePart V) (page : List (ℕ × V)) → IsBranch b → get_or b.kids i None ≡ Some k → NoneTo key i b → IsPage key k.node.value.rows page → (page ≡ [] → ⊥) → IsPage key (rows_of (kids_of b)) page
+  page_in_kid key i b k page branch got none in_kid filled =
+      let front = take (i + 1) (kids_of b) in
+      let back = drop (i + 1) (kids_of b) in
+      let behind = keys_from key_of_pair key (rows_of back) in
+      let rows : rows_of (kids_of b) ≡ rows_of front ++ rows_of back = ap rows_of (sym (take-append-drop (i + 1) (kids_of b))) ∙ rows_of-append front back in
       record {
-        rest = in_kid.rest ++ keys_from key_of_pair key behind;
-        front = from_kid key h i kids k cut ∙ ap (λ rows. rows ++ keys_from key_of_pair key behind) in_kid.front ∙ append_assoc page in_kid.rest (keys_from key_of_pair key behind);
-        some = λ none. rw (in_kid.some none, last none) refl;
+        rest = in_kid.rest ++ behind;
+        front = ap (keys_from key_of_pair key) rows ∙ from_append key (rows_of front) (rows_of back)
+            ∙ ap (λ r. r ++ behind) (none_to_kid key i b k branch got none ∙ in_kid.front) ∙ append_assoc page in_kid.rest behind;
+        some = λ empty. absurd (filled empty);
       }
 
-  -- the next child
-  pub next_kid : (key i : ℕ) (b : NodeBranch V) (k j : NodePart V) → IsBranch b → IsKidPlace key i b.len b.leasts → get_or b.kids i None ≡ Some k → get_or b.kids (i + 1) None ≡ Some j → IsKid (b.height - 1) (kid_at b (i + 1) j)
-  next_kid key i b k j branch at got next =
-      (subst (AllByRecursion (IsKid (b.height - 1))) (run_rest b.len (i + 1) j b.leasts b.kids branch.run next) (cut_kid key i b k branch at got).after).0
-
-  -- and its page
-  pub page_in_next : (key i : ℕ) (b : NodeBranch V) (k j : NodePart V) (page : List (ℕ × V)) → IsBranch b → IsKidPlace key i b.len b.leasts → get_or b.kids i None ≡ Some k → get_or b.kids (i + 1) None ≡ Some j
-      → IsPage key k.node.value.rows [] → IsPage key j.node.value.rows page → IsPage key (rows_of (kids_of b)) page
-  page_in_next key i b k j page branch at got next none in_next =
-      let kids = kids_of b in
-      let cut = cut_kid key i b k branch at got in
-      let more = run_rest b.len (i + 1) j b.leasts b.kids branch.run next in
-      let kid = next_kid key i b k j branch at got next in
-      let behind = rows_of (drop (i + 1 + 1) kids) in
-      let rows : rows_of (drop (i + 1) kids) ≡ j.node.value.rows ++ behind = ap rows_of more in
-      let from : KeysFrom key (j.node.value.rows ++ behind) = from-weaker key_of_pair key (key + 1) (j.node.value.rows ++ behind) (omega arith) (subst (KeysFrom (key + 1)) rows cut.above) in
-      let here : keys_from key_of_pair key j.node.value.rows ≡ j.node.value.rows = from_all key j.node.value.rows (each-left _ j.node.value.rows behind from) in
+  -- no child has one
+  pub page_of_none : (key i : ℕ) (b : NodeBranch V) (page : List (ℕ × V)) → IsBranch b → b.len ≤ i → page ≡ [] → NoneTo key i b → IsPage key (rows_of (kids_of b)) page
+  page_of_none key i b page branch le empty none =
+      let all : take i (kids_of b) ≡ kids_of b = take_all i (kids_of b) (omega (arith, run_length b.len b.leasts b.kids branch.run, le)) in
       record {
-        rest = in_next.rest ++ keys_from key_of_pair key behind;
-        front = from_kid key (b.height - 1) i kids (kid_at b i k) cut
-            ∙ ap (λ r. r ++ keys_from key_of_pair key (rows_of (drop (i + 1) kids))) (none.front ∙ none.some refl)
-            ∙ ap (keys_from key_of_pair key) rows ∙ from_append key j.node.value.rows behind
-            ∙ ap (λ r. r ++ keys_from key_of_pair key behind) in_next.front ∙ append_assoc page in_next.rest (keys_from key_of_pair key behind);
-        some = λ empty. absurd (no_start j.node.value.rows (get_or b.leasts (i + 1) 0) kid.first (sym here ∙ in_next.front ∙ ap (λ p. p ++ in_next.rest) empty ∙ in_next.some empty));
+        rest = [];
+        front = ap (λ kids. keys_from key_of_pair key (rows_of kids)) (sym all) ∙ none ∙ ap (λ p. p ++ []) (sym empty);
+        some = λ _. refl;
       }

@@ -7,6 +7,7 @@ pub mod Inside
 pub mod Levels
 pub mod Pairs
 pub mod Pages
+pub mod Revisions
 pub mod Parts
 pub mod Rows
 pub mod Runs

@@ -1,18 +1,18 @@
 //! The entries of a leaf.
-ghost use Rattle.std.specs.Prelude.{◌≡◌, ◌<◌, ◌≤◌, ◌+◌, ℕ, [], ◌∷◌, None, Some, IsSome, IfSome, MatchResult, length, option_map, ok_or, nat_le, slice_index_or, slice_set, Ok, Err, if◌then◌else◌};
+ghost use Rattle.std.specs.Prelude.{◌≡◌, ◌<◌, ◌≤◌, ◌+◌, ℕ, [], ◌∷◌, None, Some, IsSome, IfSome, MatchResult, length, option_map, is_some, nat_le, slice_index_or, slice_set, Ok, Err, if◌then◌else◌};
 ghost use Rattle.std.specs.List.{find};
-ghost use Rattle.tatp_rows.specs.Ordered.{row_at, with_row_at, without_row};
+ghost use Rattle.tatp_rows.specs.Ordered.{row_at, without_row};
 ghost use Rattle.mr_node.specs.Rows.{key_limit, key_of_pair, value_at, StartsWith};
 ghost use Rattle.mr_node.specs.Levels.{IsLeaf, pairs_of, seen_leaf};
 ghost use Rattle.mr_node.specs.Entries.{IsThere, IsFree};
 ghost use Rattle.mr_node.specs.Folds.{FoldsRows, WalksRows};
 ghost use Rattle.mr_node.specs.Pages.{IsPage};
+ghost use Rattle.mr_node.specs.Revisions.{revised_at, spent_at};
 ghost use Rattle.mr_node.specs.Growth.{IsGrown, IsRoomAnswer, is_done};
 
 use crate::keys::{NO_KEY, count_below, put_key, take_key};
-use crate::{Leaf, Room};
+use crate::{Leaf, Revise, Room};
 use arrayvec::ArrayVec;
-use std::mem;
 
 // A leaf without entries.
 pub(crate) fn no_leaf<V>() -> Leaf<V>
@@ -62,39 +62,40 @@ pub(crate) fn find_entry<V>(leaf: &Leaf<V>, key: u64) -> Option<&V>
     }
 }
 
-// Swaps the value in a used place with another one.
-fn swap_value<V: Drop>(place: &mut Option<V>, value: &mut V)
+// Changes the value in a used place.
+fn revise_value<V, E: Revise<V>>(place: &mut Option<V>, edit: &mut E)
     requires { IsSome place.old }
-    ensures place { place.new ≡ Some value.old }
-    ensures value { place.old ≡ Some value.new }
+    ensures place { IfSome place.old (λ v. place.new ≡ Some (E.revised edit.old v)) }
+    ensures spent { IfSome place.old (λ v. edit.new ≡ E.spent edit.old v) }
 {
     match place {
-        Some(old) => mem::swap(old, value),
+        Some(value) => edit.revise(value),
         None => unreachable!(),
     }
 }
 
-// Swaps the value in a used place of a leaf with another one.
-fn write_value<V: Drop>(values: &mut ArrayVec<Option<V>, 32>, place: usize, value: &mut V)
+// Changes the value in a used place of a leaf.
+fn revise_in<V, E: Revise<V>>(values: &mut ArrayVec<Option<V>, 32>, place: usize, edit: &mut E)
     requires within { place < length values.old.items }
     requires some { IsSome (slice_index_or values.old.items place None) }
-    ensures items { values.new.items ≡ slice_set values.old.items place (Some value.old) }
-    ensures value { slice_index_or values.old.items place None ≡ Some value.new }
+    ensures items { IfSome (slice_index_or values.old.items place None) (λ v. values.new.items ≡ slice_set values.old.items place (Some (E.revised edit.old v))) }
+    ensures spent { IfSome (slice_index_or values.old.items place None) (λ v. edit.new ≡ E.spent edit.old v) }
 {
-    swap_value(&mut values.as_mut_slice()[place], value)
+    revise_value(&mut values.as_mut_slice()[place], edit)
 }
 
-// Swaps the value at a key of a leaf: false where the key isn't there.
-pub(crate) fn replace_entry<V: Drop>(leaf: &mut Leaf<V>, key: u64, value: &mut V) -> bool
+// Changes the value at a key of a leaf: false where the key isn't there.
+pub(crate) fn revise_entry<V, E: Revise<V>>(leaf: &mut Leaf<V>, key: u64, edit: &mut E) -> bool
     requires { IsLeaf leaf.old }
-    ensures rows { pairs_of leaf.new ≡ with_row_at key_of_pair key (key, value.old) (pairs_of leaf.old) }
+    ensures rows { pairs_of leaf.new ≡ revised_at key (E.revised edit.old) (pairs_of leaf.old) }
     ensures len { length leaf.new.values.items ≡ length leaf.old.values.items }
     ensures leaf { IsLeaf leaf.new }
-    ensures value { (if result then Ok value.new else Err value.new) ≡ ok_or (value_at key (pairs_of leaf.old)) value.old }
+    ensures spent { edit.new ≡ spent_at key E.spent edit.old (pairs_of leaf.old) }
+    ensures found { result ≡ is_some (value_at key (pairs_of leaf.old)) }
 {
     match search(leaf, key) {
         Ok(place) => {
-            write_value(&mut leaf.values, place, value);
+            revise_in(&mut leaf.values, place, edit);
             true
         }
         Err(_) => false,

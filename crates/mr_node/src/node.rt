@@ -1,11 +1,12 @@
 //! Nodes.
-ghost use Rattle.std.specs.Prelude.{◌≡◌, ◌+◌, ◌-◌, ◌*◌, ◌<◌, ◌≤◌, ℕ, None, IsSome, IfSome, min, [], ◌++◌, length, nat_le, option_map, ok_or, Ok, Err, if◌then◌else◌, true, false};
+ghost use Rattle.std.specs.Prelude.{◌≡◌, ◌+◌, ◌-◌, ◌*◌, ◌<◌, ◌≤◌, ℕ, None, IsSome, IfSome, min, [], ◌++◌, length, nat_le, option_map, is_some, ok_or, Ok, Err, if◌then◌else◌, true, false};
 ghost use Rattle.std.specs.List.{find};
 ghost use Rattle.tatp_rows.specs.Ordered.{IsOrderedBy, row_at, with_row_at};
 ghost use Rattle.mr_node.specs.Rows.{key_limit, key_of_pair, value_at, StartsWith};
 ghost use Rattle.mr_node.specs.Levels.{seen, IsNode, IsWell, IsLeaf, IsBranch, seen_leaf, seen_branch};
 ghost use Rattle.mr_node.specs.Folds.{FoldsRows, WalksRows};
 ghost use Rattle.mr_node.specs.Pages.{IsPage};
+ghost use Rattle.mr_node.specs.Revisions.{revised_at, spent_at};
 ghost use Rattle.mr_node.specs.Runs.{IsRun};
 ghost use Rattle.mr_node.specs.Growth.{IsGrown, IsRoomAnswer, is_done};
 ghost use Rattle.mr_node.specs.Pairs.{IsKidNode, IsHalved, IsShare, AreEvened};
@@ -15,12 +16,13 @@ ghost use Rattle.mr_node.specs.Steps.{after_steps, IsRoomMade};
 
 use crate::entries::{
     find_entry, first_entry, fold_entries, insert_entry, insert_new, no_leaf, page_entries,
-    remove_entry, replace_entry, walk_entries,
+    remove_entry, revise_entry, walk_entries,
 };
 use crate::kids::{no_branch, place_of, put_kid, sum_counts, take_kid};
 use crate::mending::{make_room, mend};
+use crate::revise::Swap;
 use crate::runs::{even, low_of, share};
-use crate::{Body, Branch, Kid, Leaf, Meter, Room, Stock};
+use crate::{Body, Branch, Kid, Leaf, Meter, Revise, Room, Stock};
 use arrayvec::ArrayVec;
 use std::marker::Model;
 use std::mem;
@@ -205,20 +207,14 @@ impl<V: Copy> Node<V> {
         match &self.body {
             Body::Leaf(leaf) => page_entries(leaf, key, page),
             Body::Inner(branch) => {
-                let place = place_of(branch, key);
-                match &branch.kids[place] {
-                    Some(kid) => kid.node.page_from(key, page),
-                    None => unreachable!(),
-                }
-                if !page.is_empty() {
-                    return;
-                }
-                if place + 1 >= branch.len {
-                    return;
-                }
-                match &branch.kids[place + 1] {
-                    Some(next) => next.node.page_from(key, page),
-                    None => unreachable!(),
+                for place in place_of(branch, key)..branch.len {
+                    match &branch.kids[place] {
+                        Some(kid) => kid.node.page_from(key, page),
+                        None => unreachable!(),
+                    }
+                    if !page.is_empty() {
+                        return;
+                    }
                 }
             }
         }
@@ -227,31 +223,34 @@ impl<V: Copy> Node<V> {
 
 impl<V: Drop> Node<V> {
     /// Replaces the value at a key in place, and gives the old one. `Err` with the new one where the key isn't there.
-    pub fn replace(&mut self, key: u64, mut value: V) -> Result<V, V>
+    pub fn replace(&mut self, key: u64, value: V) -> Result<V, V>
         ensures rows { self.new ≡ record self.old { rows = with_row_at key_of_pair key (key, value) self.old.rows } }
         ensures well { IsWell self.new }
         ensures value { result ≡ ok_or (value_at key self.old.rows) value }
     {
-        if self.swap_at(key, &mut value) {
-            return Ok(value);
+        let mut swap = Swap { value };
+        if self.revise(key, &mut swap) {
+            return Ok(swap.value);
         }
-        Err(value)
+        Err(swap.value)
     }
 
-    // Swaps the value at a key with another one in place: false where the key isn't there. The value moves but once.
-    fn swap_at(&mut self, key: u64, value: &mut V) -> bool
-        ensures rows { self.new ≡ record self.old { rows = with_row_at key_of_pair key (key, value.old) self.old.rows } }
+    /// Changes the value at a key where it lies: false where the key isn't there, and then nothing has changed. Looking
+    /// is no step.
+    pub fn revise<E: Revise<V>>(&mut self, key: u64, edit: &mut E) -> bool
+        ensures rows { self.new ≡ record self.old { rows = revised_at key (E.revised edit.old) self.old.rows } }
         ensures well { IsWell self.new }
-        ensures value { (if result then Ok value.new else Err value.new) ≡ ok_or (value_at key self.old.rows) value.old }
+        ensures spent { edit.new ≡ spent_at key E.spent edit.old self.old.rows }
+        ensures found { result ≡ is_some (value_at key self.old.rows) }
     {
         match &mut self.body {
-            Body::Leaf(leaf) => replace_entry(leaf, key, value),
+            Body::Leaf(leaf) => revise_entry(leaf, key, edit),
             Body::Inner(branch) => {
                 let place = place_of(branch, key);
                 match &mut branch.kids[place] {
                     Some(kid) => {
                         let node = &mut *kid.node;
-                        node.swap_at(key, value)
+                        node.revise(key, edit)
                     }
                     None => unreachable!(),
                 }

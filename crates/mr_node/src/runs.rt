@@ -208,7 +208,8 @@ pub(crate) fn share<R: Run>(left: &mut R, right: &mut R, low: usize)
 /// How many of so many entries the left one of two neighbours gets: all where they fit, else half of them.
 pub(crate) fn low_of(both: usize) -> usize
     requires { both ≤ 64 }
-    ensures { IsShare both result }
+    ensures share { IsShare both result }
+    ensures half { 32 < both → (2 * result ≤ both) × (both ≤ 2 * result + 1) }
 {
     if both <= 32 {
         return both;

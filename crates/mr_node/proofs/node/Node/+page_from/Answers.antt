@@ -1,89 +1,79 @@
-use Rattle.std.proofs.Common.{rules, arith, ◌≡◌, ◌+◌, ◌-◌, sym, ap, subst, ◌∙◌}
-use Rattle.mr_node.specs.Levels.{kids_of, rows_of, IsNode, IsBranch, seen, seen_branch}
+use Rattle.std.proofs.Common.{rules, arith, ◌≡◌, get_or, None, Some, sym, ap, subst, ◌∙◌}
+use Rattle.mr_node.specs.Levels.{IsNode, IsBranch, seen, seen_branch}
 use Rattle.mr_node.specs.Pages.{IsPage}
 use Rattle.mr_node.proofs.PlaceLemmas.{packed_fits, got_used, never_none}
-use Rattle.mr_node.proofs.KidLemmas.{cut_kid, kid_at}
 use Rattle.mr_node.proofs.NodeLemmas.{kids_rise, kids_below}
-use Rattle.mr_node.proofs.PageLemmas.{is_filled, is_emptied, no_more_kids, page_in_kid, page_in_next, next_kid}
+use Rattle.mr_node.proofs.PageLemmas.{is_filled, is_emptied, kid_in, none_before, none_to_next, page_in_kid, page_of_none}
+use Rattle.mr_node.proofs.node.Node.+page_from.Goals.{In-Inner, In-Some, After-page_from}
 use Rattle.mr_node.proofs.node.Node.+page_from.Goals as goal
+
+-- the node's own part
+whole : (g : _) (t : _) (c : In-Inner g t) → IsBranch c.in-Inner.branch
+whole g t c = subst IsNode c.in-Inner.is c.self.invariant
+
+now : (g : _) (t : _) (c : In-Inner g t) → seen_branch c.in-Inner.branch ≡ c.args.self.now
+now g t c = sym (ap seen c.in-Inner.is) ∙ c.self.view_is
+
+-- the child in turn
+got : (g : _) (t : _) (c : In-Some g t) → IsBranch c.in-Inner.branch → get_or c.in-Inner.branch.kids c.loop-place.place None ≡ Some c.in-Some.kid
+got g t c branch = got_used c.in-Inner.branch.len c.loop-place.place c.index-branch-place.result c.in-Some.kid c.in-Inner.branch.kids branch.run.packed c.loop-place-test.true c.in-Some.is
+
+-- its page
+in_kid : (g : _) (t : _) (c : After-page_from g t) → IsPage c.args.key c.in-Some.kid.node.value.rows c.page_from.new.page.items
+in_kid g t c = subst (λ s. IsPage c.args.key s.rows c.page_from.new.page.items) c.deref.ensures c.page_from.ensures
 
 pub returns-in-Leaf : goal.returns-in-Leaf
 returns-in-Leaf g t c = subst (λ s. IsPage c.args.key s.rows c.page_entries.new.page.items) (sym (ap seen c.in-Leaf.is) ∙ c.self.view_is) c.page_entries.ensures
 
 pub place_of-place-requires : goal.place_of-place-requires
 place_of-place-requires g t c =
-    let branch = c.in-Inner.branch in
-    let whole : IsBranch branch = subst IsNode c.in-Inner.is c.self.invariant in
-    (search rules, (whole.some, (whole.run, (kids_rise branch whole, kids_below branch whole))))
+    let branch = whole g t (goal.at.place_of-place-requires g t c).In-Inner in
+    (search rules, (branch.some, (branch.run, (kids_rise c.in-Inner.branch branch, kids_below c.in-Inner.branch branch))))
 
 pub unreachable-requires : goal.unreachable-requires
 unreachable-requires g t c =
-    let b = c.in-Inner.branch in
-    let whole : IsBranch b = subst IsNode c.in-Inner.is c.self.invariant in
-    never_none b.len c.place_of-place.result c.index-branch-place.result b.kids whole.run.packed c.place_of-place.ensures.within c.in-None.is
+    let branch = whole g t (goal.at.unreachable-requires g t c).In-Inner in
+    never_none c.in-Inner.branch.len c.loop-place.place c.index-branch-place.result c.in-Inner.branch.kids branch.run.packed c.loop-place-test.true c.in-None.is
+
+pub loop-place-init : goal.loop-place-init
+loop-place-init g t c = (c.requires, none_before c.args.key c.place_of-place.result c.in-Inner.branch (whole g t (goal.at.loop-place-init g t c).In-Inner) c.place_of-place.ensures)
 
 pub page_from-requires : goal.page_from-requires
 page_from-requires g t c κs within =
-    let b = c.in-Inner.branch in
-    let whole : IsBranch b = subst IsNode c.in-Inner.is c.self.invariant in
-    let got = got_used b.len c.place_of-place.result c.index-branch-place.result c.in-Some.kid b.kids whole.run.packed c.place_of-place.ensures.within c.in-Some.is in
-    let kid = (cut_kid c.args.key c.place_of-place.result b c.in-Some.kid whole c.place_of-place.ensures got).kid in
-    (omega (arith, ap (λ s. s.height) c.deref.ensures, kid.level, whole.inner, ap (λ s. s.height) (sym (ap seen c.in-Inner.is) ∙ c.self.view_is), c.decreases), (within, (search rules, (search rules, c.requires))))
+    let at = goal.at.page_from-requires g t c in
+    let branch = whole g t at.In-Inner in
+    let kid = kid_in c.loop-place.place c.in-Inner.branch c.in-Some.kid branch (got g t at.In-Some branch) in
+    (omega (arith, ap (λ s. s.height) c.deref.ensures, kid.level, branch.inner, ap (λ s. s.height) (now g t at.In-Inner), c.decreases), (within, (search rules, (search rules, c.loop-place.invariant.0))))
 
 pub returns-then-not-is_empty : goal.returns-then-not-is_empty
 returns-then-not-is_empty g t c =
-    let b = c.in-Inner.branch in
-    let i = c.place_of-place.result in
-    let whole : IsBranch b = subst IsNode c.in-Inner.is c.self.invariant in
-    let got = got_used b.len i c.index-branch-place.result c.in-Some.kid b.kids whole.run.packed c.place_of-place.ensures.within c.in-Some.is in
-    let now : seen_branch b ≡ c.args.self.now = sym (ap seen c.in-Inner.is) ∙ c.self.view_is in
+    let at = goal.at.returns-then-not-is_empty g t c in
+    let branch = whole g t at.In-Inner in
     let page = c.page_from.new.page.items in
-    let below : IsPage c.args.key c.in-Some.kid.node.value.rows page = subst (λ s. IsPage c.args.key s.rows page) c.deref.ensures c.page_from.ensures in
-    subst (λ s. IsPage c.args.key s.rows page) now
-    (page_in_kid c.args.key (b.height - 1) i (kids_of b) (kid_at b i c.in-Some.kid) page (cut_kid c.args.key i b c.in-Some.kid whole c.place_of-place.ensures got) below
-    (λ none. absurd (is_filled page c.is_empty.result c.is_empty.ensures c.if-not-is_empty.true none)))
+    subst (λ s. IsPage c.args.key s.rows page) (now g t at.In-Inner)
+    (page_in_kid c.args.key c.loop-place.place c.in-Inner.branch c.in-Some.kid page branch (got g t at.In-Some branch) c.loop-place.invariant.1 (in_kid g t at.After-page_from)
+    (is_filled page c.is_empty.result c.is_empty.ensures c.if-not-is_empty.true))
 
-pub returns-then-place-branch : goal.returns-then-place-branch
-returns-then-place-branch g t c =
-    let b = c.in-Inner.branch in
-    let i = c.place_of-place.result in
-    let whole : IsBranch b = subst IsNode c.in-Inner.is c.self.invariant in
-    let got = got_used b.len i c.index-branch-place.result c.in-Some.kid b.kids whole.run.packed c.place_of-place.ensures.within c.in-Some.is in
-    let now : seen_branch b ≡ c.args.self.now = sym (ap seen c.in-Inner.is) ∙ c.self.view_is in
-    let page = c.page_from.new.page.items in
-    let below : IsPage c.args.key c.in-Some.kid.node.value.rows page = subst (λ s. IsPage c.args.key s.rows page) c.deref.ensures c.page_from.ensures in
-    subst (λ s. IsPage c.args.key s.rows page) now
-    (page_in_kid c.args.key (b.height - 1) i (kids_of b) (kid_at b i c.in-Some.kid) page (cut_kid c.args.key i b c.in-Some.kid whole c.place_of-place.ensures got) below
-    (λ none. no_more_kids i b whole c.if-place-branch.true))
-
-pub page_from-requires-in-Some-kids : goal.page_from-requires-in-Some-kids
-page_from-requires-in-Some-kids g t c κs within =
-    let b = c.in-Inner.branch in
-    let i = c.place_of-place.result in
-    let whole : IsBranch b = subst IsNode c.in-Inner.is c.self.invariant in
-    let got = got_used b.len i c.index-branch-place.result c.in-Some.kid b.kids whole.run.packed c.place_of-place.ensures.within c.in-Some.is in
-    let next = got_used b.len (i + 1) c.index-branch-place-in-Inner.result c.in-Some-kids.next b.kids whole.run.packed c.if-place-branch.false c.in-Some-kids.is in
-    let kid = next_kid c.args.key i b c.in-Some.kid c.in-Some-kids.next whole c.place_of-place.ensures got next in
+pub loop-place-preserved : goal.loop-place-preserved
+loop-place-preserved g t c =
+    let at = goal.at.loop-place-preserved g t c in
+    let branch = whole g t at.In-Inner in
     let empty = is_emptied c.page_from.new.page.items c.is_empty.result c.is_empty.ensures c.if-not-is_empty.false in
-    (omega (arith, ap (λ s. s.height) c.deref-in-Some-kids.ensures, kid.level, whole.inner, ap (λ s. s.height) (sym (ap seen c.in-Inner.is) ∙ c.self.view_is), c.decreases), (within, (search rules, (search rules, empty))))
+    let none = subst (IsPage c.args.key c.in-Some.kid.node.value.rows) empty (in_kid g t at.After-page_from) in
+    (empty, none_to_next c.args.key c.loop-place.place c.in-Inner.branch c.in-Some.kid branch (got g t at.In-Some branch) c.loop-place.invariant.1 none)
 
-pub unreachable-requires-in-None-kids : goal.unreachable-requires-in-None-kids
-unreachable-requires-in-None-kids g t c =
-    let b = c.in-Inner.branch in
-    let whole : IsBranch b = subst IsNode c.in-Inner.is c.self.invariant in
-    never_none b.len (c.place_of-place.result + 1) c.index-branch-place-in-Inner.result b.kids whole.run.packed c.if-place-branch.false c.in-None-kids.is
+pub returns-after-loop-place : goal.returns-after-loop-place
+returns-after-loop-place g t c =
+    let at = goal.at.returns-after-loop-place g t c in
+    let page = c.loop-place.page.items in
+    subst (λ s. IsPage c.args.key s.rows page) (now g t at.In-Inner)
+    (page_of_none c.args.key c.loop-place.place c.in-Inner.branch page (whole g t at.In-Inner) c.loop-place-test.false c.loop-place.invariant.0 c.loop-place.invariant.1)
 
-pub returns-in-Some-kids : goal.returns-in-Some-kids
-returns-in-Some-kids g t c =
-    let b = c.in-Inner.branch in
-    let i = c.place_of-place.result in
-    let whole : IsBranch b = subst IsNode c.in-Inner.is c.self.invariant in
-    let got = got_used b.len i c.index-branch-place.result c.in-Some.kid b.kids whole.run.packed c.place_of-place.ensures.within c.in-Some.is in
-    let next = got_used b.len (i + 1) c.index-branch-place-in-Inner.result c.in-Some-kids.next b.kids whole.run.packed c.if-place-branch.false c.in-Some-kids.is in
-    let now : seen_branch b ≡ c.args.self.now = sym (ap seen c.in-Inner.is) ∙ c.self.view_is in
-    let page = c.page_from.new.page.items in
-    let below : IsPage c.args.key c.in-Some.kid.node.value.rows page = subst (λ s. IsPage c.args.key s.rows page) c.deref.ensures c.page_from.ensures in
-    let none = subst (λ p. IsPage c.args.key c.in-Some.kid.node.value.rows p) (is_emptied page c.is_empty.result c.is_empty.ensures c.if-not-is_empty.false) below in
-    let all = c.page_from-in-Some-kids.new.page.items in
-    let there = subst (λ s. IsPage c.args.key s.rows all) c.deref-in-Some-kids.ensures c.page_from-in-Some-kids.ensures in
-    subst (λ s. IsPage c.args.key s.rows all) now (page_in_next c.args.key i b c.in-Some.kid c.in-Some-kids.next all whole c.place_of-place.ensures got next none there)
+pub listed : goal.listed
+listed g t c = omega (arith, c.loop-place-test.true, packed_fits c.in-Inner.branch.len c.in-Inner.branch.kids (whole g t (goal.at.listed g t c).In-Inner).run.packed)
+
+pub bounds-branch-place : goal.bounds-branch-place
+bounds-branch-place g t c = omega (arith, c.loop-place-test.true, (whole g t (goal.at.bounds-branch-place g t c).In-Inner).run.fits)
+
+pub offset_bounds-branch-place : goal.offset_bounds-branch-place
+offset_bounds-branch-place g t c = omega (arith, c.loop-place-test.true, (whole g t (goal.at.offset_bounds-branch-place g t c).In-Inner).run.fits)

@@ -8,4 +8,4 @@ low_of-low-requires g c = omega (arith, c.width.ensures.value, c.width.ensures.w
 pub share_with-requires : goal.share_with-requires
 share_with-requires g c =
     let both = ap (λ w. w + c.width-2.result) c.width.ensures.value ∙ ap (λ w. c.args.self.now.width + w) c.width-2.ensures.value in
-    (search rules, (c.requires.level, (c.requires.ordered, subst (λ n. IsShare n c.low_of-low.result) both c.low_of-low.ensures)))
+    (search rules, (c.requires.level, (c.requires.ordered, subst (λ n. IsShare n c.low_of-low.result) both c.low_of-low.ensures.share)))

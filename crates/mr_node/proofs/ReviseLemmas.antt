@@ -1,0 +1,99 @@
+-- What becomes of a node when a value in it is changed in place.
+use Rattle.std.proofs.Common.{◌≡◌, ℕ, List, Option, Some, None, IfSome, length, get_or, set, option_map, is_some, true, refl, sym, ap, subst, ◌∙◌}
+use Rattle.std.specs.Option.{unwrap_or}
+use Rattle.tatp_rows.specs.Ordered.{row_at, with_row_at}
+use Rattle.tatp_rows.proofs.OrderedLemmas.{with_row_at_absent}
+use Rattle.mr_node.specs.Rows.{Seen, key_of_pair, value_at}
+use Rattle.mr_node.specs.Search.{IsKidPlace}
+use Rattle.mr_node.specs.Entries.{IsThere}
+use Rattle.mr_node.specs.declared.body.Leaf.{Leaf}
+use Rattle.mr_node.specs.Levels.{IsLeaf, pairs_of, NodePart, NodeBranch, kids_of, rows_of, IsWell, IsBranch, seen_branch}
+use Rattle.mr_node.specs.Revisions.{revised_at, spent_at}
+use Rattle.mr_node.proofs.PlaceLemmas.{same_written}
+use Rattle.mr_node.proofs.EntryLemmas.{leaf_some, found_value, leaf_written}
+use Rattle.mr_node.proofs.NodeLemmas.{branch_with, part_with, find_branch, replaced_branch, seen_with}
+
+module _ {V : Type 0} where
+  -- the rows where the key is there, and where it isn't
+  pub revised_some : (key : ℕ) (change : V → V) (v : V) (rows : List (ℕ × V)) → value_at key rows ≡ Some v → revised_at key change rows ≡ with_row_at key_of_pair key (key, change v) rows
+  revised_some key change v rows is = ap (λ o. unwrap_or (option_map (λ x. with_row_at key_of_pair key (key, change x) rows) o) rows) is
+
+  pub revised_none : (key : ℕ) (change : V → V) (rows : List (ℕ × V)) → value_at key rows ≡ None → revised_at key change rows ≡ rows
+  revised_none key change rows is = ap (λ o. unwrap_or (option_map (λ x. with_row_at key_of_pair key (key, change x) rows) o) rows) is
+
+  -- what is spent on it
+  pub spent_some : {E : Type 0} (key : ℕ) (spent : E → V → E) (edit : E) (v : V) (rows : List (ℕ × V)) → value_at key rows ≡ Some v → spent_at key spent edit rows ≡ spent edit v
+  spent_some key spent edit v rows is = ap (λ o. unwrap_or (option_map (spent edit) o) edit) is
+
+  pub spent_none : {E : Type 0} (key : ℕ) (spent : E → V → E) (edit : E) (rows : List (ℕ × V)) → value_at key rows ≡ None → spent_at key spent edit rows ≡ edit
+  spent_none key spent edit rows is = ap (λ o. unwrap_or (option_map (spent edit) o) edit) is
+
+  pub spent_same : {E : Type 0} (key : ℕ) (spent : E → V → E) (edit : E) (rows others : List (ℕ × V)) → value_at key rows ≡ value_at key others → spent_at key spent edit rows ≡ spent_at key spent edit others
+  spent_same key spent edit rows others same = ap (λ o. unwrap_or (option_map (spent edit) o) edit) same
+
+  -- a leaf with the value changed in the place of a key
+  pub leaf_revised : (key i : ℕ) (change : V → V) (leaf new : Leaf V) → IsLeaf leaf → IsThere key i leaf → new.keys ≡ leaf.keys → IfSome (get_or leaf.values.items i None) (λ v. new.values.items ≡ set leaf.values.items i (Some (change v)))
+      → (IsLeaf new) × (pairs_of new ≡ revised_at key change (pairs_of leaf)) × (length new.values.items ≡ length leaf.values.items)
+  leaf_revised key i change leaf new h there ek ev =
+      let some = leaf_some i leaf h there.within in
+      let v = some.0 in
+      let is : value_at key (pairs_of leaf) ≡ Some v = sym (found_value key i leaf h there) ∙ some.1 in
+      let after = leaf_written key i (change v) leaf new h there ek (subst (λ o. IfSome o (λ v. new.values.items ≡ set leaf.values.items i (Some (change v)))) some.1 ev) in
+      (after.0, after.1 ∙ sym (revised_some key change v (pairs_of leaf) is), after.2)
+
+  pub leaf_spent : {E : Type 0} (key i : ℕ) (spent : E → V → E) (edit now : E) (leaf : Leaf V) → IsLeaf leaf → IsThere key i leaf → IfSome (get_or leaf.values.items i None) (λ v. now ≡ spent edit v) → now ≡ spent_at key spent edit (pairs_of leaf)
+  leaf_spent key i spent edit now leaf h there e =
+      let some = leaf_some i leaf h there.within in
+      let is : value_at key (pairs_of leaf) ≡ Some some.0 = sym (found_value key i leaf h there) ∙ some.1 in
+      subst (λ o. IfSome o (λ v. now ≡ spent edit v)) some.1 e ∙ sym (spent_some key spent edit some.0 (pairs_of leaf) is)
+
+  pub leaf_found : (key i : ℕ) (leaf : Leaf V) → IsLeaf leaf → IsThere key i leaf → true ≡ is_some (value_at key (pairs_of leaf))
+  leaf_found key i leaf h there = sym (ap is_some (sym (found_value key i leaf h there) ∙ (leaf_some i leaf h there.within).1))
+
+  -- a value put in place of the one at a key, whatever that is
+  no_row : (o : Option (ℕ × V)) → option_map (λ p. p.1) o ≡ None → o ≡ None
+  no_row None is = refl
+  no_row (Some p) is = absurd cc
+
+  put_at_option : (key : ℕ) (value : V) (rows : List (ℕ × V)) (o : Option V) → value_at key rows ≡ o → revised_at key (λ _. value) rows ≡ with_row_at key_of_pair key (key, value) rows
+  put_at_option key value rows None is = revised_none key (λ _. value) rows is ∙ sym (with_row_at_absent key_of_pair key (key, value) rows (no_row (row_at key_of_pair key rows) is))
+  put_at_option key value rows (Some v) is = revised_some key (λ _. value) v rows is
+
+  pub put_at : (key : ℕ) (value : V) (rows : List (ℕ × V)) → revised_at key (λ _. value) rows ≡ with_row_at key_of_pair key (key, value) rows
+  put_at key value rows = put_at_option key value rows (value_at key rows) refl
+
+  -- an inner node with the value changed in the child to which the key belongs
+  pub record IsRevisedIn (key i : ℕ) (change : V → V) (b : NodeBranch V) (k : NodePart V) (n : Seen V) : Type 0 where
+    pub whole : IsBranch (branch_with b i (part_with k n))
+    pub rows : rows_of (kids_of (branch_with b i (part_with k n))) ≡ revised_at key change (rows_of (kids_of b))
+
+  revised_option : (key i : ℕ) (change : V → V) (b : NodeBranch V) (k : NodePart V) (n : Seen V) (o : Option V) → IsBranch b → IsKidPlace key i b.len b.leasts → get_or b.kids i None ≡ Some k
+      → n ≡ seen_with k.node.value (revised_at key change k.node.value.rows) → IsWell n → value_at key k.node.value.rows ≡ o → value_at key (rows_of (kids_of b)) ≡ o → IsRevisedIn key i change b k n
+  revised_option key i change b k n None branch at got e well kid all =
+      let same : n ≡ k.node.value = e ∙ ap (seen_with k.node.value) (revised_none key change k.node.value.rows kid) in
+      let is : branch_with b i (part_with k n) ≡ b = ap (λ s. branch_with b i (part_with k s)) same ∙ ap (λ ks. record b { kids = ks }) (same_written i k b.kids got) in
+      record {
+        whole = subst IsBranch (sym is) branch;
+        rows = ap (λ x. rows_of (kids_of x)) is ∙ sym (revised_none key change (rows_of (kids_of b)) all);
+      }
+  revised_option key i change b k n (Some v) branch at got e well kid all =
+      let after = replaced_branch key i (change v) b k n branch at got (e ∙ ap (seen_with k.node.value) (revised_some key change v k.node.value.rows kid)) well in
+      record {
+        whole = after.whole;
+        rows = after.rows ∙ sym (revised_some key change v (rows_of (kids_of b)) all);
+      }
+
+  -- the value at a key in the child to which it belongs
+  pub value_in_kid : (key i : ℕ) (b : NodeBranch V) (k : NodePart V) → IsBranch b → IsKidPlace key i b.len b.leasts → get_or b.kids i None ≡ Some k → value_at key (rows_of (kids_of b)) ≡ value_at key k.node.value.rows
+  value_in_kid key i b k branch at got = ap (option_map (λ p. p.1)) (find_branch key i b k branch at got)
+
+  pub revised_branch : (key i : ℕ) (change : V → V) (b : NodeBranch V) (k : NodePart V) (now n : Seen V) → IsBranch b → IsKidPlace key i b.len b.leasts → get_or b.kids i None ≡ Some k
+      → n ≡ seen_with now (revised_at key change now.rows) → now ≡ k.node.value → IsWell n → IsRevisedIn key i change b k n
+  revised_branch key i change b k now n branch at got e same well =
+      revised_option key i change b k n (value_at key k.node.value.rows) branch at got (e ∙ ap (λ s. seen_with s (revised_at key change s.rows)) same) well refl (value_in_kid key i b k branch at got)
+
+  -- the node with those rows
+  pub revised_answer : (key : ℕ) (change : V → V) (b new : NodeBranch V) (now : Seen V) → now ≡ seen_branch b → seen_branch new ≡ seen_with (seen_branch b) (rows_of (kids_of new)) → rows_of (kids_of new) ≡ revised_at key change (rows_of (kids_of b))
+      → seen_branch new ≡ seen_with now (revised_at key change now.rows)
+  revised_answer key change b new now e same rows =
+      same ∙ ap (seen_with (seen_branch b)) rows ∙ sym (ap (λ s. seen_with s (revised_at key change s.rows)) e)

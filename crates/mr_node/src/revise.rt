@@ -1,0 +1,29 @@
+//! Changes of a value where it lies.
+ghost use Rattle.std.specs.Prelude.{◌≡◌};
+
+use std::mem;
+
+/// What changes a value in place: `revised` is the value that it makes of one, `spent` is it after that.
+pub trait Revise<V> {
+    ghost revised: { Self → V → V };
+    ghost spent: { Self → V → Self };
+
+    fn revise(&mut self, value: &mut V)
+        ensures value { value.new ≡ revised self.old value.old }
+        ensures spent { self.new ≡ spent self.old value.old };
+}
+
+// Puts a value in place of one, and has that one then.
+#[derive(Drop)]
+pub(crate) struct Swap<V> {
+    pub(crate) value: V,
+}
+
+impl<V: Drop> Revise<V> for Swap<V> {
+    ghost revised = { λ swap old. swap.value };
+    ghost spent = { λ swap old. record { value = old } };
+
+    fn revise(&mut self, value: &mut V) {
+        mem::swap(&mut self.value, value)
+    }
+}
