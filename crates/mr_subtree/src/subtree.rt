@@ -1,14 +1,15 @@
 //! The tree over the nodes of `mr_node`.
-ghost use Rattle.std.specs.Prelude.{◌≡◌, ◌+◌, ◌<◌, ◌≤◌, ℕ, None, [], length, nat_le, option_map, ok_or, Err, IsSome, IfSome, IfOk, IfErr, OnErr};
+ghost use Rattle.std.specs.Prelude.{◌≡◌, ◌+◌, ◌<◌, ◌≤◌, ℕ, None, [], length, nat_le, option_map, is_some, ok_or, Err, IsSome, IfSome, IfOk, IfErr, OnErr};
 ghost use Rattle.std.specs.List.{find};
 ghost use Rattle.tatp_rows.specs.Ordered.{row_at, with_row, with_row_at, without_row};
 ghost use Rattle.mr_node.specs.Rows.{key_limit, key_of_pair, value_at};
 ghost use Rattle.mr_node.specs.Folds.{FoldsRows, WalksRows};
 ghost use Rattle.mr_node.specs.Pages.{IsPage};
+ghost use Rattle.mr_node.specs.Revisions.{revised_at, spent_at};
 ghost use Rattle.mr_subtree.specs.Trees.{IsRoot, IsHeightOf, IsInserted};
 
 use arrayvec::ArrayVec;
-use mr_node::{Meter, Node, Room, Stock};
+use mr_node::{Meter, Node, Revise, Room, Stock};
 use std::alloc::Global;
 use std::marker::Model;
 use tatp_rows::{Back, Refusal};
@@ -136,6 +137,16 @@ impl<V: Drop> SubTree<V> {
         ensures value { result ≡ ok_or (value_at key self.old.rows) value }
     {
         self.root.replace(key, value)
+    }
+
+    /// Changes the value at a key where it lies: false where the key isn't there, and then nothing has changed. Takes no
+    /// memory.
+    pub fn revise<E: Revise<V>>(&mut self, key: u64, edit: &mut E) -> bool
+        ensures rows { self.new ≡ record self.old { rows = revised_at key (E.revised edit.old) self.old.rows } }
+        ensures spent { edit.new ≡ spent_at key E.spent edit.old self.old.rows }
+        ensures found { result ≡ is_some (value_at key self.old.rows) }
+    {
+        self.root.revise(key, edit)
     }
 
     /// Takes the row at a key out, and gives its value. Takes no memory.

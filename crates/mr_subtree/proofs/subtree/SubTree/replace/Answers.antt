@@ -1,9 +1,11 @@
-use Rattle.std.proofs.Common.{◌<◌, ◌≤◌, sym, subst}
-use Rattle.mr_node.proofs.NodeLemmas.{child_replaced}
+use Rattle.std.proofs.Common.{◌<◌, ◌≤◌, sym, ap, subst, ◌∙◌}
+use Rattle.tatp_rows.specs.Ordered.{with_row_at}
+use Rattle.mr_node.specs.Rows.{key_of_pair}
+use Rattle.mr_node.proofs.NodeLemmas.{seen_with}
 use Rattle.mr_subtree.proofs.subtree.SubTree.replace.Goals as goal
 
 pub returns-clause-rows : goal.returns-clause-rows
-returns-clause-rows g c = child_replaced c.args.key c.args.value c.replace.new.self c.self.inside.root c.args.self.now c.replace.ensures.rows c.self.view_is
+returns-clause-rows g c = c.replace.ensures.rows ∙ ap (λ s. seen_with s (with_row_at key_of_pair c.args.key (c.args.key, c.args.value) s.rows)) c.self.view_is
 
 pub invariant_of-self : goal.invariant_of-self
 invariant_of-self g c = record {
