@@ -6,6 +6,7 @@ use std::mem;
 /// What changes a value in place: `revised` is the value that it makes of one, `spent` is it after that.
 pub trait Revise<V> {
     ghost revised: { Self → V → V };
+
     ghost spent: { Self → V → Self };
 
     fn revise(&mut self, value: &mut V)
@@ -21,6 +22,7 @@ pub(crate) struct Swap<V> {
 
 impl<V: Drop> Revise<V> for Swap<V> {
     ghost revised = { λ swap old. swap.value };
+
     ghost spent = { λ swap old. record { value = old } };
 
     fn revise(&mut self, value: &mut V) {

@@ -1,7 +1,8 @@
 //! What no clause says: that blank nodes can be had, and what the calls on nodes answer when they succeed.
-ghost use Rattle.std.specs.Prelude.{◌<◌, ◌≤◌};
+ghost use Rattle.std.specs.Prelude.{◌≡◌, ◌+◌, ◌%◌, ◌^◌, ◌<◌, ◌≤◌};
 
 use super::*;
+use arrayvec::ArrayVec;
 use std::process::Abort;
 use std::test::*;
 use tatp_rows::Refusal;
@@ -28,7 +29,39 @@ fn fill(rt: &impl Abort, node: &mut Node<u64>) {
     assert_eq!(rt; node.find(7), Some(&14));
     assert_eq!(rt; node.replace(7, 15).ok(), Some(14));
     assert_eq!(rt; node.replace(77, 15).err(), Some(15));
+    let mut raise = Raise { by: 100, seen: 0 };
+    assert_eq!(rt;
+        [node.revise(77, &mut raise), node.revise(8, &mut raise)],
+        [false, true]
+    );
+    assert_eq!(rt; (raise.seen, node.find(8)), (16, Some(&116)));
     assert_eq!(rt; (node.height(), node.width(), node.len()), (0, 32, 32));
+}
+
+// Raises a value, and tells what it was.
+#[derive(Drop)]
+struct Raise {
+    by: u64,
+    seen: u64,
+}
+
+impl Revise<u64> for Raise {
+    ghost revised = { λ raise value. (value + raise.by) % 2 ^ 64 };
+
+    ghost spent = { λ raise value. record raise { seen = value } };
+
+    fn revise(&mut self, value: &mut u64) {
+        self.seen = *value;
+        *value = value.wrapping_add(self.by);
+    }
+}
+
+// The first key, the last one and the number of rows of the page from a key on.
+fn page_of(node: &Node<u64>, key: u64) -> Option<(u64, u64, usize)> {
+    let mut page = ArrayVec::new();
+    node.page_from(key, &mut page);
+    let last = page.last()?;
+    Some((page.as_slice()[0].0, last.0, page.len()))
 }
 
 // A full leaf gets a root above it, and a 33rd row.
@@ -58,6 +91,28 @@ fn grow(rt: &impl Abort, node: &mut Node<u64>, stock: &mut Stock<u64>, meter: &m
     let mut sum = 0u64;
     node.walk(&mut sum, &|sum, key, _value| *sum = sum.wrapping_add(key));
     assert_eq!(rt; sum, 561);
+    let mut raise = Raise { by: 1, seen: 0 };
+    assert_eq!(rt;
+        [node.revise(34, &mut raise), node.revise(33, &mut raise)],
+        [false, true]
+    );
+    assert_eq!(rt; (raise.seen, node.find(33)), (66, Some(&67)));
+    assert_eq!(rt;
+        [
+            page_of(node, 0),
+            page_of(node, 16),
+            page_of(node, 17),
+            page_of(node, 33),
+            page_of(node, 34)
+        ],
+        [
+            Some((1, 16, 16)),
+            Some((16, 16, 1)),
+            Some((17, 33, 17)),
+            Some((33, 33, 1)),
+            None
+        ]
+    );
 }
 
 // Rows whose leaves have room.

@@ -365,7 +365,7 @@ fn put_round(rt: &impl Abort, tree: &mut SubTree<u32>, step: u64)
     assert!(rt; done);
 }
 
-// The rows of a tree are these keys in order; from 15 to 31 of a node's 32 places are used, so the height is 2.
+// The rows of a tree are these keys in order; from 16 to 32 of a node's 32 places are used, so the height is 2.
 fn compare_round(rt: &impl Abort, tree: &SubTree<u32>) {
     let mut same = true;
     for key in 1..10_001u64 {

@@ -1,5 +1,5 @@
 -- What each action does to a part, from what its calls by keys do.
-use Rattle.std.proofs.Common.{◌≡◌, refl, sym, ◌∙◌, ap, ℕ, ◌+◌, ◌<◌, ◌≤◌, arith, rules, Bool, true, false, List, [], Option, Some, None, nat_le, inl, inr, if◌then◌else◌}
+use Rattle.std.proofs.Common.{◌≡◌, refl, sym, ◌∙◌, ap, ℕ, ◌+◌, ◌<◌, ◌≤◌, arith, rules, Bool, true, false, List, [], Option, Some, None, Result, Ok, Err, IsErr, IsErrAnd, nat_le, inl, inr, if◌then◌else◌}
 use Rattle.std.specs.Prelude.{ℤ, ◌&&◌, is_some}
 use Rattle.std.proofs.lemmas.Bool.Decides.{nat_tests}
 use Rattle.std.proofs.lemmas.Int.{ints}
@@ -92,20 +92,11 @@ few_1 n = omega arith
 pub few_2 : (n : ℕ) → once_more (once_more n) ≤ n + 8
 few_2 n = let one = one_more n n (omega arith) in let two = one_more (n + 1) (once_more n) one in omega arith
 
-pub few_4 : (n : ℕ) → once_more (once_more (once_more (once_more n))) ≤ n + 8
-few_4 n =
-    let one = one_more n n (omega arith) in
-    let two = one_more (n + 1) (once_more n) one in
-    let three = one_more (n + 1 + 1) (once_more (once_more n)) two in
-    let four = one_more (n + 1 + 1 + 1) (once_more (once_more (once_more n))) three in omega arith
-
-pub few_5 : (n : ℕ) → once_more (once_more (once_more (once_more (once_more n)))) ≤ n + 8
-few_5 n =
-    let one = one_more n n (omega arith) in
-    let two = one_more (n + 1) (once_more n) one in
-    let three = one_more (n + 1 + 1) (once_more (once_more n)) two in
-    let four = one_more (n + 1 + 1 + 1) (once_more (once_more (once_more n))) three in
-    let five = one_more (n + 1 + 1 + 1 + 1) (once_more (once_more (once_more (once_more n)))) four in omega arith
+pub few_3 : (n m : ℕ) → m ≤ n + 2 → once_more (once_more (once_more m)) ≤ n + 8
+few_3 n m few =
+    let one = one_more (n + 2) m few in
+    let two = one_more (n + 2 + 1) (once_more m) one in
+    let three = one_more (n + 2 + 1 + 1) (once_more (once_more m)) two in omega arith
 
 -- the subscribers of a part's range are subscribers
 pub is_subscriber : (part : PartState) (s : ℕ) → IsPart part → IsWithin part.lo part.hi s → is_between 1 LAST_SUBSCRIBER s ≡ true
@@ -156,3 +147,8 @@ put_after before found after s row made new kept is same own put =
     ∙ ap (λ (p : PartState). changed_once p (put_subscriber p.book made.s_id made)) kept
     ∙ ap (λ (r : SubscriberRow). changed_once (asked_once before) (put_subscriber before.book r.s_id r)) same
     ∙ ap (λ (n : ℕ). changed_once (asked_once before) (put_subscriber before.book n new)) (own ∙ s_id_found before.book s row is)
+
+-- a result that hands a refusal on
+pub handed_on : {A : Type 0} (r : Result A Refusal) (why : Refusal) → IsErr r × IsErrAnd r (λ e. e ≡ why) → r ≡ Err why
+handed_on (Ok done) why is = let wrong : ⊥ = cc in absurd wrong
+handed_on (Err e) why is = ap Err is.1

@@ -1,51 +1,42 @@
 -- What the administrative actions do to a part.
-use Rattle.std.proofs.Common.{◌≡◌, refl, sym, ◌∙◌, ap, subst, ℕ, ◌<◌, ◌≤◌, arith, Bool, true, false, List, [], Option, Some, None, if◌then◌else◌}
+use Rattle.std.proofs.Common.{◌≡◌, refl, sym, ◌∙◌, ap, subst, ℕ, ◌<◌, ◌≤◌, ◌+◌, arith, Bool, true, false, List, [], Option, Some, None, IfSome, if◌then◌else◌}
 use Rattle.std.specs.Prelude.{ℤ, ◌==◌, not, is_some}
 use Rattle.std.proofs.lemmas.Bool.Decides.{nat_tests}
 use mathlib.Core.Bool.{beq}
 use Rattle.tatp_rows.proofs.OrderedLemmas.{by_test, each_found, with_row_at_same}
 use Rattle.tatp_rows.proofs.RowLemmas.{both_from, between_is, between_from, number_test, subscriber_ranges, facility_ranges}
-use Rattle.tatp_rows.specs.Keys.{key_of, subscriber_key, facility_key}
+use Rattle.tatp_rows.specs.Keys.{key_of, facility_key}
 use Rattle.tatp_rows.specs.Rows.{SubscriberRow, AccessInfoRow, SpecialFacilityRow, CallForwardingRow, is_between, subscriber_in_range, access_in_range, facility_in_range}
 use Rattle.tatp_rows.specs.Zones.{zone_of, area_of}
 use Rattle.tatp_actions.specs.Action.{is_in_range}
 use Rattle.tatp_actions.specs.Book.{Book, IsWithin, subscriber_at, access_at, facility_at, forwarding_at, put_subscriber, put_facility, more_subscribers, more_access, more_facilities}
 use Rattle.tatp_actions.specs.Change.{IsChange}
 use Rattle.tatp_actions.specs.Part.{PartState, IsPart}
-use Rattle.tatp_actions.specs.Inside.{subscriber_added, row_moved, switched, Acts, asked_once, changed_once}
+use Rattle.tatp_actions.specs.Inside.{subscriber_added, row_moved, switched, Acts, asked_once, changed_once, subscriber_revised, facility_revised}
 use Rattle.tatp_actions.specs.Tables.{once_more}
 use Rattle.tatp_actions.specs.declared.action.Action.TheVariants.{AddSubscriber, AddAccess, AddFacility, SetActive, SetNumber}
 use Rattle.tatp_actions.specs.declared.action.RowReply.TheVariants as reply
-use Rattle.tatp_actions.proofs.ActsLemmas.{acts_done, no_change, few_1, few_2, few_5, is_subscriber, is_typed_from, none_from, area_below, area_found, put_after}
+use Rattle.tatp_actions.specs.declared.revisions.SwapActive.{SwapActive}
+use Rattle.tatp_actions.proofs.ActsLemmas.{acts_done, no_change, few_1, few_2, few_3, is_subscriber, is_typed_from, none_from, area_below, area_found}
 use Rattle.tatp_actions.proofs.BookLemmas.{facility_found}
 use Rattle.tatp_actions.proofs.ActiveLemmas.{change_of_switch}
+use Rattle.tatp_actions.proofs.RevisedLemmas.{revised_after, refitted_after}
 use Rattle.tatp_actions.proofs.CellLemmas.{change_of_addition, change_of_access, change_of_facility, change_of_put_subscriber}
 
 -- SetNumber
 number_in_range : (before : PartState) (s n : ℕ) → IsPart before → IsWithin before.lo before.hi s → n < 1000000000000000 → is_in_range (SetNumber s n) ≡ true
 number_in_range before s n rules within small = both_from _ _ (is_subscriber before s rules within) (number_test n small)
 
-pub number_set : (before found after : PartState) (s n : ℕ) (row made : SubscriberRow) → IsPart before → IsWithin before.lo before.hi s → n < 1000000000000000
-    → found ≡ asked_once before → Some row ≡ subscriber_at before.book s → made ≡ record row { sub_nbr = n } → after ≡ changed_once found (put_subscriber found.book made.s_id made)
+pub number_set : (before after : PartState) (s n : ℕ) (o : Option SubscriberRow) → IsPart before → IsWithin before.lo before.hi s → n < 1000000000000000
+    → subscriber_at before.book s ≡ o → true ≡ is_some o
+    → after ≡ record before { book = subscriber_revised before.book s (λ row. record row { sub_nbr = n }); asked = after.asked } → after.asked ≤ before.asked + 2
     → Acts (SetNumber s n) before reply.Done [] after
-number_set before found after s n row made rules within small kept is same put =
-    acts_done (SetNumber s n) before after [] (put_subscriber before.book s (record row { sub_nbr = n })) (once_more (once_more before.asked))
-    (put_after before found after s row made (record row { sub_nbr = n }) kept (sym is) same refl put) (few_2 before.asked) (number_in_range before s n rules within small)
-    (rw (← is) refl)
-    (change_of_put_subscriber before.width before.book s row (record row { sub_nbr = n }) (sym is) refl refl (area_found before.book s row rules.rows.rules (sym is)))
-
--- the number that stands
-pub number_stands : (before found : PartState) (s n : ℕ) (row : SubscriberRow) → IsPart before → IsWithin before.lo before.hi s → n < 1000000000000000
-    → found ≡ asked_once before → Some row ≡ subscriber_at before.book s → row.sub_nbr ≡ n
-    → Acts (SetNumber s n) before reply.Done [] found
-number_stands before found s n row rules within small kept is same =
-    acts_done (SetNumber s n) before found [] before.book (once_more before.asked) kept (few_1 before.asked) (number_in_range before s n rules within small)
-    (rw (← is) (ap (λ (book : Book). (reply.Done, book)) stands)) (no_change before.width before.book)
-  where
-    stands : put_subscriber before.book s (record row { sub_nbr = n }) ≡ before.book
-    stands =
-        subst (λ (m : ℕ). put_subscriber before.book s (record row { sub_nbr = m }) ≡ before.book) same
-        (ap (λ (rows : List SubscriberRow). record before.book { subscribers = rows }) (with_row_at_same subscriber_key (key_of s 0 0) row before.book.subscribers (sym is)))
+number_set before after s n None rules within small is some kept few = absurd cc
+number_set before after s n (Some row) rules within small is some kept few =
+    acts_done (SetNumber s n) before after [] (put_subscriber before.book s (record row { sub_nbr = n })) after.asked
+    (revised_after before after s (λ row. record row { sub_nbr = n }) row is kept) (omega arith) (number_in_range before s n rules within small)
+    (rw is refl)
+    (change_of_put_subscriber before.width before.book s row (record row { sub_nbr = n }) is refl refl (area_found before.book s row rules.rows.rules is))
 
 -- AddSubscriber
 pub subscriber_is_added : (before after : PartState) (s zone v : ℕ) (row : SubscriberRow) (notes : List (ℕ × ℤ)) → s ≡ row.s_id → subscriber_in_range row ≡ true
@@ -133,59 +124,65 @@ other_by true false is = refl
 other_by false true is = refl
 other_by false false is = absurd cc
 
+-- a part whose facility was found, and switched
+bit_of : (n : ℕ) → n ≤ 1 → ◌≡◌ {A = ℕ} (if n == 1 then 1 else 0) n
+bit_of n small = by_test (n == 1) (λ e. rw e (grind (arith, nat_tests))) (λ e. rw e (grind (arith, nat_tests)))
+
+switched_after : (before after : PartState) (s t v : ℕ) (row : SpecialFacilityRow) → facility_at before.book s t ≡ Some row → v ≤ 1
+    → after ≡ record before { book = facility_revised before.book s t (λ row. record row { is_active = if v == 1 then 1 else 0 }); asked = after.asked }
+    → after ≡ record before { book = put_facility before.book s t (record row { is_active = v }); asked = after.asked }
+switched_after before after s t v row is bit kept =
+    refitted_after before after s t (λ row. record row { is_active = if v == 1 then 1 else 0 }) row is kept
+    ∙ ap (λ (n : ℕ). record before { book = put_facility before.book s t (record row { is_active = n }); asked = after.asked }) (bit_of v bit)
+
 -- a facility that is as active as it shall be
-pub switch_stands : (before found : PartState) (s t v : ℕ) (row : SpecialFacilityRow) (active : Bool) → IsPart before → IsWithin before.lo before.hi s → is_between 1 4 t ≡ true → v ≤ 1
-    → found ≡ asked_once before → Some row ≡ facility_at before.book s t → active ≡ (row.is_active == 1) → beq active (v == 1) ≡ true
-    → Acts (SetActive s t v) before reply.Done [] found
-switch_stands before found s t v row active rules within kind bit kept is so same =
-    acts_done (SetActive s t v) before found [] before.book (once_more before.asked) kept (few_1 before.asked) (switch_in_range before s t v rules within kind bit)
-    (rw (← is) (ap (λ (book : Book). (reply.Done, book)) stands)) (no_change before.width before.book)
+pub switch_stands : (before after : PartState) (s t v : ℕ) (o : Option SpecialFacilityRow) (swap : SwapActive) → IsPart before → IsWithin before.lo before.hi s → is_between 1 4 t ≡ true → v ≤ 1
+    → facility_at before.book s t ≡ o → true ≡ is_some o → IfSome o (λ row. swap ≡ record { is_active = row.is_active == 1 }) → beq swap.is_active (v == 1) ≡ true
+    → after ≡ record before { book = facility_revised before.book s t (λ row. record row { is_active = if v == 1 then 1 else 0 }); asked = after.asked } → after.asked ≤ before.asked + 2
+    → Acts (SetActive s t v) before reply.Done [] after
+switch_stands before after s t v None swap rules within kind bit is some so same kept few = absurd cc
+switch_stands before after s t v (Some row) swap rules within kind bit is some so same kept few =
+    acts_done (SetActive s t v) before after [] (put_facility before.book s t (record row { is_active = v })) after.asked (switched_after before after s t v row is bit kept) (omega arith) (switch_in_range before s t v rules within kind bit)
+    (rw is refl) (subst (λ (book : Book). IsChange before.width before.book book []) (sym stands) (no_change before.width before.book))
   where
     alike : (a b : ℕ) → a ≤ 1 → b ≤ 1 → (a == 1) ≡ (b == 1) → a ≡ b
     alike a b small small' same = grind (arith, nat_tests)
 
     bit_found : row.is_active ≤ 1
-    bit_found = (between_is 0 1 row.is_active (facility_ranges row (each_found facility_key (λ (r : SpecialFacilityRow). facility_in_range r ≡ true) (key_of s t 0) before.book.facilities row rules.rows.rules.facilities_in_range (sym is))).is_active_between).1
+    bit_found = (between_is 0 1 row.is_active (facility_ranges row (each_found facility_key (λ (r : SpecialFacilityRow). facility_in_range r ≡ true) (key_of s t 0) before.book.facilities row rules.rows.rules.facilities_in_range is)).is_active_between).1
 
     stands : put_facility before.book s t (record row { is_active = v }) ≡ before.book
     stands =
-        subst (λ (m : ℕ). put_facility before.book s t (record row { is_active = m }) ≡ before.book) (alike row.is_active v bit_found bit (sym so ∙ same_by active (v == 1) same))
-        (ap (λ (rows : List SpecialFacilityRow). record before.book { facilities = rows }) (with_row_at_same facility_key (key_of s t 0) row before.book.facilities (sym is)))
+        subst (λ (m : ℕ). put_facility before.book s t (record row { is_active = m }) ≡ before.book) (alike row.is_active v bit_found bit (sym (ap (λ (w : SwapActive). w.is_active) so) ∙ same_by swap.is_active (v == 1) same))
+        (ap (λ (rows : List SpecialFacilityRow). record before.book { facilities = rows }) (with_row_at_same facility_key (key_of s t 0) row before.book.facilities is))
 
 -- a facility that is switched, and then asked for its forwardings
-pub switch_done : (p0 p1 p2 p3 p4 p5 : PartState) (s t v : ℕ) (row made : SpecialFacilityRow) (o0 o8 o16 : Option CallForwardingRow) (active at_0 at_8 at_16 : Bool) (notes : List (ℕ × ℤ))
+pub switch_done : (p0 p1 p2 p3 p4 : PartState) (s t v : ℕ) (o : Option SpecialFacilityRow) (o0 o8 o16 : Option CallForwardingRow) (swap : SwapActive) (at_0 at_8 at_16 : Bool) (notes : List (ℕ × ℤ))
     → IsPart p0 → IsWithin p0.lo p0.hi s → is_between 1 4 t ≡ true → t < 256 → v ≤ 1
-    → p1 ≡ asked_once p0 → Some row ≡ facility_at p0.book s t → active ≡ (row.is_active == 1) → beq active (v == 1) ≡ false
-    → made ≡ record row { is_active = if v == 1 then 1 else 0 } → p2 ≡ changed_once p1 (put_facility p1.book made.s_id made.sf_type made)
-    → o0 ≡ forwarding_at p2.book s t 0 → p3 ≡ asked_once p2 → o8 ≡ forwarding_at p3.book s t 8 → p4 ≡ asked_once p3 → o16 ≡ forwarding_at p4.book s t 16 → p5 ≡ asked_once p4
+    → facility_at p0.book s t ≡ o → true ≡ is_some o → IfSome o (λ row. swap ≡ record { is_active = row.is_active == 1 }) → beq swap.is_active (v == 1) ≡ false
+    → p1 ≡ record p0 { book = facility_revised p0.book s t (λ row. record row { is_active = if v == 1 then 1 else 0 }); asked = p1.asked } → p1.asked ≤ p0.asked + 2
+    → o0 ≡ forwarding_at p1.book s t 0 → p2 ≡ asked_once p1 → o8 ≡ forwarding_at p2.book s t 8 → p3 ≡ asked_once p2 → o16 ≡ forwarding_at p3.book s t 16 → p4 ≡ asked_once p3
     → at_0 ≡ is_some o0 → at_8 ≡ is_some o8 → at_16 ≡ is_some o16 → notes ≡ switched (v == 1) at_0 at_8 at_16
-    → Acts (SetActive s t v) p0 reply.Done notes p5
-switch_done p0 p1 p2 p3 p4 p5 s t v row made o0 o8 o16 active at_0 at_8 at_16 notes rules within kind small bit kept1 is so differ same put is0 kept3 is8 kept4 is16 kept5 so0 so8 so16 noted =
-    acts_done (SetActive s t v) p0 p5 notes (put_facility p0.book s t row1) (once_more (once_more (once_more (once_more (once_more p0.asked)))))
-    (kept5 ∙ ap asked_once (kept4 ∙ ap asked_once (kept3 ∙ ap asked_once second))) (few_5 p0.asked) (switch_in_range p0 s t v rules within kind bit)
-    (rw (← is) refl)
+    → Acts (SetActive s t v) p0 reply.Done notes p4
+switch_done p0 p1 p2 p3 p4 s t v None o0 o8 o16 swap at_0 at_8 at_16 notes rules within kind small bit is some so differ kept few is0 kept2 is8 kept3 is16 kept4 so0 so8 so16 noted = absurd cc
+switch_done p0 p1 p2 p3 p4 s t v (Some row) o0 o8 o16 swap at_0 at_8 at_16 notes rules within kind small bit is some so differ kept few is0 kept2 is8 kept3 is16 kept4 so0 so8 so16 noted =
+    acts_done (SetActive s t v) p0 p4 notes (put_facility p0.book s t row1) (once_more (once_more (once_more p1.asked)))
+    (kept4 ∙ ap asked_once (kept3 ∙ ap asked_once (kept2 ∙ ap asked_once second))) (few_3 p0.asked p1.asked few) (switch_in_range p0 s t v rules within kind bit)
+    (rw is refl)
     (subst (λ (ns : List (ℕ × ℤ)). IsChange p0.width p0.book (put_facility p0.book s t row1) ns) (sym noted)
-    (change_of_switch p0.book s t row row1 (sym is) key p0.width (v == 1) at_0 at_8 at_16 rules.rows.rules refl (sym so ∙ other_by active (v == 1) differ) refl
+    (change_of_switch p0.book s t row row1 is key p0.width (v == 1) at_0 at_8 at_16 rules.rows.rules refl (sym (ap (λ (w : SwapActive). w.is_active) so) ∙ other_by swap.is_active (v == 1) differ) refl
     (so0 ∙ ap is_some (is0 ∙ ap (λ (p : PartState). forwarding_at p.book s t 0) second))
-    (so8 ∙ ap is_some (is8 ∙ ap (λ (p : PartState). forwarding_at p.book s t 8) (kept3 ∙ ap asked_once second)))
-    (so16 ∙ ap is_some (is16 ∙ ap (λ (p : PartState). forwarding_at p.book s t 16) (kept4 ∙ ap asked_once (kept3 ∙ ap asked_once second))))))
+    (so8 ∙ ap is_some (is8 ∙ ap (λ (p : PartState). forwarding_at p.book s t 8) (kept2 ∙ ap asked_once second)))
+    (so16 ∙ ap is_some (is16 ∙ ap (λ (p : PartState). forwarding_at p.book s t 16) (kept3 ∙ ap asked_once (kept2 ∙ ap asked_once second))))))
   where
     row1 : SpecialFacilityRow
     row1 = record row { is_active = v }
 
-    bit_of : (n : ℕ) → n ≤ 1 → ◌≡◌ {A = ℕ} (if n == 1 then 1 else 0) n
-    bit_of n small = by_test (n == 1) (λ e. rw e (grind (arith, nat_tests))) (λ e. rw e (grind (arith, nat_tests)))
-
     parts : (row.s_id ≡ s) × (row.sf_type ≡ t)
-    parts = facility_found p0.book s t row rules.rows.rules small (sym is)
+    parts = facility_found p0.book s t row rules.rows.rules small is
 
     key : facility_key row1 ≡ key_of s t 0
     key = let first = parts.0 in let second = parts.1 in omega arith
 
-    second : p2 ≡ record p0 { book = put_facility p0.book s t row1; asked = once_more (once_more p0.asked) }
-    second =
-        put
-        ∙ ap (λ (p : PartState). changed_once p (put_facility p.book made.s_id made.sf_type made)) kept1
-        ∙ ap (λ (r : SpecialFacilityRow). changed_once (asked_once p0) (put_facility p0.book r.s_id r.sf_type r)) (same ∙ ap (λ (n : ℕ). record row { is_active = n }) (bit_of v bit))
-        ∙ ap (λ (n : ℕ). changed_once (asked_once p0) (put_facility p0.book n row.sf_type row1)) parts.0
-        ∙ ap (λ (n : ℕ). changed_once (asked_once p0) (put_facility p0.book s n row1)) parts.1
+    second : p1 ≡ record p0 { book = put_facility p0.book s t row1; asked = p1.asked }
+    second = switched_after p0 p1 s t v row is bit kept

@@ -29,7 +29,7 @@ same_forwardings tables tables1 same others = others ∙ ap (λ (pairs : List (�
 -- a Subscriber row is put in the place of the one with its key
 module _ (tables tables1 : Tables) (n n1 lo hi width steps k : ℕ) (row : SubscriberRow) (at : k ≡ subscriber_key row) (holds : Holds tables n lo hi width steps)
     (edit : tables1 ≡ record tables { subscribers = with_row_at key_of_pair k (k, row) tables.subscribers }) where
-  put_subscriber_book : stored_book tables1 ≡ put_subscriber (stored_book tables) row.s_id row
+  pub put_subscriber_book : stored_book tables1 ≡ put_subscriber (stored_book tables) row.s_id row
   put_subscriber_book =
       ap stored_book edit ∙ book_put_subscriber tables k row holds.1
       ∙ ap (λ (j : ℕ). record (stored_book tables) { subscribers = with_row_at subscriber_key j row (stored_book tables).subscribers }) at
@@ -45,7 +45,7 @@ module _ (tables tables1 : Tables) (n n1 lo hi width steps k : ℕ) (row : Subsc
 -- a Special_Facility row is put in the place of the one with its key
 module _ (tables tables1 : Tables) (n n1 lo hi width steps k : ℕ) (row : SpecialFacilityRow) (at : k ≡ facility_key row) (holds : Holds tables n lo hi width steps)
     (edit : tables1 ≡ record tables { facilities = with_row_at key_of_pair k (k, row) tables.facilities }) where
-  put_facility_book : stored_book tables1 ≡ put_facility (stored_book tables) row.s_id row.sf_type row
+  pub put_facility_book : stored_book tables1 ≡ put_facility (stored_book tables) row.s_id row.sf_type row
   put_facility_book =
       ap stored_book edit ∙ book_put_facility tables k row holds.1
       ∙ ap (λ (j : ℕ). record (stored_book tables) { facilities = with_row_at facility_key j row (stored_book tables).facilities }) at

@@ -1,5 +1,6 @@
 pub mod StoredLemmas
 pub mod KeyedLemmas
+pub mod RevisedLemmas
 pub mod ActsLemmas
 pub mod ActiveLemmas
 pub mod AdministrationLemmas

@@ -1,5 +1,5 @@
 -- What the transactions do to a part.
-use Rattle.std.proofs.Common.{◌≡◌, refl, sym, ◌∙◌, ap, subst, ℕ, ◌<◌, ◌≤◌, arith, Bool, true, false, List, [], set, Option, Some, None, if◌then◌else◌}
+use Rattle.std.proofs.Common.{◌≡◌, refl, sym, ◌∙◌, ap, subst, ℕ, ◌<◌, ◌≤◌, arith, Bool, true, false, List, [], set, Option, Some, None, IsSome, IfSome, ◌+◌, if◌then◌else◌}
 use Rattle.std.specs.Prelude.{ℤ, ◌==◌, is_some}
 use Rattle.tatp_rows.proofs.FilterLemmas.{kept}
 use Rattle.tatp_rows.proofs.OrderedLemmas.{each_found, without_row_absent}
@@ -13,76 +13,72 @@ use Rattle.tatp_actions.specs.Action.{effect}
 use Rattle.tatp_actions.specs.Book.{Book, IsWithin, subscriber_at, facility_at, has_active, forwarding_at, put_subscriber, put_facility, more_forwardings, without_forwarding}
 use Rattle.tatp_actions.specs.Change.{IsChange}
 use Rattle.tatp_actions.specs.Part.{PartState, IsPart}
-use Rattle.tatp_actions.specs.Inside.{area_moved, forwarding_moved, Acts, asked_once, changed_once}
+use Rattle.tatp_actions.specs.Inside.{area_moved, forwarding_moved, Acts, asked_once, changed_once, subscriber_revised, facility_revised}
 use Rattle.tatp_actions.specs.Tables.{once_more}
 use Rattle.tatp_actions.specs.declared.action.Action.TheVariants.{UpdateSubscriber, UpdateLocation, InsertForwarding, DeleteForwarding}
 use Rattle.tatp_actions.specs.declared.action.RowReply.TheVariants as reply
 use Rattle.tatp_actions.proofs.ActiveLemmas.{change_of_put_facility}
-use Rattle.tatp_actions.proofs.ActsLemmas.{acts_done, acts_refused, addition_refused, by_effect, few_1, few_2, few_4, is_subscriber, is_typed_from, none_from, area_below, area_found, put_after}
-use Rattle.tatp_actions.proofs.BookLemmas.{s_id_found, facility_found, forwarding_found}
+use Rattle.tatp_actions.proofs.ActsLemmas.{acts_done, acts_refused, addition_refused, by_effect, few_1, few_2, is_subscriber, is_typed_from, none_from, area_below, area_found}
+use Rattle.tatp_actions.proofs.BookLemmas.{facility_found, forwarding_found}
+use Rattle.tatp_actions.proofs.RevisedLemmas.{revised_after, refitted_after}
 use Rattle.tatp_actions.proofs.CellLemmas.{change_of_move, change_of_put_subscriber, change_of_insertion, change_of_deletion, change_twice}
 
 -- UpdateLocation
-pub location_moved : (before found after : PartState) (s v : ℕ) (row made : SubscriberRow) (notes : List (ℕ × ℤ)) → IsPart before → IsWithin before.lo before.hi s → 1 ≤ v → v < 4294967296
-    → found ≡ asked_once before → Some row ≡ subscriber_at before.book s → made ≡ record row { vlr_location = v } → after ≡ changed_once found (put_subscriber found.book made.s_id made)
-    → notes ≡ area_moved (area_of row.vlr_location) (area_of v)
+pub location_moved : (before after : PartState) (s v new was : ℕ) (notes : List (ℕ × ℤ)) (o : Option SubscriberRow) → IsPart before → IsWithin before.lo before.hi s → 1 ≤ v → v < 4294967296
+    → subscriber_at before.book s ≡ o → true ≡ is_some o → IfSome o (λ row. was ≡ row.vlr_location)
+    → new ≡ v → after ≡ record before { book = subscriber_revised before.book s (λ row. record row { vlr_location = new }); asked = after.asked } → after.asked ≤ before.asked + 2
+    → notes ≡ area_moved (area_of was) (area_of v)
     → Acts (UpdateLocation s v) before reply.Done notes after
-location_moved before found after s v row made notes rules within from below kept is same put noted =
-    acts_done (UpdateLocation s v) before after notes (put_subscriber before.book s (record row { vlr_location = v })) (once_more (once_more before.asked))
-    (put_after before found after s row made (record row { vlr_location = v }) kept (sym is) same refl put) (few_2 before.asked)
+location_moved before after s v new was notes None rules within from below is some old brought kept few noted = absurd cc
+location_moved before after s v new was notes (Some row) rules within from below is some old brought kept few noted =
+    acts_done (UpdateLocation s v) before after notes (put_subscriber before.book s (record row { vlr_location = v })) after.asked
+    (revised_after before after s (λ row. record row { vlr_location = new }) row is kept ∙ ap (λ (l : ℕ). record before { book = put_subscriber before.book s (record row { vlr_location = l }); asked = after.asked }) brought) (omega arith)
     (both_from _ _ (is_subscriber before s rules within) (between_from 1 4294967295 v from (omega arith)))
-    (rw (← is) refl)
-    (subst (λ (ns : List (ℕ × ℤ)). IsChange before.width before.book (put_subscriber before.book s (record row { vlr_location = v })) ns) (sym noted)
-    (change_of_move before.width before.book s row (record row { vlr_location = v }) (sym is) refl (area_found before.book s row rules.rows.rules (sym is)) (area_below v below)))
+    (rw is refl)
+    (subst (λ (ns : List (ℕ × ℤ)). IsChange before.width before.book (put_subscriber before.book s (record row { vlr_location = v })) ns) (sym (noted ∙ ap (λ (l : ℕ). area_moved (area_of l) (area_of v)) old))
+    (change_of_move before.width before.book s row (record row { vlr_location = v }) is refl (area_found before.book s row rules.rows.rules is) (area_below v below)))
 
 -- UpdateSubscriber
-pub subscriber_updated : (p0 p1 p2 p3 p4 : PartState) (s t b d : ℕ) (row made : SubscriberRow) (facility made' : SpecialFacilityRow) → IsPart p0 → IsWithin p0.lo p0.hi s
-    → is_between 1 4 t ≡ true → t < 256 → b ≤ 1 → d < 256
-    → p1 ≡ asked_once p0 → Some row ≡ subscriber_at p0.book s → p2 ≡ asked_once p1 → Some facility ≡ facility_at p1.book s t
-    → made ≡ record row { bits = set row.bits 0 b } → p3 ≡ changed_once p2 (put_subscriber p2.book made.s_id made)
-    → made' ≡ record facility { data_a = d } → p4 ≡ changed_once p3 (put_facility p3.book made'.s_id made'.sf_type made')
-    → Acts (UpdateSubscriber s t b d) p0 reply.Done [] p4
-subscriber_updated p0 p1 p2 p3 p4 s t b d row made facility made' rules within kind small bit byte kept1 is kept2 is' same put same' put' =
-    acts_done (UpdateSubscriber s t b d) p0 p4 [] (put_facility one s t facility1) (once_more (once_more (once_more (once_more p0.asked))))
-    fourth (few_4 p0.asked)
-    (both_from _ _ (is_typed_from p0 s t rules within kind) (both_from _ _ (between_from 0 1 b (omega arith) bit) (between_from 0 255 d (omega arith) (omega arith))))
-    (rw (← is, there) refl)
-    (change_twice p0.width p0.book (put_facility p0.book s t facility1) (put_facility one s t facility1)
-    (change_of_put_facility p0.book s t facility facility1 there key p0.width rules.rows.rules refl refl)
-    (change_of_put_subscriber p0.width (put_facility p0.book s t facility1) s row row1 (sym is) refl refl (area_found p0.book s row rules.rows.rules (sym is))))
+pub subscriber_updated : (p0 p1 p2 : PartState) (s t b bit d : ℕ) (there : Option SpecialFacilityRow) → IsPart p0 → IsWithin p0.lo p0.hi s → is_between 1 4 t ≡ true → t < 256 → b ≤ 1 → d < 256
+    → facility_at p0.book s t ≡ there → true ≡ is_some there
+    → p1 ≡ record p0 { book = facility_revised p0.book s t (λ row. record row { data_a = d }); asked = p1.asked } → p1.asked ≤ p0.asked + 2
+    → bit ≡ b → p2 ≡ record p1 { book = subscriber_revised p1.book s (λ row. record row { bits = set row.bits 0 bit }); asked = p2.asked } → p2.asked ≤ p1.asked + 2
+    → Acts (UpdateSubscriber s t b d) p0 reply.Done [] p2
+subscriber_updated p0 p1 p2 s t b bit d None rules within kind small low byte is some kept few brought kept' few' = absurd cc
+subscriber_updated p0 p1 p2 s t b bit d (Some facility) rules within kind small low byte is some kept few brought kept' few' = of_subscriber (subscriber_at p0.book s) refl owner
   where
-    row1 : SubscriberRow
-    row1 = record row { bits = set row.bits 0 b }
-
     facility1 : SpecialFacilityRow
     facility1 = record facility { data_a = d }
 
-    one : Book
-    one = put_subscriber p0.book s row1
-
-    there : facility_at p0.book s t ≡ Some facility
-    there = sym (is' ∙ ap (λ (p : PartState). facility_at p.book s t) kept1)
-
     parts : (facility.s_id ≡ s) × (facility.sf_type ≡ t)
-    parts = facility_found p0.book s t facility rules.rows.rules small there
+    parts = facility_found p0.book s t facility rules.rows.rules small is
 
     key : facility_key facility1 ≡ key_of s t 0
     key = let first = parts.0 in let second = parts.1 in omega arith
 
-    third : p3 ≡ record p0 { book = one; asked = once_more (once_more (once_more p0.asked)) }
-    third =
-        put
-        ∙ ap (λ (p : PartState). changed_once p (put_subscriber p.book made.s_id made)) (kept2 ∙ ap asked_once kept1)
-        ∙ ap (λ (r : SubscriberRow). changed_once (asked_once (asked_once p0)) (put_subscriber p0.book r.s_id r)) same
-        ∙ ap (λ (n : ℕ). changed_once (asked_once (asked_once p0)) (put_subscriber p0.book n row1)) (s_id_found p0.book s row (sym is))
+    owner : IsSome (subscriber_at p0.book s)
+    owner =
+        subst (λ (n : ℕ). IsSome (subscriber_at p0.book n)) parts.0
+        (each_found facility_key (λ (r : SpecialFacilityRow). IsSome (subscriber_at p0.book r.s_id)) (key_of s t 0) p0.book.facilities facility rules.rows.rules.facilities_have_subscriber is)
 
-    fourth : p4 ≡ record p0 { book = put_facility one s t facility1; asked = once_more (once_more (once_more (once_more p0.asked))) }
-    fourth =
-        put'
-        ∙ ap (λ (p : PartState). changed_once p (put_facility p.book made'.s_id made'.sf_type made')) third
-        ∙ ap (λ (f : SpecialFacilityRow). changed_once (record p0 { book = one; asked = once_more (once_more (once_more p0.asked)) }) (put_facility one f.s_id f.sf_type f)) same'
-        ∙ ap (λ (n : ℕ). changed_once (record p0 { book = one; asked = once_more (once_more (once_more p0.asked)) }) (put_facility one n facility.sf_type facility1)) parts.0
-        ∙ ap (λ (n : ℕ). changed_once (record p0 { book = one; asked = once_more (once_more (once_more p0.asked)) }) (put_facility one s n facility1)) parts.1
+    first : p1 ≡ record p0 { book = put_facility p0.book s t facility1; asked = p1.asked }
+    first = refitted_after p0 p1 s t (λ row. record row { data_a = d }) facility is kept
+
+    of_subscriber : (o : Option SubscriberRow) → subscriber_at p0.book s ≡ o → IsSome o → Acts (UpdateSubscriber s t b d) p0 reply.Done [] p2
+    of_subscriber None who some = absurd cc
+    of_subscriber (Some row) who some =
+        let row1 : SubscriberRow = record row { bits = set row.bits 0 b } in
+        let later : p2 ≡ record p1 { book = put_subscriber p1.book s (record row { bits = set row.bits 0 bit }); asked = p2.asked } =
+        revised_after p1 p2 s (λ row. record row { bits = set row.bits 0 bit }) row (ap (λ (p : PartState). subscriber_at p.book s) first ∙ who) kept' in
+        let second : p2 ≡ record p0 { book = put_subscriber (put_facility p0.book s t facility1) s row1; asked = p2.asked } =
+        later ∙ ap (λ (p : PartState). record p { book = put_subscriber p.book s (record row { bits = set row.bits 0 bit }); asked = p2.asked }) first
+        ∙ ap (λ (n : ℕ). record p0 { book = put_subscriber (put_facility p0.book s t facility1) s (record row { bits = set row.bits 0 n }); asked = p2.asked }) brought in
+        acts_done (UpdateSubscriber s t b d) p0 p2 [] (put_subscriber (put_facility p0.book s t facility1) s row1) p2.asked second (omega arith)
+        (both_from _ _ (is_typed_from p0 s t rules within kind) (both_from _ _ (between_from 0 1 b (omega arith) low) (between_from 0 255 d (omega arith) (omega arith))))
+        (rw (who, is) refl)
+        (change_twice p0.width p0.book (put_facility p0.book s t facility1) (put_subscriber (put_facility p0.book s t facility1) s row1)
+        (change_of_put_facility p0.book s t facility facility1 is key p0.width rules.rows.rules refl refl)
+        (change_of_put_subscriber p0.width (put_facility p0.book s t facility1) s row row1 who refl refl (area_found p0.book s row rules.rows.rules who)))
 
 -- InsertForwarding
 pub forwarding_inserted : (before found after : PartState) (s t u zone : ℕ) (active : Bool) (row : CallForwardingRow) (facility : SpecialFacilityRow) (notes : List (ℕ × ℤ))

@@ -1,10 +1,11 @@
 -- What calls inside the crate promise: no clause of a public call cites these.
-use Rattle.std.specs.Prelude.{◌≡◌, ℕ, ◌+◌, ◌/◌, ◌≤◌, ◌==◌, Bool, false, List, [], ◌∷◌, ◌++◌, Option, Some, None, ℤ, pos, negsuc, Result, Ok, Err, if◌then◌else◌}
-use Rattle.tatp_rows.specs.Rows.{CallForwardingRow}
+use Rattle.std.specs.Prelude.{◌≡◌, ℕ, ◌+◌, ◌/◌, ◌≤◌, ◌==◌, Bool, true, false, List, [], ◌∷◌, ◌++◌, Option, Some, None, option_map, ℤ, pos, negsuc, Result, Ok, Err, if◌then◌else◌}
+use Rattle.std.specs.Option.{unwrap_or}
+use Rattle.tatp_rows.specs.Rows.{SubscriberRow, SpecialFacilityRow, CallForwardingRow, subscriber_in_range, facility_in_range}
 use Rattle.tatp_rows.specs.declared.refusal.Refusal.{Refusal}
 use Rattle.tatp_rows.specs.declared.refusal.Refusal.TheVariants as refusal
 use Rattle.tatp_actions.specs.Action.{IsOutcome, takes_call}
-use Rattle.tatp_actions.specs.Book.{Book}
+use Rattle.tatp_actions.specs.Book.{Book, subscriber_at, facility_at, put_subscriber, put_facility}
 use Rattle.tatp_actions.specs.Change.{IsChange}
 use Rattle.tatp_actions.specs.Part.{PartState}
 use Rattle.tatp_actions.specs.Tables.{once_more}
@@ -25,6 +26,22 @@ asked_once part = record part { asked = once_more part.asked }
 -- the part with another book, asked once more
 abbrev pub changed_once : PartState → Book → PartState
 changed_once part book = record part { book = book; asked = once_more part.asked }
+
+-- a change of a Subscriber row makes one in range of the same subscriber of it
+abbrev pub KeepsSubscriber : (SubscriberRow → SubscriberRow) → Type 0
+KeepsSubscriber change = (row : SubscriberRow) → subscriber_in_range row ≡ true → ((change row).s_id ≡ row.s_id) × (subscriber_in_range (change row) ≡ true)
+
+-- the book with the row of a subscriber changed, where there is one
+abbrev pub subscriber_revised : Book → ℕ → (SubscriberRow → SubscriberRow) → Book
+subscriber_revised book s_id change = unwrap_or (option_map (λ row. put_subscriber book s_id (change row)) (subscriber_at book s_id)) book
+
+-- a change of a Special_Facility row makes one in range of the same facility of it
+abbrev pub KeepsFacility : (SpecialFacilityRow → SpecialFacilityRow) → Type 0
+KeepsFacility change = (row : SpecialFacilityRow) → facility_in_range row ≡ true → ((change row).s_id ≡ row.s_id) × ((change row).sf_type ≡ row.sf_type) × (facility_in_range (change row) ≡ true)
+
+-- the book with the row of a facility changed, where there is one
+abbrev pub facility_revised : Book → ℕ → ℕ → (SpecialFacilityRow → SpecialFacilityRow) → Book
+facility_revised book s_id sf_type change = unwrap_or (option_map (λ row. put_facility book s_id sf_type (change row)) (facility_at book s_id sf_type)) book
 
 -- what an addition answers, where the key has a row or not: the row is in; or its key has one, or memory was refused, and nothing changed
 abbrev pub IsAdded : Bool → Book → Book → Book → Result (Unit {0}) Refusal → Type 0

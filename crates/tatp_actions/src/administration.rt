@@ -7,6 +7,7 @@ ghost use Rattle.tatp_actions.specs.declared.action.Action.{Action};
 
 use crate::change::Change;
 use crate::part::Part;
+use crate::revisions::{SwapActive, SwapNumber};
 use crate::rows::Rows;
 use tatp_rows::{Access, Facility, Number, Refusal, Subscriber, is_between};
 
@@ -17,9 +18,7 @@ impl<R: Rows> Part<R> {
         ensures { Acts (Action.AddSubscriber row) self.old (done_reply result) (notes_of result) self.new }
     {
         let s_id = row.s_id();
-        if let Err(why) = self.more_subscribers(row) {
-            return Err(why);
-        }
+        self.more_subscribers(row)?;
         let zone = self.zone_of(s_id);
         let change = Change::subscriber_added(row.vlr_location(), zone);
         Ok(change)
@@ -34,9 +33,7 @@ impl<R: Rows> Part<R> {
         if !self.has_subscriber(s_id) {
             return Err(Refusal::NoSubscriber);
         }
-        if let Err(why) = self.more_access(row) {
-            return Err(why);
-        }
+        self.more_access(row)?;
         let zone = self.zone_of(s_id);
         Ok(Change::row_added(zone))
     }
@@ -51,9 +48,7 @@ impl<R: Rows> Part<R> {
         if !self.has_subscriber(s_id) {
             return Err(Refusal::NoSubscriber);
         }
-        if let Err(why) = self.more_facilities(row) {
-            return Err(why);
-        }
+        self.more_facilities(row)?;
         let zone = self.zone_of(s_id);
         Ok(Change::row_added(zone))
     }
@@ -71,14 +66,14 @@ impl<R: Rows> Part<R> {
         if !is_between(sf_type, 1, 4) || is_active > 1 {
             return Err(Refusal::Field);
         }
-        let Some(facility) = self.facility(s_id, sf_type) else {
-            return Err(Refusal::NoFacility);
-        };
         let up = is_active == 1;
-        if facility.is_active() == up {
+        let mut swap = SwapActive { is_active: up };
+        if !self.revise_facility(s_id, sf_type, &mut swap) {
+            return Err(Refusal::NoFacility);
+        }
+        if swap.is_active == up {
             return Ok(Change::none());
         }
-        self.put_facility(facility.with_is_active(up));
         let at_0 = self.forwarding(s_id, sf_type, 0).is_some();
         let at_8 = self.forwarding(s_id, sf_type, 8).is_some();
         let at_16 = self.forwarding(s_id, sf_type, 16).is_some();
@@ -90,13 +85,12 @@ impl<R: Rows> Part<R> {
         requires { IsWithin self.old.lo self.old.hi s_id }
         ensures { Acts (Action.SetNumber s_id sub_nbr) self.old (done_reply result) (notes_of result) self.new }
     {
-        let Some(row) = self.subscriber(s_id) else {
+        // A number is in range, as its reader says.
+        let _number = sub_nbr.value();
+        let mut swap = SwapNumber { sub_nbr };
+        if !self.revise_subscriber(s_id, &mut swap) {
             return Err(Refusal::NoSubscriber);
-        };
-        if row.sub_nbr().value() == sub_nbr.value() {
-            return Ok(Change::none());
         }
-        self.put_subscriber(row.with_sub_nbr(sub_nbr));
         Ok(Change::none())
     }
 }

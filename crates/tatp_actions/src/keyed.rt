@@ -1,11 +1,12 @@
 //! The rows of a part by their keys. Each call asks the rows once, and keeps the rules of the part.
-ghost use Rattle.std.specs.Prelude.{◌≡◌, IsSome, is_some};
-ghost use Rattle.tatp_actions.specs.Book.{IsWithin, has_active, subscriber_at, access_at, facility_at, forwarding_at, put_subscriber, put_facility, more_subscribers, more_access, more_facilities, more_forwardings, without_forwarding};
+ghost use Rattle.std.specs.Prelude.{◌≡◌, ◌+◌, ◌≤◌, IfSome, IsSome, is_some};
+ghost use Rattle.tatp_actions.specs.Book.{IsWithin, has_active, subscriber_at, access_at, facility_at, forwarding_at, more_subscribers, more_access, more_facilities, more_forwardings, without_forwarding};
 ghost use Rattle.tatp_actions.specs.Part.{IsPart};
-ghost use Rattle.tatp_actions.specs.Inside.{asked_once, changed_once, IsAdded};
+ghost use Rattle.tatp_actions.specs.Inside.{KeepsSubscriber, KeepsFacility, asked_once, changed_once, subscriber_revised, facility_revised, IsAdded};
 
 use crate::part::Part;
 use crate::rows::Rows;
+use mr_node::Revise;
 use tatp_rows::{Access, Facility, Forwarding, Refusal, Subscriber, row_key, subscriber_key};
 
 impl<R: Rows> Part<R> {
@@ -71,18 +72,39 @@ impl<R: Rows> Part<R> {
         self.rows.get_c(row_key(s_id, sf_type, start_time)).copied()
     }
 
-    /// Puts a Subscriber row in the place of the one with its key, where there is one.
-    pub(crate) fn put_subscriber(&mut self, row: Subscriber)
-        ensures { self.new ≡ changed_once self.old (put_subscriber self.old.book row.s_id row) }
+    /// Changes the Subscriber row of a subscriber where it lies, into one of the same subscriber: false where there is
+    /// none.
+    pub(crate) fn revise_subscriber<E: Revise<Subscriber>>(
+        &mut self,
+        s_id: u32,
+        edit: &mut E,
+    ) -> bool
+        requires { KeepsSubscriber (E.revised edit.old) }
+        ensures found { result ≡ is_some (subscriber_at self.old.book s_id) }
+        ensures spent { IfSome (subscriber_at self.old.book s_id) (λ row. edit.new ≡ E.spent edit.old row) }
+        ensures kept { self.new ≡ record self.old { book = subscriber_revised self.old.book s_id (E.revised edit.old); asked = self.new.asked } }
+        ensures asked { self.new.asked ≤ self.old.asked + 2 }
+        ensures rules { IsPart self.old }
     {
-        let _ = self.rows.replace_s(row.key(), row);
+        self.rows.revise_s(subscriber_key(s_id), edit)
     }
 
-    /// Puts a Special_Facility row in the place of the one with its key, where there is one.
-    pub(crate) fn put_facility(&mut self, row: Facility)
-        ensures { self.new ≡ changed_once self.old (put_facility self.old.book row.s_id row.sf_type row) }
+    /// Changes the Special_Facility row of a facility where it lies, into one of the same facility: false where there is
+    /// none.
+    pub(crate) fn revise_facility<E: Revise<Facility>>(
+        &mut self,
+        s_id: u32,
+        sf_type: u8,
+        edit: &mut E,
+    ) -> bool
+        requires { KeepsFacility (E.revised edit.old) }
+        ensures found { result ≡ is_some (facility_at self.old.book s_id sf_type) }
+        ensures spent { IfSome (facility_at self.old.book s_id sf_type) (λ row. edit.new ≡ E.spent edit.old row) }
+        ensures kept { self.new ≡ record self.old { book = facility_revised self.old.book s_id sf_type (E.revised edit.old); asked = self.new.asked } }
+        ensures asked { self.new.asked ≤ self.old.asked + 2 }
+        ensures rules { IsPart self.old }
     {
-        let _ = self.rows.replace_f(row.key(), row);
+        self.rows.revise_f(row_key(s_id, sf_type, 0), edit)
     }
 
     /// Adds a Subscriber row of the part's range: `Exists`, `Memory`.

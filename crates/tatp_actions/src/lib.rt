@@ -21,6 +21,7 @@ mod plain;
 #[cfg(test)]
 mod plain_tests;
 mod recount;
+mod revisions;
 mod rows;
 mod stocks;
 #[cfg(test)]

@@ -90,7 +90,7 @@ impl<R: Rows> Part<R> {
         }
     }
 
-    /// How often the rows were asked.
+    /// How often actions asked the rows. A row that is lent is not counted.
     pub fn asked(&self) -> u64
         ensures { result ≡ self.now.asked }
     {

@@ -1,18 +1,21 @@
 //! What a part asks of its rows.
-ghost use Rattle.std.specs.Prelude.{◌≡◌, ℕ, ◌<◌, option_copied, ok_or, ⊤};
+ghost use Rattle.std.specs.Prelude.{◌≡◌, ℕ, ◌+◌, ◌<◌, ◌≤◌, is_some, option_copied, ok_or, ⊤};
 ghost use Rattle.std.specs.Borrow.{sem, follows_so};
 ghost use mathlib.Core.Option.{none};
 ghost use Rattle.tatp_rows.specs.Ordered.{with_row_at, without_row};
 ghost use Rattle.mr_node.specs.Rows.{key_limit, key_of_pair, value_at};
+ghost use Rattle.mr_node.specs.Revisions.{revised_at, spent_at};
 ghost use Rattle.mr_subtree.specs.Trees.{IsInserted};
 ghost use Rattle.tatp_actions.specs.Tables.{Tables, once_more};
 
+use mr_node::Revise;
 use tatp_rows::{Access, Back, Facility, Forwarding, Subscriber};
 
 /// The rows of a part, by key, and how often they were asked.
 ///
 /// Each of the four tables is seen as the list of its pairs (key, row). Each call is by key and raises `asked` by one
-/// (saturating), so an action's cost is bounded by how often it asks.
+/// (saturating), so an action's cost is bounded by how often it asks. Sixteen calls are enough: `revise_s` and `revise_f`
+/// are made of two of them, where a store has no better way.
 pub trait Rows {
     ghost tables: { Self → Tables };
 
@@ -33,6 +36,22 @@ pub trait Rows {
         ensures value { result ≡ ok_or (value_at key (tables self.old).subscribers) value }
         ensures rows { tables self.new ≡ record (tables self.old) { subscribers = with_row_at key_of_pair key (key, value) (tables self.old).subscribers } }
         ensures asked { times_asked self.new ≡ once_more (times_asked self.old) };
+
+    /// Changes the Subscriber row at a key where it lies: false where there is none. It may ask twice, as `get_s` and
+    /// `replace_s` do in its place.
+    fn revise_s<E: Revise<Subscriber>>(&mut self, key: u64, edit: &mut E) -> bool
+        ensures rows { tables self.new ≡ record (tables self.old) { subscribers = revised_at key (E.revised edit.old) (tables self.old).subscribers } }
+        ensures spent { edit.new ≡ spent_at key E.spent edit.old (tables self.old).subscribers }
+        ensures found { result ≡ is_some (value_at key (tables self.old).subscribers) }
+        ensures asked { times_asked self.new ≤ times_asked self.old + 2 }
+    {
+        let Some(mut row) = self.get_s(key).copied() else {
+            return false;
+        };
+        edit.revise(&mut row);
+        let _ = self.replace_s(key, row);
+        true
+    }
 
     /// Adds a Subscriber row. `Exists` where the key has a row, `Memory` where a growth was refused: then the rows
     /// are as before, and the row is handed back.
@@ -85,6 +104,22 @@ pub trait Rows {
         ensures value { result ≡ ok_or (value_at key (tables self.old).facilities) value }
         ensures rows { tables self.new ≡ record (tables self.old) { facilities = with_row_at key_of_pair key (key, value) (tables self.old).facilities } }
         ensures asked { times_asked self.new ≡ once_more (times_asked self.old) };
+
+    /// Changes the Special_Facility row at a key where it lies: false where there is none. It may ask twice, as `get_f`
+    /// and `replace_f` do in its place.
+    fn revise_f<E: Revise<Facility>>(&mut self, key: u64, edit: &mut E) -> bool
+        ensures rows { tables self.new ≡ record (tables self.old) { facilities = revised_at key (E.revised edit.old) (tables self.old).facilities } }
+        ensures spent { edit.new ≡ spent_at key E.spent edit.old (tables self.old).facilities }
+        ensures found { result ≡ is_some (value_at key (tables self.old).facilities) }
+        ensures asked { times_asked self.new ≤ times_asked self.old + 2 }
+    {
+        let Some(mut row) = self.get_f(key).copied() else {
+            return false;
+        };
+        edit.revise(&mut row);
+        let _ = self.replace_f(key, row);
+        true
+    }
 
     /// Adds a Special_Facility row. `Exists` where the key has a row, `Memory` where a growth was refused: then the rows
     /// are as before, and the row is handed back.

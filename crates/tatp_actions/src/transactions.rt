@@ -1,15 +1,17 @@
 //! The seven transactions of TATP on a part.
-ghost use Rattle.std.specs.Prelude.{◌≡◌, ◌+◌, ◌<◌, ◌≤◌, ◌++◌};
+ghost use Rattle.std.specs.Prelude.{◌≡◌, ◌+◌, ◌<◌, ◌≤◌, ◌++◌, is_some, if◌then◌else◌};
 ghost use Rattle.std.specs.Option.{option_to_list};
 ghost use Rattle.arrayvec.specs.ArrayVec.{array_vec_len};
-ghost use Rattle.tatp_actions.specs.Book.{IsWithin, forwarding_at};
+ghost use Rattle.tatp_actions.specs.Book.{IsWithin, subscriber_at, forwarding_at};
 ghost use Rattle.tatp_actions.specs.Action.{done_reply};
-ghost use Rattle.tatp_actions.specs.Inside.{destination, Acts, notes_of};
+ghost use Rattle.tatp_actions.specs.Inside.{destination, Acts, asked_once, notes_of};
+ghost use Rattle.tatp_actions.specs.Part.{IsPart};
 ghost use Rattle.tatp_actions.specs.declared.action.Action.{Action};
 
 use crate::action::RowReply;
 use crate::change::Change;
 use crate::part::{Part, refused};
+use crate::revisions::{SetBit1, SetDataA, SwapLocation};
 use crate::rows::Rows;
 use arrayvec::ArrayVec;
 use tatp_rows::{Forwarding, Number, Refusal, is_between, is_start_time};
@@ -141,15 +143,29 @@ impl<R: Rows> Part<R> {
         if !is_between(sf_type, 1, 4) || bit_1 > 1 {
             return Err(Refusal::Field);
         }
-        let Some(row) = self.subscriber(s_id) else {
-            return Err(Refusal::NoSubscriber);
-        };
-        let Some(facility) = self.facility(s_id, sf_type) else {
-            return Err(Refusal::NoFacility);
-        };
-        self.put_subscriber(row.with_bit_1(bit_1));
-        self.put_facility(facility.with_data_a(data_a));
+        let mut data = SetDataA { data_a };
+        if !self.revise_facility(s_id, sf_type, &mut data) {
+            return Err(self.without_facility(s_id));
+        }
+        // A facility has a subscriber.
+        let mut bit = SetBit1::to(bit_1);
+        let _ = self.revise_subscriber(s_id, &mut bit);
         Ok(Change::none())
+    }
+
+    /// Why a facility can't be found, for a subscriber that has none of its type.
+    #[cold]
+    #[inline(never)]
+    fn without_facility(&mut self, s_id: u32) -> Refusal
+        ensures why { result ≡ (if is_some (subscriber_at self.old.book s_id) then Refusal.NoFacility else Refusal.NoSubscriber) }
+        ensures kept { self.new ≡ asked_once self.old }
+        ensures rules { IsPart self.old }
+    {
+        if self.has_subscriber(s_id) {
+            Refusal::NoFacility
+        } else {
+            Refusal::NoSubscriber
+        }
     }
 
     /// The body of UPDATE_LOCATION: `Field`, `NoSubscriber`.
@@ -164,11 +180,11 @@ impl<R: Rows> Part<R> {
         if vlr_location == 0 {
             return Err(Refusal::Field);
         }
-        let Some(row) = self.subscriber(s_id) else {
+        let mut swap = SwapLocation::to(vlr_location);
+        if !self.revise_subscriber(s_id, &mut swap) {
             return Err(Refusal::NoSubscriber);
-        };
-        self.put_subscriber(row.with_vlr_location(vlr_location));
-        let change = Change::location_moved(row.vlr_location(), vlr_location);
+        }
+        let change = Change::location_moved(swap.location(), vlr_location);
         Ok(change)
     }
 
@@ -181,9 +197,7 @@ impl<R: Rows> Part<R> {
         let Some(facility) = self.facility(s_id, row.sf_type()) else {
             return Err(Refusal::NoFacility);
         };
-        if let Err(why) = self.more_forwardings(row) {
-            return Err(why);
-        }
+        self.more_forwardings(row)?;
         let zone = self.zone_of(s_id);
         let change = Change::forwarding_moved(true, facility.is_active(), row.start_time(), zone);
         Ok(change)

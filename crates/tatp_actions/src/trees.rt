@@ -4,6 +4,7 @@ ghost use Rattle.std.specs.Borrow.{sem, follows_so};
 ghost use Rattle.tatp_actions.specs.Tables.{once_more};
 
 use crate::rows::Rows;
+use mr_node::Revise;
 use mr_subtree::SubTree;
 use std::alloc::Global;
 use tatp_rows::{Access, Back, Facility, Forwarding, Refusal, Subscriber};
@@ -68,6 +69,11 @@ impl Rows for Trees {
         self.subscribers.replace(key, value)
     }
 
+    fn revise_s<E: Revise<Subscriber>>(&mut self, key: u64, edit: &mut E) -> bool {
+        self.ask();
+        self.subscribers.revise(key, edit)
+    }
+
     fn insert_s(&mut self, key: u64, value: Subscriber) -> Result<(), Back<Subscriber>> {
         self.ask();
         self.subscribers.insert(key, value)
@@ -106,6 +112,11 @@ impl Rows for Trees {
     fn replace_f(&mut self, key: u64, value: Facility) -> Result<Facility, Facility> {
         self.ask();
         self.facilities.replace(key, value)
+    }
+
+    fn revise_f<E: Revise<Facility>>(&mut self, key: u64, edit: &mut E) -> bool {
+        self.ask();
+        self.facilities.revise(key, edit)
     }
 
     fn insert_f(&mut self, key: u64, value: Facility) -> Result<(), Back<Facility>> {

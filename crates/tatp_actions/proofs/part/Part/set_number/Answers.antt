@@ -1,19 +1,13 @@
-use Rattle.std.proofs.Common.{sym, ◌∙◌, ◌<◌, arith}
-use Rattle.tatp_actions.proofs.AdministrationLemmas.{number_set, number_stands}
+use Rattle.std.proofs.Common.{◌<◌, arith, refl, sym, ◌∙◌}
+use Rattle.tatp_actions.specs.Book.{subscriber_at}
+use Rattle.tatp_actions.proofs.AdministrationLemmas.{number_set}
 use Rattle.tatp_actions.proofs.part.Part.set_number.Goals as goal
-
-pub returns-then-value : goal.returns-then-value
-returns-then-value g c =
-    let is = c.value-2.ensures.value in
-    let below = c.value-2.ensures.in_range in
-    let small : c.args.sub_nbr < 1000000000000000 = omega arith in
-    rw c.none.ensures (number_stands _ _ _ _ c.in-Some.row c.subscriber.ensures.rules c.requires small c.subscriber.ensures.kept c.in-Some.ensures.found
-    (sym c.sub_nbr.ensures ∙ sym c.value.ensures.value ∙ c.if-value.true ∙ is))
 
 pub returns : goal.returns
 returns g c =
-    let is = c.value-2.ensures.value in
-    let below = c.value-2.ensures.in_range in
+    let now = c.value-number.ensures.value in
+    let below = c.value-number.ensures.in_range in
     let small : c.args.sub_nbr < 1000000000000000 = omega arith in
-    rw c.none-2.ensures (number_set _ _ _ _ _ c.in-Some.row c.with_sub_nbr.result c.subscriber.ensures.rules c.requires small c.subscriber.ensures.kept c.in-Some.ensures.found
-    c.with_sub_nbr.ensures c.put_subscriber.ensures)
+    rw c.none.ensures
+    (number_set c.args.self.now c.revise_subscriber.new.self c.args.s_id c.args.sub_nbr (subscriber_at c.args.self.now.book c.args.s_id) c.revise_subscriber.ensures.rules c.requires small refl
+    (sym c.if-not-revise_subscriber.false ∙ c.revise_subscriber.ensures.found) c.revise_subscriber.ensures.kept c.revise_subscriber.ensures.asked)

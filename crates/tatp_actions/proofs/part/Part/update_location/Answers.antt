@@ -1,9 +1,11 @@
-use Rattle.std.proofs.Common.{◌≤◌, arith}
+use Rattle.std.proofs.Common.{◌≤◌, arith, refl, sym, ◌∙◌}
+use Rattle.tatp_actions.specs.Book.{subscriber_at}
 use Rattle.tatp_actions.proofs.TransactionLemmas.{location_moved}
 use Rattle.tatp_actions.proofs.part.Part.update_location.Goals as goal
 
 pub returns : goal.returns
 returns g c =
     let one : 1 ≤ c.args.vlr_location = omega arith in
-    location_moved _ _ _ _ _ c.in-Some.row c.with_vlr_location.result _ c.subscriber.ensures.rules c.requires one c.ranges.vlr_location.fits c.subscriber.ensures.kept c.in-Some.ensures.found
-    c.with_vlr_location.ensures c.put_subscriber.ensures (rw c.vlr_location.ensures at c.location_moved-change.ensures)
+    location_moved c.args.self.now c.revise_subscriber.new.self c.args.s_id c.args.vlr_location c.to-swap.result c.location.result _ (subscriber_at c.args.self.now.book c.args.s_id) c.revise_subscriber.ensures.rules c.requires one
+    c.ranges.vlr_location.fits refl (sym c.if-not-revise_subscriber.false ∙ c.revise_subscriber.ensures.found) (rw c.location.ensures c.revise_subscriber.ensures.spent) c.to-swap.ensures c.revise_subscriber.ensures.kept
+    c.revise_subscriber.ensures.asked c.location_moved-change.ensures
