@@ -1,5 +1,5 @@
 //! A desk: the right to raise the words of its slots, and what it knows of the board.
-ghost use Rattle.std.specs.Prelude.{◌≡◌, ℕ, ◌+◌, ◌<◌, ◌≤◌, ◌↔◌, ◌^◌, List, Bool, IsTrue, if◌then◌else◌, ℤ, pos, neg_ℤ, ◌+ℤ◌, ◌≤ℤ◌, slice_index_or};
+ghost use Rattle.std.specs.Prelude.{◌≡◌, ℕ, ◌+◌, ◌<◌, ◌≤◌, ◌↔◌, ◌^◌, List, Bool, true, IsTrue, if◌then◌else◌, ℤ, pos, neg_ℤ, ◌+ℤ◌, ◌≤ℤ◌, slice_index_or};
 ghost use Rattle.view_board.specs.Views.{owned_at, Owns, IsWide, slots_of_both, numbers_of_both};
 ghost use Rattle.view_board.specs.Words.{slot_net};
 ghost use Rattle.view_board.specs.Nets.{net_of, AreWithin};
@@ -76,12 +76,26 @@ impl Desk {
             slice_index_or sums.old c (pos 0) +ℤ (if owned_at self.now.view slot then slot_net self.now.view.numbers c slot else pos 0) }
         ensures sums { AreWithin (slot + 1) sums.new }
     {
-        if !self.owned[usize::from(slot)] {
+        if !self.owned[usize::from(slot)] || self.is_blank(slot) {
             return;
         }
         for cell in 0..CELLS {
             sums[usize::from(cell)] += self.own_net(slot, cell);
         }
+    }
+
+    /// Whether the numbers of all words of a slot are 0. It looks at all of them, which is faster than to stop at the first.
+    #[inline(always)]
+    fn is_blank(&self, slot: u8) -> bool
+        requires { slot < SLOTS }
+        ensures { result ≡ true → (c : ℕ) → c < CELLS → slot_net self.now.view.numbers c slot ≡ pos 0 }
+    {
+        let start = usize::from(slot) * SLOT_WORDS;
+        let mut bits = 0;
+        for word in start..start + SLOT_WORDS {
+            bits |= self.numbers[word];
+        }
+        bits == 0
     }
 
     /// The net of a slot in a cell, or 0 where the slot isn't the desk's.
