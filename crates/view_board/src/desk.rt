@@ -76,7 +76,22 @@ impl Desk {
             slice_index_or sums.old c (pos 0) +ℤ (if owned_at self.now.view slot then slot_net self.now.view.numbers c slot else pos 0) }
         ensures sums { AreWithin (slot + 1) sums.new }
     {
-        if !self.owned[usize::from(slot)] || self.is_blank(slot) {
+        if self.owned[usize::from(slot)] {
+            self.add_words(slot, sums);
+        }
+    }
+
+    /// Does what `add_nets` says, by the slot's words unless all are 0. It is not inlined: the walk over the slots, of which a
+    /// desk has few, would be longer.
+    #[inline(never)]
+    fn add_words(&self, slot: u8, sums: &mut [i128; CELLS as usize])
+        requires slot { slot < SLOTS }
+        requires sums { AreWithin slot sums.old }
+        ensures added { (c : ℕ) → c < CELLS → slice_index_or sums.new c (pos 0) ≡
+            slice_index_or sums.old c (pos 0) +ℤ (if owned_at self.now.view slot then slot_net self.now.view.numbers c slot else pos 0) }
+        ensures sums { AreWithin (slot + 1) sums.new }
+    {
+        if self.is_blank(slot) {
             return;
         }
         for cell in 0..CELLS {

@@ -3,7 +3,7 @@ use Rattle.std.specs.Prelude.{pos, neg_ℤ, ◌+ℤ◌, ◌≤ℤ◌}
 use Rattle.view_board.specs.Views.{owned_at}
 use Rattle.view_board.specs.Words.{slot_net}
 use Rattle.view_board.proofs.FillLemmas.{IsFilledTo}
-use Rattle.view_board.proofs.desk.Desk.add_nets.Given as goal
+use Rattle.view_board.proofs.desk.Desk.add_words.Given as goal
 
 abbrev pub invariant-loop-cell : goal.invariant-loop-cell
 invariant-loop-cell l = record {
