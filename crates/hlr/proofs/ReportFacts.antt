@@ -1,5 +1,5 @@
 -- The lines of a report, one after another.
-use Rattle.std.proofs.Common.{◌≡◌, refl, sym, ap, ◌∙◌, subst, ℕ, zero, suc, ◌+◌, ◌-◌, ◌<◌, ◌≤◌, ◌==◌, min, List, [], ◌∷◌, ◌++◌, length, get_or, Bool, true, false, Option, Some, None, append_assoc, arith}
+use Rattle.std.proofs.Common.{◌≡◌, refl, sym, ap, ◌∙◌, subst, ℕ, zero, suc, ◌+◌, ◌-◌, ◌*◌, ◌<◌, ◌≤◌, ◌==◌, min, List, [], ◌∷◌, ◌++◌, length, get_or, Bool, true, false, Option, Some, None, append_assoc, arith}
 use Rattle.std.specs.Prelude.{ℤ, Result, OnOk, OnErr, nat_le}
 use Rattle.std.specs.List.{AllByRecursion, filter, flat_map, range_with_len}
 use Rattle.std.proofs.lemmas.Bool.Decides.{nat_tests}
@@ -63,12 +63,6 @@ module _ {X : Type 0} (line : X → List ℕ) (all : List X) where
   unfolding report_text
   report_stops_by word rest left more old mid new to front took = front_wider old new (flat_map line all) _ (lines_stop_by rest left more old mid new to front took)
 
-  -- or in one of them
-  pub lines_stop : (rest left : List X) (x : X) (old mid new : Option (List ℕ)) (bytes : List ℕ) → ReportTo line all rest old mid → rest ≡ x ∷ left → bytes ≡ line x → AppendsFront mid new bytes
-      → AppendsFront old new (flat_map line all)
-  lines_stop rest left x old mid new bytes to first is took =
-      lines_stop_by rest left (x ∷ []) old mid new to first (rw (append-nil (line x)) (rw is at took))
-
   -- the sink failed in a line
   pub report_stops : (word : List ℕ) (rest left : List X) (x : X) (old mid new : Option (List ℕ)) (bytes : List ℕ) → ReportTo line all rest old mid
       → rest ≡ x ∷ left → bytes ≡ line x → AppendsFront mid new bytes → AppendsFront old new (report_text word line all)
@@ -78,6 +72,14 @@ module _ {X : Type 0} (line : X → List ℕ) (all : List X) where
       ap (flat_map line) (to.all_is ∙ ap (λ xs. to.shown ++ xs) first) ∙ flat_map-append line to.shown (x ∷ left) in
       front_wider old new (flat_map line all) _
       (rw whole (front_after old mid new _ _ to.grew (front_wider mid new (line x) _ (rw is at took))))
+
+  -- all lines were handed on at once, and the sink took them, or failed in them
+  pub report_at_once : (old new : Option (List ℕ)) (bytes : List ℕ) → bytes ≡ flat_map line all → Appends old new bytes → ReportTo line all [] old new
+  report_at_once old new bytes is took = record { shown = all; all_is = sym (append-nil all); grew = rw is at took }
+
+  pub report_stops_at_once : (word : List ℕ) (old new : Option (List ℕ)) (bytes : List ℕ) → bytes ≡ flat_map line all → AppendsFront old new bytes → AppendsFront old new (report_text word line all)
+  unfolding report_text
+  report_stops_at_once word old new bytes is took = front_wider old new (flat_map line all) _ (rw is at took)
 
   -- all lines were taken
   pub report_whole : (rest : List X) (old new : Option (List ℕ)) → ReportTo line all rest old new → rest ≡ [] → Appends old new (flat_map line all)
@@ -206,18 +208,64 @@ pub cells_skip : (mark : ℕ → Bool) (c : ℕ) → c < CELLS → mark c ≡ fa
 unfolding cells_left
 cells_skip mark c below e = (marked_next mark c CELLS below).1 e
 
+pub cells_none : (mark : ℕ → Bool) → cells_left mark CELLS ≡ []
+unfolding cells_left
+cells_none mark = refl
+
 pub cells_all : (mark : ℕ → Bool) → cells_where mark ≡ cells_left mark 0
 unfolding cells_left cells_where
 cells_all mark = refl
 
--- no cell is left, and all that have the mark were counted
-pub cells_done : (mark : ℕ → Bool) (c count : ℕ) → CELLS ≤ c → count + length (cells_left mark c) ≡ length (cells_where mark) → (cells_left mark c ≡ []) × (count ≡ length (cells_where mark))
-unfolding cells_left
-cells_done mark c count past many =
-    let over : CELLS - c ≡ 0 = omega arith in
-    let none : filter mark (range_with_len c (CELLS - c)) ≡ [] = rw over refl in
-    let size = ap length none in
-    (none, omega arith)
+-- the lines of the cells from one on were built
+pub record AreBuilt (line : ℕ → List ℕ) (mark : ℕ → Bool) (c : ℕ) (items : List ℕ) (count : ℕ) : Type 0 where
+  pub lines : items ≡ flat_map line (cells_left mark c)
+  pub count_is : count ≡ length (cells_left mark c)
+  pub few : count + c ≤ CELLS
+  pub room : length items + 70 * c ≤ 70 * CELLS
+
+module _ (line : ℕ → List ℕ) (mark : ℕ → Bool) where
+  -- none yet
+  pub built_none : (items : List ℕ) → items ≡ [] → AreBuilt line mark CELLS items 0
+  built_none items none = record {
+    lines = none ∙ sym (ap (flat_map line) (cells_none mark));
+    count_is = sym (ap length (cells_none mark));
+    few = omega arith;
+    room = rw none (omega arith);
+  }
+
+  -- the line of the cell before in front
+  pub built_more : (c : ℕ) (items after : List ℕ) (count : ℕ) → 0 < c → c ≤ CELLS → AreBuilt line mark c items count → mark (c - 1) ≡ true → after ≡ line (c - 1) ++ items
+      → length after ≤ length items + 70 → AreBuilt line mark (c - 1) after (count + 1)
+  built_more c items after count some within built e is few =
+      let back : c - 1 + 1 ≡ c = omega arith in
+      let next : cells_left mark (c - 1) ≡ (c - 1) ∷ cells_left mark c = cells_next mark (c - 1) (omega arith) e ∙ ap (λ n. (c - 1) ∷ cells_left mark n) back in
+      record {
+        lines = is ∙ (ap (λ ys. line (c - 1) ++ ys) built.lines ∙ sym (ap (flat_map line) next));
+        count_is = ap (λ n. n + 1) built.count_is ∙ (omega arith ∙ sym (ap length next));
+        few = omega (arith, built.few);
+        room = omega (arith, built.room, few);
+      }
+
+  -- the cell before has no line
+  pub built_skip : (c : ℕ) (items : List ℕ) (count : ℕ) → 0 < c → c ≤ CELLS → AreBuilt line mark c items count → mark (c - 1) ≡ false → AreBuilt line mark (c - 1) items count
+  built_skip c items count some within built e =
+      let back : c - 1 + 1 ≡ c = omega arith in
+      let next : cells_left mark (c - 1) ≡ cells_left mark c = cells_skip mark (c - 1) (omega arith) e ∙ ap (cells_left mark) back in
+      record {
+        lines = built.lines ∙ sym (ap (flat_map line) next);
+        count_is = built.count_is ∙ sym (ap length next);
+        few = omega (arith, built.few);
+        room = omega (arith, built.room);
+      }
+
+  -- all of them
+  pub built_lines : (c : ℕ) (items : List ℕ) (count : ℕ) → c ≤ 0 → AreBuilt line mark c items count → items ≡ flat_map line (cells_where mark)
+  built_lines c items count end built =
+      let first : c ≡ 0 = omega arith in built.lines ∙ ap (flat_map line) (ap (cells_left mark) first ∙ sym (cells_all mark))
+
+  pub built_count : (c : ℕ) (items : List ℕ) (count : ℕ) → c ≤ 0 → AreBuilt line mark c items count → count ≡ length (cells_where mark)
+  built_count c items count end built =
+      let first : c ≡ 0 = omega arith in built.count_is ∙ ap length (ap (cells_left mark) first ∙ sym (cells_all mark))
 
 -- cells with the same marks and the same lines make the same report
 marks_same : (p q : ℕ → Bool) (a n : ℕ) → ((c : ℕ) → c < a + n → p c ≡ q c) → filter p (range_with_len a n) ≡ filter q (range_with_len a n)

@@ -2,6 +2,7 @@ pub mod Command
 pub mod Fault
 pub mod Fields
 pub mod Inside
+pub mod Written
 pub mod Lines
 pub mod Options
 pub mod Records

@@ -1,78 +1,142 @@
 //! The lines of the answers.
-ghost use Rattle.std.specs.Prelude.{◌≡◌, ◌≤◌, ◌<◌, ◌+◌, ◌*◌, ◌++◌, ◌∷◌, [], length, codes, replicate, MatchResult};
-ghost use Rattle.std.specs.List.{flat_map};
-ghost use Rattle.arrayvec.specs.ArrayVec.{array_vec_len};
+ghost use Rattle.std.specs.Prelude.{◌≡◌, ◌≤◌, ◌<◌, ◌+◌, ◌*◌, ◌++◌, ◌∷◌, [], length, codes, decimal, MatchResult};
+ghost use Rattle.std.specs.Fmt.{signed_decimal};
 ghost use Rattle.tatp_rows.specs.Number.{number_text};
 ghost use Rattle.hlr_core.specs.Step.{edited_reply};
 ghost use Rattle.hlr.specs.Lines.{hex_digit, hexes_text, bytes_text, numbers_text, ok_line, refused_line, subscriber_line, numbers_line, access_line, total_line, cell_line, counted_line, number_line, place_text, region_line, taken_line, decimals_text, bounds_line, recut_line, row_reply_line, reply_line};
 
 use arrayvec::ArrayVec;
 use hlr_core::Reply;
-use itoa::{Buffer, Integer};
+use itoa::write_digits;
 use part_table::{Bounds, Place, Region};
+use std::marker::Model;
 use tatp_actions::RowReply;
 use tatp_rows::{Letters, Number, Refusal, Subscriber};
 
-/// A line while it is built. It takes no memory: its 256 bytes lie in the value itself.
-pub type Line = ArrayVec<u8, 256>;
+/// How many bytes a line has room for: all lines of a report of the cells fit.
+pub const ROOM: usize = 4096;
+
+/// A line while it is built, or several that go out together. It is built from its last byte to its first, so that each
+/// number's digits are written where they stay: what is put stands in front of what is there. It takes no memory: its
+/// bytes lie in the value itself.
+#[derive(Drop)]
+pub struct Line {
+    bytes: [u8; ROOM],
+    start: usize,
+}
+
+impl Model for Line {
+    ghost use Rattle.std.specs.Prelude.{◌≤◌, drop};
+    ghost use Rattle.hlr.specs.Written.{Written};
+    ghost use Rattle.hlr.specs.declared.lines.TheConstants.{ROOM};
+
+    ghost Value = { Written };
+
+    ghost view = { λ l. record { items = drop l.start l.bytes } };
+
+    ghost invariant = { λ l. l.start ≤ ROOM };
+}
 
 /// An empty line.
 pub fn empty_line() -> Line
     ensures { result.items ≡ [] }
 {
-    ArrayVec::new()
-}
-
-/// Appends bytes to a line.
-fn push_bytes(line: &mut Line, bytes: &[u8])
-    requires { array_vec_len line.old + length bytes.now ≤ 256 }
-    ensures bytes { line.new.items ≡ line.old.items ++ bytes.now }
-    ensures len { array_vec_len line.new ≡ array_vec_len line.old + length bytes.now }
-{
-    let fits = line.try_extend_from_slice(bytes).is_ok();
-    prove!(fits);
-}
-
-/// Appends a number in decimal, with `-` before it where it is negative.
-fn push_decimal<I: Integer>(line: &mut Line, n: I)
-    requires { array_vec_len line.old + I.MAX_STR_LEN ≤ 256 }
-    ensures bytes { line.new.items ≡ line.old.items ++ I.text n }
-    ensures len { array_vec_len line.new ≤ array_vec_len line.old + I.MAX_STR_LEN }
-{
-    let mut buffer = Buffer::new();
-    push_bytes(line, buffer.format(n).as_bytes());
-}
-
-/// Appends as many zeros as that.
-fn push_zeros(line: &mut Line, count: usize)
-    requires { array_vec_len line.old + count ≤ 256 }
-    ensures bytes { line.new.items ≡ line.old.items ++ replicate count 48 }
-    ensures len { array_vec_len line.new ≡ array_vec_len line.old + count }
-{
-    for _i in 0..count {
-        line.push(b'0');
+    Line {
+        bytes: [0; ROOM],
+        start: ROOM,
     }
 }
 
-/// Appends the 15 digits of a subscriber's number.
-fn push_number(line: &mut Line, number: Number)
-    requires { array_vec_len line.old + 35 ≤ 256 }
-    ensures bytes { line.new.items ≡ line.old.items ++ number_text number }
-    ensures len { array_vec_len line.new ≤ array_vec_len line.old + 35 }
-{
-    push_digits(line, number.value());
-}
+impl Line {
+    /// What was put.
+    #[inline(always)]
+    pub fn as_slice(&self) -> &[u8]
+        ensures value { result.now ≡ self.now.items }
+        ensures fits { length result.now ≤ ROOM }
+    {
+        &self.bytes[self.start..]
+    }
 
-/// Appends the digits of a number, 15 at least.
-fn push_digits(line: &mut Line, number: u64)
-    requires { array_vec_len line.old + 35 ≤ 256 }
-    ensures bytes { line.new.items ≡ line.old.items ++ number_text number }
-    ensures len { array_vec_len line.new ≤ array_vec_len line.old + 35 }
-{
-    let mut buffer = Buffer::new();
-    let digits = buffer.format(number).as_bytes();
-    push_zeros(line, 15usize.saturating_sub(digits.len()));
-    push_bytes(line, digits);
+    /// Takes all away.
+    #[inline(always)]
+    pub fn clear(&mut self)
+        ensures { self.new.items ≡ [] }
+    {
+        self.start = ROOM;
+    }
+
+    /// Puts bytes in front.
+    #[inline(always)]
+    pub fn put(&mut self, bytes: &[u8])
+        requires { length self.old.items + length bytes.now ≤ ROOM }
+        ensures bytes { self.new.items ≡ bytes.now ++ self.old.items }
+        ensures len { length self.new.items ≡ length bytes.now + length self.old.items }
+    {
+        let end = self.start;
+        let start = end - bytes.len();
+        self.bytes[start..end].copy_from_slice(bytes);
+        self.start = start;
+    }
+
+    /// Puts a byte in front.
+    #[inline(always)]
+    fn put_byte(&mut self, byte: u8)
+        requires { length self.old.items < ROOM }
+        ensures bytes { self.new.items ≡ byte ∷ self.old.items }
+        ensures len { length self.new.items ≡ length self.old.items + 1 }
+    {
+        let start = self.start - 1;
+        self.bytes[start] = byte;
+        self.start = start;
+    }
+
+    /// Puts a word of a fixed length in front, byte by byte, so that it is compiled into stores.
+    #[inline(always)]
+    fn put_word<const N: usize>(&mut self, word: &[u8; N])
+        requires { length self.old.items + N ≤ ROOM }
+        ensures bytes { self.new.items ≡ word.now ++ self.old.items }
+        ensures len { length self.new.items ≡ N + length self.old.items }
+    {
+        for at in (0..N).rev() {
+            self.put_byte(word[at]);
+        }
+    }
+
+    /// Puts a number in decimal in front.
+    #[inline(always)]
+    fn put_decimal(&mut self, n: u64)
+        requires { length self.old.items + 20 ≤ ROOM }
+        ensures bytes { self.new.items ≡ decimal n ++ self.old.items }
+        ensures len { length self.new.items ≤ length self.old.items + 20 }
+    {
+        self.start = write_digits(n, &mut self.bytes, self.start);
+    }
+
+    /// Puts a number in decimal in front, with `-` before it where it is negative.
+    #[inline(always)]
+    fn put_signed(&mut self, n: i64)
+        requires { length self.old.items + 21 ≤ ROOM }
+        ensures bytes { self.new.items ≡ signed_decimal n ++ self.old.items }
+        ensures len { length self.new.items ≤ length self.old.items + 21 }
+    {
+        self.put_decimal(n.unsigned_abs());
+        if n < 0 {
+            self.put_byte(b'-');
+        }
+    }
+
+    /// Puts the digits of a number in front, 15 at least: zeros, and the number's own over the last of them.
+    #[inline(always)]
+    fn put_number(&mut self, n: u64)
+        requires { length self.old.items + 20 ≤ ROOM }
+        ensures bytes { self.new.items ≡ number_text n ++ self.old.items }
+        ensures len { length self.new.items ≤ length self.old.items + 20 }
+    {
+        let end = self.start;
+        self.put(b"000000000000000");
+        let first = write_digits(n, &mut self.bytes, end);
+        self.start = first.min(self.start);
+    }
 }
 
 /// The hexadecimal digit of a byte's lowest four bits, in lower case.
@@ -87,26 +151,26 @@ fn hex_digit(byte: u8) -> u8
     }
 }
 
-/// Appends one hexadecimal digit for each number.
-fn push_hexes(line: &mut Line, digits: &[u8])
-    requires { array_vec_len line.old + length digits.now ≤ 256 }
-    ensures bytes { line.new.items ≡ line.old.items ++ hexes_text digits.now }
-    ensures len { array_vec_len line.new ≡ array_vec_len line.old + length digits.now }
+/// Puts one hexadecimal digit for each number in front.
+fn put_hexes(line: &mut Line, digits: &[u8])
+    requires { length line.old.items + length digits.now ≤ ROOM }
+    ensures bytes { line.new.items ≡ hexes_text digits.now ++ line.old.items }
+    ensures len { length line.new.items ≡ length digits.now + length line.old.items }
 {
-    for digit in digits {
-        line.push(hex_digit(*digit));
+    for at in (0..digits.len()).rev() {
+        line.put_byte(hex_digit(digits[at]));
     }
 }
 
-/// Appends two hexadecimal digits for each byte.
-fn push_pairs(line: &mut Line, bytes: &[u8])
-    requires { array_vec_len line.old + 2 * length bytes.now ≤ 256 }
-    ensures bytes { line.new.items ≡ line.old.items ++ bytes_text bytes.now }
-    ensures len { array_vec_len line.new ≡ array_vec_len line.old + 2 * length bytes.now }
+/// Puts two hexadecimal digits for each byte in front.
+fn put_pairs(line: &mut Line, bytes: &[u8])
+    requires { length line.old.items + 2 * length bytes.now ≤ ROOM }
+    ensures bytes { line.new.items ≡ bytes_text bytes.now ++ line.old.items }
+    ensures len { length line.new.items ≡ 2 * length bytes.now + length line.old.items }
 {
-    for byte in bytes {
-        line.push(hex_digit(*byte / 16));
-        line.push(hex_digit(*byte));
+    for at in (0..bytes.len()).rev() {
+        line.put_byte(hex_digit(bytes[at]));
+        line.put_byte(hex_digit(bytes[at] / 16));
     }
 }
 
@@ -115,7 +179,7 @@ pub fn build_ok(line: &mut Line)
     ensures { line.new.items ≡ ok_line }
 {
     line.clear();
-    push_bytes(line, b"ok\n");
+    line.put_word(b"ok\n");
 }
 
 /// Builds the line of a refusal.
@@ -124,11 +188,11 @@ pub fn build_refused(line: &mut Line, why: Refusal)
     ensures { line.new.items ≡ refused_line why }
 {
     line.clear();
-    push_bytes(line, b"refused,");
-    push_decimal(line, why.code());
-    push_bytes(line, b",");
-    push_bytes(line, why.name().as_bytes());
-    push_bytes(line, b"\n");
+    line.put_byte(b'\n');
+    line.put(why.name().as_bytes());
+    line.put_byte(b',');
+    line.put_decimal(u64::from(why.code()));
+    line.put_word(b"refused,");
 }
 
 /// Builds the line of a Subscriber row.
@@ -137,32 +201,32 @@ pub fn build_subscriber(line: &mut Line, row: &Subscriber)
     ensures { line.new.items ≡ subscriber_line row.now }
 {
     line.clear();
-    push_bytes(line, b"subscriber,");
-    push_decimal(line, row.s_id());
-    push_bytes(line, b",");
-    push_number(line, row.sub_nbr());
-    push_bytes(line, b",");
-    push_hexes(line, &row.bits());
-    push_bytes(line, b",");
-    push_hexes(line, &row.hexes());
-    push_bytes(line, b",");
-    push_pairs(line, &row.bytes());
-    push_bytes(line, b",");
-    push_decimal(line, row.msc_location());
-    push_bytes(line, b",");
-    push_decimal(line, row.vlr_location());
-    push_bytes(line, b"\n");
+    line.put_byte(b'\n');
+    line.put_decimal(u64::from(row.vlr_location()));
+    line.put_byte(b',');
+    line.put_decimal(u64::from(row.msc_location()));
+    line.put_byte(b',');
+    put_pairs(line, &row.bytes());
+    line.put_byte(b',');
+    put_hexes(line, &row.hexes());
+    line.put_byte(b',');
+    put_hexes(line, &row.bits());
+    line.put_byte(b',');
+    line.put_number(row.sub_nbr().value());
+    line.put_byte(b',');
+    line.put_decimal(u64::from(row.s_id()));
+    line.put_word(b"subscriber,");
 }
 
-/// Appends the numbers of a list, each after a comma.
-fn push_numbers(line: &mut Line, numbers: &[Number])
-    requires { array_vec_len line.old + 36 * length numbers.now ≤ 256 }
-    ensures bytes { line.new.items ≡ line.old.items ++ numbers_text numbers.now }
-    ensures len { array_vec_len line.new ≤ array_vec_len line.old + 36 * length numbers.now }
+/// Puts the numbers of a list in front, each after a comma.
+fn put_numbers(line: &mut Line, numbers: &[Number])
+    requires { length line.old.items + 21 * length numbers.now ≤ ROOM }
+    ensures bytes { line.new.items ≡ numbers_text numbers.now ++ line.old.items }
+    ensures len { length line.new.items ≤ length line.old.items + 21 * length numbers.now }
 {
-    for number in numbers {
-        push_bytes(line, b",");
-        push_number(line, *number);
+    for at in (0..numbers.len()).rev() {
+        line.put_number(numbers[at].value());
+        line.put_byte(b',');
     }
 }
 
@@ -172,9 +236,9 @@ pub fn build_numbers(line: &mut Line, numbers: &ArrayVec<Number, 3>)
     ensures { line.new.items ≡ numbers_line numbers.now.items }
 {
     line.clear();
-    push_bytes(line, b"numbers");
-    push_numbers(line, numbers.as_slice());
-    push_bytes(line, b"\n");
+    line.put_byte(b'\n');
+    put_numbers(line, numbers.as_slice());
+    line.put_word(b"numbers");
 }
 
 /// Builds the line of an access: data1 to data4.
@@ -183,15 +247,15 @@ pub fn build_access(line: &mut Line, data1: u8, data2: u8, data3: Letters<3>, da
     ensures { line.new.items ≡ access_line data1 data2 data3 data4 }
 {
     line.clear();
-    push_bytes(line, b"access,");
-    push_decimal(line, data1);
-    push_bytes(line, b",");
-    push_decimal(line, data2);
-    push_bytes(line, b",");
-    push_bytes(line, &data3.bytes());
-    push_bytes(line, b",");
-    push_bytes(line, &data4.bytes());
-    push_bytes(line, b"\n");
+    line.put_byte(b'\n');
+    line.put(&data4.bytes());
+    line.put_byte(b',');
+    line.put(&data3.bytes());
+    line.put_byte(b',');
+    line.put_decimal(u64::from(data2));
+    line.put_byte(b',');
+    line.put_decimal(u64::from(data1));
+    line.put_word(b"access,");
 }
 
 /// Builds the line of a word, which ends with a comma, and a count.
@@ -201,66 +265,69 @@ pub fn build_total(line: &mut Line, word: &[u8], count: u64)
     ensures { line.new.items ≡ total_line word.now count }
 {
     line.clear();
-    push_bytes(line, word);
-    push_decimal(line, count);
-    push_bytes(line, b"\n");
+    line.put_byte(b'\n');
+    line.put_decimal(count);
+    line.put(word);
 }
 
-/// Builds the line of a cell: its published and its unposted count.
+/// Puts the line of a cell in front: its published and its unposted count.
 #[tactic(auto, unfolding(crate::specs::Lines::cell_line))]
-pub fn build_cell(line: &mut Line, cell: u64, published: i64, unposted: i64)
-    ensures { line.new.items ≡ cell_line cell published unposted }
+pub fn put_cell(line: &mut Line, cell: u64, published: i64, unposted: i64)
+    requires { length line.old.items + 70 ≤ ROOM }
+    ensures bytes { line.new.items ≡ cell_line cell published unposted ++ line.old.items }
+    ensures len { length line.new.items ≤ length line.old.items + 70 }
 {
-    line.clear();
-    push_bytes(line, b"cell,");
-    push_decimal(line, cell);
-    push_bytes(line, b",");
-    push_decimal(line, published);
-    push_bytes(line, b",");
-    push_decimal(line, unposted);
-    push_bytes(line, b"\n");
+    line.put_byte(b'\n');
+    line.put_signed(unposted);
+    line.put_byte(b',');
+    line.put_signed(published);
+    line.put_byte(b',');
+    line.put_decimal(cell);
+    line.put_word(b"cell,");
 }
 
-/// Builds the line of a cell counted over the rows.
+/// Puts the line of a cell counted over the rows in front.
 #[tactic(auto, unfolding(crate::specs::Lines::counted_line))]
-pub fn build_counted(line: &mut Line, cell: u64, count: u64)
-    ensures { line.new.items ≡ counted_line cell count }
+pub fn put_counted(line: &mut Line, cell: u64, count: u64)
+    requires { length line.old.items + 70 ≤ ROOM }
+    ensures bytes { line.new.items ≡ counted_line cell count ++ line.old.items }
+    ensures len { length line.new.items ≤ length line.old.items + 70 }
 {
-    line.clear();
-    push_bytes(line, b"cell,");
-    push_decimal(line, cell);
-    push_bytes(line, b",");
-    push_decimal(line, count);
-    push_bytes(line, b"\n");
+    line.put_byte(b'\n');
+    line.put_decimal(count);
+    line.put_byte(b',');
+    line.put_decimal(cell);
+    line.put_word(b"cell,");
 }
 
-/// Builds the line of a number and the subscriber who has it.
+/// Puts the line of a number and the subscriber who has it in front.
 #[tactic(auto, unfolding(crate::specs::Lines::number_line))]
-pub fn build_number(line: &mut Line, number: u64, s_id: u32)
-    ensures { line.new.items ≡ number_line (number, s_id) }
+pub fn put_pair(line: &mut Line, number: u64, s_id: u32)
+    requires { length line.old.items + 70 ≤ ROOM }
+    ensures bytes { line.new.items ≡ number_line (number, s_id) ++ line.old.items }
+    ensures len { length line.new.items ≤ length line.old.items + 70 }
 {
-    line.clear();
-    push_bytes(line, b"number,");
-    push_digits(line, number);
-    push_bytes(line, b",");
-    push_decimal(line, s_id);
-    push_bytes(line, b"\n");
+    line.put_byte(b'\n');
+    line.put_decimal(u64::from(s_id));
+    line.put_byte(b',');
+    line.put_number(number);
+    line.put_word(b"number,");
 }
 
-/// Appends a part or a loose piece, by its number.
-fn push_place(line: &mut Line, place: Place)
-    requires { array_vec_len line.old + 26 ≤ 256 }
-    ensures bytes { line.new.items ≡ line.old.items ++ place_text place }
-    ensures len { array_vec_len line.new ≤ array_vec_len line.old + 26 }
+/// Puts a part or a loose piece in front, by its number.
+fn put_place(line: &mut Line, place: Place)
+    requires { length line.old.items + 26 ≤ ROOM }
+    ensures bytes { line.new.items ≡ place_text place ++ line.old.items }
+    ensures len { length line.new.items ≤ length line.old.items + 26 }
 {
     match place {
         Place::Part(part) => {
-            push_bytes(line, b"part,");
-            push_decimal(line, part);
+            line.put_decimal(u64::from(part));
+            line.put_word(b"part,");
         }
         Place::Piece(piece) => {
-            push_bytes(line, b"piece,");
-            push_decimal(line, piece);
+            line.put_decimal(u64::from(piece));
+            line.put_word(b"piece,");
         }
     }
 }
@@ -271,12 +338,12 @@ pub fn build_region(line: &mut Line, region: &Region)
     ensures { line.new.items ≡ region_line region.now }
 {
     line.clear();
-    push_place(line, region.place);
-    push_bytes(line, b",");
-    push_decimal(line, region.lo);
-    push_bytes(line, b",");
-    push_decimal(line, region.hi);
-    push_bytes(line, b"\n");
+    line.put_byte(b'\n');
+    line.put_decimal(u64::from(region.hi));
+    line.put_byte(b',');
+    line.put_decimal(u64::from(region.lo));
+    line.put_byte(b',');
+    put_place(line, region.place);
 }
 
 /// Builds the line of a loose piece that a part took.
@@ -285,22 +352,23 @@ pub fn build_taken(line: &mut Line, piece: u8, part: u8)
     ensures { line.new.items ≡ taken_line piece part }
 {
     line.clear();
-    push_bytes(line, b"taken,");
-    push_decimal(line, piece);
-    push_bytes(line, b",");
-    push_decimal(line, part);
-    push_bytes(line, b"\n");
+    line.put_byte(b'\n');
+    line.put_decimal(u64::from(part));
+    line.put_byte(b',');
+    line.put_decimal(u64::from(piece));
+    line.put_word(b"taken,");
 }
 
-/// Appends bounds between parts, each after a comma. There are at most 15, and each has at most ten digits.
-fn push_bounds(line: &mut Line, bounds: &Bounds)
-    requires { array_vec_len line.old + 165 ≤ 256 }
-    ensures bytes { line.new.items ≡ line.old.items ++ decimals_text bounds.now }
-    ensures len { array_vec_len line.new ≤ array_vec_len line.old + 165 }
+/// Puts bounds between parts in front, each after a comma.
+fn put_bounds(line: &mut Line, bounds: &Bounds)
+    requires { length line.old.items + 315 ≤ ROOM }
+    ensures bytes { line.new.items ≡ decimals_text bounds.now ++ line.old.items }
+    ensures len { length line.new.items ≤ length line.old.items + 315 }
 {
-    for bound in bounds.list() {
-        push_bytes(line, b",");
-        push_decimal(line, *bound as u32);
+    let list = bounds.list();
+    for at in (0..list.len()).rev() {
+        line.put_decimal(list[at]);
+        line.put_byte(b',');
     }
 }
 
@@ -310,9 +378,9 @@ pub fn build_bounds(line: &mut Line, bounds: &Bounds)
     ensures { line.new.items ≡ bounds_line bounds.now }
 {
     line.clear();
-    push_bytes(line, b"bounds");
-    push_bounds(line, bounds);
-    push_bytes(line, b"\n");
+    line.put_byte(b'\n');
+    put_bounds(line, bounds);
+    line.put_word(b"bounds");
 }
 
 /// Builds the line of a re-cut: how many bounds were moved, or its refusal.

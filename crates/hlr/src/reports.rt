@@ -1,17 +1,18 @@
-//! The reports: their lines go out one by one, and then how many they are.
-ghost use Rattle.std.specs.Prelude.{◌≡◌, ◌+◌, ◌-◌, ◌<◌, ◌≤◌, min, true, length, pos, slice_index_or, OnOk, OnErr};
+//! The reports: their lines go out, and then how many they are.
+ghost use Rattle.std.specs.Prelude.{◌≡◌, ◌+◌, ◌-◌, ◌<◌, ◌≤◌, ◌&&◌, not, min, true, length, pos, slice_index, slice_index_or, OnOk, OnErr};
 ghost use Rattle.std.specs.List.{flat_map};
 ghost use Rattle.std.specs.Io.KnownBytes.{Appends};
 ghost use Rattle.tatp_actions.specs.Cell.{cell};
+ghost use Rattle.hlr_core.specs.Post.{is_zero};
 ghost use Rattle.hlr_core.specs.Store.{published, unposted};
 ghost use Rattle.hlr.specs.Sink.{AppendsFront};
 ghost use Rattle.hlr.specs.Lines.{number_line};
-ghost use Rattle.hlr.specs.Reports.{index_text, regions_text, scan_text, views_text};
+ghost use Rattle.hlr.specs.Reports.{cells_where, index_text, is_counted, is_standing, regions_text, rows_line, scan_text, standing_line, views_text};
 ghost use Rattle.hlr.specs.Text.{proposal_line};
-ghost use Rattle.hlr.specs.Inside.{cells_text, is_shown, shown_line, total_word};
+ghost use Rattle.hlr.specs.Inside.{cells_text, is_shown, shown_line, signed_at, total_word};
 
 use crate::lines::{
-    Line, build_bounds, build_cell, build_counted, build_number, build_region, build_total,
+    Line, build_bounds, build_region, build_total, put_cell, put_counted, put_pair,
 };
 use crate::sink::{Sink, Stalled, put_all};
 use hlr_core::Register;
@@ -41,33 +42,64 @@ fn count_at(counts: &[i64; CELLS as usize], cell: u8) -> i64
     counts[usize::from(cell)]
 }
 
-/// Builds the line of a cell, unless its counts are 0: then it has none, and the answer is false.
-fn build_shown(counts: &Counts<'_>, cell: u8, line: &mut Line) -> bool
-    requires { cell < CELLS }
-    ensures shown { result ≡ is_shown counts.now cell }
-    ensures line { result ≡ true → line.new.items ≡ shown_line counts.now cell }
+/// Whether something is published or unposted.
+#[inline(always)]
+fn stands(published: i64, unposted: i64) -> bool
+    ensures { result ≡ not (is_zero published && is_zero unposted) }
+{
+    !(published == 0 && unposted == 0)
+}
+
+/// Builds the lines of the cells of which something is published or unposted, by their numbers, and answers how many they are.
+fn build_standing(
+    published: &[i64; CELLS as usize],
+    unposted: &[i64; CELLS as usize],
+    line: &mut Line,
+) -> u64
+    ensures lines { line.new.items ≡ flat_map (standing_line (signed_at published.now) (signed_at unposted.now)) (cells_where (is_standing (signed_at published.now) (signed_at unposted.now))) }
+    ensures count { result ≡ length (cells_where (is_standing (signed_at published.now) (signed_at unposted.now))) }
+{
+    line.clear();
+    let mut lines = 0;
+    for cell in (0..CELLS).rev() {
+        let published = count_at(published, cell);
+        let unposted = count_at(unposted, cell);
+        if stands(published, unposted) {
+            put_cell(line, u64::from(cell), published, unposted);
+            lines += 1;
+        }
+    }
+    lines
+}
+
+/// Builds the lines of the cells that count some rows, by their numbers, and answers how many they are.
+fn build_counted(cells: &Cells, line: &mut Line) -> u64
+    ensures lines { line.new.items ≡ flat_map (rows_line (slice_index cells.now)) (cells_where (is_counted (slice_index cells.now))) }
+    ensures count { result ≡ length (cells_where (is_counted (slice_index cells.now))) }
+{
+    line.clear();
+    let mut lines = 0;
+    for cell in (0..CELLS).rev() {
+        let count = cells.get(cell);
+        if count != 0 {
+            put_counted(line, u64::from(cell), count);
+            lines += 1;
+        }
+    }
+    lines
+}
+
+/// Builds the lines of the cells that a report shows, and answers how many they are.
+fn build_cells(counts: &Counts<'_>, line: &mut Line) -> u64
+    ensures lines { line.new.items ≡ flat_map (shown_line counts.now) (cells_where (is_shown counts.now)) }
+    ensures count { result ≡ length (cells_where (is_shown counts.now)) }
 {
     match counts {
         Counts::Standing {
             published,
             unposted,
-        } => {
-            let published = count_at(published, cell);
-            let unposted = count_at(unposted, cell);
-            if published == 0 && unposted == 0 {
-                return false;
-            }
-            build_cell(line, u64::from(cell), published, unposted);
-            true
-        }
-        Counts::Rows(cells) => {
-            let count = cells.get(cell);
-            if count == 0 {
-                return false;
-            }
-            build_counted(line, u64::from(cell), count);
-            true
-        }
+        } => build_standing(published, unposted, line),
+        Counts::Rows(cells) => build_counted(cells, line),
     }
 }
 
@@ -83,8 +115,8 @@ fn total_word(counts: &Counts<'_>) -> &'static [u8]
 }
 
 /// Writes a report of the cells: a line for each cell with a count that isn't 0, by the cells' numbers, and then the
-/// line of how many they are. The line is the memory to build them in. Where the sink fails, a front of the report was
-/// taken.
+/// line of how many they are. The lines of all cells are handed on at once; the line is the memory to build them in. Where
+/// the sink fails, a front of the report was taken.
 pub fn write_cells<S: Sink>(
     counts: &Counts<'_>,
     line: &mut Line,
@@ -94,13 +126,8 @@ pub fn write_cells<S: Sink>(
     ensures err { OnErr result (AppendsFront (S.taken sink.old) (S.taken sink.new) (cells_text counts.now)) }
     ensures told { OnErr result (S.has_stalled sink.new ≡ true) }
 {
-    let mut lines = 0u64;
-    for cell in 0..CELLS {
-        if build_shown(counts, cell, line) {
-            put_all(sink, line.as_slice())?;
-            lines += 1;
-        }
-    }
+    let lines = build_cells(counts, line);
+    put_all(sink, line.as_slice())?;
     build_total(line, total_word(counts), lines);
     put_all(sink, line.as_slice())
 }
@@ -145,17 +172,26 @@ pub fn write_scan<S: Sink>(
     write_cells(&Counts::Rows(&register.recount()), line, sink)
 }
 
-/// Writes the lines of some pairs of a number and a subscriber. Where the sink fails, a front of them was taken.
-fn write_pairs<S: Sink>(pairs: &[(u64, u32)], line: &mut Line, sink: &mut S) -> Result<(), Stalled>
-    ensures ok { OnOk result (Appends (S.taken sink.old) (S.taken sink.new) (flat_map number_line pairs.now)) }
-    ensures err { OnErr result (AppendsFront (S.taken sink.old) (S.taken sink.new) (flat_map number_line pairs.now)) }
+/// Builds the lines of a page's pairs of a number and a subscriber.
+fn build_page(page: &Page, line: &mut Line)
+    ensures { line.new.items ≡ flat_map number_line page.now.items }
+{
+    line.clear();
+    let pairs = page.as_slice();
+    for at in (0..pairs.len()).rev() {
+        let (number, s_id) = pairs[at];
+        put_pair(line, number, s_id);
+    }
+}
+
+/// Writes the lines of a page's pairs at once. Where the sink fails, a front of them was taken.
+fn write_page<S: Sink>(page: &Page, line: &mut Line, sink: &mut S) -> Result<(), Stalled>
+    ensures ok { OnOk result (Appends (S.taken sink.old) (S.taken sink.new) (flat_map number_line page.now.items)) }
+    ensures err { OnErr result (AppendsFront (S.taken sink.old) (S.taken sink.new) (flat_map number_line page.now.items)) }
     ensures told { OnErr result (S.has_stalled sink.new ≡ true) }
 {
-    for (number, s_id) in pairs {
-        build_number(line, *number, *s_id);
-        put_all(sink, line.as_slice())?;
-    }
-    Ok(())
+    build_page(page, line);
+    put_all(sink, line.as_slice())
 }
 
 /// The number after that of the last pair.
@@ -168,7 +204,8 @@ fn after_last(pairs: &[(u64, u32)]) -> u64
 }
 
 /// Writes the report of the numbers: a line for each pair of the index, by number, and then the line of how many they
-/// are. The line is the memory to build them in. Where the sink fails, a front of the report was taken.
+/// are. The lines of a page of pairs are handed on at once; the line is the memory to build them in. Where the sink fails,
+/// a front of the report was taken.
 #[inline(never)]
 pub fn write_index<S: Sink>(
     index: &NumberIndex,
@@ -183,7 +220,7 @@ pub fn write_index<S: Sink>(
     let mut page = Page::new();
     index.page_from(from, &mut page);
     while !page.is_empty() {
-        write_pairs(page.as_slice(), line, sink)?;
+        write_page(&page, line, sink)?;
         from = after_last(page.as_slice());
         index.page_from(from, &mut page);
     }

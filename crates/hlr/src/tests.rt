@@ -2,7 +2,7 @@
 //! records, and the options. Whole scripts lie in the repository's folder `examples`, each with its answers.
 use crate::fault::Fault;
 use crate::fields::{parse_byte, parse_bytes, parse_digits, parse_number};
-use crate::lines::{build_cell, build_counted, build_recut, build_reply, build_total, empty_line};
+use crate::lines::{build_recut, build_reply, build_total, empty_line, put_cell, put_counted};
 use crate::options::{Options, read_options};
 use crate::records::{Word, word_of};
 use crate::reports::{Counts, write_cells};
@@ -496,15 +496,11 @@ fn refused_memory_is_told(rt: HostRuntime) {
 #[test]
 fn lines_and_fields_are_as_told(rt: HostRuntime) {
     let mut line = empty_line();
-    build_cell(&mut line, 50, i64::MIN, -1);
+    put_cell(&mut line, 50, i64::MIN, -1);
+    put_counted(&mut line, 50, u64::MAX);
     assert_eq!(rt;
         line.as_slice(),
-        b"cell,50,-9223372036854775808,-1\n".as_slice()
-    );
-    build_counted(&mut line, 50, u64::MAX);
-    assert_eq!(rt;
-        line.as_slice(),
-        b"cell,50,18446744073709551615\n".as_slice()
+        b"cell,50,18446744073709551615\ncell,50,-9223372036854775808,-1\n".as_slice()
     );
     build_total(&mut line, b"views,", 51);
     assert_eq!(rt; line.as_slice(), b"views,51\n".as_slice());

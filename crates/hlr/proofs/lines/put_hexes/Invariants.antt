@@ -1,0 +1,9 @@
+use Rattle.std.proofs.Common.{◌≡◌, ◌++◌, ◌+◌, length, drop}
+use Rattle.hlr.specs.Lines.{hexes_text}
+use Rattle.hlr.proofs.lines.put_hexes.Given as goal
+
+abbrev pub invariant-loop-at : goal.invariant-loop-at
+invariant-loop-at l = record {
+  bytes : l.line.items ≡ hexes_text (drop l.at l.digits) ++ l.fn.line.items;
+  len : length l.line.items + l.at ≡ length l.digits + length l.fn.line.items;
+}

@@ -1,0 +1,9 @@
+use Rattle.std.proofs.Common.{◌≡◌, ◌≤◌, ◌++◌, ◌+◌, ◌*◌, length, drop}
+use Rattle.hlr.specs.Lines.{numbers_text}
+use Rattle.hlr.proofs.lines.put_numbers.Given as goal
+
+abbrev pub invariant-loop-at : goal.invariant-loop-at
+invariant-loop-at l = record {
+  bytes : l.line.items ≡ numbers_text (drop l.at l.numbers) ++ l.fn.line.items;
+  len : length l.line.items + 21 * l.at ≤ 21 * length l.numbers + length l.fn.line.items;
+}

@@ -1,0 +1,8 @@
+use Rattle.hlr.specs.Reports.{is_standing, standing_line}
+use Rattle.hlr.specs.Inside.{signed_at}
+use Rattle.hlr.proofs.ReportFacts.{AreBuilt}
+use Rattle.hlr.proofs.reports.build_standing.Given as goal
+
+abbrev pub invariant-loop-cell : goal.invariant-loop-cell
+invariant-loop-cell l =
+    AreBuilt (standing_line (signed_at l.fn.published) (signed_at l.fn.unposted)) (is_standing (signed_at l.fn.published) (signed_at l.fn.unposted)) l.cell l.line.items l.lines
