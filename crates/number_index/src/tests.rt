@@ -66,3 +66,77 @@ fn numbers(rt: HostRuntime) -> Result<(), Fail> {
     let added = add_all(&rt, &mut index, 608).and_then(|_| expect_pairs(&rt, &mut index));
     added
 }
+
+/// Numbers that pages are asked from: of pairs, between two, of the last one of 32 and of 608, behind these, and behind all.
+const STARTS: [u64; 12] = [
+    0,
+    1,
+    10,
+    155,
+    310,
+    311,
+    320,
+    325,
+    6_069,
+    6_070,
+    6_071,
+    u64::MAX,
+];
+
+/// Whether a page has the pairs (10 * s_id, s_id) of subscribers that follow one another.
+fn has_pairs_from(page: &Page, first: u64) -> bool {
+    let mut wanted = first;
+    for (number, s_id) in page.iter() {
+        if u64::from(*s_id) != wanted || *number != wanted.wrapping_mul(10) {
+            return false;
+        }
+        wanted = wanted.wrapping_add(1);
+    }
+    true
+}
+
+/// The subscriber behind the last one whom pages from a number on show, each page from behind the one before, until one is
+/// empty. None where they aren't the pairs of one subscriber after another, or don't end.
+fn end_of_pages(index: &NumberIndex, number: u64) -> Option<u64> {
+    let mut page = Page::new();
+    let mut from = number;
+    let mut next = number.div_ceil(10);
+    for _ in 0..=index.len() {
+        index.page_from(from, &mut page);
+        let Some(last) = page.last() else {
+            return Some(next);
+        };
+        from = last.0.wrapping_add(1);
+        if !has_pairs_from(&page, next) {
+            return None;
+        }
+        next = next.wrapping_add(page.len() as u64);
+    }
+    None
+}
+
+/// Asserts that pages show all of so many such pairs, from whichever number on.
+fn expect_pages(rt: &impl Abort, index: &NumberIndex, count: u64) {
+    assert_eq!(rt; index.len(), count);
+    for number in STARTS {
+        let end = count.max(number.div_ceil(10));
+        assert_eq!(rt; end_of_pages(index, number), Some(end), "from {number}");
+    }
+}
+
+/// Asserts the same of an index of so many pairs.
+fn expect_pages_of(rt: &(impl Abort + AllocGlobal), count: u32) -> Result<(), Fail> {
+    let mut index = NumberIndex::new(rt.alloc())?;
+    let added = add_all(rt, &mut index, count);
+    expect_pages(rt, &index, u64::from(count));
+    added
+}
+
+// No pair, one page, one that is full, two, and pages of leaves under two levels.
+#[test]
+fn pages(rt: HostRuntime) -> Result<(), Fail> {
+    for count in [0, 1, 32, 33, 608] {
+        expect_pages_of(&rt, count)?;
+    }
+    Ok(())
+}
