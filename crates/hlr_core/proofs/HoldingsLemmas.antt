@@ -1,9 +1,7 @@
 -- The place of a subscriber, as the number of the part whose box is looked up.
-use Rattle.std.proofs.Common.{◌≡◌, refl, sym, false, ℕ, ◌<◌, List, length, get_or, ◌⊎◌, inl, inr, Result, Ok, Err}
+use Rattle.std.proofs.Common.{◌≡◌, refl, sym, false, ℕ, ◌<◌, List, length, ◌⊎◌, inl, inr, Result, Ok, Err}
 use Rattle.std.specs.Prelude.{Some, Box}
 use Rattle.std.specs.declared.alloc.Global.{Global}
-use Rattle.tatp_actions.specs.Book.{IsRowsOf}
-use Rattle.part_table.proofs.BesideLemmas.{part_of_s_id}
 use Rattle.part_table.specs.Regions.{AreRegions, place_of}
 use Rattle.part_table.specs.declared.region.Place.TheVariants.{Part}
 use Rattle.part_table.specs.declared.region.Region.{Region}
@@ -15,7 +13,6 @@ use Rattle.hlr_core.specs.Step.{is_loose, MayAnswer}
 use Rattle.hlr_core.specs.Owners.{seen}
 use Rattle.hlr_core.proofs.BoxLemmas.{length-seen}
 use Rattle.hlr_core.proofs.StoreActLemmas.{acted_within}
-use Rattle.hlr_core.proofs.StoreLemmas.{part_owned}
 
 -- the number of a part as the index of its box
 pub place_at : (regions : List Region) (s_id s p i : ℕ) → s ≡ s_id → Some (Part p) ≡ place_of s regions → i ≡ p → place_of s_id regions ≡ Some (Part i)

@@ -1,28 +1,25 @@
 -- What is read of one part's rows is what all rows answer.
-use Rattle.std.proofs.Common.{◌≡◌, refl, sym, ap, ◌∙◌, ℕ, ◌+◌, ◌<◌, ◌≤◌, nat_le, List, [], ◌∷◌, length, get_or, subst, Option, Some, None, Bool, true, false, inl, inr, arith}
-use Rattle.std.specs.Prelude.{◌==◌, ◌&&◌, Result, Ok, Err, IfOk, IfErr}
+use Rattle.std.proofs.Common.{◌≡◌, refl, sym, ℕ, ◌+◌, nat_le, List, [], ◌∷◌, length, get_or, subst, Some, None, true, false, inl, inr, arith}
+use Rattle.std.specs.Prelude.{◌==◌, Result, Ok, Err, IfOk, IfErr}
 use Rattle.tatp_rows.specs.declared.refusal.Refusal.{Refusal}
 use Rattle.std.proofs.lemmas.Bool.Decides.{nat_tests}
 use Rattle.arrayvec.specs.ArrayVec.{ArrayVec, array_vec_len}
-use Rattle.tatp_rows.specs.Rows.{SubscriberRow, AccessInfoRow, is_between, is_start_time}
+use Rattle.tatp_rows.specs.Rows.{is_between}
 use Rattle.tatp_rows.specs.declared.ranges.TheConstants.{LAST_SUBSCRIBER}
 use Rattle.tatp_rows.specs.declared.refusal.Refusal.TheVariants as refusal
-use Rattle.tatp_rows.proofs.RowLemmas.{both_from}
 use Rattle.part_table.specs.Regions.{AreRegions, place_of}
 use Rattle.part_table.specs.Woven.{woven}
 use Rattle.part_table.specs.declared.region.Place.TheVariants.{Part}
 use Rattle.part_table.specs.declared.region.Region.{Region}
-use Rattle.tatp_actions.specs.Action.{IsOutcome, s_id_of, effect, is_in_range, subscriber_data, access_data, new_destination, destinations}
-use Rattle.tatp_actions.specs.Book.{Book, IsWithin, subscriber_at, access_at}
+use Rattle.tatp_actions.specs.Action.{IsOutcome, s_id_of, effect, is_in_range, new_destination}
+use Rattle.tatp_actions.specs.Book.{Book, IsWithin}
 use Rattle.tatp_actions.specs.declared.action.Action.{Action}
-use Rattle.tatp_actions.specs.declared.action.Action.TheVariants as action
 use Rattle.tatp_actions.specs.declared.action.RowReply.{RowReply}
 use Rattle.tatp_actions.specs.declared.action.RowReply.TheVariants as row_reply
 use Rattle.holding.specs.Held.{HoldingState}
-use Rattle.hlr_core.specs.Asked.{IsAnswered}
 use Rattle.hlr_core.specs.Held.{Owner, AreHeld}
 use Rattle.hlr_core.specs.Lent.{HasRowsOf, IsRead}
-use Rattle.hlr_core.specs.Step.{IsActionStep, given_number, is_loose, reply_of}
+use Rattle.hlr_core.specs.Step.{IsActionStep, given_number, reply_of}
 use Rattle.hlr_core.specs.Store.{Store}
 use Rattle.hlr_core.specs.declared.event.Reply.TheVariants as reply
 use Rattle.hlr_core.proofs.OwnerLemmas.{book_of_owners}
@@ -67,11 +64,12 @@ none_read book (n ∷ ns) none = absurd (grind (arith, nat_tests))
 pub read_step : (act : Action) (store : Store) (answer : RowReply) → given_number act ≡ None → IsRead act store answer → IsActionStep act store (reply_of answer) store
 read_step act store answer gives read = asked_step (is_in_range act) (Some act) act store store answer (reply_of answer) gives (refl, refl) read refl refl
 
--- what holds at Ok, and at Err, may be said in other words
-pub ok_so : {A : Type 0} {P Q : A → Type 0} (r : Result A Refusal) → ((x : A) → P x → Q x) → IfOk r P → IfOk r Q
-ok_so (Ok x) so holds = so x holds
-ok_so (Err why) so holds = holds
+-- and so is each answer to what is read, and each refusal
+module _ {A : Type 0} (act : Action) (store : Store) (gives : given_number act ≡ None) where
+  pub found_step : (reply_to : A → RowReply) (r : Result A Refusal) → IfOk r (λ x. IsRead act store (reply_to x)) → IfOk r (λ x. IsActionStep act store (reply_of (reply_to x)) store)
+  found_step reply_to (Ok x) read = read_step act store (reply_to x) gives read
+  found_step reply_to (Err why) none = none
 
-pub err_so : {A : Type 0} {P Q : Refusal → Type 0} (r : Result A Refusal) → ((why : Refusal) → P why → Q why) → IfErr r P → IfErr r Q
-err_so (Ok x) so holds = holds
-err_so (Err why) so holds = so why holds
+  pub refused_step : (r : Result A Refusal) → IfErr r (λ why. IsRead act store (row_reply.Refused why)) → IfErr r (λ why. IsActionStep act store (reply.Refused why) store)
+  refused_step (Ok x) none = none
+  refused_step (Err why) read = read_step act store (row_reply.Refused why) gives read

@@ -1,6 +1,6 @@
 -- What an event on rows asks for, once its plain numbers are checked, and what the owner of the rows answers. No clause of a
 -- public call cites this.
-use Rattle.std.specs.Prelude.{◌≡◌, ◌+◌, Bool, true, false, Option, Some, None, Result, Ok, Err, if◌then◌else◌}
+use Rattle.std.specs.Prelude.{⊤, ◌≡◌, ◌+◌, Bool, true, false, Option, Some, None, Result, Ok, Err, if◌then◌else◌}
 use Rattle.tatp_rows.specs.declared.refusal.Refusal.{Refusal}
 use Rattle.tatp_rows.specs.declared.refusal.Refusal.TheVariants as refusal
 use Rattle.tatp_rows.specs.declared.ranges.TheConstants.{LAST_SUBSCRIBER}
@@ -10,6 +10,18 @@ use Rattle.tatp_actions.specs.declared.action.Action.{Action}
 use Rattle.tatp_actions.specs.declared.action.RowReply.{RowReply}
 use Rattle.tatp_actions.specs.declared.action.RowReply.TheVariants as row_reply
 use Rattle.hlr_core.specs.Step.{given_number}
+use Rattle.hlr_core.specs.declared.event.Event.{Event}
+use Rattle.hlr_core.specs.declared.event.Event.TheVariants as event
+
+-- an event that changes rows
+abbrev pub IsChange : Event → Type 0
+IsChange (event.SubscriberData s_id) = ⊥
+IsChange (event.NewDestination s_id sf_type start_time end_time) = ⊥
+IsChange (event.AccessData s_id ai_type) = ⊥
+IsChange (event.Post part limit) = ⊥
+IsChange (event.Give part side at) = ⊥
+IsChange (event.Take piece part) = ⊥
+IsChange change = ⊤
 
 -- an action on the rows of one of all subscribers, that gives no number
 abbrev pub IsRowAction : Action → Type 0

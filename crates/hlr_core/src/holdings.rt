@@ -40,8 +40,8 @@ use tatp_actions::{CELLS, Cells, Edit, Part};
 use tatp_rows::{LAST_SUBSCRIBER, Number, Refusal};
 use view_board::{Board, Desk, Sight, WORDS};
 
-/// All owners' holdings, by the number of their part, the loose pieces, in the order of their regions, and the board that the
-/// holdings post to, with the desk of the slots that no part has: seen as the store of the definitions.
+/// All owners' holdings, by the number of their part, the loose pieces, in the order of their regions, and the board
+/// that the holdings post to, with the desk of the slots that no part has: seen as the store of the definitions.
 #[derive(Drop)]
 pub struct Holdings {
     regions: Regions,
@@ -70,8 +70,8 @@ impl Model for Holdings {
         × AreDesks (arc_value h.board) h.spare (seen desk_of h.holdings.items) × (PLACES ≤ vec_capacity h.pieces) × (PLACES ≤ vec_capacity h.holdings) };
 }
 
-/// A holding with no row, over a slot that is split off the desk of those that no part has yet. `Memory` where a growth was
-/// refused.
+/// A holding with no row, over a slot that is split off the desk of those that no part has yet. `Memory` where a growth
+/// was refused.
 fn opened(
     alloc: Global,
     board: &Board,
@@ -105,8 +105,8 @@ fn reply_of_posting(posted: Result<u8, Refusal>) -> Reply
 }
 
 impl Holdings {
-    /// Empty parts with their shares of all subscribers, no loose piece, and a board of these words, of which each part has one
-    /// slot; `Field` where a word passes `LIMIT`, else `Memory` where a growth was refused.
+    /// Empty parts with their shares of all subscribers, no loose piece, and a board of these words, of which each part
+    /// has one slot; `Field` where a word passes `LIMIT`, else `Memory` where a growth was refused.
     pub fn open(alloc: Global, parts: u8, width: u32, words: &[u64; WORDS]) -> Result<Self, Refusal>
         requires can { HasOpening parts width }
         requires level { AreLevel words.now }
@@ -132,8 +132,8 @@ impl Holdings {
         })
     }
 
-    /// Takes all apart, as they are: the holdings by the number of their part, the pieces in the order of their regions. It takes
-    /// no memory.
+    /// Takes all apart, as they are: the holdings by the number of their part, the pieces in the order of their
+    /// regions. It takes no memory.
     pub fn scatter(self) -> Scattered
         ensures store { store_of self.regions (seen of_holding result.holdings.items) (seen of_piece result.pieces.items) result.frame.spare (seen desk_of result.holdings.items) result.frame.width ≡ self }
         ensures held { AreHeld self.regions (seen of_holding result.holdings.items) (seen of_piece result.pieces.items) self.width }
@@ -161,8 +161,8 @@ impl Holdings {
         }
     }
 
-    /// All that is handed in, over these regions, each holding and piece put in its place. It takes no memory: two empty lists
-    /// have room for them.
+    /// All that is handed in, over these regions, each holding and piece put in its place. It takes no memory: two
+    /// empty lists have room for them.
     pub fn gathered(
         scattered: Scattered,
         regions: Regions,
@@ -287,8 +287,9 @@ impl Holdings {
         reply_of_posting(self.holdings[part as usize].post(&self.board, limit))
     }
 
-    /// A part gives the stretch on one side of `at` away, as a loose piece with the least free number; the answer is that
-    /// number, and where the piece begins and ends. `NoPart`, `OutOfRange`, `ManyPieces`, `Memory`; a refusal changes nothing.
+    /// A part gives the stretch on one side of `at` away, as a loose piece with the least free number; the answer is
+    /// that number, and where the piece begins and ends. `NoPart`, `OutOfRange`, `ManyPieces`, `Memory`; a refusal
+    /// changes nothing.
     pub fn give(&mut self, part: u64, side: Side, at: u64) -> Result<(u8, u32, u32), Refusal>
         ensures answer { MayAnswer (give_answer part side at self.old.regions) result }
         ensures after { self.new ≡ record self.old { regions = after_give part side at result self.old.regions } }
@@ -300,8 +301,8 @@ impl Holdings {
         self.regions.give(part, side, at)
     }
 
-    /// A part takes a loose piece that touches it; the answer is the side of the part on which it lies. `NoPiece`, `NoPart`,
-    /// `NotAdjacent`, `Memory`; a refusal changes nothing.
+    /// A part takes a loose piece that touches it; the answer is the side of the part on which it lies. `NoPiece`,
+    /// `NoPart`, `NotAdjacent`, `Memory`; a refusal changes nothing.
     pub fn take(&mut self, piece: u64, part: u64) -> Result<Side, Refusal>
         ensures answer { MayAnswer (take_answer piece part self.old.regions) result }
         ensures after { self.new ≡ record self.old { regions = after_take piece part result self.old.regions } }
@@ -316,7 +317,8 @@ impl Holdings {
         self.regions.take(piece, part)
     }
 
-    /// The cells as published: the sum of what the parts' desks have published. The desk of the other slots has a net of 0.
+    /// The cells as published: the sum of what the parts' desks have published. The desk of the other slots has a net
+    /// of 0.
     pub fn published(&self) -> [i64; CELLS as usize]
         ensures { (c : ℕ) → c < CELLS → slice_index_or result c (pos 0) ≡ published self.now c }
     {

@@ -39,8 +39,8 @@ impl Holdings {
         }
     }
 
-    /// The numbers to which a facility of a type in 1..=4 forwards a call that starts by one hour and ends after another:
-    /// `Moving`, `NoDestination`.
+    /// The numbers to which a facility of a type in 1..=4 forwards a call that starts by one hour and ends after
+    /// another: `Moving`, `NoDestination`.
     pub fn destinations(
         &self,
         s_id: u32,

@@ -9,10 +9,10 @@ use part_table::{CutMove, Side};
 use tatp_rows::Refusal;
 
 impl Holdings {
-    /// Moves the bounds between parts to these: each that differs by a give and a take. The answer is how many were moved.
-    /// `Field` where the bounds aren't strictly rising ones in 2..=16,777,216, one less than there are parts; then `Moving`
-    /// where a piece is loose; then `Memory`, after which the moves that were done stand, and where a take was refused its
-    /// piece is loose.
+    /// Moves the bounds between parts to these: each that differs by a give and a take. The answer is how many were
+    /// moved. `Field` where the bounds aren't strictly rising ones in 2..=16,777,216, one less than there are parts;
+    /// then `Moving` where a piece is loose; then `Memory`, after which the moves that were done stand, and where a
+    /// take was refused its piece is loose.
     pub fn recut_to(&mut self, bounds: &[u64]) -> Result<u8, Refusal>
         ensures { IsRecut bounds.now self.old result self.new }
     {

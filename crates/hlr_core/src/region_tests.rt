@@ -129,8 +129,8 @@ pub fn example_is_filled(register: &mut Register) -> Result<Option<usize>, Refus
     Ok(difference(register, &events, &want))
 }
 
-/// The first event that isn't replied to as it should, if there is one; what two calls answered; and whether all that was to
-/// be seen between them was right.
+/// The first event that isn't replied to as it should, if there is one; what two calls answered; and whether all that
+/// was to be seen between them was right.
 type Moved = (Option<usize>, [Reply; 2], bool);
 
 /// The subscriber's stretch becomes loose, and the other part takes it.
@@ -481,8 +481,8 @@ fn words_that_stand(rt: HostRuntime) -> Result<(), Fail> {
     Ok(())
 }
 
-/// Where a re-cut of three parts to 90 and 100 was refused memory: what takes the piece that is loose, if one is. None where
-/// the regions are such as it may not leave.
+/// Where a re-cut of three parts to 90 and 100 was refused memory: what takes the piece that is loose, if one is. None
+/// where the regions are such as it may not leave.
 fn left_over(register: &Register) -> Option<Option<Event>> {
     let untouched = [
         region(Part(0), 1, 41),

@@ -1,6 +1,7 @@
 //! The register: all rows under one roof, no number twice, and every cell as published with what is not posted yet.
 ghost use Rattle.std.specs.Prelude.{◌≡◌, ℕ, [], vec_len, vec_capacity, ◌<◌, ◌≤◌, ◌↔◌, ◌⊎◌, None, IfOk, IfErr, OnErr, MatchResult, slice_index, slice_index_or, ◌+◌, ℤ, pos, ◌+ℤ◌};
 ghost use Rattle.tatp_actions.specs.Cell.{cell};
+ghost use Rattle.hlr_core.specs.Asked.{IsChange};
 ghost use Rattle.hlr_core.specs.Index.{index_of};
 ghost use Rattle.hlr_core.specs.Kept.{IsSameUndivided};
 ghost use Rattle.hlr_core.specs.Recut.{IsRecut};
@@ -30,8 +31,8 @@ use tatp_actions::{CELLS, Cells, RowReply};
 use tatp_rows::{Access, Back, Number, Refusal, Subscriber};
 use view_board::{Sight, WORDS};
 
-/// A home location register, seen as the store of the definitions: its rows, the regions, the words of the board, what was
-/// seen of them, the slots of each part and the width of the zones.
+/// A home location register, seen as the store of the definitions: its rows, the regions, the words of the board, what
+/// was seen of them, the slots of each part and the width of the zones.
 ///
 /// Each event moves the store by one right step, and after it every cell as published plus its delta not posted yet
 /// is that cell counted over the rows.
@@ -95,8 +96,8 @@ fn edited_reply(done: Result<(), Refusal>) -> Reply
 }
 
 impl Register {
-    /// An empty register whose words are all 0, with so many parts that share the zones out. `Field` where parts isn't in 1..=16
-    /// or the width isn't in 1..=524,288; `Memory` where a growth was refused.
+    /// An empty register whose words are all 0, with so many parts that share the zones out. `Field` where parts isn't
+    /// in 1..=16 or the width isn't in 1..=524,288; `Memory` where a growth was refused.
     pub fn open(alloc: Global, parts: u8, width: u32) -> Result<Register, Refusal>
         ensures ok { IfOk result (λ register. register ≡ opening parts width) }
         ensures field { (result ≡ Err Refusal.Field) ↔ ¬ (HasOpening parts width) }
@@ -105,8 +106,9 @@ impl Register {
         Register::open_from(alloc, parts, width, &[0; WORDS])
     }
 
-    /// The same over words that stand already, in each slot and cell as much up as down, since of no rows nothing is published.
-    /// `Field` also where a slot's plus-word of a cell differs from its minus-word, or a word passes `LIMIT`.
+    /// The same over words that stand already, in each slot and cell as much up as down, since of no rows nothing is
+    /// published. `Field` also where a slot's plus-word of a cell differs from its minus-word, or a word passes
+    /// `LIMIT`.
     pub fn open_from(
         alloc: Global,
         parts: u8,
@@ -132,9 +134,9 @@ impl Register {
         })
     }
 
-    /// Takes the register apart: its holdings by the number of their part, its loose pieces in the order of their ranges, and
-    /// the frame. The index goes. It takes no memory. `gather` gives the register back, with its loose pieces numbered from 1 in
-    /// the order of their ranges, and can be refused for want of memory alone.
+    /// Takes the register apart: its holdings by the number of their part, its loose pieces in the order of their
+    /// ranges, and the frame. The index goes. It takes no memory. `gather` gives the register back, with its loose
+    /// pieces numbered from 1 in the order of their ranges, and can be refused for want of memory alone.
     pub fn scatter(self) -> Scattered
         ensures store { store_of self.regions (seen of_holding result.holdings.items) (seen of_piece result.pieces.items) result.frame.spare (seen desk_of result.holdings.items) result.frame.width ≡ self }
         ensures held { AreHeld self.regions (seen of_holding result.holdings.items) (seen of_piece result.pieces.items) self.width }
@@ -147,13 +149,15 @@ impl Register {
         holdings.scatter()
     }
 
-    /// Makes a register of parts, loose pieces and a frame, whatever was done to them: the regions are their ranges, numbered in
-    /// key order, and the index is that of their rows. No row is counted. All desks, the frame's too, are to be the frame's
-    /// board's and to have each slot once, and what the frame's desk has published of each cell is to be 0.
+    /// Makes a register of parts, loose pieces and a frame, whatever was done to them: the regions are their ranges,
+    /// numbered in key order, and the index is that of their rows. No row is counted. All desks, the frame's too, are
+    /// to be the frame's board's and to have each slot once, and what the frame's desk has published of each cell is to
+    /// be 0.
     ///
-    /// `NoPart` where there is no holding or more than 16, `ManyPieces` where there are more than 16 pieces, `Field` where a
-    /// width of zones isn't the frame's, `NotAdjacent` where the ranges leave a gap or overlap, `NumberTaken` where two rows
-    /// have one number, `Memory` where a growth was refused, before or after that: each hands all back as it came.
+    /// `NoPart` where there is no holding or more than 16, `ManyPieces` where there are more than 16 pieces, `Field`
+    /// where a width of zones isn't the frame's, `NotAdjacent` where the ranges leave a gap or overlap, `NumberTaken`
+    /// where two rows have one number, `Memory` where a growth was refused, before or after that: each hands all back
+    /// as it came.
     pub fn gather(alloc: Global, scattered: Scattered) -> Result<Register, Back<Scattered>>
         requires { MayGather (arc_value scattered.frame.board) scattered.frame.spare (unboxed scattered.holdings.items) }
         ensures gathered { IfOk result (λ register. (misfit scattered.frame.width (unboxed scattered.holdings.items) (unboxed scattered.pieces.items) ≡ None)
@@ -197,42 +201,64 @@ impl Register {
                 end_time,
             } => numbers_reply(self.destinations(s_id, sf_type, start_time, end_time)),
             Event::AccessData { s_id, ai_type } => access_reply(self.lend_access(s_id, ai_type)),
+            Event::Post { part, limit } => self.post(part, limit),
+            Event::Give { part, side, at } => self.give(part, side, at),
+            Event::Take { piece, part } => self.take(piece, part),
+            Event::UpdateSubscriber { .. }
+            | Event::UpdateLocation { .. }
+            | Event::InsertForwarding { .. }
+            | Event::DeleteForwarding { .. }
+            | Event::AddSubscriber(_)
+            | Event::AddAccess(_)
+            | Event::AddFacility(_)
+            | Event::SetActive { .. }
+            | Event::SetNumber { .. } => edited_reply(self.change(event)),
+        }
+    }
+
+    /// Does what an event asks for that changes rows.
+    fn change(&mut self, event: Event) -> Result<(), Refusal>
+        requires { IsChange event }
+        ensures { IsStep event self.old (edited_reply result) self.new }
+    {
+        match event {
             Event::UpdateSubscriber {
                 s_id,
                 sf_type,
                 bit_1,
                 data_a,
-            } => edited_reply(self.update_subscriber(s_id, sf_type, bit_1, data_a)),
+            } => self.update_subscriber(s_id, sf_type, bit_1, data_a),
             Event::UpdateLocation {
                 sub_nbr,
                 vlr_location,
-            } => edited_reply(self.update_location(sub_nbr, vlr_location)),
+            } => self.update_location(sub_nbr, vlr_location),
             Event::InsertForwarding {
                 sub_nbr,
                 sf_type,
                 start_time,
                 end_time,
                 numberx,
-            } => edited_reply(self.insert_forwarding(
-                sub_nbr, sf_type, start_time, end_time, numberx,
-            )),
+            } => self.insert_forwarding(sub_nbr, sf_type, start_time, end_time, numberx),
             Event::DeleteForwarding {
                 sub_nbr,
                 sf_type,
                 start_time,
-            } => edited_reply(self.delete_forwarding(sub_nbr, sf_type, start_time)),
-            Event::AddSubscriber(row) => edited_reply(self.add_subscriber(row)),
-            Event::AddAccess(row) => edited_reply(self.add_access(row)),
-            Event::AddFacility(row) => edited_reply(self.add_facility(row)),
+            } => self.delete_forwarding(sub_nbr, sf_type, start_time),
+            Event::AddSubscriber(row) => self.add_subscriber(row),
+            Event::AddAccess(row) => self.add_access(row),
+            Event::AddFacility(row) => self.add_facility(row),
             Event::SetActive {
                 s_id,
                 sf_type,
                 is_active,
-            } => edited_reply(self.set_active(s_id, sf_type, is_active)),
-            Event::SetNumber { s_id, sub_nbr } => edited_reply(self.set_number(s_id, sub_nbr)),
-            Event::Post { part, limit } => self.post(part, limit),
-            Event::Give { part, side, at } => self.give(part, side, at),
-            Event::Take { piece, part } => self.take(piece, part),
+            } => self.set_active(s_id, sf_type, is_active),
+            Event::SetNumber { s_id, sub_nbr } => self.set_number(s_id, sub_nbr),
+            Event::SubscriberData { .. }
+            | Event::NewDestination { .. }
+            | Event::AccessData { .. }
+            | Event::Post { .. }
+            | Event::Give { .. }
+            | Event::Take { .. } => unreachable!(),
         }
     }
 
@@ -260,8 +286,8 @@ impl Register {
         self.holdings.published()
     }
 
-    /// A sight of the board's words: those of slots that no part has as they are, each other one at least what was seen of it
-    /// before, at first its word at opening, and none past `LIMIT`. It takes no memory.
+    /// A sight of the board's words: those of slots that no part has as they are, each other one at least what was seen
+    /// of it before, at first its word at opening, and none past `LIMIT`. It takes no memory.
     pub fn look(&mut self) -> Sight
         ensures right { IsSightOf self.old result.words }
         ensures seen { self.new ≡ record self.old { sight = result.words } }
@@ -293,8 +319,8 @@ impl Register {
         self.holdings.regions()
     }
 
-    /// The bounds between zones that would give each part about its share of the rows, by what is published of the zones;
-    /// where nothing is unposted, these are the counts of the rows. It takes no memory.
+    /// The bounds between zones that would give each part about its share of the rows, by what is published of the
+    /// zones; where nothing is unposted, these are the counts of the rows. It takes no memory.
     pub fn propose(&self) -> Bounds
         ensures value { result ≡ proposal (published_weights self.now) (parts_in self.now) self.now.width }
         ensures counted { ((c : ℕ) → c < CELLS → unposted self.now c ≡ pos 0)
@@ -304,10 +330,10 @@ impl Register {
         Regions::propose(&weights, self.holdings.parts(), self.holdings.width())
     }
 
-    /// Moves the bounds between parts to these: each that differs by a give and a take. The answer is how many were moved.
-    /// `Field` where the bounds aren't strictly rising ones in 2..=16,777,216, one less than there are parts; then `Moving`
-    /// where a piece is loose; then `Memory`, after which the moves that were done stand, and where a take was refused its
-    /// piece is loose. No row, no word and no pair of the index changes.
+    /// Moves the bounds between parts to these: each that differs by a give and a take. The answer is how many were
+    /// moved. `Field` where the bounds aren't strictly rising ones in 2..=16,777,216, one less than there are parts;
+    /// then `Moving` where a piece is loose; then `Memory`, after which the moves that were done stand, and where a
+    /// take was refused its piece is loose. No row, no word and no pair of the index changes.
     pub fn recut_to(&mut self, bounds: &[u64]) -> Result<u8, Refusal>
         ensures { IsRecut bounds.now self.old result self.new }
     {

@@ -1,4 +1,5 @@
-//! What no clause says: that registers can be had and asked, what they answer then, and what stands where a growth is refused.
+//! What no clause says: that registers can be had and asked, what they answer then, and what stands where a growth is
+//! refused.
 use super::*;
 use arrayvec::ArrayVec;
 use part_table::{Place, Region};
@@ -159,8 +160,8 @@ fn subject(register: &Register, event: &Event) -> Option<(u64, Option<Number>)> 
     }
 }
 
-/// What a register shows around an event that may want memory: its regions, its cells, the row of the subscriber and who has
-/// its number, who has the number that the event names, and how many numbers there are.
+/// What a register shows around an event that may want memory: its regions, its cells, the row of the subscriber and
+/// who has its number, who has the number that the event names, and how many numbers there are.
 fn shown(register: &mut Register, event: &Event) -> Option<Standing> {
     let (s_id, named) = subject(register, event)?;
     let row = register.apply(read(s_id));
@@ -228,8 +229,8 @@ fn has_run(register: &Register, second_added: bool) -> bool {
     }
 }
 
-/// Applies a list of events, and where memory was refused, the same list again, with all as before in between. None where it
-/// wasn't as before.
+/// Applies a list of events, and where memory was refused, the same list again, with all as before in between. None
+/// where it wasn't as before.
 fn run_of(register: &mut Register, events: &[Event]) -> Option<Result<Vec<Reply>, Refusal>> {
     match register.apply_all(events) {
         Err(Refusal::Memory) => {

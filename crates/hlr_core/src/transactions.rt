@@ -1,10 +1,14 @@
-//! The events on rows, as calls of their own: a read lends its row, and a change goes down to its row with no event, action or
-//! reply made of it.
-ghost use Rattle.std.specs.Prelude.{◌≡◌, IfOk, IfErr, Bool, Option};
+//! The events on rows, as calls of their own: a read lends its row, and a change goes down to its row with no event,
+//! action or reply made of it. Each refuses a field that is out of its range by `Field`, before it asks a row, and
+//! answers `Moving` where the subscriber lies in a loose piece.
+ghost use Rattle.std.specs.Prelude.{◌≡◌, ◌+◌, ℕ, Some, IfOk, IfErr, Bool, Option};
+ghost use Rattle.tatp_rows.specs.declared.ranges.TheConstants.{LAST_SUBSCRIBER};
 ghost use Rattle.hlr_core.specs.Asked.{IsAsked, IsRowAction, action_asked};
 ghost use Rattle.hlr_core.specs.Step.{IsStep, IsRowStep, edited_reply};
 ghost use Rattle.hlr_core.specs.declared.event.Event.TheVariants as event;
 ghost use Rattle.hlr_core.specs.declared.event.Reply.TheVariants as reply;
+ghost use Rattle.hlr_core.specs.Numbers.{owner_id};
+ghost use Rattle.tatp_actions.specs.Book.{IsWithin};
 ghost use Rattle.tatp_actions.specs.declared.action.Action.{Action};
 ghost use Rattle.tatp_actions.specs.declared.action.RowReply.TheVariants as row_reply;
 
@@ -19,36 +23,31 @@ use tatp_rows::{
 };
 
 impl Register {
-    /// GET_SUBSCRIBER_DATA (TATP, section 3.1), as `Event::SubscriberData`, but the row is lent from where it lies: `Field`,
-    /// `Moving`, `NoSubscriber`.
+    /// GET_SUBSCRIBER_DATA (TATP, section 3.1), as `Event::SubscriberData`, but the row is lent from where it lies:
+    /// `Field` where s_id isn't in 1..=16,777,216, `Moving`, `NoSubscriber`.
     pub fn lend_subscriber(&self, s_id: u64) -> Result<&Subscriber, Refusal>
         ensures row { IfOk result (λ row. IsStep (event.SubscriberData s_id) self.now (reply.Rows (row_reply.Row row.now)) self.now) }
         ensures refused { IfErr result (λ why. IsStep (event.SubscriberData s_id) self.now (reply.Refused why) self.now) }
     {
-        let Ok(s_id) = in_range(s_id, LAST_SUBSCRIBER) else {
-            return Err(Refusal::Field);
-        };
+        let s_id = in_range(s_id, LAST_SUBSCRIBER)?;
         self.holdings.lend_subscriber(s_id)
     }
 
-    /// GET_ACCESS_DATA (TATP, section 3.3), as `Event::AccessData`, but the row is lent from where it lies: `Field`, `Moving`,
-    /// `NoAccess`.
+    /// GET_ACCESS_DATA (TATP, section 3.3), as `Event::AccessData`, but the row is lent from where it lies: `Field`
+    /// where s_id isn't in 1..=16,777,216 or ai_type isn't in 1..=4, `Moving`, `NoAccess`.
     pub fn lend_access(&self, s_id: u64, ai_type: u64) -> Result<&Access, Refusal>
         ensures row { IfOk result (λ row. IsStep (event.AccessData s_id ai_type) self.now
             (reply.Rows (row_reply.AccessRow row.now.data1 row.now.data2 row.now.data3 row.now.data4)) self.now) }
         ensures refused { IfErr result (λ why. IsStep (event.AccessData s_id ai_type) self.now (reply.Refused why) self.now) }
     {
-        let Ok(s_id) = in_range(s_id, LAST_SUBSCRIBER) else {
-            return Err(Refusal::Field);
-        };
-        let Ok(ai_type) = byte_in_range(ai_type, 4) else {
-            return Err(Refusal::Field);
-        };
+        let s_id = in_range(s_id, LAST_SUBSCRIBER)?;
+        let ai_type = byte_in_range(ai_type, 4)?;
         self.holdings.lend_access(s_id, ai_type)
     }
 
-    /// GET_NEW_DESTINATION (TATP, section 3.2), as `Event::NewDestination`: the numbers, one to three, of forwardings that are
-    /// read where they lie: `Field`, `Moving`, `NoDestination`.
+    /// GET_NEW_DESTINATION (TATP, section 3.2), as `Event::NewDestination`: the numbers, one to three, of forwardings
+    /// that are read where they lie: `Field` where s_id isn't in 1..=16,777,216, sf_type isn't in 1..=4, or of the
+    /// hours start_time isn't 0, 8 or 16 or end_time isn't in 1..=24, `Moving`, `NoDestination`.
     pub fn destinations(
         &self,
         s_id: u64,
@@ -59,23 +58,18 @@ impl Register {
         ensures numbers { IfOk result (λ numbers. IsStep (event.NewDestination s_id sf_type start_time end_time) self.now (reply.Rows (row_reply.Numbers numbers)) self.now) }
         ensures refused { IfErr result (λ why. IsStep (event.NewDestination s_id sf_type start_time end_time) self.now (reply.Refused why) self.now) }
     {
-        let Ok(s_id) = in_range(s_id, LAST_SUBSCRIBER) else {
-            return Err(Refusal::Field);
-        };
-        let Ok(sf_type) = byte_in_range(sf_type, 4) else {
-            return Err(Refusal::Field);
-        };
+        let s_id = in_range(s_id, LAST_SUBSCRIBER)?;
+        let sf_type = byte_in_range(sf_type, 4)?;
         if !is_start_time(start_time) {
             return Err(Refusal::Field);
         }
-        let Ok(end_time) = byte_in_range(end_time, 24) else {
-            return Err(Refusal::Field);
-        };
+        let end_time = byte_in_range(end_time, 24)?;
         self.holdings
             .destinations(s_id, sf_type, start_time as u8, end_time)
     }
 
-    /// UPDATE_SUBSCRIBER_DATA (TATP, section 3.4), as `Event::UpdateSubscriber`: `Field`, `Moving`, `NoSubscriber`, `NoFacility`.
+    /// UPDATE_SUBSCRIBER_DATA (TATP, section 3.4), as `Event::UpdateSubscriber`: `Field` where s_id isn't in
+    /// 1..=16,777,216, sf_type in 1..=4, bit_1 in 0..=1 or data_a in 0..=255, `Moving`, `NoSubscriber`, `NoFacility`.
     pub fn update_subscriber(
         &mut self,
         s_id: u64,
@@ -88,15 +82,18 @@ impl Register {
         self.edit(checked::update_subscriber(s_id, sf_type, bit_1, data_a))
     }
 
-    /// UPDATE_LOCATION (TATP, section 3.5), as `Event::UpdateLocation`: `Field`, `NoNumber`, `Moving`.
+    /// UPDATE_LOCATION (TATP, section 3.5), as `Event::UpdateLocation`: `Field` where vlr_location isn't in
+    /// 1..=4,294,967,295, `NoNumber`, `Moving`.
     pub fn update_location(&mut self, sub_nbr: Number, vlr_location: u64) -> Result<(), Refusal>
         ensures { IsStep (event.UpdateLocation sub_nbr vlr_location) self.old (edited_reply result) self.new }
     {
-        let owner = self.index.find(sub_nbr);
+        let owner = self.owner(sub_nbr);
         self.edit(checked::update_location(owner, vlr_location))
     }
 
-    /// INSERT_CALL_FORWARDING (TATP, section 3.6), as `Event::InsertForwarding`: `Field`, `NoNumber`, `Moving`, `NoFacility`, `Exists`, `Memory`.
+    /// INSERT_CALL_FORWARDING (TATP, section 3.6), as `Event::InsertForwarding`: `Field` where sf_type isn't in 1..=4,
+    /// or of the hours start_time isn't 0, 8 or 16 or end_time isn't in 1..=24, `NoNumber`, `Moving`, `NoFacility`,
+    /// `Exists`, `Memory`.
     pub fn insert_forwarding(
         &mut self,
         sub_nbr: Number,
@@ -107,11 +104,12 @@ impl Register {
     ) -> Result<(), Refusal>
         ensures { IsStep (event.InsertForwarding sub_nbr sf_type start_time end_time numberx) self.old (edited_reply result) self.new }
     {
-        let owner = self.index.find(sub_nbr);
+        let owner = self.owner(sub_nbr);
         self.edit(checked::insert_forwarding(owner, sf_type, start_time, end_time, numberx))
     }
 
-    /// DELETE_CALL_FORWARDING (TATP, section 3.7), as `Event::DeleteForwarding`: `Field`, `NoNumber`, `Moving`, `NoForwarding`.
+    /// DELETE_CALL_FORWARDING (TATP, section 3.7), as `Event::DeleteForwarding`: `Field` where sf_type isn't in 1..=4
+    /// or the hour start_time isn't 0, 8 or 16, `NoNumber`, `Moving`, `NoForwarding`.
     pub fn delete_forwarding(
         &mut self,
         sub_nbr: Number,
@@ -120,7 +118,7 @@ impl Register {
     ) -> Result<(), Refusal>
         ensures { IsStep (event.DeleteForwarding sub_nbr sf_type start_time) self.old (edited_reply result) self.new }
     {
-        let owner = self.index.find(sub_nbr);
+        let owner = self.owner(sub_nbr);
         self.edit(checked::delete_forwarding(owner, sf_type, start_time))
     }
 
@@ -138,7 +136,8 @@ impl Register {
         self.edit(checked::add_facility(row))
     }
 
-    /// Switches a facility on or off, as `Event::SetActive`: `Field`, `Moving`, `NoFacility`.
+    /// Switches a facility on or off, as `Event::SetActive`: `Field` where s_id isn't in 1..=16,777,216, sf_type in
+    /// 1..=4 or is_active in 0..=1, `Moving`, `NoFacility`.
     pub fn set_active(&mut self, s_id: u64, sf_type: u64, is_active: u64) -> Result<(), Refusal>
         ensures { IsStep (event.SetActive s_id sf_type is_active) self.old (edited_reply result) self.new }
     {
@@ -150,9 +149,7 @@ impl Register {
         ensures { IsStep (event.AddSubscriber row) self.old (edited_reply result) self.new }
     {
         let s_id = row.s_id();
-        let Ok(part) = self.holdings.part_of(s_id) else {
-            return Err(Refusal::Moving);
-        };
+        let part = self.holdings.part_of(s_id)?;
         if self.holdings.number_in(part, s_id).is_some() {
             return Err(Refusal::Exists);
         }
@@ -167,17 +164,14 @@ impl Register {
         }
     }
 
-    /// Gives a subscriber another number, as `Event::SetNumber`: the pair in the index first, which may be refused, and then the
-    /// row, which can't be. `Field`, `Moving`, `NoSubscriber`, `NumberTaken`, `Memory`.
+    /// Gives a subscriber another number, as `Event::SetNumber`: the pair in the index first, which may be refused, and
+    /// then the row, which can't be. `Field` where s_id isn't in 1..=16,777,216, `Moving`, `NoSubscriber`,
+    /// `NumberTaken`, `Memory`.
     pub fn set_number(&mut self, s_id: u64, sub_nbr: Number) -> Result<(), Refusal>
         ensures { IsStep (event.SetNumber s_id sub_nbr) self.old (edited_reply result) self.new }
     {
-        let Ok(s_id) = in_range(s_id, LAST_SUBSCRIBER) else {
-            return Err(Refusal::Field);
-        };
-        let Ok(part) = self.holdings.part_of(s_id) else {
-            return Err(Refusal::Moving);
-        };
+        let s_id = in_range(s_id, LAST_SUBSCRIBER)?;
+        let part = self.holdings.part_of(s_id)?;
         let Some(old) = self.holdings.number_in(part, s_id) else {
             return Err(Refusal::NoSubscriber);
         };
@@ -185,6 +179,14 @@ impl Register {
         let _value = sub_nbr.value();
         self.index.rename(old, sub_nbr)?;
         self.holdings.edit_in(part, SetNumber { s_id, sub_nbr })
+    }
+
+    /// The subscriber who has a number, or `None`.
+    fn owner(&self, sub_nbr: Number) -> Option<u32>
+        ensures value { result ≡ owner_id self.now.book.subscribers sub_nbr }
+        ensures within { (s_id : ℕ) → result ≡ Some s_id → IsWithin 1 (LAST_SUBSCRIBER + 1) s_id }
+    {
+        self.index.find(sub_nbr)
     }
 
     /// Does an edit that gives no number, unless a field was refused.

@@ -1,1 +1,0 @@
-use Rattle.hlr_core.proofs.register.Register.apply.Goals as goal
