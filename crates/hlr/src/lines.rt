@@ -119,10 +119,11 @@ impl Line {
         ensures bytes { self.new.items ≡ signed_decimal n ++ self.old.items }
         ensures len { length self.new.items ≤ length self.old.items + 21 }
     {
-        self.put_decimal(n.unsigned_abs());
-        if n < 0 {
-            self.put_byte(b'-');
+        if n >= 0 {
+            return self.put_decimal(n as u64);
         }
+        self.put_decimal(n.unsigned_abs());
+        self.put_byte(b'-');
     }
 
     /// Puts the digits of a number in front, 15 at least: zeros, and the number's own over the last of them.

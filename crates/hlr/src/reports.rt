@@ -147,11 +147,9 @@ pub fn write_views<S: Sink>(
         (views_text (published register.now) (unposted register.now))) }
     ensures told { OnErr result (S.has_stalled sink.new ≡ true) }
 {
-    let published = register.published();
-    let unposted = register.unposted();
     let counts = Counts::Standing {
-        published: &published,
-        unposted: &unposted,
+        published: &register.published(),
+        unposted: &register.unposted(),
     };
     write_cells(&counts, line, sink)
 }

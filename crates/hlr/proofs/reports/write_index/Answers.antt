@@ -1,6 +1,4 @@
-use Rattle.std.proofs.Common.{ap, sym, ◌∙◌, subst}
-use Rattle.std.specs.List.{flat_map}
-use Rattle.hlr.specs.Lines.{number_line}
+use Rattle.std.proofs.Common.{◌∙◌}
 use Rattle.hlr.proofs.SinkFacts.{on_err_any}
 use Rattle.hlr.proofs.ReportFacts.{pairs_all, page_step, page_some, page_none, report_started, report_goes_on_by, report_stops_by, report_ends, report_ends_front}
 use Rattle.hlr.proofs.reports.write_index.Goals as goal
