@@ -91,7 +91,8 @@ impl Desk {
             slice_index_or sums.old c (pos 0) +ℤ (if owned_at self.now.view slot then slot_net self.now.view.numbers c slot else pos 0) }
         ensures sums { AreWithin (slot + 1) sums.new }
     {
-        if self.is_blank(slot) {
+        // With the flag asked for here it isn't asked for at each cell.
+        if !self.owned[usize::from(slot)] || self.is_blank(slot) {
             return;
         }
         for cell in 0..CELLS {

@@ -22,7 +22,7 @@ loop-cell-preserved c =
     let sum : to_z w128 (of_z w128 (to_z w128 (of_z w128 start) +ℤ to_z w128 (of_z w128 net))) ≡ start +ℤ net =
     rw (first, second) (to_z-of_z w128 _ (omega (arith, ints, low, high, own.low, own.high))) in
     record {
-      sums = rw c.from.ensures (one_filled _ _ _ _ cell _ before.sums (omega arith) (rw (same, sum) (ap (λ (z : ℤ). start +ℤ z) own.value)));
+      sums = rw c.from-in-loop-cell.ensures (one_filled _ _ _ _ cell _ before.sums (omega arith) (rw (same, sum) (ap (λ (z : ℤ). start +ℤ z) own.value)));
       low = λ k near. elim (cases_eq k cell) [
         | inl is ↦ rw (is, ← own.value) own.low
         | inr other ↦ before.low k (omega arith)
