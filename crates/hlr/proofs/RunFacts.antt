@@ -17,7 +17,7 @@ use Rattle.hlr.specs.declared.records.Report.{Report}
 use Rattle.hlr.specs.declared.records.Report.TheVariants as report
 use Rattle.hlr.specs.declared.records.Word.{Word}
 use Rattle.hlr.specs.declared.records.Word.TheVariants as word
-use Rattle.hlr.specs.Inside.{word_of_report, command_of_report}
+use Rattle.hlr.specs.Inside.{word_of_report, report_on}
 use Rattle.hlr.specs.Lines.{reply_line, refused_line}
 use Rattle.hlr_core.specs.declared.event.Reply.{Reply}
 use Rattle.hlr.specs.Sink.{AppendsFront}
@@ -264,6 +264,22 @@ named_text fields named before after text is answer = subst (λ (w : Option Word
 -- a number that isn't 1, as a test
 not_one : (n : ℕ) → (n ≡ 1 → ⊥) → (n == 1) ≡ false
 not_one n more = grind (arith, nat_tests)
+
+-- the command that a report is
+abbrev pub command_of_report : Report → Command
+command_of_report report.Views = command.Views
+command_of_report report.Scan = command.Scan
+command_of_report report.Index = command.Index
+command_of_report report.Regions = command.Regions
+command_of_report report.Propose = command.Propose
+
+-- the text of a report answers its command
+pub report_answers : (fields : List (List ℕ)) (asked : Report) (store : Store) → CommandText fields (Ok (command_of_report asked)) store (report_on asked store) store
+report_answers fields report.Views store = (refl, refl)
+report_answers fields report.Scan store = (refl, refl)
+report_answers fields report.Index store = (refl, refl)
+report_answers fields report.Regions store = (refl, refl)
+report_answers fields report.Propose store = (refl, refl)
 
 -- a record of one field, whose word is that of a report
 pub report_named : (fields : List (List ℕ)) (asked : Report) → Some (word_of_report asked) ≡ word_named (field fields 0) → length fields ≡ 1 → Ok (command_of_report asked) ≡ command_of fields

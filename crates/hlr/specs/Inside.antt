@@ -1,8 +1,10 @@
 -- What the calls that write reports promise each other; no clause of `run_alone` cites this.
 use Rattle.std.specs.Prelude.{ℕ, Bool, List, codes, ℤ, pos, slice_index, slice_index_or}
-use Rattle.hlr.specs.Reports.{report_text, cells_where, is_standing, standing_line, is_counted, rows_line}
-use Rattle.hlr.specs.Command.{Command}
-use Rattle.hlr.specs.Command.{Command as command}
+use Rattle.tatp_actions.specs.Cell.{cell}
+use Rattle.hlr_core.specs.Index.{index_of}
+use Rattle.hlr_core.specs.Store.{Store, published, unposted}
+use Rattle.hlr.specs.Reports.{report_text, cells_where, is_standing, standing_line, is_counted, rows_line, index_text, regions_text, scan_text, views_text}
+use Rattle.hlr.specs.Text.{proposal_line}
 use Rattle.hlr.specs.declared.records.Report.{Report}
 use Rattle.hlr.specs.declared.records.Report.TheVariants as report
 use Rattle.hlr.specs.declared.records.Word.{Word}
@@ -33,7 +35,7 @@ shown_line (counts.Rows cells) = rows_line (slice_index cells.now)
 abbrev pub cells_text : Counts → List ℕ
 cells_text counts = report_text (total_word counts) (shown_line counts) (cells_where (is_shown counts))
 
--- the word of a report, and the command that it is
+-- the word of a report
 abbrev pub word_of_report : Report → Word
 word_of_report report.Views = word.Views
 word_of_report report.Scan = word.Scan
@@ -41,9 +43,10 @@ word_of_report report.Index = word.Index
 word_of_report report.Regions = word.Regions
 word_of_report report.Propose = word.Propose
 
-abbrev pub command_of_report : Report → Command
-command_of_report report.Views = command.Views
-command_of_report report.Scan = command.Scan
-command_of_report report.Index = command.Index
-command_of_report report.Regions = command.Regions
-command_of_report report.Propose = command.Propose
+-- the text of a report on a store
+abbrev pub report_on : Report → Store → List ℕ
+report_on report.Views store = views_text (published store) (unposted store)
+report_on report.Scan store = scan_text (λ c. cell store.width c store.book)
+report_on report.Index store = index_text (index_of store.book.subscribers)
+report_on report.Regions store = regions_text store.regions
+report_on report.Propose store = proposal_line store

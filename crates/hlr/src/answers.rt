@@ -1,5 +1,5 @@
 //! The answers to reads, built from rows that the register lends.
-ghost use Rattle.std.specs.Prelude.{◌≡◌, ◌==◌, Some, IfOk, IfErr, length, if◌then◌else◌, Ok, Err};
+ghost use Rattle.std.specs.Prelude.{Some, IfOk, IfErr};
 ghost use Rattle.csv.specs.Records.{fields_of};
 ghost use Rattle.hlr.specs.Lines.{access_line, numbers_line, refused_line, subscriber_line};
 ghost use Rattle.hlr.specs.Records.{command_named};
@@ -8,21 +8,11 @@ ghost use Rattle.hlr.specs.Text.{CommandText};
 
 use crate::fields::parse_number;
 use crate::lines::{Line, build_access, build_numbers, build_refused, build_subscriber};
-use crate::records::field;
+use crate::records::{check_len, field};
 use arrayvec::ArrayVec;
 use csv::ByteRecord;
 use hlr_core::Register;
 use tatp_rows::{Access, Number, Refusal, Subscriber};
-
-/// `Syntax` unless a record has so many fields.
-pub fn check_len(row: &ByteRecord, len: usize) -> Result<(), Refusal>
-    ensures { result ≡ (if length (fields_of row.now) == len then Ok tt else Err Refusal.Syntax) }
-{
-    if row.len() == len {
-        return Ok(());
-    }
-    Err(Refusal::Syntax)
-}
 
 /// The row that `gsd,S` reads: `Syntax`, `Field`, `Moving`, `NoSubscriber`.
 fn find_subscriber<'a>(row: &ByteRecord, register: &'a Register) -> Result<&'a Subscriber, Refusal>

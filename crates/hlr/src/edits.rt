@@ -7,9 +7,8 @@ ghost use Rattle.hlr.specs.Records.{command_named};
 ghost use Rattle.hlr.specs.Text.{CommandText};
 ghost use Rattle.hlr.specs.declared.records.Word.TheVariants as word;
 
-use crate::answers::check_len;
 use crate::fields::{parse_byte, parse_bytes, parse_digits, parse_number};
-use crate::records::field;
+use crate::records::{check_len, field};
 use csv::ByteRecord;
 use hlr_core::Register;
 use tatp_rows::{Access, Facility, Letters, Number, Refusal, Subscriber};
@@ -36,7 +35,8 @@ pub fn update_location(row: &ByteRecord, register: &mut Register) -> Result<(), 
     register.update_location(sub_nbr, vlr_location)
 }
 
-/// Does `icf,N,sf_type,start_time,end_time,numberx`: `Syntax`, `Field`, `NoNumber`, `Moving`, `NoFacility`, `Exists`, `Memory`.
+/// Does `icf,N,sf_type,start_time,end_time,numberx`: `Syntax`, `Field`, `NoNumber`, `Moving`, `NoFacility`, `Exists`,
+/// `Memory`.
 pub fn insert_forwarding(row: &ByteRecord, register: &mut Register) -> Result<(), Refusal>
     ensures { CommandText (fields_of row.now) (command_named (Some word.Icf) (fields_of row.now)) register.old (reply_line (edited_reply result)) register.new }
 {
@@ -72,7 +72,7 @@ pub fn add_subscriber(row: &ByteRecord, register: &mut Register) -> Result<(), R
     let bytes = parse_bytes(field(row, 5))?;
     let msc_location = parse_number(field(row, 6))?;
     let vlr_location = parse_number(field(row, 7))?;
-    let row = Subscriber::try_new(
+    let subscriber = Subscriber::try_new(
         s_id,
         sub_nbr,
         bits,
@@ -81,7 +81,7 @@ pub fn add_subscriber(row: &ByteRecord, register: &mut Register) -> Result<(), R
         msc_location,
         vlr_location,
     )?;
-    register.add_subscriber(row)
+    register.add_subscriber(subscriber)
 }
 
 /// Does `acc,S,ai_type,data1,data2,data3,data4`: `Syntax`, `Field`, `Moving`, `NoSubscriber`, `Exists`, `Memory`.
@@ -95,11 +95,12 @@ pub fn add_access(row: &ByteRecord, register: &mut Register) -> Result<(), Refus
     let data2 = parse_byte(field(row, 4))?;
     let data3 = Letters::<3>::from_bytes(field(row, 5))?;
     let data4 = Letters::<5>::from_bytes(field(row, 6))?;
-    let row = Access::try_new(s_id, ai_type, data1, data2, data3, data4)?;
-    register.add_access(row)
+    let access = Access::try_new(s_id, ai_type, data1, data2, data3, data4)?;
+    register.add_access(access)
 }
 
-/// Does `fac,S,sf_type,is_active,error_cntrl,data_a,data_b`: `Syntax`, `Field`, `Moving`, `NoSubscriber`, `Exists`, `Memory`.
+/// Does `fac,S,sf_type,is_active,error_cntrl,data_a,data_b`: `Syntax`, `Field`, `Moving`, `NoSubscriber`, `Exists`,
+/// `Memory`.
 pub fn add_facility(row: &ByteRecord, register: &mut Register) -> Result<(), Refusal>
     ensures { CommandText (fields_of row.now) (command_named (Some word.Fac) (fields_of row.now)) register.old (reply_line (edited_reply result)) register.new }
 {
@@ -110,8 +111,8 @@ pub fn add_facility(row: &ByteRecord, register: &mut Register) -> Result<(), Ref
     let error_cntrl = parse_byte(field(row, 4))?;
     let data_a = parse_byte(field(row, 5))?;
     let data_b = Letters::<5>::from_bytes(field(row, 6))?;
-    let row = Facility::try_new(s_id, sf_type, is_active, error_cntrl, data_a, data_b)?;
-    register.add_facility(row)
+    let facility = Facility::try_new(s_id, sf_type, is_active, error_cntrl, data_a, data_b)?;
+    register.add_facility(facility)
 }
 
 /// Does `active,S,sf_type,is_active`: `Syntax`, `Field`, `Moving`, `NoFacility`.

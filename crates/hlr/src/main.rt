@@ -24,6 +24,7 @@ use sink::Out;
 use std::env::{self, Env};
 use std::io::{self, BufWriter};
 use std::process::ExitCode;
+use whole_records::BLOCK;
 
 /// Says a fault on standard error, and gives the program's status after it.
 fn fail(rt: &impl Eprint, fault: Fault) -> ExitCode {
@@ -75,10 +76,10 @@ fn options_of<R: AllocGlobal + Print + Eprint>(
     read_options(rt.alloc(), texts.as_slice()).map_err(|error| refuse(rt, &error))
 }
 
-/// Answers standard input on standard output. The answers so far are flushed before a read that may wait, and at the end,
-/// but after `Field` and `Write`.
+/// Answers standard input on standard output. The answers so far are flushed before a read that may wait, and at the
+/// end, but after `Field` and `Write`.
 fn answer_input<R: AllocGlobal + Input + Print>(rt: &R, options: Options) -> Result<(), Fault> {
-    let Ok(writer) = BufWriter::with_capacity(rt.alloc(), 65_536, io::writer(rt)) else {
+    let Ok(writer) = BufWriter::with_capacity(rt.alloc(), BLOCK, io::writer(rt)) else {
         return Err(Fault::Memory);
     };
     let mut sink = Out::new(writer);

@@ -6,9 +6,8 @@ ghost use Rattle.hlr.specs.Records.{command_named};
 ghost use Rattle.hlr.specs.Text.{CommandText};
 ghost use Rattle.hlr.specs.declared.records.Word.TheVariants as word;
 
-use crate::answers::check_len;
 use crate::fields::parse_number;
-use crate::records::{field, side_named};
+use crate::records::{check_len, field, side_named};
 use csv::ByteRecord;
 use hlr_core::{Event, Register, Reply};
 use tatp_rows::Refusal;

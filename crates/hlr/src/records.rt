@@ -1,5 +1,5 @@
 //! The words that records begin with, and their fields.
-ghost use Rattle.std.specs.Prelude.{◌≡◌, Some};
+ghost use Rattle.std.specs.Prelude.{◌≡◌, ◌==◌, Some, length, if◌then◌else◌, Ok, Err};
 ghost use Rattle.csv.specs.Records.{fields_of};
 ghost use Rattle.hlr.specs.Records.{field, word_named, side_named, bounds_of};
 
@@ -103,6 +103,16 @@ pub fn word_of(text: &[u8]) -> Option<Word>
         b"recut" => Word::Recut,
         _ => return None,
     })
+}
+
+/// `Syntax` unless a record has so many fields.
+pub fn check_len(row: &ByteRecord, len: usize) -> Result<(), Refusal>
+    ensures { result ≡ (if length (fields_of row.now) == len then Ok tt else Err Refusal.Syntax) }
+{
+    if row.len() == len {
+        return Ok(());
+    }
+    Err(Refusal::Syntax)
 }
 
 /// The field at a place, which is empty where there is none.

@@ -1,7 +1,7 @@
 //! A run: every record of a reader is answered.
 ghost use Rattle.std.specs.Prelude.{◌≡◌, ◌≢◌, ◌⊎◌, ◌↔◌, true, false, Some, Err, Ok, IfSome, OnOk, OnErr};
 ghost use Rattle.std.specs.Result.{is_err};
-ghost use Rattle.std.specs.Io.KnownBytes.{Keeps};
+ghost use Rattle.std.specs.Io.KnownBytes.{Appends, Keeps};
 ghost use Rattle.csv.specs.Reading.{Ready, default_config, reader_config, reader_state, reader_trim, source_of, strip_bom};
 ghost use Rattle.csv.specs.Records.{fields_of};
 ghost use Rattle.csv.specs.declared.parser.State.TheVariants as state;
@@ -11,7 +11,8 @@ ghost use Rattle.hlr.specs.WholeRecords.{inner_remaining};
 ghost use Rattle.hlr.specs.Records.{command_of, field, word_named};
 ghost use Rattle.hlr.specs.Text.{IsFlushedAfter, Ran, RecordCut, RecordDone};
 ghost use Rattle.hlr.specs.Command.{Command as command};
-ghost use Rattle.hlr.specs.Inside.{word_of_report};
+ghost use Rattle.hlr.specs.Inside.{report_on, word_of_report};
+ghost use Rattle.hlr.specs.Sink.{AppendsFront};
 ghost use Rattle.tatp_rows.specs.declared.refusal.Refusal.TheVariants as refusal;
 ghost use Rattle.hlr.specs.declared.fault.Fault.TheVariants as fault;
 
@@ -58,6 +59,26 @@ fn write_recut<S: Sink>(
     put_all(sink, line.as_slice())
 }
 
+/// Writes a report.
+fn write_report<S: Sink>(
+    report: Report,
+    register: &Register,
+    line: &mut Line,
+    sink: &mut S,
+) -> Result<(), Stalled>
+    ensures ok { OnOk result (Appends (S.taken sink.old) (S.taken sink.new) (report_on report register.now)) }
+    ensures err { OnErr result (AppendsFront (S.taken sink.old) (S.taken sink.new) (report_on report register.now)) }
+    ensures told { OnErr result (S.has_stalled sink.new ≡ true) }
+{
+    match report {
+        Report::Views => write_views(register, line, sink),
+        Report::Scan => write_scan(register, line, sink),
+        Report::Index => write_index(register.index(), line, sink),
+        Report::Regions => write_regions(register.regions(), line, sink),
+        Report::Propose => write_proposal(register, line, sink),
+    }
+}
+
 /// Answers a record whose word is that of a report: `Syntax` where it has a further field.
 fn answer_report<S: Sink>(
     report: Report,
@@ -75,13 +96,7 @@ fn answer_report<S: Sink>(
         build_refused(line, Refusal::Syntax);
         return put_all(sink, line.as_slice());
     }
-    match report {
-        Report::Views => write_views(register, line, sink),
-        Report::Scan => write_scan(register, line, sink),
-        Report::Index => write_index(register.index(), line, sink),
-        Report::Regions => write_regions(register.regions(), line, sink),
-        Report::Propose => write_proposal(register, line, sink),
-    }
+    write_report(report, register, line, sink)
 }
 
 /// Answers a record whose first field is this word.
@@ -145,8 +160,8 @@ fn answer<S: Sink>(
     }
 }
 
-/// Answers the record that was read last, and flushes the sink before a read that may wait: where no whole record is left
-/// of what was read. Where the sink fails, a front of the answer was taken.
+/// Answers the record that was read last, and flushes the sink before a read that may wait: where no whole record is
+/// left of what was read. Where the sink fails, a front of the answer was taken.
 fn answer_in_time<R: Read, S: Sink>(
     reader: &Reader<WholeRecords<R>>,
     row: &ByteRecord,
@@ -272,12 +287,12 @@ fn refuse_start<S: Sink>(sink: &mut S, why: Refusal) -> Result<(), Fault>
 /// header row, with any number of fields; a byte order mark before them counts for nothing. The number of parts and the
 /// zones' width are those of `Register::open`.
 ///
-/// `Field` where parts isn't in 1..=16 or width isn't in 1..=524,288, and then nothing is written. `Memory` where memory
-/// is wanted to start or to read a record. `Read` where the reader fails, or gives more than 1,048,576 records. `Write`
-/// where the sink fails.
+/// `Field` where parts isn't in 1..=16 or width isn't in 1..=524,288, and then nothing is written. `Memory` where
+/// memory is wanted to start or to read a record. `Read` where the reader fails, or gives more than 1,048,576 records.
+/// `Write` where the sink fails.
 ///
-/// Every answer is flushed before a read that may wait: the sink is flushed after each record behind which the reader has
-/// given no whole one so far, and at the end, but after `Field` and `Write`.
+/// Every answer is flushed before a read that may wait: the sink is flushed after each record behind which the reader
+/// has given no whole one so far, and at the end, but after `Field` and `Write`.
 pub fn run_alone<R: Read + Drop, S: Sink>(
     alloc: Global,
     reader: R,
