@@ -8,6 +8,8 @@
 //! of what comes home (`Register::gather`).
 #![tactic(auto)]
 
+#[cfg(test)]
+mod call_tests;
 mod checked;
 mod event;
 mod gather;

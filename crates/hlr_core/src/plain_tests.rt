@@ -13,13 +13,22 @@ use tatp_rows::{Number, Refusal};
 /// Events that are drawn by numbers that look random (xorshift), on the subscribers of a plain register. In each second
 /// stretch of 512 draws no part gives, so that the loose pieces become fewer.
 #[derive(Drop)]
-struct Draws {
+pub struct Draws {
     seed: u64,
     stride: u64,
     drawn: u64,
 }
 
 impl Draws {
+    /// Draws on subscribers that are so far apart.
+    pub fn new(seed: u64, stride: u64) -> Self {
+        Draws {
+            seed,
+            stride,
+            drawn: 0,
+        }
+    }
+
     /// The next number that looks random.
     fn next(&mut self) -> u64 {
         let mut next = self.seed;
@@ -257,7 +266,7 @@ impl Draws {
     }
 
     /// An event of any kind.
-    fn event(&mut self, plain: &Plain) -> Result<Event, Refusal> {
+    pub fn event(&mut self, plain: &Plain) -> Result<Event, Refusal> {
         self.drawn = self.drawn.wrapping_add(1);
         let gives = self.drawn % 1024 < 512;
         match self.next() % 32 {
@@ -516,11 +525,7 @@ fn difference_at(
     stride: u64,
 ) -> Result<Option<u32>, Refusal> {
     let mut trio = Trio::opened(alloc, parts, width, stride)?;
-    let mut draws = Draws {
-        seed: stride.wrapping_add(88_172_645_463_325_252),
-        stride,
-        drawn: 0,
-    };
+    let mut draws = Draws::new(stride.wrapping_add(88_172_645_463_325_252), stride);
     trio.difference(tally, &mut draws, 20_000)
 }
 
@@ -542,11 +547,7 @@ fn drawn_events(rt: HostRuntime) -> Result<(), Fail> {
 /// Asserts that a register of three parts replies to drawn events as the plain one does.
 fn expect_few_alike(rt: &impl Abort, register: &mut Register) -> Result<(), Refusal> {
     let mut plain = Plain::new(3, 8, 7);
-    let mut draws = Draws {
-        seed: 88_172_645_463_325_252,
-        stride: 7,
-        drawn: 0,
-    };
+    let mut draws = Draws::new(88_172_645_463_325_252, 7);
     let mut differs = None;
     for step in 0..400u32 {
         let event = draws.event(&plain)?;
