@@ -8,9 +8,9 @@ it after a store that is made for it, less those of the store alone.
 
 With --parts: `hlr` alone on the same loads with each number of parts, in turns, with zones so wide that the subscribers
 fill all 32, so each part has some. Seconds are of the user and of the processor, medians of the runs; instructions a record, by callgrind, are of a small load."""
-import hashlib, os, random, statistics, subprocess, sys
+import hashlib, itertools, os, random, statistics, subprocess, sys
 
-LOADS = [("1000", "400000"), ("50000", "500000"), ("100000", "0")]
+LOADS = [("1000", "400000"), ("50000", "500000"), ("100000", "0"), ("100000", "0", "drawn")]
 COUNTED = ("1000", "40000")
 ZONE = ["--zone", "4096"]
 ROOM = os.environ.get("ROOM", "/tmp/bench")
@@ -35,8 +35,22 @@ def write_load(load):
     """The file of a load's records, and how many there are."""
     records = f"{ROOM}/load_{'_'.join(load)}.csv"
     with open(records, "wb") as lines:
-        subprocess.run([sys.executable, "bench/tatp_load.py", *load], stdout=lines, stderr=subprocess.DEVNULL, check=True)
+        subprocess.run([sys.executable, "bench/tatp_load.py", *load[:2]], stdout=lines, stderr=subprocess.DEVNULL, check=True)
+    if load[2:] == ("drawn",):
+        draw(records)
     return records, sum(1 for _ in open(records, "rb"))
+
+
+def draw(records):
+    """Puts the subscribers of a file, each with its other rows, into a drawn order; the reports stay at its end."""
+    with open(records) as lines:
+        rows = lines.read().splitlines()
+    last = max(place for place, row in enumerate(rows) if row[:3] in ("sub", "acc", "fac", "icf")) + 1
+    starts = [place for place, row in enumerate(rows[:last]) if row[:3] == "sub"] + [last]
+    subscribers = [rows[start:end] for start, end in zip(starts, starts[1:])]
+    random.Random(7).shuffle(subscribers)
+    with open(records, "w") as lines:
+        lines.writelines(row + "\n" for row in itertools.chain(*subscribers, rows[last:]))
 
 
 def measure_loads(programs, runs):
