@@ -77,41 +77,8 @@ impl Desk {
         ensures sums { AreWithin (slot + 1) sums.new }
     {
         if self.owned[usize::from(slot)] {
-            self.add_words(slot, sums);
+            add_slot(&self.numbers, slot, sums);
         }
-    }
-
-    /// Does what `add_nets` says, by the slot's words unless all are 0. It is not inlined: the walk over the slots, of which a
-    /// desk has few, would be longer.
-    #[inline(never)]
-    fn add_words(&self, slot: u8, sums: &mut [i128; CELLS as usize])
-        requires slot { slot < SLOTS }
-        requires sums { AreWithin slot sums.old }
-        ensures added { (c : ℕ) → c < CELLS → slice_index_or sums.new c (pos 0) ≡
-            slice_index_or sums.old c (pos 0) +ℤ (if owned_at self.now.view slot then slot_net self.now.view.numbers c slot else pos 0) }
-        ensures sums { AreWithin (slot + 1) sums.new }
-    {
-        // With the flag asked for here it isn't asked for at each cell.
-        if !self.owned[usize::from(slot)] || self.is_blank(slot) {
-            return;
-        }
-        for cell in 0..CELLS {
-            sums[usize::from(cell)] += self.own_net(slot, cell);
-        }
-    }
-
-    /// Whether the numbers of all words of a slot are 0. It looks at all of them, which is faster than to stop at the first.
-    #[inline(always)]
-    fn is_blank(&self, slot: u8) -> bool
-        requires { slot < SLOTS }
-        ensures { result ≡ true → (c : ℕ) → c < CELLS → slot_net self.now.view.numbers c slot ≡ pos 0 }
-    {
-        let start = usize::from(slot) * SLOT_WORDS;
-        let mut bits = 0;
-        for word in start..start + SLOT_WORDS {
-            bits |= self.numbers[word];
-        }
-        bits == 0
     }
 
     /// The net of a slot in a cell, or 0 where the slot isn't the desk's.
@@ -126,9 +93,52 @@ impl Desk {
         if !self.owned[usize::from(slot)] {
             return 0;
         }
-        let plus = usize::from(slot) * SLOT_WORDS + usize::from(cell);
-        let minus = plus + usize::from(CELLS);
-        i128::from(self.numbers[plus]) - i128::from(self.numbers[minus])
+        net_in(&self.numbers, slot, cell)
+    }
+}
+
+/// The net of a slot in a cell.
+#[inline(always)]
+fn net_in(numbers: &[u64; WORDS], slot: u8, cell: u8) -> i128
+    requires slot { slot < SLOTS }
+    requires cell { cell < CELLS }
+    ensures value { result ≡ slot_net numbers.now cell slot }
+    ensures low { neg_ℤ (pos (2 ^ 64)) ≤ℤ result }
+    ensures high { result ≤ℤ pos (2 ^ 64) }
+{
+    let plus = usize::from(slot) * SLOT_WORDS + usize::from(cell);
+    let minus = plus + usize::from(CELLS);
+    i128::from(numbers[plus]) - i128::from(numbers[minus])
+}
+
+/// Whether all words of a slot are 0. It looks at all of them, which is faster than to stop at the first that isn't.
+#[inline(always)]
+fn is_blank(numbers: &[u64; WORDS], slot: u8) -> bool
+    requires { slot < SLOTS }
+    ensures { result ≡ true → (c : ℕ) → c < CELLS → slot_net numbers.now c slot ≡ pos 0 }
+{
+    let start = usize::from(slot) * SLOT_WORDS;
+    let mut bits = 0;
+    for word in start..start + SLOT_WORDS {
+        bits |= numbers[word];
+    }
+    bits == 0
+}
+
+/// Adds the nets of a slot to a sum for each cell, unless all its words are 0. It is not inlined: the walk over the slots, of
+/// which a desk has few, would be longer.
+#[inline(never)]
+fn add_slot(numbers: &[u64; WORDS], slot: u8, sums: &mut [i128; CELLS as usize])
+    requires slot { slot < SLOTS }
+    requires sums { AreWithin slot sums.old }
+    ensures added { (c : ℕ) → c < CELLS → slice_index_or sums.new c (pos 0) ≡ slice_index_or sums.old c (pos 0) +ℤ slot_net numbers.now c slot }
+    ensures sums { AreWithin (slot + 1) sums.new }
+{
+    if is_blank(numbers, slot) {
+        return;
+    }
+    for cell in 0..CELLS {
+        sums[usize::from(cell)] += net_in(numbers, slot, cell);
     }
 }
 

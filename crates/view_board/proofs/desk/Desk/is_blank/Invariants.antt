@@ -1,5 +1,0 @@
-use Rattle.std.proofs.Common.{ℕ, ◌<◌, ◌≤◌, get_or}
-use Rattle.view_board.proofs.desk.Desk.is_blank.Given as goal
-
-abbrev pub invariant-loop-word : goal.invariant-loop-word
-invariant-loop-word l = (w : ℕ) → l.start ≤ w → w < l.word → get_or l.self.view.numbers w 0 ≤ l.bits
