@@ -1,5 +1,5 @@
-//! What no clause says: readers and writers that are slow or fail, answers that come before a read may wait, the limit of
-//! records, and the options. Whole scripts lie in the repository's folder `examples`, each with its answers.
+//! What no clause says: readers and writers that are slow or fail, answers that come before a read may wait, the limit
+//! of records, and the options. Whole scripts lie in the repository's folder `examples`, each with its answers.
 use crate::fault::Fault;
 use crate::fields::{parse_byte, parse_bytes, parse_digits, parse_number};
 use crate::lines::{build_recut, build_reply, build_total, empty_line, put_cell, put_counted};
@@ -235,6 +235,53 @@ fn answers_come_before_a_read_may_wait(rt: HostRuntime) {
             );
         }
     }
+}
+
+/// How many bytes come in all, how many at most at a time, and how often the sink is flushed: behind each piece that
+/// ends a record, where a piece has at most 65,536 bytes, and at the end.
+const PIECES: [(usize, usize, u32); 12] = [
+    (12_288, usize::MAX, 2),
+    (12_288, 8_192, 3),
+    (12_288, 1_000, 14),
+    (12_288, 5, 769),
+    (65_536, usize::MAX, 2),
+    (65_552, usize::MAX, 3),
+    (147_456, usize::MAX, 4),
+    (147_456, 65_536, 4),
+    (147_456, 65_537, 4),
+    (147_456, 50_000, 4),
+    (147_456, 10_000, 16),
+    (147_456, 16, 9_217),
+];
+
+/// A record of 16 bytes, again and again.
+fn repeated(record: &[u8; 16]) -> [u8; 147_456] {
+    let mut text = [0; 147_456];
+    for (byte, letter) in text.iter_mut().zip(record.iter().cycle()) {
+        *byte = *letter;
+    }
+    text
+}
+
+/// Asserts how often the sink is flushed where a text of such records comes in pieces.
+fn expect_flushes(rt: &(impl Abort + AllocGlobal), text: &[u8]) {
+    let pending = Cell::new(false);
+    for (len, stride, flushes) in PIECES {
+        let mut tape = Tape::new(&pending);
+        let feed = Feed::new(&pending, &text[..len.min(text.len())], stride);
+        let done = answer_feed(rt, feed, &mut tape);
+        assert_eq!(rt;
+            (done, tape.taken, tape.flushes),
+            (Ok(()), (len as u64 / 16).wrapping_mul(18), flushes),
+            "{len} bytes, {stride} at a time"
+        );
+    }
+}
+
+#[test]
+fn answers_are_flushed_once_a_piece(rt: HostRuntime) {
+    expect_flushes(&rt, &repeated(b"xxxxxxxxxxxxxxx\n"));
+    expect_flushes(&rt, &repeated(b"xx,\"xxxxxxxxx\"\r\n"));
 }
 
 #[test]
@@ -509,13 +556,52 @@ fn lines_and_fields_are_as_told(rt: HostRuntime) {
     build_recut(&mut line, Ok(15));
     assert_eq!(rt; line.as_slice(), b"recut,15\n".as_slice());
     assert_eq!(rt; word_of(b"recut"), Some(Word::Recut));
-    assert_eq!(rt; parse_number(b"18446744073709551615"), Ok(u64::MAX));
     assert_eq!(rt; parse_byte(b"00255"), Ok(255));
     assert_eq!(rt; parse_byte(b"256"), Err(Refusal::Field));
     assert_eq!(rt; parse_digits::<3>(b"aF0", 16), Ok([10, 15, 0]));
     assert_eq!(rt;
         parse_bytes(b"00ff10A0000000000001"),
         Ok([0, 255, 16, 160, 0, 0, 0, 0, 0, 1])
+    );
+}
+
+#[test]
+fn numbers_are_read_to_their_borders(rt: HostRuntime) {
+    let read: [(&[u8], u64); 12] = [
+        (b"0", 0),
+        (b"1", 1),
+        (b"9", 9),
+        (b"000000000000000", 0),
+        (b"999999999999999", 999_999_999_999_999),
+        (b"1000000000000000", 1_000_000_000_000_000),
+        (b"0000000000000007", 7),
+        (b"9999999999999999999", 9_999_999_999_999_999_999),
+        (b"18446744073709551615", u64::MAX),
+        (b"00018446744073709551615", u64::MAX),
+        (b"00000000000000000000", 0),
+        (b"0000000000000000000000001", 1),
+    ];
+    for (text, number) in read {
+        assert_eq!(rt; parse_number(text), Ok(number));
+    }
+    let refused = [
+        "",
+        "+1",
+        "-1",
+        " 1",
+        "1 ",
+        "1x",
+        "x",
+        "/",
+        ":",
+        "1.0",
+        "18446744073709551616",
+        "99999999999999999999",
+        "000000000000000000000x",
+    ];
+    assert_eq!(rt;
+        refused.map(|text| parse_number(text.as_bytes())),
+        [Err(Refusal::Field); 13]
     );
 }
 
