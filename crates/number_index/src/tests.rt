@@ -9,7 +9,8 @@ fn number(value: u64) -> Result<Number, Fail> {
     Ok(Number::try_new(value).ok().ok_or("the number is in range")?)
 }
 
-/// Adds the pairs (10 * s_id, s_id) of so many subscribers: refused memory, at the second try, with the index as before.
+/// Adds the pairs (10 * s_id, s_id) of so many subscribers: refused memory, at the second try, with the index as
+/// before.
 fn add_all(rt: &impl Abort, index: &mut NumberIndex, count: u32) -> Result<(), Fail> {
     for s_id in 0..count {
         let own = number(u64::from(s_id).wrapping_mul(10))?;
@@ -58,8 +59,8 @@ fn expect_pairs(rt: &impl Abort, index: &mut NumberIndex) -> Result<(), Fail> {
     Ok(())
 }
 
-// Also run with each allocation refused in turn (`refuse_memory.sh`): the pairs split leaves under a root, a root grows to
-// height 2, and the last leaf is full, so that the new number splits it.
+// Also run with each allocation refused in turn (`refuse_memory.sh`): the pairs split leaves under a root, a root grows
+// to height 2, and the last leaf is full, so that the new number splits it.
 #[test]
 fn numbers(rt: HostRuntime) -> Result<(), Fail> {
     let mut index = NumberIndex::new(rt.alloc())?;
@@ -67,7 +68,8 @@ fn numbers(rt: HostRuntime) -> Result<(), Fail> {
     added
 }
 
-/// Numbers that pages are asked from: of pairs, between two, of the last one of 32 and of 608, behind these, and behind all.
+/// Numbers that pages are asked from: of pairs, between two, of the last one of 32 and of 608, behind these, and behind
+/// all.
 const STARTS: [u64; 12] = [
     0,
     1,
@@ -95,8 +97,8 @@ fn has_pairs_from(page: &Page, first: u64) -> bool {
     true
 }
 
-/// The subscriber behind the last one whom pages from a number on show, each page from behind the one before, until one is
-/// empty. None where they aren't the pairs of one subscriber after another, or don't end.
+/// The subscriber behind the last one whom pages from a number on show, each page from behind the one before, until one
+/// is empty. None where they aren't the pairs of one subscriber after another, or don't end.
 fn end_of_pages(index: &NumberIndex, number: u64) -> Option<u64> {
     let mut page = Page::new();
     let mut from = number;
