@@ -50,13 +50,15 @@ fn stands(published: i64, unposted: i64) -> bool
     !(published == 0 && unposted == 0)
 }
 
-/// Builds the lines of the cells of which something is published or unposted, by their numbers, and answers how many they are.
+/// Builds the lines of the cells of which something is published or unposted, by their numbers, and answers how many
+/// they are.
 fn build_standing(
     published: &[i64; CELLS as usize],
     unposted: &[i64; CELLS as usize],
     line: &mut Line,
 ) -> u64
-    ensures lines { line.new.items ≡ flat_map (standing_line (signed_at published.now) (signed_at unposted.now)) (cells_where (is_standing (signed_at published.now) (signed_at unposted.now))) }
+    ensures lines { line.new.items ≡ flat_map (standing_line (signed_at published.now) (signed_at unposted.now))
+        (cells_where (is_standing (signed_at published.now) (signed_at unposted.now))) }
     ensures count { result ≡ length (cells_where (is_standing (signed_at published.now) (signed_at unposted.now))) }
 {
     line.clear();
@@ -74,7 +76,8 @@ fn build_standing(
 
 /// Builds the lines of the cells that count some rows, by their numbers, and answers how many they are.
 fn build_counted(cells: &Cells, line: &mut Line) -> u64
-    ensures lines { line.new.items ≡ flat_map (rows_line (slice_index cells.now)) (cells_where (is_counted (slice_index cells.now))) }
+    ensures lines { line.new.items ≡ flat_map (rows_line (slice_index cells.now))
+        (cells_where (is_counted (slice_index cells.now))) }
     ensures count { result ≡ length (cells_where (is_counted (slice_index cells.now))) }
 {
     line.clear();
@@ -115,8 +118,8 @@ fn total_word(counts: &Counts<'_>) -> &'static [u8]
 }
 
 /// Writes a report of the cells: a line for each cell with a count that isn't 0, by the cells' numbers, and then the
-/// line of how many they are. The lines of all cells are handed on at once; the line is the memory to build them in. Where
-/// the sink fails, a front of the report was taken.
+/// line of how many they are. The lines of all cells are handed on at once; the line is the memory to build them in.
+/// Where the sink fails, a front of the report was taken.
 pub fn write_cells<S: Sink>(
     counts: &Counts<'_>,
     line: &mut Line,
@@ -185,7 +188,8 @@ fn build_page(page: &Page, line: &mut Line)
 /// Writes the lines of a page's pairs at once. Where the sink fails, a front of them was taken.
 fn write_page<S: Sink>(page: &Page, line: &mut Line, sink: &mut S) -> Result<(), Stalled>
     ensures ok { OnOk result (Appends (S.taken sink.old) (S.taken sink.new) (flat_map number_line page.now.items)) }
-    ensures err { OnErr result (AppendsFront (S.taken sink.old) (S.taken sink.new) (flat_map number_line page.now.items)) }
+    ensures err { OnErr result (AppendsFront (S.taken sink.old) (S.taken sink.new)
+        (flat_map number_line page.now.items)) }
     ensures told { OnErr result (S.has_stalled sink.new ≡ true) }
 {
     build_page(page, line);
@@ -202,8 +206,8 @@ fn after_last(pairs: &[(u64, u32)]) -> u64
 }
 
 /// Writes the report of the numbers: a line for each pair of the index, by number, and then the line of how many they
-/// are. The lines of a page of pairs are handed on at once; the line is the memory to build them in. Where the sink fails,
-/// a front of the report was taken.
+/// are. The lines of a page of pairs are handed on at once; the line is the memory to build them in. Where the sink
+/// fails, a front of the report was taken.
 #[inline(never)]
 pub fn write_index<S: Sink>(
     index: &NumberIndex,
