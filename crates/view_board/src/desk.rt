@@ -125,13 +125,14 @@ fn is_blank(numbers: &[u64; WORDS], slot: u8) -> bool
     bits == 0
 }
 
-/// Adds the nets of a slot to a sum for each cell, unless all its words are 0. It is not inlined: the walk over the slots, of
-/// which a desk has few, would be longer.
+/// Adds the nets of a slot to a sum for each cell, unless all its words are 0. It is not inlined: the walk over the
+/// slots, of which a desk has few, would be longer.
 #[inline(never)]
 fn add_slot(numbers: &[u64; WORDS], slot: u8, sums: &mut [i128; CELLS as usize])
     requires slot { slot < SLOTS }
     requires sums { AreWithin slot sums.old }
-    ensures added { (c : ℕ) → c < CELLS → slice_index_or sums.new c (pos 0) ≡ slice_index_or sums.old c (pos 0) +ℤ slot_net numbers.now c slot }
+    ensures added { (c : ℕ) → c < CELLS → slice_index_or sums.new c (pos 0) ≡
+        slice_index_or sums.old c (pos 0) +ℤ slot_net numbers.now c slot }
     ensures sums { AreWithin (slot + 1) sums.new }
 {
     if is_blank(numbers, slot) {
