@@ -5,7 +5,7 @@
 #   ./test.sh program    the program alone, as it stands at crates/hlr/out/hlr
 #
 # The program's part takes less than a minute. Its scripts are examples/NAME.csv, each with what it must print beside
-# it (NAME.out) and its options (NAME.args, where it has any).
+# it (NAME.csv.stdout) and its options (NAME.csv.args, a word a line, where it has any), as `rt try --cases` has them.
 set -u
 cd "$(dirname "$0")" || exit 1
 hlr=$PWD/crates/hlr/out/hlr
@@ -61,16 +61,43 @@ ends() {
 }
 
 examples() {
-  local script name words
+  local script words
   for script in examples/*.csv; do
-    name=${script%.csv}
     words=()
-    if [ -f "$name.args" ]; then read -r -a words < "$name.args"; fi
+    if [ -f "$script.args" ]; then mapfile -t words < "$script.args"; fi
     hlr_on ${words[@]+"${words[@]}"} < "$script"
-    is "$name: status" "$status" 0
-    same "$name" "$room/out" "$name.out"
-    is "$name: standard error" "$(wc -c < "$room/err")" 0
+    is "$script: status" "$status" 0
+    same "$script" "$room/out" "$script.stdout"
+    is "$script: standard error" "$(wc -c < "$room/err")" 0
   done
+}
+
+# What the README shows: each line after a $ prints what stands below it.
+readme() {
+  local shown command
+  awk -v room="$room" '/^```/ { to = ""; open = !open; next }
+    open && /^[$] / { to = sprintf("%s/shown.%02d", room, ++count); print substr($0, 3) > to; next }
+    open && to { print > to }' README.md
+  for shown in "$room"/shown.*; do
+    command=$(head -n 1 "$shown")
+    tail -n +2 "$shown" > "$room/want"
+    bash -c "$command" > "$room/out"
+    same "README: $command" "$room/out" "$room/want"
+  done
+}
+
+# The clients of examples/ ask and wait.
+clients() {
+  local moved='subscriber,7,000000000000007,0000000000,0000000000,00000000000000000000,1,536870912'
+  is 'client.sh' "$(examples/clients/client.sh "$hlr")" $'ok\nok\n'"$moved"
+  if ! command -v python3 > /dev/null; then
+    echo 'skipped, since there is no python3: client.py and day.sh of examples/clients'
+    return
+  fi
+  is 'client.py' "$(python3 examples/clients/client.py "$hlr")" $'ok\nok\n'"$moved"$'\nrefused,3,NoSubscriber\ncell,5,0,1\ncell,19,0,1\nviews,2'
+  examples/clients/day.sh "$hlr" > "$room/out"
+  is 'day.sh: its bounds moved' "$(grep -c '^recut,[1-3]$' "$room/out")" 1
+  is 'day.sh: its last line' "$(tail -n 1 "$room/out" | grep -c '^views,')" 1
 }
 
 # refused_option WORD TEXT: the word is refused, with this text on standard error.
@@ -203,6 +230,8 @@ program() {
     return
   fi
   examples
+  readme
+  clients
   options
   streams
   bytes

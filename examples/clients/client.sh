@@ -1,0 +1,14 @@
+#!/usr/bin/env bash
+# Asks hlr one record after another, and waits for each answer: examples/clients/client.sh [HLR [OPTION ..]]
+[ $# -gt 0 ] || set -- crates/hlr/out/hlr
+coproc register { "$@"; }
+
+# ask RECORD: one whose answer is one line
+ask() {
+  printf '%s\n' "$1" >&"${register[1]}"
+  IFS= read -r answer <&"${register[0]}" && printf '%s\n' "$answer"
+}
+
+ask sub,7,000000000000007,0000000000,0000000000,00000000000000000000,1,268435456
+ask ul,000000000000007,536870912
+ask gsd,7
