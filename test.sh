@@ -88,16 +88,19 @@ readme() {
 
 # The clients of examples/ ask and wait.
 clients() {
-  local moved='subscriber,7,000000000000007,0000000000,0000000000,00000000000000000000,1,536870912'
+  local drawn moved='subscriber,7,000000000000007,0000000000,0000000000,00000000000000000000,1,536870912'
   is 'client.sh' "$(examples/clients/client.sh "$hlr")" $'ok\nok\n'"$moved"
   if ! command -v python3 > /dev/null; then
-    echo 'skipped, since there is no python3: client.py and day.sh of examples/clients'
+    echo 'skipped, since there is no python3: client.py and day.sh of examples/clients, and the pictures of docs'
     return
   fi
   is 'client.py' "$(python3 examples/clients/client.py "$hlr")" $'ok\nok\n'"$moved"$'\nrefused,3,NoSubscriber\ncell,5,0,1\ncell,19,0,1\nviews,2'
   examples/clients/day.sh "$hlr" > "$room/out"
   is 'day.sh: its bounds moved' "$(grep -c '^recut,[1-3]$' "$room/out")" 1
   is 'day.sh: its last line' "$(tail -n 1 "$room/out" | grep -c '^views,')" 1
+  mkdir "$room/docs"
+  python3 docs/pictures.py "$room/docs"
+  for drawn in counts speed crates; do same "docs/$drawn.svg" "docs/$drawn.svg" "$room/docs/$drawn.svg"; done
 }
 
 # refused_option WORD TEXT: the word is refused, with this text on standard error.

@@ -1,0 +1,113 @@
+#!/usr/bin/env python3
+"""Draws the pictures of docs/: counts.svg from the text below, speed.svg from the tables of SPEED.md, crates.svg from crates.txt.
+
+    python3 docs/pictures.py [FOLDER]     at the repository's top; into docs/, or the folder
+"""
+import re
+import sys
+
+INK, LINE, FILL, MARK = "#222", "#888", "#f4f4f0", "#2f6f8f"
+
+
+class Picture:
+    def __init__(self, width, height):
+        self.width, self.height, self.parts = width, height, []
+
+    def text(self, x, y, words, size=13, anchor="start", color=INK):
+        words = str(words).replace("&", "&amp;").replace("<", "&lt;")
+        self.parts.append(f'<text x="{x}" y="{y}" font-size="{size}" text-anchor="{anchor}" fill="{color}">{words}</text>')
+
+    def box(self, x, y, width, height, lines=(), fill=FILL):
+        self.parts.append(f'<rect x="{x}" y="{y}" width="{width}" height="{height}" rx="4" fill="{fill}" stroke="{LINE}"/>')
+        for row, words in enumerate(lines):
+            self.text(x + 10, y + 20 + 18 * row, words, 14 if row == 0 else 12)
+
+    def bar(self, x, y, width, fill):
+        self.parts.append(f'<rect x="{x}" y="{y}" width="{width:.0f}" height="14" fill="{fill}"/>')
+
+    def arrow(self, x1, y1, x2, y2, words=""):
+        self.parts.append(f'<line x1="{x1}" y1="{y1}" x2="{x2}" y2="{y2}" stroke="{MARK}" stroke-width="1.5" marker-end="url(#tip)"/>')
+        if words:
+            self.text((x1 + x2) / 2, (y1 + y2) / 2 - 6, words, 12, "middle", MARK)
+
+    def write(self, path):
+        head = f'<svg xmlns="http://www.w3.org/2000/svg" width="{self.width}" height="{self.height}" font-family="sans-serif">'
+        tip = f'<defs><marker id="tip" markerWidth="8" markerHeight="8" refX="7" refY="3" orient="auto"><path d="M0,0 L7,3 L0,6 z" fill="{MARK}"/></marker></defs>'
+        back = '<rect width="100%" height="100%" fill="white"/>'
+        with open(path, "w") as file:
+            file.write("\n".join([head, tip, back, *self.parts, "</svg>", ""]))
+
+
+def counts():
+    """Owners with their rows and deltas, the words that they raise, and what a reader adds up."""
+    picture = Picture(820, 330)
+    picture.box(20, 30, 230, 92, ["part 0", "the rows of its subscribers", "deltas not posted: cell 5, +1"])
+    picture.box(20, 218, 230, 92, ["part 1", "the rows of its subscribers", "deltas not posted: none"])
+    picture.box(20, 134, 230, 72, ["piece 1, from part 0", "its rows, with their own count;", "its subscribers get Moving"], "#fff3e0")
+    picture.box(350, 70, 180, 190, ["the board", "slot 0: words of part 0", "slot 1: words of part 1", "", "a plus-word and a minus-", "word for each of 51 cells;", "a word only rises, and", "its slot's owner alone", "raises it"])
+    picture.box(620, 90, 180, 130, ["views", "for each cell: what is", "published (plus less minus,", "over all slots) and the", "deltas not posted:", "together the count now"])
+    picture.arrow(250, 76, 350, 110, "post")
+    picture.arrow(250, 262, 350, 220, "post")
+    picture.arrow(530, 150, 620, 150, "look")
+    picture.arrow(135, 206, 135, 218)
+    picture.arrow(135, 122, 135, 134)
+    picture.text(142, 131, "give", 12, color=MARK)
+    picture.text(142, 216, "take", 12, color=MARK)
+    return picture
+
+
+def cells(row):
+    return [cell.strip() for cell in row.strip("|\n").split("|")]
+
+
+def table(title):
+    """The rows of the first table of SPEED.md whose head begins so."""
+    with open("docs/SPEED.md") as file:
+        rows = file.read().split("| " + title, 1)[1].split("\n")[2:]
+    return [cells(row) for row in rows[: next(n for n, row in enumerate(rows) if not row.startswith("|"))]]
+
+
+def speed():
+    """Instructions a command, the program above the plain one."""
+    rows = [(row[0].strip("`"), *(int(cell.replace(",", "")) for cell in row[1:3])) for row in table("command |")]
+    picture = Picture(620, 60 + 44 * len(rows))
+    picture.text(20, 28, "Instructions a command: hlr (dark), plain Rust over BTreeMap and HashMap (light)", 14)
+    scale = 440 / max(max(row[1:]) for row in rows)
+    for place, (name, ours, plain) in enumerate(rows):
+        y = 48 + 44 * place
+        picture.text(20, y + 20, name, 13)
+        for line, (count, fill) in enumerate(((ours, MARK), (plain, "#b9cdd6"))):
+            picture.bar(80, y + 16 * line, count * scale, fill)
+            picture.text(86 + count * scale, y + 12 + 16 * line, f"{count:,}", 11)
+    return picture
+
+
+def crates():
+    """The crates, each above those on which it stands."""
+    with open("crates.txt") as file:
+        named = [re.split(r"[ :]", line, maxsplit=1)[0] for line in file]
+        file.seek(0)
+        below = {name: [word for word in line.split(":")[1].split() if word in named] for name, line in zip(named, file)}
+    level = {}
+    for name in named:
+        level[name] = 1 + max((level[other] for other in below[name]), default=-1)
+    top = max(level.values())
+    places, picture = {}, Picture(860, 74 * (top + 1))
+    for depth in range(top + 1):
+        row = [name for name in named if level[name] == depth]
+        for place, name in enumerate(row):
+            places[name] = (430 + 150 * (2 * place - len(row) + 1), 24 + 74 * (top - depth))
+    for name in named:
+        direct = [other for other in below[name] if not any(other in below[third] for third in below[name])]
+        for other in direct:
+            (x1, y1), (x2, y2) = places[name], places[other]
+            picture.arrow(x1, y1 + 30, x2, y2 - 2)
+    for name, (x, y) in places.items():
+        picture.box(x - 70, y, 140, 30, [name])
+    return picture
+
+
+if __name__ == "__main__":
+    folder = sys.argv[1] if len(sys.argv) > 1 else "docs"
+    for draw in (counts, speed, crates):
+        draw().write(f"{folder}/{draw.__name__}.svg")
