@@ -2,7 +2,6 @@ pub mod Command
 pub mod Fault
 pub mod Fields
 pub mod Inside
-pub mod Written
 pub mod Lines
 pub mod Options
 pub mod Records
@@ -10,3 +9,4 @@ pub mod Reports
 pub mod Sink
 pub mod Text
 pub mod WholeRecords
+pub mod Written

@@ -14,14 +14,14 @@ use Rattle.hlr_core.specs.declared.event.Event.{Event}
 use Rattle.hlr_core.specs.declared.event.Event.TheVariants as event
 
 -- an event that changes rows
-abbrev pub IsChange : Event → Type 0
-IsChange (event.SubscriberData s_id) = ⊥
-IsChange (event.NewDestination s_id sf_type start_time end_time) = ⊥
-IsChange (event.AccessData s_id ai_type) = ⊥
-IsChange (event.Post part limit) = ⊥
-IsChange (event.Give part side at) = ⊥
-IsChange (event.Take piece part) = ⊥
-IsChange change = ⊤
+abbrev pub ChangesRows : Event → Type 0
+ChangesRows (event.SubscriberData s_id) = ⊥
+ChangesRows (event.NewDestination s_id sf_type start_time end_time) = ⊥
+ChangesRows (event.AccessData s_id ai_type) = ⊥
+ChangesRows (event.Post part limit) = ⊥
+ChangesRows (event.Give part side at) = ⊥
+ChangesRows (event.Take piece part) = ⊥
+ChangesRows change = ⊤
 
 -- an action on the rows of one of all subscribers, that gives no number
 abbrev pub IsRowAction : Action → Type 0

@@ -1,7 +1,7 @@
 //! The register: all rows under one roof, no number twice, and every cell as published with what is not posted yet.
 ghost use Rattle.std.specs.Prelude.{◌≡◌, ℕ, [], vec_len, vec_capacity, ◌<◌, ◌≤◌, ◌↔◌, ◌⊎◌, None, IfOk, IfErr, OnErr, MatchResult, slice_index, slice_index_or, ◌+◌, ℤ, pos, ◌+ℤ◌};
 ghost use Rattle.tatp_actions.specs.Cell.{cell};
-ghost use Rattle.hlr_core.specs.Asked.{IsChange};
+ghost use Rattle.hlr_core.specs.Asked.{ChangesRows};
 ghost use Rattle.hlr_core.specs.Index.{index_of};
 ghost use Rattle.hlr_core.specs.Kept.{IsSameUndivided};
 ghost use Rattle.hlr_core.specs.Recut.{IsRecut};
@@ -218,7 +218,7 @@ impl Register {
 
     /// Does what an event asks for that changes rows.
     fn change(&mut self, event: Event) -> Result<(), Refusal>
-        requires { IsChange event }
+        requires { ChangesRows event }
         ensures { IsStep event self.old (edited_reply result) self.new }
     {
         match event {

@@ -139,8 +139,8 @@ impl<V: Drop> SubTree<V> {
         self.root.replace(key, value)
     }
 
-    /// Changes the value at a key where it lies: false where the key isn't there, and then nothing has changed. Takes no
-    /// memory.
+    /// Changes the value at a key where it lies: false where the key isn't there, and then nothing has changed. Takes
+    /// no memory.
     pub fn revise<E: Revise<V>>(&mut self, key: u64, edit: &mut E) -> bool
         ensures rows { self.new ≡ record self.old { rows = revised_at key (E.revised edit.old) self.old.rows } }
         ensures spent { edit.new ≡ spent_at key E.spent edit.old self.old.rows }

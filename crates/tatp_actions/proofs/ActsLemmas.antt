@@ -1,5 +1,5 @@
 -- What each action does to a part, from what its calls by keys do.
-use Rattle.std.proofs.Common.{◌≡◌, refl, sym, ◌∙◌, ap, ℕ, ◌+◌, ◌<◌, ◌≤◌, arith, rules, Bool, true, false, List, [], Option, Some, None, Result, Ok, Err, IsErr, IsErrAnd, nat_le, inl, inr, if◌then◌else◌}
+use Rattle.std.proofs.Common.{◌≡◌, refl, sym, ap, ℕ, ◌+◌, ◌<◌, ◌≤◌, arith, rules, Bool, true, false, List, [], Option, Some, None, Result, Ok, Err, IsErr, IsErrAnd, nat_le, inl, inr, if◌then◌else◌}
 use Rattle.std.specs.Prelude.{ℤ, ◌&&◌, is_some}
 use Rattle.std.proofs.lemmas.Bool.Decides.{nat_tests}
 use Rattle.std.proofs.lemmas.Int.{ints}
@@ -12,15 +12,14 @@ use Rattle.tatp_rows.specs.declared.ranges.TheConstants.{LAST_SUBSCRIBER}
 use Rattle.tatp_rows.specs.declared.refusal.Refusal.{Refusal}
 use Rattle.tatp_rows.specs.declared.refusal.Refusal.TheVariants as refusal
 use Rattle.tatp_actions.specs.Action.{IsOutcome, effect, is_in_range, is_typed, adds_row}
-use Rattle.tatp_actions.specs.Book.{Book, IsBook, IsWithin, subscriber_at, put_subscriber}
+use Rattle.tatp_actions.specs.Book.{Book, IsBook, IsWithin, subscriber_at}
 use Rattle.tatp_actions.specs.Change.{IsChange}
 use Rattle.tatp_actions.specs.Part.{PartState, IsPart}
-use Rattle.tatp_actions.specs.Inside.{Acts, asked_once, changed_once}
+use Rattle.tatp_actions.specs.Inside.{Acts}
 use Rattle.tatp_actions.specs.Tables.{once_more}
 use Rattle.tatp_actions.specs.declared.action.Action.{Action}
 use Rattle.tatp_actions.specs.declared.action.RowReply.{RowReply}
 use Rattle.tatp_actions.specs.declared.action.RowReply.TheVariants as reply
-use Rattle.tatp_actions.proofs.BookLemmas.{s_id_found}
 
 -- no notes change nothing
 pub no_change : (width : ℕ) (book : Book) → IsChange width book book []
@@ -137,16 +136,6 @@ pub area_found : (book : Book) (s : ℕ) (row : SubscriberRow) → IsBook book �
 area_found book s row rules found =
     let in_range = each_found subscriber_key (λ (r : SubscriberRow). subscriber_in_range r ≡ true) (key_of s 0 0) book.subscribers row rules.subscribers_in_range found in
     area_below row.vlr_location (subscriber_ranges row in_range).vlr_location_below
-
--- a row is found, and another one is put in its place: the part then
-pub put_after : (before found after : PartState) (s : ℕ) (row made new : SubscriberRow) → found ≡ asked_once before → subscriber_at before.book s ≡ Some row → made ≡ new → new.s_id ≡ row.s_id
-    → after ≡ changed_once found (put_subscriber found.book made.s_id made)
-    → after ≡ record before { book = put_subscriber before.book s new; asked = once_more (once_more before.asked) }
-put_after before found after s row made new kept is same own put =
-    put
-    ∙ ap (λ (p : PartState). changed_once p (put_subscriber p.book made.s_id made)) kept
-    ∙ ap (λ (r : SubscriberRow). changed_once (asked_once before) (put_subscriber before.book r.s_id r)) same
-    ∙ ap (λ (n : ℕ). changed_once (asked_once before) (put_subscriber before.book n new)) (own ∙ s_id_found before.book s row is)
 
 -- a result that hands a refusal on
 pub handed_on : {A : Type 0} (r : Result A Refusal) (why : Refusal) → IsErr r × IsErrAnd r (λ e. e ≡ why) → r ≡ Err why

@@ -34,9 +34,6 @@ module _ (tables tables1 : Tables) (n n1 lo hi width steps k : ℕ) (row : Subsc
       ap stored_book edit ∙ book_put_subscriber tables k row holds.1
       ∙ ap (λ (j : ℕ). record (stored_book tables) { subscribers = with_row_at subscriber_key j row (stored_book tables).subscribers }) at
 
-  pub put_subscriber_is : n1 ≡ once_more n → part_of tables1 n1 lo hi width steps ≡ changed_once (part_of tables n lo hi width steps) (put_subscriber (stored_book tables) row.s_id row)
-  put_subscriber_is asked = changed_is tables tables1 n n1 lo hi width steps _ put_subscriber_book asked
-
   pub put_subscriber_holds : subscriber_in_range row ≡ true → Holds tables1 n1 lo hi width steps
   put_subscriber_holds in_range =
       changed_holds tables tables1 n n1 lo hi width steps _ put_subscriber_book holds.0 (rules_of_put_subscriber lo hi (stored_book tables) row holds.0.rows in_range)
@@ -49,9 +46,6 @@ module _ (tables tables1 : Tables) (n n1 lo hi width steps k : ℕ) (row : Speci
   put_facility_book =
       ap stored_book edit ∙ book_put_facility tables k row holds.1
       ∙ ap (λ (j : ℕ). record (stored_book tables) { facilities = with_row_at facility_key j row (stored_book tables).facilities }) at
-
-  pub put_facility_is : n1 ≡ once_more n → part_of tables1 n1 lo hi width steps ≡ changed_once (part_of tables n lo hi width steps) (put_facility (stored_book tables) row.s_id row.sf_type row)
-  put_facility_is asked = changed_is tables tables1 n n1 lo hi width steps _ put_facility_book asked
 
   pub put_facility_holds : facility_in_range row ≡ true → Holds tables1 n1 lo hi width steps
   put_facility_holds in_range =

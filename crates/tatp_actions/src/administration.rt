@@ -7,7 +7,7 @@ ghost use Rattle.tatp_actions.specs.declared.action.Action.{Action};
 
 use crate::change::Change;
 use crate::part::Part;
-use crate::revisions::{SwapActive, SwapNumber};
+use crate::revisions::{SetSubNbr, SwapActive};
 use crate::rows::Rows;
 use tatp_rows::{Access, Facility, Number, Refusal, Subscriber, is_between};
 
@@ -87,8 +87,8 @@ impl<R: Rows> Part<R> {
     {
         // A number is in range, as its reader says.
         let _number = sub_nbr.value();
-        let mut swap = SwapNumber { sub_nbr };
-        if !self.revise_subscriber(s_id, &mut swap) {
+        let mut set = SetSubNbr { sub_nbr };
+        if !self.revise_subscriber(s_id, &mut set) {
             return Err(Refusal::NoSubscriber);
         }
         Ok(Change::none())

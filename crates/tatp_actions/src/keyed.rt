@@ -1,7 +1,9 @@
-//! The rows of a part by their keys. Each call asks the rows once, and keeps the rules of the part.
+//! The rows of a part by their keys. Each call asks the rows once, but those that change a row where it lies may ask twice,
+//! and keeps the rules of the part.
 ghost use Rattle.std.specs.Prelude.{◌≡◌, ◌+◌, ◌≤◌, IfSome, IsSome, is_some};
 ghost use Rattle.tatp_actions.specs.Book.{IsWithin, has_active, subscriber_at, access_at, facility_at, forwarding_at, more_subscribers, more_access, more_facilities, more_forwardings, without_forwarding};
 ghost use Rattle.tatp_actions.specs.Part.{IsPart};
+ghost use Rattle.tatp_actions.specs.Tables.{once_more};
 ghost use Rattle.tatp_actions.specs.Inside.{KeepsSubscriber, KeepsFacility, asked_once, changed_once, subscriber_revised, facility_revised, IsAdded};
 
 use crate::part::Part;
@@ -83,14 +85,15 @@ impl<R: Rows> Part<R> {
         ensures found { result ≡ is_some (subscriber_at self.old.book s_id) }
         ensures spent { IfSome (subscriber_at self.old.book s_id) (λ row. edit.new ≡ E.spent edit.old row) }
         ensures kept { self.new ≡ record self.old { book = subscriber_revised self.old.book s_id (E.revised edit.old); asked = self.new.asked } }
+        ensures counted { once_more self.old.asked ≤ self.new.asked }
         ensures asked { self.new.asked ≤ self.old.asked + 2 }
         ensures rules { IsPart self.old }
     {
         self.rows.revise_s(subscriber_key(s_id), edit)
     }
 
-    /// Changes the Special_Facility row of a facility where it lies, into one of the same facility: false where there is
-    /// none.
+    /// Changes the Special_Facility row of a facility where it lies, into one of the same facility: false where there
+    /// is none.
     pub(crate) fn revise_facility<E: Revise<Facility>>(
         &mut self,
         s_id: u32,
@@ -101,6 +104,7 @@ impl<R: Rows> Part<R> {
         ensures found { result ≡ is_some (facility_at self.old.book s_id sf_type) }
         ensures spent { IfSome (facility_at self.old.book s_id sf_type) (λ row. edit.new ≡ E.spent edit.old row) }
         ensures kept { self.new ≡ record self.old { book = facility_revised self.old.book s_id sf_type (E.revised edit.old); asked = self.new.asked } }
+        ensures counted { once_more self.old.asked ≤ self.new.asked }
         ensures asked { self.new.asked ≤ self.old.asked + 2 }
         ensures rules { IsPart self.old }
     {

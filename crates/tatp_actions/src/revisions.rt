@@ -52,21 +52,19 @@ impl Revise<Subscriber> for SwapLocation {
     }
 }
 
-/// Puts a number in place of a subscriber's, and has that one then.
+/// Sets a subscriber's number.
 #[derive(Drop)]
-pub(crate) struct SwapNumber {
+pub(crate) struct SetSubNbr {
     pub(crate) sub_nbr: Number,
 }
 
-impl Revise<Subscriber> for SwapNumber {
-    ghost revised = { λ swap row. record row { sub_nbr = swap.sub_nbr } };
+impl Revise<Subscriber> for SetSubNbr {
+    ghost revised = { λ set row. record row { sub_nbr = set.sub_nbr } };
 
-    ghost spent = { λ swap row. record { sub_nbr = row.sub_nbr } };
+    ghost spent = { λ set row. set };
 
     fn revise(&mut self, row: &mut Subscriber) {
-        let old = row.sub_nbr();
         *row = row.with_sub_nbr(self.sub_nbr);
-        self.sub_nbr = old;
     }
 }
 

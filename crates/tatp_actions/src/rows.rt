@@ -14,8 +14,8 @@ use tatp_rows::{Access, Back, Facility, Forwarding, Subscriber};
 /// The rows of a part, by key, and how often they were asked.
 ///
 /// Each of the four tables is seen as the list of its pairs (key, row). Each call is by key and raises `asked` by one
-/// (saturating), so an action's cost is bounded by how often it asks. Sixteen calls are enough: `revise_s` and `revise_f`
-/// are made of two of them, where a store has no better way.
+/// (saturating), but for `revise_s` and `revise_f`, which may ask twice; so an action's cost is bounded by how often it
+/// asks. Sixteen calls are enough: those two are made of two others each, where a store has no better way.
 pub trait Rows {
     ghost tables: { Self → Tables };
 
@@ -43,6 +43,7 @@ pub trait Rows {
         ensures rows { tables self.new ≡ record (tables self.old) { subscribers = revised_at key (E.revised edit.old) (tables self.old).subscribers } }
         ensures spent { edit.new ≡ spent_at key E.spent edit.old (tables self.old).subscribers }
         ensures found { result ≡ is_some (value_at key (tables self.old).subscribers) }
+        ensures counted { once_more (times_asked self.old) ≤ times_asked self.new }
         ensures asked { times_asked self.new ≤ times_asked self.old + 2 }
     {
         let Some(mut row) = self.get_s(key).copied() else {
@@ -111,6 +112,7 @@ pub trait Rows {
         ensures rows { tables self.new ≡ record (tables self.old) { facilities = revised_at key (E.revised edit.old) (tables self.old).facilities } }
         ensures spent { edit.new ≡ spent_at key E.spent edit.old (tables self.old).facilities }
         ensures found { result ≡ is_some (value_at key (tables self.old).facilities) }
+        ensures counted { once_more (times_asked self.old) ≤ times_asked self.new }
         ensures asked { times_asked self.new ≤ times_asked self.old + 2 }
     {
         let Some(mut row) = self.get_f(key).copied() else {

@@ -6,6 +6,7 @@ mod steps;
 use super::*;
 use crate::plain::PlainRows;
 use crate::recount::Tally;
+use crate::revisions::{SetDataA, SwapLocation};
 use makers::{access, facility, fill, forwarding, subscriber};
 use mr_subtree::SubTree;
 use std::process::Abort;
@@ -216,15 +217,18 @@ fn keeps_subscriber<R: Rows>(rows: &mut R, first: Subscriber, second: Subscriber
         why: Refusal::Exists,
         item: second,
     };
+    let mut location = SwapLocation::to(11);
     let mut kept = rows.get_s(key).is_none();
+    kept &= !rows.revise_s(key, &mut location);
     kept &= rows.replace_s(key, first) == Err(first);
     kept &= rows.insert_s(key, first).is_ok();
     kept &= rows.insert_s(key, second) == Err(again);
     kept &= rows.get_s(key).copied() == Some(first);
-    kept &= rows.replace_s(key, second) == Ok(first);
+    kept &= rows.revise_s(key, &mut location) && location.location() == first.vlr_location();
+    kept &= rows.replace_s(key, second) == Ok(first.with_vlr_location(11));
     kept &= rows.remove_s(key) == Some(second);
     kept &= rows.remove_s(key).is_none();
-    kept &= rows.asked() == 8;
+    kept &= rows.asked() == 10;
     kept
 }
 
@@ -238,21 +242,24 @@ fn keeps_access<R: Rows>(rows: &mut R, row: Access) -> bool {
     kept &= rows.replace_a(key, row) == Ok(row);
     kept &= rows.remove_a(key) == Some(row);
     kept &= rows.get_a(key).is_none();
-    kept &= rows.asked() == 15;
+    kept &= rows.asked() == 17;
     kept
 }
 
 /// The same of a Special_Facility row.
 fn keeps_facility<R: Rows>(rows: &mut R, row: Facility) -> bool {
     let key = row.key();
+    let mut data = SetDataA { data_a: 255 };
     let mut kept = rows.replace_f(key, row) == Err(row);
+    kept &= !rows.revise_f(key, &mut data);
     kept &= rows.insert_f(key, row).is_ok();
     kept &= rows.insert_f(key, row).is_err();
     kept &= rows.get_f(key).copied() == Some(row);
-    kept &= rows.replace_f(key, row) == Ok(row);
+    kept &= rows.revise_f(key, &mut data);
+    kept &= rows.replace_f(key, row) == Ok(row.with_data_a(255));
     kept &= rows.remove_f(key) == Some(row);
     kept &= rows.get_f(key).is_none();
-    kept &= rows.asked() == 22;
+    kept &= rows.asked() == 26;
     kept
 }
 
@@ -266,7 +273,7 @@ fn keeps_forwarding<R: Rows>(rows: &mut R, row: Forwarding) -> bool {
     kept &= rows.replace_c(key, row) == Ok(row);
     kept &= rows.remove_c(key) == Some(row);
     kept &= rows.get_c(key).is_none();
-    kept &= rows.asked() == 29;
+    kept &= rows.asked() == 33;
     kept
 }
 

@@ -111,7 +111,8 @@ fn net_in(numbers: &[u64; WORDS], slot: u8, cell: u8) -> i128
     i128::from(numbers[plus]) - i128::from(numbers[minus])
 }
 
-/// Whether all words of a slot are 0. It looks at all of them, which is faster than to stop at the first that isn't.
+/// True only where no cell of a slot has a net, since all its words are 0. It looks at all of them, which is faster than
+/// to stop at the first that isn't.
 #[inline(always)]
 fn is_blank(numbers: &[u64; WORDS], slot: u8) -> bool
     requires { slot < SLOTS }
