@@ -1,7 +1,8 @@
 // The commands of hlr on rows in plain Rust over the maps of std, to measure against.
 // rustc --edition 2021 -O bench/baseline.rs -o /tmp/bench/baseline; baseline --zone W < in.csv > out.txt
 // One owner, no parts, no proofs, no CSV quotes. Reads records line by line, splits on commas.
-// Commands: sub acc fac active number gsd gnd gad usd ul icf dcf post views scan index.
+// Commands: sub acc fac active number gsd gnd gad usd ul icf dcf post views scan index, and of one loose piece, of which
+// nothing is refused, give and take.
 use std::collections::{BTreeMap, HashMap};
 use std::io::{self, BufRead, BufWriter, Write};
 
@@ -90,12 +91,13 @@ struct Store {
     subs: BTreeMap<u32, Sub>, accs: BTreeMap<(u32, u8), Acc>, facs: BTreeMap<(u32, u8), Fac>,
     fwds: BTreeMap<(u32, u8, u8), Fwd>, index: HashMap<u64, u32>,
     count: Vec<i64>, published: Vec<i64>,
+    piece: Option<Box<Store>>,
 }
 
 impl Store {
     fn new(width: u32) -> Store {
         Store { width, subs: BTreeMap::new(), accs: BTreeMap::new(), facs: BTreeMap::new(),
-                fwds: BTreeMap::new(), index: HashMap::new(), count: vec![0; 51], published: vec![0; 51] }
+                fwds: BTreeMap::new(), index: HashMap::new(), count: vec![0; 51], published: vec![0; 51], piece: None }
     }
     fn zone(&self, s: u32) -> usize { 19 + ((s - 1) / self.width).min(31) as usize }
     fn area(&self, vlr: u32) -> usize { 3 + (vlr >> 28) as usize }
@@ -270,6 +272,28 @@ impl Store {
                     }
                 }
                 let _ = writeln!(out, "scan,{}", n);
+                return Ok(());
+            }
+            b"give" => {
+                is(3)?;
+                let at = sid(f[3])?;
+                let mut piece = Store::new(self.width);
+                piece.subs = self.subs.split_off(&at);
+                piece.accs = self.accs.split_off(&(at, 0));
+                piece.facs = self.facs.split_off(&(at, 0));
+                piece.fwds = self.fwds.split_off(&(at, 0, 0));
+                self.piece = Some(Box::new(piece));
+                let _ = writeln!(out, "piece,1,{},16777217", at);
+                return Ok(());
+            }
+            b"take" => {
+                is(2)?;
+                let mut piece = self.piece.take().ok_or(No::Part)?;
+                self.subs.append(&mut piece.subs);
+                self.accs.append(&mut piece.accs);
+                self.facs.append(&mut piece.facs);
+                self.fwds.append(&mut piece.fwds);
+                let _ = writeln!(out, "taken,1,0");
                 return Ok(());
             }
             b"index" => {

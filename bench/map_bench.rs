@@ -5,6 +5,9 @@ use std::mem;
 /// The bytes of a row.
 const SIZE: usize = 80;
 
+/// Whether the keys are put in and taken out in rising order, or drawn.
+const RISING: bool = false;
+
 type Row = [u8; SIZE];
 type Map = BTreeMap<u64, Row>;
 
@@ -36,7 +39,7 @@ fn mix(number: u64) -> u64 {
 }
 
 fn key_of(number: u64) -> u64 {
-    mix(number) / 2
+    if RISING { number } else { mix(number) / 2 }
 }
 
 fn draw(turn: u64, count: u64) -> u64 {

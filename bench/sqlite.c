@@ -3,7 +3,8 @@
  *
  *   cc -O2 bench/sqlite.c -lsqlite3 -o /tmp/bench/sqlite; sqlite --zone W < in.csv > out.txt
  *
- * Commands: sub acc fac active number gsd gnd gad usd ul icf dcf views scan; views and scan count all rows by queries.
+ * Commands: sub acc fac active number gsd gnd gad usd ul icf dcf views scan give take; views and scan count all rows by
+ * queries, and give and take move those of one loose piece into tables of their own and back, of which nothing is refused.
  */
 #include <sqlite3.h>
 #include <stdio.h>
@@ -12,12 +13,16 @@
 
 static sqlite3 *db;
 
+#define TABLES(NAME) \
+    "CREATE TABLE " NAME "subscriber (s INTEGER PRIMARY KEY, nbr INTEGER UNIQUE, bits TEXT, hexes TEXT, bytes TEXT, msc INTEGER, vlr INTEGER) WITHOUT ROWID;" \
+    "CREATE TABLE " NAME "access (s INTEGER, t INTEGER, d1 INTEGER, d2 INTEGER, d3 TEXT, d4 TEXT, PRIMARY KEY (s, t)) WITHOUT ROWID;" \
+    "CREATE TABLE " NAME "facility (s INTEGER, t INTEGER, active INTEGER, err INTEGER, a INTEGER, b TEXT, PRIMARY KEY (s, t)) WITHOUT ROWID;" \
+    "CREATE TABLE " NAME "forwarding (s INTEGER, t INTEGER, u INTEGER, e INTEGER, x INTEGER, PRIMARY KEY (s, t, u)) WITHOUT ROWID;"
+
 static const char *SCHEMA =
     "PRAGMA synchronous=OFF; PRAGMA journal_mode=OFF; PRAGMA locking_mode=EXCLUSIVE;"
-    "CREATE TABLE subscriber (s INTEGER PRIMARY KEY, nbr INTEGER UNIQUE, bits TEXT, hexes TEXT, bytes TEXT, msc INTEGER, vlr INTEGER) WITHOUT ROWID;"
-    "CREATE TABLE access (s INTEGER, t INTEGER, d1 INTEGER, d2 INTEGER, d3 TEXT, d4 TEXT, PRIMARY KEY (s, t)) WITHOUT ROWID;"
-    "CREATE TABLE facility (s INTEGER, t INTEGER, active INTEGER, err INTEGER, a INTEGER, b TEXT, PRIMARY KEY (s, t)) WITHOUT ROWID;"
-    "CREATE TABLE forwarding (s INTEGER, t INTEGER, u INTEGER, e INTEGER, x INTEGER, PRIMARY KEY (s, t, u)) WITHOUT ROWID;"
+    TABLES("")
+    TABLES("piece_")
     "BEGIN;";
 
 enum statement {
@@ -109,6 +114,17 @@ static void count(const char *name, long long width) {
   printf("%s,%d\n", name, listed);
 }
 
+/* The rows of subscribers from one on move from some tables into others. */
+static void move_rows(const char *from, const char *to, long long first) {
+  static const char *NAMES[] = {"subscriber", "access", "facility", "forwarding"};
+  char text[256];
+  for (int i = 0; i < 4; i++) {
+    snprintf(text, sizeof text, "INSERT INTO %s%s SELECT * FROM %s%s WHERE s >= %lld; DELETE FROM %s%s WHERE s >= %lld;",
+             to, NAMES[i], from, NAMES[i], first, from, NAMES[i], first);
+    if (sqlite3_exec(db, text, NULL, NULL, NULL)) fprintf(stderr, "%s\n", sqlite3_errmsg(db)), exit(1);
+  }
+}
+
 static const char *answer(char **f) {
   char *s;
   switch (f[0][0] << 8 | f[0][1]) {
@@ -144,6 +160,13 @@ static const char *answer(char **f) {
     case 'f' << 8 | 'a':
       if (!found(HAS_SUBSCRIBER, "n", f + 1)) return NO_SUBSCRIBER;
       return ok_or(changed(PUT_FACILITY, "nnnnnt", f + 1), EXISTS);
+    case 'g' << 8 | 'i':
+      move_rows("", "piece_", atoll(f[3]));
+      printf("piece,1,%s,16777217", f[3]);
+      return "\n";
+    case 't' << 8 | 'a':
+      move_rows("piece_", "", 0);
+      return "taken,1,0\n";
     case 'n' << 8 | 'u':
       if (!found(HAS_SUBSCRIBER, "n", f + 1)) return NO_SUBSCRIBER;
       return ok_or(changed(SET_NUMBER, "nn", f + 1), TAKEN);

@@ -171,4 +171,5 @@ def main():
         measure_commands(programs)
 
 
-main()
+if __name__ == "__main__":
+    main()
