@@ -15,6 +15,9 @@ const ZONES: u8 = 32;
 /// The greatest weight of a zone: all rows that there can be.
 pub const GREATEST_WEIGHT: u64 = 352_321_536;
 
+// Definitions name this constant, so its number is proved here: a subscriber has at most 21 rows.
+const _: () = prove!(GREATEST_WEIGHT == 21 * 16_777_216);
+
 /// At most 15 bounds between parts, strictly rising in 2..=16,777,216: seen as their list.
 #[derive(Debug, Drop)]
 pub struct Bounds {

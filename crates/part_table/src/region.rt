@@ -7,11 +7,18 @@ use tatp_rows::LAST_SUBSCRIBER;
 /// The number behind the last s_id, at which the last region ends.
 pub const END: u32 = LAST_SUBSCRIBER + 1;
 
+// Definitions name these constants, so their numbers are proved here.
+const _: () = prove!(END == 16_777_217);
+
 /// The most parts that there can be.
 pub const MOST_PARTS: u8 = 16;
 
+const _: () = prove!(MOST_PARTS == 16);
+
 /// The most loose pieces that there can be.
 pub const MOST_PIECES: u8 = 16;
+
+const _: () = prove!(MOST_PIECES == 16);
 
 /// Who holds a region.
 #[derive(Clone, Copy, Debug, PartialEq, Eq)]

@@ -7,8 +7,13 @@ use crate::refusal::Refusal;
 /// The last subscriber that there can be: each s_id is 1..=16,777,216.
 pub const LAST_SUBSCRIBER: u32 = 16_777_216;
 
+// Definitions name these constants, so their numbers are proved here.
+const _: () = prove!(LAST_SUBSCRIBER == 16_777_216);
+
 /// The greatest width of the zones, with which all 32 of them are alike.
 pub const GREATEST_WIDTH: u32 = 524_288;
+
+const _: () = prove!(GREATEST_WIDTH == 524_288);
 
 /// The value, where it lies in 1..=`high`; else `Field`.
 pub fn in_range(value: u64, high: u32) -> Result<u32, Refusal>
