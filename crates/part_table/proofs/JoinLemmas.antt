@@ -8,7 +8,8 @@ use Rattle.tatp_rows.proofs.OrderedLemmas.{by_test}
 use Rattle.tatp_rows.proofs.RowLemmas.{both}
 use Rattle.part_table.specs.Region.{is_part, is_piece, part_number, piece_number}
 use Rattle.part_table.specs.Regions.{AreRegions, IsConsecutive, IsPieceNumber, parts_of, pieces_of}
-use Rattle.part_table.specs.Take.{side_between, side_behind, side_of, joint, part_place, joined_pair, joined_behind, joined}
+use Rattle.part_table.specs.Inside.{side_behind, side_of}
+use Rattle.part_table.specs.Take.{side_between, joint, part_place, joined_pair, joined_behind, joined}
 use Rattle.part_table.specs.declared.region.Place.{Place}
 use Rattle.part_table.specs.declared.region.Place.TheVariants.{Part, Piece}
 use Rattle.part_table.specs.declared.region.Region.{Region}

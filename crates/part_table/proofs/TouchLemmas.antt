@@ -8,7 +8,8 @@ use Rattle.std.proofs.lemmas.Map.Keys.{IsDistinct-head, IsDistinct-tail}
 use Rattle.tatp_rows.proofs.OrderedLemmas.{by_test}
 use Rattle.part_table.specs.Region.{is_part, is_piece, is_part_place, is_piece_place, part_number, piece_number}
 use Rattle.part_table.specs.Regions.{AreRegions, IsConsecutive, parts_of, pieces_of}
-use Rattle.part_table.specs.Take.{touching, answer_of_both, side_behind, side_of, take_answer}
+use Rattle.part_table.specs.Inside.{side_behind, side_of}
+use Rattle.part_table.specs.Take.{touching, answer_of_both, take_answer}
 use Rattle.part_table.specs.declared.region.Place.{Place}
 use Rattle.part_table.specs.declared.region.Place.TheVariants.{Part, Piece}
 use Rattle.part_table.specs.declared.region.Region.{Region}

@@ -7,7 +7,8 @@ use Rattle.std.proofs.lemmas.Bool.Decides.{nat_tests}
 use Rattle.tatp_rows.proofs.OrderedLemmas.{by_test}
 use Rattle.part_table.specs.Region.{is_part, is_piece, part_number, piece_number}
 use Rattle.part_table.specs.Regions.{AreRegions, parts_of, pieces_of}
-use Rattle.part_table.specs.Take.{joined, joined_behind, joint, side_between, side_behind, take_answer, touching}
+use Rattle.part_table.specs.Inside.{side_behind}
+use Rattle.part_table.specs.Take.{joined, joined_behind, joint, side_between, take_answer, touching}
 use Rattle.part_table.specs.Woven.{first_at, parts_behind, pieces_behind, woven, pieces_before}
 use Rattle.part_table.specs.declared.region.Region.{Region}
 use Rattle.part_table.specs.declared.region.Side.{Side}

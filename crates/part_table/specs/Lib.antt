@@ -1,5 +1,6 @@
 pub mod Bounds
 pub mod Give
+pub mod Inside
 pub mod Least
 pub mod Numbered
 pub mod Opening

@@ -1,7 +1,7 @@
 -- Taking: a loose piece is joined to a part that stands beside it.
 use Rattle.std.specs.Prelude.{ℕ, ◌==◌, ◌&&◌, List, [], ◌∷◌, Option, Some, None, if◌then◌else◌, Result, Ok, Err}
 use Rattle.std.specs.List.{find}
-use Rattle.std.specs.Option.{option_or, ok_or}
+use Rattle.std.specs.Option.{ok_or}
 use Rattle.tatp_rows.specs.declared.refusal.Refusal.{Refusal}
 use Rattle.tatp_rows.specs.declared.refusal.Refusal.TheVariants.{NoPiece, NoPart, NotAdjacent}
 use Rattle.part_table.specs.Region.{is_part, is_piece}
@@ -28,15 +28,6 @@ abbrev pub side_between : ℕ → ℕ → Region → Region → Option Side
 side_between n q first second =
     if is_piece n first && is_part q second then Some Low else (
     if is_part q first && is_piece n second then Some High else None)
-
--- the same among all neighbours, from a region and those behind it on
-abbrev pub side_behind : ℕ → ℕ → Region → List Region → Option Side
-side_behind n q first [] = None
-side_behind n q first (second ∷ regions) = option_or (side_between n q first second) (side_behind n q second regions)
-
-abbrev pub side_of : ℕ → ℕ → List Region → Option Side
-side_of n q [] = None
-side_of n q (region ∷ regions) = side_behind n q region regions
 
 -- the place of the part of two neighbours, which has the piece on one side
 abbrev pub part_place : Region → Region → Side → Place

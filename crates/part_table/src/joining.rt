@@ -1,7 +1,8 @@
 //! Joining a loose piece to the part beside it.
 ghost use Rattle.std.specs.Prelude.{◌≡◌, ◌-◌, ◌<◌, remove, slice_set};
 ghost use Rattle.arrayvec.specs.ArrayVec.{array_vec_len};
-ghost use Rattle.part_table.specs.Take.{side_of, joined, side_between, joint};
+ghost use Rattle.part_table.specs.Inside.{side_of};
+ghost use Rattle.part_table.specs.Take.{joined, side_between, joint};
 
 use crate::region::{Region, Side};
 use arrayvec::ArrayVec;

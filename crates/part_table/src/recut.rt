@@ -29,9 +29,9 @@ impl Regions {
         if parts != regions.len() {
             return Err(Refusal::Moving);
         }
-        let mut moves = rising_moves(regions, bounds);
-        push_falling(&mut moves, regions, bounds);
-        Ok(moves)
+        let rising = rising_moves(regions, bounds);
+        let falling = falling_moves(regions, bounds);
+        Ok(joined(rising, &falling))
     }
 }
 
@@ -73,19 +73,29 @@ fn rising_moves(regions: &[Region], bounds: &[u64]) -> ArrayVec<CutMove, 15>
     moves
 }
 
-/// Appends the moves of the bounds that fall, from the first up.
-fn push_falling(moves: &mut ArrayVec<CutMove, 15>, regions: &[Region], bounds: &[u64])
+/// The moves of the bounds that fall, from the first up.
+fn falling_moves(regions: &[Region], bounds: &[u64]) -> ArrayVec<CutMove, 15>
     requires rising { are_rising 1 bounds.now ≡ true }
     requires count { length bounds.now + 1 ≡ length regions.now }
     requires few { length bounds.now ≤ 15 }
-    requires room { array_vec_len moves.old + length (falling_moves 1 (bounds_of regions.now) bounds.now) ≤ 15 }
-    ensures { moves.new.items ≡ moves.old.items ++ falling_moves 1 (bounds_of regions.now) bounds.now }
+    ensures { result.items ≡ falling_moves 1 (bounds_of regions.now) bounds.now }
 {
+    let mut moves = ArrayVec::new();
     for i in 1..regions.len() {
         let from = regions[i].lo;
         let to = bounds[i - 1] as u32;
         if to < from {
-            push_move(moves, i, from, to);
+            push_move(&mut moves, i, from, to);
         }
     }
+    moves
+}
+
+/// Moves, and then others, which fit with them.
+fn joined(mut first: ArrayVec<CutMove, 15>, second: &ArrayVec<CutMove, 15>) -> ArrayVec<CutMove, 15>
+    requires { array_vec_len first + array_vec_len second.now ≤ 15 }
+    ensures { result.items ≡ first.items ++ second.now.items }
+{
+    let _all = first.try_extend_from_slice(second.as_slice());
+    first
 }

@@ -1,5 +1,5 @@
 -- The tests come in the order of the refusals; then the bounds that rise, and those that fall.
-use Rattle.std.proofs.Common.{◌∙◌, sym}
+use Rattle.std.proofs.Common.{◌∙◌, sym, arith}
 use Rattle.part_table.proofs.AnswerLemmas.{too_many, not_rising, some_loose, answers, few_bounds, few_moves, done}
 use Rattle.part_table.proofs.regions.Regions.moves_to.Goals as goal
 use Rattle.part_table.proofs.regions.Regions.moves_to.Goals.{then-bounds-parts-via-then-bounds-parts, then-bounds-parts-via-else-bounds-parts+then-not-are_rising}
@@ -20,28 +20,33 @@ returns-then-parts-regions-clause-answer c =
     rw (← c.list-regions.ensures.value)
     (some_loose regions c.args.bounds.now c.count_parts-parts.result c.count_parts-parts.ensures c.if-bounds-parts.false (sym c.are_rising.ensures ∙ c.if-not-are_rising.false) c.if-parts-regions.true)
 
-pub rising_moves-moves-requires-clause-few : goal.rising_moves-moves-requires-clause-few
-rising_moves-moves-requires-clause-few c =
-    few_bounds c.list-regions.result.now c.args.bounds.now c.count_parts-parts.result c.count_parts-parts.ensures c.if-bounds-parts.false (sym c.are_rising.ensures ∙ c.if-not-are_rising.false) c.if-parts-regions.false
+pub rising_moves-rising-requires-clause-few : goal.rising_moves-rising-requires-clause-few
+rising_moves-rising-requires-clause-few c =
+    few_bounds c.list-regions.result.now c.args.bounds.now c.count_parts-parts.result c.count_parts-parts.ensures
+    c.if-bounds-parts.false (sym c.are_rising.ensures ∙ c.if-not-are_rising.false) c.if-parts-regions.false
     c.list-regions.ensures.regions
 
-pub push_falling-requires-clause-few : goal.push_falling-requires-clause-few
-push_falling-requires-clause-few c =
-    few_bounds c.list-regions.result.now c.args.bounds.now c.count_parts-parts.result c.count_parts-parts.ensures c.if-bounds-parts.false (sym c.are_rising.ensures ∙ c.if-not-are_rising.false) c.if-parts-regions.false
+pub falling_moves-falling-requires-clause-few : goal.falling_moves-falling-requires-clause-few
+falling_moves-falling-requires-clause-few c =
+    few_bounds c.list-regions.result.now c.args.bounds.now c.count_parts-parts.result c.count_parts-parts.ensures
+    c.if-bounds-parts.false (sym c.are_rising.ensures ∙ c.if-not-are_rising.false) c.if-parts-regions.false
     c.list-regions.ensures.regions
 
-pub push_falling-requires-clause-room : goal.push_falling-requires-clause-room
-push_falling-requires-clause-room c =
-    rw c.rising_moves-moves.ensures
-    (few_moves c.list-regions.result.now c.args.bounds.now c.count_parts-parts.result c.count_parts-parts.ensures c.if-bounds-parts.false (sym c.are_rising.ensures ∙ c.if-not-are_rising.false) c.if-parts-regions.false
-    c.list-regions.ensures.regions)
+pub joined-requires : goal.joined-requires
+joined-requires c =
+    let rising = sym c.are_rising.ensures ∙ c.if-not-are_rising.false in
+    let few = few_moves c.list-regions.result.now c.args.bounds.now c.count_parts-parts.result c.count_parts-parts.ensures
+    c.if-bounds-parts.false rising c.if-parts-regions.false c.list-regions.ensures.regions in
+    rw (c.rising_moves-rising.ensures, c.falling_moves-falling.ensures) (omega (arith, few))
 
 pub returns : goal.returns
 returns c =
     let regions = c.list-regions.result.now in
     let rising = sym c.are_rising.ensures ∙ c.if-not-are_rising.false in
-    let moves = rw c.rising_moves-moves.ensures at c.push_falling.ensures in
+    let moves = rw (c.rising_moves-rising.ensures, c.falling_moves-falling.ensures) at c.joined.ensures in
     rw (← c.list-regions.ensures.value, moves) (record {
-      answer = answers regions c.args.bounds.now c.count_parts-parts.result c.count_parts-parts.ensures c.if-bounds-parts.false rising c.if-parts-regions.false;
-      done = done regions c.args.bounds.now c.count_parts-parts.result c.count_parts-parts.ensures c.if-bounds-parts.false rising c.if-parts-regions.false c.list-regions.ensures.regions;
+      answer = answers regions c.args.bounds.now c.count_parts-parts.result c.count_parts-parts.ensures
+          c.if-bounds-parts.false rising c.if-parts-regions.false;
+      done = done regions c.args.bounds.now c.count_parts-parts.result c.count_parts-parts.ensures
+          c.if-bounds-parts.false rising c.if-parts-regions.false c.list-regions.ensures.regions;
     })

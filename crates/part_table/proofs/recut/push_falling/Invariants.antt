@@ -1,7 +1,0 @@
-use Rattle.std.proofs.Common.{◌≡◌, ◌++◌}
-use Rattle.part_table.specs.Recut.{bounds_of, falling_moves}
-use Rattle.part_table.proofs.MoveLemmas.{falling_left}
-use Rattle.part_table.proofs.recut.push_falling.Given as goal
-
-abbrev pub invariant-loop-i : goal.invariant-loop-i
-invariant-loop-i l = l.moves.items ++ falling_left l.i (bounds_of l.regions) l.bounds ≡ l.initial.moves.items ++ falling_moves 1 (bounds_of l.regions) l.bounds
