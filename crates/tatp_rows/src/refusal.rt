@@ -143,3 +143,14 @@ pub struct Back<T> {
     /// What the call was given.
     pub item: T,
 }
+
+/// Why a call refused what it was given, which is let go; so `?` hands on the reason alone.
+impl<T: Drop> From<Back<T>> for Refusal {
+    ghost use Rattle.std.specs.Prelude.{◌≡◌};
+
+    ghost from_gives = { λ back why. why ≡ back.why };
+
+    fn from(back: Back<T>) -> Refusal {
+        back.why
+    }
+}

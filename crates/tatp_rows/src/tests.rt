@@ -278,6 +278,12 @@ fn zones_and_areas(rt: HostRuntime) {
     );
 }
 
+/// The reason of a call that handed a value back.
+fn reason_of(refused: Result<(), Back<u32>>) -> Result<(), Refusal> {
+    refused?;
+    Ok(())
+}
+
 #[test]
 fn refusals(rt: HostRuntime) -> Result<(), Fail> {
     assert_eq!(rt;
@@ -289,5 +295,6 @@ fn refusals(rt: HostRuntime) -> Result<(), Fail> {
         item: 7u32,
     };
     assert!(rt; back.clone()? == back);
+    assert_eq!(rt; reason_of(Err(back)), Err(Refusal::Exists));
     Ok(())
 }
