@@ -1,8 +1,8 @@
 //! A desk: the right to raise the words of its slots, and what it knows of the board.
-ghost use Rattle.std.specs.Prelude.{◌≡◌, ℕ, ◌+◌, ◌<◌, ◌≤◌, ◌↔◌, ◌^◌, List, Bool, true, IsTrue, if◌then◌else◌, ℤ, pos, neg_ℤ, ◌+ℤ◌, ◌≤ℤ◌, slice_index_or};
+ghost use Rattle.std.specs.Prelude.{◌≡◌, ℕ, ◌+◌, ◌<◌, ◌≤◌, ◌↔◌, ◌^◌, List, Bool, true, false, IsTrue, if◌then◌else◌, ℤ, pos, neg_ℤ, ◌+ℤ◌, ◌≤ℤ◌, slice_index_or};
 ghost use Rattle.view_board.specs.Views.{owned_at, Owns, IsWide, slots_of_both, numbers_of_both};
 ghost use Rattle.view_board.specs.Words.{slot_net};
-ghost use Rattle.view_board.specs.Nets.{net_of, AreWithin};
+ghost use Rattle.view_board.specs.Nets.{net_of, net_from, AreWithin};
 
 use crate::rule::View;
 use crate::words::{CELLS, SLOT_WORDS, SLOTS, WORDS};
@@ -44,13 +44,7 @@ impl Desk {
         ensures low { neg_ℤ (pos (2 ^ 68)) ≤ℤ result }
         ensures high { result ≤ℤ pos (2 ^ 68) }
     {
-        // This opens the desk, so that its rules are known as the walk begins.
-        let _ = &self.owned;
-        let mut sum = 0;
-        for slot in 0..SLOTS {
-            sum += self.own_net(slot, cell);
-        }
-        sum
+        net_over(&self.owned, &self.numbers, cell)
     }
 
     /// What the desk has published of each cell, in one walk over its slots.
@@ -80,21 +74,36 @@ impl Desk {
             add_slot(&self.numbers, slot, sums);
         }
     }
+}
 
-    /// The net of a slot in a cell, or 0 where the slot isn't the desk's.
-    #[inline(always)]
-    fn own_net(&self, slot: u8, cell: u8) -> i128
-        requires slot { slot < SLOTS }
-        requires cell { cell < CELLS }
-        ensures value { result ≡ (if owned_at self.now.view slot then slot_net self.now.view.numbers cell slot else pos 0) }
-        ensures low { neg_ℤ (pos (2 ^ 64)) ≤ℤ result }
-        ensures high { result ≤ℤ pos (2 ^ 64) }
-    {
-        if !self.owned[usize::from(slot)] {
-            return 0;
-        }
-        net_in(&self.numbers, slot, cell)
+/// The sum of the nets in a cell of the slots whose flag is up.
+#[inline(always)]
+pub(crate) fn net_over(owned: &[bool; SLOTS as usize], numbers: &[u64; WORDS], cell: u8) -> i128
+    requires { cell < CELLS }
+    ensures value { result ≡ net_from owned.now 0 numbers.now cell }
+    ensures low { neg_ℤ (pos (2 ^ 68)) ≤ℤ result }
+    ensures high { result ≤ℤ pos (2 ^ 68) }
+{
+    let mut sum = 0;
+    for slot in 0..SLOTS {
+        sum += own_net(owned, numbers, slot, cell);
     }
+    sum
+}
+
+/// The net of a slot in a cell, or 0 where its flag isn't up.
+#[inline(always)]
+fn own_net(owned: &[bool; SLOTS as usize], numbers: &[u64; WORDS], slot: u8, cell: u8) -> i128
+    requires slot { slot < SLOTS }
+    requires cell { cell < CELLS }
+    ensures value { result ≡ (if slice_index_or owned.now slot false then slot_net numbers.now cell slot else pos 0) }
+    ensures low { neg_ℤ (pos (2 ^ 64)) ≤ℤ result }
+    ensures high { result ≤ℤ pos (2 ^ 64) }
+{
+    if !owned[usize::from(slot)] {
+        return 0;
+    }
+    net_in(numbers, slot, cell)
 }
 
 /// The net of a slot in a cell.

@@ -167,3 +167,14 @@ fn words_at_limit(rt: HostRuntime) -> Result<(), Fail> {
     assert!(rt; end == words);
     Ok(())
 }
+
+#[test]
+fn sights_tell_words_by_slot_and_cell(rt: HostRuntime) {
+    let mut words = [0; WORDS];
+    words[5] = 4;
+    words[311] = 7;
+    words[362] = 2;
+    let sight = Sight { words };
+    let told = (sight.words_of(3, 5), sight.published(5), sight.published(6));
+    assert_eq!(rt; told, ((7, 2), 9, 0));
+}

@@ -1,6 +1,10 @@
 //! The words: how many there are, and which of them an amount raises.
-ghost use Rattle.std.specs.Prelude.{◌≡◌, ◌<◌};
-ghost use Rattle.view_board.specs.Words.{word_of};
+ghost use Rattle.std.specs.Prelude.{◌≡◌, ◌<◌, slice_index};
+ghost use Rattle.view_board.specs.Nets.{net_of};
+ghost use Rattle.view_board.specs.Views.{first_view};
+ghost use Rattle.view_board.specs.Words.{plus_word, minus_word, word_of};
+
+use crate::desk::net_over;
 
 /// How many slots the board has.
 pub const SLOTS: u8 = 16;
@@ -22,6 +26,29 @@ pub const LIMIT: u64 = 9_223_372_036_854_775_807;
 #[derive(Clone, Copy, Debug, PartialEq, Eq)]
 pub struct Sight {
     pub words: [u64; WORDS],
+}
+
+impl Sight {
+    /// The plus-word and the minus-word of a slot below 16 and a cell below 51: how much was added to the cell there, and
+    /// how much was taken off it.
+    pub fn words_of(&self, slot: u8, cell: u8) -> (u64, u64)
+        requires slot { slot < SLOTS }
+        requires cell { cell < CELLS }
+        ensures plus { result.0 ≡ slice_index self.now.words (plus_word slot cell) }
+        ensures minus { result.1 ≡ slice_index self.now.words (minus_word slot cell) }
+    {
+        let plus = usize::from(slot) * SLOT_WORDS + usize::from(cell);
+        let minus = plus + usize::from(CELLS);
+        (self.words[plus], self.words[minus])
+    }
+
+    /// What is published of a cell below 51: what a desk that has all slots would have published by these words.
+    pub fn published(&self, cell: u8) -> i128
+        requires { cell < CELLS }
+        ensures { result ≡ net_of (first_view self.now.words) cell }
+    {
+        net_over(&[true; SLOTS as usize], &self.words, cell)
+    }
 }
 
 /// The word that an amount raises in a slot and cell: the plus-word, or for a negative amount the minus-word.

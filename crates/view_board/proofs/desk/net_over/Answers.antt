@@ -1,19 +1,14 @@
-use Rattle.std.proofs.Common.{◌≡◌, ap, arith, length, to_z, of_z}
+use Rattle.std.proofs.Common.{◌≡◌, arith, to_z, of_z}
 use Rattle.std.specs.Prelude.{◌+ℤ◌}
 use Rattle.std.specs.Int.{w128}
 use Rattle.std.proofs.lemmas.Int.{ints, to_z-of_z}
-use Rattle.view_board.specs.declared.rule.View.{View}
-use Rattle.view_board.specs.declared.words.TheConstants.{SLOTS}
-use Rattle.view_board.specs.Desks.{Station}
 use Rattle.view_board.proofs.NetLemmas.{net_from-next, net_from-end}
-use Rattle.view_board.proofs.desk.Desk.net.Goals as goal
+use Rattle.view_board.proofs.desk.net_over.Goals as goal
 
 pub loop-slot-preserved : goal.loop-slot-preserved
 loop-slot-preserved c =
-    let v : View = c.args.self.now.view in
     let slot = c.loop-slot.slot in
-    let slots : length v.owned ≡ SLOTS = rw (← ap (λ (d : Station). d.view) c.self.view_is) c.self.invariant.wide.slots in
-    let next = net_from-next v.owned slot slot v.numbers c.args.cell (omega (arith, slots, c.loop-slot-test.true)) in
+    let next = net_from-next c.args.owned.now slot slot c.args.numbers.now c.args.cell (omega (arith, c.told-owned, c.loop-slot-test.true)) in
     let before = c.loop-slot.invariant in
     let own = c.own_net-sum.ensures in
     let low = own.low in
@@ -29,7 +24,5 @@ loop-slot-preserved c =
 
 pub returns-clause-value : goal.returns-clause-value
 returns-clause-value c =
-    let v : View = c.args.self.now.view in
-    let slots : length v.owned ≡ SLOTS = rw (← ap (λ (d : Station). d.view) c.self.view_is) c.self.invariant.wide.slots in
-    let last = net_from-end v.owned c.loop-slot.slot c.loop-slot.slot v.numbers c.args.cell (omega (arith, slots, c.loop-slot-test.false)) in
+    let last = net_from-end c.args.owned.now c.loop-slot.slot c.loop-slot.slot c.args.numbers.now c.args.cell (omega (arith, c.told-owned, c.loop-slot-test.false)) in
     omega (arith, ints, c.loop-slot.invariant.sum, last)
