@@ -1,3 +1,4 @@
+pub mod CountLemmas
 pub mod GraftLemmas
 pub mod JoinLemmas
 pub mod CutLemmas

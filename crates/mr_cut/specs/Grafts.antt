@@ -1,5 +1,5 @@
 -- A node that is hung at the end or the front of another one: what comes of both.
-use Rattle.std.specs.Prelude.{◌≡◌, ℕ, ◌-◌, ◌<◌, ◌≤◌, List, ◌++◌, Option, Some, None}
+use Rattle.std.specs.Prelude.{◌≡◌, ℕ, ◌+◌, ◌-◌, ◌*◌, ◌<◌, ◌≤◌, List, ◌++◌, Option, Some, None}
 use Rattle.std.specs.List.{AllByRecursion}
 use Rattle.std.specs.declared.boxed.Box.{Box}
 use Rattle.std.specs.declared.alloc.Global.{Global}
@@ -49,3 +49,12 @@ pub record AreTwoOf {V : Type 0} (height width lower : ℕ) (rows : List (ℕ ×
 abbrev pub IsGrafted : {V : Type 0} → ℕ → ℕ → ℕ → List (ℕ × V) → Seen V → MaybeNode V → Type 0
 IsGrafted height width lower rows one None = IsOneOf height width rows one
 IsGrafted height width lower rows one (Some two) = AreTwoOf height width lower rows one two.value
+
+-- how many nodes there are besides the first: each wants a blank node
+abbrev pub more_of : {V : Type 0} → MaybeNode V → ℕ
+more_of None = 0
+more_of (Some two) = 1
+
+-- the steps of joining nodes whose heights differ by so much, where so many blank nodes were used, and so many of those for a new root: four where they meet, two a level between, five for each level from which two nodes came back, and one for a new root
+abbrev pub join_steps : ℕ → ℕ → ℕ → ℕ
+join_steps apart used roots = 4 + 2 * apart + 5 * (used - roots) + roots

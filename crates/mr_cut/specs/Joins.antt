@@ -3,6 +3,7 @@ use Rattle.std.specs.Prelude.{◌≡◌, ℕ, ◌+◌, ◌<◌, ◌≤◌, max, 
 use Rattle.tatp_rows.specs.Ordered.{IsOrderedBy}
 use Rattle.mr_node.specs.Rows.{Seen, key_of_pair}
 use Rattle.mr_node.specs.Pairs.{IsKidNode}
+use Rattle.mr_node.specs.Steps.{after_steps}
 use Rattle.mr_subtree.specs.Trees.{IsRoot}
 use Rattle.mr_cut.specs.Grafts.{MaybeNode}
 
@@ -21,3 +22,8 @@ pub record IsHeightOfBoth {V : Type 0} (a b : Seen V) (height : ℕ) : Type 0 wh
   pub most : height ≤ max a.height b.height + 1
   pub left : b.height < a.height → a.width < 32 → height ≤ a.height
   pub right : a.height < b.height → b.width < 32 → height ≤ b.height
+
+-- a meter before and after the root: a new one over two nodes is a step
+abbrev pub IsCrownCount : {V : Type 0} → MaybeNode V → ℕ → ℕ → Type 0
+IsCrownCount None before after = after ≡ before
+IsCrownCount (Some two) before after = after ≡ after_steps 1 before

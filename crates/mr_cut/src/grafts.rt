@@ -5,7 +5,7 @@ ghost use Rattle.mr_node.specs.Rows.{key_limit, key_of_pair, KeysBelow};
 ghost use Rattle.mr_node.specs.Levels.{kids_of, rows_of};
 ghost use Rattle.mr_node.specs.Pairs.{IsKidNode};
 ghost use Rattle.mr_node.specs.Steps.{after_steps};
-ghost use Rattle.mr_cut.specs.Grafts.{IsRest, IsEvened, IsGrafted, rows_with};
+ghost use Rattle.mr_cut.specs.Grafts.{IsRest, IsEvened, IsGrafted, rows_with, more_of, join_steps};
 
 use mr_node::{Body, Branch, Meter, Node, Stock, build_inner, hang, no_branch, open, take_kid};
 
@@ -43,7 +43,7 @@ fn lone<V: Drop>(
     build_inner(branch, blank, meter)
 }
 
-// Puts what became of the last child back behind the others.
+// Puts what became of the last child back behind the others. One step, or six where it became two.
 fn hang_high<V: Drop>(
     mut branch: Branch<Box<Node<V>>>,
     one: Box<Node<V>>,
@@ -59,9 +59,8 @@ fn hang_high<V: Drop>(
     requires ordered { IsOrderedBy key_of_pair (rows_of (kids_of branch) ++ rows_with one.value two) }
     requires stock { 0 < stock.old }
     ensures grafted { IsGrafted branch.height (branch.len + 1) 0 (rows_of (kids_of branch) ++ rows_with one.value two) result.0.value result.1 }
-    ensures stock { stock.old ≤ stock.new + 1 }
-    ensures no_fewer { after_steps 1 meter.old ≤ meter.new }
-    ensures steps { meter.new ≤ meter.old + 6 }
+    ensures stock { stock.old ≡ stock.new + more_of two }
+    ensures steps { meter.new ≡ after_steps (1 + 5 * more_of two) meter.old }
 {
     let height = branch.height;
     let end = branch.len;
@@ -76,7 +75,7 @@ fn hang_high<V: Drop>(
     }
 }
 
-// Puts what became of the first child back in front of the others.
+// Puts what became of the first child back in front of the others. One step, or six where it became two.
 fn hang_low<V: Drop>(
     mut branch: Branch<Box<Node<V>>>,
     one: Box<Node<V>>,
@@ -92,9 +91,8 @@ fn hang_low<V: Drop>(
     requires ordered { IsOrderedBy key_of_pair (rows_with one.value two ++ rows_of (kids_of branch)) }
     requires stock { 0 < stock.old }
     ensures grafted { IsGrafted branch.height (branch.len + 1) 0 (rows_with one.value two ++ rows_of (kids_of branch)) result.0.value result.1 }
-    ensures stock { stock.old ≤ stock.new + 1 }
-    ensures no_fewer { after_steps 1 meter.old ≤ meter.new }
-    ensures steps { meter.new ≤ meter.old + 6 }
+    ensures stock { stock.old ≡ stock.new + more_of two }
+    ensures steps { meter.new ≡ after_steps (1 + 5 * more_of two) meter.old }
 {
     let height = branch.height;
     match two {
@@ -112,7 +110,7 @@ fn hang_low<V: Drop>(
 }
 
 // Hangs a node at the end of one that is as high or higher, with its rows behind: one node of that height comes of
-// it, or two half full ones. Four steps, and up to seven a level between.
+// it, or two half full ones. Four steps, and two a level between, or seven where two nodes come back.
 pub(crate) fn graft_high<V: Drop>(
     node: Box<Node<V>>,
     other: Box<Node<V>>,
@@ -124,8 +122,8 @@ pub(crate) fn graft_high<V: Drop>(
     requires stock { node.value.height - other.value.height ≤ stock.old }
     ensures grafted { IsGrafted node.value.height node.value.width other.value.height (node.value.rows ++ other.value.rows) result.0.value result.1 }
     ensures stock { stock.old ≤ stock.new + (node.value.height - other.value.height) }
-    ensures no_fewer { after_steps (2 * (node.value.height - other.value.height) + 4) meter.old ≤ meter.new }
-    ensures steps { meter.new ≤ meter.old + (7 * (node.value.height - other.value.height) + 4) }
+    ensures fewer { stock.new ≤ stock.old }
+    ensures steps { meter.new ≡ after_steps (join_steps (node.value.height - other.value.height) (stock.old - stock.new) 0) meter.old }
 {
     if node.height() == other.height() {
         return even(node, other, meter);
@@ -143,7 +141,7 @@ pub(crate) fn graft_high<V: Drop>(
 }
 
 // Hangs a node at the front of one that is as high or higher, with its rows in front: one node of that height comes
-// of it, or two half full ones. Four steps, and up to seven a level between.
+// of it, or two half full ones. Four steps, and two a level between, or seven where two nodes come back.
 pub(crate) fn graft_low<V: Drop>(
     node: Box<Node<V>>,
     other: Box<Node<V>>,
@@ -155,8 +153,8 @@ pub(crate) fn graft_low<V: Drop>(
     requires stock { node.value.height - other.value.height ≤ stock.old }
     ensures grafted { IsGrafted node.value.height node.value.width other.value.height (other.value.rows ++ node.value.rows) result.0.value result.1 }
     ensures stock { stock.old ≤ stock.new + (node.value.height - other.value.height) }
-    ensures no_fewer { after_steps (2 * (node.value.height - other.value.height) + 4) meter.old ≤ meter.new }
-    ensures steps { meter.new ≤ meter.old + (7 * (node.value.height - other.value.height) + 4) }
+    ensures fewer { stock.new ≤ stock.old }
+    ensures steps { meter.new ≡ after_steps (join_steps (node.value.height - other.value.height) (stock.old - stock.new) 0) meter.old }
 {
     if node.height() == other.height() {
         return even(other, node, meter);

@@ -1,11 +1,12 @@
 //! Two trees that become one.
-ghost use Rattle.std.specs.Prelude.{◌≡◌, ◌+◌, ◌*◌, ◌<◌, ◌≤◌, ◌++◌};
+ghost use Rattle.std.specs.Prelude.{◌≡◌, ◌+◌, ◌-◌, ◌*◌, ◌<◌, ◌≤◌, max, ◌++◌};
 ghost use Rattle.std.specs.Int.{abs_diff};
 ghost use Rattle.tatp_rows.specs.Ordered.{IsOrderedBy};
 ghost use Rattle.mr_node.specs.Rows.{key_of_pair};
 ghost use Rattle.mr_node.specs.Steps.{after_steps};
 ghost use Rattle.mr_subtree.specs.Trees.{IsRoot};
-ghost use Rattle.mr_cut.specs.Joins.{IsCrownless, IsCrowned, IsHeightOfBoth};
+ghost use Rattle.mr_cut.specs.Grafts.{more_of, join_steps};
+ghost use Rattle.mr_cut.specs.Joins.{IsCrownless, IsCrowned, IsCrownCount, IsHeightOfBoth};
 
 use crate::grafts::{graft_high, graft_low};
 use mr_node::{Meter, Node, Stock, build_inner, hang, no_branch};
@@ -20,9 +21,8 @@ fn crown<V: Drop>(
     requires whole { IsCrownless one.value two }
     requires stock { 0 < stock.old }
     ensures root { IsCrowned one.value two result.value }
-    ensures stock { stock.old ≤ stock.new + 1 }
-    ensures no_fewer { after_steps 0 meter.old ≤ meter.new }
-    ensures steps { meter.new ≤ meter.old + 1 }
+    ensures stock { stock.old ≡ stock.new + more_of two }
+    ensures steps { IsCrownCount two meter.old meter.new }
 {
     match two {
         Some(two) => {
@@ -50,6 +50,8 @@ pub(crate) fn join<V: Drop>(
     ensures rows { result.value.rows ≡ low.value.rows ++ high.value.rows }
     ensures height { IsHeightOfBoth low.value high.value result.value.height }
     ensures stock { stock.old ≤ stock.new + (abs_diff low.value.height high.value.height + 1) }
+    ensures fewer { stock.new ≤ stock.old }
+    ensures count { meter.new ≡ after_steps (join_steps (abs_diff low.value.height high.value.height) (stock.old - stock.new) (result.value.height - max low.value.height high.value.height)) meter.old }
     ensures no_fewer { after_steps (2 * abs_diff low.value.height high.value.height + 4) meter.old ≤ meter.new }
     ensures steps { meter.new ≤ meter.old + 16 * (abs_diff low.value.height high.value.height + 1) }
 {

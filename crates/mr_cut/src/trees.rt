@@ -1,7 +1,8 @@
 //! Slice and meld of whole trees.
-ghost use Rattle.std.specs.Prelude.{◌≡◌, ◌+◌, ◌*◌, ◌≤◌, ◌++◌};
+ghost use Rattle.std.specs.Prelude.{◌≡◌, ◌+◌, ◌-◌, ◌*◌, ◌≤◌, max, ◌++◌};
 ghost use Rattle.std.specs.Int.{abs_diff};
 ghost use Rattle.mr_cut.specs.Cuts.{IsCut, AreApart, rows_below, rows_from};
+ghost use Rattle.mr_cut.specs.Grafts.{join_steps};
 
 use crate::cuts::cut;
 use crate::joins::join;
@@ -29,14 +30,16 @@ fn boxed<V: Drop>(node: Node<V>, mut blank: Box<Node<V>>) -> Box<Node<V>>
     blank
 }
 
-/// Cuts a tree at a key. It takes no memory but the blank nodes of the stock (`need_slice`).
+/// Cuts a tree at a key: at most three steps a level on the path, and two melds a level beside it. It takes no memory but
+/// the blank nodes of the stock (`need_slice`).
 pub fn slice<V: Drop>(tree: SubTree<V>, key: u64, stock: &mut Stock<V>) -> Cut<V>
     requires stock { (tree.height + 2) * (tree.height + 2) + 1 ≤ stock.old }
     ensures low { result.low.rows ≡ rows_below key tree.rows }
     ensures high { result.high.rows ≡ rows_from key tree.rows }
     ensures cut { IsCut key tree result.low result.high }
-    ensures path { result.path ≤ 32 * (tree.height + 1) }
+    ensures path { result.path ≤ 3 * (tree.height + 1) }
     ensures path_no_fewer { tree.height + 3 ≤ result.path }
+    ensures joins { result.steps ≤ result.path + 32 * ((tree.height + 1) * (tree.height + 1)) }
     ensures steps { result.steps ≤ 64 * ((tree.height + 1) * (tree.height + 1)) }
     ensures no_fewer { result.path + 8 * tree.height ≤ result.steps }
 {
@@ -56,11 +59,16 @@ pub fn slice<V: Drop>(tree: SubTree<V>, key: u64, stock: &mut Stock<V>) -> Cut<V
 }
 
 /// Joins two trees, the keys of the low one below those of the high one: the rows of the one, and then those of the
-/// other; and how many steps it took. It takes no memory but the blank nodes of the stock (`need_meld`).
+/// other; and how many steps it took: four, two for each level by which the heights differ, five for each of those levels
+/// from which two nodes came back, and one for a new root. It takes no memory but the blank nodes of the stock
+/// (`need_meld`): two, one for each such level, and one for a new root.
 pub fn meld<V: Drop>(low: SubTree<V>, high: SubTree<V>, stock: &mut Stock<V>) -> (SubTree<V>, u64)
     requires apart { AreApart low.rows high.rows }
     requires stock { abs_diff low.height high.height + 3 ≤ stock.old }
     ensures rows { result.0.rows ≡ low.rows ++ high.rows }
+    ensures stock { stock.new + 2 ≤ stock.old }
+    ensures used { stock.old ≤ stock.new + (abs_diff low.height high.height + 3) }
+    ensures count { result.1 ≡ join_steps (abs_diff low.height high.height) (stock.old - stock.new - 2) (result.0.height - max low.height high.height) }
     ensures steps { result.1 ≤ 16 * (abs_diff low.height high.height + 1) }
     ensures no_fewer { 2 * abs_diff low.height high.height + 4 ≤ result.1 }
 {

@@ -161,13 +161,14 @@ impl<V: Drop> SubTree<V> {
     }
 
     /// Puts a row in. Exists where a row with the key is there, Memory where the blank nodes for it can't be had, which
-    /// a tree of less than 32 rows never wants: then the tree is as it was, and the value is handed back. The key is
-    /// below 18446744073709551614.
+    /// a tree of less than 32 rows never wants, since it stays as high as it is: then the tree is as it was, and the
+    /// value is handed back. The key is below 18446744073709551614.
     pub fn insert(&mut self, key: u64, value: V) -> Result<(), Back<V>>
         requires { key < key_limit }
         ensures answer { IsInserted key value self.old.rows self.new.rows result }
         ensures kept { OnErr result (self.new ≡ self.old) }
         ensures memory { IfErr result (λ back. back.why ≡ Refusal.Memory → 32 ≤ length self.old.rows) }
+        ensures height { length self.old.rows < 32 → self.new.height ≡ self.old.height }
     {
         let mut item = Some(value);
         match self.root.insert_room(key, &mut item) {

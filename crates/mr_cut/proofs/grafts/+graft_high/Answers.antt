@@ -4,6 +4,7 @@ use Rattle.mr_node.specs.Rows.{key_of_pair}
 use Rattle.mr_node.specs.Levels.{kids_of, rows_of, seen, IsNode}
 use Rattle.mr_node.proofs.KidLemmas.{kid_at}
 use Rattle.mr_cut.proofs.GraftLemmas.{IsApartHigh, last_off, evened_grafted, grafted_kids, grafted_rows, regrafted}
+use Rattle.mr_cut.proofs.CountLemmas.{met_count, more_fits, hung_count}
 use Rattle.mr_cut.proofs.grafts.+graft_high.Goals.{After-open-body, After-take_kid-kid}
 use Rattle.mr_cut.proofs.grafts.+graft_high.Goals as goal
 
@@ -53,27 +54,20 @@ returns-clause-stock g t c =
     let at = goal.at.returns-clause-stock g t c in
     let lt = lower g t at.After-open-body in
     let off = apart g t at.After-take_kid-kid in
-    omega (arith, off.level, lt, c.graft_high-one.ensures.stock, c.hang_high.ensures.stock)
-
-pub returns-clause-no_fewer : goal.returns-clause-no_fewer
-returns-clause-no_fewer g t c =
-    let at = goal.at.returns-clause-no_fewer g t c in
-    let lt = lower g t at.After-open-body in
-    let off = apart g t at.After-take_kid-kid in
-    omega (arith, off.level, lt, c.open-body.ensures.steps, c.graft_high-one.ensures.no_fewer, c.hang_high.ensures.no_fewer)
+    omega (arith, off.level, lt, c.graft_high-one.ensures.stock, c.hang_high.ensures.stock, more_fits c.graft_high-one.result.1)
 
 pub returns-clause-steps : goal.returns-clause-steps
 returns-clause-steps g t c =
     let at = goal.at.returns-clause-steps g t c in
-    let lt = lower g t at.After-open-body in
-    let off = apart g t at.After-take_kid-kid in
-    omega (arith, off.level, lt, c.open-body.ensures.steps, c.graft_high-one.ensures.steps, c.hang_high.ensures.steps)
+    hung_count c.args.node.value.height c.args.other.value.height c.take_kid-kid.result.node.value.height c.args.stock.now _ _ _ _ _ _ c.graft_high-one.result.1 (lower g t at.After-open-body) (apart g t at.After-take_kid-kid).level c.open-body.ensures.steps c.graft_high-one.ensures.fewer c.graft_high-one.ensures.steps c.hang_high.ensures.stock c.hang_high.ensures.steps
 
 pub unreachable-requires : goal.unreachable-requires
 unreachable-requires g t c = omega (arith, lower g t (goal.at.unreachable-requires g t c).After-open-body, ap (λ s. s.height) (sym (ap seen c.in-Leaf.is) ∙ c.open-body.ensures.seen))
 
-pub returns-then-height-clause-no_fewer : goal.returns-then-height-clause-no_fewer
-returns-then-height-clause-no_fewer g t c = omega (arith, c.if-height.true, c.height.ensures.value, c.height-2.ensures.value, ap (λ s. s.height) c.deref.ensures, ap (λ s. s.height) c.deref-2.ensures, c.even.ensures.steps)
+pub returns-then-height-clause-steps : goal.returns-then-height-clause-steps
+returns-then-height-clause-steps g t c =
+    let same : c.args.node.value.height ≡ c.args.other.value.height = omega (arith, c.if-height.true, c.height.ensures.value, c.height-2.ensures.value, ap (λ s. s.height) c.deref.ensures, ap (λ s. s.height) c.deref-2.ensures) in
+    met_count c.args.node.value.height c.args.other.value.height c.args.stock.now _ _ same c.even.ensures.steps
 
 pub overflow_sub-last : goal.overflow_sub-last
 overflow_sub-last g t c = omega (arith, (subst IsNode c.in-Inner.is c.open-body.ensures.whole).some)

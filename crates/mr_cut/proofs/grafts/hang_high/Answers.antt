@@ -4,6 +4,7 @@ use Rattle.mr_node.specs.Rows.{key_of_pair}
 use Rattle.mr_node.specs.Levels.{kids_of, rows_of, IsBranch}
 use Rattle.mr_cut.specs.Grafts.{rows_with}
 use Rattle.mr_cut.proofs.GraftLemmas.{hung_high, hung_one, AreEnds, high_ends, ends_grafted}
+use Rattle.mr_cut.proofs.CountLemmas.{one_hung, two_hung}
 use Rattle.mr_cut.proofs.grafts.hang_high.Goals.{After-hang, After-lone-last}
 use Rattle.mr_cut.proofs.grafts.hang_high.Goals as goal
 
@@ -34,3 +35,15 @@ pub returns-in-None-clause-grafted : goal.returns-in-None-clause-grafted
 returns-in-None-clause-grafted g c =
     let put = hung g (goal.at.returns-in-None-clause-grafted g c).After-hang in
     rw c.in-None.is (hung_one c.args.branch c.hang.new.branch _ _ put.0 c.hang.ensures.height c.hang.ensures.len put.1 c.build_inner-node.ensures.seen)
+
+pub returns-in-Some-clause-stock : goal.returns-in-Some-clause-stock
+returns-in-Some-clause-stock g c = (two_hung c.args.two c.in-Some.two _ _ _ _ _ _ c.in-Some.is c.give.ensures c.build_inner-node.ensures.steps c.lone-last.ensures.steps c.even.ensures.steps).0
+
+pub returns-in-Some-clause-steps : goal.returns-in-Some-clause-steps
+returns-in-Some-clause-steps g c = (two_hung c.args.two c.in-Some.two _ _ _ _ _ _ c.in-Some.is c.give.ensures c.build_inner-node.ensures.steps c.lone-last.ensures.steps c.even.ensures.steps).1
+
+pub returns-in-None-clause-stock : goal.returns-in-None-clause-stock
+returns-in-None-clause-stock g c = (one_hung c.args.two c.args.stock.now _ _ c.in-None.is c.build_inner-node.ensures.steps).0
+
+pub returns-in-None-clause-steps : goal.returns-in-None-clause-steps
+returns-in-None-clause-steps g c = (one_hung c.args.two c.args.stock.now _ _ c.in-None.is c.build_inner-node.ensures.steps).1

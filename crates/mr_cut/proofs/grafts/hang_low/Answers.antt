@@ -5,6 +5,7 @@ use Rattle.mr_node.specs.Pairs.{IsKidNode}
 use Rattle.mr_node.specs.Levels.{kids_of, rows_of, IsBranch}
 use Rattle.mr_cut.specs.Grafts.{rows_with}
 use Rattle.mr_cut.proofs.GraftLemmas.{put_front, last_ordered, hung_one, AreEnds, low_ends, ends_grafted}
+use Rattle.mr_cut.proofs.CountLemmas.{one_hung, two_hung}
 use Rattle.mr_cut.proofs.grafts.hang_low.Goals.{After-hang, After-lone-first, After-hang-in-None}
 use Rattle.mr_cut.proofs.grafts.hang_low.Goals as goal
 
@@ -47,3 +48,15 @@ pub returns-in-None-clause-grafted : goal.returns-in-None-clause-grafted
 returns-in-None-clause-grafted g c =
     let put = hung_alone g (goal.at.returns-in-None-clause-grafted g c).After-hang-in-None in
     rw c.in-None.is (hung_one c.args.branch c.hang-in-None.new.branch _ _ put.0 c.hang-in-None.ensures.height c.hang-in-None.ensures.len put.1 c.build_inner.ensures.seen)
+
+pub returns-in-Some-clause-stock : goal.returns-in-Some-clause-stock
+returns-in-Some-clause-stock g c = (two_hung c.args.two c.in-Some.two _ _ _ _ _ _ c.in-Some.is c.give.ensures c.build_inner-node.ensures.steps c.lone-first.ensures.steps c.even.ensures.steps).0
+
+pub returns-in-Some-clause-steps : goal.returns-in-Some-clause-steps
+returns-in-Some-clause-steps g c = (two_hung c.args.two c.in-Some.two _ _ _ _ _ _ c.in-Some.is c.give.ensures c.build_inner-node.ensures.steps c.lone-first.ensures.steps c.even.ensures.steps).1
+
+pub returns-in-None-clause-stock : goal.returns-in-None-clause-stock
+returns-in-None-clause-stock g c = (one_hung c.args.two c.args.stock.now _ _ c.in-None.is c.build_inner.ensures.steps).0
+
+pub returns-in-None-clause-steps : goal.returns-in-None-clause-steps
+returns-in-None-clause-steps g c = (one_hung c.args.two c.args.stock.now _ _ c.in-None.is c.build_inner.ensures.steps).1

@@ -54,3 +54,9 @@ pub cut-low-requires : goal.cut-low-requires
 cut-low-requires g c =
     let whole = c.boxed-root.ensures ∙ c.into_root.ensures.same in
     (search rules, subst (λ s. (s.height + 2) * (s.height + 2) ≤ c.give.new.self) (sym whole) (omega (arith, c.give.ensures, c.requires.stock)))
+
+pub returns-clause-joins : goal.returns-clause-joins
+returns-clause-joins g c =
+    let whole = c.boxed-root.ensures ∙ c.into_root.ensures.same in
+    let beside = subst (λ s. c.cut-low.new.joins ≤ c.new-joins.result + 32 * ((s.height + 1) * (s.height + 1))) whole c.cut-low.ensures.joins in
+    omega (arith, beside, c.new-joins.ensures, c.steps.ensures, c.steps-2.ensures, c.steps-3.ensures)

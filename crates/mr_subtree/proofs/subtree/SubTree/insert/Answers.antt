@@ -1,4 +1,4 @@
-use Rattle.std.proofs.Common.{rules, Some, IsSome, refl, sym, ap, subst, length, ◌≤◌, ◌∙◌}
+use Rattle.std.proofs.Common.{rules, arith, Some, IsSome, refl, sym, ap, subst, length, ◌≤◌, ◌∙◌}
 use Rattle.tatp_rows.specs.Ordered.{row_at}
 use Rattle.mr_node.specs.Rows.{key_of_pair}
 use Rattle.mr_subtree.proofs.RootFacts.{grown_root, memory_wanted}
@@ -22,3 +22,14 @@ returns-in-Done-clause-answer g c =
       | in-Some-1 w ↦ (none, ap (λ s. s.rows) w.self-is ∙ grown.1)
       | in-None-1 w ↦ (none, ap (λ s. s.rows) w.self-is ∙ grown.1)
     ]
+
+pub returns-in-Done-clause-height : goal.returns-in-Done-clause-height
+returns-in-Done-clause-height g c =
+    let same = c.in-Done.ensures.answer.1.level ∙ ap (λ s. s.height) c.self.view_is in
+    elim c.match-item.branch [
+      | in-Some-1 w ↦ λ few. ap (λ s. s.height) w.self-is ∙ same
+      | in-None-1 w ↦ λ few. ap (λ s. s.height) w.self-is ∙ same
+    ]
+
+pub returns-in-Full-clause-height : goal.returns-in-Full-clause-height
+returns-in-Full-clause-height g c = λ few. absurd (omega (arith, few, subst (λ s. 32 ≤ length s.rows) c.self.view_is c.in-Full.ensures.answer.2))

@@ -1,0 +1,67 @@
+-- The steps of nodes that become one, and the blank nodes that they use.
+use Rattle.std.proofs.Common.{◌≡◌, ℕ, ◌+◌, ◌-◌, ◌*◌, ◌<◌, ◌≤◌, max, List, Some, None, sym, ap, ◌∙◌, arith}
+use Rattle.std.specs.Int.{abs_diff}
+use Rattle.std.specs.declared.boxed.Box.{Box}
+use Rattle.std.specs.declared.alloc.Global.{Global}
+use Rattle.mr_node.specs.Rows.{Seen}
+use Rattle.mr_node.specs.Steps.{after_steps}
+use Rattle.mr_cut.specs.Grafts.{MaybeNode, IsGrafted, more_of, join_steps}
+use Rattle.mr_cut.specs.Joins.{IsCrowned, IsCrownCount}
+
+-- the nodes are of one height
+pub met_count : (h k stock before after : ℕ) → h ≡ k → after ≡ after_steps 4 before → after ≡ after_steps (join_steps (h - k) (stock - stock) 0) before
+met_count h k stock before after same even = omega (arith, same, even)
+
+-- both bounds, where there is one new root at most
+pub count_bounds : (apart used roots before after : ℕ) → used ≤ apart + 1 → roots ≤ 1 → after ≡ after_steps (join_steps apart used roots) before → (after_steps (2 * apart + 4) before ≤ after) × (after ≤ before + 16 * (apart + 1))
+count_bounds apart used roots before after few one count = (omega (arith, count), omega (arith, few, one, count))
+
+-- a meter that begins at 0 stands at just the number, where the heights are below 16
+pub count_fits : (apart used roots after : ℕ) → apart < 16 → used ≤ apart + 1 → roots ≤ 1 → after ≡ after_steps (join_steps apart used roots) 0 → after ≡ join_steps apart used roots
+count_fits apart used roots after low few one count = omega (arith, low, few, one, count)
+
+-- the same number, of roots under other names
+pub same_count : (a b x c d y used other before after : ℕ) → a ≡ c → b ≡ d → y ≡ x → used ≡ other → before ≡ join_steps (abs_diff a b) used (x - max a b) → after ≡ before → after ≡ join_steps (abs_diff c d) other (y - max c d)
+same_count a b x c d y used other before after low high root e count same =
+    same
+    ∙ count
+    ∙ ap (λ i. join_steps (abs_diff i b) used (x - max i b)) low
+    ∙ ap (λ i. join_steps (abs_diff c i) used (x - max c i)) high
+    ∙ ap (λ i. join_steps (abs_diff c d) used (i - max c d)) (sym root)
+    ∙ ap (λ i. join_steps (abs_diff c d) i (y - max c d)) e
+
+module _ {V : Type 0} where
+  pub more_fits : (o : MaybeNode V) → more_of o ≤ 1
+  more_fits None = omega arith
+  more_fits (Some y) = omega arith
+
+  -- one node is put back, or two
+  pub one_hung : (o : MaybeNode V) (stock before after : ℕ) → o ≡ None → after ≡ after_steps 1 before → (stock ≡ stock + more_of o) × (after ≡ after_steps (1 + 5 * more_of o) before)
+  one_hung None stock before after is built = (omega arith, omega (arith, built))
+  one_hung (Some y) stock before after is built = let wrong : ⊥ = cc in absurd wrong
+
+  pub two_hung : (o : MaybeNode V) (y : Box (Seen V) Global) (stock less before first second after : ℕ) → o ≡ Some y → less + 1 ≡ stock → first ≡ after_steps 1 before → second ≡ after_steps 1 first → after ≡ after_steps 4 second → (stock ≡ less + more_of o) × (after ≡ after_steps (1 + 5 * more_of o) before)
+  two_hung None y stock less before first second after is given built lone evened = let wrong : ⊥ = cc in absurd wrong
+  two_hung (Some x) y stock less before first second after is given built lone evened = (omega (arith, given), omega (arith, built, lone, evened))
+
+  -- a level more over a neighbour at height k: it is opened, and what came of its child is put back
+  pub hung_count : (h k low stock mid less before opened below after : ℕ) (o : MaybeNode V) → k < h → low + 1 ≡ h → opened ≡ after_steps 1 before → mid ≤ stock → below ≡ after_steps (join_steps (low - k) (stock - mid) 0) opened → mid ≡ less + more_of o → after ≡ after_steps (1 + 5 * more_of o) below → after ≡ after_steps (join_steps (h - k) (stock - less) 0) before
+  hung_count h k low stock mid less before opened below after None lower level taken fewer count used hang = omega (arith, lower, level, taken, fewer, count, used, hang)
+  hung_count h k low stock mid less before opened below after (Some y) lower level taken fewer count used hang = omega (arith, lower, level, taken, fewer, count, used, hang)
+
+  -- the root over what came of a node and its neighbour is a new one where that is two
+  crowned_count : (h w k : ℕ) (rows : List (ℕ × V)) (x z : Seen V) (o : MaybeNode V) (stock mid less before below after : ℕ) → IsGrafted h w k rows x o → IsCrowned x o z → mid ≤ stock → below ≡ after_steps (join_steps (h - k) (stock - mid) 0) before → mid ≡ less + more_of o → IsCrownCount o below after → after ≡ after_steps (join_steps (h - k) (stock - less) (z.height - h)) before
+  crowned_count h w k rows x z None stock mid less before below after grafted crown fewer count used same =
+      let level : z.height ≡ h = ap (λ s. s.height) crown ∙ grafted.level in
+      omega (arith, level, fewer, count, used, same)
+  crowned_count h w k rows x z (Some y) stock mid less before below after grafted crown fewer count used built =
+      let level : z.height ≡ h + 1 = omega (arith, crown.1, grafted.first.level) in
+      omega (arith, level, fewer, count, used, built)
+
+  pub left_count : (a b x z : Seen V) (rows : List (ℕ × V)) (o : MaybeNode V) (stock mid less before below after : ℕ) → b.height ≤ a.height → IsGrafted a.height a.width b.height rows x o → IsCrowned x o z → mid ≤ stock → below ≡ after_steps (join_steps (a.height - b.height) (stock - mid) 0) before → mid ≡ less + more_of o → IsCrownCount o below after
+      → after ≡ after_steps (join_steps (abs_diff a.height b.height) (stock - less) (z.height - max a.height b.height)) before
+  left_count a b x z rows o stock mid less before below after le grafted crown fewer count used built = omega (arith, le, crowned_count a.height a.width b.height rows x z o stock mid less before below after grafted crown fewer count used built)
+
+  pub right_count : (a b x z : Seen V) (rows : List (ℕ × V)) (o : MaybeNode V) (stock mid less before below after : ℕ) → a.height ≤ b.height → IsGrafted b.height b.width a.height rows x o → IsCrowned x o z → mid ≤ stock → below ≡ after_steps (join_steps (b.height - a.height) (stock - mid) 0) before → mid ≡ less + more_of o → IsCrownCount o below after
+      → after ≡ after_steps (join_steps (abs_diff a.height b.height) (stock - less) (z.height - max a.height b.height)) before
+  right_count a b x z rows o stock mid less before below after le grafted crown fewer count used built = omega (arith, le, crowned_count b.height b.width a.height rows x z o stock mid less before below after grafted crown fewer count used built)
