@@ -40,3 +40,11 @@ mod weights;
 pub use event::{Event, Reply};
 pub use gather::{Frame, Scattered};
 pub use register::Register;
+
+// What the register's calls take and give, so that a caller needs no other crate's name.
+pub use holding::{Holding, Piece};
+pub use number_index::{NumberIndex, Page};
+pub use part_table::{Bounds, Place, Region, Regions, Side};
+pub use tatp_actions::{Action, CELLS, Cells, RowReply};
+pub use tatp_rows::{Access, Back, Facility, Forwarding, Letters, Number, Refusal, Subscriber};
+pub use view_board::{Board, Desk, LIMIT, Sight, WORDS};

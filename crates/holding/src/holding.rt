@@ -19,6 +19,9 @@ use view_delta::Pending;
 
 /// A part with what is pending of each cell, and the desk of its owner. What the desk has published of a cell and what is
 /// pending of it are together the count over the part's rows.
+///
+/// The desk never comes out. So a holding that is dropped takes its slot along, and since a register is made of desks that
+/// have each slot once, none can be made of the others then.
 #[derive(Drop)]
 pub struct Holding<R: Rows = Trees> {
     pub(crate) part: Part<R>,

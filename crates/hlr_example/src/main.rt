@@ -1,0 +1,153 @@
+//! The register as a library: rows are added, two owners work in threads of their own, and a register is made again of
+//! what comes home.
+#![tactic(auto)]
+
+ghost use Rattle.std.specs.Prelude.{◌≡◌};
+
+use hlr_core::{
+    Action, Board, Event, Frame, Holding, Number, Refusal, Register, Scattered, Subscriber,
+};
+use std::alloc::Global;
+use std::process::ExitCode;
+use std::thread;
+
+/// The subscriber of the first part, and that of the second one, whose range begins at 65.
+const LOW: u32 = 7;
+
+const HIGH: u32 = 70;
+
+/// A location in area 1, whose subscribers are cell 4.
+const LOCATION: u32 = 268_435_456;
+
+/// A subscriber in area 0, whose number is its s_id.
+fn subscriber(s_id: u32) -> Result<Subscriber, Refusal> {
+    let s_id = u64::from(s_id);
+    Subscriber::try_new(
+        s_id,
+        Number::try_new(s_id)?,
+        [0; 10],
+        [0; 10],
+        [0; 10],
+        1,
+        1,
+    )
+}
+
+/// A register of two parts over zones of four subscribers, with one in each part.
+fn opened(alloc: Global) -> Result<Register, Refusal> {
+    let mut register = Register::open(alloc, 2, 4)?;
+    register.add_subscriber(subscriber(LOW)?)?;
+    register.add_subscriber(subscriber(HIGH)?)?;
+    Ok(register)
+}
+
+/// An owner that worked, and how many cells it posted.
+type Worked = (Box<Holding>, Result<u8, Refusal>);
+
+/// What an owner does in its thread: it moves a subscriber of its own to area 1, and posts what it has not posted yet.
+fn work(board: &Board, mut holding: Box<Holding>, s_id: u32) -> Worked
+    requires { holding.value.desk.board ≡ board.now }
+    ensures board { result.0.value.desk.board ≡ holding.value.desk.board }
+    ensures slots { result.0.value.desk.view.owned ≡ holding.value.desk.view.owned }
+{
+    if holding.lo() <= s_id && s_id < holding.hi() {
+        let vlr_location = u64::from(LOCATION);
+        let _reply = holding.act(Action::UpdateLocation { s_id, vlr_location });
+    }
+    let posted = holding.post(board, 51);
+    (holding, posted)
+}
+
+/// Both owners work at once, the first in a thread of its own. The clauses of the closures come home with them.
+fn work_side_by_side<R: Threads + Sync>(
+    rt: &R,
+    board: &Board,
+    low: Box<Holding>,
+    high: Box<Holding>,
+) -> (Worked, Worked)
+    requires { (low.value.desk.board ≡ board.now) × (high.value.desk.board ≡ board.now) }
+    ensures low { (result.0.0.value.desk.board ≡ low.value.desk.board) × (result.0.0.value.desk.view.owned ≡ low.value.desk.view.owned) }
+    ensures high { (result.1.0.value.desk.board ≡ high.value.desk.board) × (result.1.0.value.desk.view.owned ≡ high.value.desk.view.owned) }
+{
+    thread::join(
+        rt,
+        || -> Worked
+            requires { low.value.desk.board ≡ board.now }
+            ensures { (result.0.value.desk.board ≡ low.value.desk.board) × (result.0.value.desk.view.owned ≡ low.value.desk.view.owned) }
+        { work(board, low, LOW) },
+        || -> Worked
+            requires { high.value.desk.board ≡ board.now }
+            ensures { (result.0.value.desk.board ≡ high.value.desk.board) × (result.0.value.desk.view.owned ≡ high.value.desk.view.owned) }
+        { work(board, high, HIGH) },
+    )
+}
+
+/// Takes a register of two parts apart, lets its owners work, and makes a register of what comes home.
+fn owners_work<R: AllocGlobal + Threads + Sync>(
+    rt: &R,
+    register: Register,
+) -> Result<Register, Refusal> {
+    let Scattered {
+        frame,
+        mut holdings,
+        pieces,
+    } = register.scatter();
+    let Frame {
+        board,
+        spare,
+        width,
+    } = frame;
+    let Some(high) = holdings.pop() else {
+        return Err(Refusal::NoPart);
+    };
+    let Some(low) = holdings.pop() else {
+        return Err(Refusal::NoPart);
+    };
+    let ((low, _), (high, _)) = work_side_by_side(rt, &board, low, high);
+    holdings.push_reserved(low);
+    holdings.push_reserved(high);
+    let frame = Frame {
+        board,
+        spare,
+        width,
+    };
+    let scattered = Scattered {
+        frame,
+        holdings,
+        pieces,
+    };
+    Ok(Register::gather(rt.alloc(), scattered)?)
+}
+
+/// Prints the subscribers of areas 0 and 1: how many are published, and how many more are not posted yet.
+fn show<R: Print>(rt: &R, register: &Register) {
+    let published = register.published();
+    let unposted = register.unposted();
+    for cell in 3..5 {
+        let _ = println!(rt;
+            "cell {cell}: {} published, {} not posted",
+            published[cell], unposted[cell]
+        );
+    }
+}
+
+/// Adds, posts the first part, lets the owners work, and posts once more.
+fn run<R: AllocGlobal + Print + Threads + Sync>(rt: &R) -> Result<(), Refusal> {
+    let mut register = opened(rt.alloc())?;
+    show(rt, &register);
+    let _reply = register.apply(Event::Post { part: 0, limit: 51 });
+    show(rt, &register);
+    let register = owners_work(rt, register)?;
+    show(rt, &register);
+    Ok(())
+}
+
+fn main(rt: HostRuntime) -> ExitCode {
+    match run(&rt) {
+        Ok(()) => ExitCode::SUCCESS,
+        Err(why) => {
+            let _ = eprintln!(rt; "refused: {}", why.name());
+            ExitCode::FAILURE
+        }
+    }
+}
