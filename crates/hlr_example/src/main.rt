@@ -9,7 +9,7 @@ use hlr_core::{
 };
 use std::alloc::Global;
 use std::process::ExitCode;
-use std::thread;
+use std::thread::{self, Threads};
 
 /// The subscriber of the first part, and that of the second one, whose range begins at 65.
 const LOW: u32 = 7;
@@ -51,8 +51,10 @@ fn work(board: &Board, mut holding: Box<Holding>, s_id: u32) -> Worked
     ensures slots { result.0.value.desk.view.owned ≡ holding.value.desk.view.owned }
 {
     if holding.lo() <= s_id && s_id < holding.hi() {
-        let vlr_location = u64::from(LOCATION);
-        let _reply = holding.act(Action::UpdateLocation { s_id, vlr_location });
+        let _reply = holding.act(Action::UpdateLocation {
+            s_id,
+            vlr_location: LOCATION,
+        });
     }
     let posted = holding.post(board, 51);
     (holding, posted)
