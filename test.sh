@@ -124,6 +124,13 @@ options() {
     is "--help: the command $word" "$(grep -c "^  $word[, ]" "$room/out")" "$([ "$word" = give ] && echo 2 || echo 1)"
   done
   has '--help' "$room/out" 'refused,CODE,NAME'
+  for word in '1 Memory' '2 Field' '3 NoSubscriber' '4 NoNumber' '5 NoAccess' '6 NoFacility' '7 NoForwarding' \
+    '8 NoDestination' '9 Exists' '10 NumberTaken' '11 Moving' '12 NoPart' '13 NoPiece' '14 OutOfRange' '15 NotAdjacent' \
+    '16 ManyPieces' '17 Worn' '18 Thread' '19 Syntax' '20 Read' '21 Write'; do
+    is "--help: the refusal $word" "$(grep -cwF -e "$word" "$room/out")" 1
+  done
+  has '--help' "$room/out" 'cell 3 + V / 268435456'
+  has '--help' "$room/out" 'give --zone the number of subscribers divided by 32, rounded up'
   has '--help' "$room/out" "The status is 0, or 1 after 'hlr: no memory'"
   # the example that it ends with does what it says
   sed -n "s/^  [$] \(printf .*\) | hlr$/\1/p" "$room/out" > "$room/example"
@@ -133,7 +140,7 @@ options() {
   hlr_on < "$room/in"
   same '--help: its example' "$room/out" "$room/example.out"
   hlr_on --version < /dev/null
-  ends '--version' 0 $'hlr 0.1.0\n' ''
+  ends '--version' 0 $'hlr 0.2.0\n' ''
   hlr_on --zone 524288 < /dev/null
   ends '--zone 524288' 0 '' ''
   hlr_on --zone 1 < /dev/null

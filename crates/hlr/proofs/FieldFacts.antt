@@ -21,13 +21,13 @@ refused_byte text i inside other = let none = list_all_at is_ascii_digit text i 
 
 -- a value that is too large
 pub refused_value : (text : List ℕ) (i value more : ℕ) → AreDigits text i value → i < length text → is_ascii_digit (get_or text i 0) ≡ true → more ≡ get_or text i 0 - 48
-    → 18446744073709551615 < value * 10 + more → Err Field ≡ number_field text
+    → 2 ^ 64 - 1 < value * 10 + more → Err Field ≡ number_field text
 unfolding number_field
 refused_value text i value more read inside digit is large =
     let next = digits_more text i value more read inside digit is in
     let front = digits_value-take-le 10 text (i + 1) (omega arith) in
     let value_is = next.value_is in
-    let above : 18446744073709551615 < digits_value 10 text = omega arith in
+    let above : 2 ^ 64 - 1 < digits_value 10 text = omega arith in
     grind (arith, nat_tests)
 
 -- a text without a byte
@@ -36,13 +36,13 @@ unfolding number_field
 refused_empty text none = grind (arith, nat_tests)
 
 -- the whole text is read
-pub read_whole : (text : List ℕ) (i value : ℕ) → 0 < length text → length text ≤ i → AreDigits text i value → value < 18446744073709551616 → Ok value ≡ number_field text
+pub read_whole : (text : List ℕ) (i value : ℕ) → 0 < length text → length text ≤ i → AreDigits text i value → value < 2 ^ 64 → Ok value ≡ number_field text
 unfolding number_field
 read_whole text i value some past read fits =
     let whole : take i text ≡ text = take_all i text past in
     let digits : list_all is_ascii_digit text ≡ true = rw whole at read.digits in
     let value_is : value ≡ digits_value 10 text = rw whole at read.value_is in
-    let below : digits_value 10 text < 18446744073709551616 = omega arith in
+    let below : digits_value 10 text < 2 ^ 64 = omega arith in
     grind (arith, nat_tests)
 
 -- a text that has a byte
@@ -74,7 +74,7 @@ short_more text i value above so inside byte is small =
     }
 
 -- while bytes are left there is room for one more digit, and in the end the value fits
-pub short_fits : (text : List ℕ) (i value : ℕ) → IsReadTo text i value → i < length text → length text ≤ 19 → value < 1000000000000000000
+pub short_fits : (text : List ℕ) (i value : ℕ) → IsReadTo text i value → i < length text → length text ≤ 19 → value < 10 ^ 18
 short_fits text i value so inside short =
     let below = so.below in
     let most = pow-le-pow_right {n = 10} (omega arith) {i = i} {j = 18} (omega arith) in

@@ -1,5 +1,5 @@
 -- The bounds of a re-cut, read field by field.
-use Rattle.std.proofs.Common.{◌≡◌, refl, sym, ap, ◌∙◌, ℕ, zero, suc, ◌+◌, ◌<◌, ◌≤◌, List, [], ◌∷◌, ◌++◌, length, drop, true, false, append_assoc, length-append, arith}
+use Rattle.std.proofs.Common.{◌≡◌, refl, sym, ap, ◌∙◌, ℕ, zero, suc, ◌+◌, ◌^◌, ◌<◌, ◌≤◌, List, [], ◌∷◌, ◌++◌, length, drop, true, false, append_assoc, length-append, arith}
 use Rattle.std.specs.Prelude.{◌==◌, ◌&&◌, not, nat_lt, Result, Ok, Err}
 use Rattle.std.specs.List.{list_all}
 use Rattle.std.specs.Char.{is_ascii_digit}
@@ -42,7 +42,7 @@ read_one ns n (Err why) = refl
 refused_number : (text : List ℕ) (why : Refusal) → Err why ≡ number_field text → why ≡ Field
 unfolding number_field
 refused_number text why is =
-    by_test (not (length text == 0) && (list_all is_ascii_digit text && nat_lt (digits_value 10 text) 18446744073709551616))
+    by_test (not (length text == 0) && (list_all is_ascii_digit text && nat_lt (digits_value 10 text) (2 ^ 64)))
     (λ e. let gave : Err why ≡ Ok (digits_value 10 text) = rw e at is in cc)
     (λ e. let gave : Err why ≡ Err Field = rw e at is in cc)
 

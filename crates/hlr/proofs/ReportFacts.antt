@@ -1,11 +1,10 @@
 -- The lines of a report, one after another.
-use Rattle.std.proofs.Common.{◌≡◌, refl, sym, ap, ◌∙◌, subst, ℕ, zero, suc, ◌+◌, ◌-◌, ◌*◌, ◌<◌, ◌≤◌, ◌==◌, min, List, [], ◌∷◌, ◌++◌, length, get_or, Bool, true, false, Option, append_assoc, arith}
-use Rattle.std.specs.Prelude.{ℤ, Result, OnOk, OnErr, nat_le}
+use Rattle.std.proofs.Common.{◌≡◌, refl, sym, ap, ◌∙◌, subst, ℕ, zero, suc, ◌+◌, ◌-◌, ◌*◌, ◌^◌, ◌<◌, ◌≤◌, ◌==◌, min, List, [], ◌∷◌, ◌++◌, length, get_or, Bool, true, false, Option, append_assoc, arith}
+use Rattle.std.specs.Prelude.{ℤ, Result, nat_le}
 use Rattle.std.specs.List.{AllByRecursion, filter, flat_map, range_with_len}
 use Rattle.std.proofs.lemmas.Bool.Decides.{nat_tests}
 use Rattle.std.proofs.lemmas.List.{append-nil, length-append}
 use Rattle.std.proofs.lemmas.List.Concat.{flat_map-append}
-use Rattle.std.proofs.lemmas.Result.{on_ok_weaker, on_err_weaker}
 use Rattle.std.specs.Io.KnownBytes.{Appends}
 use Rattle.tatp_rows.proofs.OrderedLemmas.{by_test, each-weaker, filter_all}
 use Rattle.tatp_rows.specs.Ordered.{IsOrderedBy}
@@ -19,8 +18,9 @@ use Rattle.number_index.specs.Pairs.{ArePairs}
 use Rattle.tatp_actions.specs.declared.cells.TheConstants.{CELLS}
 use Rattle.hlr.specs.Lines.{total_line}
 use Rattle.hlr.specs.Reports.{cells_where, rows_line, is_counted, is_standing, report_text, scan_text, standing_line, views_text}
-use Rattle.hlr.specs.Sink.{AppendsFront}
-use Rattle.hlr.proofs.SinkFacts.{appends_none, appends_both, front_after, front_wider}
+use Rattle.hlr.specs.Sink.{AppendsFront, Puts}
+use Rattle.hlr.specs.declared.sink.Stalled.{Stalled}
+use Rattle.hlr.proofs.SinkFacts.{appends_none, appends_both, front_after, front_wider, puts_after}
 
 -- the lines of all but the rest were taken
 pub record ReportTo {X : Type 0} (line : X → List ℕ) (all rest : List X) (old new : Option (List ℕ)) : Type 0 where
@@ -86,18 +86,12 @@ module _ {X : Type 0} (line : X → List ℕ) (all : List X) where
   report_whole rest old new to none =
       let whole : all ≡ to.shown = to.all_is ∙ ap (λ xs. to.shown ++ xs) none ∙ append-nil to.shown in rw whole to.grew
 
-  -- and then the last one
-  pub report_ends : {T E : Type 0} (word : List ℕ) (rest : List X) (old mid new : Option (List ℕ)) (total : ℕ) (bytes : List ℕ) (r : Result T E) → ReportTo line all rest old mid
-      → rest ≡ [] → total ≡ length all → bytes ≡ total_line word total → OnOk r (Appends mid new bytes) → OnOk r (Appends old new (report_text word line all))
+  -- and then the last one was put
+  pub report_ends : (word : List ℕ) (rest : List X) (old mid new : Option (List ℕ)) (stalled : Bool) (total : ℕ) (bytes : List ℕ) (r : Result (Unit {0}) Stalled) → ReportTo line all rest old mid
+      → rest ≡ [] → total ≡ length all → bytes ≡ total_line word total → Puts bytes mid new stalled r → Puts (report_text word line all) old new stalled r
   unfolding report_text
-  report_ends word rest old mid new total bytes r to none total_is is took =
-      on_ok_weaker r (λ (last : Appends mid new bytes). appends_both old mid new (flat_map line all) _ (report_whole rest old mid to none) (rw (is, total_is) at last)) took
-
-  pub report_ends_front : {T E : Type 0} (word : List ℕ) (rest : List X) (old mid new : Option (List ℕ)) (total : ℕ) (bytes : List ℕ) (r : Result T E) → ReportTo line all rest old mid
-      → rest ≡ [] → total ≡ length all → bytes ≡ total_line word total → OnErr r (AppendsFront mid new bytes) → OnErr r (AppendsFront old new (report_text word line all))
-  unfolding report_text
-  report_ends_front word rest old mid new total bytes r to none total_is is took =
-      on_err_weaker r (λ (last : AppendsFront mid new bytes). front_after old mid new (flat_map line all) _ (report_whole rest old mid to none) (rw (is, total_is) at last)) took
+  report_ends word rest old mid new stalled total bytes r to none total_is is put =
+      puts_after old mid new stalled (flat_map line all) _ r (report_whole rest old mid to none) (rw (is, total_is) at put)
 
 -- the pairs from a number on
 abbrev pub pairs_from : ℕ → List (ℕ × ℕ) → List (ℕ × ℕ)
@@ -159,7 +153,7 @@ pub record IsPageStep (from after : ℕ) (pairs page : List (ℕ × ℕ)) : Type
   pub less : length (pairs_from after pairs) < length (pairs_from from pairs)
 
 pub page_step : (from after : ℕ) (pairs page : List (ℕ × ℕ)) (test : Bool) → ArePairs pairs → IsPage from pairs page → test ≡ (length page == 0) → test ≡ false
-    → after ≡ min 18446744073709551615 (number_after page) → IsPageStep from after pairs page
+    → after ≡ min (2 ^ 64 - 1) (number_after page) → IsPageStep from after pairs page
 page_step from after pairs [] test are is_page is e at = absurd (let wrong : test ≡ true = is in cc)
 page_step from after pairs (x ∷ page) test are is_page is e at =
     let numbers : AllByRecursion (λ (p : ℕ × ℕ). IsNumber p.0) (x ∷ page) =

@@ -1,6 +1,6 @@
 -- How the text of a run grows, record by record.
 use Rattle.std.proofs.Common.{◌≡◌, refl, sym, ap, ◌∙◌, subst, ℕ, ◌+◌, ◌≤◌, ◌<◌, List, [], ◌∷◌, ◌++◌, length, Option, Some, None, Bool, true, false, append_assoc, length-append, ◌⊎◌, inl, inr, arith}
-use Rattle.std.specs.Prelude.{◌==◌, IfSome, IfOk, IfErr, MatchResult, option_map, Result, Ok, Err, OnOk, OnErr}
+use Rattle.std.specs.Prelude.{◌==◌, IfSome, IfOk, IfErr, MatchResult, option_map, Result, Ok, Err}
 use Rattle.std.specs.Result.{is_err}
 use Rattle.std.proofs.lemmas.Bool.{false≢true}
 use Rattle.std.proofs.lemmas.Bool.Decides.{nat_tests}
@@ -17,11 +17,11 @@ use Rattle.hlr.specs.declared.records.Report.{Report}
 use Rattle.hlr.specs.declared.records.Report.TheVariants as report
 use Rattle.hlr.specs.declared.records.Word.{Word}
 use Rattle.hlr.specs.declared.records.Word.TheVariants as word
-use Rattle.hlr.specs.Inside.{word_of_report, report_on}
+use Rattle.hlr.specs.Inside.{Answers, word_of_report, report_on}
 use Rattle.hlr.specs.Lines.{reply_line, refused_line}
 use Rattle.hlr_core.specs.declared.event.Reply.{Reply}
-use Rattle.hlr.specs.Sink.{AppendsFront}
-use Rattle.hlr.specs.Text.{CommandText, RecordText, RecordsText, RecordDone, RecordCut, WritesWhole, AnsweredRecords, RanWhole, RanFront, Ran}
+use Rattle.hlr.specs.Sink.{Puts}
+use Rattle.hlr.specs.Text.{CommandText, RecordText, RecordsText, WritesWhole, AnsweredRecords, RanWhole, RanFront, Ran}
 use Rattle.tatp_rows.specs.declared.refusal.Refusal.{Refusal}
 use Rattle.tatp_rows.specs.declared.refusal.Refusal.TheVariants as refusal
 use Rattle.hlr.specs.declared.fault.Fault.{Fault}
@@ -29,23 +29,32 @@ use Rattle.hlr.specs.Command.{Command}
 use Rattle.hlr.specs.Command.{Command as command}
 use Rattle.hlr.specs.declared.sink.Stalled.{Stalled}
 use Rattle.hlr.specs.declared.fault.Fault.TheVariants as fault
-use Rattle.hlr.proofs.SinkFacts.{appends_none, appends_both, appends_kept, begins_all, begins_after}
+use Rattle.hlr.proofs.SinkFacts.{appends_none, appends_both, appends_kept, begins_all, begins_after, put_whole, put_front, puts_flushed}
 
--- the answer to the command that a record is was put whole, or a front of it
-module _ (fields : List (List ℕ)) (asked : Result Command Refusal) (before after : Store) (old new : Option (List ℕ)) (text piece : List ℕ) (r : Result (Unit {0}) Stalled) where
-  pub answered_whole : asked ≡ command_of fields → CommandText fields asked before text after → piece ≡ text → OnOk r (Appends old new piece) → OnOk r (RecordDone fields before after old new)
-  answered_whole is answer same put = whole r put
-    where
-      whole : (r : Result (Unit {0}) Stalled) → OnOk r (Appends old new piece) → OnOk r (RecordDone fields before after old new)
-      whole (Ok done) grew = record { text = text; answer = rw (← is) answer; grew = rw (← same) grew }
-      whole (Err why) grew = tt
+-- the command that a record is was answered by a text, and that was put
+pub answered : (fields : List (List ℕ)) (asked : Result Command Refusal) (before after : Store) (old new : Option (List ℕ)) (stalled : Bool) (text piece : List ℕ) (r : Result (Unit {0}) Stalled)
+    → asked ≡ command_of fields → CommandText fields asked before text after → piece ≡ text → Puts piece old new stalled r → Answers fields before after old new stalled r
+answered fields asked before after old new stalled text piece r is answer same put = record { text = text; answer = rw (← is) answer; put = rw (← same) put }
 
-  pub answered_front : asked ≡ command_of fields → CommandText fields asked before text after → piece ≡ text → OnErr r (AppendsFront old new piece) → OnErr r (RecordCut fields before after old new)
-  answered_front is answer same put = front r put
-    where
-      front : (r : Result (Unit {0}) Stalled) → OnErr r (AppendsFront old new piece) → OnErr r (RecordCut fields before after old new)
-      front (Ok done) grew = tt
-      front (Err why) grew = record { text = text; answer = rw (← is) answer; grew = rw (← same) grew }
+-- a record was answered, which is all
+pub answered_on : (fields : List (List ℕ)) (before after : Store) (old new : Option (List ℕ)) (stalled : Bool) (r s : Result (Unit {0}) Stalled)
+    → is_err r ≡ is_err s → Answers fields before after old new stalled r → Answers fields before after old new stalled s
+answered_on fields before after old new stalled r s same done = record { text = done.text; answer = done.answer; put = on r s same done.put }
+  where
+    on : (r s : Result (Unit {0}) Stalled) → is_err r ≡ is_err s → Puts done.text old new stalled r → Puts done.text old new stalled s
+    on (Ok x) (Ok y) same put = put
+    on (Err x) (Err y) same put = put
+    on (Ok x) (Err y) same put = absurd (false≢true same)
+    on (Err x) (Ok y) same put = absurd (false≢true (sym same))
+
+-- and then the sink was flushed, or failed in that
+pub answered_flushed : (fields : List (List ℕ)) (before after : Store) (old mid new : Option (List ℕ)) (stalled later : Bool) (r s : Result (Unit {0}) Stalled)
+    → is_err r ≡ false → Answers fields before after old mid stalled r → Keeps mid new → (is_err s ≡ true → later ≡ true) → Answers fields before after old new later s
+answered_flushed fields before after old mid new stalled later r s passed done kept told = record {
+  text = done.text;
+  answer = done.answer;
+  put = puts_flushed done.text old mid new later s (put_whole done.text old mid stalled r passed done.put) kept told;
+}
 
 -- one record more
 pub records_more : (rows : List (List (List ℕ))) (row : List (List ℕ)) (s m t : Store) (text more : List ℕ)
@@ -96,8 +105,8 @@ module _ {R : Type 0} (rem : R → Option (List ℕ)) (start : Store) (bytes : L
   -- one record more is read and answered
   pub goes_on : (a b : Reader R) (fields : List (List ℕ)) (now next : Store) (old mid new : Option (List ℕ)) (count : ℕ)
       → SoFar start bytes (source_of rem a) (reader_state a) now old mid count → reader_config a ≡ default_config → (found : Bool) → found ≡ true → ReadRecord rem a b found fields
-      → RecordDone fields now next mid new → SoFar start bytes (source_of rem b) (reader_state b) next old new (count + 1)
-  goes_on a b fields now next old mid new count so config found there taken done =
+      → (stalled : Bool) (r : Result (Unit {0}) Stalled) → is_err r ≡ false → Answers fields now next mid new stalled r → SoFar start bytes (source_of rem b) (reader_state b) next old new (count + 1)
+  goes_on a b fields now next old mid new count so config found there taken stalled r passed done =
       let read : ReadRecord rem a b true fields = subst (λ (f : Bool). ReadRecord rem a b f fields) there taken in
       let more = rows-more rem a b fields default_config st.StartRecord bytes so.left so.rows config so.source_is so.reached read in
       let many = so.many in
@@ -108,7 +117,7 @@ module _ {R : Type 0} (rem : R → Option (List ℕ)) (start : Store) (bytes : L
         reached = more.2;
         text = so.text ++ done.text;
         answers = records_more so.rows fields start now next so.text done.text so.answers done.answer;
-        grew = appends_both old mid new so.text done.text so.grew done.grew;
+        grew = appends_both old mid new so.text done.text so.grew (put_whole done.text mid new stalled r passed done.put);
         many = rw length-append (omega arith);
       }
 
@@ -126,11 +135,12 @@ module _ {R : Type 0} (rem : R → Option (List ℕ)) (start : Store) (bytes : L
   -- the sink failed in the answer of a record
   pub breaks : (a b : Reader R) (fields : List (List ℕ)) (now next : Store) (old mid new : Option (List ℕ)) (count : ℕ)
       → SoFar start bytes (source_of rem a) (reader_state a) now old mid count → reader_config a ≡ default_config → (found : Bool) → found ≡ true → ReadRecord rem a b found fields
-      → RecordCut fields now next mid new → count < 1048576 → RanFront start bytes old new fault.Write
-  breaks a b fields now next old mid new count so config found there taken cut below =
+      → (stalled : Bool) (r : Result (Unit {0}) Stalled) → is_err r ≡ true → Answers fields now next mid new stalled r → count < 1048576 → RanFront start bytes old new fault.Write
+  breaks a b fields now next old mid new count so config found there taken stalled r failed cut below =
       let read : ReadRecord rem a b true fields = subst (λ (f : Bool). ReadRecord rem a b f fields) there taken in
       let more = rows-more rem a b fields default_config st.StartRecord bytes so.left so.rows config so.source_is so.reached read in
       let many = so.many in
+      let front = (put_front cut.text mid new stalled r failed cut.put).0 in
       record {
         answered = record {
           rows = so.rows ++ fields ∷ [];
@@ -142,10 +152,10 @@ module _ {R : Type 0} (rem : R → Option (List ℕ)) (start : Store) (bytes : L
         state = reader_state b;
         left = more.0;
         are_first = more.2;
-        written = so.text ++ cut.grew.front;
-        begins = begins_after so.text cut.grew.front cut.text cut.grew.begins;
+        written = so.text ++ front.front;
+        begins = begins_after so.text front.front cut.text front.begins;
         whole = tt;
-        grew = appends_both old mid new so.text cut.grew.front so.grew cut.grew.grew;
+        grew = appends_both old mid new so.text front.front so.grew front.grew;
       }
 
 -- a text that is written whole
@@ -226,16 +236,6 @@ if_known (Some x) Q h = h x refl
 pub keeps_same : (o : Option (List ℕ)) → Keeps o o
 keeps_same None = tt
 keeps_same (Some xs) = refl
-
--- an error that is known to be one
-pub on_err_is : {T E P : Type 0} (r : Result T E) → is_err r ≡ true → OnErr r P → P
-on_err_is (Ok x) failed h = absurd (false≢true failed)
-on_err_is (Err e) failed h = h
-
--- a success that is known to be one
-pub on_ok_is : {T E P : Type 0} (r : Result T E) → is_err r ≡ false → OnOk r P → P
-on_ok_is (Ok x) passed h = h
-on_ok_is (Err e) passed h = absurd (false≢true (sym passed))
 
 -- a run that ended with a flush
 pub ran_finished : (start : Store) (bytes : List ℕ) (old mid new : Option (List ℕ)) (done r : Result (Unit {0}) Fault) → Ran start bytes old mid done → Keeps mid new

@@ -1,10 +1,13 @@
 -- Bytes that a sink took, piece by piece.
 use Rattle.std.proofs.Common.{◌≡◌, refl, sym, ap, ◌∙◌, subst, ℕ, ◌+◌, ◌-◌, ◌≤◌, List, [], ◌++◌, length, take, drop, Option, Some, None, append_assoc, arith}
-use Rattle.std.specs.Prelude.{Bool, true, false, ◌||◌, Result, Ok, Err, OnErr}
+use Rattle.std.specs.Prelude.{Bool, true, false, ◌||◌, Result, Ok, Err, IsErrAnd}
+use Rattle.std.specs.Result.{is_err}
+use Rattle.std.proofs.lemmas.Bool.{false≢true}
 use Rattle.std.proofs.Math.Seq.{take-add}
 use Rattle.std.proofs.lemmas.List.{append-nil, length-take, take-append-drop, take_rest}
 use Rattle.std.specs.Io.KnownBytes.{Appends, Keeps}
-use Rattle.hlr.specs.Sink.{Begins, AppendsFront}
+use Rattle.hlr.specs.Sink.{Begins, AppendsFront, Puts}
+use Rattle.hlr.specs.declared.sink.Stalled.{Stalled}
 
 -- nothing was taken yet
 pub appends_none : (old : Option (List ℕ)) → Appends old old []
@@ -91,7 +94,27 @@ begins_in front mid whole h k =
 pub front_in : (old new : Option (List ℕ)) (mid whole : List ℕ) → Begins mid whole → AppendsFront old new mid → AppendsFront old new whole
 front_in old new mid whole b h = record { front = h.front; begins = begins_in h.front mid whole h.begins b; grew = h.grew }
 
--- what is said of any error
-pub on_err_any : {T E : Type 0} {P : Type 0} (r : Result T E) → P → OnErr r P
-on_err_any (Ok x) p = tt
-on_err_any (Err e) p = p
+-- what was put, where it is known how that ended
+module _ (piece : List ℕ) (old new : Option (List ℕ)) (stalled : Bool) where
+  pub put_whole : (r : Result (Unit {0}) Stalled) → is_err r ≡ false → Puts piece old new stalled r → Appends old new piece
+  put_whole (Ok done) passed put = put
+  put_whole (Err why) passed put = absurd (false≢true (sym passed))
+
+  pub put_front : (r : Result (Unit {0}) Stalled) → is_err r ≡ true → Puts piece old new stalled r → AppendsFront old new piece × (stalled ≡ true)
+  put_front (Ok done) failed put = absurd (false≢true failed)
+  put_front (Err why) failed put = put
+
+  -- the sink failed in it
+  pub puts_front : (Q : Stalled → Type 0) (r : Result (Unit {0}) Stalled) → IsErrAnd r Q → AppendsFront old new piece → stalled ≡ true → Puts piece old new stalled r
+  puts_front Q (Ok done) failed front told = absurd failed
+  puts_front Q (Err why) failed front told = (front, told)
+
+-- a piece was taken, and then another one was put
+pub puts_after : (old mid new : Option (List ℕ)) (stalled : Bool) (a b : List ℕ) (r : Result (Unit {0}) Stalled) → Appends old mid a → Puts b mid new stalled r → Puts (a ++ b) old new stalled r
+puts_after old mid new stalled a b (Ok done) h k = appends_both old mid new a b h k
+puts_after old mid new stalled a b (Err why) h k = (front_after old mid new a b h k.0, k.1)
+
+-- a piece was taken, and then the sink was flushed, or failed
+pub puts_flushed : (piece : List ℕ) (old mid new : Option (List ℕ)) (stalled : Bool) (r : Result (Unit {0}) Stalled) → Appends old mid piece → Keeps mid new → (is_err r ≡ true → stalled ≡ true) → Puts piece old new stalled r
+puts_flushed piece old mid new stalled (Ok done) h kept told = appends_kept old mid new piece h kept
+puts_flushed piece old mid new stalled (Err why) h kept told = (front_all old new piece (appends_kept old mid new piece h kept), told refl)

@@ -1,5 +1,5 @@
 -- What the text of a field spells, or Field.
-use Rattle.std.specs.Prelude.{ℕ, ◌+◌, ◌*◌, ◌==◌, ◌&&◌, not, nat_lt, List, [], ◌∷◌, length, map, slice_index, if◌then◌else◌, Result, Ok, Err}
+use Rattle.std.specs.Prelude.{ℕ, ◌+◌, ◌*◌, ◌^◌, ◌==◌, ◌&&◌, not, nat_lt, List, [], ◌∷◌, length, map, slice_index, if◌then◌else◌, Result, Ok, Err}
 use Rattle.std.specs.List.{list_all, range_with_len}
 use Rattle.std.specs.Char.{is_ascii_digit, digit_value}
 use Rattle.std.specs.Str.Parse.{digits_value}
@@ -16,7 +16,7 @@ abbrev pub ◌>>=◌ : {A B : Type 0} → Result A Refusal → (A → Result B R
 -- a number: one or more digits with a value below 2^64
 unfoldable pub number_field : List ℕ → Result ℕ Refusal
 number_field text =
-    if not (length text == 0) && (list_all is_ascii_digit text && nat_lt (digits_value 10 text) 18446744073709551616)
+    if not (length text == 0) && (list_all is_ascii_digit text && nat_lt (digits_value 10 text) (2 ^ 64))
     then Ok (digits_value 10 text) else Err Field
 
 -- the numbers of fields

@@ -1,16 +1,25 @@
--- What the calls that write reports promise each other; no clause of `run_alone` cites this.
-use Rattle.std.specs.Prelude.{ℕ, Bool, List, codes, ℤ, pos, slice_index, slice_index_or}
+-- What the calls that write answers promise each other; no clause of `run_alone` cites this.
+use Rattle.std.specs.Prelude.{ℕ, Bool, List, Option, Result, codes, ℤ, pos, slice_index, slice_index_or}
 use Rattle.tatp_actions.specs.Cell.{cell}
 use Rattle.hlr_core.specs.Index.{index_of}
 use Rattle.hlr_core.specs.Store.{Store, published, unposted}
 use Rattle.hlr.specs.Reports.{report_text, cells_where, is_standing, standing_line, is_counted, rows_line, index_text, regions_text, scan_text, views_text}
-use Rattle.hlr.specs.Text.{proposal_line}
+use Rattle.hlr.specs.Sink.{Puts}
+use Rattle.hlr.specs.Text.{proposal_line, RecordText}
 use Rattle.hlr.specs.declared.records.Report.{Report}
 use Rattle.hlr.specs.declared.records.Report.TheVariants as report
 use Rattle.hlr.specs.declared.records.Word.{Word}
 use Rattle.hlr.specs.declared.records.Word.TheVariants as word
 use Rattle.hlr.specs.declared.reports.Counts.{Counts}
 use Rattle.hlr.specs.declared.reports.Counts.TheVariants as counts
+use Rattle.hlr.specs.declared.sink.Stalled.{Stalled}
+
+-- a record is answered, and its answer put
+pub record Answers (fields : List (List ℕ)) (before after : Store) (old new : Option (List ℕ)) (stalled : Bool)
+    (r : Result (Unit {0}) Stalled) : Type 0 where
+  pub text : List ℕ
+  pub answer : RecordText fields before text after
+  pub put : Puts text old new stalled r
 
 -- the count of a cell in an array of them
 abbrev pub signed_at : List ℤ → ℕ → ℤ

@@ -2,6 +2,7 @@
 use Rattle.std.specs.Prelude.{◌≡◌, ◌++◌, ◌==◌, ◌&&◌, not, Bool, true, false, ℕ, List, length, Option, Result, Ok, Err}
 use Rattle.std.specs.Io.KnownBytes.{Appends}
 use Rattle.hlr.specs.declared.sink.PutFault.{PutFault}
+use Rattle.hlr.specs.declared.sink.Stalled.{Stalled}
 
 -- a put failed, or took 0 bytes of a piece that has some
 abbrev pub stalls : Result ℕ PutFault → List ℕ → Bool
@@ -23,3 +24,8 @@ pub record AppendsFront (old new : Option (List ℕ)) (whole : List ℕ) : Type 
   pub front : List ℕ
   pub begins : Begins front whole
   pub grew : Appends old new front
+
+-- a text is put: the sink took all of it, or a front of it and then told of a fault
+abbrev pub Puts : List ℕ → Option (List ℕ) → Option (List ℕ) → Bool → Result (Unit {0}) Stalled → Type 0
+Puts text old new stalled (Ok done) = Appends old new text
+Puts text old new stalled (Err why) = AppendsFront old new text × (stalled ≡ true)

@@ -17,7 +17,7 @@ use Rattle.hlr_core.specs.declared.event.Reply.{Reply}
 use Rattle.hlr.specs.declared.run.TheConstants.{RECORDS}
 use Rattle.hlr.specs.Lines.{bounds_line, recut_line, refused_line, reply_line}
 use Rattle.hlr.specs.Records.{bounds_of, command_of}
-use Rattle.hlr.specs.Sink.{Begins, AppendsFront}
+use Rattle.hlr.specs.Sink.{Begins}
 use Rattle.hlr.specs.Reports.{index_text, regions_text, scan_text, views_text}
 use Rattle.hlr.specs.declared.fault.Fault.{Fault}
 use Rattle.hlr.specs.declared.fault.Fault.TheVariants as fault
@@ -66,18 +66,6 @@ RecordsText [] before text after = (text ≡ []) × (after ≡ before)
 RecordsText (row ∷ rows) before text after =
     (first : List ℕ) × (next : Store) × (rest : List ℕ)
     × RecordText row before first next × RecordsText rows next rest after × (text ≡ first ++ rest)
-
--- a record's whole answer was taken
-pub record RecordDone (fields : List (List ℕ)) (before after : Store) (old new : Option (List ℕ)) : Type 0 where
-  pub text : List ℕ
-  pub answer : RecordText fields before text after
-  pub grew : Appends old new text
-
--- a front of a record's answer was taken
-pub record RecordCut (fields : List (List ℕ)) (before after : Store) (old new : Option (List ℕ)) : Type 0 where
-  pub text : List ℕ
-  pub answer : RecordText fields before text after
-  pub grew : AppendsFront old new text
 
 -- after a fault of the sink a front of the text was taken, after any other fault all of it
 abbrev pub WritesWhole : Fault → List ℕ → List ℕ → Type 0

@@ -164,7 +164,7 @@ fn put_hexes(line: &mut Line, digits: &[u8])
 }
 
 /// Puts two hexadecimal digits for each byte in front.
-fn put_pairs(line: &mut Line, bytes: &[u8])
+fn put_bytes(line: &mut Line, bytes: &[u8])
     requires { length line.old.items + 2 * length bytes.now ≤ ROOM }
     ensures bytes { line.new.items ≡ bytes_text bytes.now ++ line.old.items }
     ensures len { length line.new.items ≡ 2 * length bytes.now + length line.old.items }
@@ -207,7 +207,7 @@ pub fn build_subscriber(line: &mut Line, row: &Subscriber)
     line.put_byte(b',');
     line.put_decimal(u64::from(row.msc_location()));
     line.put_byte(b',');
-    put_pairs(line, &row.bytes());
+    put_bytes(line, &row.bytes());
     line.put_byte(b',');
     put_hexes(line, &row.hexes());
     line.put_byte(b',');

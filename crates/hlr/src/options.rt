@@ -11,7 +11,7 @@ use std::alloc::{AllocError, Global};
 use tatp_rows::GREATEST_WIDTH;
 
 /// The version that the program answers.
-const VERSION: &str = "0.1.0";
+const VERSION: &str = "0.2.0";
 
 /// What the program is.
 const ABOUT: &str = "A home location register. It answers command records.";
@@ -46,12 +46,25 @@ the program waits for more input.
 
 BITS are 10 digits 0 or 1, HEXES 10 and BYTES 20 hexadecimal digits, and the locations M and V 1 to 4294967295. The
 types A and F are 1 to 4, D and E 0 to 255, I is 0 or 1, T is 0, 8 or 16, U 1 to 24, X is a number as N, C is 3 and B
-5 letters A to Z. Any other record, or one that can't be done, is answered refused,CODE,NAME. A run starts with no
-subscriber and keeps none. It ends with its input, or after 1048576 records.
+5 letters A to Z. A run starts with no subscriber and keeps none. It ends with its input, or after 1048576 records.
+
+Any other record, or one that can't be done, is answered refused,CODE,NAME, by which it is told why:
+
+  1 Memory          2 Field           3 NoSubscriber    4 NoNumber        5 NoAccess        6 NoFacility
+  7 NoForwarding    8 NoDestination   9 Exists         10 NumberTaken    11 Moving         12 NoPart
+ 13 NoPiece        14 OutOfRange     15 NotAdjacent    16 ManyPieces     17 Worn           19 Syntax
+
+18 Thread, 20 Read and 21 Write are no answers. A blank line has none.
+
+The cells C are 51 counts: 0, 1 and 2 of the forwardings from the hours 0, 8 and 16 whose facility is on; 3 to 18 of the
+subscribers by area, cell 3 + V / 268435456; 19 to 50 of the rows of all kinds by zone, cell 19 + (S - 1) / W where
+--zone gives W, and 50 for all zones behind it too.
 
 The subscribers are shared among parts, numbered from 0: each part has those from a number FROM on and below a number
 TO, and publishes their counts. What a part gives away is a loose piece until a part beside it takes it; till then
 its subscribers are answered refused,11,Moving. A bound S between two parts is the first subscriber of the second.
+propose and recut share rows out by whole zones, so give --zone the number of subscribers divided by 32, rounded up, and
+post every part before propose, which goes by the published counts.
 
 Example:
 

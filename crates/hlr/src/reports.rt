@@ -1,11 +1,10 @@
 //! The reports: their lines go out, and then how many they are.
-ghost use Rattle.std.specs.Prelude.{◌≡◌, ◌+◌, ◌-◌, ◌<◌, ◌≤◌, ◌&&◌, not, min, true, length, pos, slice_index, slice_index_or, OnOk, OnErr};
+ghost use Rattle.std.specs.Prelude.{◌≡◌, ◌+◌, ◌-◌, ◌^◌, ◌<◌, ◌≤◌, ◌&&◌, not, min, true, length, pos, slice_index, slice_index_or};
 ghost use Rattle.std.specs.List.{flat_map};
-ghost use Rattle.std.specs.Io.KnownBytes.{Appends};
 ghost use Rattle.tatp_actions.specs.Cell.{cell};
 ghost use Rattle.hlr_core.specs.Post.{is_zero};
 ghost use Rattle.hlr_core.specs.Store.{published, unposted};
-ghost use Rattle.hlr.specs.Sink.{AppendsFront};
+ghost use Rattle.hlr.specs.Sink.{Puts};
 ghost use Rattle.hlr.specs.Lines.{number_line};
 ghost use Rattle.hlr.specs.Reports.{cells_where, index_text, is_counted, is_standing, regions_text, rows_line, scan_text, standing_line, views_text};
 ghost use Rattle.hlr.specs.Text.{proposal_line};
@@ -125,9 +124,7 @@ pub fn write_cells<S: Sink>(
     line: &mut Line,
     sink: &mut S,
 ) -> Result<(), Stalled>
-    ensures ok { OnOk result (Appends (S.taken sink.old) (S.taken sink.new) (cells_text counts.now)) }
-    ensures err { OnErr result (AppendsFront (S.taken sink.old) (S.taken sink.new) (cells_text counts.now)) }
-    ensures told { OnErr result (S.has_stalled sink.new ≡ true) }
+    ensures { Puts (cells_text counts.now) (S.taken sink.old) (S.taken sink.new) (S.has_stalled sink.new) result }
 {
     let lines = build_cells(counts, line);
     put_all(sink, line.as_slice())?;
@@ -144,11 +141,7 @@ pub fn write_views<S: Sink>(
     line: &mut Line,
     sink: &mut S,
 ) -> Result<(), Stalled>
-    ensures ok { OnOk result (Appends (S.taken sink.old) (S.taken sink.new)
-        (views_text (published register.now) (unposted register.now))) }
-    ensures err { OnErr result (AppendsFront (S.taken sink.old) (S.taken sink.new)
-        (views_text (published register.now) (unposted register.now))) }
-    ensures told { OnErr result (S.has_stalled sink.new ≡ true) }
+    ensures { Puts (views_text (published register.now) (unposted register.now)) (S.taken sink.old) (S.taken sink.new) (S.has_stalled sink.new) result }
 {
     let counts = Counts::Standing {
         published: &register.published(),
@@ -164,11 +157,7 @@ pub fn write_scan<S: Sink>(
     line: &mut Line,
     sink: &mut S,
 ) -> Result<(), Stalled>
-    ensures ok { OnOk result (Appends (S.taken sink.old) (S.taken sink.new)
-        (scan_text (λ c. cell register.now.width c register.now.book))) }
-    ensures err { OnErr result (AppendsFront (S.taken sink.old) (S.taken sink.new)
-        (scan_text (λ c. cell register.now.width c register.now.book))) }
-    ensures told { OnErr result (S.has_stalled sink.new ≡ true) }
+    ensures { Puts (scan_text (λ c. cell register.now.width c register.now.book)) (S.taken sink.old) (S.taken sink.new) (S.has_stalled sink.new) result }
 {
     write_cells(&Counts::Rows(&register.recount()), line, sink)
 }
@@ -187,10 +176,7 @@ fn build_page(page: &Page, line: &mut Line)
 
 /// Writes the lines of a page's pairs at once. Where the sink fails, a front of them was taken.
 fn write_page<S: Sink>(page: &Page, line: &mut Line, sink: &mut S) -> Result<(), Stalled>
-    ensures ok { OnOk result (Appends (S.taken sink.old) (S.taken sink.new) (flat_map number_line page.now.items)) }
-    ensures err { OnErr result (AppendsFront (S.taken sink.old) (S.taken sink.new)
-        (flat_map number_line page.now.items)) }
-    ensures told { OnErr result (S.has_stalled sink.new ≡ true) }
+    ensures { Puts (flat_map number_line page.now.items) (S.taken sink.old) (S.taken sink.new) (S.has_stalled sink.new) result }
 {
     build_page(page, line);
     put_all(sink, line.as_slice())
@@ -199,7 +185,7 @@ fn write_page<S: Sink>(page: &Page, line: &mut Line, sink: &mut S) -> Result<(),
 /// The number after that of the last pair.
 fn after_last(pairs: &[(u64, u32)]) -> u64
     requires { 0 < length pairs.now }
-    ensures { result ≡ min (18446744073709551615) ((slice_index_or pairs.now (length pairs.now - 1) (0, 0)).0 + 1) }
+    ensures { result ≡ min (2 ^ 64 - 1) ((slice_index_or pairs.now (length pairs.now - 1) (0, 0)).0 + 1) }
 {
     let (number, _) = pairs[pairs.len() - 1];
     number.saturating_add(1)
@@ -214,9 +200,7 @@ pub fn write_index<S: Sink>(
     line: &mut Line,
     sink: &mut S,
 ) -> Result<(), Stalled>
-    ensures ok { OnOk result (Appends (S.taken sink.old) (S.taken sink.new) (index_text index.now)) }
-    ensures err { OnErr result (AppendsFront (S.taken sink.old) (S.taken sink.new) (index_text index.now)) }
-    ensures told { OnErr result (S.has_stalled sink.new ≡ true) }
+    ensures { Puts (index_text index.now) (S.taken sink.old) (S.taken sink.new) (S.has_stalled sink.new) result }
 {
     let mut from = 0u64;
     let mut page = Page::new();
@@ -238,9 +222,7 @@ pub fn write_regions<S: Sink>(
     line: &mut Line,
     sink: &mut S,
 ) -> Result<(), Stalled>
-    ensures ok { OnOk result (Appends (S.taken sink.old) (S.taken sink.new) (regions_text regions.now)) }
-    ensures err { OnErr result (AppendsFront (S.taken sink.old) (S.taken sink.new) (regions_text regions.now)) }
-    ensures told { OnErr result (S.has_stalled sink.new ≡ true) }
+    ensures { Puts (regions_text regions.now) (S.taken sink.old) (S.taken sink.new) (S.has_stalled sink.new) result }
 {
     let regions = regions.list();
     for region in regions {
@@ -258,9 +240,7 @@ pub fn write_proposal<S: Sink>(
     line: &mut Line,
     sink: &mut S,
 ) -> Result<(), Stalled>
-    ensures ok { OnOk result (Appends (S.taken sink.old) (S.taken sink.new) (proposal_line register.now)) }
-    ensures err { OnErr result (AppendsFront (S.taken sink.old) (S.taken sink.new) (proposal_line register.now)) }
-    ensures told { OnErr result (S.has_stalled sink.new ≡ true) }
+    ensures { Puts (proposal_line register.now) (S.taken sink.old) (S.taken sink.new) (S.has_stalled sink.new) result }
 {
     build_bounds(line, &register.propose());
     put_all(sink, line.as_slice())

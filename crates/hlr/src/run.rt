@@ -1,7 +1,7 @@
 //! A run: every record of a reader is answered.
-ghost use Rattle.std.specs.Prelude.{◌≡◌, ◌≢◌, ◌⊎◌, ◌↔◌, true, false, Some, Err, Ok, IfSome, OnOk, OnErr};
+ghost use Rattle.std.specs.Prelude.{◌≡◌, ◌≢◌, ◌⊎◌, ◌↔◌, true, false, Some, Err, Ok, IfSome};
 ghost use Rattle.std.specs.Result.{is_err};
-ghost use Rattle.std.specs.Io.KnownBytes.{Appends, Keeps};
+ghost use Rattle.std.specs.Io.KnownBytes.{Keeps};
 ghost use Rattle.csv.specs.Reading.{Ready, default_config, reader_config, reader_state, reader_trim, source_of, strip_bom};
 ghost use Rattle.csv.specs.Records.{fields_of};
 ghost use Rattle.csv.specs.declared.parser.State.TheVariants as state;
@@ -9,10 +9,10 @@ ghost use Rattle.csv.specs.declared.reader.Trim.TheVariants as trim;
 ghost use Rattle.hlr_core.specs.Store.{HasOpening, opening};
 ghost use Rattle.hlr.specs.WholeRecords.{inner_remaining};
 ghost use Rattle.hlr.specs.Records.{command_of, field, word_named};
-ghost use Rattle.hlr.specs.Text.{IsFlushedAfter, Ran, RecordCut, RecordDone};
+ghost use Rattle.hlr.specs.Text.{IsFlushedAfter, Ran};
 ghost use Rattle.hlr.specs.Command.{Command as command};
-ghost use Rattle.hlr.specs.Inside.{report_on, word_of_report};
-ghost use Rattle.hlr.specs.Sink.{AppendsFront};
+ghost use Rattle.hlr.specs.Inside.{Answers, report_on, word_of_report};
+ghost use Rattle.hlr.specs.Sink.{Puts};
 ghost use Rattle.tatp_rows.specs.declared.refusal.Refusal.TheVariants as refusal;
 ghost use Rattle.hlr.specs.declared.fault.Fault.TheVariants as fault;
 
@@ -48,9 +48,7 @@ fn write_recut<S: Sink>(
     sink: &mut S,
 ) -> Result<(), Stalled>
     requires { command_of (fields_of row.now) ≡ Ok command.Recut }
-    ensures ok { OnOk result (RecordDone (fields_of row.now) register.old register.new (S.taken sink.old) (S.taken sink.new)) }
-    ensures err { OnErr result (RecordCut (fields_of row.now) register.old register.new (S.taken sink.old) (S.taken sink.new)) }
-    ensures told { OnErr result (S.has_stalled sink.new ≡ true) }
+    ensures { Answers (fields_of row.now) register.old register.new (S.taken sink.old) (S.taken sink.new) (S.has_stalled sink.new) result }
 {
     match read_bounds(row) {
         Ok(bounds) => build_recut(line, register.recut_to(bounds.as_slice())),
@@ -66,9 +64,7 @@ fn write_report<S: Sink>(
     line: &mut Line,
     sink: &mut S,
 ) -> Result<(), Stalled>
-    ensures ok { OnOk result (Appends (S.taken sink.old) (S.taken sink.new) (report_on report register.now)) }
-    ensures err { OnErr result (AppendsFront (S.taken sink.old) (S.taken sink.new) (report_on report register.now)) }
-    ensures told { OnErr result (S.has_stalled sink.new ≡ true) }
+    ensures { Puts (report_on report register.now) (S.taken sink.old) (S.taken sink.new) (S.has_stalled sink.new) result }
 {
     match report {
         Report::Views => write_views(register, line, sink),
@@ -88,9 +84,7 @@ fn answer_report<S: Sink>(
     sink: &mut S,
 ) -> Result<(), Stalled>
     requires { Some (word_of_report report) ≡ word_named (field (fields_of row.now) 0) }
-    ensures ok { OnOk result (RecordDone (fields_of row.now) register.now register.now (S.taken sink.old) (S.taken sink.new)) }
-    ensures err { OnErr result (RecordCut (fields_of row.now) register.now register.now (S.taken sink.old) (S.taken sink.new)) }
-    ensures told { OnErr result (S.has_stalled sink.new ≡ true) }
+    ensures { Answers (fields_of row.now) register.now register.now (S.taken sink.old) (S.taken sink.new) (S.has_stalled sink.new) result }
 {
     if row.len() != 1 {
         build_refused(line, Refusal::Syntax);
@@ -108,9 +102,7 @@ fn answer_word<S: Sink>(
     sink: &mut S,
 ) -> Result<(), Stalled>
     requires { Some word ≡ word_named (field (fields_of row.now) 0) }
-    ensures ok { OnOk result (RecordDone (fields_of row.now) register.old register.new (S.taken sink.old) (S.taken sink.new)) }
-    ensures err { OnErr result (RecordCut (fields_of row.now) register.old register.new (S.taken sink.old) (S.taken sink.new)) }
-    ensures told { OnErr result (S.has_stalled sink.new ≡ true) }
+    ensures { Answers (fields_of row.now) register.old register.new (S.taken sink.old) (S.taken sink.new) (S.has_stalled sink.new) result }
 {
     match word {
         Word::Gsd => build_gsd(row, register, line),
@@ -147,9 +139,7 @@ fn answer<S: Sink>(
     line: &mut Line,
     sink: &mut S,
 ) -> Result<(), Stalled>
-    ensures ok { OnOk result (RecordDone (fields_of row.now) register.old register.new (S.taken sink.old) (S.taken sink.new)) }
-    ensures err { OnErr result (RecordCut (fields_of row.now) register.old register.new (S.taken sink.old) (S.taken sink.new)) }
-    ensures told { OnErr result (S.has_stalled sink.new ≡ true) }
+    ensures { Answers (fields_of row.now) register.old register.new (S.taken sink.old) (S.taken sink.new) (S.has_stalled sink.new) result }
 {
     match word_of(field(row, 0)) {
         Some(word) => answer_word(word, row, register, line, sink),
@@ -169,9 +159,7 @@ fn answer_in_time<R: Read, S: Sink>(
     line: &mut Line,
     sink: &mut S,
 ) -> Result<(), Stalled>
-    ensures ok { OnOk result (RecordDone (fields_of row.now) register.old register.new (S.taken sink.old) (S.taken sink.new)) }
-    ensures err { OnErr result (RecordCut (fields_of row.now) register.old register.new (S.taken sink.old) (S.taken sink.new)) }
-    ensures told { OnErr result (S.has_stalled sink.new ≡ true) }
+    ensures { Answers (fields_of row.now) register.old register.new (S.taken sink.old) (S.taken sink.new) (S.has_stalled sink.new) result }
 {
     if answer(row, register, line, sink).is_err() {
         return Err(Stalled);

@@ -1,8 +1,8 @@
 //! Where answers are written.
-ghost use Rattle.std.specs.Prelude.{◌≡◌, ◌≤◌, ◌&&◌, ◌||◌, Bool, true, false, not, List, ℕ, Option, length, IfOk, OnOk, OnErr};
+ghost use Rattle.std.specs.Prelude.{◌≡◌, ◌≤◌, ◌&&◌, ◌||◌, Bool, true, false, not, List, ℕ, Option, length, IfOk, OnOk};
 ghost use Rattle.std.specs.Result.{is_err};
-ghost use Rattle.std.specs.Io.KnownBytes.{Appends, Keeps, WriteAppends};
-ghost use Rattle.hlr.specs.Sink.{AppendsFront, stalls, takes};
+ghost use Rattle.std.specs.Io.KnownBytes.{Keeps, WriteAppends};
+ghost use Rattle.hlr.specs.Sink.{Puts, stalls, takes};
 
 use std::io::{self, ErrorKind, Write};
 
@@ -118,9 +118,7 @@ pub const RETRIES: u8 = 100;
 /// Puts the whole piece into the sink. A put that is interrupted is tried again, up to 100 times in a row; one that
 /// takes 0 bytes, or fails, ends it, and then a front of the piece was taken.
 pub fn put_all<S: Sink>(sink: &mut S, piece: &[u8]) -> Result<(), Stalled>
-    ensures ok { OnOk result (Appends (S.taken sink.old) (S.taken sink.new) piece.now) }
-    ensures err { OnErr result (AppendsFront (S.taken sink.old) (S.taken sink.new) piece.now) }
-    ensures told { OnErr result (S.has_stalled sink.new ≡ true) }
+    ensures put { Puts piece.now (S.taken sink.old) (S.taken sink.new) (S.has_stalled sink.new) result }
     ensures quiet { S.has_stalled sink.new ≡ false → S.has_stalled sink.old ≡ false }
 {
     let mut at = 0usize;

@@ -7,7 +7,7 @@ use std::io::{self, BufReader, Read};
 
 /// Where a text of records stands after a byte.
 #[derive(Clone, Copy, Debug, PartialEq, Eq)]
-enum Place {
+enum TextState {
     /// Before the first byte.
     Start,
     /// After the first byte of a byte order mark.
@@ -26,34 +26,34 @@ enum Place {
     Closing,
 }
 
-/// The place after a quote.
-fn place_after_quote(place: Place) -> Place {
-    match place {
-        Place::Quoted => Place::Closing,
-        Place::MarkBegun | Place::MarkAlmost | Place::Plain => Place::Plain,
-        _ => Place::Quoted,
+/// The state after a quote.
+fn state_after_quote(state: TextState) -> TextState {
+    match state {
+        TextState::Quoted => TextState::Closing,
+        TextState::MarkBegun | TextState::MarkAlmost | TextState::Plain => TextState::Plain,
+        _ => TextState::Quoted,
     }
 }
 
-/// The place after a byte that is no quote, no comma and no line end, outside quotes.
-fn place_after_letter(place: Place, byte: u8) -> Place {
-    match (place, byte) {
-        (_, 0..=0x7f) => Place::Plain,
-        (Place::Start, 0xef) => Place::MarkBegun,
-        (Place::MarkBegun, 0xbb) => Place::MarkAlmost,
-        (Place::MarkAlmost, 0xbf) => Place::Record,
-        _ => Place::Plain,
+/// The state after a byte that is no quote, no comma and no line end, outside quotes.
+fn state_after_letter(state: TextState, byte: u8) -> TextState {
+    match (state, byte) {
+        (_, 0..=0x7f) => TextState::Plain,
+        (TextState::Start, 0xef) => TextState::MarkBegun,
+        (TextState::MarkBegun, 0xbb) => TextState::MarkAlmost,
+        (TextState::MarkAlmost, 0xbf) => TextState::Record,
+        _ => TextState::Plain,
     }
 }
 
-/// The place after a further byte.
-fn place_after(place: Place, byte: u8) -> Place {
+/// The state after a further byte.
+fn state_after(state: TextState, byte: u8) -> TextState {
     match byte {
-        b'"' => place_after_quote(place),
-        _ if place == Place::Quoted => Place::Quoted,
-        b',' => Place::Field,
-        b'\n' | b'\r' => Place::Record,
-        _ => place_after_letter(place, byte),
+        b'"' => state_after_quote(state),
+        _ if state == TextState::Quoted => TextState::Quoted,
+        b',' => TextState::Field,
+        b'\n' | b'\r' => TextState::Record,
+        _ => state_after_letter(state, byte),
     }
 }
 
@@ -62,11 +62,11 @@ fn ends_line(byte: u8) -> bool {
     byte == b'\n' || byte == b'\r'
 }
 
-/// Whether a record ended between a place and the next one.
-fn is_end(place: Place, next: Place) -> bool {
-    next == Place::Record
-        && match place {
-            Place::Start | Place::MarkAlmost | Place::Record => false,
+/// Whether a record ended between a state and the next one.
+fn is_end(state: TextState, next: TextState) -> bool {
+    next == TextState::Record
+        && match state {
+            TextState::Start | TextState::MarkAlmost | TextState::Record => false,
             _ => true,
         }
 }
@@ -89,43 +89,43 @@ fn last_line_end(block: &[u8]) -> Option<usize> {
 struct Seen {
     read: u64,
     whole: u64,
-    place: Place,
+    state: TextState,
 }
 
 impl Seen {
-    // Notes a block that has no quote and doesn't begin in quotes: each of its lines is a record.
-    fn note_lines(&mut self, block: &[u8]) {
+    // Adds a block that has no quote and doesn't begin in quotes: each of its lines is a record.
+    fn add_lines(&mut self, block: &[u8]) {
         if let Some(end) = last_line_end(block) {
             self.whole = self.read.saturating_add(end as u64);
         }
         if let Some(last) = block.last() {
-            self.place = place_after(Place::Field, *last);
+            self.state = state_after(TextState::Field, *last);
         }
     }
 
-    // Notes any block, byte by byte.
-    fn note_bytes(&mut self, block: &[u8]) {
-        let mut place = self.place;
+    // Adds any block, byte by byte.
+    fn add_bytes(&mut self, block: &[u8]) {
+        let mut state = self.state;
         let mut whole = self.whole;
         for (i, byte) in block.iter().enumerate() {
-            let next = place_after(place, *byte);
-            if is_end(place, next) {
+            let next = state_after(state, *byte);
+            if is_end(state, next) {
                 whole = self.read.saturating_add(i as u64 + 1);
             }
-            place = next;
+            state = next;
         }
-        self.place = place;
+        self.state = state;
         self.whole = whole;
     }
 
-    // Notes a block that was read.
-    fn note(&mut self, block: &[u8]) {
-        match self.place {
-            Place::Record | Place::Field | Place::Plain | Place::Closing
+    // Adds a block that was read.
+    fn add(&mut self, block: &[u8]) {
+        match self.state {
+            TextState::Record | TextState::Field | TextState::Plain | TextState::Closing
                 if !block.contains(&b'"') => {
-                self.note_lines(block);
+                self.add_lines(block);
             }
-            _ => self.note_bytes(block),
+            _ => self.add_bytes(block),
         }
         self.read = self.read.saturating_add(block.len() as u64);
     }
@@ -158,7 +158,7 @@ impl<R: Read + Drop> WholeRecords<R> {
         let seen = Seen {
             read: 0,
             whole: 0,
-            place: Place::Start,
+            state: TextState::Start,
         };
         Ok(WholeRecords { reader, seen })
     }
@@ -172,8 +172,8 @@ impl<R: Read> Read for WholeRecords<R> {
         let count = self.reader.read(buf)?;
         if is_handed_on {
             // What was read is what was handed on of it, and the rest.
-            self.seen.note(&buf[..count]);
-            self.seen.note(self.reader.buffer());
+            self.seen.add(&buf[..count]);
+            self.seen.add(self.reader.buffer());
         }
         Ok(count)
     }

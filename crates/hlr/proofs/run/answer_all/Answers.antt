@@ -1,7 +1,8 @@
 use Rattle.std.proofs.Common.{◌≡◌, ◌∙◌, true, false, inl, rules, arith}
 use Rattle.std.specs.Result.{is_err}
 use Rattle.hlr.specs.WholeRecords.{inner_remaining}
-use Rattle.hlr.proofs.RunFacts.{if_some, if_known, on_err_is, on_ok_is, started, goes_on, ends, breaks, stops}
+use Rattle.hlr.proofs.RunFacts.{if_some, if_known, started, goes_on, ends, breaks, stops}
+use Rattle.hlr.proofs.SinkFacts.{put_front}
 use Rattle.hlr.proofs.run.answer_all.Goals as goal
 
 pub loop-count-init : goal.loop-count-init
@@ -26,7 +27,7 @@ returns-then-is_err-clause-text g c =
     let failed : is_err c.answer_in_time.result ≡ true = search rules in
     if_some _ _ _ (λ bytes so.
     breaks (inner_remaining g.R.Read.remaining) _ bytes c.loop-count.reader c.read_byte_record.new.self _ _ _ _ _ _ _ so inv.config _ c.in-Ok-true.field-0-test
-    (c.in-Ok-true.ensures.reads inv.trims inv.ready) (on_err_is c.answer_in_time.result failed c.answer_in_time.ensures.err) (omega arith)) inv.so_far
+    (c.in-Ok-true.ensures.reads inv.trims inv.ready) _ c.answer_in_time.result failed c.answer_in_time.ensures (omega arith)) inv.so_far
 
 pub returns-in-Err-clause-text : goal.returns-in-Err-clause-text
 returns-in-Err-clause-text g c = if_some _ _ _ (λ bytes so. stops _ _ _ _ _ _ _ _ _ so c.loop-count.invariant.few) c.loop-count.invariant.so_far
@@ -47,5 +48,10 @@ loop-count-preserved g c =
       few = omega arith;
       so_far = if_some _ _ _ (λ bytes so.
           goes_on (inner_remaining g.R.Read.remaining) _ bytes c.loop-count.reader c.read_byte_record.new.self _ _ _ _ _ _ _ so inv.config _ c.in-Ok-true.field-0-test
-          (c.in-Ok-true.ensures.reads inv.trims inv.ready) (on_ok_is c.answer_in_time.result passed c.answer_in_time.ensures.ok)) inv.so_far;
+          (c.in-Ok-true.ensures.reads inv.trims inv.ready) _ c.answer_in_time.result passed c.answer_in_time.ensures) inv.so_far;
     }
+
+pub returns-then-is_err-clause-write : goal.returns-then-is_err-clause-write
+returns-then-is_err-clause-write g c = λ is.
+    let failed : is_err c.answer_in_time.result ≡ true = search rules in
+    (put_front _ _ _ _ c.answer_in_time.result failed c.answer_in_time.ensures.put).1

@@ -1,7 +1,7 @@
 use Rattle.std.proofs.Common.{refl}
 use Rattle.csv.specs.Records.{fields_of}
 use Rattle.hlr.specs.Text.{RecordText}
-use Rattle.hlr.proofs.RunFacts.{answered_whole, answered_front, named_text, recut_named, told_text}
+use Rattle.hlr.proofs.RunFacts.{answered, named_text, recut_named, told_text}
 use Rattle.hlr.proofs.run.answer_word.Goals.{in-Gsd, in-Gad, in-Gnd, in-Usd, in-Ul, in-Icf, in-Dcf, in-Sub, in-Acc, in-Fac, in-Active, in-Number, in-Post, in-Give, in-Take, After-put_all}
 use Rattle.hlr.proofs.run.answer_word.Goals as goal
 
@@ -25,11 +25,8 @@ answer_text g c = elim c.match-word.branch [
   | in-Take w ↦ named_text _ _ _ _ _ c.requires (rw (w.in-Take.is, w.line-is) (told_text (fields_of c.args.row.now) _ c.args.register.now c.match-word.register w.take.result _ w.build_told-in-Take.ensures (rw (w.register-is) w.take.ensures.done) (rw (w.register-is) w.take.ensures.refused)))
 ]
 
-pub returns-clause-ok : goal.returns-clause-ok
-returns-clause-ok g c = answered_whole _ _ _ _ _ _ _ _ _ refl (answer_text g c) c.as_slice.ensures.value c.put_all.ensures.ok
-
-pub returns-clause-err : goal.returns-clause-err
-returns-clause-err g c = answered_front _ _ _ _ _ _ _ _ _ refl (answer_text g c) c.as_slice.ensures.value c.put_all.ensures.err
+pub returns : goal.returns
+returns g c = answered _ _ _ _ _ _ _ _ _ _ refl (answer_text g c) c.as_slice.ensures.value c.put_all.ensures.put
 
 pub write_recut-requires : goal.write_recut-requires
 write_recut-requires g c = recut_named _ (rw (c.in-Recut.is) at c.requires)

@@ -1,6 +1,6 @@
 use Rattle.std.proofs.Common.{◌≡◌, ◌++◌, ◌+◌, ◌*◌, length, drop}
 use Rattle.hlr.specs.Lines.{bytes_text}
-use Rattle.hlr.proofs.lines.put_pairs.Given as goal
+use Rattle.hlr.proofs.lines.put_bytes.Given as goal
 
 abbrev pub invariant-loop-at : goal.invariant-loop-at
 invariant-loop-at l = record {

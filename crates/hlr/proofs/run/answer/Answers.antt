@@ -1,0 +1,13 @@
+use Rattle.std.proofs.Common.{◌≡◌, ◌∙◌, refl, sym, Err, None}
+use Rattle.csv.specs.Records.{fields_of}
+use Rattle.tatp_rows.specs.declared.refusal.Refusal.TheVariants.{Syntax}
+use Rattle.hlr.specs.Records.{command_of, field, word_named}
+use Rattle.hlr.proofs.RunFacts.{answered}
+use Rattle.hlr.proofs.run.answer.Goals as goal
+
+pub returns-in-None : goal.returns-in-None
+unfolding command_of
+returns-in-None g c =
+    let none : word_named (field (fields_of c.args.row.now) 0) ≡ None = rw c.field.ensures at (sym c.word_of.ensures ∙ c.in-None.is) in
+    let asked : Err Syntax ≡ command_of (fields_of c.args.row.now) = rw none refl in
+    answered _ (Err Syntax) _ _ _ _ _ _ _ _ asked (refl, refl) (c.as_slice.ensures.value ∙ c.build_refused.ensures) c.put_all.ensures.put
