@@ -1,19 +1,22 @@
 -- The steps of nodes that become one, and the blank nodes that they use.
-use Rattle.std.proofs.Common.{◌≡◌, ℕ, ◌+◌, ◌-◌, ◌*◌, ◌<◌, ◌≤◌, max, List, Some, None, sym, ap, ◌∙◌, arith}
+use Rattle.std.proofs.Common.{◌≡◌, ℕ, ◌+◌, ◌-◌, ◌*◌, ◌<◌, ◌≤◌, max, List, Some, None, sym, ap, subst, ◌∙◌, arith}
 use Rattle.std.specs.Int.{abs_diff}
-use Rattle.std.specs.declared.boxed.Box.{Box}
-use Rattle.std.specs.declared.alloc.Global.{Global}
 use Rattle.mr_node.specs.Rows.{Seen}
 use Rattle.mr_node.specs.Steps.{after_steps}
-use Rattle.mr_cut.specs.Grafts.{MaybeNode, IsGrafted, more_of, join_steps}
+use Rattle.mr_cut.specs.Bounds.{join_steps}
+use Rattle.mr_cut.specs.Grafts.{MaybeNode, IsGrafted, more_of}
+use Rattle.mr_cut.specs.declared.grafts.Side.{Side}
 use Rattle.mr_cut.specs.Joins.{IsCrowned, IsCrownCount}
+use Rattle.mr_cut.proofs.JoinLemmas.{AreHigherFirst, both_height}
 
 -- the nodes are of one height
 pub met_count : (h k stock before after : ℕ) → h ≡ k → after ≡ after_steps 4 before → after ≡ after_steps (join_steps (h - k) (stock - stock) 0) before
 met_count h k stock before after same even = omega (arith, same, even)
 
 -- both bounds, where there is one new root at most
-pub count_bounds : (apart used roots before after : ℕ) → used ≤ apart + 1 → roots ≤ 1 → after ≡ after_steps (join_steps apart used roots) before → (after_steps (2 * apart + 4) before ≤ after) × (after ≤ before + 16 * (apart + 1))
+count_bounds : (apart used roots before after : ℕ) → used ≤ apart + 1 → roots ≤ 1
+    → after ≡ after_steps (join_steps apart used roots) before
+    → (after_steps (2 * apart + 4) before ≤ after) × (after ≤ before + 16 * (apart + 1))
 count_bounds apart used roots before after few one count = (omega (arith, count), omega (arith, few, one, count))
 
 -- a meter that begins at 0 stands at just the number, where the heights are below 16
@@ -35,15 +38,6 @@ module _ {V : Type 0} where
   more_fits None = omega arith
   more_fits (Some y) = omega arith
 
-  -- one node is put back, or two
-  pub one_hung : (o : MaybeNode V) (stock before after : ℕ) → o ≡ None → after ≡ after_steps 1 before → (stock ≡ stock + more_of o) × (after ≡ after_steps (1 + 5 * more_of o) before)
-  one_hung None stock before after is built = (omega arith, omega (arith, built))
-  one_hung (Some y) stock before after is built = let wrong : ⊥ = cc in absurd wrong
-
-  pub two_hung : (o : MaybeNode V) (y : Box (Seen V) Global) (stock less before first second after : ℕ) → o ≡ Some y → less + 1 ≡ stock → first ≡ after_steps 1 before → second ≡ after_steps 1 first → after ≡ after_steps 4 second → (stock ≡ less + more_of o) × (after ≡ after_steps (1 + 5 * more_of o) before)
-  two_hung None y stock less before first second after is given built lone evened = let wrong : ⊥ = cc in absurd wrong
-  two_hung (Some x) y stock less before first second after is given built lone evened = (omega (arith, given), omega (arith, built, lone, evened))
-
   -- a level more over a neighbour at height k: it is opened, and what came of its child is put back
   pub hung_count : (h k low stock mid less before opened below after : ℕ) (o : MaybeNode V) → k < h → low + 1 ≡ h → opened ≡ after_steps 1 before → mid ≤ stock → below ≡ after_steps (join_steps (low - k) (stock - mid) 0) opened → mid ≡ less + more_of o → after ≡ after_steps (1 + 5 * more_of o) below → after ≡ after_steps (join_steps (h - k) (stock - less) 0) before
   hung_count h k low stock mid less before opened below after None lower level taken fewer count used hang = omega (arith, lower, level, taken, fewer, count, used, hang)
@@ -58,10 +52,28 @@ module _ {V : Type 0} where
       let level : z.height ≡ h + 1 = omega (arith, crown.1, grafted.first.level) in
       omega (arith, level, fewer, count, used, built)
 
-  pub left_count : (a b x z : Seen V) (rows : List (ℕ × V)) (o : MaybeNode V) (stock mid less before below after : ℕ) → b.height ≤ a.height → IsGrafted a.height a.width b.height rows x o → IsCrowned x o z → mid ≤ stock → below ≡ after_steps (join_steps (a.height - b.height) (stock - mid) 0) before → mid ≡ less + more_of o → IsCrownCount o below after
-      → after ≡ after_steps (join_steps (abs_diff a.height b.height) (stock - less) (z.height - max a.height b.height)) before
-  left_count a b x z rows o stock mid less before below after le grafted crown fewer count used built = omega (arith, le, crowned_count a.height a.width b.height rows x z o stock mid less before below after grafted crown fewer count used built)
+  -- the steps of a join, and their bounds
+  pub record IsJoinCount (a b z : Seen V) (used m n : ℕ) : Type 0 where
+    pub count : n ≡ after_steps (join_steps (abs_diff a.height b.height) used (z.height - max a.height b.height)) m
+    pub no_fewer : after_steps (2 * abs_diff a.height b.height + 4) m ≤ n
+    pub most : n ≤ m + 16 * (abs_diff a.height b.height + 1)
 
-  pub right_count : (a b x z : Seen V) (rows : List (ℕ × V)) (o : MaybeNode V) (stock mid less before below after : ℕ) → a.height ≤ b.height → IsGrafted b.height b.width a.height rows x o → IsCrowned x o z → mid ≤ stock → below ≡ after_steps (join_steps (b.height - a.height) (stock - mid) 0) before → mid ≡ less + more_of o → IsCrownCount o below after
-      → after ≡ after_steps (join_steps (abs_diff a.height b.height) (stock - less) (z.height - max a.height b.height)) before
-  right_count a b x z rows o stock mid less before below after le grafted crown fewer count used built = omega (arith, le, crowned_count b.height b.width a.height rows x z o stock mid less before below after grafted crown fewer count used built)
+  pub join_count : {s : Side} {a b node other : Seen V} (rows : List (ℕ × V)) (x z : Seen V) (o : MaybeNode V)
+      (stock mid less before below after : ℕ) → AreHigherFirst s a b node other
+      → IsGrafted node.height node.width other.height rows x o → IsCrowned x o z
+      → stock ≤ mid + (node.height - other.height) → mid ≤ stock
+      → below ≡ after_steps (join_steps (node.height - other.height) (stock - mid) 0) before → mid ≡ less + more_of o
+      → IsCrownCount o below after → IsJoinCount a b z (stock - less) before after
+  join_count {a = a} {b = b} {node = node} rows x z o stock mid less before below after first grafted crown bound fewer
+      count used built =
+      let apart = abs_diff a.height b.height in
+      let roots = z.height - max a.height b.height in
+      let spent = stock - less in
+      let grown = z.height - node.height in
+      let all = crowned_count _ _ _ _ _ z o _ _ _ _ _ _ grafted crown fewer count used built in
+      let level = subst (λ n. after ≡ after_steps (join_steps n spent grown) before) first.apart all in
+      let whole = subst (λ n. after ≡ after_steps (join_steps apart spent (z.height - n)) before) first.top level in
+      let few : spent ≤ apart + 1 = omega (arith, first.apart, bound, used, more_fits o) in
+      let one : roots ≤ 1 = omega (arith, (both_height rows x z o first grafted crown).most) in
+      let bounds = count_bounds apart spent roots before after few one whole in
+      record { count = whole; no_fewer = bounds.0; most = bounds.1 }

@@ -1,5 +1,5 @@
--- A node that is hung at the end or the front of another one: what comes of both.
-use Rattle.std.specs.Prelude.{◌≡◌, ℕ, ◌+◌, ◌-◌, ◌*◌, ◌<◌, ◌≤◌, List, ◌++◌, Option, Some, None}
+-- A node that is hung beside another one: what comes of both. No clause of a public call cites these.
+use Rattle.std.specs.Prelude.{◌≡◌, ℕ, ◌-◌, ◌<◌, ◌≤◌, List, ◌++◌, Option, Some, None}
 use Rattle.std.specs.List.{AllByRecursion}
 use Rattle.std.specs.declared.boxed.Box.{Box}
 use Rattle.std.specs.declared.alloc.Global.{Global}
@@ -8,6 +8,23 @@ use Rattle.mr_node.specs.Rows.{Seen, key_limit, key_of_pair, KeysBelow}
 use Rattle.mr_node.specs.Runs.{IsRun}
 use Rattle.mr_node.specs.Levels.{NodeBranch, kids_of, rows_of, IsKid, IsWell}
 use Rattle.mr_node.specs.Pairs.{IsKidNode, IsJoined, ArePaired}
+use Rattle.mr_cut.specs.declared.grafts.Side.{Side}
+use Rattle.mr_cut.specs.declared.grafts.Side.TheVariants.{Low, High}
+
+-- the rows of a node with those that stand beside it on a side; and so its children
+abbrev pub beside : {A : Type 0} → Side → List A → List A → List A
+beside Low rows others = others ++ rows
+beside High rows others = rows ++ others
+
+-- the place at a side, where that of the high side is the last
+abbrev pub end_of : Side → ℕ → ℕ
+end_of Low last = 0
+end_of High last = last
+
+-- two as they are, or the other way round for the low side
+abbrev pub IsTurned : {A : Type 0} → Side → A → A → A → A → Type 0
+IsTurned Low a b x y = (x ≡ b) × (y ≡ a)
+IsTurned High a b x y = (x ≡ a) × (y ≡ b)
 
 -- one node more, or none
 abbrev pub MaybeNode : Type 0 → Type 0
@@ -54,7 +71,3 @@ IsGrafted height width lower rows one (Some two) = AreTwoOf height width lower r
 abbrev pub more_of : {V : Type 0} → MaybeNode V → ℕ
 more_of None = 0
 more_of (Some two) = 1
-
--- the steps of joining nodes whose heights differ by so much, where so many blank nodes were used, and so many of those for a new root: four where they meet, two a level between, five for each level from which two nodes came back, and one for a new root
-abbrev pub join_steps : ℕ → ℕ → ℕ → ℕ
-join_steps apart used roots = 4 + 2 * apart + 5 * (used - roots) + roots

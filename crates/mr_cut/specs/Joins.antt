@@ -1,11 +1,18 @@
--- Two trees that become one.
+-- Two trees that become one. No clause of a public call cites these.
 use Rattle.std.specs.Prelude.{◌≡◌, ℕ, ◌+◌, ◌<◌, ◌≤◌, max, ◌++◌, Some, None}
 use Rattle.tatp_rows.specs.Ordered.{IsOrderedBy}
 use Rattle.mr_node.specs.Rows.{Seen, key_of_pair}
 use Rattle.mr_node.specs.Pairs.{IsKidNode}
 use Rattle.mr_node.specs.Steps.{after_steps}
 use Rattle.mr_subtree.specs.Trees.{IsRoot}
+use Rattle.mr_cut.specs.declared.grafts.Side.{Side}
+use Rattle.mr_cut.specs.declared.grafts.Side.TheVariants.{Low, High}
 use Rattle.mr_cut.specs.Grafts.{MaybeNode}
+
+-- of two heights, that at the side is the lower one; the high one too where they are the same
+abbrev pub IsLower : Side → ℕ → ℕ → Type 0
+IsLower Low low high = low < high
+IsLower High low high = high ≤ low
 
 -- a root, or two nodes that want one over them
 abbrev pub IsCrownless : {V : Type 0} → Seen V → MaybeNode V → Type 0

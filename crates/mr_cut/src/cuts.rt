@@ -11,7 +11,7 @@ use mr_node::{
     cut_leaf, open, place_of, take_kid,
 };
 
-// A root over some children of an inner node: a blank leaf, the only child, or an inner node. One step at most.
+/// A root over some children of an inner node: a blank leaf, the only child, or an inner node. One step at most.
 fn root_of<V: Drop>(
     mut branch: Branch<Box<Node<V>>>,
     blank: Box<Node<V>>,
@@ -33,7 +33,7 @@ fn root_of<V: Drop>(
     build_inner(branch, blank, meter)
 }
 
-// The child to which a key belongs, between roots over the children in front of it and behind it. Two steps at most.
+/// The child to which a key belongs, between roots over the children in front of it and behind it. Two steps at most.
 fn divide<V: Drop>(
     mut branch: Branch<Box<Node<V>>>,
     key: u64,
@@ -56,7 +56,7 @@ fn divide<V: Drop>(
     (left, mid.node, right)
 }
 
-// The two roots of a leaf that is cut at a key. Two steps.
+/// The two roots of a leaf that is cut at a key. Two steps.
 fn halves_of<V: Drop>(
     mut leaf: Leaf<V>,
     key: u64,

@@ -1,17 +1,18 @@
 //! Two trees that become one.
-ghost use Rattle.std.specs.Prelude.{◌≡◌, ◌+◌, ◌-◌, ◌*◌, ◌<◌, ◌≤◌, max, ◌++◌};
+ghost use Rattle.std.specs.Prelude.{◌≡◌, ◌+◌, ◌-◌, ◌<◌, ◌≤◌, max, ◌++◌};
 ghost use Rattle.std.specs.Int.{abs_diff};
 ghost use Rattle.tatp_rows.specs.Ordered.{IsOrderedBy};
 ghost use Rattle.mr_node.specs.Rows.{key_of_pair};
 ghost use Rattle.mr_node.specs.Steps.{after_steps};
 ghost use Rattle.mr_subtree.specs.Trees.{IsRoot};
-ghost use Rattle.mr_cut.specs.Grafts.{more_of, join_steps};
-ghost use Rattle.mr_cut.specs.Joins.{IsCrownless, IsCrowned, IsCrownCount, IsHeightOfBoth};
+ghost use Rattle.mr_cut.specs.Bounds.{join_steps, most_of_meld, fewest_of_meld};
+ghost use Rattle.mr_cut.specs.Grafts.{more_of};
+ghost use Rattle.mr_cut.specs.Joins.{IsCrownless, IsCrowned, IsCrownCount, IsHeightOfBoth, IsLower};
 
-use crate::grafts::{graft_high, graft_low};
+use crate::grafts::{Side, graft, turned};
 use mr_node::{Meter, Node, Stock, build_inner, hang, no_branch};
 
-// The root of what is one node, or two under a new one. One step where there are two.
+/// The root of what is one node, or two under a new one. One step where there are two.
 fn crown<V: Drop>(
     one: Box<Node<V>>,
     two: Option<Box<Node<V>>>,
@@ -35,6 +36,13 @@ fn crown<V: Drop>(
     }
 }
 
+/// On which side of the higher one of two roots the other one is hung, by their heights.
+fn side_of(low: u64, high: u64) -> Side
+    ensures { IsLower result low high }
+{
+    if high <= low { Side::High } else { Side::Low }
+}
+
 /// Joins two roots: the rows of the low one, and then those of the high one.
 pub(crate) fn join<V: Drop>(
     low: Box<Node<V>>,
@@ -52,13 +60,11 @@ pub(crate) fn join<V: Drop>(
     ensures stock { stock.old ≤ stock.new + (abs_diff low.value.height high.value.height + 1) }
     ensures fewer { stock.new ≤ stock.old }
     ensures count { meter.new ≡ after_steps (join_steps (abs_diff low.value.height high.value.height) (stock.old - stock.new) (result.value.height - max low.value.height high.value.height)) meter.old }
-    ensures no_fewer { after_steps (2 * abs_diff low.value.height high.value.height + 4) meter.old ≤ meter.new }
-    ensures steps { meter.new ≤ meter.old + 16 * (abs_diff low.value.height high.value.height + 1) }
+    ensures no_fewer { after_steps (fewest_of_meld low.value.height high.value.height) meter.old ≤ meter.new }
+    ensures steps { meter.new ≤ meter.old + most_of_meld low.value.height high.value.height }
 {
-    if high.height() <= low.height() {
-        let (one, two) = graft_high(low, high, stock, meter);
-        return crown(one, two, stock, meter);
-    }
-    let (one, two) = graft_low(high, low, stock, meter);
+    let side = side_of(low.height(), high.height());
+    let (node, other) = turned(side, low, high);
+    let (one, two) = graft(side, node, other, stock, meter);
     crown(one, two, stock, meter)
 }

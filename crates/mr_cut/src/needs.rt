@@ -1,6 +1,6 @@
 //! How many blank nodes a slice and a meld want.
-ghost use Rattle.std.specs.Prelude.{◌≡◌, ◌+◌, ◌*◌, ◌<◌, ◌≤◌, MatchResult};
-ghost use Rattle.std.specs.Int.{abs_diff};
+ghost use Rattle.std.specs.Prelude.{◌≡◌, ◌<◌, ◌≤◌, MatchResult};
+ghost use Rattle.mr_cut.specs.Bounds.{blanks_for_slice, most_of_slice, blanks_for_meld, most_of_meld};
 
 use mr_node::Stock;
 use std::alloc::Global;
@@ -9,8 +9,8 @@ use tatp_rows::Refusal;
 /// How many blank nodes a slice of a tree of this height wants: `(height + 2)^2 + 1`, no more than it may take steps.
 pub fn need_slice(height: u64) -> usize
     requires { height < 16 }
-    ensures number { result ≡ (height + 2) * (height + 2) + 1 }
-    ensures within { result ≤ 64 * ((height + 1) * (height + 1)) }
+    ensures number { result ≡ blanks_for_slice height }
+    ensures within { result ≤ most_of_slice height }
 {
     let levels = height as usize + 2;
     levels * levels + 1
@@ -21,8 +21,8 @@ pub fn need_slice(height: u64) -> usize
 pub fn need_meld(low: u64, high: u64) -> usize
     requires low { low < 16 }
     requires high { high < 16 }
-    ensures number { result ≡ abs_diff low high + 3 }
-    ensures within { result ≤ 16 * (abs_diff low high + 1) }
+    ensures number { result ≡ blanks_for_meld low high }
+    ensures within { result ≤ most_of_meld low high }
 {
     low.abs_diff(high) as usize + 3
 }
@@ -30,7 +30,7 @@ pub fn need_meld(low: u64, high: u64) -> usize
 /// The blank nodes for a slice of a tree of this height (`need_slice`). `Memory` where they can't be had.
 pub fn stock_for_slice<V: Drop>(alloc: Global, height: u64) -> Result<Stock<V>, Refusal>
     requires { height < 16 }
-    ensures { MatchResult result (λ stock. stock ≡ (height + 2) * (height + 2) + 1) (λ why. why ≡ Refusal.Memory) }
+    ensures { MatchResult result (λ stock. stock ≡ blanks_for_slice height) (λ why. why ≡ Refusal.Memory) }
 {
     Stock::take(alloc, need_slice(height))
 }
@@ -39,7 +39,7 @@ pub fn stock_for_slice<V: Drop>(alloc: Global, height: u64) -> Result<Stock<V>, 
 pub fn stock_for_meld<V: Drop>(alloc: Global, low: u64, high: u64) -> Result<Stock<V>, Refusal>
     requires low { low < 16 }
     requires high { high < 16 }
-    ensures { MatchResult result (λ stock. stock ≡ abs_diff low high + 3) (λ why. why ≡ Refusal.Memory) }
+    ensures { MatchResult result (λ stock. stock ≡ blanks_for_meld low high) (λ why. why ≡ Refusal.Memory) }
 {
     Stock::take(alloc, need_meld(low, high))
 }

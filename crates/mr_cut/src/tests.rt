@@ -1,7 +1,7 @@
 //! What no clause says: that the stock can be had, how many steps are taken, and that values need be neither Copy nor
 //! Clone. A helper takes its tree by value, and has one exit.
-ghost use Rattle.std.specs.Prelude.{◌≡◌, ◌+◌, ◌*◌, ◌<◌};
-ghost use Rattle.std.specs.Int.{abs_diff};
+ghost use Rattle.std.specs.Prelude.{◌≡◌, ◌<◌};
+ghost use Rattle.mr_cut.specs.Bounds.{blanks_for_slice, blanks_for_meld};
 ghost use Rattle.mr_node.specs.Rows.{key_limit};
 
 use super::*;
@@ -84,7 +84,7 @@ fn filled(rt: &impl Abort, mut tree: SubTree<Token>, rows: u64) -> SubTree<Token
 
 // The blank nodes for a slice; where memory was refused, at the second try, with the tree as before.
 fn slice_stock(rt: &impl Abort, tree: &SubTree<Token>) -> Stock<Token>
-    ensures { result ≡ (tree.now.height + 2) * (tree.now.height + 2) + 1 }
+    ensures { result ≡ blanks_for_slice tree.now.height }
 {
     let before = walked(tree, start());
     match stock_for_slice(tree.alloc(), tree.height()) {
@@ -99,7 +99,7 @@ fn slice_stock(rt: &impl Abort, tree: &SubTree<Token>) -> Stock<Token>
 
 // The blank nodes for a meld; where memory was refused, at the second try.
 fn meld_stock(rt: &impl Abort, low: &SubTree<Token>, high: &SubTree<Token>) -> Stock<Token>
-    ensures { result ≡ abs_diff low.now.height high.now.height + 3 }
+    ensures { result ≡ blanks_for_meld low.now.height high.now.height }
 {
     match stock_for_meld(low.alloc(), low.height(), high.height()) {
         Ok(stock) => stock,
@@ -134,7 +134,7 @@ fn compare(rt: &impl Abort, cut: &Cut<Token>, key: u64, whole: Walk, height: u64
     assert_eq!(rt; (low.rows, high.rows), (cut.low.len(), cut.high.len()));
     assert!(rt; is_right_height(&cut.low) && is_right_height(&cut.high));
     assert!(rt; cut.low.height() <= height && cut.high.height() <= height);
-    assert!(rt; cut.path <= levels.saturating_mul(32));
+    assert!(rt; cut.path <= levels.saturating_mul(3));
     assert!(rt; cut.steps <= levels.saturating_mul(levels).saturating_mul(64));
 }
 

@@ -1,8 +1,8 @@
 //! Slice and meld of whole trees.
 ghost use Rattle.std.specs.Prelude.{◌≡◌, ◌+◌, ◌-◌, ◌*◌, ◌≤◌, max, ◌++◌};
 ghost use Rattle.std.specs.Int.{abs_diff};
+ghost use Rattle.mr_cut.specs.Bounds.{join_steps, blanks_for_slice, most_of_joins, most_of_slice, blanks_for_meld, most_of_meld, fewest_of_meld};
 ghost use Rattle.mr_cut.specs.Cuts.{IsCut, AreApart, rows_below, rows_from};
-ghost use Rattle.mr_cut.specs.Grafts.{join_steps};
 
 use crate::cuts::cut;
 use crate::joins::join;
@@ -22,7 +22,7 @@ pub struct Cut<V> {
     pub path: u64,
 }
 
-// A node in a box.
+/// A node in a box.
 fn boxed<V: Drop>(node: Node<V>, mut blank: Box<Node<V>>) -> Box<Node<V>>
     ensures { result.value ≡ node }
 {
@@ -33,18 +33,18 @@ fn boxed<V: Drop>(node: Node<V>, mut blank: Box<Node<V>>) -> Box<Node<V>>
 /// Cuts a tree at a key: at most three steps a level on the path, and two melds a level beside it. It takes no memory but
 /// the blank nodes of the stock (`need_slice`).
 pub fn slice<V: Drop>(tree: SubTree<V>, key: u64, stock: &mut Stock<V>) -> Cut<V>
-    requires stock { (tree.height + 2) * (tree.height + 2) + 1 ≤ stock.old }
+    requires stock { blanks_for_slice tree.height ≤ stock.old }
     ensures low { result.low.rows ≡ rows_below key tree.rows }
     ensures high { result.high.rows ≡ rows_from key tree.rows }
     ensures cut { IsCut key tree result.low result.high }
     ensures path { result.path ≤ 3 * (tree.height + 1) }
     ensures path_no_fewer { tree.height + 3 ≤ result.path }
-    ensures joins { result.steps ≤ result.path + 32 * ((tree.height + 1) * (tree.height + 1)) }
-    ensures steps { result.steps ≤ 64 * ((tree.height + 1) * (tree.height + 1)) }
+    ensures joins { result.steps ≤ result.path + most_of_joins tree.height }
+    ensures steps { result.steps ≤ most_of_slice tree.height }
     ensures no_fewer { result.path + 8 * tree.height ≤ result.steps }
 {
     let alloc = tree.alloc();
-    // Tells that the height is below 16, on which the steps' bounds rest.
+    // For the prover: the height is below 16, on which the steps' bounds rest.
     let _ = tree.height();
     let root = boxed(tree.into_root(), stock.give());
     let mut path = Meter::new();
@@ -64,13 +64,13 @@ pub fn slice<V: Drop>(tree: SubTree<V>, key: u64, stock: &mut Stock<V>) -> Cut<V
 /// (`need_meld`): two, one for each such level, and one for a new root.
 pub fn meld<V: Drop>(low: SubTree<V>, high: SubTree<V>, stock: &mut Stock<V>) -> (SubTree<V>, u64)
     requires apart { AreApart low.rows high.rows }
-    requires stock { abs_diff low.height high.height + 3 ≤ stock.old }
+    requires stock { blanks_for_meld low.height high.height ≤ stock.old }
     ensures rows { result.0.rows ≡ low.rows ++ high.rows }
     ensures stock { stock.new + 2 ≤ stock.old }
-    ensures used { stock.old ≤ stock.new + (abs_diff low.height high.height + 3) }
+    ensures used { stock.old ≤ stock.new + blanks_for_meld low.height high.height }
     ensures count { result.1 ≡ join_steps (abs_diff low.height high.height) (stock.old - stock.new - 2) (result.0.height - max low.height high.height) }
-    ensures steps { result.1 ≤ 16 * (abs_diff low.height high.height + 1) }
-    ensures no_fewer { 2 * abs_diff low.height high.height + 4 ≤ result.1 }
+    ensures steps { result.1 ≤ most_of_meld low.height high.height }
+    ensures no_fewer { fewest_of_meld low.height high.height ≤ result.1 }
 {
     let alloc = low.alloc();
     let low = boxed(low.into_root(), stock.give());

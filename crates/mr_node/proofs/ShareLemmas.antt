@@ -145,12 +145,13 @@ module _ {X : Type 0} where
       ∙ drop-append_seam (take i all) rest
       ∙ ap (λ l. (get_or ks i 0, x) ∷ l) (drop_all (i + 1) all (omega (arith, len, one)))
 
+  -- two runs after the last entry of the one went behind those of the other; before, these were their entries
+  abbrev pub IsGiven : (n m : ℕ) (ks ls : List ℕ) (new more : List (Option X)) (from to : List (ℕ × X)) → Type 0
+  IsGiven n m ks ls new more from to = (IsRun n ks new) × (IsRun m ls more) × (entries ks new ≡ take (length from - 1) from) × (entries ls more ≡ to ++ drop (length from - 1) from)
+
   -- the last entry of the one run behind those of the other
   run_given : (n i m : ℕ) (x : X) (ks ls : List ℕ) (ps qs new more : List (Option X)) → i + 1 ≡ n → IsRun n ks ps → IsRun m ls qs → length ls ≡ 32 → m < 32 → get_or ps i None ≡ Some x → IsPacked i new → somes new ≡ take i (somes ps) → IsPacked (m + 1) more → somes more ≡ somes qs ++ (x ∷ [])
-      → (IsRun i (set ks i no_key) new)
-      × (IsRun (m + 1) (set ls m (get_or ks i 0)) more)
-      × (entries (set ks i no_key) new ≡ take (length (entries ks ps) - 1) (entries ks ps))
-      × (entries (set ls m (get_or ks i 0)) more ≡ entries ls qs ++ drop (length (entries ks ps) - 1) (entries ks ps))
+      → IsGiven i (m + 1) (set ks i no_key) (set ls m (get_or ks i 0)) new more (entries ks ps) (entries ls qs)
   run_given n i m x ks ls ps qs new more one run to long room got packed e filled f =
       let popped = run_popped n i ks ps new one run packed e in
       let pushed = run_pushed m (get_or ks i 0) x ls qs more to long room filled f in
@@ -163,10 +164,7 @@ module _ {X : Type 0} where
 
   -- of places that are all used, the last goes from the one list to the other
   pub leaf_given : (i m : ℕ) (o : Option X) (ks ls : List ℕ) (ps qs new more : List (Option X)) → i + 1 ≡ length ps → m ≡ length qs → IsRun (length ps) ks ps → IsRun (length qs) ls qs → length ls ≡ 32 → length qs < 32 → ps ≡ new ++ (o ∷ []) → more ≡ qs ++ (o ∷ [])
-      → (IsRun (length new) (set ks i no_key) new)
-      × (IsRun (length more) (set ls m (get_or ks i 0)) more)
-      × (entries (set ks i no_key) new ≡ take (length (entries ks ps) - 1) (entries ks ps))
-      × (entries (set ls m (get_or ks i 0)) more ≡ entries ls qs ++ drop (length (entries ks ps) - 1) (entries ks ps))
+      → IsGiven (length new) (length more) (set ks i no_key) (set ls m (get_or ks i 0)) new more (entries ks ps) (entries ls qs)
   leaf_given i m None ks ls ps qs new more one wide run to long room e f =
       let last = packed_right new (None ∷ []) (subst (λ l. IsPacked (length l) l) e run.packed) in
       absurd (omega (arith, last.0))
@@ -192,10 +190,7 @@ module _ {X : Type 0} where
 
   -- of places of which the first are used, the last used goes from the one list to the other
   pub branch_given : (n i m : ℕ) (r y o : Option X) (ks ls : List ℕ) (ps qs : List (Option X)) → i + 1 ≡ n → IsRun n ks ps → IsRun m ls qs → length ls ≡ 32 → length qs ≡ 32 → m < 32 → o ≡ get_or ps i r → y ≡ None
-      → (IsRun i (set ks i no_key) (set ps i y))
-      × (IsRun (m + 1) (set ls m (get_or ks i 0)) (set qs m o))
-      × (entries (set ks i no_key) (set ps i y) ≡ take (length (entries ks ps) - 1) (entries ks ps))
-      × (entries (set ls m (get_or ks i 0)) (set qs m o) ≡ entries ls qs ++ drop (length (entries ks ps) - 1) (entries ks ps))
+      → IsGiven i (m + 1) (set ks i no_key) (set ls m (get_or ks i 0)) (set ps i y) (set qs m o) (entries ks ps) (entries ls qs)
   branch_given n i m r y o ks ls ps qs one run to long wide room eo ey =
       let used = packed_some n i ps run.packed (omega (arith, one)) in
       let same : o ≡ Some used.0 = eo ∙ get_or_default ps i r None (omega (arith, packed_fits n ps run.packed, one)) ∙ used.1 in

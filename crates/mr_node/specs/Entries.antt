@@ -1,4 +1,4 @@
--- The entries of a leaf round the place of a key.
+-- The entries of a leaf round the place of a key: no clause of a public call cites these.
 use Rattle.std.specs.Prelude.{◌≡◌, ℕ, ◌+◌, ◌<◌, ◌≤◌, take, drop, length, slice_index_or}
 use Rattle.mr_node.specs.declared.body.Leaf.{Leaf}
 use Rattle.mr_node.specs.Rows.{KeysBelow, KeysFrom}

@@ -1,5 +1,5 @@
 -- What is seen of a node: its height, its width and its rows.
-use Rattle.std.specs.Prelude.{ℕ, List, Option, option_map, refl}
+use Rattle.std.specs.Prelude.{ℕ, ◌-◌, ◌^◌, List, Option, option_map, refl}
 use Rattle.std.specs.Coded.{Coded, code_by, coded×, coded_ℕ, coded_list}
 use Rattle.tatp_rows.specs.Ordered.{row_at}
 use Rattle.tatp_rows.specs.Spans.{AllBelow, AllFrom, StartsAt}
@@ -17,7 +17,7 @@ seen_code {V} code =
 
 -- all keys are below this number, so a count of rows in order always fits 64 bits, and so does one more
 abbrev pub key_limit : ℕ
-key_limit = 18446744073709551614
+key_limit = 2 ^ 64 - 2
 
 -- the key of a pair
 abbrev pub key_of_pair : {V : Type 0} → ℕ × V → ℕ

@@ -1,10 +1,10 @@
 -- Entries in order: keys in an array, and beside each key what belongs to it.
-use Rattle.std.specs.Prelude.{◌≡◌, ℕ, ◌-◌, ◌<◌, ◌≤◌, List, [], ◌∷◌, Option, Some, None, length, ⊤}
+use Rattle.std.specs.Prelude.{◌≡◌, ℕ, ◌-◌, ◌^◌, ◌<◌, ◌≤◌, List, [], ◌∷◌, Option, Some, None, length, ⊤}
 use Rattle.std.specs.List.{zip}
 
 -- what stands behind the last key: the greatest number of 64 bits
 abbrev pub no_key : ℕ
-no_key = 18446744073709551615
+no_key = 2 ^ 64 - 1
 
 -- what the used places hold, in order
 abbrev pub somes : {X : Type 0} → List (Option X) → List X

@@ -1,4 +1,4 @@
--- Where a search among the keys of a node stops.
+-- Where a search among the keys of a node stops: no clause of a public call cites these.
 use Rattle.std.specs.Prelude.{ℕ, ◌+◌, ◌-◌, ◌<◌, ◌≤◌, List, length, slice_index_or}
 
 -- no key is less than one in front of it

@@ -14,7 +14,7 @@ use crate::keys::{NO_KEY, count_below, put_key, take_key};
 use crate::{Leaf, Revise, Room};
 use arrayvec::ArrayVec;
 
-// A leaf without entries.
+/// A leaf without entries.
 pub(crate) fn no_leaf<V>() -> Leaf<V>
     ensures leaf { IsLeaf result }
     ensures none { result.values.items ≡ [] }
@@ -25,7 +25,7 @@ pub(crate) fn no_leaf<V>() -> Leaf<V>
     }
 }
 
-// The place of a key in a leaf; where it isn't there, that at which it would stand.
+/// The place of a key in a leaf; where it isn't there, that at which it would stand.
 fn search<V>(leaf: &Leaf<V>, key: u64) -> Result<usize, usize>
     requires { IsLeaf leaf.now }
     ensures { MatchResult result (λ place. IsThere key place leaf.now) (λ place. IsFree key place leaf.now) }
@@ -41,7 +41,7 @@ fn search<V>(leaf: &Leaf<V>, key: u64) -> Result<usize, usize>
     Ok(place)
 }
 
-// The value in a place.
+/// The value in a place.
 fn value_in<V>(place: &Option<V>) -> Option<&V>
     ensures { option_map (λ r. r.now) result ≡ place.now }
 {
@@ -51,7 +51,7 @@ fn value_in<V>(place: &Option<V>) -> Option<&V>
     }
 }
 
-// The value at a key of a leaf.
+/// The value at a key of a leaf.
 pub(crate) fn find_entry<V>(leaf: &Leaf<V>, key: u64) -> Option<&V>
     requires { IsLeaf leaf.now }
     ensures { option_map (λ r. r.now) result ≡ value_at key (pairs_of leaf.now) }
@@ -62,7 +62,7 @@ pub(crate) fn find_entry<V>(leaf: &Leaf<V>, key: u64) -> Option<&V>
     }
 }
 
-// Changes the value in a used place.
+/// Changes the value in a used place.
 fn revise_value<V, E: Revise<V>>(place: &mut Option<V>, edit: &mut E)
     requires { IsSome place.old }
     ensures place { IfSome place.old (λ v. place.new ≡ Some (E.revised edit.old v)) }
@@ -74,7 +74,7 @@ fn revise_value<V, E: Revise<V>>(place: &mut Option<V>, edit: &mut E)
     }
 }
 
-// Changes the value in a used place of a leaf.
+/// Changes the value in a used place of a leaf.
 fn revise_in<V, E: Revise<V>>(values: &mut ArrayVec<Option<V>, 32>, place: usize, edit: &mut E)
     requires within { place < length values.old.items }
     requires some { IsSome (slice_index_or values.old.items place None) }
@@ -84,7 +84,7 @@ fn revise_in<V, E: Revise<V>>(values: &mut ArrayVec<Option<V>, 32>, place: usize
     revise_value(&mut values.as_mut_slice()[place], edit)
 }
 
-// Changes the value at a key of a leaf: false where the key isn't there.
+/// Changes the value at a key of a leaf: false where the key isn't there.
 pub(crate) fn revise_entry<V, E: Revise<V>>(leaf: &mut Leaf<V>, key: u64, edit: &mut E) -> bool
     requires { IsLeaf leaf.old }
     ensures rows { pairs_of leaf.new ≡ revised_at key (E.revised edit.old) (pairs_of leaf.old) }
@@ -102,7 +102,7 @@ pub(crate) fn revise_entry<V, E: Revise<V>>(leaf: &mut Leaf<V>, key: u64, edit: 
     }
 }
 
-// Puts an entry into a leaf with room, at the place of its key.
+/// Puts an entry into a leaf with room, at the place of its key.
 fn put_entry<V: Drop>(leaf: &mut Leaf<V>, place: usize, key: u64, value: &mut Option<V>)
     requires leaf { IsLeaf leaf.old }
     requires small { key < key_limit }
@@ -117,7 +117,7 @@ fn put_entry<V: Drop>(leaf: &mut Leaf<V>, place: usize, key: u64, value: &mut Op
     leaf.values.insert(place, value.take());
 }
 
-// Puts a row into a leaf that has room.
+/// Puts a row into a leaf that has room.
 pub(crate) fn insert_entry<V: Drop>(leaf: &mut Leaf<V>, key: u64, value: &mut Option<V>) -> Room
     requires leaf { IsLeaf leaf.old }
     requires small { key < key_limit }
@@ -138,7 +138,7 @@ pub(crate) fn insert_entry<V: Drop>(leaf: &mut Leaf<V>, key: u64, value: &mut Op
     }
 }
 
-// Puts a row whose key isn't there into a leaf with room.
+/// Puts a row whose key isn't there into a leaf with room.
 pub(crate) fn insert_new<V: Drop>(leaf: &mut Leaf<V>, key: u64, value: &mut Option<V>)
     requires leaf { IsLeaf leaf.old }
     requires small { key < key_limit }
@@ -155,7 +155,7 @@ pub(crate) fn insert_new<V: Drop>(leaf: &mut Leaf<V>, key: u64, value: &mut Opti
     }
 }
 
-// Takes the row at a key out of a leaf.
+/// Takes the row at a key out of a leaf.
 pub(crate) fn remove_entry<V: Drop>(leaf: &mut Leaf<V>, key: u64) -> Option<V>
     requires { IsLeaf leaf.old }
     ensures rows { pairs_of leaf.new ≡ without_row key_of_pair key (pairs_of leaf.old) }
@@ -172,7 +172,7 @@ pub(crate) fn remove_entry<V: Drop>(leaf: &mut Leaf<V>, key: u64) -> Option<V>
     }
 }
 
-// The first row of a leaf from a key on.
+/// The first row of a leaf from a key on.
 pub(crate) fn first_entry<V>(leaf: &Leaf<V>, key: u64) -> Option<(u64, &V)>
     requires { IsLeaf leaf.now }
     ensures { option_map (λ r. (r.0, r.1.now)) result ≡ find (λ p. nat_le key p.0) (pairs_of leaf.now) }
@@ -187,7 +187,7 @@ pub(crate) fn first_entry<V>(leaf: &Leaf<V>, key: u64) -> Option<(u64, &V)>
     }
 }
 
-// What a fold makes of an entry.
+/// What a fold makes of an entry.
 fn fold_entry<V, A, F: Fn(A, u64, &V) -> A>(key: u64, place: &Option<V>, so_far: A, f: &F) -> A
     requires callable { F.IsAlwaysCallable f.now }
     requires some { IsSome place.now }
@@ -199,7 +199,7 @@ fn fold_entry<V, A, F: Fn(A, u64, &V) -> A>(key: u64, place: &Option<V>, so_far:
     }
 }
 
-// The fold over the rows of a leaf.
+/// The fold over the rows of a leaf.
 pub(crate) fn fold_entries<V, A, F: Fn(A, u64, &V) -> A>(leaf: &Leaf<V>, init: A, f: &F) -> A
     requires callable { F.IsAlwaysCallable f.now }
     requires leaf { IsLeaf leaf.now }
@@ -212,7 +212,7 @@ pub(crate) fn fold_entries<V, A, F: Fn(A, u64, &V) -> A>(leaf: &Leaf<V>, init: A
     folded
 }
 
-// Hands an entry to a closure, with what it writes to.
+/// Hands an entry to a closure, with what it writes to.
 fn walk_entry<V, A, F: Fn(&mut A, u64, &V)>(key: u64, place: &Option<V>, so_far: &mut A, f: &F)
     requires callable { F.IsAlwaysCallable f.now }
     requires some { IsSome place.now }
@@ -224,7 +224,7 @@ fn walk_entry<V, A, F: Fn(&mut A, u64, &V)>(key: u64, place: &Option<V>, so_far:
     }
 }
 
-// Hands each row of a leaf in order to a closure, with what it writes to.
+/// Hands each row of a leaf in order to a closure, with what it writes to.
 pub(crate) fn walk_entries<V, A, F: Fn(&mut A, u64, &V)>(leaf: &Leaf<V>, so_far: &mut A, f: &F)
     requires callable { F.IsAlwaysCallable f.now }
     requires leaf { IsLeaf leaf.now }
@@ -235,7 +235,7 @@ pub(crate) fn walk_entries<V, A, F: Fn(&mut A, u64, &V)>(leaf: &Leaf<V>, so_far:
     }
 }
 
-// A copy of the value in a used place.
+/// A copy of the value in a used place.
 fn copy_of<V: Copy>(place: &Option<V>) -> V
     requires { IsSome place.now }
     ensures { place.now ≡ Some result }
@@ -246,7 +246,7 @@ fn copy_of<V: Copy>(place: &Option<V>) -> V
     }
 }
 
-// Puts the rows of a leaf from a key on into an empty page.
+/// Puts the rows of a leaf from a key on into an empty page.
 pub(crate) fn page_entries<V: Copy>(leaf: &Leaf<V>, key: u64, page: &mut ArrayVec<(u64, V), 32>)
     requires leaf { IsLeaf leaf.now }
     requires empty { page.old.items ≡ [] }

@@ -8,7 +8,7 @@ use crate::places::{last_to, move_to_end};
 /// What stands behind the last key.
 pub(crate) const NO_KEY: u64 = u64::MAX;
 
-// 1 where the key at a place is less than this one, else 0.
+/// 1 where the key at a place is less than this one, else 0.
 fn is_less(keys: &[u64; 32], place: usize, key: u64) -> usize
     requires { place < 32 }
     ensures { result ≡ (if nat_lt (slice_index_or keys.now place 0) key then 1 else 0) }
@@ -16,7 +16,7 @@ fn is_less(keys: &[u64; 32], place: usize, key: u64) -> usize
     usize::from(keys[place] < key)
 }
 
-// How many of the seven keys that stand four places apart are less than a key.
+/// How many of the seven keys that stand four places apart are less than a key.
 fn fours_below(keys: &[u64; 32], key: u64) -> usize
     requires { IsRising keys.now }
     ensures within { result < 8 }
@@ -44,7 +44,7 @@ pub(crate) fn count_below(keys: &[u64; 32], key: u64) -> usize
         + is_less(keys, low + 3, key)
 }
 
-// Puts a key among the others; what stands in the last place is let go.
+/// Puts a key among the others; what stands in the last place is let go.
 pub(crate) fn put_key(keys: &mut [u64; 32], place: usize, key: u64)
     requires { place < 32 }
     ensures { keys.new ≡ insert (take 31 keys.old) place key }
@@ -53,7 +53,7 @@ pub(crate) fn put_key(keys: &mut [u64; 32], place: usize, key: u64)
     last_to(keys, place);
 }
 
-// Takes the first keys out, and closes the gap.
+/// Takes the first keys out, and closes the gap.
 pub(crate) fn drop_keys(keys: &mut [u64; 32], count: usize)
     requires { count ≤ 32 }
     ensures { keys.new ≡ drop count keys.old ++ replicate count no_key }
@@ -62,7 +62,7 @@ pub(crate) fn drop_keys(keys: &mut [u64; 32], count: usize)
     keys[32 - count..].fill(NO_KEY);
 }
 
-// Takes the key at a place out, and closes the gap.
+/// Takes the key at a place out, and closes the gap.
 pub(crate) fn take_key(keys: &mut [u64; 32], place: usize)
     requires { place < 32 }
     ensures { keys.new ≡ remove keys.old place ++ no_key ∷ [] }

@@ -10,7 +10,7 @@ use crate::keys::{NO_KEY, count_below, put_key, take_key};
 use crate::places::{last_to, move_to_end};
 use crate::{Branch, Kid};
 
-// Thirty-two places for children, none used.
+/// Thirty-two places for children, none used.
 fn no_kids<B>() -> [Option<Kid<B>>; 32]
     ensures { IsPacked 0 result }
 {
@@ -47,7 +47,7 @@ pub fn place_of<B>(branch: &Branch<B>, key: u64) -> usize
     count_below(&branch.leasts, key.saturating_add(1)).saturating_sub(1)
 }
 
-// The count of the child at a place, or 0 where there is none.
+/// The count of the child at a place, or 0 where there is none.
 fn count_at<B>(branch: &Branch<B>, place: usize) -> u64
     requires { place < 32 }
     ensures { IfSome (slice_index_or branch.now.kids place None) (λ k. result ≡ k.count) }
@@ -58,7 +58,7 @@ fn count_at<B>(branch: &Branch<B>, place: usize) -> u64
     }
 }
 
-// The sum of the children's counts.
+/// The sum of the children's counts.
 pub(crate) fn sum_counts<B>(branch: &Branch<B>) -> u64
     requires run { IsRun branch.now.len branch.now.leasts branch.now.kids }
     requires fits { sum_by (λ k. k.1.count) (entries branch.now.leasts branch.now.kids) < 18446744073709551616 }
@@ -91,7 +91,7 @@ pub fn take_kid<B>(branch: &mut Branch<B>, place: usize) -> Kid<B>
     }
 }
 
-// Puts a child into an inner node's part at a place.
+/// Puts a child into an inner node's part at a place.
 pub(crate) fn put_kid<B: Drop>(branch: &mut Branch<B>, place: usize, least: u64, kid: Kid<B>)
     requires run { IsRun branch.old.len branch.old.leasts branch.old.kids }
     requires room { branch.old.len < 32 }

@@ -9,12 +9,12 @@ use crate::kids::{place_of, put_kid, take_kid};
 use crate::runs::low_of;
 use crate::{Branch, Kid, Meter, Node, Stock};
 
-// A full child gives to the one before it where that one has so many at most,
+/// A full child gives to the one before it where that one has so many at most,
 const GIVEN_FROM: usize = 24;
-// until it has so many: room is left in both, and rows that come in rising order leave nearly full nodes behind.
+/// until it has so many: room is left in both, and rows that come in rising order leave nearly full nodes behind.
 const GIVEN_TO: usize = 29;
 
-// The width of the child at a place.
+/// The width of the child at a place.
 fn kid_width<V>(kids: &[Option<Kid<Box<Node<V>>>>; 32], place: usize) -> usize
     requires { place < 32 }
     ensures { IfSome (slice_index_or kids.now place None) (λ k. result ≡ k.node.value.width) }
@@ -25,7 +25,7 @@ fn kid_width<V>(kids: &[Option<Kid<Box<Node<V>>>>; 32], place: usize) -> usize
     }
 }
 
-// Counts the rows of a child anew.
+/// Counts the rows of a child anew.
 fn count_anew<V>(kid: &mut Kid<Box<Node<V>>>)
     ensures node { kid.new.node ≡ kid.old.node }
     ensures count { kid.new.count ≡ length kid.old.node.value.rows }
@@ -33,7 +33,7 @@ fn count_anew<V>(kid: &mut Kid<Box<Node<V>>>)
     kid.count = kid.node.len();
 }
 
-// The width of the child at `place` and of the next one together.
+/// The width of the child at `place` and of the next one together.
 fn pair_width<V>(branch: &Branch<Box<Node<V>>>, place: usize) -> usize
     requires loose { IsBranchOf 15 branch.now }
     requires within { place + 1 < branch.now.len }
@@ -43,8 +43,8 @@ fn pair_width<V>(branch: &Branch<Box<Node<V>>>, place: usize) -> usize
     kid_width(&branch.kids, place) + kid_width(&branch.kids, place + 1)
 }
 
-// Moves entries between the child at `place` and the next one until the first has `low`: true where the next one is
-// empty then. Four steps.
+/// Moves entries between the child at `place` and the next one until the first has `low`: true where the next one is
+/// empty then. Four steps.
 fn share_pair<V: Drop>(
     branch: &mut Branch<Box<Node<V>>>,
     place: usize,
@@ -73,7 +73,7 @@ fn share_pair<V: Drop>(
     }
 }
 
-// Evens out the child at `place` and the next one; one that is empty then is let go. Four steps.
+/// Evens out the child at `place` and the next one; one that is empty then is let go. Four steps.
 fn join_pair<V: Drop>(branch: &mut Branch<Box<Node<V>>>, place: usize, meter: &mut Meter)
     requires loose { IsBranchOf 15 branch.old }
     requires within { place + 1 < branch.old.len }
@@ -86,8 +86,8 @@ fn join_pair<V: Drop>(branch: &mut Branch<Box<Node<V>>>, place: usize, meter: &m
     }
 }
 
-// The first of the two neighbours that share anew where the child at `place` is thin: it and the one before it where
-// both fit one node, or where it is the last; else it and the next one.
+/// The first of the two neighbours that share anew where the child at `place` is thin: it and the one before it where
+/// both fit one node, or where it is the last; else it and the next one.
 fn pair_of<V>(branch: &Branch<Box<Node<V>>>, place: usize) -> usize
     requires loose { IsBranchOf 15 branch.now }
     requires two { 2 ≤ branch.now.len }
@@ -105,8 +105,8 @@ fn pair_of<V>(branch: &Branch<Box<Node<V>>>, place: usize) -> usize
     place - 1
 }
 
-// Mends an inner node whose child at `place` may be one short of half full, by evening it out with a neighbour. Four
-// steps.
+/// Mends an inner node whose child at `place` may be one short of half full, by evening it out with a neighbour. Four
+/// steps.
 #[cold]
 #[inline(never)]
 fn mend_thin<V: Drop>(branch: &mut Branch<Box<Node<V>>>, place: usize, meter: &mut Meter)
@@ -120,7 +120,7 @@ fn mend_thin<V: Drop>(branch: &mut Branch<Box<Node<V>>>, place: usize, meter: &m
     join_pair(branch, first, meter);
 }
 
-// Mends an inner node whose child at `place` may be one short of half full: four steps where it is, else none.
+/// Mends an inner node whose child at `place` may be one short of half full: four steps where it is, else none.
 pub(crate) fn mend<V: Drop>(branch: &mut Branch<Box<Node<V>>>, place: usize, meter: &mut Meter)
     requires loose { IsLooseAt place branch.old }
     requires two { 2 ≤ branch.old.len }
@@ -135,7 +135,7 @@ pub(crate) fn mend<V: Drop>(branch: &mut Branch<Box<Node<V>>>, place: usize, met
     mend_thin(branch, place, meter);
 }
 
-// Halves the full child at a place: its upper half goes into the blank node, behind it.
+/// Halves the full child at a place: its upper half goes into the blank node, behind it.
 fn split_kid<V: Drop>(branch: &mut Branch<Box<Node<V>>>, place: usize, mut blank: Box<Node<V>>)
     requires branch { IsBranch branch.old }
     requires room { branch.old.len < 32 }
@@ -156,8 +156,8 @@ fn split_kid<V: Drop>(branch: &mut Branch<Box<Node<V>>>, place: usize, mut blank
     put_kid(branch, place + 1, least, Kid { count, node: blank });
 }
 
-// Parts the full child at a place: it gives entries to the one before it where that has room for many, in four steps;
-// else it is halved, in three steps and with one blank node. The place of the first of the two that have its entries.
+/// Parts the full child at a place: it gives entries to the one before it where that has room for many, in four steps;
+/// else it is halved, in three steps and with one blank node. The place of the first of the two that have its entries.
 fn part_kid<V: Drop>(
     branch: &mut Branch<Box<Node<V>>>,
     place: usize,
@@ -183,7 +183,7 @@ fn part_kid<V: Drop>(
     place
 }
 
-// Finds the child to which a key belongs, and parts it first where it is full.
+/// Finds the child to which a key belongs, and parts it first where it is full.
 pub(crate) fn make_room<V: Drop>(
     branch: &mut Branch<Box<Node<V>>>,
     key: u64,

@@ -95,7 +95,7 @@ impl<V> Node<V> {
         }
     }
 
-    // The least key of a node that has any row.
+    /// The least key of a node that has any row.
     pub(crate) fn least(&self) -> u64
         ensures { 0 < self.now.width → StartsWith result self.now.rows }
     {
@@ -188,7 +188,7 @@ impl<V> Node<V> {
         }
     }
 
-    // The parts of a node.
+    /// The parts of a node.
     fn into_body(self) -> Body<V, Box<Node<V>>>
         ensures seen { seen result ≡ self }
         ensures whole { IsNode result }
@@ -272,7 +272,7 @@ impl<V: Drop> Node<V> {
         gone
     }
 
-    // Takes the row at a key out in place, and puts its value into `gone`. The value moves but once.
+    /// Takes the row at a key out in place, and puts its value into `gone`. The value moves but once.
     fn take_at(&mut self, key: u64, gone: &mut Option<V>, meter: &mut Meter)
         requires { 0 < self.old.height → 2 ≤ self.old.width }
         ensures new { IsShrunk key self.old self.new }
@@ -376,7 +376,7 @@ impl<V: Drop> Node<V> {
         drop_root(self, meter);
     }
 
-    // Moves the upper half of a full node into another one, whose own rows are let go.
+    /// Moves the upper half of a full node into another one, whose own rows are let go.
     pub(crate) fn halve_into(&mut self, high: &mut Node<V>)
         requires { self.old.width ≡ 32 }
         ensures { IsHalved self.old self.new high.new }
@@ -407,8 +407,8 @@ impl<V: Drop> Node<V> {
         self.share_with(next, low, meter)
     }
 
-    // Moves entries between a node and its next neighbour of the same height until the first has `low`. True where it
-    // has all rows then; else both are half full. Four steps.
+    /// Moves entries between a node and its next neighbour of the same height until the first has `low`. True where it
+    /// has all rows then; else both are half full. Four steps.
     pub(crate) fn share_with(&mut self, next: &mut Node<V>, low: usize, meter: &mut Meter) -> bool
         requires level { self.old.height ≡ next.old.height }
         requires ordered { IsOrderedBy key_of_pair (self.old.rows ++ next.old.rows) }
@@ -461,14 +461,14 @@ impl<V: Drop> Node<V> {
     }
 }
 
-// Puts a value in the place of what was there.
+/// Puts a value in the place of what was there.
 fn put<V: Drop>(gone: &mut Option<V>, value: Option<V>)
     ensures { gone.new ≡ value }
 {
     *gone = value;
 }
 
-// Takes a removal below a child, which took a row out or not, into the child's count. Its least key.
+/// Takes a removal below a child, which took a row out or not, into the child's count. Its least key.
 fn note_gone<V>(kid: &mut Kid<Box<Node<V>>>, is_gone: bool) -> u64
     ensures node { kid.new.node ≡ kid.old.node }
     ensures least { 0 < kid.old.node.value.width → StartsWith result kid.old.node.value.rows }
@@ -478,7 +478,7 @@ fn note_gone<V>(kid: &mut Kid<Box<Node<V>>>, is_gone: bool) -> u64
     kid.node.least()
 }
 
-// The least key of a child after an insertion below it, which put a row in or not.
+/// The least key of a child after an insertion below it, which put a row in or not.
 fn least_after(least: u64, key: u64, is_in: bool) -> u64
     ensures { result ≡ (if is_in then min least key else least) }
 {
@@ -488,7 +488,7 @@ fn least_after(least: u64, key: u64, is_in: bool) -> u64
     least
 }
 
-// Makes a node a leaf without entries, where it isn't one.
+/// Makes a node a leaf without entries, where it isn't one.
 fn make_blank<V: Drop>(node: &mut Node<V>)
     ensures { node.new ≡ record { height = 0; width = 0; rows = [] } }
 {
@@ -498,7 +498,7 @@ fn make_blank<V: Drop>(node: &mut Node<V>)
     *node = Node::new();
 }
 
-// Makes a node's parts those of a leaf without entries, where it has none left.
+/// Makes a node's parts those of a leaf without entries, where it has none left.
 fn let_go<V: Drop>(body: &mut Body<V, Box<Node<V>>>, none: bool)
     ensures gone { none ≡ true → IsNode body.new }
     ensures kept { none ≡ false → body.new ≡ body.old }
@@ -509,7 +509,7 @@ fn let_go<V: Drop>(body: &mut Body<V, Box<Node<V>>>, none: bool)
     *body = Body::Leaf(no_leaf());
 }
 
-// Makes a node a leaf of these entries.
+/// Makes a node a leaf of these entries.
 fn put_leaf<V: Drop>(node: &mut Node<V>, leaf: Leaf<V>)
     requires { IsLeaf leaf }
     ensures { node.new ≡ seen_leaf leaf }
@@ -519,7 +519,7 @@ fn put_leaf<V: Drop>(node: &mut Node<V>, leaf: Leaf<V>)
     };
 }
 
-// Makes a node an inner node of these children.
+/// Makes a node an inner node of these children.
 fn put_inner<V: Drop>(node: &mut Node<V>, branch: Branch<Box<Node<V>>>)
     requires { IsBranch branch }
     ensures { node.new ≡ seen_branch branch }
@@ -545,7 +545,7 @@ pub fn hang<V: Drop>(branch: &mut Branch<Box<Node<V>>>, place: usize, node: Box<
     put_kid(branch, place, least, Kid { count, node });
 }
 
-// A new root over the halves of a full node.
+/// A new root over the halves of a full node.
 fn root_over<V: Drop>(mut node: Box<Node<V>>, mut blank: Box<Node<V>>, meter: &mut Meter) -> Node<V>
     requires full { node.value.width ≡ 32 }
     requires well { IsWell node.value }
@@ -562,7 +562,7 @@ fn root_over<V: Drop>(mut node: Box<Node<V>>, mut blank: Box<Node<V>>, meter: &m
     }
 }
 
-// Puts the only child of an inner root in its place.
+/// Puts the only child of an inner root in its place.
 #[cold]
 #[inline(never)]
 fn drop_root<V: Drop>(root: &mut Node<V>, meter: &mut Meter)
@@ -576,7 +576,7 @@ fn drop_root<V: Drop>(root: &mut Node<V>, meter: &mut Meter)
     *root = only_child(node, meter);
 }
 
-// The only child of an inner node.
+/// The only child of an inner node.
 fn only_child<V: Drop>(node: Node<V>, meter: &mut Meter) -> Node<V>
     requires inner { 0 < node.height }
     requires one { node.width ≡ 1 }

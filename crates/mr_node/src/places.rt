@@ -2,7 +2,7 @@
 ghost use Rattle.std.specs.Prelude.{◌≡◌, ◌+◌, ◌-◌, ◌<◌, ◌≤◌, List, [], ◌∷◌, ◌++◌, length, reverse, take, drop, slice_range, insert};
 ghost use Rattle.std.specs.List.{remove_range};
 
-// Moves the last element to `place`, and the elements from there on up.
+/// Moves the last element to `place`, and the elements from there on up.
 pub(crate) fn last_to<T>(items: &mut [T], place: usize)
     requires { place < length items.old }
     ensures { (front : List T) (last : T) → items.old ≡ front ++ last ∷ [] → items.new ≡ insert front place last }
@@ -10,7 +10,7 @@ pub(crate) fn last_to<T>(items: &mut [T], place: usize)
     items[place..].rotate_right(1);
 }
 
-// Moves the elements from `start` up to `end` behind the others.
+/// Moves the elements from `start` up to `end` behind the others.
 pub(crate) fn move_to_end<T>(items: &mut [T], start: usize, end: usize)
     requires start_le_end { start ≤ end }
     requires in_bounds { end ≤ length items.old }
@@ -19,7 +19,7 @@ pub(crate) fn move_to_end<T>(items: &mut [T], start: usize, end: usize)
     items[start..].rotate_left(end - start);
 }
 
-// Moves the values from `count` on down to the front.
+/// Moves the values from `count` on down to the front.
 pub(crate) fn close_front<X: Drop>(places: &mut [Option<X>], count: usize)
     requires { count ≤ length places.old }
     ensures front { take (length places.old - count) places.new ≡ drop count places.old }
@@ -30,7 +30,7 @@ pub(crate) fn close_front<X: Drop>(places: &mut [Option<X>], count: usize)
     }
 }
 
-// Turns the order of the first `len` elements round.
+/// Turns the order of the first `len` elements round.
 pub(crate) fn turn_front<T>(items: &mut [T], len: usize)
     requires { len ≤ length items.old }
     ensures { items.new ≡ reverse (take len items.old) ++ drop len items.old }

@@ -14,7 +14,7 @@ pub trait Revise<V> {
         ensures spent { self.new ≡ spent self.old value.old };
 }
 
-// Puts a value in place of one, and has that one then.
+/// Puts a value in place of one, and has that one then.
 #[derive(Drop)]
 pub(crate) struct Swap<V> {
     pub(crate) value: V,

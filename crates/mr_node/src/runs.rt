@@ -9,7 +9,7 @@ use crate::places::{close_front, turn_front};
 use crate::{Branch, Kid, Leaf};
 use arrayvec::ArrayVec;
 
-// A leaf or an inner node's part, as a list of entries that gives at both ends and takes at its end.
+/// A leaf or an inner node's part, as a list of entries that gives at both ends and takes at its end.
 pub(crate) trait Run {
     type Item;
 
@@ -19,12 +19,12 @@ pub(crate) trait Run {
 
     ghost height: { Self → ℕ };
 
-    // The number of entries.
+    /// The number of entries.
     fn width(&self) -> usize
         requires { is_run self.now }
         ensures { result ≡ length (list self.now) };
 
-    // Moves the last entry behind those of another one.
+    /// Moves the last entry behind those of another one.
     fn give_last(&mut self, to: &mut Self)
         requires run { is_run self.old }
         requires to_run { is_run to.old }
@@ -37,7 +37,7 @@ pub(crate) trait Run {
         ensures height { height self.new ≡ height self.old }
         ensures to_height { height to.new ≡ height to.old };
 
-    // Moves the first entries behind those of another one.
+    /// Moves the first entries behind those of another one.
     fn give_front(&mut self, to: &mut Self, count: usize)
         requires run { is_run self.old }
         requires to_run { is_run to.old }
@@ -50,7 +50,7 @@ pub(crate) trait Run {
         ensures height { height self.new ≡ height self.old }
         ensures to_height { height to.new ≡ height to.old };
 
-    // Turns the order of the entries round.
+    /// Turns the order of the entries round.
     fn turn(&mut self)
         requires { is_run self.old }
         ensures run { is_run self.new }
@@ -58,7 +58,7 @@ pub(crate) trait Run {
         ensures height { height self.new ≡ height self.old };
 }
 
-// Takes the value out of a place.
+/// Takes the value out of a place.
 fn take_value<V>(values: &mut ArrayVec<Option<V>, 32>, place: usize) -> Option<V>
     requires { place < length values.old.items }
     ensures items { values.new.items ≡ slice_set values.old.items place None }
@@ -67,8 +67,8 @@ fn take_value<V>(values: &mut ArrayVec<Option<V>, 32>, place: usize) -> Option<V
     values.as_mut_slice()[place].take()
 }
 
-// Moves the first entries of a leaf, seen as its keys and its values, behind those of another one. Their places are
-// left empty.
+/// Moves the first entries of a leaf, seen as its keys and its values, behind those of another one. Their places are
+/// left empty.
 fn move_front<V: Drop>(
     keys: &[u64; 32],
     values: &mut ArrayVec<Option<V>, 32>,
@@ -164,7 +164,7 @@ impl<B: Drop> Run for Branch<B> {
     }
 }
 
-// Moves entries from the end of the left one to that of the right one, until the left one has `low`.
+/// Moves entries from the end of the left one to that of the right one, until the left one has `low`.
 fn spill<R: Run>(left: &mut R, right: &mut R, low: usize)
     requires left_run { R.is_run left.old }
     requires right_run { R.is_run right.old }

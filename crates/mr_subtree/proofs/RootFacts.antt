@@ -52,7 +52,7 @@ module _ {V : Type 0} where
   -- one that was refused for want of memory
   pub no_memory : (key : ℕ) (item : Option V) (answer : Result (Unit {0}) (Back V)) (old new : List (ℕ × V)) → row_at key_of_pair key old ≡ None → new ≡ old → IfSome item (λ value. answer ≡ Err (record { why = Memory; item = value })) → IfSome item (λ value. IsInserted key value old new answer)
   no_memory key None answer old new none same e = tt
-  no_memory key (Some value) answer old new none same e = subst (IsInserted key value old new) (sym e) (refl, same, (λ some. let there = subst (λ o. IsSome o) none some in let wrong : ⊥ = cc in absurd wrong), (λ none. refl))
+  no_memory key (Some value) answer old new none same e = subst (IsInserted key value old new) (sym e) (refl, same, rw none refl)
 
 -- where there are 32 rows or more, the answer says nothing new
 pub memory_wanted : {V : Type 0} (answer : Result (Unit {0}) (Back V)) (n : ℕ) → 32 ≤ n → IfErr answer (λ back. back.why ≡ Memory → 32 ≤ n)

@@ -1,5 +1,5 @@
 -- The rules of a whole tree.
-use Rattle.std.specs.Prelude.{◌≡◌, ℕ, ◌+◌, ◌*◌, ◌^◌, ◌<◌, ◌≤◌, List, None, Result, Ok, Err, IsSome}
+use Rattle.std.specs.Prelude.{◌≡◌, ℕ, ◌+◌, ◌*◌, ◌^◌, ◌<◌, ◌≤◌, List, None, is_some, if◌then◌else◌, Result, Ok, Err}
 use Rattle.tatp_rows.specs.Ordered.{row_at, with_row}
 use Rattle.tatp_rows.specs.declared.refusal.Back.{Back}
 use Rattle.tatp_rows.specs.declared.refusal.Refusal.TheVariants.{Exists, Memory}
@@ -19,4 +19,5 @@ pub record IsHeightOf (height count : ℕ) : Type 0 where
 -- what an insertion answers: the row is in, or its key is there, or memory was refused; refused, nothing changed
 abbrev pub IsInserted : {V : Type 0} → ℕ → V → List (ℕ × V) → List (ℕ × V) → Result (Unit {0}) (Back V) → Type 0
 IsInserted key value old new (Ok u) = (row_at key_of_pair key old ≡ None) × (new ≡ with_row key_of_pair (key, value) old)
-IsInserted key value old new (Err back) = (back.item ≡ value) × (new ≡ old) × (IsSome (row_at key_of_pair key old) → back.why ≡ Exists) × (row_at key_of_pair key old ≡ None → back.why ≡ Memory)
+IsInserted key value old new (Err back) =
+    (back.item ≡ value) × (new ≡ old) × (back.why ≡ (if is_some (row_at key_of_pair key old) then Exists else Memory))

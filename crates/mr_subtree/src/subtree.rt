@@ -178,7 +178,7 @@ impl<V: Drop> SubTree<V> {
         }
     }
 
-    // Puts a row in whose leaf is full: all blank nodes are taken before the tree changes.
+    /// Puts a row in whose leaf is full: all blank nodes are taken before the tree changes.
     #[cold]
     #[inline(never)]
     fn insert_full(&mut self, key: u64, mut item: Option<V>) -> Result<(), Back<V>>
@@ -197,7 +197,7 @@ impl<V: Drop> SubTree<V> {
     }
 }
 
-// How many blank nodes a row takes at most whose leaf is full: one a level, and three more under a full root.
+/// How many blank nodes a row takes at most whose leaf is full: one a level, and three more under a full root.
 fn blanks_wanted<V>(root: &Node<V>) -> usize
     requires { IsRoot root.now }
     ensures each { root.now.height ≤ result }
@@ -211,7 +211,7 @@ fn blanks_wanted<V>(root: &Node<V>) -> usize
     levels
 }
 
-// Puts a row in whose leaf is full, where the blank nodes for it are there.
+/// Puts a row in whose leaf is full, where the blank nodes for it are there.
 fn grow<V: Drop>(root: &mut Node<V>, key: u64, item: &mut Option<V>, stock: &mut Stock<V>)
     requires root { IsRoot root.old }
     requires small { key < key_limit }
@@ -231,7 +231,7 @@ fn grow<V: Drop>(root: &mut Node<V>, key: u64, item: &mut Option<V>, stock: &mut
     root.insert_split(key, item, stock, &mut meter);
 }
 
-// The answer that a row was refused, with its value.
+/// The answer that a row was refused, with its value.
 fn refused<V>(why: Refusal, item: Option<V>) -> Result<(), Back<V>>
     requires { IsSome item }
     ensures { IfSome item (λ value. result ≡ Err (record { why = why; item = value })) }

@@ -391,3 +391,40 @@ fn many_keys_in_two_orders(rt: HostRuntime) {
         compare_round(&rt, &tree);
     }
 }
+
+// Puts the keys 1 to `last` in, upwards or downwards, and tells whether each went in.
+fn put_keys(tree: &mut SubTree<u32>, last: u32, down: bool) -> bool {
+    let mut done = true;
+    for turn in 0..last {
+        let key = if down { last - turn } else { turn + 1 };
+        done &= added(tree, u64::from(key), key).is_none();
+    }
+    done
+}
+
+// 32 keys stand in a leaf. One more makes a root of two leaves, which are one again without two of the keys.
+fn compare_heights(rt: &impl Abort, tree: &mut SubTree<u32>) {
+    let leaf = (put_keys(tree, 32, false), tree.height());
+    let grown = (added(tree, 33, 33), tree.height());
+    let gone = (removed(tree, 5), removed(tree, 6), tree.height());
+    assert_eq!(rt;
+        (leaf, grown, gone),
+        ((true, 0), (None, 1), (Some(5), Some(6), 0))
+    );
+}
+
+#[test]
+fn heights(rt: HostRuntime) {
+    let mut tree = SubTree::new(rt.alloc()).expect(&rt, "a tree");
+    compare_heights(&rt, &mut tree);
+}
+
+// 1,025 keys are one more than two levels hold.
+#[test]
+fn heights_of_two_orders(rt: HostRuntime) {
+    for down in [false, true] {
+        let mut tree = SubTree::new(rt.alloc()).expect(&rt, "a tree");
+        let done = put_keys(&mut tree, 1025, down);
+        assert_eq!(rt; (done, tree.len(), tree.height()), (true, 1025, 2));
+    }
+}

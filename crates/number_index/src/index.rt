@@ -5,7 +5,7 @@ ghost use Rattle.tatp_rows.specs.Ordered.{without_row};
 ghost use Rattle.tatp_rows.specs.Number.{IsNumber};
 ghost use Rattle.mr_node.specs.Pages.{IsPage};
 ghost use Rattle.mr_node.specs.Rows.{key_of_pair};
-ghost use Rattle.number_index.specs.Pairs.{ArePairs, owner_in, IsAdded, IsRenamed};
+ghost use Rattle.number_index.specs.Pairs.{ArePairs, bearer_in, IsAdded, IsRenamed};
 
 use arrayvec::ArrayVec;
 use mr_subtree::SubTree;
@@ -45,7 +45,7 @@ impl NumberIndex {
 
     /// The subscriber who has a number, or `None`.
     pub fn find(&self, number: Number) -> Option<u32>
-        ensures { result ≡ owner_in number self.now }
+        ensures { result ≡ bearer_in number self.now }
     {
         self.tree.get(number.value()).copied()
     }
@@ -93,7 +93,7 @@ impl NumberIndex {
     /// Takes a number out, and gives the subscriber who had it. It takes no memory.
     pub fn remove(&mut self, number: Number) -> Option<u32>
         ensures pairs { self.new ≡ without_row key_of_pair number self.old }
-        ensures owner { result ≡ owner_in number self.old }
+        ensures owner { result ≡ bearer_in number self.old }
     {
         self.tree.remove(number.value())
     }
@@ -102,7 +102,7 @@ impl NumberIndex {
     /// subscriber has the number, `NumberTaken` where one has the other, `Memory` where the index can't grow: then it is
     /// as before, for the new pair goes in before the old one goes.
     pub fn rename(&mut self, from: Number, to: Number) -> Result<(), Refusal>
-        ensures renamed { IsRenamed from to self.old self.new result (owner_in from self.old) }
+        ensures renamed { IsRenamed from to self.old self.new result (bearer_in from self.old) }
         ensures memory { IfErr result (λ why. why ≡ Refusal.Memory → 32 ≤ length self.old) }
     {
         let Some(s_id) = self.find(from) else {

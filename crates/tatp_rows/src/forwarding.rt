@@ -71,7 +71,7 @@ impl Forwarding {
             return Err(Refusal::Field);
         }
         let end_time = byte_in_range(end_time, 24)?;
-        // A number is in range, as its reader says.
+        // For the prover: a number is in range, as its reader says.
         let _number = numberx.value();
         Ok(Forwarding {
             s_id,

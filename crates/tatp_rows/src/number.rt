@@ -27,7 +27,7 @@ impl Model for Number {
     ghost inverse = { λ n. record { value = n } };
 }
 
-// Whether eight bytes are ASCII digits.
+/// Whether eight bytes are ASCII digits.
 #[inline(always)]
 fn are_digits(bytes: u8x8) -> bool
     ensures { result ≡ list_all is_ascii_digit bytes }
@@ -38,7 +38,7 @@ fn are_digits(bytes: u8x8) -> bool
         == 0
 }
 
-// The number that eight ASCII digits spell. As a word they are joined by twos, then by fours, then all.
+/// The number that eight ASCII digits spell. As a word they are joined by twos, then by fours, then all.
 #[inline(always)]
 fn eight_digits(text: [u8; 8]) -> u64
     requires { list_all is_ascii_digit text ≡ true }

@@ -74,7 +74,7 @@ impl Model for Subscriber {
     } };
 }
 
-// Digits to a base, packed in one number, the first one lowest.
+/// Digits to a base, packed in one number, the first one lowest.
 #[inline(always)]
 fn pack(digits: &[u8; 10], base: u64) -> u64
     requires base { (2 ≤ base) × (base ≤ 16) }
@@ -89,7 +89,7 @@ fn pack(digits: &[u8; 10], base: u64) -> u64
     value
 }
 
-// The ten digits to a base that are packed in a number.
+/// The ten digits to a base that are packed in a number.
 #[inline(always)]
 fn unpack(value: u64, base: u64) -> [u8; 10]
     requires { (2 ≤ base) × (base ≤ 16) }
@@ -127,7 +127,7 @@ impl Subscriber {
         }) }
     {
         let s_id = in_range(s_id, LAST_SUBSCRIBER)?;
-        // A number is in range, as its reader says.
+        // For the prover: a number is in range, as its reader says.
         let _number = sub_nbr.value();
         if !all_between(&bits, 0, 1)
             || !all_between(&hexes, 0, 15)
@@ -172,7 +172,7 @@ impl Subscriber {
     pub fn with_sub_nbr(self, sub_nbr: Number) -> Self
         ensures { result ≡ record self { sub_nbr = sub_nbr } }
     {
-        // A number is in range, as its reader says.
+        // For the prover: a number is in range, as its reader says.
         let _number = sub_nbr.value();
         Subscriber { sub_nbr, ..self }
     }

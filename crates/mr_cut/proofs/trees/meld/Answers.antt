@@ -5,7 +5,7 @@ use Rattle.mr_node.specs.Rows.{key_of_pair}
 use Rattle.mr_subtree.specs.Trees.{IsRoot}
 use Rattle.mr_subtree.proofs.RootFacts.{low_root as low_height}
 use Rattle.mr_node.specs.Steps.{after_steps}
-use Rattle.mr_cut.specs.Grafts.{join_steps}
+use Rattle.mr_cut.specs.Bounds.{join_steps}
 use Rattle.mr_cut.proofs.JoinLemmas.{apart_ordered}
 use Rattle.mr_cut.proofs.CountLemmas.{count_fits, same_count}
 use Rattle.mr_cut.proofs.trees.meld.Goals as goal
