@@ -14,6 +14,7 @@ use Rattle.tatp_rows.specs.declared.refusal.Refusal.TheVariants as refusal
 use Rattle.tatp_actions.specs.Action.{IsOutcome, effect, is_in_range, is_typed, adds_row}
 use Rattle.tatp_actions.specs.Book.{Book, IsBook, IsWithin, subscriber_at}
 use Rattle.tatp_actions.specs.Change.{IsChange}
+use Rattle.tatp_actions.specs.Heights.{Heights}
 use Rattle.tatp_actions.specs.Part.{PartState, IsPart}
 use Rattle.tatp_actions.specs.Inside.{Acts}
 use Rattle.tatp_actions.specs.Tables.{once_more}
@@ -29,9 +30,11 @@ no_change width book c within = omega (arith, ints)
 not_done : {A : Type 0} (why : Refusal) → reply.Done ≡ reply.Refused why → A
 not_done why is = absurd cc
 
--- a refusal leaves the part, but for how often it was asked
-acts_so : (action : Action) (before : PartState) (why : Refusal) (asked : ℕ) → IsOutcome action before.book (reply.Refused why) before.book → asked ≤ before.asked + 8
-    → Acts action before (reply.Refused why) [] (record before { asked = asked })
+-- a refusal leaves the part, but for how often it was asked; how high its trees are isn't said
+acts_so : (action : Action) (before : PartState) (why : Refusal) (asked : ℕ) {h : Heights}
+    → IsOutcome action before.book (reply.Refused why) before.book
+    → asked ≤ before.asked + 8
+    → Acts action before (reply.Refused why) [] (record before { asked = asked; heights = h })
 acts_so action before why asked outcome few = record {
   outcome = outcome;
   change = no_change before.width before.book;
@@ -42,16 +45,21 @@ acts_so action before why asked outcome few = record {
 }
 
 -- a refusal by the effect, or for want of memory
-pub acts_refused : (action : Action) (before after : PartState) (why : Refusal) (asked : ℕ) → after ≡ record before { asked = asked } → asked ≤ before.asked + 8
-    → IsOutcome action before.book (reply.Refused why) before.book → Acts action before (reply.Refused why) [] after
+pub acts_refused : (action : Action) (before after : PartState) (why : Refusal) (asked : ℕ) {h : Heights}
+    → after ≡ record before { asked = asked; heights = h }
+    → asked ≤ before.asked + 8 → IsOutcome action before.book (reply.Refused why) before.book
+    → Acts action before (reply.Refused why) [] after
 acts_refused action before after why asked is few outcome = rw is (acts_so action before why asked outcome few)
 
 pub by_effect : (action : Action) (book after : Book) (answer : RowReply) → is_in_range action ≡ true → effect action book ≡ (answer, after) → IsOutcome action book answer after
 by_effect action book after answer in_range is = inr (inl (in_range, sym is))
 
 -- an action that is done
-pub acts_done : (action : Action) (before after : PartState) (notes : List (ℕ × ℤ)) (book : Book) (asked : ℕ) → after ≡ record before { book = book; asked = asked } → asked ≤ before.asked + 8
-    → is_in_range action ≡ true → effect action before.book ≡ (reply.Done, book) → IsChange before.width before.book book notes
+pub acts_done : (action : Action) (before after : PartState) (notes : List (ℕ × ℤ)) (book : Book) (asked : ℕ)
+    {h : Heights}
+    → after ≡ record before { book = book; asked = asked; heights = h } → asked ≤ before.asked + 8
+    → is_in_range action ≡ true → effect action before.book ≡ (reply.Done, book)
+    → IsChange before.width before.book book notes
     → Acts action before reply.Done notes after
 acts_done action before after notes book asked is few in_range done changed = rw is (record {
   outcome = by_effect action before.book book reply.Done in_range done;

@@ -12,7 +12,7 @@ use Rattle.tatp_actions.specs.Action.{is_in_range}
 use Rattle.tatp_actions.specs.Book.{Book, IsWithin, subscriber_at, access_at, facility_at, forwarding_at, put_subscriber, put_facility, more_subscribers, more_access, more_facilities}
 use Rattle.tatp_actions.specs.Change.{IsChange}
 use Rattle.tatp_actions.specs.Part.{PartState, IsPart}
-use Rattle.tatp_actions.specs.Inside.{subscriber_added, row_moved, switched, Acts, asked_once, changed_once, subscriber_revised, facility_revised}
+use Rattle.tatp_actions.specs.Inside.{subscriber_added, row_moved, switched, Acts, asked_once, changed_once, changed_to, subscriber_revised, facility_revised}
 use Rattle.tatp_actions.specs.Tables.{once_more}
 use Rattle.tatp_actions.specs.declared.action.Action.TheVariants.{AddSubscriber, AddAccess, AddFacility, SetActive, SetNumber}
 use Rattle.tatp_actions.specs.declared.action.RowReply.TheVariants as reply
@@ -29,7 +29,8 @@ number_in_range before s n rules within small = both_from _ _ (is_subscriber bef
 
 pub number_set : (before after : PartState) (s n : ℕ) (o : Option SubscriberRow) → IsPart before → IsWithin before.lo before.hi s → n < 1000000000000000
     → subscriber_at before.book s ≡ o → true ≡ is_some o
-    → after ≡ record before { book = subscriber_revised before.book s (λ row. record row { sub_nbr = n }); asked = after.asked } → after.asked ≤ before.asked + 2
+    → after ≡ changed_to before (subscriber_revised before.book s (λ row. record row { sub_nbr = n })) after
+    → after.asked ≤ before.asked + 2
     → Acts (SetNumber s n) before reply.Done [] after
 number_set before after s n None rules within small is some kept few = absurd cc
 number_set before after s n (Some row) rules within small is some kept few =
@@ -40,12 +41,13 @@ number_set before after s n (Some row) rules within small is some kept few =
 
 -- AddSubscriber
 pub subscriber_is_added : (before after : PartState) (s zone v : ℕ) (row : SubscriberRow) (notes : List (ℕ × ℤ)) → s ≡ row.s_id → subscriber_in_range row ≡ true
-    → (is_some (subscriber_at before.book row.s_id) ≡ false) × (after.book ≡ more_subscribers before.book row) → after ≡ changed_once before after.book
+    → (is_some (subscriber_at before.book row.s_id) ≡ false) × (after.book ≡ more_subscribers before.book row)
+    → after ≡ changed_once before after.book after.heights
     → zone ≡ zone_of after.width s → v ≡ row.vlr_location → notes ≡ subscriber_added (area_of v) zone
     → Acts (AddSubscriber row) before reply.Done notes after
 subscriber_is_added before after s zone v row notes own in_range added kept zoned located noted =
     acts_done (AddSubscriber row) before after notes (more_subscribers before.book row) (once_more before.asked)
-    (kept ∙ ap (λ (b : Book). changed_once before b) added.1) (few_1 before.asked) in_range
+    (kept ∙ ap (λ (b : Book). changed_once before b after.heights) added.1) (few_1 before.asked) in_range
     (rw (none_from (subscriber_at before.book row.s_id) added.0) refl)
     (subst (λ (ns : List (ℕ × ℤ)). IsChange before.width before.book (more_subscribers before.book row) ns) (sym noted_so)
     (change_of_addition before.width before.book row (area_below row.vlr_location (subscriber_ranges row in_range).vlr_location_below)))
@@ -63,7 +65,8 @@ row_noted before after s n zone notes own wide zoned noted =
 -- AddAccess
 pub access_is_added : (before found after : PartState) (s zone : ℕ) (row : AccessInfoRow) (subscriber : SubscriberRow) (notes : List (ℕ × ℤ)) → s ≡ row.s_id → access_in_range row ≡ true
     → found ≡ asked_once before → Some subscriber ≡ subscriber_at before.book s
-    → (is_some (access_at found.book row.s_id row.ai_type) ≡ false) × (after.book ≡ more_access found.book row) → after ≡ changed_once found after.book
+    → (is_some (access_at found.book row.s_id row.ai_type) ≡ false) × (after.book ≡ more_access found.book row)
+    → after ≡ changed_once found after.book after.heights
     → zone ≡ zone_of after.width s → notes ≡ row_moved true zone
     → Acts (AddAccess row) before reply.Done notes after
 access_is_added before found after s zone row subscriber notes own in_range kept is added changed zoned noted =
@@ -79,13 +82,19 @@ access_is_added before found after s zone row subscriber notes own in_range kept
     added' : (is_some (access_at before.book row.s_id row.ai_type) ≡ false) × (after.book ≡ more_access before.book row)
     added' = subst (λ (p : PartState). (is_some (access_at p.book row.s_id row.ai_type) ≡ false) × (after.book ≡ more_access p.book row)) kept added
 
-    settled : after ≡ record before { book = more_access before.book row; asked = once_more (once_more before.asked) }
-    settled = changed ∙ ap (λ (p : PartState). changed_once p after.book) kept ∙ ap (λ (b : Book). changed_once (asked_once before) b) added'.1
+    settled : after ≡ record before {
+      book = more_access before.book row;
+      asked = once_more (once_more before.asked);
+      heights = after.heights;
+    }
+    settled = changed ∙ ap (λ (p : PartState). changed_once p after.book after.heights) kept
+        ∙ ap (λ (b : Book). changed_once (asked_once before) b after.heights) added'.1
 
 -- AddFacility
 pub facility_is_added : (before found after : PartState) (s zone : ℕ) (row : SpecialFacilityRow) (subscriber : SubscriberRow) (notes : List (ℕ × ℤ)) → IsPart before → s ≡ row.s_id → facility_in_range row ≡ true
     → found ≡ asked_once before → Some subscriber ≡ subscriber_at before.book s
-    → (is_some (facility_at found.book row.s_id row.sf_type) ≡ false) × (after.book ≡ more_facilities found.book row) → after ≡ changed_once found after.book
+    → (is_some (facility_at found.book row.s_id row.sf_type) ≡ false) × (after.book ≡ more_facilities found.book row)
+    → after ≡ changed_once found after.book after.heights
     → zone ≡ zone_of after.width s → notes ≡ row_moved true zone
     → Acts (AddFacility row) before reply.Done notes after
 facility_is_added before found after s zone row subscriber notes rules own in_range kept is added changed zoned noted =
@@ -104,8 +113,13 @@ facility_is_added before found after s zone row subscriber notes rules own in_ra
     absent : facility_at before.book row.s_id row.sf_type ≡ None
     absent = none_from (facility_at before.book row.s_id row.sf_type) added'.0
 
-    settled : after ≡ record before { book = more_facilities before.book row; asked = once_more (once_more before.asked) }
-    settled = changed ∙ ap (λ (p : PartState). changed_once p after.book) kept ∙ ap (λ (b : Book). changed_once (asked_once before) b) added'.1
+    settled : after ≡ record before {
+      book = more_facilities before.book row;
+      asked = once_more (once_more before.asked);
+      heights = after.heights;
+    }
+    settled = changed ∙ ap (λ (p : PartState). changed_once p after.book after.heights) kept
+        ∙ ap (λ (b : Book). changed_once (asked_once before) b after.heights) added'.1
 
 -- SetActive
 pub switch_in_range : (before : PartState) (s t v : ℕ) → IsPart before → IsWithin before.lo before.hi s → is_between 1 4 t ≡ true → v ≤ 1 → is_in_range (SetActive s t v) ≡ true
@@ -129,16 +143,20 @@ bit_of : (n : ℕ) → n ≤ 1 → ◌≡◌ {A = ℕ} (if n == 1 then 1 else 0)
 bit_of n small = by_test (n == 1) (λ e. rw e (grind (arith, nat_tests))) (λ e. rw e (grind (arith, nat_tests)))
 
 switched_after : (before after : PartState) (s t v : ℕ) (row : SpecialFacilityRow) → facility_at before.book s t ≡ Some row → v ≤ 1
-    → after ≡ record before { book = facility_revised before.book s t (λ row. record row { is_active = if v == 1 then 1 else 0 }); asked = after.asked }
-    → after ≡ record before { book = put_facility before.book s t (record row { is_active = v }); asked = after.asked }
+    → after ≡ changed_to before
+    (facility_revised before.book s t (λ row. record row { is_active = if v == 1 then 1 else 0 })) after
+    → after ≡ changed_to before (put_facility before.book s t (record row { is_active = v })) after
 switched_after before after s t v row is bit kept =
     refitted_after before after s t (λ row. record row { is_active = if v == 1 then 1 else 0 }) row is kept
-    ∙ ap (λ (n : ℕ). record before { book = put_facility before.book s t (record row { is_active = n }); asked = after.asked }) (bit_of v bit)
+    ∙ ap (λ (n : ℕ). changed_to before (put_facility before.book s t (record row { is_active = n })) after)
+    (bit_of v bit)
 
 -- a facility that is as active as it shall be
 pub switch_stands : (before after : PartState) (s t v : ℕ) (o : Option SpecialFacilityRow) (swap : SwapActive) → IsPart before → IsWithin before.lo before.hi s → is_between 1 4 t ≡ true → v ≤ 1
     → facility_at before.book s t ≡ o → true ≡ is_some o → IfSome o (λ row. swap ≡ record { is_active = row.is_active == 1 }) → beq swap.is_active (v == 1) ≡ true
-    → after ≡ record before { book = facility_revised before.book s t (λ row. record row { is_active = if v == 1 then 1 else 0 }); asked = after.asked } → after.asked ≤ before.asked + 2
+    → after ≡ changed_to before
+    (facility_revised before.book s t (λ row. record row { is_active = if v == 1 then 1 else 0 })) after
+    → after.asked ≤ before.asked + 2
     → Acts (SetActive s t v) before reply.Done [] after
 switch_stands before after s t v None swap rules within kind bit is some so same kept few = absurd cc
 switch_stands before after s t v (Some row) swap rules within kind bit is some so same kept few =
@@ -160,7 +178,8 @@ switch_stands before after s t v (Some row) swap rules within kind bit is some s
 pub switch_done : (p0 p1 p2 p3 p4 : PartState) (s t v : ℕ) (o : Option SpecialFacilityRow) (o0 o8 o16 : Option CallForwardingRow) (swap : SwapActive) (at_0 at_8 at_16 : Bool) (notes : List (ℕ × ℤ))
     → IsPart p0 → IsWithin p0.lo p0.hi s → is_between 1 4 t ≡ true → t < 256 → v ≤ 1
     → facility_at p0.book s t ≡ o → true ≡ is_some o → IfSome o (λ row. swap ≡ record { is_active = row.is_active == 1 }) → beq swap.is_active (v == 1) ≡ false
-    → p1 ≡ record p0 { book = facility_revised p0.book s t (λ row. record row { is_active = if v == 1 then 1 else 0 }); asked = p1.asked } → p1.asked ≤ p0.asked + 2
+    → p1 ≡ changed_to p0 (facility_revised p0.book s t (λ row. record row { is_active = if v == 1 then 1 else 0 })) p1
+    → p1.asked ≤ p0.asked + 2
     → o0 ≡ forwarding_at p1.book s t 0 → p2 ≡ asked_once p1 → o8 ≡ forwarding_at p2.book s t 8 → p3 ≡ asked_once p2 → o16 ≡ forwarding_at p3.book s t 16 → p4 ≡ asked_once p3
     → at_0 ≡ is_some o0 → at_8 ≡ is_some o8 → at_16 ≡ is_some o16 → notes ≡ switched (v == 1) at_0 at_8 at_16
     → Acts (SetActive s t v) p0 reply.Done notes p4
@@ -184,5 +203,5 @@ switch_done p0 p1 p2 p3 p4 s t v (Some row) o0 o8 o16 swap at_0 at_8 at_16 notes
     key : facility_key row1 ≡ key_of s t 0
     key = let first = parts.0 in let second = parts.1 in omega arith
 
-    second : p1 ≡ record p0 { book = put_facility p0.book s t row1; asked = p1.asked }
+    second : p1 ≡ changed_to p0 (put_facility p0.book s t row1) p1
     second = switched_after p0 p1 s t v row is bit kept

@@ -1,5 +1,5 @@
 -- A subscriber has at most 21 rows, so no cell counts more than a weight can be.
-use Rattle.std.proofs.Common.{◌≡◌, ℕ, ◌+◌, ◌-◌, ◌*◌, ◌/◌, ◌<◌, ◌≤◌, ◌==◌, ◌&&◌, arith, true, List, [], ◌∷◌, length, nat_lt}
+use Rattle.std.proofs.Common.{◌≡◌, ℕ, ◌+◌, ◌-◌, ◌*◌, ◌/◌, ◌^◌, ◌<◌, ◌≤◌, ◌==◌, ◌&&◌, arith, true, List, [], ◌∷◌, length, nat_lt}
 use Rattle.std.specs.Prelude.{◌⊎◌}
 use Rattle.std.specs.List.{AllByRecursion}
 use Rattle.std.proofs.lemmas.List.Sums.{count_by-le-length}
@@ -104,5 +104,5 @@ few_in_weight width c book rules = by_test (nat_lt c FIRST_AREA)
     (λ f. rw (e, f) (few_in_zone width (c - FIRST_ZONE) book rules)))
 
 -- so no count of a cell over the rows of a range passes 2^40
-pub few_cells : (lo hi width c : ℕ) (book : Book) → IsRowsOf lo hi book → hi ≤ LAST_SUBSCRIBER + 1 → cell width c book ≤ 1099511627776
+pub few_cells : (lo hi width c : ℕ) (book : Book) → IsRowsOf lo hi book → hi ≤ LAST_SUBSCRIBER + 1 → cell width c book ≤ 2 ^ 40
 few_cells lo hi width c book rows bound = omega (arith, few_in_weight width c book rows.rules)

@@ -10,9 +10,9 @@ use Rattle.tatp_rows.specs.Keys.{subscriber_key, access_key, facility_key, forwa
 use Rattle.tatp_rows.specs.Rows.{SubscriberRow, AccessInfoRow, SpecialFacilityRow, CallForwardingRow, subscriber_in_range, access_in_range, facility_in_range, forwarding_in_range}
 use Rattle.tatp_actions.specs.Book.{Book, IsBook, IsRowsOf, IsWithin, subscriber_at, facility_at}
 use Rattle.tatp_actions.specs.Cell.{cell}
-use Rattle.tatp_actions.specs.Joined.{join_books, cut_low, cut_high, Apart}
+use Rattle.tatp_actions.specs.Joined.{join_books, cut_low, cut_high}
 use Rattle.tatp_actions.proofs.JoinedLemmas.{cell_joined}
-use Rattle.tatp_actions.proofs.LocalLemmas.{subscriber-low, subscriber-high, facility-low, facility-high}
+use Rattle.tatp_actions.proofs.LocalLemmas.{Apart, subscriber-low, subscriber-high, facility-low, facility-high}
 
 -- a book is known by its four tables
 pub same_tables : {s s' : List SubscriberRow} {a a' : List AccessInfoRow} {f f' : List SpecialFacilityRow} {c c' : List CallForwardingRow} → s ≡ s' → a ≡ a' → f ≡ f' → c ≡ c'

@@ -14,8 +14,9 @@ use Rattle.tatp_rows.specs.Keys.{key_of, subscriber_key, access_key, facility_ke
 use Rattle.tatp_rows.specs.Rows.{SubscriberRow, AccessInfoRow, SpecialFacilityRow, CallForwardingRow}
 use Rattle.tatp_rows.specs.Spans.{AllBelow, AllFrom, keys_below, keys_from}
 use Rattle.tatp_actions.specs.Book.{IsRowsOf}
-use Rattle.tatp_actions.specs.Cut.{Heights, AreHeightsOf, low_part, high_part, melded, meld_bound, meld_least}
+use Rattle.tatp_actions.specs.Cut.{AreHeightsOf, low_part, high_part, melded, meld_bound, meld_least}
 use Rattle.tatp_actions.specs.CutTables.{tables_below, tables_from, join_tables, TablesApart, tables_of, heights_of}
+use Rattle.tatp_actions.specs.Heights.{Heights}
 use Rattle.tatp_actions.specs.Joined.{join_books, cut_low, cut_high}
 use Rattle.tatp_actions.specs.Part.{PartState, IsWidth}
 use Rattle.tatp_actions.specs.Tables.{Tables, AreKeyed, IsKeyed, stored_book, values_of}
@@ -87,7 +88,8 @@ from_keyed k tables keyed = record {
 }
 
 -- a part that is cut at a subscriber of its range
-module _ (tables half : Tables) (asked lo hi width steps at key : ℕ) (part : PartState) (is : part_of tables asked lo hi width steps ≡ part) (holds : Holds tables asked lo hi width steps)
+module _ {h : Heights} (tables half : Tables) (asked lo hi width steps at key : ℕ) (part : PartState)
+    (is : part_of tables asked lo hi width steps h ≡ part) (holds : Holds tables asked lo hi width steps h)
     (inside : (part.lo < at) × (at < part.hi)) (border : key ≡ key_of at 0 0) where
   border_is : key ≡ at * 65536
   border_is = omega arith
@@ -100,10 +102,11 @@ module _ (tables half : Tables) (asked lo hi width steps at key : ℕ) (part : P
     low_book : stored_book half ≡ cut_low at (stored_book tables)
     low_book = ap stored_book (low ∙ ap (λ (k : ℕ). tables_below k tables) border_is) ∙ below_book at tables holds.1
 
-    pub low_is : (n n' s : ℕ) → n ≡ n' → part_of half n lo at width s ≡ record (low_part at part) { asked = n'; steps = s }
+    pub low_is : {k : Heights} (n n' s : ℕ) → n ≡ n'
+        → part_of half n lo at width s k ≡ record (low_part at part) { asked = n'; steps = s; heights = k }
     low_is n n' s same = rw (← is, low_book, same) refl
 
-    pub low_holds : (n s : ℕ) → Holds half n lo at width s
+    pub low_holds : {k : Heights} (n s : ℕ) → Holds half n lo at width s k
     low_holds n s =
         let from = inside_is.0 in
         let under = inside_is.1 in
@@ -121,10 +124,11 @@ module _ (tables half : Tables) (asked lo hi width steps at key : ℕ) (part : P
     high_book : stored_book half ≡ cut_high at (stored_book tables)
     high_book = ap stored_book (high ∙ ap (λ (k : ℕ). tables_from k tables) border_is) ∙ from_book at tables holds.1
 
-    pub high_is : (n n' s : ℕ) → n ≡ n' → part_of half n at hi width s ≡ record (high_part at part) { asked = n'; steps = s }
+    pub high_is : {k : Heights} (n n' s : ℕ) → n ≡ n'
+        → part_of half n at hi width s k ≡ record (high_part at part) { asked = n'; steps = s; heights = k }
     high_is n n' s same = rw (← is, high_book, same) refl
 
-    pub high_holds : (n s : ℕ) → Holds half n at hi width s
+    pub high_holds : {k : Heights} (n s : ℕ) → Holds half n at hi width s k
     high_holds n s =
         let from = inside_is.0 in
         let under = inside_is.1 in
@@ -154,7 +158,9 @@ join_keyed low high of_low of_high = record {
 }
 
 -- two parts of which the high one begins where the low one ends
-module _ (low high : Tables) (asked lo n width steps asked' n' hi width' steps' : ℕ) (of_low : Holds low asked lo n width steps) (of_high : Holds high asked' n' hi width' steps') (touch : n ≡ n') where
+module _ {h h' : Heights} (low high : Tables) (asked lo n width steps asked' n' hi width' steps' : ℕ)
+    (of_low : Holds low asked lo n width steps h) (of_high : Holds high asked' n' hi width' steps' h')
+    (touch : n ≡ n') where
   high_rows : IsRowsOf n hi (stored_book high)
   high_rows = subst (λ (border : ℕ). IsRowsOf border hi (stored_book high)) (sym touch) of_high.0.rows
 
@@ -170,7 +176,8 @@ module _ (low high : Tables) (asked lo n width steps asked' n' hi width' steps' 
       }
 
   -- and joined they keep the rules of a part
-  pub joined_holds : (whole : Tables) (m w s : ℕ) → whole ≡ join_tables low high → IsWidth w → Holds whole m lo hi w s
+  pub joined_holds : {k : Heights} (whole : Tables) (m w s : ℕ) → whole ≡ join_tables low high → IsWidth w
+      → Holds whole m lo hi w s k
   joined_holds whole m w s is wide =
       let book = ap stored_book is ∙ join_book low high in
       let under = of_low.0.range.1 in
@@ -184,14 +191,17 @@ module _ (low high : Tables) (asked lo n width steps asked' n' hi width' steps' 
       )
 
 -- two parts that touch, whose tables were joined: the one that is kept is the low one, or the high one
-module _ (mine other whole : Tables) (asked lo hi width steps asked' lo' hi' width' steps' : ℕ) (part given : PartState) (is : part_of mine asked lo hi width steps ≡ part)
-    (given_is : part_of other asked' lo' hi' width' steps' ≡ given) where
-  pub melded_low : whole ≡ join_tables mine other → hi ≡ lo' → (n s : ℕ) → n ≡ asked → part_of whole n lo hi' width s ≡ record (melded part given) { steps = s }
+module _ {h h' : Heights} (mine other whole : Tables) (asked lo hi width steps asked' lo' hi' width' steps' : ℕ)
+    (part given : PartState) (is : part_of mine asked lo hi width steps h ≡ part)
+    (given_is : part_of other asked' lo' hi' width' steps' h' ≡ given) where
+  pub melded_low : {k : Heights} → whole ≡ join_tables mine other → hi ≡ lo' → (n s : ℕ) → n ≡ asked
+      → part_of whole n lo hi' width s k ≡ record (melded part given) { steps = s; heights = k }
   melded_low joined touch n s same =
       let ends : (hi == lo') ≡ true = grind (arith, nat_tests) in
       rw (← is, ← given_is, ap stored_book joined ∙ join_book mine other, same, ends) refl
 
-  pub melded_high : whole ≡ join_tables other mine → (hi ≡ lo' → ⊥) → (n s : ℕ) → n ≡ asked → part_of whole n lo' hi width s ≡ record (melded part given) { steps = s }
+  pub melded_high : {k : Heights} → whole ≡ join_tables other mine → (hi ≡ lo' → ⊥) → (n s : ℕ) → n ≡ asked
+      → part_of whole n lo' hi width s k ≡ record (melded part given) { steps = s; heights = k }
   melded_high joined other_way n s same =
       let begins : (hi == lo') ≡ false = grind (arith, nat_tests) in
       rw (← is, ← given_is, ap stored_book joined ∙ join_book other mine, same, begins) refl

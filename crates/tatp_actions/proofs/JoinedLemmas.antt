@@ -10,8 +10,8 @@ use Rattle.tatp_rows.specs.Rows.{SubscriberRow, AccessInfoRow, SpecialFacilityRo
 use Rattle.tatp_rows.specs.Zones.{zone_of, area_of}
 use Rattle.tatp_actions.specs.Book.{Book, IsBook, IsRowsOf, IsWithin, subscriber_at, facility_at}
 use Rattle.tatp_actions.specs.Cell.{cell, active_forwardings, in_area, in_zone, has_active_facility}
-use Rattle.tatp_actions.specs.Joined.{join_books, Apart}
-use Rattle.tatp_actions.proofs.LocalLemmas.{apart, subscriber-low, subscriber-high, facility-low, facility-high}
+use Rattle.tatp_actions.specs.Joined.{join_books}
+use Rattle.tatp_actions.proofs.LocalLemmas.{Apart, apart, subscriber-low, subscriber-high, facility-low, facility-high}
 use Rattle.tatp_actions.specs.declared.cells.TheConstants.{FIRST_AREA, FIRST_ZONE}
 
 -- a wider range

@@ -9,14 +9,26 @@ use Rattle.tatp_rows.proofs.KeyLemmas.{key_below, key_from}
 use Rattle.tatp_rows.proofs.OrderedLemmas.{by_test, each_from_two, each-weaker, filter_none}
 use Rattle.tatp_rows.proofs.RowLemmas.{both, between_is, access_type, facility_type, forwarding_type, forwarding_ranges}
 use Rattle.tatp_rows.specs.Keys.{key_of, subscriber_key, access_key, facility_key, forwarding_key}
+use Rattle.tatp_rows.specs.Spans.{AllBelow, AllFrom}
 use Rattle.tatp_rows.specs.Rows.{SubscriberRow, AccessInfoRow, SpecialFacilityRow, CallForwardingRow, is_between, is_start_time, access_in_range, facility_in_range, forwarding_in_range}
 use Rattle.tatp_rows.specs.declared.ranges.TheConstants.{LAST_SUBSCRIBER}
 use Rattle.tatp_actions.specs.Action.{IsOutcome, effect, is_in_range, is_typed, s_id_of, takes_call, destinations, subscriber_data, new_destination, access_data, update_subscriber, update_location, insert_forwarding, delete_forwarding, add_subscriber, add_access, add_facility, set_active, set_number}
 use Rattle.tatp_actions.specs.Book.{Book, IsRowsOf, IsWithin, subscriber_at, access_at, facility_at, has_active, forwarding_at}
-use Rattle.tatp_actions.specs.Joined.{join_books, Apart}
+use Rattle.tatp_actions.specs.Joined.{join_books}
 use Rattle.tatp_actions.specs.declared.action.Action.{Action}
 use Rattle.tatp_actions.specs.declared.action.Action.TheVariants.{SubscriberData, NewDestination, AccessData, UpdateSubscriber, UpdateLocation, InsertForwarding, DeleteForwarding, AddSubscriber, AddAccess, AddFacility, SetActive, SetNumber}
 use Rattle.tatp_actions.specs.declared.action.RowReply.{RowReply}
+
+-- the low book has rows of subscribers below n alone, and the high book of those from n on
+pub record Apart (n : ℕ) (low high : Book) : Type 0 where
+  pub subscribers_below : AllBelow subscriber_key (n * 65536) low.subscribers
+  pub access_below : AllBelow access_key (n * 65536) low.access
+  pub facilities_below : AllBelow facility_key (n * 65536) low.facilities
+  pub forwardings_below : AllBelow forwarding_key (n * 65536) low.forwardings
+  pub subscribers_from : AllFrom subscriber_key (n * 65536) high.subscribers
+  pub access_from : AllFrom access_key (n * 65536) high.access
+  pub facilities_from : AllFrom facility_key (n * 65536) high.facilities
+  pub forwardings_from : AllFrom forwarding_key (n * 65536) high.forwardings
 
 -- the rows of two ranges that meet are apart
 pub apart : (lo n hi : ℕ) (low high : Book) → IsRowsOf lo n low → IsRowsOf n hi high → Apart n low high

@@ -10,7 +10,8 @@ use Rattle.tatp_rows.specs.Keys.{key_of, subscriber_key, facility_key}
 use Rattle.tatp_rows.specs.Ordered.{with_row_at}
 use Rattle.tatp_rows.specs.Rows.{SubscriberRow, SpecialFacilityRow, subscriber_in_range, facility_in_range}
 use Rattle.tatp_actions.specs.Book.{Book, subscriber_at, facility_at, put_subscriber, put_facility}
-use Rattle.tatp_actions.specs.Inside.{KeepsSubscriber, KeepsFacility, subscriber_revised, facility_revised}
+use Rattle.tatp_actions.specs.Heights.{Heights}
+use Rattle.tatp_actions.specs.Inside.{KeepsSubscriber, KeepsFacility, changed_to, subscriber_revised, facility_revised}
 use Rattle.tatp_actions.specs.Part.{PartState, IsPart}
 use Rattle.tatp_actions.specs.Tables.{Tables, AreKeyed, stored_book}
 use Rattle.tatp_actions.proofs.BookLemmas.{s_id_found, facility_found}
@@ -32,16 +33,21 @@ pub subscriber_there : (tables : Tables) (k s : ℕ) → AreKeyed tables → k �
 subscriber_there tables k s keyed at = found_in subscriber_key tables.subscribers k (key_of s 0 0) (value_at k tables.subscribers) keyed.subscribers at refl
 
 -- it is changed where it lies
-module _ (tables tables1 : Tables) (n n1 lo hi width steps k s : ℕ) (change : SubscriberRow → SubscriberRow) (at : k ≡ key_of s 0 0) (holds : Holds tables n lo hi width steps) (keeps : KeepsSubscriber change)
+module _ {h : Heights} (tables tables1 : Tables) (n n1 lo hi width steps k s : ℕ)
+    (change : SubscriberRow → SubscriberRow) (at : k ≡ key_of s 0 0) (holds : Holds tables n lo hi width steps h)
+    (keeps : KeepsSubscriber change)
     (edit : tables1 ≡ record tables { subscribers = revised_at k change tables.subscribers }) where
-  by_row : (o : Option SubscriberRow) → subscriber_at (stored_book tables) s ≡ o → (stored_book tables1 ≡ subscriber_revised (stored_book tables) s change) × Holds tables1 n1 lo hi width steps
-  by_row None is =
+  by_row : {h1 : Heights} (o : Option SubscriberRow) → subscriber_at (stored_book tables) s ≡ o
+      → (stored_book tables1 ≡ subscriber_revised (stored_book tables) s change)
+      × Holds tables1 n1 lo hi width steps h1
+  by_row {h1} None is =
       let same : tables1 ≡ tables = edit ∙ ap (λ (pairs : List (ℕ × SubscriberRow)). record tables { subscribers = pairs }) (revised_none k change tables.subscribers (subscriber_there tables k s holds.1 at ∙ is)) in
-      let rules : IsPart (part_of tables n1 lo hi width steps) = record { range = holds.0.range; width = holds.0.width; rows = holds.0.rows } in (
+      let rules : IsPart (part_of tables n1 lo hi width steps h1) =
+      record { range = holds.0.range; width = holds.0.width; rows = holds.0.rows } in (
         ap stored_book same ∙ sym (revised_subscriber (stored_book tables) s change None is),
-        subst (λ (t : Tables). Holds t n1 lo hi width steps) (sym same) (rules, holds.1),
+        subst (λ (t : Tables). Holds t n1 lo hi width steps h1) (sym same) (rules, holds.1),
       )
-  by_row (Some row) is =
+  by_row {h1} (Some row) is =
       let keep = keeps row (each_found subscriber_key (λ (r : SubscriberRow). subscriber_in_range r ≡ true) (key_of s 0 0) (stored_book tables).subscribers row holds.0.rows.rules.subscribers_in_range is) in
       let own : (change row).s_id ≡ s = keep.0 ∙ s_id_found (stored_book tables) s row is in
       let here : k ≡ subscriber_key (change row) = at ∙ ap (λ (j : ℕ). key_of j 0 0) (sym own) in
@@ -52,16 +58,25 @@ module _ (tables tables1 : Tables) (n n1 lo hi width steps k s : ℕ) (change : 
         put_subscriber_holds tables tables1 n n1 lo hi width steps k (change row) here holds put keep.1,
       )
 
-  pub subscriber_is : part_of tables1 n1 lo hi width steps ≡ record (part_of tables n lo hi width steps) { book = subscriber_revised (stored_book tables) s change; asked = n1 }
-  subscriber_is = ap (λ (book : Book). record (part_of tables n lo hi width steps) { book = book; asked = n1 }) (by_row (subscriber_at (stored_book tables) s) refl).0
+  pub subscriber_is : {h1 : Heights}
+      → part_of tables1 n1 lo hi width steps h1 ≡ record (part_of tables n lo hi width steps h) {
+        book = subscriber_revised (stored_book tables) s change;
+        asked = n1;
+        heights = h1;
+      }
+  subscriber_is {h1} =
+      ap (λ (book : Book). record (part_of tables n lo hi width steps h) { book = book; asked = n1; heights = h1 })
+      (by_row {h1 = h1} (subscriber_at (stored_book tables) s) refl).0
 
-  pub subscriber_holds : Holds tables1 n1 lo hi width steps
-  subscriber_holds = (by_row (subscriber_at (stored_book tables) s) refl).1
+  pub subscriber_holds : {h1 : Heights} → Holds tables1 n1 lo hi width steps h1
+  subscriber_holds {h1} = (by_row {h1 = h1} (subscriber_at (stored_book tables) s) refl).1
 
 -- a part whose subscriber was found, and changed
 pub revised_after : (before after : PartState) (s : ℕ) (change : SubscriberRow → SubscriberRow) (row : SubscriberRow) → subscriber_at before.book s ≡ Some row
-    → after ≡ record before { book = subscriber_revised before.book s change; asked = after.asked } → after ≡ record before { book = put_subscriber before.book s (change row); asked = after.asked }
-revised_after before after s change row is kept = kept ∙ ap (λ (book : Book). record before { book = book; asked = after.asked }) (revised_subscriber before.book s change (Some row) is)
+    → after ≡ changed_to before (subscriber_revised before.book s change) after
+    → after ≡ changed_to before (put_subscriber before.book s (change row)) after
+revised_after before after s change row is kept =
+    kept ∙ ap (λ (book : Book). changed_to before book after) (revised_subscriber before.book s change (Some row) is)
 
 -- the same of a Special_Facility row
 pub revised_facility : (book : Book) (s t : ℕ) (change : SpecialFacilityRow → SpecialFacilityRow) (o : Option SpecialFacilityRow) → facility_at book s t ≡ o
@@ -71,16 +86,21 @@ revised_facility book s t change o is = ap (λ o. unwrap_or (option_map (λ row.
 pub facility_there : (tables : Tables) (k s t : ℕ) → AreKeyed tables → k ≡ key_of s t 0 → value_at k tables.facilities ≡ facility_at (stored_book tables) s t
 facility_there tables k s t keyed at = found_in facility_key tables.facilities k (key_of s t 0) (value_at k tables.facilities) keyed.facilities at refl
 
-module _ (tables tables1 : Tables) (n n1 lo hi width steps k s t : ℕ) (change : SpecialFacilityRow → SpecialFacilityRow) (at : k ≡ key_of s t 0) (small : t < 256) (holds : Holds tables n lo hi width steps) (keeps : KeepsFacility change)
+module _ {h : Heights} (tables tables1 : Tables) (n n1 lo hi width steps k s t : ℕ)
+    (change : SpecialFacilityRow → SpecialFacilityRow) (at : k ≡ key_of s t 0) (small : t < 256)
+    (holds : Holds tables n lo hi width steps h) (keeps : KeepsFacility change)
     (edit : tables1 ≡ record tables { facilities = revised_at k change tables.facilities }) where
-  by_facility : (o : Option SpecialFacilityRow) → facility_at (stored_book tables) s t ≡ o → (stored_book tables1 ≡ facility_revised (stored_book tables) s t change) × Holds tables1 n1 lo hi width steps
-  by_facility None is =
+  by_facility : {h1 : Heights} (o : Option SpecialFacilityRow) → facility_at (stored_book tables) s t ≡ o
+      → (stored_book tables1 ≡ facility_revised (stored_book tables) s t change)
+      × Holds tables1 n1 lo hi width steps h1
+  by_facility {h1} None is =
       let same : tables1 ≡ tables = edit ∙ ap (λ (pairs : List (ℕ × SpecialFacilityRow)). record tables { facilities = pairs }) (revised_none k change tables.facilities (facility_there tables k s t holds.1 at ∙ is)) in
-      let rules : IsPart (part_of tables n1 lo hi width steps) = record { range = holds.0.range; width = holds.0.width; rows = holds.0.rows } in (
+      let rules : IsPart (part_of tables n1 lo hi width steps h1) =
+      record { range = holds.0.range; width = holds.0.width; rows = holds.0.rows } in (
         ap stored_book same ∙ sym (revised_facility (stored_book tables) s t change None is),
-        subst (λ (t : Tables). Holds t n1 lo hi width steps) (sym same) (rules, holds.1),
+        subst (λ (t : Tables). Holds t n1 lo hi width steps h1) (sym same) (rules, holds.1),
       )
-  by_facility (Some row) is =
+  by_facility {h1} (Some row) is =
       let keep = keeps row (each_found facility_key (λ (r : SpecialFacilityRow). facility_in_range r ≡ true) (key_of s t 0) (stored_book tables).facilities row holds.0.rows.rules.facilities_in_range is) in
       let parts = facility_found (stored_book tables) s t row holds.0.rows.rules small is in
       let own : (change row).s_id ≡ s = keep.0 ∙ parts.0 in
@@ -94,16 +114,25 @@ module _ (tables tables1 : Tables) (n n1 lo hi width steps k s t : ℕ) (change 
         put_facility_holds tables tables1 n n1 lo hi width steps k (change row) here holds put keep.2,
       )
 
-  pub facility_is : part_of tables1 n1 lo hi width steps ≡ record (part_of tables n lo hi width steps) { book = facility_revised (stored_book tables) s t change; asked = n1 }
-  facility_is = ap (λ (book : Book). record (part_of tables n lo hi width steps) { book = book; asked = n1 }) (by_facility (facility_at (stored_book tables) s t) refl).0
+  pub facility_is : {h1 : Heights}
+      → part_of tables1 n1 lo hi width steps h1 ≡ record (part_of tables n lo hi width steps h) {
+        book = facility_revised (stored_book tables) s t change;
+        asked = n1;
+        heights = h1;
+      }
+  facility_is {h1} =
+      ap (λ (book : Book). record (part_of tables n lo hi width steps h) { book = book; asked = n1; heights = h1 })
+      (by_facility {h1 = h1} (facility_at (stored_book tables) s t) refl).0
 
-  pub facility_holds : Holds tables1 n1 lo hi width steps
-  facility_holds = (by_facility (facility_at (stored_book tables) s t) refl).1
+  pub facility_holds : {h1 : Heights} → Holds tables1 n1 lo hi width steps h1
+  facility_holds {h1} = (by_facility {h1 = h1} (facility_at (stored_book tables) s t) refl).1
 
 -- a part whose facility was found, and changed
 pub refitted_after : (before after : PartState) (s t : ℕ) (change : SpecialFacilityRow → SpecialFacilityRow) (row : SpecialFacilityRow) → facility_at before.book s t ≡ Some row
-    → after ≡ record before { book = facility_revised before.book s t change; asked = after.asked } → after ≡ record before { book = put_facility before.book s t (change row); asked = after.asked }
-refitted_after before after s t change row is kept = kept ∙ ap (λ (book : Book). record before { book = book; asked = after.asked }) (revised_facility before.book s t change (Some row) is)
+    → after ≡ changed_to before (facility_revised before.book s t change) after
+    → after ≡ changed_to before (put_facility before.book s t (change row)) after
+refitted_after before after s t change row is kept =
+    kept ∙ ap (λ (book : Book). changed_to before book after) (revised_facility before.book s t change (Some row) is)
 
 -- another bit_1 keeps a row in range
 pub keeps_bit : (bit b : ℕ) → bit ≡ b → b ≤ 1 → KeepsSubscriber (λ row. record row { bits = set row.bits 0 bit })

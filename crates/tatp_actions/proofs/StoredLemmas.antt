@@ -1,5 +1,5 @@
 -- The stored rows of a part, and what it is seen as, after a call of its rows.
-use Rattle.std.proofs.Common.{◌≡◌, refl, sym, ◌∙◌, ap, subst, ℕ, Bool, List, Option, Some, None, IsSome, if◌then◌else◌}
+use Rattle.std.proofs.Common.{◌≡◌, refl, sym, ◌∙◌, ap, subst, ℕ, Bool, List, Option, Some, None, if◌then◌else◌}
 use Rattle.std.specs.Prelude.{option_map, is_some}
 use Rattle.mr_node.specs.Rows.{key_of_pair, value_at}
 use Rattle.tatp_rows.proofs.MapLemmas.{row_at-pairs, with_row_at-pairs, with_row-pairs, without_row-pairs}
@@ -10,23 +10,44 @@ use Rattle.tatp_rows.specs.Rows.{SubscriberRow, AccessInfoRow, SpecialFacilityRo
 use Rattle.tatp_rows.specs.declared.refusal.Refusal.{Refusal}
 use Rattle.tatp_rows.specs.declared.refusal.Refusal.TheVariants as refusal
 use Rattle.tatp_actions.specs.Book.{Book, IsRowsOf}
+use Rattle.tatp_actions.specs.Heights.{Heights}
 use Rattle.tatp_actions.specs.Part.{PartState, IsPart}
 use Rattle.tatp_actions.specs.Inside.{changed_once}
 use Rattle.tatp_actions.specs.Tables.{Tables, AreKeyed, IsKeyed, stored_book, values_of, once_more}
 
 -- the part of these tables
-abbrev pub part_of : Tables → ℕ → ℕ → ℕ → ℕ → ℕ → PartState
-part_of tables asked lo hi width steps = record { book = stored_book tables; asked = asked; lo = lo; hi = hi; width = width; steps = steps }
+abbrev pub part_of : Tables → ℕ → ℕ → ℕ → ℕ → ℕ → Heights → PartState
+part_of tables asked lo hi width steps h = record {
+  book = stored_book tables;
+  asked = asked;
+  lo = lo;
+  hi = hi;
+  width = width;
+  steps = steps;
+  heights = h;
+}
 
 -- its rules
-abbrev pub Holds : Tables → ℕ → ℕ → ℕ → ℕ → ℕ → Type 0
-Holds tables asked lo hi width steps = IsPart (part_of tables asked lo hi width steps) × AreKeyed tables
+abbrev pub Holds : Tables → ℕ → ℕ → ℕ → ℕ → ℕ → Heights → Type 0
+Holds tables asked lo hi width steps h = IsPart (part_of tables asked lo hi width steps h) × AreKeyed tables
+
+-- what is said of a part with some heights is said with its own
+pub own_heights : (part rest : PartState) (h : Heights) → part ≡ record rest { heights = h }
+    → part ≡ record rest { heights = part.heights }
+own_heights part rest h is =
+    is ∙ ap (λ (k : Heights). record rest { heights = k }) (sym (ap (λ (p : PartState). p.heights) is))
 
 -- the rows were asked, and changed
-pub changed_is : (tables tables1 : Tables) (n n1 lo hi width steps : ℕ) (book : Book) → stored_book tables1 ≡ book → n1 ≡ once_more n → part_of tables1 n1 lo hi width steps ≡ changed_once (part_of tables n lo hi width steps) book
-changed_is tables tables1 n n1 lo hi width steps book same asked = rw (same, asked) refl
+pub changed_is : (h : Heights) {h1 : Heights} (tables tables1 : Tables) (n n1 lo hi width steps : ℕ) (book : Book)
+    → stored_book tables1 ≡ book
+    → n1 ≡ once_more n
+    → part_of tables1 n1 lo hi width steps h1 ≡ changed_once (part_of tables n lo hi width steps h) book h1
+changed_is h tables tables1 n n1 lo hi width steps book same asked = rw (same, asked) refl
 
-pub changed_holds : (tables tables1 : Tables) (n n1 lo hi width steps : ℕ) (book : Book) → stored_book tables1 ≡ book → IsPart (part_of tables n lo hi width steps) → IsRowsOf lo hi book → AreKeyed tables1 → Holds tables1 n1 lo hi width steps
+pub changed_holds : {h h1 : Heights} (tables tables1 : Tables) (n n1 lo hi width steps : ℕ) (book : Book)
+    → stored_book tables1 ≡ book
+    → IsPart (part_of tables n lo hi width steps h) → IsRowsOf lo hi book → AreKeyed tables1
+    → Holds tables1 n1 lo hi width steps h1
 changed_holds tables tables1 n n1 lo hi width steps book same rules rows keyed =
     (record { range = rules.range; width = rules.width; rows = subst (λ (b : Book). IsRowsOf lo hi b) (sym same) rows }, keyed)
 
@@ -49,14 +70,10 @@ absent_row {X} key pairs k k' keyed at absent =
 
 -- an insertion of a pair that was refused
 pub refused_pair : {X : Type 0} (key : X → ℕ) (pairs : List (ℕ × X)) (k k' : ℕ) (why : Refusal) → IsKeyed key pairs → k ≡ k'
-    → (IsSome (row_at key_of_pair k pairs) → why ≡ refusal.Exists) → (row_at key_of_pair k pairs ≡ None → why ≡ refusal.Memory)
+    → why ≡ (if is_some (row_at key_of_pair k pairs) then refusal.Exists else refusal.Memory)
     → why ≡ (if is_some (row_at key k' (values_of pairs)) then refusal.Exists else refusal.Memory)
-refused_pair {X} key pairs k k' why keyed at taken free =
-    cases (row_at key_of_pair k pairs) refl ∙ ap (λ (test : Bool). if test then refusal.Exists else refusal.Memory) (sym (is_there key pairs k keyed) ∙ ap (λ (j : ℕ). is_some (row_at key j (values_of pairs))) at)
-  where
-    cases : (o : Option (ℕ × X)) → row_at key_of_pair k pairs ≡ o → why ≡ (if is_some (row_at key_of_pair k pairs) then refusal.Exists else refusal.Memory)
-    cases None e = rw e (free e)
-    cases (Some p) e = rw e (taken (rw e refl))
+refused_pair {X} key pairs k k' why keyed at is =
+    is ∙ ap (λ (test : Bool). if test then refusal.Exists else refusal.Memory) (sym (is_there key pairs k keyed) ∙ ap (λ (j : ℕ). is_some (row_at key j (values_of pairs))) at)
 
 -- stored pairs after an edit: the book, and that each row stands at its key
 pub book_put_subscriber : (tables : Tables) (k : ℕ) (row : SubscriberRow) → AreKeyed tables

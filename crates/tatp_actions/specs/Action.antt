@@ -150,13 +150,26 @@ adds_row (AddAccess row) = true
 adds_row (AddFacility row) = true
 adds_row _ = false
 
--- a right outcome: Field where a field is out of range, else the effect, or Memory in place of Done where a row is added
+-- a field is out of range: Field, and the book as it was
+abbrev pub IsFieldRefused : Action → Book → RowReply → Book → Type 0
+IsFieldRefused action before answer after =
+    (is_in_range action ≡ false) × (answer ≡ reply.Refused refusal.Field) × (after ≡ before)
+
+-- the rows answer: the effect, which is what was read or done, or the refusal of the rows
+abbrev pub IsEffect : Action → Book → RowReply → Book → Type 0
+IsEffect action before answer after = (is_in_range action ≡ true) × ((answer, after) ≡ effect action before)
+
+-- a row would be added, and memory was refused for it: Memory in place of Done, and the book as it was
+abbrev pub IsMemoryRefused : Action → Book → RowReply → Book → Type 0
+IsMemoryRefused action before answer after =
+    (is_in_range action ≡ true) × (adds_row action ≡ true) × ((effect action before).0 ≡ reply.Done)
+    × (answer ≡ reply.Refused refusal.Memory) × (after ≡ before)
+
+-- a right outcome is one of the three; memory is the one free choice
 abbrev pub IsOutcome : Action → Book → RowReply → Book → Type 0
 IsOutcome action before answer after =
-    ((is_in_range action ≡ false) × (answer ≡ reply.Refused refusal.Field) × (after ≡ before))
-    ⊎ (((is_in_range action ≡ true) × ((answer, after) ≡ effect action before))
-    ⊎ ((is_in_range action ≡ true) × (adds_row action ≡ true) × ((effect action before).0 ≡ reply.Done)
-    × (answer ≡ reply.Refused refusal.Memory) × (after ≡ before)))
+    IsFieldRefused action before answer after
+    ⊎ (IsEffect action before answer after ⊎ IsMemoryRefused action before answer after)
 
 -- what an action that changes rows answers: it was done, or refused
 abbrev pub done_reply : {A : Type 0} → Result A Refusal → RowReply

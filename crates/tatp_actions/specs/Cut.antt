@@ -1,10 +1,11 @@
 -- A part that is cut in two, two parts that become one, and how many steps that takes.
-use Rattle.std.specs.Prelude.{◌≡◌, ℕ, ◌+◌, ◌*◌, ◌==◌, ◌⊎◌, length, if◌then◌else◌}
-use Rattle.std.specs.Int.{abs_diff}
+use Rattle.std.specs.Prelude.{◌≡◌, ℕ, ◌+◌, ◌==◌, ◌⊎◌, length, if◌then◌else◌}
+use Rattle.mr_cut.specs.Bounds.{most_of_slice, fewest_of_slice, most_of_meld, fewest_of_meld}
 use Rattle.mr_subtree.specs.Trees.{IsHeightOf}
 use Rattle.part_table.specs.declared.region.Side.{Side}
 use Rattle.part_table.specs.declared.region.Side.TheVariants.{Low, High}
 use Rattle.tatp_actions.specs.Book.{Book}
+use Rattle.tatp_actions.specs.Heights.{Heights}
 use Rattle.tatp_actions.specs.Joined.{join_books, cut_low, cut_high}
 use Rattle.tatp_actions.specs.Part.{PartState}
 
@@ -36,13 +37,6 @@ melded part other =
     if part.hi == other.lo then record part { book = join_books part.book other.book; hi = other.hi }
     else record part { book = join_books other.book part.book; lo = other.lo }
 
--- the heights of the trees of the four tables
-pub record Heights : Type 0 where
-  pub subscribers : ℕ
-  pub access : ℕ
-  pub facilities : ℕ
-  pub forwardings : ℕ
-
 -- they are heights that trees with the rows of the book may have
 pub record AreHeightsOf (heights : Heights) (book : Book) : Type 0 where
   pub subscribers : IsHeightOf heights.subscribers (length book.subscribers)
@@ -50,30 +44,23 @@ pub record AreHeightsOf (heights : Heights) (book : Book) : Type 0 where
   pub facilities : IsHeightOf heights.facilities (length book.facilities)
   pub forwardings : IsHeightOf heights.forwardings (length book.forwardings)
 
--- the most steps, and the fewest, that the slice of a tree of this height takes
-abbrev pub most_of_slice : ℕ → ℕ
-most_of_slice height = 64 * ((height + 1) * (height + 1))
-
-abbrev pub fewest_of_slice : ℕ → ℕ
-fewest_of_slice height = 9 * height + 3
-
--- the most steps, and the fewest, that the meld of trees of these heights takes
-abbrev pub most_of_meld : ℕ → ℕ → ℕ
-most_of_meld a b = 16 * (abs_diff a b + 1)
-
-abbrev pub fewest_of_meld : ℕ → ℕ → ℕ
-fewest_of_meld a b = 2 * abs_diff a b + 4
-
 -- the most steps, and the fewest, that the slice of a part takes
 abbrev pub slice_bound : Heights → ℕ
-slice_bound h = most_of_slice h.subscribers + most_of_slice h.access + most_of_slice h.facilities + most_of_slice h.forwardings
+slice_bound h =
+    most_of_slice h.subscribers + most_of_slice h.access + most_of_slice h.facilities + most_of_slice h.forwardings
 
 abbrev pub slice_least : Heights → ℕ
-slice_least h = fewest_of_slice h.subscribers + fewest_of_slice h.access + fewest_of_slice h.facilities + fewest_of_slice h.forwardings
+slice_least h =
+    fewest_of_slice h.subscribers + fewest_of_slice h.access + fewest_of_slice h.facilities
+    + fewest_of_slice h.forwardings
 
 -- the most steps, and the fewest, that the meld of two parts takes
 abbrev pub meld_bound : Heights → Heights → ℕ
-meld_bound a b = most_of_meld a.subscribers b.subscribers + most_of_meld a.access b.access + most_of_meld a.facilities b.facilities + most_of_meld a.forwardings b.forwardings
+meld_bound a b =
+    most_of_meld a.subscribers b.subscribers + most_of_meld a.access b.access + most_of_meld a.facilities b.facilities
+    + most_of_meld a.forwardings b.forwardings
 
 abbrev pub meld_least : Heights → Heights → ℕ
-meld_least a b = fewest_of_meld a.subscribers b.subscribers + fewest_of_meld a.access b.access + fewest_of_meld a.facilities b.facilities + fewest_of_meld a.forwardings b.forwardings
+meld_least a b =
+    fewest_of_meld a.subscribers b.subscribers + fewest_of_meld a.access b.access
+    + fewest_of_meld a.facilities b.facilities + fewest_of_meld a.forwardings b.forwardings

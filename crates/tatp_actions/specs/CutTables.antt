@@ -1,8 +1,8 @@
 -- Tables that are cut at a key or joined, and the trees that hold them: no clause of a public call cites these.
-use Rattle.std.specs.Prelude.{ℕ, ◌+◌, ◌*◌, ◌<◌, ◌≤◌, ◌++◌}
-use Rattle.std.specs.Int.{abs_diff}
+use Rattle.std.specs.Prelude.{ℕ, ◌<◌, ◌≤◌, ◌++◌}
+use Rattle.mr_cut.specs.Bounds.{blanks_for_slice, blanks_for_meld}
 use Rattle.mr_cut.specs.Cuts.{rows_below, rows_from, AreApart}
-use Rattle.tatp_actions.specs.Cut.{Heights}
+use Rattle.tatp_actions.specs.Heights.{Heights}
 use Rattle.tatp_actions.specs.Tables.{Tables}
 use Rattle.tatp_actions.specs.declared.stocks.Stocks.{Stocks}
 use Rattle.tatp_actions.specs.declared.trees.Trees.{Trees}
@@ -62,13 +62,13 @@ heights_of trees = record {
 -- so many blank nodes are enough for the slice of a tree of this height
 pub record IsForSlice (height stock : ℕ) : Type 0 where
   pub low : height < 16
-  pub enough : (height + 2) * (height + 2) + 1 ≤ stock
+  pub enough : blanks_for_slice height ≤ stock
 
 -- and so many for the meld of trees of these heights
 pub record IsForMeld (a b stock : ℕ) : Type 0 where
   pub low : a < 16
   pub other_low : b < 16
-  pub enough : abs_diff a b + 3 ≤ stock
+  pub enough : blanks_for_meld a b ≤ stock
 
 -- the same of the four trees
 pub record AreForSlice (h : Heights) (stocks : Stocks) : Type 0 where

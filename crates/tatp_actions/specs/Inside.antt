@@ -7,6 +7,7 @@ use Rattle.tatp_rows.specs.declared.refusal.Refusal.TheVariants as refusal
 use Rattle.tatp_actions.specs.Action.{IsOutcome, takes_call}
 use Rattle.tatp_actions.specs.Book.{Book, subscriber_at, facility_at, put_subscriber, put_facility}
 use Rattle.tatp_actions.specs.Change.{IsChange}
+use Rattle.tatp_actions.specs.Heights.{Heights}
 use Rattle.tatp_actions.specs.Part.{PartState}
 use Rattle.tatp_actions.specs.Tables.{once_more}
 use Rattle.tatp_actions.specs.declared.action.Action.{Action}
@@ -23,9 +24,13 @@ destination s_id sf_type start_time end_time (Some row) = if takes_call s_id sf_
 abbrev pub asked_once : PartState → PartState
 asked_once part = record part { asked = once_more part.asked }
 
--- the part with another book, asked once more
-abbrev pub changed_once : PartState → Book → PartState
-changed_once part book = record part { book = book; asked = once_more part.asked }
+-- the part with another book, asked once more, and its trees of these heights then
+abbrev pub changed_once : PartState → Book → Heights → PartState
+changed_once part book heights = record part { book = book; asked = once_more part.asked; heights = heights }
+
+-- the part with another book, asked as often as it was later, and its trees as high as then
+abbrev pub changed_to : PartState → Book → PartState → PartState
+changed_to part book later = record part { book = book; asked = later.asked; heights = later.heights }
 
 -- a change of a Subscriber row makes one in range of the same subscriber of it
 abbrev pub KeepsSubscriber : (SubscriberRow → SubscriberRow) → Type 0

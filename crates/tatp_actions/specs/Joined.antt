@@ -1,7 +1,7 @@
 -- The book of several parts, and a book cut between two subscribers.
 use Rattle.std.specs.Prelude.{ℕ, ◌*◌, ◌++◌, List, [], ◌∷◌}
 use Rattle.tatp_rows.specs.Keys.{subscriber_key, access_key, facility_key, forwarding_key}
-use Rattle.tatp_rows.specs.Spans.{AllBelow, AllFrom, keys_below, keys_from}
+use Rattle.tatp_rows.specs.Spans.{keys_below, keys_from}
 use Rattle.tatp_actions.specs.Book.{Book, empty_book}
 use Rattle.tatp_actions.specs.Part.{PartState}
 
@@ -36,14 +36,3 @@ cut_high n book = record {
   facilities = keys_from facility_key (n * 65536) book.facilities;
   forwardings = keys_from forwarding_key (n * 65536) book.forwardings;
 }
-
--- the low book has rows of subscribers below n alone, and the high book of those from n on
-pub record Apart (n : ℕ) (low high : Book) : Type 0 where
-  pub subscribers_below : AllBelow subscriber_key (n * 65536) low.subscribers
-  pub access_below : AllBelow access_key (n * 65536) low.access
-  pub facilities_below : AllBelow facility_key (n * 65536) low.facilities
-  pub forwardings_below : AllBelow forwarding_key (n * 65536) low.forwardings
-  pub subscribers_from : AllFrom subscriber_key (n * 65536) high.subscribers
-  pub access_from : AllFrom access_key (n * 65536) high.access
-  pub facilities_from : AllFrom facility_key (n * 65536) high.facilities
-  pub forwardings_from : AllFrom forwarding_key (n * 65536) high.forwardings

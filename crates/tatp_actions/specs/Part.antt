@@ -2,8 +2,10 @@
 use Rattle.std.specs.Prelude.{ℕ, ◌<◌, ◌≤◌, ◌+◌}
 use Rattle.tatp_rows.specs.declared.ranges.TheConstants.{LAST_SUBSCRIBER, GREATEST_WIDTH}
 use Rattle.tatp_actions.specs.Book.{Book, IsRowsOf}
+use Rattle.tatp_actions.specs.Heights.{Heights}
 
--- what a part is: its rows, how often they were asked, its range lo..hi, the width of its zones, and how many steps its last cut or join took
+-- what a part is: its rows, how often they were asked, its range lo..hi, the width of its zones, how many steps its
+-- last cut or join took, and how high its trees are
 pub record PartState : Type 0 where
   pub book : Book
   pub asked : ℕ
@@ -11,6 +13,7 @@ pub record PartState : Type 0 where
   pub hi : ℕ
   pub width : ℕ
   pub steps : ℕ
+  pub heights : Heights
 
 -- the range is not empty, and lies in that of all subscribers
 abbrev pub IsRange : ℕ → ℕ → Type 0

@@ -1,4 +1,4 @@
--- What each row counts in the cells.
+-- What each row counts in the cells: no clause of a public call cites these.
 use Rattle.std.specs.Prelude.{ℕ, ◌+◌, ◌-◌, ◌/◌, ◌^◌, ◌==◌, nat_lt, Bool, false, List, if◌then◌else◌, slice_index, slice_set}
 use Rattle.std.specs.Option.{option_map_or}
 use Rattle.mr_node.specs.Rows.{value_at}

@@ -96,6 +96,13 @@ fn is_subscriber(s_id: u32) -> bool
     (1..=LAST_SUBSCRIBER).contains(&s_id)
 }
 
+/// Whether there can be a location with this number.
+pub(crate) fn is_location(vlr_location: u32) -> bool
+    ensures { result ≡ is_between 1 4294967295 vlr_location }
+{
+    vlr_location > 0
+}
+
 /// Whether there can be a row of a subscriber with this s_id and type.
 fn is_typed(s_id: u32, kind: u8) -> bool
     ensures { result ≡ is_typed s_id kind }
@@ -147,8 +154,9 @@ impl Action {
                 bit_1,
                 data_a,
             } => is_typed(s_id, sf_type) && bit_1 <= 1 && is_between(data_a, 0, 255),
-            Action::UpdateLocation { s_id, vlr_location } => is_subscriber(s_id)
-                && vlr_location > 0,
+            Action::UpdateLocation { s_id, vlr_location } => {
+                is_subscriber(s_id) && is_location(vlr_location)
+            }
             Action::DeleteForwarding {
                 s_id,
                 sf_type,
@@ -160,7 +168,7 @@ impl Action {
                 is_active,
             } => is_typed(s_id, sf_type) && is_active <= 1,
             Action::SetNumber { s_id, sub_nbr } => {
-                // The reader says that the number is in range, as those of the rows do.
+                // For the prover: the number is in range, as its reader says.
                 let _ = sub_nbr.value();
                 is_subscriber(s_id)
             }

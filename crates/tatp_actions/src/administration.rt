@@ -85,7 +85,7 @@ impl<R: Rows> Part<R> {
         requires { IsWithin self.old.lo self.old.hi s_id }
         ensures { Acts (Action.SetNumber s_id sub_nbr) self.old (done_reply result) (notes_of result) self.new }
     {
-        // A number is in range, as its reader says.
+        // For the prover: a number is in range, as its reader says.
         let _number = sub_nbr.value();
         let mut set = SetSubNbr { sub_nbr };
         if !self.revise_subscriber(s_id, &mut set) {

@@ -7,11 +7,18 @@ use std::marker::Model;
 /// rows by 32 zones.
 pub const CELLS: u8 = 51;
 
+// Definitions name these constants, so their numbers are proved here.
+const _: () = prove!(CELLS == 51);
+
 /// The cell of area 0; area a has cell `FIRST_AREA + a`.
 pub const FIRST_AREA: u8 = 3;
 
+const _: () = prove!(FIRST_AREA == 3);
+
 /// The cell of zone 0; zone z has cell `FIRST_ZONE + z`.
 pub const FIRST_ZONE: u8 = 19;
+
+const _: () = prove!(FIRST_ZONE == 19);
 
 /// A count for each cell.
 #[derive(Clone, Copy, Debug, PartialEq, Eq)]

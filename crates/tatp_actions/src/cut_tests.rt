@@ -5,8 +5,8 @@ use crate::plain_tests::draws::after;
 use crate::plain_tests::tally::Tally;
 use crate::plain_tests::{expect_same_book, expect_same_rows, expect_turn, expect_turns};
 use crate::tests::makers::subscriber;
-use crate::tests::{counts_of, expect_all_added};
-use crate::{Action, CELLS, Cells, Part};
+use crate::tests::{act, counts_of, expect_all_added};
+use crate::{Action, CELLS, Cells, Part, RowReply};
 use part_table::Side;
 use std::process::Abort;
 use tatp_rows::Refusal;
@@ -252,5 +252,54 @@ fn expect_two_cuts(rt: &impl Abort, part: &mut Part) {
 fn refused_cuts(rt: HostRuntime) {
     let mut part = Part::new(rt.alloc(), 1, 65, 2).expect(&rt, "a part");
     expect_two_cuts(&rt, &mut part);
+    drop(part);
+}
+
+/// Adds 600 subscribers, the last one first, so that the leaves of their tree are half full.
+fn add_falling(rt: &impl Abort, part: &mut Part) {
+    for s_id in (1..601u32).rev() {
+        let row = subscriber(rt, u64::from(s_id), 1);
+        let (reply, _change, _asked) = act(rt, part, &Action::AddSubscriber(row));
+        assert!(rt; reply == RowReply::Done);
+    }
+}
+
+/// How high the Subscriber trees of both halves of a part are that is cut at a subscriber, first of the half that stays,
+/// and how many steps it took to cut the part and to join it.
+fn large_cut(rt: &impl Abort, part: &mut Part, at: u32, side: Side) -> [u64; 4] {
+    let given = sliced(rt, part, at, side);
+    let heights = [
+        part.rows.subscribers.height(),
+        given.rows.subscribers.height(),
+    ];
+    let cut = part.last_steps();
+    meld(rt, part, given);
+    [heights[0], heights[1], cut, part.last_steps()]
+}
+
+/// Cuts a part of 600 subscribers, whose tree has the height 2, in the middle and near both ends, and joins it again. Of
+/// the steps each of the three empty trees takes three to be cut and four to be joined.
+fn expect_large_cuts(rt: &impl Abort, part: &mut Part) {
+    add_falling(rt, part);
+    let whole = (heights(part), part.recount());
+    let cuts = [
+        large_cut(rt, part, 301, Side::High),
+        large_cut(rt, part, 20, Side::Low),
+        large_cut(rt, part, 590, Side::High),
+    ];
+    assert_eq!(rt;
+        (cuts, whole.0, part.recount() == whole.1),
+        (
+            [[1, 1, 39, 17], [2, 0, 36, 25], [2, 0, 36, 20]],
+            [2, 0, 0, 0],
+            true
+        )
+    );
+}
+
+#[test]
+fn large_cuts(rt: HostRuntime) {
+    let mut part = Part::new(rt.alloc(), 1, 601, 20).expect(&rt, "a part");
+    expect_large_cuts(&rt, &mut part);
     drop(part);
 }

@@ -1,6 +1,6 @@
 //! A part that is cut in two, and two parts that become one.
 ghost use Rattle.std.specs.Prelude.{◌≡◌, ◌<◌, ◌≤◌, ℕ, Err, IfOk, IfErr, OnOk, OnErr};
-ghost use Rattle.tatp_actions.specs.Cut.{given_part, kept_part, melded, Touch, Heights, AreHeightsOf, slice_bound, slice_least, meld_bound, meld_least};
+ghost use Rattle.tatp_actions.specs.Cut.{given_part, kept_part, melded, Touch, AreHeightsOf, slice_bound, slice_least, meld_bound, meld_least};
 ghost use Rattle.tatp_actions.specs.CutTables.{tables_below, tables_from, join_tables, TablesApart, tables_of, heights_of, AreForSlice, AreForMeld};
 ghost use Rattle.tatp_actions.specs.Part.{IsPart};
 
@@ -114,9 +114,18 @@ impl Part {
     /// `Memory` where the blank nodes can't be had, all of which are taken first: then the part is as before.
     pub fn slice(&mut self, at: u32, side: Side) -> Result<Part, Refusal>
         requires inside { (self.old.lo < at) × (at < self.old.hi) }
-        ensures given { IfOk result (λ given. given ≡ record (given_part side at self.old) { asked = 0; steps = 0 }) }
-        ensures kept { OnOk result (self.new ≡ record (kept_part side at self.old) { steps = self.new.steps }) }
-        ensures steps { OnOk result ((h : Heights) × AreHeightsOf h self.old.book × (self.new.steps ≤ slice_bound h) × (slice_least h ≤ self.new.steps)) }
+        ensures given { IfOk result (λ given. given ≡ record (given_part side at self.old) {
+          asked = 0;
+          steps = 0;
+          heights = given.heights;
+        }) }
+        ensures kept { OnOk result (self.new ≡ record (kept_part side at self.old) {
+          steps = self.new.steps;
+          heights = self.new.heights;
+        }) }
+        ensures steps { OnOk result
+            ((self.new.steps ≤ slice_bound self.old.heights) × (slice_least self.old.heights ≤ self.new.steps)) }
+        ensures heights { OnOk result (AreHeightsOf self.old.heights self.old.book) }
         ensures refused { OnErr result ((result ≡ Err Refusal.Memory) × (self.new ≡ self.old)) }
         ensures before { IsPart self.old }
         ensures after { IsPart self.new }
@@ -150,8 +159,14 @@ impl Part {
     pub fn meld(&mut self, other: Part) -> Result<(), Back<Part>>
         requires touch { Touch self.old other }
         requires width { self.old.width ≡ other.width }
-        ensures melded { OnOk result (self.new ≡ record (melded self.old other) { steps = self.new.steps }) }
-        ensures steps { OnOk result ((h : Heights) × (k : Heights) × AreHeightsOf h self.old.book × AreHeightsOf k other.book × (self.new.steps ≤ meld_bound h k) × (meld_least h k ≤ self.new.steps)) }
+        ensures melded { OnOk result (self.new ≡ record (melded self.old other) {
+          steps = self.new.steps;
+          heights = self.new.heights;
+        }) }
+        ensures steps { OnOk result ((self.new.steps ≤ meld_bound self.old.heights other.heights)
+            × (meld_least self.old.heights other.heights ≤ self.new.steps)) }
+        ensures heights { OnOk result (AreHeightsOf self.old.heights self.old.book) }
+        ensures other_heights { OnOk result (AreHeightsOf other.heights other.book) }
         ensures refused { IfErr result (λ back. back ≡ record { why = Refusal.Memory; item = other }) }
         ensures unchanged { OnErr result (self.new ≡ self.old) }
         ensures before { IsPart self.old }

@@ -64,7 +64,7 @@ impl Edit for UpdateSubscriber {
 
     fn make<R: Rows>(self, part: &mut Part<R>) -> Result<Change, Refusal> {
         let done = part.update_subscriber(self.s_id, self.sf_type, self.bit_1, self.data_a);
-        // This opens the part, so that its rules are known.
+        // Opens the part for the prover: its rules are known.
         let _ = &part.rows;
         done
     }
@@ -95,7 +95,7 @@ impl Edit for UpdateLocation {
 
     fn make<R: Rows>(self, part: &mut Part<R>) -> Result<Change, Refusal> {
         let done = part.update_location(self.s_id, self.vlr_location);
-        // This opens the part, so that its rules are known.
+        // Opens the part for the prover: its rules are known.
         let _ = &part.rows;
         done
     }
@@ -121,7 +121,7 @@ impl Edit for InsertForwarding {
 
     fn make<R: Rows>(self, part: &mut Part<R>) -> Result<Change, Refusal> {
         let done = part.insert_forwarding(self.row);
-        // This opens the part, so that its rules are known.
+        // Opens the part for the prover: its rules are known.
         let _ = &part.rows;
         done
     }
@@ -155,7 +155,7 @@ impl Edit for DeleteForwarding {
 
     fn make<R: Rows>(self, part: &mut Part<R>) -> Result<Change, Refusal> {
         let done = part.delete_forwarding(self.s_id, self.sf_type, self.start_time);
-        // This opens the part, so that its rules are known.
+        // Opens the part for the prover: its rules are known.
         let _ = &part.rows;
         done
     }
@@ -181,7 +181,7 @@ impl Edit for AddSubscriber {
 
     fn make<R: Rows>(self, part: &mut Part<R>) -> Result<Change, Refusal> {
         let done = part.add_subscriber(self.row);
-        // This opens the part, so that its rules are known.
+        // Opens the part for the prover: its rules are known.
         let _ = &part.rows;
         done
     }
@@ -207,7 +207,7 @@ impl Edit for AddAccess {
 
     fn make<R: Rows>(self, part: &mut Part<R>) -> Result<Change, Refusal> {
         let done = part.add_access(self.row);
-        // This opens the part, so that its rules are known.
+        // Opens the part for the prover: its rules are known.
         let _ = &part.rows;
         done
     }
@@ -233,7 +233,7 @@ impl Edit for AddFacility {
 
     fn make<R: Rows>(self, part: &mut Part<R>) -> Result<Change, Refusal> {
         let done = part.add_facility(self.row);
-        // This opens the part, so that its rules are known.
+        // Opens the part for the prover: its rules are known.
         let _ = &part.rows;
         done
     }
@@ -267,7 +267,7 @@ impl Edit for SetActive {
 
     fn make<R: Rows>(self, part: &mut Part<R>) -> Result<Change, Refusal> {
         let done = part.set_active(self.s_id, self.sf_type, self.is_active);
-        // This opens the part, so that its rules are known.
+        // Opens the part for the prover: its rules are known.
         let _ = &part.rows;
         done
     }
@@ -298,7 +298,7 @@ impl Edit for SetNumber {
 
     fn make<R: Rows>(self, part: &mut Part<R>) -> Result<Change, Refusal> {
         let done = part.set_number(self.s_id, self.sub_nbr);
-        // This opens the part, so that its rules are known.
+        // Opens the part for the prover: its rules are known.
         let _ = &part.rows;
         done
     }

@@ -4,7 +4,7 @@ ghost use Rattle.std.specs.Prelude.{◌≡◌, ◌+◌, ◌≤◌, IfSome, IsSom
 ghost use Rattle.tatp_actions.specs.Book.{IsWithin, has_active, subscriber_at, access_at, facility_at, forwarding_at, more_subscribers, more_access, more_facilities, more_forwardings, without_forwarding};
 ghost use Rattle.tatp_actions.specs.Part.{IsPart};
 ghost use Rattle.tatp_actions.specs.Tables.{once_more};
-ghost use Rattle.tatp_actions.specs.Inside.{KeepsSubscriber, KeepsFacility, asked_once, changed_once, subscriber_revised, facility_revised, IsAdded};
+ghost use Rattle.tatp_actions.specs.Inside.{KeepsSubscriber, KeepsFacility, asked_once, changed_once, changed_to, subscriber_revised, facility_revised, IsAdded};
 
 use crate::part::Part;
 use crate::rows::Rows;
@@ -84,7 +84,8 @@ impl<R: Rows> Part<R> {
         requires { KeepsSubscriber (E.revised edit.old) }
         ensures found { result ≡ is_some (subscriber_at self.old.book s_id) }
         ensures spent { IfSome (subscriber_at self.old.book s_id) (λ row. edit.new ≡ E.spent edit.old row) }
-        ensures kept { self.new ≡ record self.old { book = subscriber_revised self.old.book s_id (E.revised edit.old); asked = self.new.asked } }
+        ensures kept { self.new ≡ changed_to self.old (subscriber_revised self.old.book s_id (E.revised edit.old))
+            self.new }
         ensures counted { once_more self.old.asked ≤ self.new.asked }
         ensures asked { self.new.asked ≤ self.old.asked + 2 }
         ensures rules { IsPart self.old }
@@ -103,7 +104,8 @@ impl<R: Rows> Part<R> {
         requires { KeepsFacility (E.revised edit.old) }
         ensures found { result ≡ is_some (facility_at self.old.book s_id sf_type) }
         ensures spent { IfSome (facility_at self.old.book s_id sf_type) (λ row. edit.new ≡ E.spent edit.old row) }
-        ensures kept { self.new ≡ record self.old { book = facility_revised self.old.book s_id sf_type (E.revised edit.old); asked = self.new.asked } }
+        ensures kept { self.new ≡ changed_to self.old (facility_revised self.old.book s_id sf_type (E.revised edit.old))
+            self.new }
         ensures counted { once_more self.old.asked ≤ self.new.asked }
         ensures asked { self.new.asked ≤ self.old.asked + 2 }
         ensures rules { IsPart self.old }
@@ -115,7 +117,7 @@ impl<R: Rows> Part<R> {
     pub(crate) fn more_subscribers(&mut self, row: Subscriber) -> Result<(), Refusal>
         requires { IsWithin self.old.lo self.old.hi row.s_id }
         ensures added { IsAdded (is_some (subscriber_at self.old.book row.s_id)) self.old.book (more_subscribers self.old.book row) self.new.book result }
-        ensures kept { self.new ≡ changed_once self.old self.new.book }
+        ensures kept { self.new ≡ changed_once self.old self.new.book self.new.heights }
     {
         if let Err(back) = self.rows.insert_s(row.key(), row) {
             return Err(back.why);
@@ -127,7 +129,7 @@ impl<R: Rows> Part<R> {
     pub(crate) fn more_access(&mut self, row: Access) -> Result<(), Refusal>
         requires { IsSome (subscriber_at self.old.book row.s_id) }
         ensures added { IsAdded (is_some (access_at self.old.book row.s_id row.ai_type)) self.old.book (more_access self.old.book row) self.new.book result }
-        ensures kept { self.new ≡ changed_once self.old self.new.book }
+        ensures kept { self.new ≡ changed_once self.old self.new.book self.new.heights }
     {
         if let Err(back) = self.rows.insert_a(row.key(), row) {
             return Err(back.why);
@@ -139,7 +141,7 @@ impl<R: Rows> Part<R> {
     pub(crate) fn more_facilities(&mut self, row: Facility) -> Result<(), Refusal>
         requires { IsSome (subscriber_at self.old.book row.s_id) }
         ensures added { IsAdded (is_some (facility_at self.old.book row.s_id row.sf_type)) self.old.book (more_facilities self.old.book row) self.new.book result }
-        ensures kept { self.new ≡ changed_once self.old self.new.book }
+        ensures kept { self.new ≡ changed_once self.old self.new.book self.new.heights }
     {
         if let Err(back) = self.rows.insert_f(row.key(), row) {
             return Err(back.why);
@@ -151,7 +153,7 @@ impl<R: Rows> Part<R> {
     pub(crate) fn more_forwardings(&mut self, row: Forwarding) -> Result<(), Refusal>
         requires { IsSome (facility_at self.old.book row.s_id row.sf_type) }
         ensures added { IsAdded (is_some (forwarding_at self.old.book row.s_id row.sf_type row.start_time)) self.old.book (more_forwardings self.old.book row) self.new.book result }
-        ensures kept { self.new ≡ changed_once self.old self.new.book }
+        ensures kept { self.new ≡ changed_once self.old self.new.book self.new.heights }
     {
         if let Err(back) = self.rows.insert_c(row.key(), row) {
             return Err(back.why);
@@ -167,7 +169,8 @@ impl<R: Rows> Part<R> {
         start_time: u8,
     ) -> Option<Forwarding>
         ensures found { result ≡ forwarding_at self.old.book s_id sf_type start_time }
-        ensures kept { self.new ≡ changed_once self.old (without_forwarding self.old.book s_id sf_type start_time) }
+        ensures kept { self.new ≡ changed_once self.old (without_forwarding self.old.book s_id sf_type start_time)
+            self.new.heights }
         ensures rules { IsPart self.old }
     {
         self.rows.remove_c(row_key(s_id, sf_type, start_time))

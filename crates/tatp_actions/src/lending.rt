@@ -35,7 +35,7 @@ impl Part {
     ) -> ArrayVec<Number, 3>
         ensures { result.items ≡ destinations self.now.book s_id sf_type start_time end_time }
     {
-        // This opens the part, so that its rules are known.
+        // Opens the part for the prover: its rules are known.
         let _ = &self.rows;
         if !self.lends_active(s_id, sf_type) {
             return ArrayVec::new();
@@ -81,7 +81,7 @@ impl Part {
     ) -> Option<Number>
         ensures { result ≡ destination s_id sf_type start_time end_time (forwarding_at self.now.book s_id sf_type hour) }
     {
-        // This opens the part, so that its rules are known.
+        // Opens the part for the prover: its rules are known.
         let _ = &self.rows;
         if start_time < hour {
             return None;

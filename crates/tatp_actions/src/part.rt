@@ -5,6 +5,7 @@ ghost use Rattle.tatp_actions.specs.Action.{s_id_of, done_reply, IsOutcome};
 ghost use Rattle.tatp_actions.specs.Inside.{notes_of};
 ghost use Rattle.tatp_actions.specs.Book.{IsWithin, IsRowsOf, empty_book};
 ghost use Rattle.tatp_actions.specs.Change.{IsChange};
+ghost use Rattle.tatp_actions.specs.Heights.{zero_heights};
 ghost use Rattle.tatp_actions.specs.Part.{PartState, IsPart, IsRange, IsWidth};
 ghost use Rattle.tatp_actions.specs.Tables.{AreKeyed, stored_book};
 
@@ -42,6 +43,7 @@ impl<R: Rows> Model for Part<R> {
       hi = p.hi;
       width = p.width;
       steps = p.last_steps;
+      heights = R.heights p.rows;
     } };
 
     ghost invariant = { λ p. IsPart (record {
@@ -51,6 +53,7 @@ impl<R: Rows> Model for Part<R> {
       hi = p.hi;
       width = p.width;
       steps = p.last_steps;
+      heights = R.heights p.rows;
     }) × AreKeyed (R.tables p.rows) };
 }
 
@@ -78,7 +81,15 @@ impl<R: Rows> Part<R> {
         requires width { IsWidth width }
         requires rows { IsRowsOf lo hi (stored_book (R.tables rows)) }
         requires keys { AreKeyed (R.tables rows) }
-        ensures { result ≡ record { book = stored_book (R.tables rows); asked = R.times_asked rows; lo = lo; hi = hi; width = width; steps = 0 } }
+        ensures { result ≡ record {
+          book = stored_book (R.tables rows);
+          asked = R.times_asked rows;
+          lo = lo;
+          hi = hi;
+          width = width;
+          steps = 0;
+          heights = R.heights rows;
+        } }
     {
         Part {
             rows,
@@ -120,7 +131,7 @@ impl<R: Rows> Part<R> {
         ensures before { IsPart self.old }
         ensures after { IsPart self.new }
     {
-        // This opens the part, so that its rules are known as the action begins.
+        // Opens the part for the prover: its rules are known as the action begins.
         let _ = &self.rows;
         let done = match action {
             Action::SubscriberData { s_id } => self.subscriber_data(s_id),
@@ -156,7 +167,7 @@ impl<R: Rows> Part<R> {
             } => answered(self.set_active(s_id, sf_type, is_active)),
             Action::SetNumber { s_id, sub_nbr } => answered(self.set_number(s_id, sub_nbr)),
         };
-        // And so that they are known after it.
+        // Opens the part for the prover: its rules are known after the action.
         let _ = &self.rows;
         done
     }
@@ -167,7 +178,15 @@ impl Part {
     pub fn new(alloc: Global, lo: u32, hi: u32, width: u32) -> Result<Self, Refusal>
         requires range { IsRange lo hi }
         requires width { IsWidth width }
-        ensures part { IfOk result (λ part. part ≡ record { book = empty_book; asked = 0; lo = lo; hi = hi; width = width; steps = 0 }) }
+        ensures part { IfOk result (λ part. part ≡ record {
+          book = empty_book;
+          asked = 0;
+          lo = lo;
+          hi = hi;
+          width = width;
+          steps = 0;
+          heights = zero_heights;
+        }) }
         ensures ok { IfErr result (λ _. ⊥) }
     {
         Ok(Part::over(alloc, Trees::new(alloc)?, lo, hi, width))

@@ -1,6 +1,7 @@
 //! The plain program of the definition: the rows of a part in sorted vectors, for tests.
 ghost use Rattle.std.specs.Prelude.{◌≡◌, ℕ, ◌<◌, [], option_copied, ok_or, ⊤};
 ghost use Rattle.std.specs.Borrow.{sem, follows_so};
+ghost use Rattle.tatp_actions.specs.Heights.{zero_heights};
 ghost use Rattle.tatp_actions.specs.Tables.{once_more};
 
 use crate::rows::Rows;
@@ -49,12 +50,15 @@ impl Rows for PlainRows {
 
     ghost times_asked = { λ t. t.asked };
 
+    // A table is no tree.
+    ghost heights = { λ t. zero_heights };
+
     fn asked(&self) -> u64 {
         self.asked
     }
 
     fn get_s(&mut self, key: u64) -> Option<&Subscriber> {
-        self.asked = self.asked.saturating_add(1);
+        self.ask();
         self.subscribers.get(key)
     }
 
@@ -74,7 +78,7 @@ impl Rows for PlainRows {
     }
 
     fn get_a(&mut self, key: u64) -> Option<&Access> {
-        self.asked = self.asked.saturating_add(1);
+        self.ask();
         self.access.get(key)
     }
 
@@ -94,7 +98,7 @@ impl Rows for PlainRows {
     }
 
     fn get_f(&mut self, key: u64) -> Option<&Facility> {
-        self.asked = self.asked.saturating_add(1);
+        self.ask();
         self.facilities.get(key)
     }
 
@@ -114,7 +118,7 @@ impl Rows for PlainRows {
     }
 
     fn get_c(&mut self, key: u64) -> Option<&Forwarding> {
-        self.asked = self.asked.saturating_add(1);
+        self.ask();
         self.forwardings.get(key)
     }
 

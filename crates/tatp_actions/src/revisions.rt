@@ -44,7 +44,7 @@ impl Revise<Subscriber> for SwapLocation {
     ghost spent = { λ location row. row.vlr_location };
 
     fn revise(&mut self, row: &mut Subscriber) {
-        // A row is in range, as its reader says.
+        // For the prover: a row is in range, as its reader says.
         let _s_id = row.s_id();
         let old = row.vlr_location();
         *row = row.with_vlr_location(self.vlr_location);

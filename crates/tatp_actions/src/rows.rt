@@ -6,6 +6,7 @@ ghost use Rattle.tatp_rows.specs.Ordered.{with_row_at, without_row};
 ghost use Rattle.mr_node.specs.Rows.{key_limit, key_of_pair, value_at};
 ghost use Rattle.mr_node.specs.Revisions.{revised_at, spent_at};
 ghost use Rattle.mr_subtree.specs.Trees.{IsInserted};
+ghost use Rattle.tatp_actions.specs.Heights.{Heights};
 ghost use Rattle.tatp_actions.specs.Tables.{Tables, once_more};
 
 use mr_node::Revise;
@@ -16,10 +17,15 @@ use tatp_rows::{Access, Back, Facility, Forwarding, Subscriber};
 /// Each of the four tables is seen as the list of its pairs (key, row). Each call is by key and raises `asked` by one
 /// (saturating), but for `revise_s` and `revise_f`, which may ask twice; so an action's cost is bounded by how often it
 /// asks. Sixteen calls are enough: those two are made of two others each, where a store has no better way.
+///
+/// `heights` is how high the trees are that hold the rows. A call that reads leaves it. A read lends its row, so what it
+/// leaves (the same tables, asked once more) is said of the time when the row is given back: its clause `after`.
 pub trait Rows {
     ghost tables: { Self → Tables };
 
     ghost times_asked: { Self → ℕ };
+
+    ghost heights: { Self → Heights };
 
     /// How often the rows were asked.
     fn asked(&self) -> u64
@@ -28,7 +34,8 @@ pub trait Rows {
     /// The Subscriber row at a key.
     fn get_s(&mut self, key: u64) -> Option<&Subscriber>
         ensures* after { sem 𝓛 (follows_so Self.row Self.row self.entry.ghost_name none (λ _ _. ⊤)
-            (λ rows. (tables rows ≡ tables self.old) × (times_asked rows ≡ once_more (times_asked self.old)))) }
+            (λ rows. (tables rows ≡ tables self.old) × (times_asked rows ≡ once_more (times_asked self.old))
+            × (heights rows ≡ heights self.old))) }
         ensures value { option_copied result ≡ value_at key (tables self.old).subscribers };
 
     /// Replaces the Subscriber row at a key, and hands back the old one; where there is none, hands back the value.
@@ -71,7 +78,8 @@ pub trait Rows {
     /// The Access_Info row at a key.
     fn get_a(&mut self, key: u64) -> Option<&Access>
         ensures* after { sem 𝓛 (follows_so Self.row Self.row self.entry.ghost_name none (λ _ _. ⊤)
-            (λ rows. (tables rows ≡ tables self.old) × (times_asked rows ≡ once_more (times_asked self.old)))) }
+            (λ rows. (tables rows ≡ tables self.old) × (times_asked rows ≡ once_more (times_asked self.old))
+            × (heights rows ≡ heights self.old))) }
         ensures value { option_copied result ≡ value_at key (tables self.old).access };
 
     /// Replaces the Access_Info row at a key, and hands back the old one; where there is none, hands back the value.
@@ -97,7 +105,8 @@ pub trait Rows {
     /// The Special_Facility row at a key.
     fn get_f(&mut self, key: u64) -> Option<&Facility>
         ensures* after { sem 𝓛 (follows_so Self.row Self.row self.entry.ghost_name none (λ _ _. ⊤)
-            (λ rows. (tables rows ≡ tables self.old) × (times_asked rows ≡ once_more (times_asked self.old)))) }
+            (λ rows. (tables rows ≡ tables self.old) × (times_asked rows ≡ once_more (times_asked self.old))
+            × (heights rows ≡ heights self.old))) }
         ensures value { option_copied result ≡ value_at key (tables self.old).facilities };
 
     /// Replaces the Special_Facility row at a key, and hands back the old one; where there is none, hands back the value.
@@ -140,7 +149,8 @@ pub trait Rows {
     /// The Call_Forwarding row at a key.
     fn get_c(&mut self, key: u64) -> Option<&Forwarding>
         ensures* after { sem 𝓛 (follows_so Self.row Self.row self.entry.ghost_name none (λ _ _. ⊤)
-            (λ rows. (tables rows ≡ tables self.old) × (times_asked rows ≡ once_more (times_asked self.old)))) }
+            (λ rows. (tables rows ≡ tables self.old) × (times_asked rows ≡ once_more (times_asked self.old))
+            × (heights rows ≡ heights self.old))) }
         ensures value { option_copied result ≡ value_at key (tables self.old).forwardings };
 
     /// Replaces the Call_Forwarding row at a key, and hands back the old one; where there is none, hands back the value.

@@ -8,7 +8,7 @@ ghost use Rattle.tatp_actions.specs.Inside.{destination, Acts, asked_once, notes
 ghost use Rattle.tatp_actions.specs.Part.{IsPart};
 ghost use Rattle.tatp_actions.specs.declared.action.Action.{Action};
 
-use crate::action::RowReply;
+use crate::action::{RowReply, is_location};
 use crate::change::Change;
 use crate::part::{Part, refused};
 use crate::revisions::{SetBit1, SetDataA, SwapLocation};
@@ -96,7 +96,7 @@ impl<R: Rows> Part<R> {
         ensures kept { self.new ≡ record self.old { asked = self.new.asked } }
         ensures asked { self.new.asked ≤ self.old.asked + 1 }
     {
-        // This opens the part, so that its rules are known.
+        // Opens the part for the prover: its rules are known.
         let _ = &self.rows;
         if start_time < hour {
             return None;
@@ -177,7 +177,7 @@ impl<R: Rows> Part<R> {
         requires { IsWithin self.old.lo self.old.hi s_id }
         ensures { Acts (Action.UpdateLocation s_id vlr_location) self.old (done_reply result) (notes_of result) self.new }
     {
-        if vlr_location == 0 {
+        if !is_location(vlr_location) {
             return Err(Refusal::Field);
         }
         let mut swap = SwapLocation::to(vlr_location);

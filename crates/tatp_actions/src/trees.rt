@@ -22,10 +22,10 @@ pub struct Trees {
 impl Trees {
     /// Rows with empty trees, never asked. An empty tree takes no memory, so this is always `Ok`.
     pub fn new(alloc: Global) -> Result<Self, Refusal>
-        ensures subscribers { IfOk result (λ t. t.subscribers.rows ≡ []) }
-        ensures access { IfOk result (λ t. t.access.rows ≡ []) }
-        ensures facilities { IfOk result (λ t. t.facilities.rows ≡ []) }
-        ensures forwardings { IfOk result (λ t. t.forwardings.rows ≡ []) }
+        ensures subscribers { IfOk result (λ t. (t.subscribers.rows ≡ []) × (t.subscribers.height ≡ 0)) }
+        ensures access { IfOk result (λ t. (t.access.rows ≡ []) × (t.access.height ≡ 0)) }
+        ensures facilities { IfOk result (λ t. (t.facilities.rows ≡ []) × (t.facilities.height ≡ 0)) }
+        ensures forwardings { IfOk result (λ t. (t.forwardings.rows ≡ []) × (t.forwardings.height ≡ 0)) }
         ensures asked { IfOk result (λ t. t.asked ≡ 0) }
         ensures ok { IfErr result (λ _. ⊥) }
     {
@@ -55,12 +55,19 @@ impl Rows for Trees {
 
     ghost times_asked = { λ t. t.asked };
 
+    ghost heights = { λ t. record {
+      subscribers = t.subscribers.height;
+      access = t.access.height;
+      facilities = t.facilities.height;
+      forwardings = t.forwardings.height;
+    } };
+
     fn asked(&self) -> u64 {
         self.asked
     }
 
     fn get_s(&mut self, key: u64) -> Option<&Subscriber> {
-        self.asked = self.asked.saturating_add(1);
+        self.ask();
         self.subscribers.get(key)
     }
 
@@ -85,7 +92,7 @@ impl Rows for Trees {
     }
 
     fn get_a(&mut self, key: u64) -> Option<&Access> {
-        self.asked = self.asked.saturating_add(1);
+        self.ask();
         self.access.get(key)
     }
 
@@ -105,7 +112,7 @@ impl Rows for Trees {
     }
 
     fn get_f(&mut self, key: u64) -> Option<&Facility> {
-        self.asked = self.asked.saturating_add(1);
+        self.ask();
         self.facilities.get(key)
     }
 
@@ -130,7 +137,7 @@ impl Rows for Trees {
     }
 
     fn get_c(&mut self, key: u64) -> Option<&Forwarding> {
-        self.asked = self.asked.saturating_add(1);
+        self.ask();
         self.forwardings.get(key)
     }
 

@@ -1,5 +1,5 @@
 -- What more notes of a change do to a delta.
-use Rattle.std.proofs.Common.{◌≡◌, ℕ, ◌+◌, ◌*◌, ◌<◌, ◌≤◌, ◌==◌, arith, zero, suc, List, [], ◌∷◌, ◌++◌, take, get_or, length, set, true, false, refl, ◌∙◌, if◌then◌else◌, FitsSigned, w8, w64, to_z, of_z}
+use Rattle.std.proofs.Common.{◌≡◌, ℕ, ◌+◌, ◌*◌, ◌^◌, ◌<◌, ◌≤◌, ◌==◌, arith, zero, suc, List, [], ◌∷◌, ◌++◌, take, get_or, length, set, true, false, refl, ◌∙◌, if◌then◌else◌, FitsSigned, w8, w64, to_z, of_z}
 use Rattle.std.specs.Prelude.{ℤ, pos, neg_ℤ, ◌+ℤ◌, ◌≤ℤ◌}
 use Rattle.std.specs.List.{AllByRecursion}
 use Rattle.std.proofs.lemmas.Int.{ints, to_z-of_z}
@@ -112,7 +112,7 @@ notes_small (note ∷ notes) c each =
 
 -- the notes of a change fit where the deltas are far from the limits
 pub notes_fit : (pending : List ℤ) (notes : List (ℕ × ℤ)) → AllByRecursion IsNote notes → length notes ≤ 8
-    → ((c : ℕ) → c < CELLS → (neg_ℤ (pos 1152921504606846976) ≤ℤ pending_at pending c) × (pending_at pending c ≤ℤ pos 1152921504606846976)) → NotesFit pending notes
+    → ((c : ℕ) → c < CELLS → (neg_ℤ (pos (2 ^ 60)) ≤ℤ pending_at pending c) × (pending_at pending c ≤ℤ pos (2 ^ 60))) → NotesFit pending notes
 notes_fit pending notes each few small i c within below =
     let bounds = notes_small (take i notes) c (each_note notes i each) in
     let taken : length (take i notes) ≤ 8 = omega (arith, length-take {A = ℕ × ℤ}) in

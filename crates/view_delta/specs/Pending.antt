@@ -1,5 +1,5 @@
 -- What an owner has not posted yet: a delta for each cell, and the sums that fit 64 bits.
-use Rattle.std.specs.Prelude.{◌≡◌, ◌≢◌, ℕ, ◌<◌, ◌≤◌, List, length, take, Option, Some, None, ℤ, pos, ◌+ℤ◌, ◌-ℤ◌, slice_index, slice_index_or}
+use Rattle.std.specs.Prelude.{◌≡◌, ◌≢◌, ℕ, ◌<◌, ◌≤◌, ◌==◌, Bool, false, List, length, take, Option, Some, None, ℤ, pos, negsuc, ◌+ℤ◌, ◌-ℤ◌, slice_index, slice_index_or}
 use Rattle.std.specs.Int.RustNames.{FitsSigned}
 use mir.Syntax.{w64}
 use Rattle.tatp_actions.specs.Change.{change_at}
@@ -8,6 +8,11 @@ use Rattle.tatp_actions.specs.declared.cells.TheConstants.{CELLS}
 -- the pending delta of a cell
 abbrev pub pending_at : List ℤ → ℕ → ℤ
 pending_at pending c = slice_index_or pending c (pos 0)
+
+-- an amount is 0
+abbrev pub is_zero : ℤ → Bool
+is_zero (pos n) = n == 0
+is_zero (negsuc n) = false
 
 -- each sum fits where the notes of a change are taken in one after another
 abbrev pub NotesFit : List ℤ → List (ℕ × ℤ) → Type 0

@@ -65,7 +65,7 @@ impl Pending {
         self.deltas[usize::from(cell)] = 0;
     }
 
-    /// Whether each delta is 0.
+    /// Whether each delta is 0. The crates above ask for the next cell instead: this is for tests.
     pub fn is_zero(&self) -> bool
         ensures { IsTrue result ↔ AreZero 0 CELLS self.now }
     {

@@ -21,7 +21,13 @@ pub returns-then-self-lo-clause-steps : goal.returns-then-self-lo-clause-steps
 returns-then-self-lo-clause-steps c =
     let steps = rw c.take-trees.ensures.trees at c.join-joined.ensures.steps in
     let no_fewer = rw c.take-trees.ensures.trees at c.join-joined.ensures.no_fewer in
-    rw (← c.self.view_is, ← c.other.view_is) (heights_of c.self.inside.rows, heights_of c.other.inside.rows, c.in-Ok.ensures.heights, c.in-Ok.ensures.other_heights, steps, no_fewer)
+    rw (← c.self.view_is, ← c.other.view_is) (steps, no_fewer)
+
+pub returns-then-self-lo-clause-heights : goal.returns-then-self-lo-clause-heights
+returns-then-self-lo-clause-heights c = rw (← c.self.view_is) c.in-Ok.ensures.heights
+
+pub returns-then-self-lo-clause-other_heights : goal.returns-then-self-lo-clause-other_heights
+returns-then-self-lo-clause-other_heights c = rw (← c.other.view_is) c.in-Ok.ensures.other_heights
 
 pub returns-then-self-lo-clause-after : goal.returns-then-self-lo-clause-after
 returns-then-self-lo-clause-after c =
@@ -55,7 +61,13 @@ returns-clause-steps c =
     let second = heights_of c.self.inside.rows in
     let steps = rw (c.take-trees.ensures.trees, bound_swapped first second) at c.join-joined-2.ensures.steps in
     let no_fewer = rw (c.take-trees.ensures.trees, least_swapped first second) at c.join-joined-2.ensures.no_fewer in
-    rw (← c.self.view_is, ← c.other.view_is) (second, first, c.in-Ok.ensures.heights, c.in-Ok.ensures.other_heights, steps, no_fewer)
+    rw (← c.self.view_is, ← c.other.view_is) (steps, no_fewer)
+
+pub returns-clause-heights : goal.returns-clause-heights
+returns-clause-heights c = rw (← c.self.view_is) c.in-Ok.ensures.heights
+
+pub returns-clause-other_heights : goal.returns-clause-other_heights
+returns-clause-other_heights c = rw (← c.other.view_is) c.in-Ok.ensures.other_heights
 
 pub returns-clause-after : goal.returns-clause-after
 returns-clause-after c =

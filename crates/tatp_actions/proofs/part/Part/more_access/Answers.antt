@@ -4,7 +4,7 @@ use Rattle.tatp_actions.proofs.part.Part.more_access.Goals as goal
 pub returns-in-Err-clause-added : goal.returns-in-Err-clause-added
 returns-in-Err-clause-added g c =
     let table = c.in-Err.ensures.table in
-    rw (← c.self.view_is) (more_access_refused _ _ _ _ _ _ _ _ c.args.row _ c.key.ensures.key c.self.invariant table.1 c.in-Err.ensures.others table.2 table.3)
+    rw (← c.self.view_is) (more_access_refused _ _ _ _ _ _ _ _ c.args.row _ c.key.ensures.key c.self.invariant table.1 c.in-Err.ensures.others table.2)
 
 pub invariant_of-self-2 : goal.invariant_of-self-2
 invariant_of-self-2 g c = more_access_holds _ _ _ _ _ _ _ _ _ c.args.row c.key.ensures.key c.self.invariant c.in_default.ensures.table c.in_default.ensures.others (rw (← c.self.view_is) at c.requires) c.key.ensures.in_range

@@ -1,10 +1,11 @@
-use Rattle.std.proofs.Common.{◌≡◌, ℕ, ◌+◌, ◌*◌, ◌<◌, arith}
+use Rattle.std.proofs.Common.{◌≡◌, ℕ, ◌<◌, arith}
+use Rattle.mr_cut.specs.Bounds.{blanks_for_slice}
 use Rattle.tatp_actions.specs.CutTables.{IsForSlice}
 use Rattle.tatp_actions.proofs.CutTablesLemmas.{heights_are}
 use Rattle.tatp_actions.proofs.stocks.Stocks.for_slice.Goals as goal
 
 -- what was taken is enough for a tree of the height that was asked
-enough : (height asked stock : ℕ) → asked ≡ height → asked < 16 → stock ≡ (asked + 2) * (asked + 2) + 1 → IsForSlice height stock
+enough : (height asked stock : ℕ) → asked ≡ height → asked < 16 → stock ≡ blanks_for_slice asked → IsForSlice height stock
 enough height asked stock is low taken = rw (← is) (record { low = low; enough = omega (arith, taken) })
 
 pub returns-clause-stocks : goal.returns-clause-stocks

@@ -11,11 +11,9 @@ pub returns-then-index-key : goal.returns-then-index-key
 returns-then-index-key g c = (
   refl,
   refl,
-  λ some. refl,
-  λ free.
-      let len : length c.self.inside.entries.items ≡ length c.args.self.now = ap length c.self.view_is in
+  (let len : length c.self.inside.entries.items ≡ length c.args.self.now = ap length c.self.view_is in
       let found = found_here (λ pair. pair.0) c.args.key c.place_of-at.result c.args.self.now c.index.result.now c.place_of-at.ensures.ordered c.place_of-at.ensures.place (omega arith) (rw c.self.view_is at c.index.ensures) c.if-index-key.true in
-      absurd (let no : Some c.index.result.now ≡ None = sym found ∙ free in cc),
+      rw found refl),
 )
 
 -- the key has no entry, where the call puts one in
@@ -46,7 +44,7 @@ absent_full g c =
     ]
 
 pub returns-then-len-self : goal.returns-then-len-self
-returns-then-len-self g c = (refl, refl, (λ taken. absurd (let e = absent_full g c in let some = rw e at taken in cc)), λ free. refl)
+returns-then-len-self g c = (refl, refl, rw (absent_full g c) refl)
 
 pub invariant_of-self : goal.invariant_of-self
 invariant_of-self g c = elim c.match-insert.branch [
@@ -57,5 +55,5 @@ invariant_of-self g c = elim c.match-insert.branch [
 pub returns : goal.returns
 returns g c = elim c.match-insert.branch [
   | in-Ok w ↦ rw w.result-is (absent g c, w.in-Ok.ensures.items ∙ inserts g c)
-  | in-Err w ↦ rw w.result-is (search rules, w.in-Err.ensures.items ∙ c.self.view_is, (λ taken. absurd (let e = absent g c in let some = rw e at taken in cc)), λ free. refl)
+  | in-Err w ↦ rw w.result-is (search rules, w.in-Err.ensures.items ∙ c.self.view_is, rw (absent g c) refl)
 ]

@@ -4,13 +4,14 @@ use Rattle.tatp_rows.proofs.OrderedLemmas.{row_at-with_row_same}
 use Rattle.tatp_rows.specs.Keys.{facility_key}
 use Rattle.tatp_rows.specs.Rows.{SpecialFacilityRow}
 use Rattle.tatp_actions.specs.Book.{Book, IsRowsOf, facility_at, more_facilities}
+use Rattle.tatp_actions.specs.Heights.{zero_heights}
 use Rattle.tatp_actions.specs.Tables.{Tables, AreKeyed, stored_book}
 use Rattle.tatp_actions.proofs.KeyedLemmas.{more_facilities_added, more_facilities_holds}
 use Rattle.tatp_actions.proofs.StoredLemmas.{Holds}
 use Rattle.tatp_actions.proofs.tests.makers.put_facility.Goals as goal
 
 -- the rows keep the rules of a part
-held : (tables : Tables) → IsRowsOf 1 10 (stored_book tables) → AreKeyed tables → Holds tables 0 1 10 1 0
+held : (tables : Tables) → IsRowsOf 1 10 (stored_book tables) → AreKeyed tables → Holds tables 0 1 10 1 0 zero_heights
 held tables rows keys = (record { range = (omega arith, omega arith, omega arith); width = (omega arith, omega arith); rows = rows }, keys)
 
 -- the row that was added is found
@@ -23,11 +24,11 @@ found book book1 row absent is = rw (is, row_at-with_row_same facility_key (faci
 
 pub returns-clause-rows : goal.returns-clause-rows
 returns-clause-rows g c =
-    (more_facilities_holds _ _ 0 0 1 10 1 0 _ c.args.row c.key.ensures.key (held _ c.requires.rows c.requires.keys) c.in_default.ensures.table c.in_default.ensures.others (rw c.requires.subscriber c.requires.there) c.s_id-s_id.ensures.in_range).0.rows
+    (more_facilities_holds _ _ 0 0 1 10 1 0 _ c.args.row c.key.ensures.key (held _ c.requires.rows c.requires.keys) c.in_default.ensures.table c.in_default.ensures.others {h1 = zero_heights} (rw c.requires.subscriber c.requires.there) c.s_id-s_id.ensures.in_range).0.rows
 
 pub returns-clause-keys : goal.returns-clause-keys
 returns-clause-keys g c =
-    (more_facilities_holds _ _ 0 0 1 10 1 0 _ c.args.row c.key.ensures.key (held _ c.requires.rows c.requires.keys) c.in_default.ensures.table c.in_default.ensures.others (rw c.requires.subscriber c.requires.there) c.s_id-s_id.ensures.in_range).1
+    (more_facilities_holds _ _ 0 0 1 10 1 0 _ c.args.row c.key.ensures.key (held _ c.requires.rows c.requires.keys) c.in_default.ensures.table c.in_default.ensures.others {h1 = zero_heights} (rw c.requires.subscriber c.requires.there) c.s_id-s_id.ensures.in_range).1
 
 pub returns-clause-there : goal.returns-clause-there
 returns-clause-there g c =
