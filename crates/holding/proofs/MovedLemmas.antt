@@ -46,8 +46,10 @@ sums_fit holding part counts is rules are c below =
     let most = few part rules c in let count = are c below in let low = (pending_small holding is c below).0 in let high = (pending_small holding is c below).1 in omega (arith, ints)
 
 -- the counts of a part that is cut in two
-pub divided : (side : Side) (at : ℕ) (part given kept : PartState) → IsPart part → given ≡ record (given_part side at part) { asked = 0; steps = 0 }
-    → kept ≡ record (kept_part side at part) { steps = kept.steps } → (c : ℕ) → count_of part c ≡ count_of given c + count_of kept c
+pub divided : (side : Side) (at : ℕ) (part given kept : PartState) → IsPart part
+    → given ≡ record (given_part side at part) { asked = 0; steps = 0; heights = given.heights }
+    → kept ≡ record (kept_part side at part) { steps = kept.steps; heights = kept.heights }
+    → (c : ℕ) → count_of part c ≡ count_of given c + count_of kept c
 divided Low at part given kept rules is_given is_kept c =
     rw (ap (λ (p : PartState). p.width) is_given, ap (λ (p : PartState). p.width) is_kept, ap (λ (p : PartState). p.book) is_given, ap (λ (p : PartState). p.book) is_kept)
     (cell_cut part.lo at part.hi part.width c part.book rules.rows)
@@ -73,7 +75,8 @@ left part given kept pending pending' counts desk slot is rules are both less = 
 joined_low : (lo at at' hi width : ℕ) (low high : Book) → at ≡ at' → IsRowsOf lo at low → IsRowsOf at' hi high → (c : ℕ) → cell width c (join_books low high) ≡ cell width c low + cell width c high
 joined_low lo at at' hi width low high same of_low of_high c = cell_joined lo at hi low high of_low (rw same of_high) width c
 
-pub joined : (part other whole : PartState) → IsPart part → IsPart other → Touch part other → part.width ≡ other.width → whole ≡ record (melded part other) { steps = whole.steps }
+pub joined : (part other whole : PartState) → IsPart part → IsPart other → Touch part other → part.width ≡ other.width
+    → whole ≡ record (melded part other) { steps = whole.steps; heights = whole.heights }
     → (c : ℕ) → count_of whole c ≡ count_of part c + count_of other c
 joined part other whole rules rules' touch same is c = by_test (part.hi == other.lo)
     (λ e.

@@ -1,5 +1,5 @@
 -- A posting, cell by cell.
-use Rattle.std.proofs.Common.{◌≡◌, ℕ, ◌+◌, ◌-◌, ◌<◌, ◌≤◌, refl, arith, zero, suc, true, false, not, List, ◌∷◌, take, set, sym, ap, subst, ◌∙◌, Some, None, Result, Ok, Err}
+use Rattle.std.proofs.Common.{◌≡◌, ℕ, ◌+◌, ◌-◌, ◌<◌, ◌≤◌, refl, arith, zero, suc, true, false, not, List, ◌∷◌, take, set, sym, subst, ◌∙◌, Some, None, Result, Ok, Err}
 use Rattle.std.specs.Prelude.{ℤ, pos, negsuc, ◌+ℤ◌}
 use Rattle.std.specs.List.{range_with_len, filter}
 use Rattle.std.proofs.Math.Seq.{take-nil}
@@ -11,23 +11,26 @@ use Rattle.tatp_rows.specs.declared.refusal.Refusal.TheVariants as refusal
 use Rattle.tatp_actions.specs.declared.cells.TheConstants.{CELLS}
 use Rattle.view_board.specs.Nets.{net_of}
 use Rattle.view_board.specs.Views.{posted}
-use Rattle.view_board.specs.Words.{is_worn, raised_by}
+use Rattle.view_board.specs.Words.{is_worn}
 use Rattle.view_board.specs.declared.rule.View.{View}
-use Rattle.view_delta.specs.Pending.{pending_at, AreZero, IsNextNonzero}
+use Rattle.view_board.proofs.PostedLemmas.{raises_once}
+use Rattle.view_delta.specs.Pending.{pending_at, is_zero, AreZero, IsNextNonzero}
 use Rattle.holding.specs.Held.{HoldingState}
-use Rattle.holding.specs.Post.{is_zero, raise_cells, all_cells, gap, due, post, IsCellPosted}
+use Rattle.holding.specs.Inside.{IsCellPosted}
+use Rattle.holding.specs.Post.{post_cells, all_cells, gap, post}
 
 -- the cells from one on, with a gap
 abbrev pub open_from : (ℕ → ℤ) → ℕ → ℕ → List ℕ
 open_from gaps c left = filter (λ k. not (is_zero (gaps k))) (range_with_len c left)
 
--- where a posting stands before cell c: what is left of it gives the whole answer, the deltas from c on are the gaps, and the
--- desk differs in its numbers alone
+-- where a posting stands before cell c: what is left of it gives the whole answer, the deltas from c on are the gaps, the
+-- desk has the slots that it had, and it raised a word for each cell that was posted
 pub record IsPosting (count : ℕ → ℕ) (slot limit : ℕ) (start : View) (c done : ℕ) (pending : List ℤ) (view : View) : Type 0 where
-  pub goes : (left : ℕ) → c + left ≡ CELLS → raise_cells (gap count start) slot (take (limit - done) (open_from (gap count start) c left)) done view.numbers
-      ≡ raise_cells (gap count start) slot (due (gap count start) limit) 0 start.numbers
+  pub goes : (left : ℕ) → c + left ≡ CELLS →
+      post_cells (gap count start) slot (take (limit - done) (open_from (gap count start) c left)) done view ≡ post count slot limit start
   pub ahead : (k : ℕ) → c ≤ k → k < CELLS → pending_at pending k ≡ gap count start k
-  pub rest : view ≡ record start { numbers = view.numbers }
+  pub owned : view.owned ≡ start.owned
+  pub raises : view.raises ≡ start.raises + done
   pub few : done ≤ c
   pub within : done ≤ limit
 
@@ -44,19 +47,14 @@ open_past gaps c left none = rw none refl
 open_here : (gaps : ℕ → ℤ) (c left : ℕ) → (gaps c ≡ pos 0 → ⊥) → open_from gaps c (suc left) ≡ c ∷ open_from gaps (c + 1) left
 open_here gaps c left some = rw (other_is_not (gaps c) some) refl
 
--- one cell raised, and one that would wear a word
-raise_one : (gaps : ℕ → ℤ) (slot c : ℕ) (cells : List ℕ) (done : ℕ) (words : List ℕ) → is_worn words slot c (gaps c) ≡ false
-    → raise_cells gaps slot (c ∷ cells) done words ≡ raise_cells gaps slot cells (done + 1) (raised_by words slot c (gaps c))
-raise_one gaps slot c cells done words e = rw e refl
+-- one cell is posted, and one whose word would wear
+post_one : (gaps : ℕ → ℤ) (slot c : ℕ) (cells : List ℕ) (done : ℕ) (view : View) → is_worn view.numbers slot c (gaps c) ≡ false
+    → post_cells gaps slot (c ∷ cells) done view ≡ post_cells gaps slot cells (done + 1) (posted view slot c (gaps c))
+post_one gaps slot c cells done view e = rw e refl
 
-raise_none : (gaps : ℕ → ℤ) (slot c : ℕ) (cells : List ℕ) (done : ℕ) (words : List ℕ) → is_worn words slot c (gaps c) ≡ true
-    → raise_cells gaps slot (c ∷ cells) done words ≡ (Err refusal.Worn, words)
-raise_none gaps slot c cells done words e = rw e refl
-
--- an answer with the numbers is one with the desk that has them
-answer_with : (start view : View) (answer : Result ℕ Refusal) (raised : Result ℕ Refusal × List ℕ) → view ≡ record start { numbers = view.numbers }
-    → answer ≡ raised.0 → view.numbers ≡ raised.1 → ◌≡◌ {A = Result ℕ Refusal × View} (answer, view) (raised.0, record start { numbers = raised.1 })
-answer_with start view answer raised rest told numbers = rw (rest, told, numbers) refl
+post_none : (gaps : ℕ → ℤ) (slot c : ℕ) (cells : List ℕ) (done : ℕ) (view : View) → is_worn view.numbers slot c (gaps c) ≡ true
+    → post_cells gaps slot (c ∷ cells) done view ≡ (Err refusal.Worn, view)
+post_none gaps slot c cells done view e = rw e refl
 
 module _ (count : ℕ → ℕ) (slot limit : ℕ) (start : View) where
   -- a posting begins
@@ -65,7 +63,8 @@ module _ (count : ℕ → ℕ) (slot limit : ℕ) (start : View) where
   posting_begins pending law = record {
     goes = λ left whole. let all : left ≡ CELLS = omega arith in let limit_is : limit - 0 ≡ limit = omega arith in rw (all, limit_is) refl;
     ahead = λ k from below. let held = law k below in omega (arith, ints);
-    rest = refl;
+    owned = refl;
+    raises = omega arith;
     few = omega arith;
     within = omega arith;
   }
@@ -77,7 +76,8 @@ module _ (count : ℕ → ℕ) (slot limit : ℕ) (start : View) where
     goes = λ left whole. let no_gap : gap count start c ≡ pos 0 = sym (now.ahead c (omega arith) below) ∙ none in
         let was = now.goes (suc left) (omega arith) in rw (open_past (gap count start) c left no_gap) at was;
     ahead = λ k from within. now.ahead k (omega arith) within;
-    rest = now.rest;
+    owned = now.owned;
+    raises = now.raises;
     few = omega (arith, now.few);
     within = now.within;
   }
@@ -95,9 +95,11 @@ module _ (count : ℕ → ℕ) (slot limit : ℕ) (start : View) where
         let one_left : limit - done ≡ suc (limit - (done + 1)) = omega (arith, now.within) in
         let was = now.goes (suc left) (omega arith) in
         let first = rw (open_here (gap count start) c left there, one_left) at was in
-        rw gap_is (sym (raise_one (gap count start) slot c (take (limit - (done + 1)) (open_from (gap count start) (c + 1) left)) done view.numbers fits') ∙ first);
+        let rest = take (limit - (done + 1)) (open_from (gap count start) (c + 1) left) in
+        rw gap_is (sym (post_one (gap count start) slot c rest done view fits') ∙ first);
     ahead = λ k from within. get_or-set_other pending c k (pos 0) (pos 0) (omega arith) ∙ now.ahead k (omega arith) within;
-    rest = ap (λ (v : View). posted v slot c (pending_at pending c)) now.rest;
+    owned = now.owned;
+    raises = let once = raises_once (pending_at pending c) some in let before = now.raises in omega arith;
     few = omega (arith, now.few);
     within = omega (arith, now.within);
   }
@@ -125,16 +127,14 @@ module _ (count : ℕ → ℕ) (slot limit : ℕ) (start : View) where
       let here = posting_next from c done pending view found now in
       let below = found.1 in
       let none_left : limit - done ≡ 0 = omega arith in
-      let was = here.goes (CELLS - c) (omega arith) in
-      let is = rw none_left at was in answer_with start view (Ok done) _ here.rest (ap (λ r. r.0) is) (ap (λ r. r.1) is)
+      let was = here.goes (CELLS - c) (omega arith) in rw none_left at was
 
   -- no cell is left
   pub posting_ends : (from done : ℕ) (pending : List ℤ) (view : View) → from ≤ CELLS → IsNextNonzero from pending None
       → IsPosting count slot limit start from done pending view → (Ok done, view) ≡ post count slot limit start
   posting_ends from done pending view within none now =
       let last = posting_skips from CELLS done pending view within (omega arith) none now in
-      let was = last.goes 0 (omega arith) in
-      let is = rw (take-nil (limit - done)) at was in answer_with start view (Ok done) _ last.rest (ap (λ r. r.0) is) (ap (λ r. r.1) is)
+      let was = last.goes 0 (omega arith) in rw (take-nil (limit - done)) at was
 
   -- one turn: where it stands after a cell that was posted, and its answer where the cell was worn
   pub posting_turn : (from c done : ℕ) (before after : HoldingState) → slot ≡ before.slot → (done ≡ limit → ⊥)
@@ -157,5 +157,5 @@ module _ (count : ℕ → ℕ) (slot limit : ℕ) (start : View) where
       let one_left : limit - done ≡ suc (limit - (done + 1)) = omega (arith, here.within) in
       let was = here.goes (suc left) (omega arith) in
       let first = rw (open_here (gap count start) c left there, one_left) at was in
-      let ends = sym (raise_none (gap count start) slot c (take (limit - (done + 1)) (open_from (gap count start) (c + 1) left)) done before.desk.view.numbers worn) ∙ first in
-      rw (cell.1, cell.2) (answer_with start before.desk.view (Err refusal.Worn) _ here.rest (ap (λ r. r.0) ends) (ap (λ r. r.1) ends))
+      let rest = take (limit - (done + 1)) (open_from (gap count start) (c + 1) left) in
+      rw (cell.1, cell.2) (sym (post_none (gap count start) slot c rest done before.desk.view worn) ∙ first)

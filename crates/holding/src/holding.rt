@@ -1,5 +1,5 @@
 //! A part with what its owner has posted and what it has not.
-ghost use Rattle.std.specs.Prelude.{◌≡◌, ℕ, ◌<◌, ◌≤◌, ◌+◌, ◌^◌, option_copied, slice_index, slice_index_or, ℤ, pos, neg_ℤ, ◌-ℤ◌, ◌≤ℤ◌};
+ghost use Rattle.std.specs.Prelude.{◌≡◌, ℕ, ◌<◌, ◌≤◌, ◌+◌, ◌^◌, ◌↔◌, option_copied, IfOk, IsTrue, slice_index, slice_index_or, ℤ, pos, neg_ℤ, ◌-ℤ◌, ◌≤ℤ◌};
 ghost use Rattle.tatp_actions.specs.Action.{s_id_of, done_reply, IsOutcome};
 ghost use Rattle.tatp_actions.specs.Book.{IsWithin, first_subscriber};
 ghost use Rattle.tatp_actions.specs.declared.cells.TheConstants.{CELLS};
@@ -8,7 +8,8 @@ ghost use Rattle.view_board.specs.Views.{Owns, IsWide};
 ghost use Rattle.view_board.specs.declared.words.TheConstants.{SLOTS};
 ghost use Rattle.view_delta.specs.Pending.{pending_at};
 ghost use Rattle.holding.specs.Held.{IsHolding, HasSmallNets, IsLeastSlot, count_of};
-ghost use Rattle.holding.specs.Post.{IsCellPosted, post};
+ghost use Rattle.holding.specs.Inside.{IsCellPosted};
+ghost use Rattle.holding.specs.Post.{post};
 
 use std::alloc::Global;
 use std::marker::Model;
@@ -66,8 +67,8 @@ fn difference(count: u64, net: i128) -> i64
     (i128::from(count) - net) as i64
 }
 
-/// By how much counts differ from what a desk has published.
-fn unposted(counts: &Cells, desk: &Desk) -> [i64; CELLS as usize]
+/// What is pending of counts: by how much they differ from what a desk has published.
+fn pending_of(counts: &Cells, desk: &Desk) -> [i64; CELLS as usize]
     requires few { (c : ℕ) → c < CELLS → slice_index counts.now c ≤ 2 ^ 40 }
     requires small { HasSmallNets desk.now.view }
     ensures deltas { (c : ℕ) → c < CELLS → slice_index_or result c (pos 0) ≡ pos (slice_index counts.now c) -ℤ net_of desk.now.view c }
@@ -98,7 +99,7 @@ impl<R: Rows> Holding<R> {
         ensures after { IsHolding self.new }
     {
         let (reply, change) = self.part.act(action);
-        // A change tells by its notes that they are few and small.
+        // Opens the change for the prover: its notes are few and small.
         let _notes = change.notes();
         self.pending.note(&change);
         reply
@@ -117,7 +118,7 @@ impl<R: Rows> Holding<R> {
         ensures after { IsHolding self.new }
     {
         let moved = edit.make(&mut self.part)?;
-        // A change tells by its notes that they are few and small.
+        // Opens the change for the prover: its notes are few and small.
         let _notes = moved.notes();
         self.pending.note(&moved);
         Ok(())
@@ -136,17 +137,18 @@ impl<R: Rows> Holding<R> {
     }
 
     /// Posts what is pending to the words of the desk's least slot, cells ascending, each whole and in one step, until `limit`
-    /// are posted or none is left; tells how many were, 0..=51. `Worn` stops it at a cell whose word would pass its limit: the
-    /// cells before stay posted, and that cell stays pending.
+    /// are posted or none is left; tells how many were, 0..=51, and so in how many steps the desk raised words. `Worn` stops
+    /// it at a cell whose word would pass its limit: the cells before stay posted, and that cell stays pending.
     pub fn post(&mut self, board: &Board, limit: u64) -> Result<u8, Refusal>
         requires { self.old.desk.board ≡ board.now }
         ensures posted { (result, self.new.desk.view) ≡ post (count_of self.old.part) self.old.slot limit self.old.desk.view }
+        ensures steps { IfOk result (λ done. self.new.desk.view.raises ≡ self.old.desk.view.raises + done) }
         ensures part { self.new.part ≡ self.old.part }
         ensures desk { (self.new.desk.board ≡ self.old.desk.board) × (self.new.desk.view.owned ≡ self.old.desk.view.owned) × (self.new.slot ≡ self.old.slot) }
         ensures before { IsHolding self.old }
         ensures after { IsHolding self.new }
     {
-        // This opens the holding, so that its rules are known as the posting begins.
+        // Opens the holding for the prover: its rules are known as the posting begins.
         let _ = &self.part;
         let mut posted = 0u8;
         let mut from = 0u8;
@@ -172,10 +174,10 @@ impl Holding {
         ensures desk { result.desk ≡ desk }
         ensures rules { IsHolding result }
     {
-        // A part tells by its width that it keeps the rules.
+        // Opens the part for the prover: it keeps its rules.
         let _width = part.width();
         let counts = part.recount();
-        let pending = Pending::of(unposted(&counts, &desk));
+        let pending = Pending::of(pending_of(&counts, &desk));
         let slot = least_slot(&desk);
         Holding {
             part,
@@ -217,6 +219,14 @@ impl Holding {
         ensures rules { IsHolding self.now }
     {
         self.pending.get(cell)
+    }
+
+    /// Whether the slot is the desk's; one past the last is nobody's.
+    pub fn owns(&self, slot: u8) -> bool
+        ensures value { IsTrue result ↔ Owns self.now.desk.view slot }
+        ensures rules { IsHolding self.now }
+    {
+        self.desk.owns(slot)
     }
 
     /// What the desk has published of a cell below 51.

@@ -47,7 +47,10 @@ impl Holding {
         let part = self.part.slice(at, side)?;
         let counts = part.recount();
         self.pending.subtract(&counts);
-        let given = Piece { part, counts };
+        let given = Piece {
+            part,
+            pending: counts,
+        };
         *piece = given;
         Ok(piece)
     }
@@ -72,18 +75,18 @@ impl Holding {
             });
         }
         // An empty piece takes no memory.
-        let Piece { part, counts } = mem::replace(&mut *piece, Piece::blank(self.alloc));
+        let Piece { part, pending } = mem::replace(&mut *piece, Piece::blank(self.alloc));
         if let Err(back) = self.part.meld(part) {
             *piece = Piece {
                 part: back.item,
-                counts,
+                pending,
             };
             return Err(Back {
                 why: back.why,
                 item: piece,
             });
         }
-        self.pending.add(&counts);
+        self.pending.add(&pending);
         Ok(())
     }
 }

@@ -10,12 +10,12 @@ use std::marker::Model;
 use tatp_actions::{Cells, Part};
 use tatp_rows::Subscriber;
 
-/// A loose part, which a holding gave away and none has taken, with the counts of its rows. None of them is posted, so the
-/// counts are what is pending.
+/// A loose part, which a holding gave away and none has taken, with what is pending of each cell: as nobody has posted
+/// anything of it, the counts of its rows.
 #[derive(Drop)]
 pub struct Piece {
     pub(crate) part: Part,
-    pub(crate) counts: Cells,
+    pub(crate) pending: Cells,
 }
 
 impl Model for Piece {
@@ -24,9 +24,9 @@ impl Model for Piece {
 
     ghost Value = { PieceState };
 
-    ghost view = { λ p. record { part = p.part; pending = map pos p.counts } };
+    ghost view = { λ p. record { part = p.part; pending = map pos p.pending } };
 
-    ghost invariant = { λ p. IsPiece (record { part = p.part; pending = map pos p.counts }) };
+    ghost invariant = { λ p. IsPiece (record { part = p.part; pending = map pos p.pending }) };
 }
 
 /// A count as a delta.
@@ -45,11 +45,11 @@ impl Piece {
         let Ok(part) = Part::new(alloc, 1, 2, 1) else {
             unreachable!()
         };
-        // A part tells by its width that it keeps the rules.
+        // Opens the part for the prover: it keeps its rules.
         let _width = part.width();
         Piece {
             part,
-            counts: Cells::zero(),
+            pending: Cells::zero(),
         }
     }
 
@@ -83,7 +83,7 @@ impl Piece {
         ensures value { result ≡ pending_at self.now.pending cell }
         ensures rules { IsPiece self.now }
     {
-        signed(self.counts.get(cell))
+        signed(self.pending.get(cell))
     }
 
     /// The count of each cell, taken by a walk over all rows.

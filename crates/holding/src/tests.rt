@@ -456,14 +456,22 @@ fn owners_work_in_threads(rt: HostRuntime) -> Result<(), Fail> {
     let (first, last, desk) = three_desks(&board, desk)?;
     let mut low = opened(&rt, rt.alloc(), 1, 65, desk);
     let high = opened(&rt, rt.alloc(), 65, 129, first);
+    let slots = [
+        low.owns(0),
+        low.owns(1),
+        low.owns(15),
+        high.owns(0),
+        high.owns(16),
+    ];
     let begun = (add(&mut low, 8), low.post(&board, 51));
     let (are_done, posted, homes, sights, are_right) = piece_goes_over(
         &rt, &board, low, high, last,
     );
     assert_eq!(rt;
-        (begun, are_done, posted, homes),
+        (begun, slots, are_done, posted, homes),
         (
             (Some(RowReply::Done), Ok(2)),
+            [false, true, false, true, false],
             [true; 2],
             [Ok(2), Ok(0), Ok(3), Ok(2)],
             [

@@ -64,7 +64,7 @@ pub both_fit : (words : List ℕ) (v other : View) → Fits words v → Fits wor
 both_fit words v other fits others apart = record {
   own = own;
   seen = seen;
-  single = apart_by_slots v.owned other.owned apart;
+  was_apart = apart_by_slots v.owned other.owned apart;
 }
   where
     own : (w : ℕ) → OwnsWord (both v other) w → get_or (both v other).numbers w 0 ≡ get_or words w 0
@@ -105,7 +105,7 @@ joins id at v other s rule there else_where here = record {
     apart slot mine theirs = else_where (sym (rule.apart id at v other slot there was mine theirs))
 
     spent : Fits s.words nobody
-    spent = record { own = λ w own. absurd (false≢true own); seen = λ w. omega arith; single = refl }
+    spent = record { own = λ w own. absurd (false≢true own); seen = λ w. omega arith; was_apart = refl }
 
     first_fit : (by : ℕ) (u : View) → by ≢ at → get_elem? first by ≡ some u → Fits s.words u
     first_fit by u differs found = fit_after s.words s.views id (both v other) (both_fit s.words v other (rule.fits id v there) (rule.fits at other was) apart) (λ b w differs found. rule.fits b w found) by u found
@@ -140,9 +140,9 @@ joins id at v other s rule there else_where here = record {
     ]
 
 -- what a look right after tells of the two
-told_of_both : (v other : View) → IsWide v → IsWide other → ((w : ℕ) → OwnsWord (both v other) w → get_or (both v other).seen w 0 ≤ get_or (both v other).numbers w 0) → (both v other).single ≡ true → AreApart v other
-told_of_both v other wide other_wide within single = record {
-  slots = λ slot. apart_at v.owned other.owned slot single;
+told_of_both : (v other : View) → IsWide v → IsWide other → ((w : ℕ) → OwnsWord (both v other) w → get_or (both v other).seen w 0 ≤ get_or (both v other).numbers w 0) → (both v other).was_apart ≡ true → AreApart v other
+told_of_both v other wide other_wide within was_apart = record {
+  slots = λ slot. apart_at v.owned other.owned slot was_apart;
   theirs = λ w theirs.
       let below : w < WORDS = let inside = set_within other.owned (w / SLOT_WORDS) theirs in omega (arith, other_wide.slots) in
       let most = within w (owned_by_both v other (w / SLOT_WORDS) (omega arith) (inr theirs)) in
@@ -152,20 +152,20 @@ told_of_both v other wide other_wide within single = record {
   ours = λ w ours.
       let below : w < WORDS = let inside = set_within v.owned (w / SLOT_WORDS) ours in omega (arith, wide.slots) in
       let most = within w (owned_by_both v other (w / SLOT_WORDS) (omega arith) (inl ours)) in
-      let free = not_theirs v other (w / SLOT_WORDS) (apart_at v.owned other.owned (w / SLOT_WORDS) single) ours in
+      let free = not_theirs v other (w / SLOT_WORDS) (apart_at v.owned other.owned (w / SLOT_WORDS) was_apart) ours in
       let number = number_ours v other w below free in
       let seen = seen_both v other w below in
       omega arith;
 }
 
-pub told : (v other joined : View) → IsWide v → IsWide other → joined ≡ both v other → ((w : ℕ) → OwnsWord joined w → get_or joined.seen w 0 ≤ get_or joined.numbers w 0) → joined.single ≡ true → AreApart v other
-told v other joined wide other_wide is within single =
-    told_of_both v other wide other_wide (subst (λ (j : View). (w : ℕ) → OwnsWord j w → get_or j.seen w 0 ≤ get_or j.numbers w 0) is within) (subst (λ (j : View). j.single ≡ true) is single)
+pub told : (v other joined : View) → IsWide v → IsWide other → joined ≡ both v other → ((w : ℕ) → OwnsWord joined w → get_or joined.seen w 0 ≤ get_or joined.numbers w 0) → joined.was_apart ≡ true → AreApart v other
+told v other joined wide other_wide is within was_apart =
+    told_of_both v other wide other_wide (subst (λ (j : View). (w : ℕ) → OwnsWord j w → get_or j.seen w 0 ≤ get_or j.numbers w 0) is within) (subst (λ (j : View). j.was_apart ≡ true) is was_apart)
 
 -- a desk that took in another one stores what it now knows
 pub joined_agrees : (me other after : Me (Unit {0}) View) (flags other_flags slots : List Bool) (stored other_stored numbers : List ℕ) → Agrees me flags stored → Agrees other other_flags other_stored
-    → after ≡ (both me.0 other.0, me.1) → after.0.single ≡ true → slots ≡ slots_of_both flags other_flags → numbers ≡ numbers_of_both stored other_stored other_flags → Agrees after slots numbers
-joined_agrees me other after flags other_flags slots stored other_stored numbers agrees others is single slots_are numbers_are = record {
+    → after ≡ (both me.0 other.0, me.1) → after.0.was_apart ≡ true → slots ≡ slots_of_both flags other_flags → numbers ≡ numbers_of_both stored other_stored other_flags → Agrees after slots numbers
+joined_agrees me other after flags other_flags slots stored other_stored numbers agrees others is was_apart slots_are numbers_are = record {
   owned = ap (λ (m : Me (Unit {0}) View). m.0.owned) is ∙ rw (slots_are, agrees.owned, others.owned) refl;
   numbers = ap (λ (m : Me (Unit {0}) View). m.0.numbers) is ∙ rw (numbers_are, agrees.numbers, others.numbers, others.owned) refl;
   hand = ap (λ (m : Me (Unit {0}) View). m.1) is ∙ agrees.hand;
@@ -174,5 +174,5 @@ joined_agrees me other after flags other_flags slots stored other_stored numbers
     numbers = length-each_word (λ w. if owned_at other.0 (w / SLOT_WORDS) then get_or other.0.numbers w 0 else get_or me.0.numbers w 0);
     seen = length-each_word (λ w. max (get_or me.0.seen w 0) (get_or other.0.seen w 0));
   });
-  single = single;
+  was_apart = was_apart;
 }

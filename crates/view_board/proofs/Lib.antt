@@ -5,6 +5,7 @@ pub mod JoinLemmas
 pub mod ListLemmas
 pub mod LookLemmas
 pub mod NetLemmas
+pub mod PostedLemmas
 pub mod RuleLemmas
 pub mod SplitLemmas
 pub mod StepLemmas

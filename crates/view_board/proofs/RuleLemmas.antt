@@ -67,5 +67,5 @@ stepped_rule s i n id old new rule there grown small whose fits fewer = record {
     others by v other at = record {
       own = own_after by v other at;
       seen = λ w. seen_after w (get_or v.seen w 0) ((rule.fits by v at).seen w);
-      single = (rule.fits by v at).single;
+      was_apart = (rule.fits by v at).was_apart;
     }

@@ -70,14 +70,14 @@ splits id slot v own s rule there = record {
     kept = record {
       own = λ w mine. (rule.fits id v there).own w (was_owned v slot _ mine);
       seen = (rule.fits id v there).seen;
-      single = (rule.fits id v there).single;
+      was_apart = (rule.fits id v there).was_apart;
     }
 
     handed : Fits s.words (alone v slot)
     handed = record {
       own = λ w mine. (rule.fits id v there).own w (subst (Owns v) (sym (only_slot v slot _ mine)) own);
       seen = (rule.fits id v there).seen;
-      single = (rule.fits id v there).single;
+      was_apart = (rule.fits id v there).was_apart;
     }
 
     free : (by : ℕ) (u : View) (s' : ℕ) → get_elem? views by ≡ some u → Owns u s' → Owns (alone v slot) s' → ⊥

@@ -7,7 +7,7 @@ use Rattle.atomic_table.specs.Table.{Me, Allows, step, keeps}
 use Rattle.view_board.specs.declared.rule.View.{View}
 use Rattle.view_board.specs.declared.words.TheConstants.{WORDS, LIMIT}
 use Rattle.view_board.specs.Views.{OwnsWord, raised, saw}
-use Rattle.view_board.specs.Rule.{Fits, IsRuled, Raised, Looked, Checked}
+use Rattle.view_board.specs.Rule.{Fits, IsRuled, IsRaiseStep, IsLookStep, IsCheckStep}
 use Rattle.view_board.specs.Desks.{Agrees}
 use Rattle.view_board.proofs.ListLemmas.{after_set}
 use Rattle.view_board.proofs.RuleLemmas.{stepped_rule}
@@ -17,7 +17,7 @@ raised_fits : (words : List ℕ) (v : View) (i k : ℕ) → Fits words v → i <
 raised_fits words v i k fits within wide own = record {
   own = own_after;
   seen = λ w. after_set (λ word. get_or v.seen w 0 ≤ word) words i (get_or words i 0 + k) w (λ same. let was : get_or v.seen w 0 ≤ get_or words i 0 = subst (λ (j : ℕ). get_or v.seen w 0 ≤ get_or words j 0) same (fits.seen w) in omega arith) (fits.seen w);
-  single = fits.single;
+  was_apart = fits.was_apart;
 }
   where
     own_after : (w : ℕ) → OwnsWord v w → get_or (set v.numbers i (get_or v.numbers i 0 + k)) w 0 ≡ get_or (set words i (get_or words i 0 + k)) w 0
@@ -28,7 +28,7 @@ raised_fits words v i k fits within wide own = record {
 
 -- an own word is raised
 pub raises : (slots id i k : ℕ) (me : Me (Unit {0}) View) (flags : List Bool) (stored : List ℕ) → Agrees me flags stored → OwnsWord me.0 i → i < WORDS → get_or me.0.numbers i 0 + k ≤ LIMIT
-    → Allows IsRuled slots id me i (λ n. (n + k) % 2 ^ 64) (Raised (step slots i k 0 none) me)
+    → Allows IsRuled slots id me i (λ n. (n + k) % 2 ^ 64) (IsRaiseStep (step slots i k 0 none) me)
 raises slots id i k me flags stored agrees own within fits_word s rule homes there word =
     let fits = rule.fits id me.0 there in
     let is : get_or me.0.numbers i 0 ≡ get_or s.words i 0 = fits.own i own in
@@ -37,14 +37,14 @@ raises slots id i k me flags stored agrees own within fits_word s rule homes the
     (raised me.0 i k, keeps, tt, rw sum (stepped_rule s i (get_or s.words i 0 + k) id me.0 (raised me.0 i k) rule there (omega arith) (omega arith) (inr own) fits' (λ slot mine. mine)), record { view = refl; hand = refl })
 
 -- any word is looked at
-pub looks : (slots id i : ℕ) (me : Me (Unit {0}) View) → Allows IsRuled slots id me i (λ n. n) (Looked (step slots i 0 0 none) me)
+pub looks : (slots id i : ℕ) (me : Me (Unit {0}) View) → Allows IsRuled slots id me i (λ n. n) (IsLookStep (step slots i 0 0 none) me)
 looks slots id i me s rule homes there word =
     let fits = rule.fits id me.0 there in
     let n : ℕ = get_or s.words i 0 in
     let fits' : Fits (set s.words i n) (saw me.0 i n) = rw (set-get_or s.words i 0) (record {
       own = fits.own;
       seen = λ w. after_set (λ seen. seen ≤ get_or s.words w 0) me.0.seen i n w (λ same. rw same (omega arith)) (fits.seen w);
-      single = fits.single;
+      was_apart = fits.was_apart;
     }) in (
       saw me.0 i n,
       keeps,
@@ -60,7 +60,7 @@ looks slots id i me s rule homes there word =
     )
 
 -- the desk is told what the rule says of it
-pub checks : (slots id i : ℕ) (me : Me (Unit {0}) View) → Allows IsRuled slots id me i (λ n. n) (Checked (step slots i 0 0 none) me)
+pub checks : (slots id i : ℕ) (me : Me (Unit {0}) View) → Allows IsRuled slots id me i (λ n. n) (IsCheckStep (step slots i 0 0 none) me)
 checks slots id i me s rule homes there word =
     let fits = rule.fits id me.0 there in
     let n : ℕ = get_or s.words i 0 in
@@ -72,6 +72,6 @@ checks slots id i me s rule homes there word =
       record {
         same = refl;
         within = λ w own. let seen = fits.seen w in let is = fits.own w own in omega arith;
-        single = fits.single;
+        was_apart = fits.was_apart;
       },
     )

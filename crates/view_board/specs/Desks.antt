@@ -19,4 +19,4 @@ pub record Agrees (me : Me (Unit {0}) View) (flags : List Bool) (stored : List �
   pub numbers : me.0.numbers ≡ stored
   pub hand : me.1 ≡ []
   pub wide : IsWide me.0
-  pub single : me.0.single ≡ true
+  pub was_apart : me.0.was_apart ≡ true

@@ -3,3 +3,4 @@ pub mod Views
 pub mod Nets
 pub mod Rule
 pub mod Desks
+pub mod Inside

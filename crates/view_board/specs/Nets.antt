@@ -1,5 +1,5 @@
 -- The net of a desk in a cell: the sum of the nets of its slots.
-use Rattle.std.specs.Prelude.{◌≡◌, ◌==◌, ℕ, ◌+◌, ◌*◌, ◌^◌, ◌<◌, Bool, if◌then◌else◌, List, [], ◌∷◌, slice_index_or, ℤ, pos, neg_ℤ, ◌+ℤ◌, ◌≤ℤ◌}
+use Rattle.std.specs.Prelude.{◌≡◌, ◌==◌, ℕ, ◌+◌, ◌<◌, Bool, if◌then◌else◌, List, [], ◌∷◌, ℤ, pos, ◌+ℤ◌}
 use Rattle.view_board.specs.declared.rule.View.{View}
 use Rattle.view_board.specs.declared.words.TheConstants.{CELLS}
 use Rattle.view_board.specs.Words.{slot_net}
@@ -22,8 +22,3 @@ NetMoves before after cell amount =
 -- the net of a whole is the sum of the nets of two
 abbrev pub NetAdds : View → View → View → Type 0
 NetAdds whole v other = (c : ℕ) → c < CELLS → net_of whole c ≡ net_of v c +ℤ net_of other c
-
--- sums over so many slots fit: none is past 2^64 for each slot, either way
-pub record AreWithin (slots : ℕ) (sums : List ℤ) : Type 0 where
-  pub low : (c : ℕ) → c < CELLS → neg_ℤ (pos (slots * 2 ^ 64)) ≤ℤ slice_index_or sums c (pos 0)
-  pub high : (c : ℕ) → c < CELLS → slice_index_or sums c (pos 0) ≤ℤ pos (slots * 2 ^ 64)

@@ -12,7 +12,7 @@ use Rattle.view_board.specs.Views.{Owns, OwnsWord, raised, saw}
 pub record Fits (words : List ℕ) (v : View) : Type 0 where
   pub own : (w : ℕ) → OwnsWord v w → slice_index v.numbers w ≡ slice_index words w
   pub seen : (w : ℕ) → slice_index v.seen w ≤ slice_index words w
-  pub single : v.single ≡ true
+  pub was_apart : v.was_apart ≡ true
 
 -- no word passes the limit, each desk fits the words, and a slot is of one desk at most
 pub record IsRuled (s : State (Unit {0}) View) : Type 0 where
@@ -22,12 +22,12 @@ pub record IsRuled (s : State (Unit {0}) View) : Type 0 where
   pub apart : (a b : ℕ) (u v : View) (slot : ℕ) → get_elem? s.views a ≡ some u → get_elem? s.views b ≡ some v → Owns u slot → Owns v slot → a ≡ b
 
 -- an own word was raised
-pub record Raised (step : Step (Unit {0})) (before : Me (Unit {0}) View) (found : ℕ) (after : Me (Unit {0}) View) : Type 0 where
+pub record IsRaiseStep (step : Step (Unit {0})) (before : Me (Unit {0}) View) (found : ℕ) (after : Me (Unit {0}) View) : Type 0 where
   pub view : after.0 ≡ raised before.0 step.word step.first
   pub hand : after.1 ≡ before.1
 
 -- a word was looked at: it is the desk's number where it is its own, at least what was seen of it, and not past the limit
-pub record Looked (step : Step (Unit {0})) (before : Me (Unit {0}) View) (found : ℕ) (after : Me (Unit {0}) View) : Type 0 where
+pub record IsLookStep (step : Step (Unit {0})) (before : Me (Unit {0}) View) (found : ℕ) (after : Me (Unit {0}) View) : Type 0 where
   pub view : after.0 ≡ saw before.0 step.word found
   pub hand : after.1 ≡ before.1
   pub own : OwnsWord before.0 step.word → found ≡ slice_index before.0.numbers step.word
@@ -35,7 +35,7 @@ pub record Looked (step : Step (Unit {0})) (before : Me (Unit {0}) View) (found 
   pub small : found ≤ LIMIT
 
 -- the desk is left as it is, and told what the rule says of it
-pub record Checked (step : Step (Unit {0})) (before : Me (Unit {0}) View) (found : ℕ) (after : Me (Unit {0}) View) : Type 0 where
+pub record IsCheckStep (step : Step (Unit {0})) (before : Me (Unit {0}) View) (found : ℕ) (after : Me (Unit {0}) View) : Type 0 where
   pub same : after ≡ before
   pub within : (w : ℕ) → OwnsWord before.0 w → slice_index before.0.seen w ≤ slice_index before.0.numbers w
-  pub single : before.0.single ≡ true
+  pub was_apart : before.0.was_apart ≡ true

@@ -1,8 +1,9 @@
--- What a desk knows of the board: which slots are its own, the numbers of their words, and what it has seen of each word.
+-- What a desk knows of the board: which slots are its own, the numbers of their words, what it has seen of each word, and
+-- how often it raised one.
 use Rattle.std.specs.Prelude.{◌≡◌, ℕ, ◌+◌, ◌/◌, ◌<◌, ◌≤◌, max, Bool, true, false, ◌&&◌, ◌||◌, not, if◌then◌else◌, List, [], ◌∷◌, length, replicate, slice_index, slice_index_or, slice_set, ℤ}
 use Rattle.view_board.specs.declared.rule.View.{View}
 use Rattle.view_board.specs.declared.words.TheConstants.{SLOTS, SLOT_WORDS, WORDS, LIMIT}
-use Rattle.view_board.specs.Words.{raised_by, each_word, each_slot}
+use Rattle.view_board.specs.Words.{raised_by, raises_of, each_word, each_slot}
 
 -- whether the slot is the desk's
 abbrev pub owned_at : View → ℕ → Bool
@@ -25,17 +26,18 @@ pub record IsWide (v : View) : Type 0 where
   pub numbers : length v.numbers ≡ WORDS
   pub seen : length v.seen ≡ WORDS
 
--- the desk that a board opens with owns all slots, and has seen all words
+-- the desk that a board opens with owns all slots, has seen all words, and has raised none
 abbrev pub first_view : List ℕ → View
-first_view words = record { owned = replicate SLOTS true; numbers = words; seen = words; single = true }
+first_view words = record { owned = replicate SLOTS true; numbers = words; seen = words; raises = 0; was_apart = true }
 
--- a word of the desk's own is raised
+-- a word of the desk's own is raised, which is one step
 abbrev pub raised : View → ℕ → ℕ → View
-raised v w size = record v { numbers = slice_set v.numbers w (slice_index v.numbers w + size) }
+raised v w size = record v { numbers = slice_set v.numbers w (slice_index v.numbers w + size); raises = v.raises + 1 }
 
--- an amount is posted in a slot and cell
+-- an amount is posted in a slot and cell, in one step; 0 is posted in none
 abbrev pub posted : View → ℕ → ℕ → ℤ → View
-posted v slot cell amount = record v { numbers = raised_by v.numbers slot cell amount }
+posted v slot cell amount =
+    record v { numbers = raised_by v.numbers slot cell amount; raises = v.raises + raises_of amount }
 
 -- a word was looked at
 abbrev pub saw : View → ℕ → ℕ → View
@@ -56,9 +58,9 @@ pub record IsRightSight (v : View) (words : List ℕ) : Type 0 where
 abbrev pub without : View → ℕ → View
 without v slot = record v { owned = slice_set v.owned slot false }
 
--- a slot with its numbers is handed on, and all that was seen
+-- a slot with its numbers is handed on, and all that was seen, to a desk that has raised no word yet
 abbrev pub alone : View → ℕ → View
-alone v slot = record v { owned = slice_set (replicate SLOTS false) slot true }
+alone v slot = record v { owned = slice_set (replicate SLOTS false) slot true; raises = 0 }
 
 -- no slot is in both
 unfoldable pub are_apart : List Bool → List Bool → Bool
@@ -85,12 +87,13 @@ both v other = record {
   owned = slots_of_both v.owned other.owned;
   numbers = numbers_of_both v.numbers other.numbers other.owned;
   seen = seen_of_both v.seen other.seen;
-  single = are_apart v.owned other.owned;
+  raises = v.raises + other.raises;
+  was_apart = are_apart v.owned other.owned;
 }
 
 -- what is left of a desk that was taken in
 abbrev pub nobody : View
-nobody = record { owned = []; numbers = []; seen = []; single = true }
+nobody = record { owned = []; numbers = []; seen = []; raises = 0; was_apart = true }
 
 -- two desks of one board: no slot is both's, and what one has seen of the other's words is at most the other's numbers
 pub record AreApart (v other : View) : Type 0 where

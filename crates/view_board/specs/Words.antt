@@ -1,5 +1,5 @@
 -- The words of the board: 16 slots, each with a plus-word and a minus-word for each cell.
-use Rattle.std.specs.Prelude.{ℕ, ◌+◌, ◌*◌, ◌<◌, ◌≤◌, nat_lt, List, map, Bool, slice_index, slice_set, ℤ, pos, negsuc, ◌-ℤ◌}
+use Rattle.std.specs.Prelude.{ℕ, zero, suc, ◌+◌, ◌*◌, ◌<◌, ◌≤◌, nat_lt, List, map, Bool, slice_index, slice_set, ℤ, pos, negsuc, ◌-ℤ◌}
 use Rattle.std.specs.Int.RustNames.{unsigned_abs}
 use Rattle.std.specs.List.{range_with_len}
 use Rattle.view_board.specs.declared.words.TheConstants.{SLOTS, CELLS, SLOT_WORDS, WORDS, LIMIT}
@@ -20,6 +20,12 @@ word_of slot cell (negsuc n) = minus_word slot cell
 abbrev pub raised_by : List ℕ → ℕ → ℕ → ℤ → List ℕ
 raised_by words slot cell amount =
     slice_set words (word_of slot cell amount) (slice_index words (word_of slot cell amount) + unsigned_abs amount)
+
+-- in how many steps an amount raises its word: in one, and an amount of 0 in none
+abbrev pub raises_of : ℤ → ℕ
+raises_of (pos zero) = 0
+raises_of (pos (suc n)) = 1
+raises_of (negsuc n) = 1
 
 -- an amount would carry its word past the limit
 abbrev pub is_worn : List ℕ → ℕ → ℕ → ℤ → Bool

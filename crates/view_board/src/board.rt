@@ -6,7 +6,7 @@ ghost use Rattle.view_board.specs.Nets.{NetMoves, NetAdds};
 ghost use Rattle.view_board.specs.Desks.{with_view};
 
 use crate::desk::{Desk, take_numbers, take_slots};
-use crate::rule::{Checks, Cut, Looks, OwnWords, Place, Raises, Together, View};
+use crate::rule::{Checks, Cut, Looks, OwnWords, Raises, SlotChoice, Together, View};
 use crate::words::{CELLS, LIMIT, SLOTS, Sight, WORDS, word_of};
 use atomic_table::Table;
 use std::alloc::Global;
@@ -59,8 +59,8 @@ impl Board {
     }
 
     /// Raises the plus-word of an own slot and a cell below 51 by a positive amount, or its minus-word by the size of a
-    /// negative one; an amount of 0 raises nothing. `Worn` exactly where the word would pass `LIMIT`, as by the least `i64`
-    /// always: then nothing is changed.
+    /// negative one, in one step, so that no look sees a part of the amount; an amount of 0 raises nothing, in no step.
+    /// `Worn` exactly where the word would pass `LIMIT`, as by the least `i64` always: then nothing is changed.
     pub fn add(&self, desk: &mut Desk, slot: u8, cell: u8, amount: i64) -> Result<(), Refusal>
         requires board { desk.old.board ≡ self.now }
         requires own { Owns desk.old.view slot }
@@ -70,12 +70,15 @@ impl Board {
         ensures err { OnErr result ((desk.new ≡ desk.old) × (result ≡ Err Refusal.Worn)) }
         ensures worn { IsErr result ↔ IsTrue (is_worn desk.old.view.numbers slot cell amount) }
     {
-        // This opens the desk, so that its rules are known as the step begins.
+        // Opens the desk for the prover: its rules are known as the step begins.
         let _ = &desk.owned;
         let word = word_of(slot, cell, amount);
         let size = amount.unsigned_abs();
         match desk.numbers[word].checked_add(size) {
             Some(sum) if sum <= LIMIT => {
+                if amount == 0 {
+                    return Ok(());
+                }
                 self.table
                     .shared
                     .fetch_add::<Raises>(&mut desk.seat, word, size);
@@ -113,8 +116,8 @@ impl Board {
     }
 
     /// Splits off the slot that `B` names.
-    fn cut<B: Place>(&self, desk: &mut Desk, slot: u8) -> Result<Desk, Refusal>
-        requires place { B.slot ≡ slot }
+    fn cut<B: SlotChoice>(&self, desk: &mut Desk, slot: u8) -> Result<Desk, Refusal>
+        requires choice { B.slot ≡ slot }
         requires board { desk.old.board ≡ self.now }
         requires own { Owns desk.old.view slot }
         ensures ok { IfOk result (λ new. (new ≡ with_view desk.old (alone desk.old.view slot)) × (desk.new ≡ with_view desk.old (without desk.old.view slot))) }
@@ -159,7 +162,7 @@ impl Board {
     }
 
     /// Ends the board, by the desk that owns all slots, and answers its words: the desk's numbers, and at least all that it has
-    /// seen.
+    /// seen. A register keeps its board to the end, so this is for who uses a board by itself, as the tests do.
     pub fn close(self, desk: Desk) -> [u64; WORDS]
         requires board { desk.board ≡ self }
         requires all { OwnsAll desk.view }

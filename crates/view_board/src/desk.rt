@@ -2,7 +2,8 @@
 ghost use Rattle.std.specs.Prelude.{◌≡◌, ℕ, ◌+◌, ◌<◌, ◌≤◌, ◌↔◌, ◌^◌, List, Bool, true, false, IsTrue, if◌then◌else◌, ℤ, pos, neg_ℤ, ◌+ℤ◌, ◌≤ℤ◌, slice_index_or};
 ghost use Rattle.view_board.specs.Views.{owned_at, Owns, IsWide, slots_of_both, numbers_of_both};
 ghost use Rattle.view_board.specs.Words.{slot_net};
-ghost use Rattle.view_board.specs.Nets.{net_of, net_from, AreWithin};
+ghost use Rattle.view_board.specs.Nets.{net_of, net_from};
+ghost use Rattle.view_board.specs.Inside.{AreWithin};
 
 use crate::rule::View;
 use crate::words::{CELLS, SLOT_WORDS, SLOTS, WORDS};
@@ -52,7 +53,7 @@ impl Desk {
         ensures wide { IsWide self.now.view }
         ensures value { (c : ℕ) → c < CELLS → slice_index_or result c (pos 0) ≡ net_of self.now.view c }
     {
-        // This opens the desk, so that its rules are known as the walk begins.
+        // Opens the desk for the prover: its rules are known as the walk begins.
         let _ = &self.owned;
         let mut nets = [0; CELLS as usize];
         for slot in 0..SLOTS {

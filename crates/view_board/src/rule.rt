@@ -1,19 +1,21 @@
 //! What a desk knows, the rule that the words and all desks keep, and the steps.
 ghost use Rattle.std.specs.Prelude.{ℕ};
 ghost use Rattle.view_board.specs.Views.{alone, without, both, nobody};
-ghost use Rattle.view_board.specs.Rule.{Raised, Looked, Checked};
+ghost use Rattle.view_board.specs.Rule.{IsRaiseStep, IsLookStep, IsCheckStep};
 
 use crate::words::WORDS;
 use atomic_table::{Join, Play, Split, TableRule};
 use std::marker::{Brand, PhantomData};
 
-/// What a desk knows: for each slot whether it is its own, for each word its number and what was seen of it, and
-/// that no slot came to it twice. It stands in proofs alone, where its arrays are lists of any length.
+/// What a desk knows: for each slot whether it is its own, for each word its number and what was seen of it, in how many
+/// steps it raised words, and that no slot came to it twice. It stands in proofs alone, where its arrays are lists of
+/// any length and its number of steps has no end.
 pub struct View {
     pub owned: [bool; 0],
     pub numbers: [u64; 0],
     pub seen: [u64; 0],
-    pub single: bool,
+    pub raises: u64,
+    pub was_apart: bool,
 }
 
 /// Each word of an owned slot is its owner's number.
@@ -32,36 +34,36 @@ impl TableRule<(), View, [u64; WORDS]> for OwnWords {
 pub(crate) struct Raises;
 
 impl Play<(), View> for Raises {
-    ghost then = { Raised };
+    ghost then = { IsRaiseStep };
 }
 
 /// Any word is looked at.
 pub(crate) struct Looks;
 
 impl Play<(), View> for Looks {
-    ghost then = { Looked };
+    ghost then = { IsLookStep };
 }
 
 /// A look that leaves what was seen, and tells what the rule says of the desk.
 pub(crate) struct Checks;
 
 impl Play<(), View> for Checks {
-    ghost then = { Checked };
+    ghost then = { IsCheckStep };
 }
 
 /// Which slot is split off. A call picks it.
-pub(crate) trait Place {
+pub(crate) trait SlotChoice {
     ghost slot: { ℕ };
 }
 
-impl Place for Brand {
+impl SlotChoice for Brand {
     ghost slot = { 0 };
 }
 
 /// One slot is split off.
-pub(crate) struct Cut<B: Place>(PhantomData<B>);
+pub(crate) struct Cut<B: SlotChoice>(PhantomData<B>);
 
-impl<B: Place> Split<View> for Cut<B> {
+impl<B: SlotChoice> Split<View> for Cut<B> {
     ghost left = { λ v. without v B.slot };
 
     ghost right = { λ v. alone v B.slot };

@@ -21,6 +21,17 @@ pub const WORDS: usize = SLOTS as usize * SLOT_WORDS;
 /// The greatest value of a word.
 pub const LIMIT: u64 = 9_223_372_036_854_775_807;
 
+// The numbers that the definitions mean: 16 slots of 51 cells, two words for each, and 2^63 - 1 as the greatest value.
+const _: () = prove!(SLOTS == 16);
+
+const _: () = prove!(CELLS == 51);
+
+const _: () = prove!(SLOT_WORDS == 102);
+
+const _: () = prove!(WORDS == 1_632);
+
+const _: () = prove!(LIMIT == (1 << 63) - 1);
+
 /// The words as a look found them, one after another. The plus-word of slot s and cell c is word `s * SLOT_WORDS + c`, and its
 /// minus-word comes `CELLS` behind; what is published of a cell is the sum of its plus-words less that of its minus-words.
 #[derive(Clone, Copy, Debug, PartialEq, Eq)]

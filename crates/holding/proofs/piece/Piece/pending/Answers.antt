@@ -9,11 +9,11 @@ pub signed-requires : goal.signed-requires
 signed-requires c =
     let law = c.self.invariant.law c.args.cell c.requires in
     let most = few c.self.inside.part c.self.invariant.rules c.args.cell in
-    let count = counts_pending c.self.inside.counts c.args.cell in
+    let count = counts_pending c.self.inside.pending c.args.cell in
     let got = c.get.ensures in
     omega (arith, ints)
 
 pub returns-clause-value : goal.returns-clause-value
 returns-clause-value c =
     let fits : FitsSigned w64 c.signed.result = search rules in
-    rw (← c.self.view_is) (to_z-of_z w64 c.signed.result fits ∙ c.signed.ensures ∙ ap pos c.get.ensures ∙ sym (counts_pending c.self.inside.counts c.args.cell))
+    rw (← c.self.view_is) (to_z-of_z w64 c.signed.result fits ∙ c.signed.ensures ∙ ap pos c.get.ensures ∙ sym (counts_pending c.self.inside.pending c.args.cell))

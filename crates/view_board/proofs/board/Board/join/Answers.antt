@@ -25,14 +25,14 @@ invariant_of-desk c =
     let checked = c.load.ensures.2 in
     let numbers : c.take_numbers.new.numbers ≡ numbers_of_both c.desk.inside.numbers.value c.other.inside.numbers.value c.other.inside.owned = c.take_numbers.ensures ∙ rw (c.deref_mut.ensures.value, c.deref.ensures) refl in
     joined_agrees c.desk.inside.seat.me c.other.inside.seat.me c.load.new.seat.me c.desk.inside.owned c.other.inside.owned c.take_slots.new.owned c.desk.inside.numbers.value c.other.inside.numbers.value c.take_numbers.new.numbers c.desk.invariant c.other.invariant
-    (checked.same ∙ c.join_seat.ensures.2) (rw checked.same checked.single) c.take_slots.ensures numbers
+    (checked.same ∙ c.join_seat.ensures.2) (rw checked.same checked.was_apart) c.take_slots.ensures numbers
 
 -- the two desks were apart, as the look right after tells
 apart : (c : goal.After-drop-numbers) → AreApart c.desk.inside.seat.me.0 c.other.inside.seat.me.0
 apart c =
     let checked = c.load.ensures.2 in
     let joined = ap (λ (m : Me (Unit {0}) View). m.0) c.join_seat.ensures.2 in
-    told c.desk.inside.seat.me.0 c.other.inside.seat.me.0 c.join_seat.new.seat.me.0 c.desk.invariant.wide c.other.invariant.wide joined checked.within checked.single
+    told c.desk.inside.seat.me.0 c.other.inside.seat.me.0 c.join_seat.new.seat.me.0 c.desk.invariant.wide c.other.invariant.wide joined checked.within checked.was_apart
 
 pub returns-clause-told : goal.returns-clause-told
 returns-clause-told c =

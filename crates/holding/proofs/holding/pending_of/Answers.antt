@@ -5,7 +5,7 @@ use Rattle.std.proofs.lemmas.Int.{ints, to_z-of_z}
 use Rattle.std.proofs.lemmas.List.{length-set}
 use Rattle.view_board.specs.Nets.{net_of}
 use Rattle.holding.proofs.HeldLemmas.{one_told}
-use Rattle.holding.proofs.holding.unposted.Goals as goal
+use Rattle.holding.proofs.holding.pending_of.Goals as goal
 
 pub loop-cell-preserved : goal.loop-cell-preserved
 loop-cell-preserved c =

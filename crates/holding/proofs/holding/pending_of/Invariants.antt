@@ -2,7 +2,7 @@ use Rattle.std.proofs.Common.{◌≡◌, ℕ, ◌<◌, length}
 use Rattle.std.specs.Prelude.{pos, ◌-ℤ◌, slice_index, slice_index_or}
 use Rattle.tatp_actions.specs.declared.cells.TheConstants.{CELLS}
 use Rattle.view_board.specs.Nets.{net_of}
-use Rattle.holding.proofs.holding.unposted.Given as goal
+use Rattle.holding.proofs.holding.pending_of.Given as goal
 
 abbrev pub invariant-loop-cell : goal.invariant-loop-cell
 invariant-loop-cell l = record {
