@@ -19,8 +19,8 @@ use Rattle.holding.specs.Held.{HoldingState, PieceState, IsHolding, IsPiece}
 use Rattle.holding.specs.Moved.{IsGiven, IsTaken}
 use Rattle.hlr_core.specs.Desks.{desk_of, AreDesks}
 use Rattle.hlr_core.specs.Held.{of_holding, of_piece, AreHeld}
-use Rattle.hlr_core.specs.Owners.{seen, store_of}
-use Rattle.hlr_core.proofs.BoxLemmas.{seen_at, seen-set, seen_same, seen-insert, seen-remove}
+use Rattle.hlr_core.specs.Owners.{map_boxed, store_of}
+use Rattle.hlr_core.proofs.BoxLemmas.{map_boxed_at, map_boxed-set, map_boxed_same, map_boxed-insert, map_boxed-remove}
 use Rattle.hlr_core.proofs.StoreMoveLemmas.{put_back, given_held, given_store, taken_held, taken_store}
 
 -- what was taken out and is put in again
@@ -28,7 +28,7 @@ pub put_again : {X : Type 0} (xs removed again : List X) (k : ℕ) (x y : X) →
 put_again xs removed again k x y within is out same put = put ∙ rw (out, same) (put_back xs k x within is)
 
 module _ (regions : List Region) (boxes : List (Box HoldingState Global)) (loose : List (Box PieceState Global)) (spare : Station) (width : ℕ) (are : AreRegions regions)
-    (held : AreHeld regions (seen of_holding boxes) (seen of_piece loose) width) where
+    (held : AreHeld regions (map_boxed of_holding boxes) (map_boxed of_piece loose) width) where
   -- a give that is not refused, of a part whose box was written, and whose piece's box was put in
   module _ (p : ℕ) (side : Side) (at : ℕ) (told : ℕ × ℕ × ℕ) (answers : give_answer p side at regions ≡ Ok told) (b : Box HoldingState Global) (holding : HoldingState) (is : b ≡ get_or boxes p b) (has : holding ≡ b.value)
       (piece : Box PieceState Global) (after : HoldingState) (given : IsGiven side at holding piece.value after) (lawful : IsPiece piece.value) (kept : IsHolding after) (k : ℕ) (place : k ≡ pieces_before (is_part p) regions)
@@ -39,24 +39,24 @@ module _ (regions : List Region) (boxes : List (Box HoldingState Global)) (loose
     regions_cut = rw (said, answers) at moved
 
     -- the desks
-    desks_cut : seen desk_of (set boxes p (with_value b after)) ≡ seen desk_of boxes
-    desks_cut = seen_same desk_of boxes p b holding after is has given.desk
+    desks_cut : map_boxed desk_of (set boxes p (with_value b after)) ≡ map_boxed desk_of boxes
+    desks_cut = map_boxed_same desk_of boxes p b holding after is has given.desk
 
-    pub boxes_cut : (board : TableId) → AreDesks board spare (seen desk_of boxes)
-        → AreRegions regions' × AreHeld regions' (seen of_holding (set boxes p (with_value b after))) (seen of_piece items) width × AreDesks board spare (seen desk_of (set boxes p (with_value b after)))
+    pub boxes_cut : (board : TableId) → AreDesks board spare (map_boxed desk_of boxes)
+        → AreRegions regions' × AreHeld regions' (map_boxed of_holding (set boxes p (with_value b after))) (map_boxed of_piece items) width × AreDesks board spare (map_boxed desk_of (set boxes p (with_value b after)))
     boxes_cut board desks = (
       rw regions_cut (leaves_regions p side at regions told (give_from_answer p side at regions told answers) are),
-      rw (regions_cut, seen-set of_holding boxes p b after, put, seen-insert of_piece loose k piece, place)
-          (given_held regions (seen of_holding boxes) (seen of_piece loose) width are held p side at told answers holding (seen_at of_holding boxes p b holding is has) piece.value after given lawful kept),
+      rw (regions_cut, map_boxed-set of_holding boxes p b after, put, map_boxed-insert of_piece loose k piece, place)
+          (given_held regions (map_boxed of_holding boxes) (map_boxed of_piece loose) width are held p side at told answers holding (map_boxed_at of_holding boxes p b holding is has) piece.value after given lawful kept),
       rw desks_cut desks,
     )
 
     -- of the store they alone move
-    pub store_cut : store_of regions' (seen of_holding (set boxes p (with_value b after))) (seen of_piece items) spare (seen desk_of (set boxes p (with_value b after))) width
-        ≡ record (store_of regions (seen of_holding boxes) (seen of_piece loose) spare (seen desk_of boxes) width) { regions = after_give p side at result regions }
+    pub store_cut : store_of regions' (map_boxed of_holding (set boxes p (with_value b after))) (map_boxed of_piece items) spare (map_boxed desk_of (set boxes p (with_value b after))) width
+        ≡ record (store_of regions (map_boxed of_holding boxes) (map_boxed of_piece loose) spare (map_boxed desk_of boxes) width) { regions = after_give p side at result regions }
     store_cut =
-        rw (said, answers, regions_cut, seen-set of_holding boxes p b after, desks_cut, put, seen-insert of_piece loose k piece, place)
-        (given_store regions (seen of_holding boxes) (seen of_piece loose) width are held p side at told answers holding (seen_at of_holding boxes p b holding is has) piece.value after given lawful kept spare (seen desk_of boxes))
+        rw (said, answers, regions_cut, map_boxed-set of_holding boxes p b after, desks_cut, put, map_boxed-insert of_piece loose k piece, place)
+        (given_store regions (map_boxed of_holding boxes) (map_boxed of_piece loose) width are held p side at told answers holding (map_boxed_at of_holding boxes p b holding is has) piece.value after given lawful kept spare (map_boxed desk_of boxes))
 
   -- a take that is not refused, of a part whose box was written, and of a piece whose box was taken out
   module _ (n q : ℕ) (side : Side) (answers : take_answer n q regions ≡ Ok side) (b : Box HoldingState Global) (holding : HoldingState) (is : b ≡ get_or boxes q b) (has : holding ≡ b.value)
@@ -66,23 +66,23 @@ module _ (regions : List Region) (boxes : List (Box HoldingState Global)) (loose
     regions_joined : regions' ≡ joined n q regions
     regions_joined = rw (said, answers) at moved
 
-    desks_joined : seen desk_of (set boxes q (with_value b after)) ≡ seen desk_of boxes
-    desks_joined = seen_same desk_of boxes q b holding after is has taken.desk
+    desks_joined : map_boxed desk_of (set boxes q (with_value b after)) ≡ map_boxed desk_of boxes
+    desks_joined = map_boxed_same desk_of boxes q b holding after is has taken.desk
 
-    piece_at : of_piece piece.value ≡ get_or (seen of_piece loose) (pieces_before (is_piece n) regions) (of_piece piece.value)
-    piece_at = seen_at of_piece loose (pieces_before (is_piece n) regions) piece piece.value (rw place at stood) refl
+    piece_at : of_piece piece.value ≡ get_or (map_boxed of_piece loose) (pieces_before (is_piece n) regions) (of_piece piece.value)
+    piece_at = map_boxed_at of_piece loose (pieces_before (is_piece n) regions) piece piece.value (rw place at stood) refl
 
-    pub boxes_joined : (board : TableId) → AreDesks board spare (seen desk_of boxes)
-        → AreRegions regions' × AreHeld regions' (seen of_holding (set boxes q (with_value b after))) (seen of_piece items) width × AreDesks board spare (seen desk_of (set boxes q (with_value b after)))
+    pub boxes_joined : (board : TableId) → AreDesks board spare (map_boxed desk_of boxes)
+        → AreRegions regions' × AreHeld regions' (map_boxed of_holding (set boxes q (with_value b after))) (map_boxed of_piece items) width × AreDesks board spare (map_boxed desk_of (set boxes q (with_value b after)))
     boxes_joined board desks = (
       rw regions_joined (regions-joined n q regions are),
-      rw (regions_joined, seen-set of_holding boxes q b after, out, seen-remove of_piece loose k, place)
-          (taken_held regions (seen of_holding boxes) (seen of_piece loose) width are held n q side answers holding piece.value (seen_at of_holding boxes q b holding is has) piece_at after taken keeps),
+      rw (regions_joined, map_boxed-set of_holding boxes q b after, out, map_boxed-remove of_piece loose k, place)
+          (taken_held regions (map_boxed of_holding boxes) (map_boxed of_piece loose) width are held n q side answers holding piece.value (map_boxed_at of_holding boxes q b holding is has) piece_at after taken keeps),
       rw desks_joined desks,
     )
 
-    pub store_joined : store_of regions' (seen of_holding (set boxes q (with_value b after))) (seen of_piece items) spare (seen desk_of (set boxes q (with_value b after))) width
-        ≡ record (store_of regions (seen of_holding boxes) (seen of_piece loose) spare (seen desk_of boxes) width) { regions = after_take n q result regions }
+    pub store_joined : store_of regions' (map_boxed of_holding (set boxes q (with_value b after))) (map_boxed of_piece items) spare (map_boxed desk_of (set boxes q (with_value b after))) width
+        ≡ record (store_of regions (map_boxed of_holding boxes) (map_boxed of_piece loose) spare (map_boxed desk_of boxes) width) { regions = after_take n q result regions }
     store_joined =
-        rw (said, answers, regions_joined, seen-set of_holding boxes q b after, desks_joined, out, seen-remove of_piece loose k, place)
-        (taken_store regions (seen of_holding boxes) (seen of_piece loose) width are held n q side answers holding piece.value (seen_at of_holding boxes q b holding is has) piece_at after taken keeps spare (seen desk_of boxes))
+        rw (said, answers, regions_joined, map_boxed-set of_holding boxes q b after, desks_joined, out, map_boxed-remove of_piece loose k, place)
+        (taken_store regions (map_boxed of_holding boxes) (map_boxed of_piece loose) width are held n q side answers holding piece.value (map_boxed_at of_holding boxes q b holding is has) piece_at after taken keeps spare (map_boxed desk_of boxes))

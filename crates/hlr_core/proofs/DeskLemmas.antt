@@ -20,7 +20,7 @@ use Rattle.view_board.proofs.ListLemmas.{each_word_at, length-each_word}
 use Rattle.view_board.proofs.NetLemmas.{net_from-next, net_from-end, word_within}
 use Rattle.holding.specs.Held.{IsLeastSlot}
 use Rattle.hlr_core.specs.Desks.{own_number, owns_one, words_of, slots_in}
-use Rattle.hlr_core.specs.Post.{least}
+use Rattle.hlr_core.specs.Post.{least_slot}
 use Rattle.hlr_core.specs.Words.{net, all_slots}
 
 -- a word, read
@@ -128,13 +128,13 @@ nets_same desk words a (suc n) c all wide same =
     (λ e. let next' = rw e at next in rw e (omega (arith, ints)))
 
 -- the least of the slots from one on that pass a test
-least_behind : (test : ℕ → Bool) (a n : ℕ) → a + n ≤ SLOTS → a ≤ least (filter test (range_with_len a n))
+least_behind : (test : ℕ → Bool) (a n : ℕ) → a + n ≤ SLOTS → a ≤ least_slot (filter test (range_with_len a n))
 least_behind test a zero all = omega arith
 least_behind test a (suc n) all =
     let rest = least_behind test (a + 1) n (omega arith) in
     by_test (test a) (λ e. rw e (omega arith)) (λ e. rw e (omega arith))
 
-least_found : (test : ℕ → Bool) (a n slot : ℕ) → a + n ≤ SLOTS → a ≤ slot → slot < a + n → test slot ≡ true → ((other : ℕ) → other < slot → test other ≡ true → ⊥) → least (filter test (range_with_len a n)) ≡ slot
+least_found : (test : ℕ → Bool) (a n slot : ℕ) → a + n ≤ SLOTS → a ≤ slot → slot < a + n → test slot ≡ true → ((other : ℕ) → other < slot → test other ≡ true → ⊥) → least_slot (filter test (range_with_len a n)) ≡ slot
 least_found test a zero slot all from to is none = absurd (omega arith)
 least_found test a (suc n) slot all from to is none =
     by_test (test a)
@@ -223,6 +223,6 @@ module _ (desks : List Station) (p : ℕ) (desk : Station) (within : p < length 
   unfolding all_slots
   net_of_slots c below = nets_same desk (words_of desks) 0 SLOTS c refl wide (λ slot in_board own. own_slot_net slot c in_board below own)
 
-pub least_of_slots : (desk : Station) (slot : ℕ) → slot < SLOTS → IsLeastSlot desk.view slot → least (slots_in desk) ≡ slot
+pub least_of_slots : (desk : Station) (slot : ℕ) → slot < SLOTS → IsLeastSlot desk.view slot → least_slot (slots_in desk) ≡ slot
 unfolding all_slots
 least_of_slots desk slot in_board is = least_found (owned_at desk.view) 0 SLOTS slot (omega arith) (omega arith) in_board is.0 is.1

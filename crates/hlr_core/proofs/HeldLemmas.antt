@@ -1,6 +1,6 @@
 -- The rules of one owner: those of a holding and of a loose piece, and what follows from them.
-use Rattle.std.proofs.Common.{◌≡◌, ℕ, ◌<◌, refl, arith}
-use Rattle.std.specs.Prelude.{pos, neg_ℤ, ◌≤ℤ◌}
+use Rattle.std.proofs.Common.{◌≡◌, ℕ, ◌<◌, ◌^◌, refl, arith}
+use Rattle.std.specs.Prelude.{ℤ, pos, neg_ℤ, ◌≤ℤ◌}
 use Rattle.std.proofs.lemmas.Int.{ints}
 use Rattle.tatp_actions.specs.Book.{empty_book, IsRowsOf}
 use Rattle.tatp_actions.specs.declared.cells.TheConstants.{CELLS}
@@ -10,7 +10,8 @@ use Rattle.view_board.specs.Views.{nobody}
 use Rattle.view_delta.specs.Pending.{pending_at}
 use Rattle.holding.specs.Held.{HoldingState, PieceState, IsHolding, IsPiece}
 use Rattle.holding.proofs.HeldLemmas.{few}
-use Rattle.hlr_core.specs.Held.{Owner, of_holding, of_piece, IsLawful, IsOwner, IsOpened}
+use Rattle.hlr_core.specs.Held.{Owner, of_holding, of_piece, IsLawful, IsOwner}
+use Rattle.hlr_core.specs.Inside.{IsOpened}
 
 -- an empty book keeps the rules
 pub empty_rows : (lo hi : ℕ) → IsRowsOf lo hi empty_book
@@ -62,8 +63,15 @@ fresh_holding width region holding is = record {
   no_rows = is.no_rows;
 }
 
--- what is pending of an owner is small
-pub pending_fits : (owner : Owner) → IsLawful owner → (c : ℕ) → c < CELLS → (neg_ℤ (pos 2199023255552) ≤ℤ pending_at owner.pending c) × (pending_at owner.pending c ≤ℤ pos 2199023255552)
+-- a whole number is at most another one, either way
+abbrev pub IsAtMost : ℕ → ℤ → Type 0
+IsAtMost most z = (neg_ℤ (pos most) ≤ℤ z) × (z ≤ℤ pos most)
+
+-- the most that one owner has published of a cell, and that is pending of it: a net and a count of 2^40 at most
+abbrev pub owner_most : ℕ
+owner_most = 2 ^ 41
+
+pub pending_fits : (owner : Owner) → IsLawful owner → (c : ℕ) → c < CELLS → IsAtMost owner_most (pending_at owner.pending c)
 pending_fits owner is c below =
     let law = is.law c below in
     let low = (is.small c below).0 in

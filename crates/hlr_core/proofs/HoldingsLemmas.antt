@@ -10,8 +10,8 @@ use Rattle.hlr_core.specs.Held.{Owner, of_holding, AreHeld}
 use Rattle.tatp_rows.specs.declared.refusal.Refusal.{Refusal}
 use Rattle.tatp_rows.specs.declared.refusal.Refusal.TheVariants as refusal
 use Rattle.hlr_core.specs.Step.{is_loose, MayAnswer}
-use Rattle.hlr_core.specs.Owners.{seen}
-use Rattle.hlr_core.proofs.BoxLemmas.{length-seen}
+use Rattle.hlr_core.specs.Owners.{map_boxed}
+use Rattle.hlr_core.proofs.BoxLemmas.{length-map_boxed}
 use Rattle.hlr_core.proofs.StoreActLemmas.{acted_within}
 
 -- the number of a part as the index of its box
@@ -23,10 +23,10 @@ pub home_of_part : (regions : List Region) (s_id p : ℕ) → place_of s_id regi
 home_of_part regions s_id p place = rw place refl
 
 -- there is a box
-pub box_there : (regions : List Region) (boxes : List (Box HoldingState Global)) (pieces : List Owner) (width : ℕ) → AreRegions regions → AreHeld regions (seen of_holding boxes) pieces width
+pub box_there : (regions : List Region) (boxes : List (Box HoldingState Global)) (pieces : List Owner) (width : ℕ) → AreRegions regions → AreHeld regions (map_boxed of_holding boxes) pieces width
     → (s_id i n : ℕ) → place_of s_id regions ≡ Some (Part i) → n ≡ length boxes → i < n
 box_there regions boxes pieces width are held s_id i n place long =
-    rw (long, ← length-seen of_holding boxes) (acted_within regions (seen of_holding boxes) pieces width are held s_id i place)
+    rw (long, ← length-map_boxed of_holding boxes) (acted_within regions (map_boxed of_holding boxes) pieces width are held s_id i place)
 
 -- a refusal that is want of memory, where the other reason does not stand
 pub only_memory : {P : Type 0} (other why : Refusal) → P → ((why ≡ other) × (P → ⊥)) ⊎ ((why ≡ refusal.Memory) × P) → why ≡ refusal.Memory

@@ -10,27 +10,27 @@ use Rattle.tatp_rows.specs.Rows.{SubscriberRow}
 use Rattle.mr_node.specs.Rows.{key_of_pair}
 use Rattle.tatp_rows.specs.declared.ranges.TheConstants.{LAST_SUBSCRIBER}
 use Rattle.tatp_actions.specs.Book.{Book, IsWithin}
-use Rattle.number_index.specs.Pairs.{owner_in, pair_of, renamed}
+use Rattle.number_index.specs.Pairs.{bearer_in, pair_of, renamed}
 use Rattle.hlr_core.specs.Index.{number_pair, index_of, IsRegister}
-use Rattle.hlr_core.specs.Numbers.{owner_of, owner_id, HasNoTwin}
+use Rattle.hlr_core.specs.Numbers.{bearer_of, bearer_id, HasNoTwin}
 use Rattle.hlr_core.proofs.NumbersLemmas.{AllDiffer, other_numbers, others_differ}
 
 -- no row has the number where each has another
-pub no_owner : (rows : List SubscriberRow) (n : ℕ) → AllByRecursion (λ row. n ≢ row.sub_nbr) rows → owner_of rows n ≡ None
-no_owner [] n others = refl
-no_owner (row ∷ rows) n others =
+pub no_bearer : (rows : List SubscriberRow) (n : ℕ) → AllByRecursion (λ row. n ≢ row.sub_nbr) rows → bearer_of rows n ≡ None
+no_bearer [] n others = refl
+no_bearer (row ∷ rows) n others =
     let other : row.sub_nbr ≡ n → ⊥ = λ e. others.0 (sym e) in
-    let rest = no_owner rows n others.1 in
+    let rest = no_bearer rows n others.1 in
     grind (arith, nat_tests)
 
 -- the pair of a number is that of its owner
-pub index_finds : (rows : List SubscriberRow) (n : ℕ) → HasNoTwin rows → row_at key_of_pair n (index_of rows) ≡ option_map number_pair (owner_of rows n)
+pub index_finds : (rows : List SubscriberRow) (n : ℕ) → HasNoTwin rows → row_at key_of_pair n (index_of rows) ≡ option_map number_pair (bearer_of rows n)
 index_finds [] n single = refl
 index_finds (row ∷ rows) n single =
     by_test (row.sub_nbr == n)
     (λ e.
     let same : row.sub_nbr ≡ n = grind (arith, nat_tests) in
-    let free : owner_of rows n ≡ None = rw same at (no_owner rows row.sub_nbr single.0) in
+    let free : bearer_of rows n ≡ None = rw same at (no_bearer rows row.sub_nbr single.0) in
     let absent : row_at key_of_pair n (index_of rows) ≡ None = index_finds rows n single.1 ∙ ap (option_map number_pair) free in
     rw e (row_at-with_row_same key_of_pair n (number_pair row) (index_of rows) same absent))
     (λ e.
@@ -38,7 +38,7 @@ index_finds (row ∷ rows) n single =
     rw e (row_at-with_row_other key_of_pair n row.sub_nbr (number_pair row) (index_of rows) refl other ∙ index_finds rows n single.1))
 
 -- a row more, whose number no row has
-pub index-with_row : (row : SubscriberRow) (rows : List SubscriberRow) → owner_of rows row.sub_nbr ≡ None
+pub index-with_row : (row : SubscriberRow) (rows : List SubscriberRow) → bearer_of rows row.sub_nbr ≡ None
     → index_of (with_row subscriber_key row rows) ≡ with_row key_of_pair (number_pair row) (index_of rows)
 index-with_row row [] free = refl
 index-with_row row (x ∷ xs) free =
@@ -80,7 +80,7 @@ index_kept k new old rows single found same =
     index-with_row_at k new old rows found others ∙ ap (λ (p : ℕ × ℕ). with_row key_of_pair p (index_of (without_row subscriber_key k rows))) same ∙ sym (index_parts k old rows single found)
 
 -- a row replaced by one of the same subscriber with a new number
-pub index_renamed : (k : ℕ) (new old : SubscriberRow) (rows : List SubscriberRow) → HasNoTwin rows → row_at subscriber_key k rows ≡ Some old → owner_of rows new.sub_nbr ≡ None
+pub index_renamed : (k : ℕ) (new old : SubscriberRow) (rows : List SubscriberRow) → HasNoTwin rows → row_at subscriber_key k rows ≡ Some old → bearer_of rows new.sub_nbr ≡ None
     → index_of (with_row_at subscriber_key k new rows) ≡ renamed old.sub_nbr new.sub_nbr new.s_id (index_of rows)
 index_renamed k new old rows single found free =
     let each = other_numbers rows new.sub_nbr free in
@@ -94,35 +94,35 @@ index_renamed k new old rows single found free =
     (without_row-with_row key_of_pair old.sub_nbr (number_pair old) (with_row key_of_pair (number_pair new) others) refl absent))
 
 -- the subscriber who has a number in the index is the number's owner
-pub owner_indexed : (book : Book) (pairs : List (ℕ × ℕ)) (n : ℕ) → IsRegister book pairs → owner_in n pairs ≡ owner_id book.subscribers n
-owner_indexed book pairs n register = rw (register.index, index_finds book.subscribers n register.alone) (cases (owner_of book.subscribers n))
+pub bearer_indexed : (book : Book) (pairs : List (ℕ × ℕ)) (n : ℕ) → IsRegister book pairs → bearer_in n pairs ≡ bearer_id book.subscribers n
+bearer_indexed book pairs n register = rw (register.index, index_finds book.subscribers n register.alone) (cases (bearer_of book.subscribers n))
   where
     cases : (o : Option SubscriberRow) → option_map (λ (pair : ℕ × ℕ). pair.1) (option_map number_pair o) ≡ option_map (λ (row : SubscriberRow). row.s_id) o
     cases None = refl
     cases (Some row) = refl
 
 -- the owner of a number is one of all subscribers
-pub owner_within : (book : Book) (pairs : List (ℕ × ℕ)) (n s : ℕ) → IsRegister book pairs → Some s ≡ owner_in n pairs → IsWithin 1 (LAST_SUBSCRIBER + 1) s
-owner_within book pairs n s register found = cases (owner_of book.subscribers n) refl
+pub bearer_within : (book : Book) (pairs : List (ℕ × ℕ)) (n s : ℕ) → IsRegister book pairs → Some s ≡ bearer_in n pairs → IsWithin 1 (LAST_SUBSCRIBER + 1) s
+bearer_within book pairs n s register found = cases (bearer_of book.subscribers n) refl
   where
-    cases : (o : Option SubscriberRow) → owner_of book.subscribers n ≡ o → IsWithin 1 (LAST_SUBSCRIBER + 1) s
-    cases None e = let no : Some s ≡ None = found ∙ owner_indexed book pairs n register ∙ ap (option_map (λ (row : SubscriberRow). row.s_id)) e in absurd cc
+    cases : (o : Option SubscriberRow) → bearer_of book.subscribers n ≡ o → IsWithin 1 (LAST_SUBSCRIBER + 1) s
+    cases None e = let no : Some s ≡ None = found ∙ bearer_indexed book pairs n register ∙ ap (option_map (λ (row : SubscriberRow). row.s_id)) e in absurd cc
     cases (Some row) e =
-        let own : Some s ≡ Some row.s_id = found ∙ owner_indexed book pairs n register ∙ ap (option_map (λ (row : SubscriberRow). row.s_id)) e in
+        let own : Some s ≡ Some row.s_id = found ∙ bearer_indexed book pairs n register ∙ ap (option_map (λ (row : SubscriberRow). row.s_id)) e in
         let same : row.s_id ≡ s = cc in
         subst (λ (k : ℕ). IsWithin 1 (LAST_SUBSCRIBER + 1) k) same
         (each_found (λ (r : SubscriberRow). r.sub_nbr) (λ (r : SubscriberRow). IsWithin 1 (LAST_SUBSCRIBER + 1) r.s_id) n book.subscribers row register.rows.subscribers e)
 
 -- a number that has no pair has no owner, and one that has a pair has one
-pub free_number : (book : Book) (pairs : List (ℕ × ℕ)) (n : ℕ) → IsRegister book pairs → pair_of n pairs ≡ None → owner_of book.subscribers n ≡ None
-free_number book pairs n register free = cases (owner_of book.subscribers n) (sym (index_finds book.subscribers n register.alone) ∙ rw register.index at free)
+pub free_number : (book : Book) (pairs : List (ℕ × ℕ)) (n : ℕ) → IsRegister book pairs → pair_of n pairs ≡ None → bearer_of book.subscribers n ≡ None
+free_number book pairs n register free = cases (bearer_of book.subscribers n) (sym (index_finds book.subscribers n register.alone) ∙ rw register.index at free)
   where
     cases : (o : Option SubscriberRow) → option_map number_pair o ≡ None → o ≡ None
     cases None e = refl
     cases (Some row) e = absurd cc
 
-pub taken_number : (book : Book) (pairs : List (ℕ × ℕ)) (n : ℕ) (pair : ℕ × ℕ) → IsRegister book pairs → pair_of n pairs ≡ Some pair → is_some (owner_of book.subscribers n) ≡ true
-taken_number book pairs n pair register taken = cases (owner_of book.subscribers n) (sym (index_finds book.subscribers n register.alone) ∙ rw register.index at taken)
+pub taken_number : (book : Book) (pairs : List (ℕ × ℕ)) (n : ℕ) (pair : ℕ × ℕ) → IsRegister book pairs → pair_of n pairs ≡ Some pair → is_some (bearer_of book.subscribers n) ≡ true
+taken_number book pairs n pair register taken = cases (bearer_of book.subscribers n) (sym (index_finds book.subscribers n register.alone) ∙ rw register.index at taken)
   where
     cases : (o : Option SubscriberRow) → option_map number_pair o ≡ Some pair → is_some o ≡ true
     cases None e = absurd cc

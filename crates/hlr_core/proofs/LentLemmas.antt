@@ -18,8 +18,9 @@ use Rattle.tatp_actions.specs.declared.action.RowReply.{RowReply}
 use Rattle.tatp_actions.specs.declared.action.RowReply.TheVariants as row_reply
 use Rattle.holding.specs.Held.{HoldingState}
 use Rattle.hlr_core.specs.Held.{Owner, AreHeld}
-use Rattle.hlr_core.specs.Lent.{HasRowsOf, IsRead}
-use Rattle.hlr_core.specs.Step.{IsActionStep, given_number, reply_of}
+use Rattle.hlr_core.specs.Inside.Lent.{HasRowsOf, IsRead}
+use Rattle.hlr_core.specs.Inside.Asked.{IsActionStep}
+use Rattle.hlr_core.specs.Step.{given_number, reply_of}
 use Rattle.hlr_core.specs.Store.{Store}
 use Rattle.hlr_core.specs.declared.event.Reply.TheVariants as reply
 use Rattle.hlr_core.proofs.OwnerLemmas.{book_of_owners}

@@ -1,3 +1,4 @@
+pub mod AtHomeLemmas
 pub mod BoxLemmas
 pub mod BoxMoveLemmas
 pub mod DeskLemmas
@@ -9,7 +10,6 @@ pub mod HalvesLemmas
 pub mod HeldLemmas
 pub mod HoldingsLemmas
 pub mod IndexLemmas
-pub mod KeptLemmas
 pub mod LentLemmas
 pub mod MayGatherLemmas
 mod NotedLemmas
@@ -37,5 +37,4 @@ pub mod StoreMoveLemmas
 pub mod StorePostLemmas
 pub mod StretchLemmas
 pub mod TotalLemmas
-pub mod UndividedLemmas
 pub mod WeightLemmas

@@ -11,8 +11,8 @@ use Rattle.view_board.specs.declared.words.TheConstants.{WORDS}
 use Rattle.holding.specs.Held.{HoldingState}
 use Rattle.hlr_core.specs.Desks.{desk_of, owns_one, AreOpening}
 use Rattle.hlr_core.specs.Gather.{MayGather}
-use Rattle.hlr_core.specs.Owners.{seen, unboxed}
-use Rattle.hlr_core.proofs.BoxLemmas.{seen-push}
+use Rattle.hlr_core.specs.Owners.{map_boxed, unboxed}
+use Rattle.hlr_core.proofs.BoxLemmas.{map_boxed-push}
 use Rattle.hlr_core.proofs.GatherLemmas.{map_twice}
 use Rattle.hlr_core.proofs.GatheredLemmas.{may_gather}
 use Rattle.hlr_core.proofs.ShareLemmas.{none_shared, first_of_board, shared_desks}
@@ -23,7 +23,7 @@ pub record IsSameDesk (before after : Station) : Type 0 where
   pub owned : after.view.owned ≡ before.view.owned
 
 -- the desks of what boxes contain
-desks_in : (boxes : List (Box HoldingState Global)) → map desk_of (unboxed boxes) ≡ seen desk_of boxes
+desks_in : (boxes : List (Box HoldingState Global)) → map desk_of (unboxed boxes) ≡ map_boxed desk_of boxes
 desks_in boxes = map_twice (λ (b : Box HoldingState Global). b.value) desk_of boxes
 
 -- each of a list and one behind it
@@ -49,32 +49,32 @@ looked_may board spare holdings words may = record { same = may.same; shares = r
 
 -- two holdings at the end of a list
 module _ (rest : List (Box HoldingState Global)) (first second : Box HoldingState Global) where
-  desks_of_two : map desk_of (unboxed ((rest ++ first ∷ []) ++ second ∷ [])) ≡ (seen desk_of rest ++ first.value.desk ∷ []) ++ second.value.desk ∷ []
-  desks_of_two = desks_in ((rest ++ first ∷ []) ++ second ∷ []) ∙ rw (seen-push desk_of (rest ++ first ∷ []) second, seen-push desk_of rest first) refl
+  desks_of_two : map desk_of (unboxed ((rest ++ first ∷ []) ++ second ∷ [])) ≡ (map_boxed desk_of rest ++ first.value.desk ∷ []) ++ second.value.desk ∷ []
+  desks_of_two = desks_in ((rest ++ first ∷ []) ++ second ∷ []) ∙ rw (map_boxed-push desk_of (rest ++ first ∷ []) second, map_boxed-push desk_of rest first) refl
 
   owned_by_two : (spare : Station) (slot : ℕ)
-      → sum_by (owns_one slot) (spare ∷ map desk_of (unboxed ((rest ++ first ∷ []) ++ second ∷ []))) ≡ owns_one slot spare + sum_by (owns_one slot) (seen desk_of rest) + owns_one slot first.value.desk + owns_one slot second.value.desk
+      → sum_by (owns_one slot) (spare ∷ map desk_of (unboxed ((rest ++ first ∷ []) ++ second ∷ []))) ≡ owns_one slot spare + sum_by (owns_one slot) (map_boxed desk_of rest) + owns_one slot first.value.desk + owns_one slot second.value.desk
   owned_by_two spare slot =
-      let head = sum_by-cons (owns_one slot) spare ((seen desk_of rest ++ first.value.desk ∷ []) ++ second.value.desk ∷ []) in
-      let last = sum_by_push (owns_one slot) (seen desk_of rest ++ first.value.desk ∷ []) second.value.desk in
-      let before = sum_by_push (owns_one slot) (seen desk_of rest) first.value.desk in
+      let head = sum_by-cons (owns_one slot) spare ((map_boxed desk_of rest ++ first.value.desk ∷ []) ++ second.value.desk ∷ []) in
+      let last = sum_by_push (owns_one slot) (map_boxed desk_of rest ++ first.value.desk ∷ []) second.value.desk in
+      let before = sum_by_push (owns_one slot) (map_boxed desk_of rest) first.value.desk in
       rw desks_of_two (omega arith)
 
-  of_board : (board : TableId) → AllByRecursion (λ (desk : Station). desk.board ≡ board) (seen desk_of rest) → first.value.desk.board ≡ board → second.value.desk.board ≡ board
+  of_board : (board : TableId) → AllByRecursion (λ (desk : Station). desk.board ≡ board) (map_boxed desk_of rest) → first.value.desk.board ≡ board → second.value.desk.board ≡ board
       → AllByRecursion (λ (desk : Station). desk.board ≡ board) (map desk_of (unboxed ((rest ++ first ∷ []) ++ second ∷ [])))
   of_board board others one other =
-      rw desks_of_two (each_back (λ (desk : Station). desk.board ≡ board) (seen desk_of rest ++ first.value.desk ∷ []) second.value.desk (each_back (λ (desk : Station). desk.board ≡ board) (seen desk_of rest) first.value.desk others one) other)
+      rw desks_of_two (each_back (λ (desk : Station). desk.board ≡ board) (map_boxed desk_of rest ++ first.value.desk ∷ []) second.value.desk (each_back (λ (desk : Station). desk.board ≡ board) (map_boxed desk_of rest) first.value.desk others one) other)
 
 -- they are taken out
 module _ (board : TableId) (spare : Station) (all some rest : List (Box HoldingState Global)) (first second : Box HoldingState Global) (are : all ≡ some ++ second ∷ []) (were : some ≡ rest ++ first ∷ []) (may : MayGather board spare (unboxed all)) where
   may_two : MayGather board spare (unboxed ((rest ++ first ∷ []) ++ second ∷ []))
   may_two = rw (are, were) at may
 
-  front : AllByRecursion (λ (desk : Station). desk.board ≡ board) (seen desk_of rest ++ first.value.desk ∷ []) × (second.value.desk.board ≡ board)
-  front = each_front (λ (desk : Station). desk.board ≡ board) (seen desk_of rest ++ first.value.desk ∷ []) second.value.desk (rw (desks_of_two rest first second) at may_two.same.1)
+  front : AllByRecursion (λ (desk : Station). desk.board ≡ board) (map_boxed desk_of rest ++ first.value.desk ∷ []) × (second.value.desk.board ≡ board)
+  front = each_front (λ (desk : Station). desk.board ≡ board) (map_boxed desk_of rest ++ first.value.desk ∷ []) second.value.desk (rw (desks_of_two rest first second) at may_two.same.1)
 
-  others : AllByRecursion (λ (desk : Station). desk.board ≡ board) (seen desk_of rest) × (first.value.desk.board ≡ board)
-  others = each_front (λ (desk : Station). desk.board ≡ board) (seen desk_of rest) first.value.desk front.0
+  others : AllByRecursion (λ (desk : Station). desk.board ≡ board) (map_boxed desk_of rest) × (first.value.desk.board ≡ board)
+  others = each_front (λ (desk : Station). desk.board ≡ board) (map_boxed desk_of rest) first.value.desk front.0
 
   -- their desks are of the board
   pub first_board : first.value.desk.board ≡ board

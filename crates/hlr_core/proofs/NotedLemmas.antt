@@ -14,9 +14,9 @@ use Rattle.mr_node.specs.Rows.{key_of_pair}
 use Rattle.tatp_actions.specs.Book.{first_subscriber}
 use Rattle.number_index.specs.Pairs.{pair_of}
 use Rattle.hlr_core.specs.Index.{number_pair, index_of}
-use Rattle.hlr_core.specs.Noted.{AreNoted, bears, HasTwin}
+use Rattle.hlr_core.specs.Inside.Noted.{AreNoted, bears, HasTwin}
 use Rattle.hlr_core.specs.Numbers.{HasNoTwin}
-use Rattle.hlr_core.proofs.IndexLemmas.{index_finds, no_owner}
+use Rattle.hlr_core.proofs.IndexLemmas.{index_finds, no_bearer}
 use Rattle.hlr_core.proofs.NumbersLemmas.{AllDiffer}
 
 -- a number of a pair, summed up over the pairs of rows
@@ -105,7 +105,7 @@ index_rises : (rows : List SubscriberRow) → HasNoTwin rows → IsOrderedBy key
 index_rises [] alone = tt
 index_rises (row ∷ rows) alone =
     ordered-with_row key_of_pair (number_pair row) (index_of rows)
-    (index_finds rows row.sub_nbr alone.1 ∙ ap (option_map number_pair) (no_owner rows row.sub_nbr alone.0))
+    (index_finds rows row.sub_nbr alone.1 ∙ ap (option_map number_pair) (no_bearer rows row.sub_nbr alone.0))
     (index_rises rows alone.1)
 
 -- two pairs are the same, as a test
@@ -261,13 +261,13 @@ twin_one row pairs pair found =
     (row.sub_nbr, omega (arith, there, one, own row))
 
 -- why a row isn't noted
-one_refused : (row : SubscriberRow) (pairs : List (ℕ × ℕ)) (why : Refusal) → (IsSome (pair_of row.sub_nbr pairs) → why ≡ NumberTaken) → (pair_of row.sub_nbr pairs ≡ None → why ≡ Memory)
+one_refused : (row : SubscriberRow) (pairs : List (ℕ × ℕ)) (why : Refusal) → why ≡ (if is_some (pair_of row.sub_nbr pairs) then NumberTaken else Memory)
     → ((why ≡ NumberTaken) × HasTwin (row ∷ []) pairs) ⊎ (why ≡ Memory)
-one_refused row pairs why taken refused = cases (pair_of row.sub_nbr pairs) refl
+one_refused row pairs why is = cases (pair_of row.sub_nbr pairs) refl
   where
     cases : (o : Option (ℕ × ℕ)) → pair_of row.sub_nbr pairs ≡ o → ((why ≡ NumberTaken) × HasTwin (row ∷ []) pairs) ⊎ (why ≡ Memory)
-    cases None e = inr (refused e)
-    cases (Some pair) e = let some : IsSome (pair_of row.sub_nbr pairs) = rw e refl in inl (taken some, twin_one row pairs pair e)
+    cases None e = inr (rw e at is)
+    cases (Some pair) e = inl (rw e at is, twin_one row pairs pair e)
 
 -- the rows from a subscriber on
 abbrev pub rows_from : ℕ → List SubscriberRow → List SubscriberRow
@@ -333,10 +333,10 @@ module _ (from : ℕ) (row : SubscriberRow) (rows : List SubscriberRow) (before 
       let one = noted_one row pairs in
       rw behind (noting_next _ (row ∷ []) _ rows before pairs more (rows_from_step from rows row ordered (sym found)) noting (rw (is, number, id) one))
 
-  pub row_refused : (n : ℕ) (why : Refusal) → n ≡ row.sub_nbr → (IsSome (pair_of n pairs) → why ≡ NumberTaken) → (pair_of n pairs ≡ None → why ≡ Memory)
+  pub row_refused : (n : ℕ) (why : Refusal) → n ≡ row.sub_nbr → why ≡ (if is_some (pair_of n pairs) then NumberTaken else Memory)
       → ((why ≡ NumberTaken) × HasTwin rows before) ⊎ (why ≡ Memory)
-  row_refused n why number taken refused =
-      elim (one_refused row pairs why (rw (← number) taken) (rw (← number) refused)) [
+  row_refused n why number is =
+      elim (one_refused row pairs why (rw number at is)) [
         | inl twice ↦ inl (twice.0, noting_twin _ (row ∷ []) _ rows before pairs (rows_from_step from rows row ordered (sym found)) noting twice.1)
         | inr memory ↦ inr memory
       ]

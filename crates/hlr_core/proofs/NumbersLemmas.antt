@@ -8,7 +8,7 @@ use Rattle.tatp_rows.proofs.OrderedLemmas.{by_test, key_found, each_found, each-
 use Rattle.tatp_rows.specs.Keys.{key_of, subscriber_key}
 use Rattle.tatp_rows.specs.Ordered.{IsOrderedBy, row_at, with_row_at, with_row, without_row}
 use Rattle.tatp_rows.specs.Rows.{SubscriberRow}
-use Rattle.hlr_core.specs.Numbers.{owner_of, HasNoTwin}
+use Rattle.hlr_core.specs.Numbers.{bearer_of, HasNoTwin}
 use Rattle.hlr_core.specs.Step.{is_anothers}
 
 -- the number of a row
@@ -20,7 +20,7 @@ abbrev pub AllDiffer : ℕ → List SubscriberRow → Type 0
 AllDiffer n rows = AllByRecursion (λ other. n ≢ other.sub_nbr) rows
 
 -- where no row has a number, each has another
-pub other_numbers : (rows : List SubscriberRow) (n : ℕ) → owner_of rows n ≡ None → AllDiffer n rows
+pub other_numbers : (rows : List SubscriberRow) (n : ℕ) → bearer_of rows n ≡ None → AllDiffer n rows
 other_numbers [] n none = tt
 other_numbers (row ∷ rows) n none =
     let rest = absent_cons number n row rows none in
@@ -42,7 +42,7 @@ others_differ k row (x ∷ xs) single found =
     rw e (λ twin. differ (sym twin), others_differ k row xs single.1 rest))
 
 -- a row with a new number
-pub no_twin-with_row : (row : SubscriberRow) (rows : List SubscriberRow) → HasNoTwin rows → owner_of rows row.sub_nbr ≡ None → HasNoTwin (with_row subscriber_key row rows)
+pub no_twin-with_row : (row : SubscriberRow) (rows : List SubscriberRow) → HasNoTwin rows → bearer_of rows row.sub_nbr ≡ None → HasNoTwin (with_row subscriber_key row rows)
 no_twin-with_row row [] single none = (tt, tt)
 no_twin-with_row row (x ∷ xs) single none =
     let rest = absent_cons number row.sub_nbr x xs none in
@@ -67,9 +67,9 @@ no_twin-with_row_at k new (x ∷ xs) single differ =
     ))
 
 -- a row that a subscriber has is the owner of its number
-pub owner_found : (k : ℕ) (row : SubscriberRow) (rows : List SubscriberRow) → HasNoTwin rows → row_at subscriber_key k rows ≡ Some row → owner_of rows row.sub_nbr ≡ Some row
-owner_found k row [] single found = absurd cc
-owner_found k row (x ∷ xs) single found =
+pub bearer_found : (k : ℕ) (row : SubscriberRow) (rows : List SubscriberRow) → HasNoTwin rows → row_at subscriber_key k rows ≡ Some row → bearer_of rows row.sub_nbr ≡ Some row
+bearer_found k row [] single found = absurd cc
+bearer_found k row (x ∷ xs) single found =
     by_test (subscriber_key x == k)
     (λ e.
     let is : Some x ≡ Some row = rw e at found in
@@ -80,12 +80,12 @@ owner_found k row (x ∷ xs) single found =
     let rest : row_at subscriber_key k xs ≡ Some row = rw e at found in
     let differ : x.sub_nbr ≢ row.sub_nbr = each_found subscriber_key (λ other. x.sub_nbr ≢ other.sub_nbr) k xs row single.0 rest in
     let test : (x.sub_nbr == row.sub_nbr) ≡ false = grind (arith, nat_tests) in
-    rw test (owner_found k row xs single.1 rest))
+    rw test (bearer_found k row xs single.1 rest))
 
 -- the owner of a number is the row of its subscriber
-pub owner_at : (n : ℕ) (row : SubscriberRow) (rows : List SubscriberRow) → IsOrderedBy subscriber_key rows → owner_of rows n ≡ Some row → row_at subscriber_key (subscriber_key row) rows ≡ Some row
-owner_at n row [] ordered found = absurd cc
-owner_at n row (x ∷ xs) ordered found =
+pub bearer_at : (n : ℕ) (row : SubscriberRow) (rows : List SubscriberRow) → IsOrderedBy subscriber_key rows → bearer_of rows n ≡ Some row → row_at subscriber_key (subscriber_key row) rows ≡ Some row
+bearer_at n row [] ordered found = absurd cc
+bearer_at n row (x ∷ xs) ordered found =
     by_test (x.sub_nbr == n)
     (λ e.
     let is : Some x ≡ Some row = rw e at found in
@@ -93,19 +93,19 @@ owner_at n row (x ∷ xs) ordered found =
     let own : (subscriber_key x == subscriber_key x) ≡ true = grind (arith, nat_tests) in
     rw (at, own) refl)
     (λ e.
-    let rest : owner_of xs n ≡ Some row = rw e at found in
+    let rest : bearer_of xs n ≡ Some row = rw e at found in
     let below : subscriber_key x < subscriber_key row = each_found number (λ y. subscriber_key x < subscriber_key y) n xs row ordered.0 rest in
     let test : (subscriber_key x == subscriber_key row) ≡ false = grind (arith, nat_tests) in
-    rw test (owner_at n row xs ordered.1 rest))
+    rw test (bearer_at n row xs ordered.1 rest))
 
 -- where the row of a subscriber has another number, or there is none, the owner of the number is another one
-pub owner_is_another : (rows : List SubscriberRow) (s n : ℕ) → IsOrderedBy subscriber_key rows → ((row : SubscriberRow) → row_at subscriber_key (key_of s 0 0) rows ≡ Some row → row.sub_nbr ≢ n)
-    → is_anothers s (owner_of rows n) ≡ is_some (owner_of rows n)
-owner_is_another rows s n ordered differ = cases (owner_of rows n) refl
+pub bearer_is_another : (rows : List SubscriberRow) (s n : ℕ) → IsOrderedBy subscriber_key rows → ((row : SubscriberRow) → row_at subscriber_key (key_of s 0 0) rows ≡ Some row → row.sub_nbr ≢ n)
+    → is_anothers s (bearer_of rows n) ≡ is_some (bearer_of rows n)
+bearer_is_another rows s n ordered differ = cases (bearer_of rows n) refl
   where
-    cases : (o : Option SubscriberRow) → owner_of rows n ≡ o → is_anothers s o ≡ is_some o
+    cases : (o : Option SubscriberRow) → bearer_of rows n ≡ o → is_anothers s o ≡ is_some o
     cases None e = refl
     cases (Some row) e = elim (cases_eq row.s_id s) [
-      | inl same ↦ (let found = subst (λ (k : ℕ). row_at subscriber_key (key_of k 0 0) rows ≡ Some row) same (owner_at n row rows ordered e) in absurd (differ row found (key_found number n rows row e)))
+      | inl same ↦ (let found = subst (λ (k : ℕ). row_at subscriber_key (key_of k 0 0) rows ≡ Some row) same (bearer_at n row rows ordered e) in absurd (differ row found (key_found number n rows row e)))
       | inr other ↦ grind (arith, nat_tests)
     ]

@@ -15,7 +15,8 @@ use Rattle.part_table.specs.Opening as table
 use Rattle.part_table.specs.Opening.{can_open, opening_bound}
 use Rattle.part_table.specs.Regions.{AreRegions, IsConsecutive}
 use Rattle.part_table.specs.declared.region.Region.{Region}
-use Rattle.hlr_core.specs.Held.{Owner, of_holding, IsOpened, AreHeld}
+use Rattle.hlr_core.specs.Held.{Owner, of_holding, AreHeld}
+use Rattle.hlr_core.specs.Inside.{IsOpened}
 use Rattle.view_board.specs.Desks.{Station}
 use Rattle.view_board.specs.declared.words.TheConstants.{WORDS}
 use Rattle.holding.specs.Held.{HoldingState}

@@ -1,6 +1,6 @@
 -- The counts of all owners: as they add up, and what is published and pending of them.
 use Rattle.std.proofs.Common.{◌≡◌, ◌∙◌, refl, sym, ap, ℕ, ◌+◌, ◌*◌, ◌<◌, arith, List, [], ◌∷◌, length}
-use Rattle.std.specs.Prelude.{ℤ, pos, neg_ℤ, ◌+ℤ◌, ◌≤ℤ◌, sum_by}
+use Rattle.std.specs.Prelude.{ℤ, pos, ◌+ℤ◌, sum_by}
 use Rattle.std.specs.List.{AllByRecursion}
 use Rattle.std.proofs.lemmas.Int.{ints}
 use Rattle.std.proofs.lemmas.List.Sums.{sum_by-cons}
@@ -15,6 +15,7 @@ use Rattle.view_board.specs.Nets.{net_of}
 use Rattle.view_delta.specs.Pending.{pending_at}
 use Rattle.holding.proofs.HeldLemmas.{empty_cell}
 use Rattle.hlr_core.specs.Held.{Owner, AreOwners}
+use Rattle.hlr_core.proofs.HeldLemmas.{IsAtMost, owner_most}
 use Rattle.hlr_core.proofs.OwnerLemmas.{book_of_owners, owner_rows, own_region}
 
 -- the count of a cell over the rows of an owner and of those behind it
@@ -46,11 +47,8 @@ owners_counted width from (region ∷ regions) (owner ∷ owners) c below each c
     let both = cell_behind width region regions owner owners c each consecutive.2 in
     omega (arith, ints)
 
--- whole numbers of a size have small sums
-abbrev pub IsAtMost : ℕ → ℤ → Type 0
-IsAtMost most z = (neg_ℤ (pos most) ≤ℤ z) × (z ≤ℤ pos most)
-
-pub sum_small : {X : Type 0} (f : X → ℤ) (xs : List X) → AllByRecursion (λ x. IsAtMost 2199023255552 (f x)) xs → IsAtMost (length xs * 2199023255552) (sum_ints f xs)
+-- amounts of single owners have small sums
+pub sum_small : {X : Type 0} (f : X → ℤ) (xs : List X) → AllByRecursion (λ x. IsAtMost owner_most (f x)) xs → IsAtMost (length xs * owner_most) (sum_ints f xs)
 sum_small f [] each = (omega (arith, ints), omega (arith, ints))
 sum_small f (x ∷ xs) each =
     let here = each.0 in

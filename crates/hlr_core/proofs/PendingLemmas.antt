@@ -11,7 +11,7 @@ use Rattle.view_delta.specs.Pending.{pending_at}
 use Rattle.holding.specs.Held.{HoldingState, PieceState}
 use Rattle.hlr_core.specs.Gather.{owners_of}
 use Rattle.hlr_core.specs.Held.{Owner, of_holding, of_piece, pending_in}
-use Rattle.hlr_core.specs.Owners.{seen, unboxed}
+use Rattle.hlr_core.specs.Owners.{map_boxed, unboxed}
 use Rattle.hlr_core.proofs.GatherLemmas.{map_twice}
 
 pending_append : (owners others : List Owner) (c : ℕ) → pending_in (owners ++ others) c ≡ pending_in owners c +ℤ pending_in others c
@@ -42,7 +42,7 @@ pending_is owners others c =
 
 -- of owners in boxes
 pub pending_boxed : (boxes : List (Box HoldingState Global)) (loose : List (Box PieceState Global)) (c : ℕ)
-    → pending_in (seen of_holding boxes ++ seen of_piece loose) c ≡ pending_in (owners_of (unboxed boxes) (unboxed loose)) c
+    → pending_in (map_boxed of_holding boxes ++ map_boxed of_piece loose) c ≡ pending_in (owners_of (unboxed boxes) (unboxed loose)) c
 pending_boxed boxes loose c =
     rw (map_twice (λ (b : Box HoldingState Global). b.value) of_holding boxes, map_twice (λ (b : Box PieceState Global). b.value) of_piece loose) refl
 

@@ -10,16 +10,17 @@ use Rattle.tatp_rows.proofs.OrderedLemmas.{by_test}
 use Rattle.tatp_rows.proofs.PlaceLemmas.{each_at}
 use Rattle.tatp_actions.specs.declared.cells.TheConstants.{CELLS}
 use Rattle.view_board.specs.Desks.{Station, with_view}
-use Rattle.view_board.specs.Views.{IsWide}
-use Rattle.view_board.specs.Words.{is_worn, raised_by}
+use Rattle.view_board.specs.Views.{IsWide, posted}
+use Rattle.view_board.specs.Words.{is_worn}
 use Rattle.view_board.specs.declared.rule.View.{View}
 use Rattle.view_board.specs.declared.words.TheConstants.{SLOTS}
 use Rattle.holding.proofs.HeldLemmas.{wide_posted}
 use Rattle.holding.specs.Held.{IsLeastSlot}
 use Rattle.holding.specs.Post as own
-use Rattle.holding.specs.Post.{all_cells, is_zero, due, raise_cells}
+use Rattle.view_delta.specs.Pending.{is_zero}
+use Rattle.holding.specs.Post.{all_cells, due, post_cells}
 use Rattle.hlr_core.specs.Desks.{owns_one, words_of, slots_in, IsOfBoard, AreDesks}
-use Rattle.hlr_core.specs.Post.{post}
+use Rattle.hlr_core.specs.Post.{raise_cells, post}
 use Rattle.hlr_core.specs.Words.{net}
 use Rattle.hlr_core.proofs.DeskLemmas.{words_with, words_posted, word_here, net_of_slots, least_of_slots}
 use Rattle.hlr_core.proofs.StoreLemmas.{set_same}
@@ -70,26 +71,23 @@ desk_is before after same = ap (λ board. record { board = board; view = after.v
 
 module _ (desks : List Station) (p : ℕ) (desk : Station) (within : p < length desks) (is : desk ≡ get_or desks p desk) (once : (slot : ℕ) → slot < SLOTS → sum_by (owns_one slot) desks ≡ 1)
     (wide : IsWide desk.view) (slot : ℕ) (in_board : slot < SLOTS) (least : IsLeastSlot desk.view slot) where
-  -- what the desk knows with other numbers, and the words then
-  abbrev with_numbers : List ℕ → View
-  with_numbers numbers = record desk.view { numbers = numbers }
+  -- the words where the desk knows something else
+  abbrev words_then : View → List ℕ
+  words_then view = words_with desks p desk within is view
 
-  abbrev words_then : List ℕ → List ℕ
-  words_then numbers = words_with desks p desk within is (with_numbers numbers)
-
-  -- cells that are raised one after another
-  raised_same : (gap gaps : ℕ → ℤ) (cells : List ℕ) (done : ℕ) (numbers : List ℕ) → AreSameGaps gap gaps cells → IsWide (with_numbers numbers)
-      → (raise_cells gap slot cells done (words_then numbers)
-      ≡ ((raise_cells gaps slot cells done numbers).0, words_then (raise_cells gaps slot cells done numbers).1))
-      × IsWide (with_numbers (raise_cells gaps slot cells done numbers).1)
-  raised_same gap gaps [] done numbers same now = (refl, now)
-  raised_same gap gaps (c ∷ cells) done numbers same now =
-      let here = word_here desks p desk within is slot least.0 in_board (with_numbers numbers) c (gaps c) (once slot in_board) refl same.0.0 in
-      let more = words_posted desks p desk within is slot least.0 in_board (with_numbers numbers) c (gaps c) refl now same.0.0 in
-      by_test (is_worn numbers slot c (gaps c))
-      (λ e. let worn : is_worn (words_then numbers) slot c (gaps c) ≡ true = rw here e in rw (same.0.1, worn, e) (refl, now))
-      (λ e. let fits : is_worn (words_then numbers) slot c (gaps c) ≡ false = rw here e in
-      let rest = raised_same gap gaps cells (done + 1) (raised_by numbers slot c (gaps c)) same.1 (wide_posted (with_numbers numbers) slot c (gaps c) now) in
+  -- cells that are posted one after another
+  posted_same : (gap gaps : ℕ → ℤ) (cells : List ℕ) (done : ℕ) (view : View) → AreSameGaps gap gaps cells → view.owned ≡ desk.view.owned → IsWide view
+      → (raise_cells gap slot cells done (words_then view)
+      ≡ ((post_cells gaps slot cells done view).0, words_then (post_cells gaps slot cells done view).1))
+      × IsWide (post_cells gaps slot cells done view).1
+  posted_same gap gaps [] done view same owned now = (refl, now)
+  posted_same gap gaps (c ∷ cells) done view same owned now =
+      let here = word_here desks p desk within is slot least.0 in_board view c (gaps c) (once slot in_board) owned same.0.0 in
+      let more = words_posted desks p desk within is slot least.0 in_board view c (gaps c) owned now same.0.0 in
+      by_test (is_worn view.numbers slot c (gaps c))
+      (λ e. let worn : is_worn (words_then view) slot c (gaps c) ≡ true = rw here e in rw (same.0.1, worn, e) (refl, now))
+      (λ e. let fits : is_worn (words_then view) slot c (gaps c) ≡ false = rw here e in
+      let rest = posted_same gap gaps cells (done + 1) (posted view slot c (gaps c)) same.1 owned (wide_posted view slot c (gaps c) now) in
       rw (same.0.1, fits, e, ← more) rest)
 
   -- a posting of the desk is one of its slots
@@ -101,7 +99,7 @@ module _ (desks : List Station) (p : ℕ) (desk : Station) (within : p < length 
       let gaps = own.gap count desk.view in
       let same = due_same gap gaps limit (λ c below. ap (λ (z : ℤ). pos (count c) -ℤ z) (net_of_slots desks p desk within is once wide c below)) in
       let start : words_with desks p desk within is desk.view ≡ words_of desks = ap words_of (set_same desks p desk is) in
-      let all = raised_same gap gaps (due gap limit) 0 desk.view.numbers same.1 wide in
+      let all = posted_same gap gaps (due gap limit) 0 desk.view same.1 refl wide in
       let first = ap (λ (words : List ℕ). raise_cells gap slot (due gap limit) 0 words) (sym start) ∙ all.0 in
       rw (least_of_slots desk slot in_board least, ← same.0) (first, all.1)
 

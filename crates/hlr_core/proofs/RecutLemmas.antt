@@ -8,7 +8,8 @@ use Rattle.part_table.specs.Bounds.{parts_between}
 use Rattle.part_table.specs.Recut.{moved, all_moved}
 use Rattle.part_table.specs.declared.moves.CutMove.{CutMove}
 use Rattle.part_table.specs.declared.region.Region.{Region}
-use Rattle.hlr_core.specs.Recut.{IsHanded, IsStopped, IsRecutBy, half_moved}
+use Rattle.hlr_core.specs.Recut.{IsStopped, IsRecutBy, half_moved}
+use Rattle.hlr_core.specs.Inside.{IsHanded}
 use Rattle.hlr_core.specs.Store.{Store}
 
 -- where a re-cut stands in front of the moves that are left: they lead to its bounds, and what stops them stops all moves

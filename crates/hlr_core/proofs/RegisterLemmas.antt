@@ -1,6 +1,6 @@
 -- Right steps of the register, from what its holdings and its index do.
 use Rattle.std.proofs.Common.{◌≡◌, ◌≢◌, ℕ, ◌+◌, refl, List, Bool, true, false, Option, Some, None, Result, Ok, Err, sym, ap, ◌∙◌, inl, inr}
-use Rattle.std.specs.Prelude.{is_some, option_map, ◌||◌, IsSome}
+use Rattle.std.specs.Prelude.{is_some, option_map, ◌||◌, if◌then◌else◌}
 use Rattle.tatp_rows.specs.Rows.{SubscriberRow}
 use Rattle.tatp_rows.specs.declared.refusal.Refusal.TheVariants as refusal
 use Rattle.tatp_rows.specs.Keys.{subscriber_key}
@@ -18,14 +18,14 @@ use Rattle.tatp_actions.specs.declared.action.RowReply.{RowReply}
 use Rattle.tatp_actions.specs.declared.action.RowReply.TheVariants as row_reply
 use Rattle.part_table.specs.Regions.{place_of}
 use Rattle.part_table.specs.declared.region.Place.TheVariants.{Part}
-use Rattle.hlr_core.specs.Asked.{IsAsked, IsAnswered}
+use Rattle.hlr_core.specs.Inside.Asked.{IsAsked, IsAnswered, IsRowStep}
 use Rattle.hlr_core.specs.Index.{IsRegister}
-use Rattle.hlr_core.specs.Numbers.{owner_of}
-use Rattle.hlr_core.specs.Step.{IsRowStep, is_loose, IsWholeOutcome, given_number, takes_number, changes_number, whole_effect, reply_of, edited_reply}
+use Rattle.hlr_core.specs.Numbers.{bearer_of}
+use Rattle.hlr_core.specs.Step.{is_loose, IsWholeOutcome, given_number, takes_number, changes_number, whole_effect, reply_of, edited_reply}
 use Rattle.hlr_core.specs.Store.{Store}
 use Rattle.hlr_core.specs.declared.event.Reply.{Reply}
 use Rattle.hlr_core.specs.declared.event.Reply.TheVariants as reply
-use Rattle.hlr_core.proofs.NumbersLemmas.{owner_is_another, no_twin-with_row}
+use Rattle.hlr_core.proofs.NumbersLemmas.{bearer_is_another, no_twin-with_row}
 use Rattle.hlr_core.proofs.HoldingsLemmas.{home_of_part}
 use Rattle.hlr_core.proofs.IndexLemmas.{index-with_row, free_number, taken_number}
 use Rattle.hlr_core.proofs.PairsLemmas.{outcome_book}
@@ -113,20 +113,22 @@ HasNot book s n = (row : SubscriberRow) → subscriber_at book s ≡ Some row �
 -- an action that the rows would do is refused with the index: its number is taken, or memory was refused
 pub unpaired_step : (act : Action) (s n : ℕ) (before : Store) (pairs : List (ℕ × ℕ)) (why : Refusal) → IsRegister before.book pairs → given_number act ≡ Some (s, n) → HasNot before.book s n
     → is_loose (s_id_of act) before.regions ≡ false → (effect act before.book).0 ≡ row_reply.Done → (adds_row act || changes_number (given_number act) before.book) ≡ true
-    → (IsSome (pair_of n pairs) → why ≡ refusal.NumberTaken) → (pair_of n pairs ≡ None → why ≡ refusal.Memory)
+    → why ≡ (if is_some (pair_of n pairs) then refusal.NumberTaken else refusal.Memory)
     → IsRowStep true (Some act) before (reply.Refused why) before
-unpaired_step act s n before pairs why register gives differ home done grows taken memory = cases (pair_of n pairs) refl
+unpaired_step act s n before pairs why register gives differ home done grows is = cases (pair_of n pairs) refl
   where
-    takes : takes_number (given_number act) before.book ≡ is_some (owner_of before.book.subscribers n)
-    takes = rw gives (owner_is_another before.book.subscribers s n register.rows.rules.subscribers_ordered differ)
+    takes : takes_number (given_number act) before.book ≡ is_some (bearer_of before.book.subscribers n)
+    takes = rw gives (bearer_is_another before.book.subscribers s n register.rows.rules.subscribers_ordered differ)
 
     cases : (o : Option (ℕ × ℕ)) → pair_of n pairs ≡ o → IsRowStep true (Some act) before (reply.Refused why) before
     cases None e =
         let free : takes_number (given_number act) before.book ≡ false = takes ∙ ap is_some (free_number before.book pairs n register e) in
-        rw (memory e, home) (row_reply.Refused refusal.Memory, before.book, inr (grows, rw free done, refl, refl), refl, refl)
+        let memory : why ≡ refusal.Memory = rw e at is in
+        rw (memory, home) (row_reply.Refused refusal.Memory, before.book, inr (grows, rw free done, refl, refl), refl, refl)
     cases (Some pair) e =
         let owned : takes_number (given_number act) before.book ≡ true = takes ∙ taken_number before.book pairs n pair register e in
-        rw (taken (rw e refl), home) (row_reply.Refused refusal.NumberTaken, before.book, inl (rw (owned, done) refl), refl, refl)
+        let taken : why ≡ refusal.NumberTaken = rw e at is in
+        rw (taken, home) (row_reply.Refused refusal.NumberTaken, before.book, inl (rw (owned, done) refl), refl, refl)
 
 -- a subscriber who lies in a part, and has a row or has none
 pub record IsHome (row : SubscriberRow) (store : Store) (has : Bool) : Type 0 where
@@ -163,7 +165,7 @@ pub unadded_step : (row : SubscriberRow) (before : Store) (pairs new : List (ℕ
 unadded_step row before pairs new why register here refused =
     let none = absent (subscriber_at before.book row.s_id) here.there in
     unpaired_step (action.AddSubscriber row) row.s_id row.sub_nbr before pairs why register refl (λ other found. let clash : Some other ≡ None = sym found ∙ none in absurd cc)
-    here.home (rw none refl) refl refused.1 refused.2
+    here.home (rw none refl) refl refused.1
 
 -- a subscriber who is added, with the pair in the index
 pub added_registered : (row : SubscriberRow) (before after : Book) (pairs new : List (ℕ × ℕ)) → IsRegister before pairs → IsRowsOf 1 (LAST_SUBSCRIBER + 1) after

@@ -9,19 +9,20 @@ use Rattle.tatp_rows.specs.Keys.{key_of, subscriber_key}
 use Rattle.tatp_rows.specs.declared.ranges.TheConstants.{LAST_SUBSCRIBER}
 use Rattle.tatp_rows.specs.declared.refusal.Refusal.{Refusal}
 use Rattle.tatp_rows.proofs.OrderedLemmas.{key_found, each-without_row}
-use Rattle.number_index.specs.Pairs.{owner_in, renamed, IsRenamed}
+use Rattle.number_index.specs.Pairs.{bearer_in, renamed, IsRenamed}
 use Rattle.tatp_actions.specs.Action.{is_in_range, effect, IsOutcome}
 use Rattle.tatp_actions.specs.Book.{Book, IsRowsOf, subscriber_at, put_subscriber}
 use Rattle.tatp_actions.specs.declared.action.Action.TheVariants as action
 use Rattle.tatp_actions.specs.declared.action.RowReply.{RowReply}
 use Rattle.tatp_actions.specs.declared.action.RowReply.TheVariants as row_reply
 use Rattle.hlr_core.specs.Index.{index_of, IsRegister}
-use Rattle.hlr_core.specs.Step.{IsRowStep, is_loose, given_number, takes_number, reply_of}
+use Rattle.hlr_core.specs.Inside.Asked.{IsRowStep}
+use Rattle.hlr_core.specs.Step.{is_loose, given_number, takes_number, reply_of}
 use Rattle.hlr_core.specs.Store.{Store}
 use Rattle.hlr_core.specs.declared.event.Reply.{Reply}
 use Rattle.hlr_core.specs.declared.event.Reply.TheVariants as reply
-use Rattle.hlr_core.proofs.NumbersLemmas.{other_numbers, owner_found, no_twin-with_row_at}
-use Rattle.hlr_core.proofs.IndexLemmas.{index_renamed, owner_indexed, free_number}
+use Rattle.hlr_core.proofs.NumbersLemmas.{other_numbers, bearer_found, no_twin-with_row_at}
+use Rattle.hlr_core.proofs.IndexLemmas.{index_renamed, bearer_indexed, free_number}
 use Rattle.hlr_core.proofs.PairsLemmas.{swapped_registered}
 use Rattle.hlr_core.proofs.RegisterLemmas.{acted_step, refused_step, unpaired_step, free_to_take}
 
@@ -34,7 +35,7 @@ record IsRenaming (s n : ℕ) (book : Book) (pairs new : List (ℕ × ℕ)) (res
 
 -- the row whose number is renamed
 renaming : (s old n : ℕ) (book : Book) (pairs new : List (ℕ × ℕ)) (result : Result (Unit {0}) Refusal) → IsRegister book pairs
-    → Some old ≡ option_map (λ (row : SubscriberRow). row.sub_nbr) (subscriber_at book s) → IsRenamed old n pairs new result (owner_in old pairs)
+    → Some old ≡ option_map (λ (row : SubscriberRow). row.sub_nbr) (subscriber_at book s) → IsRenamed old n pairs new result (bearer_in old pairs)
     → IsRenaming s n book pairs new result
 renaming s old n book pairs new result register number result_is = cases (subscriber_at book s) refl number
   where
@@ -44,8 +45,8 @@ renaming s old n book pairs new result register number result_is = cases (subscr
         let same : old ≡ row.sub_nbr = cc in
         let key : subscriber_key row ≡ key_of s 0 0 = key_found subscriber_key (key_of s 0 0) book.subscribers row e in
         let own : row.s_id ≡ s = omega arith in
-        let owner : owner_in row.sub_nbr pairs ≡ Some s =
-        owner_indexed book pairs row.sub_nbr register ∙ ap (option_map (λ (r : SubscriberRow). r.s_id)) (owner_found (key_of s 0 0) row book.subscribers register.alone e) ∙ ap (λ (k : ℕ). Some k) own in
+        let owner : bearer_in row.sub_nbr pairs ≡ Some s =
+        bearer_indexed book pairs row.sub_nbr register ∙ ap (option_map (λ (r : SubscriberRow). r.s_id)) (bearer_found (key_of s 0 0) row book.subscribers register.alone e) ∙ ap (λ (k : ℕ). Some k) own in
         record { row = row; found = e; own = own; answer = rw (same, owner) at result_is }
 
 -- a subscriber without a row
@@ -60,7 +61,7 @@ unnumbered_step s n before home none = refused_step (action.SetNumber s n) befor
 
 -- a number that the index refuses
 pub unrenamed_step : (s old n : ℕ) (before : Store) (pairs new : List (ℕ × ℕ)) (why : Refusal) → IsRegister before.book pairs → is_loose s before.regions ≡ false
-    → Some old ≡ option_map (λ (row : SubscriberRow). row.sub_nbr) (subscriber_at before.book s) → IsRenamed old n pairs new (Err why) (owner_in old pairs)
+    → Some old ≡ option_map (λ (row : SubscriberRow). row.sub_nbr) (subscriber_at before.book s) → IsRenamed old n pairs new (Err why) (bearer_in old pairs)
     → IsRowStep true (Some (action.SetNumber s n)) before (reply.Refused why) before
 unrenamed_step s old n before pairs new why register home number changed =
     let found = renaming s old n before.book pairs new (Err why) register number changed in
@@ -68,7 +69,7 @@ unrenamed_step s old n before pairs new why register home number changed =
       | inl same ↦ (let clash : Err why ≡ Ok tt = same.1 in absurd cc)
       | inr refused ↦ (let other : found.row.sub_nbr ≢ n = refused.0 in
           unpaired_step (action.SetNumber s n) s n before pairs why register refl (λ row is. let at : row ≡ found.row = one row found.row (sym is ∙ found.found) in rw at other)
-          home (rw (found.found) refl) (rw (found.found) (grind (arith, nat_tests))) refused.1.1 refused.1.2)
+          home (rw (found.found) refl) (rw (found.found) (grind (arith, nat_tests))) refused.1.1)
     ]
   where
     one : (x y : SubscriberRow) → Some x ≡ Some y → x ≡ y
@@ -91,7 +92,7 @@ numbered_book s n row before after answer fits found outcome =
     ]
 
 pub renamed_registered : (s old n : ℕ) (before after : Book) (pairs new : List (ℕ × ℕ)) (answer : RowReply) → IsRegister before pairs → IsRowsOf 1 (LAST_SUBSCRIBER + 1) after
-    → Some old ≡ option_map (λ (row : SubscriberRow). row.sub_nbr) (subscriber_at before s) → IsRenamed old n pairs new (Ok tt) (owner_in old pairs)
+    → Some old ≡ option_map (λ (row : SubscriberRow). row.sub_nbr) (subscriber_at before s) → IsRenamed old n pairs new (Ok tt) (bearer_in old pairs)
     → is_in_range (action.SetNumber s n) ≡ true → IsOutcome (action.SetNumber s n) before answer after → IsRegister after new
 renamed_registered s old n before after pairs new answer register rows number changed fits outcome =
     let found = renaming s old n before pairs new (Ok tt) register number changed in
@@ -117,7 +118,7 @@ renamed_registered s old n before after pairs new answer register rows number ch
 
 -- a number that is given is a right step
 pub renamed_step : (s old n : ℕ) (before after : Store) (pairs new : List (ℕ × ℕ)) (rows : RowReply) (answer : Reply) → IsRegister before.book pairs → is_loose s before.regions ≡ false
-    → Some old ≡ option_map (λ (row : SubscriberRow). row.sub_nbr) (subscriber_at before.book s) → IsRenamed old n pairs new (Ok tt) (owner_in old pairs)
+    → Some old ≡ option_map (λ (row : SubscriberRow). row.sub_nbr) (subscriber_at before.book s) → IsRenamed old n pairs new (Ok tt) (bearer_in old pairs)
     → is_in_range (action.SetNumber s n) ≡ true → IsOutcome (action.SetNumber s n) before.book rows after.book → after ≡ record before { book = after.book } → answer ≡ reply_of rows
     → IsRowStep true (Some (action.SetNumber s n)) before answer after
 renamed_step s old n before after pairs new rows answer register home number changed fits outcome same is =
@@ -126,7 +127,7 @@ renamed_step s old n before after pairs new rows answer register home number cha
   where
     takes : (found : IsRenaming s n before.book pairs new (Ok tt)) → IsRenamed found.row.sub_nbr n pairs new (Ok tt) (Some s) → takes_number (given_number (action.SetNumber s n)) before.book ≡ false
     takes found changed = elim changed [
-      | inl kept ↦ (let owner = owner_found (key_of s 0 0) found.row before.book.subscribers register.alone found.found in
+      | inl kept ↦ (let owner = bearer_found (key_of s 0 0) found.row before.book.subscribers register.alone found.found in
           rw (← kept.0, owner, found.own) (grind (arith, nat_tests)))
       | inr other ↦ free_to_take (action.SetNumber s n) s n before.book pairs register refl other.1.0
     ]

@@ -27,9 +27,9 @@ use Rattle.hlr_core.specs.Desks.{desk_of, slots_in}
 use Rattle.hlr_core.specs.Gather.{owners_of, holding_range, piece_range, ranges_of, rows_of_all, misfit, IsRefused, gathered}
 use Rattle.hlr_core.specs.Held.{Owner, of_holding, of_piece, IsOwner, AreOwners, AreHeld}
 use Rattle.hlr_core.specs.Index.{number_pair}
-use Rattle.hlr_core.specs.Noted.{bears}
+use Rattle.hlr_core.specs.Inside.Noted.{bears}
 use Rattle.hlr_core.specs.Numbers.{HasNoTwin}
-use Rattle.hlr_core.specs.Owners.{seen, unboxed, store_of}
+use Rattle.hlr_core.specs.Owners.{map_boxed, unboxed, store_of}
 use Rattle.hlr_core.proofs.GatherLemmas.{map_twice}
 use Rattle.hlr_core.proofs.GatheredLemmas.{none_misfits}
 use Rattle.hlr_core.proofs.GatheredRowsLemmas.{rows_same}
@@ -246,14 +246,14 @@ module _ (regions : List Region) (holdings : List HoldingState) (pieces : List P
       both (ap (do_follow 1) ranges_again ∙ unnumbered_follow 1 regions are.consecutive)
 
 module _ (regions : List Region) (boxes : List (Box HoldingState Global)) (loose : List (Box PieceState Global)) (width : ℕ) (are : AreRegions regions)
-    (held : AreHeld regions (seen of_holding boxes) (seen of_piece loose) width) where
+    (held : AreHeld regions (map_boxed of_holding boxes) (map_boxed of_piece loose) width) where
   -- what is in the boxes keeps the rules
   unboxed_held : AreHeld regions (map of_holding (unboxed boxes)) (map of_piece (unboxed loose)) width
   unboxed_held = rw (map_twice (λ (b : Box HoldingState Global). b.value) of_holding boxes, map_twice (λ (b : Box PieceState Global). b.value) of_piece loose) held
 
   -- so what is gathered of it is the store, with its pieces numbered in order
   pub boxes_again : (spare : Station) → gathered width spare (unboxed boxes) (unboxed loose)
-      ≡ record (store_of regions (seen of_holding boxes) (seen of_piece loose) spare (seen desk_of boxes) width) { regions = numbered 0 1 regions }
+      ≡ record (store_of regions (map_boxed of_holding boxes) (map_boxed of_piece loose) spare (map_boxed desk_of boxes) width) { regions = numbered 0 1 regions }
   boxes_again spare =
       let own = map_twice (λ (b : Box HoldingState Global). b.value) of_holding boxes in
       let others = map_twice (λ (b : Box PieceState Global). b.value) of_piece loose in

@@ -24,11 +24,11 @@ use Rattle.view_board.specs.Desks.{Station}
 use Rattle.view_board.specs.Nets.{net_of}
 use Rattle.holding.specs.Held.{HoldingState, PieceState}
 use Rattle.hlr_core.specs.Desks.{desk_of, AreDesks}
-use Rattle.hlr_core.proofs.BoxLemmas.{length-seen, seen_at}
-use Rattle.hlr_core.specs.Owners.{store_of, seen}
+use Rattle.hlr_core.proofs.BoxLemmas.{length-map_boxed, map_boxed_at}
+use Rattle.hlr_core.specs.Owners.{store_of, map_boxed}
 use Rattle.hlr_core.specs.Store.{unposted, published}
-use Rattle.hlr_core.proofs.HeldLemmas.{pending_fits}
-use Rattle.hlr_core.proofs.OwnerCountLemmas.{IsAtMost, sum_small, cells_added}
+use Rattle.hlr_core.proofs.HeldLemmas.{IsAtMost, owner_most, pending_fits}
+use Rattle.hlr_core.proofs.OwnerCountLemmas.{sum_small, cells_added}
 use Rattle.hlr_core.proofs.OwnerLemmas.{book_of_owners}
 use Rattle.hlr_core.proofs.StoreCountLemmas.{published_is, unposted_is}
 use Rattle.hlr_core.proofs.StoreLemmas.{all_rows}
@@ -65,8 +65,8 @@ each_take Q (x ∷ xs) (suc i) each = (each.0, each_take Q xs i each.1)
 -- the zones of an owner have the width, and what it has published and what is pending of it are small
 pub record IsCountable (width : ℕ) (owner : Owner) : Type 0 where
   pub zones : owner.part.width ≡ width
-  pub pending : (c : ℕ) → c < CELLS → IsAtMost 2199023255552 (pending_at owner.pending c)
-  pub published : (c : ℕ) → c < CELLS → IsAtMost 2199023255552 (net_of owner.view c)
+  pub pending : (c : ℕ) → c < CELLS → IsAtMost owner_most (pending_at owner.pending c)
+  pub published : (c : ℕ) → c < CELLS → IsAtMost owner_most (net_of owner.view c)
 
 each_countable : (width : ℕ) (regions : List Region) (owners : List Owner) → AreOwners width regions owners → AllByRecursion (IsCountable width) owners
 each_countable width [] [] each = tt
@@ -86,11 +86,11 @@ all_countable regions holdings pieces width held =
     each_woven (IsCountable width) regions holdings pieces held.each_part held.each_piece (each_countable width regions (woven regions holdings pieces) held.owners)
 
 -- an owner in its box
-pub box_countable : {X : Type 0} (as_owner : X → Owner) (width : ℕ) (boxes : List (Box X Global)) (i : ℕ) (b : Box X Global) (x : X) → AllByRecursion (IsCountable width) (seen as_owner boxes) → i < length boxes
+pub box_countable : {X : Type 0} (as_owner : X → Owner) (width : ℕ) (boxes : List (Box X Global)) (i : ℕ) (b : Box X Global) (x : X) → AllByRecursion (IsCountable width) (map_boxed as_owner boxes) → i < length boxes
     → b ≡ get_or boxes i b → x ≡ b.value → IsCountable width (as_owner x)
 box_countable as_owner width boxes i b x each within is has =
-    let at = seen_at as_owner boxes i b x is has in
-    rw at (each_at (IsCountable width) (seen as_owner boxes) i (as_owner x) each (rw (length-seen as_owner boxes) within))
+    let at = map_boxed_at as_owner boxes i b x is has in
+    rw at (each_at (IsCountable width) (map_boxed as_owner boxes) i (as_owner x) each (rw (length-map_boxed as_owner boxes) within))
 
 -- a sum with one more, and of all
 sum_last : {X : Type 0} (f : X → ℤ) (xs : List X) (x : X) → sum_ints f (xs ++ x ∷ []) ≡ sum_ints f xs +ℤ f x
@@ -117,12 +117,12 @@ module _ (amount : Owner → ℕ → ℤ) (most : ℕ) (owners : List Owner) (st
   none_added few = record { few = few; added = λ c below. omega (arith, ints) }
 
   -- they are small
-  pub added_small : (width i : ℕ) (sums : List ℤ) → ((owner : Owner) → IsCountable width owner → (c : ℕ) → c < CELLS → IsAtMost 2199023255552 (amount owner c)) → AllByRecursion (IsCountable width) owners
-      → length owners ≤ 16 → AreAdded amount most owners start sums i → (c : ℕ) → c < CELLS → IsAtMost (most + 35184372088832) (pending_at sums c)
+  pub added_small : (width i : ℕ) (sums : List ℤ) → ((owner : Owner) → IsCountable width owner → (c : ℕ) → c < CELLS → IsAtMost owner_most (amount owner c)) → AllByRecursion (IsCountable width) owners
+      → length owners ≤ 16 → AreAdded amount most owners start sums i → (c : ℕ) → c < CELLS → IsAtMost (most + 2 ^ 45) (pending_at sums c)
   added_small width i sums is_small each few so_far c below =
       let f = λ (owner : Owner). amount owner c in
-      let small = each-weaker {P = IsCountable width} {Q = λ (owner : Owner). IsAtMost 2199023255552 (amount owner c)} (λ owner is. is_small owner is c below) owners each in
-      let part = sum_small f (take i owners) (each_take (λ (owner : Owner). IsAtMost 2199023255552 (amount owner c)) owners i small) in
+      let small = each-weaker {P = IsCountable width} {Q = λ (owner : Owner). IsAtMost owner_most (amount owner c)} (λ owner is. is_small owner is c below) owners each in
+      let part = sum_small f (take i owners) (each_take (λ (owner : Owner). IsAtMost owner_most (amount owner c)) owners i small) in
       let long = length-take i owners in
       let first = so_far.few c below in
       let sum = so_far.added c below in
@@ -142,24 +142,24 @@ module _ (amount : Owner → ℕ → ℤ) (most : ℕ) (owners : List Owner) (st
   all_added i sums past so_far c below = rw (take_all i owners past) at (so_far.added c below)
 
 module _ (regions : List Region) (boxes : List (Box HoldingState Global)) (loose : List (Box PieceState Global)) (spare : Station) (width : ℕ) (board : TableId) (are : AreRegions regions)
-    (held : AreHeld regions (seen of_holding boxes) (seen of_piece loose) width) (desks : AreDesks board spare (seen desk_of boxes)) where
+    (held : AreHeld regions (map_boxed of_holding boxes) (map_boxed of_piece loose) width) (desks : AreDesks board spare (map_boxed desk_of boxes)) where
   -- what the holdings have published, added to zeros, is what is published
-  pub added_published : (i : ℕ) (zeros sums : List ℤ) → ((c : ℕ) → pending_at zeros c ≡ pos 0) → length (seen of_holding boxes) ≤ i → AreAdded nets 0 (seen of_holding boxes) zeros sums i
-      → (c : ℕ) → c < CELLS → pending_at sums c ≡ published (store_of regions (seen of_holding boxes) (seen of_piece loose) spare (seen desk_of boxes) width) c
+  pub added_published : (i : ℕ) (zeros sums : List ℤ) → ((c : ℕ) → pending_at zeros c ≡ pos 0) → length (map_boxed of_holding boxes) ≤ i → AreAdded nets 0 (map_boxed of_holding boxes) zeros sums i
+      → (c : ℕ) → c < CELLS → pending_at sums c ≡ published (store_of regions (map_boxed of_holding boxes) (map_boxed of_piece loose) spare (map_boxed desk_of boxes) width) c
   added_published i zeros sums none past all c below =
       let begins = none c in
-      let sum = all_added nets 0 (seen of_holding boxes) zeros i sums past all c below in
+      let sum = all_added nets 0 (map_boxed of_holding boxes) zeros i sums past all c below in
       let is = published_is regions boxes loose spare width board are held desks c below in
       omega (arith, ints)
 
   -- what is pending of the holdings and then of the pieces, added to zeros, is what is not posted
-  pub added_unposted : (most i j : ℕ) (zeros first last : List ℤ) → ((c : ℕ) → pending_at zeros c ≡ pos 0) → length (seen of_holding boxes) ≤ i → length (seen of_piece loose) ≤ j
-      → AreAdded deltas 0 (seen of_holding boxes) zeros first i → AreAdded deltas most (seen of_piece loose) first last j
-      → (c : ℕ) → c < CELLS → pending_at last c ≡ unposted (store_of regions (seen of_holding boxes) (seen of_piece loose) spare (seen desk_of boxes) width) c
+  pub added_unposted : (most i j : ℕ) (zeros first last : List ℤ) → ((c : ℕ) → pending_at zeros c ≡ pos 0) → length (map_boxed of_holding boxes) ≤ i → length (map_boxed of_piece loose) ≤ j
+      → AreAdded deltas 0 (map_boxed of_holding boxes) zeros first i → AreAdded deltas most (map_boxed of_piece loose) first last j
+      → (c : ℕ) → c < CELLS → pending_at last c ≡ unposted (store_of regions (map_boxed of_holding boxes) (map_boxed of_piece loose) spare (map_boxed desk_of boxes) width) c
   added_unposted most i j zeros first last none all_holdings all_pieces one other c below =
       let begins = none c in
-      let sum = all_added deltas 0 (seen of_holding boxes) zeros i first all_holdings one c below in
-      let more = all_added deltas most (seen of_piece loose) first j last all_pieces other c below in
+      let sum = all_added deltas 0 (map_boxed of_holding boxes) zeros i first all_holdings one c below in
+      let more = all_added deltas most (map_boxed of_piece loose) first j last all_pieces other c below in
       let is = unposted_is regions boxes loose spare width board are held desks c below in
       omega (arith, ints)
 

@@ -1,7 +1,6 @@
 -- The owners of all regions, parts and loose pieces, and the rules that they keep together.
-use Rattle.std.specs.Prelude.{◌≡◌, ℕ, ◌<◌, ◌^◌, List, [], ◌∷◌, length, ℤ, pos, neg_ℤ, ◌+ℤ◌, ◌≤ℤ◌}
+use Rattle.std.specs.Prelude.{◌≡◌, ℕ, ◌<◌, List, [], ◌∷◌, length, ℤ, pos, ◌+ℤ◌}
 use Rattle.std.specs.List.{AllZip}
-use Rattle.tatp_actions.specs.Book.{empty_book}
 use Rattle.tatp_actions.specs.Part.{PartState, IsPart, IsWidth}
 use Rattle.tatp_actions.specs.declared.cells.TheConstants.{CELLS}
 use Rattle.part_table.specs.Regions.{parts_of, pieces_of}
@@ -11,7 +10,7 @@ use Rattle.view_board.specs.Nets.{net_of}
 use Rattle.view_board.specs.Views.{nobody}
 use Rattle.view_board.specs.declared.rule.View.{View}
 use Rattle.view_delta.specs.Pending.{pending_at}
-use Rattle.holding.specs.Held.{HoldingState, PieceState, IsHolding, HasSmallNets, count_of}
+use Rattle.holding.specs.Held.{HoldingState, PieceState, HasSmallNets, count_of}
 
 -- an owner of rows: a part's holding, or a loose piece, of which nobody has published anything
 pub record Owner : Type 0 where
@@ -29,10 +28,6 @@ of_piece piece = record { part = piece.part; pending = piece.pending; view = nob
 abbrev pub pending_in : List Owner → ℕ → ℤ
 pending_in [] c = pos 0
 pending_in (owner ∷ owners) c = pending_at owner.pending c +ℤ pending_in owners c
-
--- a sum for each cell is at most 2^60, either way
-abbrev pub AreSummable : (ℕ → ℤ) → Type 0
-AreSummable sum = (c : ℕ) → c < CELLS → (neg_ℤ (pos (2 ^ 60)) ≤ℤ sum c) × (sum c ≤ℤ pos (2 ^ 60))
 
 -- the local law: what is published of a cell and what is pending of it are the count over the owner's rows
 pub record IsLawful (owner : Owner) : Type 0 where
@@ -57,11 +52,3 @@ pub record AreHeld (regions : List Region) (holdings pieces : List Owner) (width
   pub each_piece : length pieces ≡ length (pieces_of regions)
   pub owners : AreOwners width regions (woven regions holdings pieces)
   pub zones : IsWidth width
-
--- a holding of a region that has no row
-pub record IsOpened (region : Region) (width : ℕ) (holding : HoldingState) : Type 0 where
-  pub from : holding.part.lo ≡ region.lo
-  pub to : holding.part.hi ≡ region.hi
-  pub zones : holding.part.width ≡ width
-  pub no_rows : holding.part.book ≡ empty_book
-  pub rules : IsHolding holding

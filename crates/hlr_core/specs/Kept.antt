@@ -1,15 +1,20 @@
--- Gives and takes change no reply but Moving: what is left of a run without them, postings, and what was answered Moving or Memory.
+-- Gives, takes and re-cuts change no reply but Moving: what is left of a run without them, postings, and what was
+-- answered Moving or Memory.
 use Rattle.std.specs.Prelude.{◌≡◌, Bool, true, false, ◌&&◌, List, [], ◌∷◌, if◌then◌else◌}
 use Rattle.tatp_rows.specs.declared.refusal.Refusal.{Refusal}
 use Rattle.tatp_rows.specs.declared.refusal.Refusal.TheVariants as refusal
 use Rattle.tatp_actions.specs.Book.{Book}
-use Rattle.part_table.specs.Bounds.{parts_between}
-use Rattle.hlr_core.specs.Step.{IsRun}
+use Rattle.part_table.specs.Regions.{pieces_of}
+use Rattle.hlr_core.specs.Run.{IsRun}
 use Rattle.hlr_core.specs.Store.{Store}
 use Rattle.hlr_core.specs.declared.event.Event.{Event}
 use Rattle.hlr_core.specs.declared.event.Event.TheVariants.{Post, Give, Take}
 use Rattle.hlr_core.specs.declared.event.Reply.{Reply}
 use Rattle.hlr_core.specs.declared.event.Reply.TheVariants as reply
+use Rattle.hlr_core.specs.declared.order.Answer.{Answer}
+use Rattle.hlr_core.specs.declared.order.Answer.TheVariants as answer
+use Rattle.hlr_core.specs.declared.order.Order.{Order}
+use Rattle.hlr_core.specs.declared.order.Order.TheVariants as order
 
 -- an event on rows
 abbrev pub is_on_rows : Event → Bool
@@ -29,23 +34,30 @@ abbrev pub is_lasting : Reply → Bool
 is_lasting (reply.Refused why) = if is_passing why then false else true
 is_lasting _ = true
 
--- the events on rows that were not answered Moving or Memory
-abbrev pub kept_events : List Event → List Reply → List Event
-kept_events [] answers = []
-kept_events (event ∷ events) [] = []
-kept_events (event ∷ events) (answer ∷ answers) =
-    if is_on_rows event && is_lasting answer then event ∷ kept_events events answers else kept_events events answers
+-- an order is kept where it is an event on rows that was not answered Moving or Memory
+abbrev pub is_kept : Order → Answer → Bool
+is_kept (order.Event event) (answer.Reply said) = is_on_rows event && is_lasting said
+is_kept (order.Event event) (answer.Recut done) = false
+is_kept (order.Recut bounds) told = false
 
--- and their replies
-abbrev pub kept_replies : List Event → List Reply → List Reply
-kept_replies [] answers = []
-kept_replies (event ∷ events) [] = []
-kept_replies (event ∷ events) (answer ∷ answers) =
-    if is_on_rows event && is_lasting answer then answer ∷ kept_replies events answers else kept_replies events answers
+-- the orders that are kept
+abbrev pub kept_orders : List Order → List Answer → List Order
+kept_orders [] answers = []
+kept_orders (first ∷ orders) [] = []
+kept_orders (first ∷ orders) (told ∷ answers) =
+    if is_kept first told then first ∷ kept_orders orders answers else kept_orders orders answers
 
--- whatever the words and slots are: where one part has all rows from first to last, the kept events have the same replies, and lead
--- from the one book to the other
-abbrev pub IsSameUndivided : List Event → Book → List Reply → Book → Type 0
-IsSameUndivided events before answers after =
-    (base : Store) → base.regions ≡ parts_between 0 1 []
-    → IsRun (kept_events events answers) (record base { book = before }) (kept_replies events answers) (record base { book = after })
+-- and their answers
+abbrev pub kept_answers : List Order → List Answer → List Answer
+kept_answers [] answers = []
+kept_answers (first ∷ orders) [] = []
+kept_answers (first ∷ orders) (told ∷ answers) =
+    if is_kept first told then told ∷ kept_answers orders answers else kept_answers orders answers
+
+-- from any store with the book before in which no piece is loose, whatever its parts, words and slots, and so from the
+-- very store where none is loose there: the kept orders have the same answers, and lead to the same book
+abbrev pub IsSameAtHome : List Order → Book → List Answer → Book → Type 0
+IsSameAtHome orders before answers after =
+    (base : Store) → pieces_of base.regions ≡ []
+    → IsRun (kept_orders orders answers) (record base { book = before }) (kept_answers orders answers)
+    (record base { book = after })

@@ -5,12 +5,12 @@ use Rattle.tatp_rows.specs.Ordered.{row_at}
 use Rattle.tatp_rows.specs.Rows.{SubscriberRow}
 
 -- the Subscriber row with a number
-abbrev pub owner_of : List SubscriberRow → ℕ → Option SubscriberRow
-owner_of rows number = row_at (λ row. row.sub_nbr) number rows
+abbrev pub bearer_of : List SubscriberRow → ℕ → Option SubscriberRow
+bearer_of rows number = row_at (λ row. row.sub_nbr) number rows
 
 -- the subscriber with a number
-abbrev pub owner_id : List SubscriberRow → ℕ → Option ℕ
-owner_id rows number = option_map (λ row. row.s_id) (owner_of rows number)
+abbrev pub bearer_id : List SubscriberRow → ℕ → Option ℕ
+bearer_id rows number = option_map (λ row. row.s_id) (bearer_of rows number)
 
 -- no number stands twice
 abbrev pub HasNoTwin : List SubscriberRow → Type 0

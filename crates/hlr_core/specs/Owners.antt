@@ -9,9 +9,9 @@ use Rattle.hlr_core.specs.Desks.{words_of, slots_in}
 use Rattle.hlr_core.specs.Held.{Owner}
 use Rattle.hlr_core.specs.Store.{Store}
 
--- what boxes contain, seen as something
-abbrev pub seen : {X Y : Type 0} → (X → Y) → List (Box X Global) → List Y
-seen as_what boxes = map (λ b. as_what b.value) boxes
+-- what boxes contain, each as something
+abbrev pub map_boxed : {X Y : Type 0} → (X → Y) → List (Box X Global) → List Y
+map_boxed as_what boxes = map (λ b. as_what b.value) boxes
 
 -- what boxes contain
 abbrev pub unboxed : {X : Type 0} → List (Box X Global) → List X

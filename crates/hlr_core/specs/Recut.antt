@@ -21,13 +21,6 @@ half_moved move regions =
     if nat_lt move.from move.to then given_away move.bound Low move.to regions
     else given_away (move.bound - 1) High move.to regions
 
--- what becomes of a store where a piece is handed on: the regions alone move, to those after it; or, where memory was wanted,
--- they are as they were, or as the give alone leaves them. No clause of a public call cites this
-abbrev pub IsHanded : Result (List Region) Refusal → List Region → Store → Result (Unit {0}) Refusal → Store → Type 0
-IsHanded whole half before (Ok done) after = (whole ≡ Ok after.regions) × (after ≡ record before { regions = after.regions })
-IsHanded whole half before (Err why) after =
-    (why ≡ Memory) × (after ≡ record before { regions = after.regions }) × ((after.regions ≡ before.regions) ⊎ (after.regions ≡ half))
-
 -- moves that want of memory stopped: those in front of one are done, and of that one nothing, or its give
 abbrev pub IsStopped : List CutMove → List Region → List Region → Type 0
 IsStopped [] before after = ⊥

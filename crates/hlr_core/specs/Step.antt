@@ -1,5 +1,5 @@
--- Right steps: which reply an event may have, and the store after it. Memory is the one free choice.
-use Rattle.std.specs.Prelude.{◌≡◌, ℕ, ◌==◌, ◌&&◌, ◌||◌, not, Bool, true, false, List, [], ◌∷◌, Option, Some, None, option_map, Result, Ok, Err, if◌then◌else◌, ◌⊎◌}
+-- Right steps: what an event asks for, which reply it may have, and the store after it. Memory is the one free choice.
+use Rattle.std.specs.Prelude.{◌≡◌, ℕ, ◌==◌, ◌&&◌, ◌||◌, not, Bool, true, false, List, Option, Some, None, option_map, Result, Ok, Err, if◌then◌else◌, ◌⊎◌}
 use Rattle.tatp_rows.specs.Rows.{SubscriberRow, is_between, is_start_time}
 use Rattle.tatp_rows.specs.declared.ranges.TheConstants.{LAST_SUBSCRIBER}
 use Rattle.tatp_rows.specs.declared.refusal.Refusal.{Refusal}
@@ -18,7 +18,7 @@ use Rattle.tatp_actions.specs.declared.action.Action.{Action}
 use Rattle.tatp_actions.specs.declared.action.Action.TheVariants as action
 use Rattle.tatp_actions.specs.declared.action.RowReply.{RowReply}
 use Rattle.tatp_actions.specs.declared.action.RowReply.TheVariants as row_reply
-use Rattle.hlr_core.specs.Numbers.{owner_of, owner_id}
+use Rattle.hlr_core.specs.Numbers.{bearer_of, bearer_id}
 use Rattle.hlr_core.specs.Post.{post}
 use Rattle.hlr_core.specs.Store.{Store, rows_of, slots_of}
 use Rattle.hlr_core.specs.declared.event.Event.{Event}
@@ -45,7 +45,7 @@ has_another sub_nbr (Some row) = not (row.sub_nbr == sub_nbr)
 -- the number that is given is another subscriber's
 abbrev pub takes_number : Option (ℕ × ℕ) → Book → Bool
 takes_number None book = false
-takes_number (Some given) book = is_anothers given.0 (owner_of book.subscribers given.1)
+takes_number (Some given) book = is_anothers given.0 (bearer_of book.subscribers given.1)
 
 -- the number that is given takes the place of another
 abbrev pub changes_number : Option (ℕ × ℕ) → Book → Bool
@@ -97,15 +97,51 @@ IsOwnedStep false act before answer after =
     (rows : RowReply) × (book : Book)
     × IsWholeOutcome act before.book rows book × (answer ≡ reply_of rows) × (after ≡ record before { book = book })
 
--- a right step of an event on rows: Field, then NoNumber, then Moving, else a right outcome of its action
-abbrev pub IsRowStep : Bool → Option Action → Store → Reply → Store → Type 0
-IsRowStep false act before answer after = (answer ≡ reply.Refused refusal.Field) × (after ≡ before)
-IsRowStep true None before answer after = (answer ≡ reply.Refused refusal.NoNumber) × (after ≡ before)
-IsRowStep true (Some act) before answer after = IsOwnedStep (is_loose (s_id_of act) before.regions) act before answer after
+-- a right step of what asks for an action, or for none and is refused
+abbrev pub IsAskedStep : Result Action Refusal → Store → Reply → Store → Type 0
+IsAskedStep (Ok act) before answer after =
+    IsOwnedStep (is_loose (s_id_of act) before.regions) act before answer after
+IsAskedStep (Err why) before answer after = (answer ≡ reply.Refused why) × (after ≡ before)
 
--- a right step of an event that names its subscriber
-abbrev pub IsActionStep : Action → Store → Reply → Store → Type 0
-IsActionStep act = IsRowStep (is_in_range act) (Some act)
+-- Field where numbers are out of range, NoNumber where there is no subscriber, else the action
+abbrev pub checked : Bool → Option Action → Result Action Refusal
+checked false wanted = Err refusal.Field
+checked true None = Err refusal.NoNumber
+checked true (Some act) = Ok act
+
+-- an action, or Field where its numbers are out of range
+abbrev pub in_range : Action → Result Action Refusal
+in_range act = checked (is_in_range act) (Some act)
+
+-- the type and the start time of a forwarding are in range
+abbrev pub has_forwarding_key : ℕ → ℕ → Bool
+has_forwarding_key sf_type start_time = is_between 1 4 sf_type && is_start_time start_time
+
+-- what an event on rows asks for; any other event asks for no action, and what stands for it here is of no matter
+abbrev pub asked : Event → Book → Result Action Refusal
+asked (SubscriberData s_id) book = in_range (action.SubscriberData s_id)
+asked (NewDestination s_id sf_type start_time end_time) book =
+    in_range (action.NewDestination s_id sf_type start_time end_time)
+asked (AccessData s_id ai_type) book = in_range (action.AccessData s_id ai_type)
+asked (UpdateSubscriber s_id sf_type bit_1 data_a) book = in_range (action.UpdateSubscriber s_id sf_type bit_1 data_a)
+asked (UpdateLocation sub_nbr vlr_location) book =
+    checked (is_between 1 4294967295 vlr_location)
+    (option_map (λ s_id. action.UpdateLocation s_id vlr_location) (bearer_id book.subscribers sub_nbr))
+asked (InsertForwarding sub_nbr sf_type start_time end_time numberx) book =
+    checked (has_forwarding_key sf_type start_time && is_between 1 24 end_time)
+    (option_map
+    (λ s_id. action.InsertForwarding (record { s_id = s_id; sf_type = sf_type; start_time = start_time; end_time = end_time; numberx = numberx }))
+    (bearer_id book.subscribers sub_nbr))
+asked (DeleteForwarding sub_nbr sf_type start_time) book =
+    checked (has_forwarding_key sf_type start_time)
+    (option_map (λ s_id. action.DeleteForwarding s_id sf_type start_time) (bearer_id book.subscribers sub_nbr))
+asked (AddSubscriber row) book = Ok (action.AddSubscriber row)
+asked (AddAccess row) book = Ok (action.AddAccess row)
+asked (AddFacility row) book = Ok (action.AddFacility row)
+asked (SetActive s_id sf_type is_active) book = in_range (action.SetActive s_id sf_type is_active)
+asked (SetNumber s_id sub_nbr) book =
+    checked (is_between 1 LAST_SUBSCRIBER s_id) (Some (action.SetNumber s_id sub_nbr))
+asked other book = Err refusal.Field
 
 -- the reply of a posting
 abbrev pub posted_reply : Result ℕ Refusal → Reply
@@ -148,37 +184,9 @@ IsTakeStep piece part before answer after =
     × MayAnswer (take_answer piece part before.regions) done × (answer ≡ taken_reply piece part done)
     × (after ≡ record before { regions = after_take piece part done before.regions })
 
--- the type and the start time of a forwarding are in range
-abbrev pub has_forwarding_key : ℕ → ℕ → Bool
-has_forwarding_key sf_type start_time = is_between 1 4 sf_type && is_start_time start_time
-
 -- from one store, an event may have this reply and lead to that store
 abbrev pub IsStep : Event → Store → Reply → Store → Type 0
-IsStep (SubscriberData s_id) before = IsActionStep (action.SubscriberData s_id) before
-IsStep (NewDestination s_id sf_type start_time end_time) before = IsActionStep (action.NewDestination s_id sf_type start_time end_time) before
-IsStep (AccessData s_id ai_type) before = IsActionStep (action.AccessData s_id ai_type) before
-IsStep (UpdateSubscriber s_id sf_type bit_1 data_a) before = IsActionStep (action.UpdateSubscriber s_id sf_type bit_1 data_a) before
-IsStep (UpdateLocation sub_nbr vlr_location) before =
-    IsRowStep (is_between 1 4294967295 vlr_location) (option_map (λ s_id. action.UpdateLocation s_id vlr_location) (owner_id before.book.subscribers sub_nbr)) before
-IsStep (InsertForwarding sub_nbr sf_type start_time end_time numberx) before =
-    IsRowStep (has_forwarding_key sf_type start_time && is_between 1 24 end_time)
-    (option_map (λ s_id. action.InsertForwarding (record { s_id = s_id; sf_type = sf_type; start_time = start_time; end_time = end_time; numberx = numberx }))
-    (owner_id before.book.subscribers sub_nbr)) before
-IsStep (DeleteForwarding sub_nbr sf_type start_time) before =
-    IsRowStep (has_forwarding_key sf_type start_time) (option_map (λ s_id. action.DeleteForwarding s_id sf_type start_time) (owner_id before.book.subscribers sub_nbr)) before
-IsStep (AddSubscriber row) before = IsRowStep true (Some (action.AddSubscriber row)) before
-IsStep (AddAccess row) before = IsRowStep true (Some (action.AddAccess row)) before
-IsStep (AddFacility row) before = IsRowStep true (Some (action.AddFacility row)) before
-IsStep (SetActive s_id sf_type is_active) before = IsActionStep (action.SetActive s_id sf_type is_active) before
-IsStep (SetNumber s_id sub_nbr) before = IsRowStep (is_between 1 LAST_SUBSCRIBER s_id) (Some (action.SetNumber s_id sub_nbr)) before
-IsStep (Post part limit) before = IsPostStep (slots_of before part) part limit before
-IsStep (Give part side at) before = IsGiveStep part side at before
-IsStep (Take piece part) before = IsTakeStep piece part before
-
--- the events may have these replies, one after another, and lead from one store to another
-abbrev pub IsRun : List Event → Store → List Reply → Store → Type 0
-IsRun [] before [] after = after ≡ before
-IsRun (event ∷ events) before (answer ∷ answers) after =
-    (next : Store) × IsStep event before answer next × IsRun events next answers after
-IsRun [] before (answer ∷ answers) after = ⊥
-IsRun (event ∷ events) before [] after = ⊥
+IsStep (Post part limit) before answer after = IsPostStep (slots_of before part) part limit before answer after
+IsStep (Give part side at) before answer after = IsGiveStep part side at before answer after
+IsStep (Take piece part) before answer after = IsTakeStep piece part before answer after
+IsStep event before answer after = IsAskedStep (asked event before.book) before answer after

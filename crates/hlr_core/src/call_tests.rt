@@ -135,15 +135,15 @@ fn subject(register: &Register, event: &Event) -> u64 {
         Event::AddSubscriber(row) => u64::from(row.s_id()),
         Event::AddAccess(row) => u64::from(row.s_id()),
         Event::AddFacility(row) => u64::from(row.s_id()),
-        Event::UpdateLocation { sub_nbr, .. } => owner(register, sub_nbr),
-        Event::InsertForwarding { sub_nbr, .. } => owner(register, sub_nbr),
-        Event::DeleteForwarding { sub_nbr, .. } => owner(register, sub_nbr),
+        Event::UpdateLocation { sub_nbr, .. } => bearer(register, sub_nbr),
+        Event::InsertForwarding { sub_nbr, .. } => bearer(register, sub_nbr),
+        Event::DeleteForwarding { sub_nbr, .. } => bearer(register, sub_nbr),
         _ => 0,
     }
 }
 
 /// Who has a number, or 0.
-fn owner(register: &Register, sub_nbr: Number) -> u64 {
+fn bearer(register: &Register, sub_nbr: Number) -> u64 {
     u64::from(register.index().find(sub_nbr).unwrap_or(0))
 }
 

@@ -5,7 +5,7 @@ ghost use Rattle.tatp_rows.specs.declared.ranges.TheConstants.{LAST_SUBSCRIBER};
 ghost use Rattle.tatp_actions.specs.Action.{is_in_range};
 ghost use Rattle.tatp_actions.specs.Book.{IsWithin};
 ghost use Rattle.tatp_actions.specs.declared.action.Action.TheVariants as action;
-ghost use Rattle.hlr_core.specs.Asked.{IsAsked, IsAskedAlone, IsRowAction, action_asked};
+ghost use Rattle.hlr_core.specs.Inside.Asked.{IsAsked, IsAskedAlone, IsRowAction, action_asked};
 ghost use Rattle.hlr_core.specs.Step.{has_forwarding_key};
 
 use tatp_actions::Edit;
@@ -54,31 +54,31 @@ pub(crate) fn set_active(s_id: u64, sf_type: u64, is_active: u64) -> Result<SetA
 }
 
 pub(crate) fn update_location(
-    owner: Option<u32>,
+    bearer_id: Option<u32>,
     vlr_location: u64,
 ) -> Result<UpdateLocation, Refusal>
-    requires { (s_id : ℕ) → owner ≡ Some s_id → IsWithin 1 (LAST_SUBSCRIBER + 1) s_id }
+    requires { (s_id : ℕ) → bearer_id ≡ Some s_id → IsWithin 1 (LAST_SUBSCRIBER + 1) s_id }
     ensures action { IfOk result (λ edit. IsRowAction (⟦<UpdateLocation as Edit>⟧.action edit)) }
-    ensures asked { IsAsked (is_between 1 4294967295 vlr_location) (option_map (λ s_id. action.UpdateLocation s_id vlr_location) owner) (action_asked ⟦<UpdateLocation as Edit>⟧.action result) }
+    ensures asked { IsAsked (is_between 1 4294967295 vlr_location) (option_map (λ s_id. action.UpdateLocation s_id vlr_location) bearer_id) (action_asked ⟦<UpdateLocation as Edit>⟧.action result) }
 {
     let vlr_location = in_range(vlr_location, u32::MAX)?;
-    let s_id = owner.ok_or(Refusal::NoNumber)?;
+    let s_id = bearer_id.ok_or(Refusal::NoNumber)?;
     Ok(UpdateLocation { s_id, vlr_location })
 }
 
 pub(crate) fn insert_forwarding(
-    owner: Option<u32>,
+    bearer_id: Option<u32>,
     sf_type: u64,
     start_time: u64,
     end_time: u64,
     numberx: Number,
 ) -> Result<InsertForwarding, Refusal>
-    requires { (s_id : ℕ) → owner ≡ Some s_id → IsWithin 1 (LAST_SUBSCRIBER + 1) s_id }
+    requires { (s_id : ℕ) → bearer_id ≡ Some s_id → IsWithin 1 (LAST_SUBSCRIBER + 1) s_id }
     ensures action { IfOk result (λ edit. IsRowAction (⟦<InsertForwarding as Edit>⟧.action edit)) }
     ensures asked { IsAsked (has_forwarding_key sf_type start_time && is_between 1 24 end_time)
-        (option_map (λ s_id. action.InsertForwarding (record { s_id = s_id; sf_type = sf_type; start_time = start_time; end_time = end_time; numberx = numberx })) owner) (action_asked ⟦<InsertForwarding as Edit>⟧.action result) }
+        (option_map (λ s_id. action.InsertForwarding (record { s_id = s_id; sf_type = sf_type; start_time = start_time; end_time = end_time; numberx = numberx })) bearer_id) (action_asked ⟦<InsertForwarding as Edit>⟧.action result) }
 {
-    let Some(s_id) = owner else {
+    let Some(s_id) = bearer_id else {
         // The fields are looked at first, whoever the subscriber would be.
         Forwarding::try_new(1, sf_type, start_time, end_time, numberx)?;
         return Err(Refusal::NoNumber);
@@ -88,20 +88,20 @@ pub(crate) fn insert_forwarding(
 }
 
 pub(crate) fn delete_forwarding(
-    owner: Option<u32>,
+    bearer_id: Option<u32>,
     sf_type: u64,
     start_time: u64,
 ) -> Result<DeleteForwarding, Refusal>
-    requires { (s_id : ℕ) → owner ≡ Some s_id → IsWithin 1 (LAST_SUBSCRIBER + 1) s_id }
+    requires { (s_id : ℕ) → bearer_id ≡ Some s_id → IsWithin 1 (LAST_SUBSCRIBER + 1) s_id }
     ensures action { IfOk result (λ edit. IsRowAction (⟦<DeleteForwarding as Edit>⟧.action edit)) }
-    ensures asked { IsAsked (has_forwarding_key sf_type start_time) (option_map (λ s_id. action.DeleteForwarding s_id sf_type start_time) owner) (action_asked ⟦<DeleteForwarding as Edit>⟧.action result) }
+    ensures asked { IsAsked (has_forwarding_key sf_type start_time) (option_map (λ s_id. action.DeleteForwarding s_id sf_type start_time) bearer_id) (action_asked ⟦<DeleteForwarding as Edit>⟧.action result) }
 {
     let sf_type = byte(sf_type)?;
     let start_time = byte(start_time)?;
     if !is_between(sf_type, 1, 4) || !is_start_time(u64::from(start_time)) {
         return Err(Refusal::Field);
     }
-    let s_id = owner.ok_or(Refusal::NoNumber)?;
+    let s_id = bearer_id.ok_or(Refusal::NoNumber)?;
     Ok(DeleteForwarding {
         s_id,
         sf_type,
@@ -113,7 +113,7 @@ pub(crate) fn add_access(row: Access) -> Result<AddAccess, Refusal>
     ensures action { IfOk result (λ edit. IsRowAction (⟦<AddAccess as Edit>⟧.action edit)) }
     ensures asked { IsAsked true (Some (action.AddAccess row)) (action_asked ⟦<AddAccess as Edit>⟧.action result) }
 {
-    // The reader says that the row is in range.
+    // For the prover: the row is in range, as its reader says.
     let _s_id = row.s_id();
     Ok(AddAccess { row })
 }
@@ -122,7 +122,7 @@ pub(crate) fn add_facility(row: Facility) -> Result<AddFacility, Refusal>
     ensures action { IfOk result (λ edit. IsRowAction (⟦<AddFacility as Edit>⟧.action edit)) }
     ensures asked { IsAsked true (Some (action.AddFacility row)) (action_asked ⟦<AddFacility as Edit>⟧.action result) }
 {
-    // The reader says that the row is in range.
+    // For the prover: the row is in range, as its reader says.
     let _s_id = row.s_id();
     Ok(AddFacility { row })
 }

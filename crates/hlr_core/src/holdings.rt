@@ -8,7 +8,6 @@ ghost use Rattle.part_table.specs.declared.region.TheConstants.{MOST_PARTS};
 ghost use Rattle.tatp_actions.specs.Action.{s_id_of, done_reply, IsOutcome};
 ghost use Rattle.tatp_actions.specs.Book.{IsWithin, IsRowsOf, subscriber_at};
 ghost use Rattle.tatp_actions.specs.Cell.{cell};
-ghost use Rattle.std.specs.Arc.{arc_value};
 ghost use Rattle.tatp_actions.specs.Part.{IsRange, IsWidth};
 ghost use Rattle.view_board.specs.Desks.{with_view};
 ghost use Rattle.view_board.specs.Views.{Owns, IsWide, alone, without};
@@ -16,20 +15,21 @@ ghost use Rattle.view_board.specs.Words.{AreSmall, HasGreat};
 ghost use Rattle.view_board.specs.declared.words.TheConstants.{SLOTS};
 ghost use Rattle.holding.specs.Held.{HasSmallNets};
 ghost use Rattle.hlr_core.specs.Desks.{AreLevel, desk_of};
-ghost use Rattle.hlr_core.specs.Gather.{MayGather, misfit, gathered, owners_of};
-ghost use Rattle.hlr_core.specs.Lent.{HasRowsOf};
-ghost use Rattle.hlr_core.specs.Held.{IsOpened, AreHeld, of_holding, of_piece, pending_in};
-ghost use Rattle.hlr_core.specs.Owners.{seen, store_of, unboxed};
-ghost use Rattle.hlr_core.specs.Prepared.{IsSurveyed};
-ghost use Rattle.hlr_core.specs.declared.room.TheConstants.{PLACES};
-ghost use Rattle.hlr_core.specs.Asked.{IsAnswered};
+ghost use Rattle.hlr_core.specs.Inside.Lent.{HasRowsOf};
+ghost use Rattle.hlr_core.specs.Inside.{IsOpened};
+ghost use Rattle.hlr_core.specs.Held.{AreHeld, of_holding, of_piece};
+ghost use Rattle.hlr_core.specs.Owners.{map_boxed, store_of};
+ghost use Rattle.hlr_core.specs.Inside.Prepared.{IsSurveyed};
+ghost use Rattle.hlr_core.specs.Scattered.{holdings_in, pieces_in, pending_together, MayBeGathered, misfit_of, store_from, store_by, AreOfRegions};
+ghost use Rattle.hlr_core.specs.declared.room.TheConstants.{ROOM};
+ghost use Rattle.hlr_core.specs.Inside.Asked.{IsAnswered};
 ghost use Rattle.hlr_core.specs.Step.{IsPostStep, MayAnswer, is_loose, posted_reply};
 ghost use Rattle.hlr_core.specs.Sight.{IsSightOf};
 ghost use Rattle.hlr_core.specs.Store.{Store, HasOpening, opening_from, published, unposted, slots_of, parts_in};
 
 use crate::event::Reply;
 use crate::gather::{Frame, Scattered, put_in_order};
-use crate::room::{insert_reserved, places};
+use crate::room::{insert_reserved, with_room};
 use crate::sums::{add_pending, add_published};
 use holding::{Holding, Piece};
 use part_table::{Place, Region, Regions, Side};
@@ -58,16 +58,16 @@ impl Model for Holdings {
     ghost use Rattle.part_table.specs.Regions.{AreRegions};
     ghost use Rattle.hlr_core.specs.Desks.{AreDesks, desk_of};
     ghost use Rattle.hlr_core.specs.Held.{AreHeld, of_holding, of_piece};
-    ghost use Rattle.hlr_core.specs.Owners.{store_of, seen};
+    ghost use Rattle.hlr_core.specs.Owners.{store_of, map_boxed};
     ghost use Rattle.hlr_core.specs.Store.{Store};
-    ghost use Rattle.hlr_core.specs.declared.room.TheConstants.{PLACES};
+    ghost use Rattle.hlr_core.specs.declared.room.TheConstants.{ROOM};
 
     ghost Value = { Store };
 
-    ghost view = { λ h. store_of h.regions (seen of_holding h.holdings.items) (seen of_piece h.pieces.items) h.spare (seen desk_of h.holdings.items) h.width };
+    ghost view = { λ h. store_of h.regions (map_boxed of_holding h.holdings.items) (map_boxed of_piece h.pieces.items) h.spare (map_boxed desk_of h.holdings.items) h.width };
 
-    ghost invariant = { λ h. AreRegions h.regions × AreHeld h.regions (seen of_holding h.holdings.items) (seen of_piece h.pieces.items) h.width
-        × AreDesks (arc_value h.board) h.spare (seen desk_of h.holdings.items) × (PLACES ≤ vec_capacity h.pieces) × (PLACES ≤ vec_capacity h.holdings) };
+    ghost invariant = { λ h. AreRegions h.regions × AreHeld h.regions (map_boxed of_holding h.holdings.items) (map_boxed of_piece h.pieces.items) h.width
+        × AreDesks (arc_value h.board) h.spare (map_boxed desk_of h.holdings.items) × (ROOM ≤ vec_capacity h.pieces) × (ROOM ≤ vec_capacity h.holdings) };
 }
 
 /// A holding with no row, over a slot that is split off the desk of those that no part has yet. `Memory` where a growth
@@ -116,8 +116,8 @@ impl Holdings {
         let regions = Regions::opening(parts, width)?;
         let (board, mut spare) = Board::open(alloc, words)?;
         let board = Arc::new(alloc, board)?;
-        let mut holdings = places(alloc)?;
-        let pieces = places(alloc)?;
+        let mut holdings = with_room(alloc)?;
+        let pieces = with_room(alloc)?;
         for region in regions.list() {
             let slot = holdings.len() as u8;
             holdings.push_reserved(opened(alloc, &board, &mut spare, slot, *region, width)?);
@@ -135,12 +135,12 @@ impl Holdings {
     /// Takes all apart, as they are: the holdings by the number of their part, the pieces in the order of their
     /// regions. It takes no memory.
     pub fn scatter(self) -> Scattered
-        ensures store { store_of self.regions (seen of_holding result.holdings.items) (seen of_piece result.pieces.items) result.frame.spare (seen desk_of result.holdings.items) result.frame.width ≡ self }
-        ensures held { AreHeld self.regions (seen of_holding result.holdings.items) (seen of_piece result.pieces.items) self.width }
-        ensures pending { (c : ℕ) → c < CELLS → pending_in (owners_of (unboxed result.holdings.items) (unboxed result.pieces.items)) c ≡ unposted self c }
-        ensures desks { MayGather (arc_value result.frame.board) result.frame.spare (unboxed result.holdings.items) }
-        ensures again { gathered result.frame.width result.frame.spare (unboxed result.holdings.items) (unboxed result.pieces.items) ≡ record self { regions = numbered 0 1 self.regions } }
-        ensures fits { misfit result.frame.width (unboxed result.holdings.items) (unboxed result.pieces.items) ≡ None }
+        ensures store { store_by self.regions result ≡ self }
+        ensures held { AreOfRegions self.regions self.width result }
+        ensures pending { (c : ℕ) → c < CELLS → pending_together result c ≡ unposted self c }
+        ensures desks { MayBeGathered result }
+        ensures again { store_from result ≡ record self { regions = numbered 0 1 self.regions } }
+        ensures fits { misfit_of result ≡ None }
     {
         let Holdings {
             holdings,
@@ -169,14 +169,14 @@ impl Holdings {
         room_for_holdings: Vec<Box<Holding>>,
         room_for_pieces: Vec<Box<Piece>>,
     ) -> Self
-        requires surveyed { IsSurveyed scattered.frame.width (unboxed scattered.holdings.items) (unboxed scattered.pieces.items) regions }
-        requires desks { MayGather (arc_value scattered.frame.board) scattered.frame.spare (unboxed scattered.holdings.items) }
+        requires surveyed { IsSurveyed scattered.frame.width (holdings_in scattered) (pieces_in scattered) regions }
+        requires desks { MayBeGathered scattered }
         requires wide { IsWide scattered.frame.spare.view }
         requires empty { (room_for_holdings.items ≡ []) × (room_for_pieces.items ≡ []) }
-        requires room { (PLACES ≤ vec_capacity room_for_holdings) × (PLACES ≤ vec_capacity room_for_pieces) }
-        ensures value { result ≡ gathered scattered.frame.width scattered.frame.spare (unboxed scattered.holdings.items) (unboxed scattered.pieces.items) }
+        requires room { (ROOM ≤ vec_capacity room_for_holdings) × (ROOM ≤ vec_capacity room_for_pieces) }
+        ensures value { result ≡ store_from scattered }
         ensures rows { IsRowsOf 1 (LAST_SUBSCRIBER + 1) result.book }
-        ensures pending { (c : ℕ) → c < CELLS → unposted result c ≡ pending_in (owners_of (unboxed scattered.holdings.items) (unboxed scattered.pieces.items)) c }
+        ensures pending { (c : ℕ) → c < CELLS → unposted result c ≡ pending_together scattered c }
     {
         let Scattered {
             frame,
@@ -203,7 +203,7 @@ impl Holdings {
         ensures value { result.now ≡ self.now.regions }
         ensures regions { AreRegions result.now }
     {
-        // The list tells that they are right.
+        // For the prover: the list tells that they are right.
         let _list = self.regions.list();
         &self.regions
     }
@@ -214,7 +214,7 @@ impl Holdings {
         ensures some { 1 ≤ result }
         ensures few { result ≤ MOST_PARTS }
     {
-        // The list tells that there is a part, and that there are few.
+        // For the prover: the list tells that there is a part, and that there are few.
         let _list = self.regions.list();
         self.holdings.len() as u8
     }
@@ -279,7 +279,7 @@ impl Holdings {
     pub fn post(&mut self, part: u64, limit: u64) -> Reply
         ensures { IsPostStep (slots_of self.old part) part limit self.old result self.new }
     {
-        // This opens the register, so that its rules are known where it has no such part.
+        // Opens the register for the prover: its rules are known where it has no such part.
         let _ = &self.board;
         if part >= self.holdings.len() as u64 {
             return Reply::Refused(Refusal::NoPart);

@@ -5,7 +5,7 @@ ghost use Rattle.tatp_rows.specs.declared.ranges.TheConstants.{LAST_SUBSCRIBER};
 ghost use Rattle.tatp_actions.specs.Book.{IsWithin};
 ghost use Rattle.tatp_actions.specs.declared.action.Action.TheVariants as action;
 ghost use Rattle.tatp_actions.specs.declared.action.RowReply.TheVariants as row_reply;
-ghost use Rattle.hlr_core.specs.Lent.{IsRead};
+ghost use Rattle.hlr_core.specs.Inside.Lent.{IsRead};
 
 use crate::holdings::Holdings;
 use arrayvec::ArrayVec;

@@ -19,6 +19,7 @@ mod holdings;
 mod lending;
 mod level;
 mod numbers;
+mod order;
 mod owner;
 #[cfg(test)]
 mod plain;
@@ -39,9 +40,11 @@ mod weights;
 
 pub use event::{Event, Reply};
 pub use gather::{Frame, Scattered};
+pub use order::{Answer, Order};
 pub use register::Register;
 
 // What the register's calls take and give, so that a caller needs no other crate's name.
+pub use arrayvec::ArrayVec;
 pub use holding::{Holding, Piece};
 pub use number_index::{NumberIndex, Page};
 pub use part_table::{Bounds, Place, Region, Regions, Side};

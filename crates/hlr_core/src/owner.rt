@@ -22,7 +22,7 @@ pub(crate) trait Owner {
 
     ghost rows_of: { Self → List SubscriberRow };
 
-    ghost deltas_of: { Self → List ℤ };
+    ghost pending_of: { Self → List ℤ };
 
     ghost keeps: { Self → Type 0 };
 
@@ -36,9 +36,9 @@ pub(crate) trait Owner {
         ensures { result ≡ width_of self.now };
 
     /// What is pending of a cell.
-    fn delta(&self, cell: u8) -> i64
+    fn pending(&self, cell: u8) -> i64
         requires { cell < CELLS }
-        ensures { result ≡ pending_at (deltas_of self.now) cell };
+        ensures { result ≡ pending_at (pending_of self.now) cell };
 
     /// The first Subscriber row from a subscriber on.
     fn first_row(&self, s_id: u64) -> Option<&Subscriber>
@@ -53,7 +53,7 @@ impl Owner for Holding {
 
     ghost rows_of = { λ holding. holding.part.book.subscribers };
 
-    ghost deltas_of = { λ holding. holding.pending };
+    ghost pending_of = { λ holding. holding.pending };
 
     ghost keeps = { IsHolding };
 
@@ -69,7 +69,7 @@ impl Owner for Holding {
         self.width()
     }
 
-    fn delta(&self, cell: u8) -> i64 {
+    fn pending(&self, cell: u8) -> i64 {
         self.pending(cell)
     }
 
@@ -85,7 +85,7 @@ impl Owner for Piece {
 
     ghost rows_of = { λ piece. piece.part.book.subscribers };
 
-    ghost deltas_of = { λ piece. piece.pending };
+    ghost pending_of = { λ piece. piece.pending };
 
     ghost keeps = { IsPiece };
 
@@ -101,7 +101,7 @@ impl Owner for Piece {
         self.width()
     }
 
-    fn delta(&self, cell: u8) -> i64 {
+    fn pending(&self, cell: u8) -> i64 {
         self.pending(cell)
     }
 

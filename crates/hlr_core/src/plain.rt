@@ -20,7 +20,7 @@ pub struct Plain {
     access: [Option<Access>; 160],
     facilities: [Option<Facility>; 160],
     forwardings: [Option<Forwarding>; 480],
-    owners: [Option<u32>; 50],
+    bearers: [Option<u32>; 50],
     regions: PlainRegions,
     posted: [[i64; CELLS as usize]; 16],
 }
@@ -95,7 +95,7 @@ impl Plain {
             access: [None; 160],
             facilities: [None; 160],
             forwardings: [None; 480],
-            owners: [None; 50],
+            bearers: [None; 50],
             regions: PlainRegions::opening(parts, width),
             posted: [[0; CELLS as usize]; 16],
         }
@@ -137,14 +137,14 @@ impl Plain {
     }
 
     /// The subscriber who has a number.
-    fn owner(&self, sub_nbr: Number) -> Option<u64> {
-        let owner = at(&self.owners, sub_nbr.value() as usize)?;
-        Some(u64::from(owner))
+    fn bearer(&self, sub_nbr: Number) -> Option<u64> {
+        let bearer = at(&self.bearers, sub_nbr.value() as usize)?;
+        Some(u64::from(bearer))
     }
 
     /// Says who has a number.
-    fn set_owner(&mut self, sub_nbr: Number, owner: Option<u32>) {
-        set(&mut self.owners, sub_nbr.value() as usize, owner);
+    fn set_bearer(&mut self, sub_nbr: Number, bearer: Option<u32>) {
+        set(&mut self.bearers, sub_nbr.value() as usize, bearer);
     }
 
     /// The cell of the zone of a subscriber.
@@ -162,7 +162,7 @@ impl Plain {
 
     /// Whether a subscriber has this number.
     pub fn is_own(&self, s_id: u64, sub_nbr: Number) -> bool {
-        self.owner(sub_nbr) == Some(s_id)
+        self.bearer(sub_nbr) == Some(s_id)
     }
 
     /// Whether a facility with three forwardings would be switched from on to off, or from off to on.
@@ -317,7 +317,7 @@ impl Plain {
         if vlr_location == 0 || vlr_location > 4_294_967_295 {
             return FIELD;
         }
-        let Some(s_id) = self.owner(sub_nbr) else {
+        let Some(s_id) = self.bearer(sub_nbr) else {
             return NO_NUMBER;
         };
         if self.regions.is_loose(s_id) {
@@ -344,7 +344,7 @@ impl Plain {
         if !is_started(sf_type, start_time) || !fits(end_time, 1, 24) {
             return FIELD;
         }
-        let Some(s_id) = self.owner(sub_nbr) else {
+        let Some(s_id) = self.bearer(sub_nbr) else {
             return NO_NUMBER;
         };
         if self.regions.is_loose(s_id) {
@@ -365,7 +365,7 @@ impl Plain {
         if !is_started(sf_type, start_time) {
             return FIELD;
         }
-        let Some(s_id) = self.owner(sub_nbr) else {
+        let Some(s_id) = self.bearer(sub_nbr) else {
             return NO_NUMBER;
         };
         if self.regions.is_loose(s_id) {
@@ -389,10 +389,10 @@ impl Plain {
         if at(&self.subscribers, place).is_some() {
             return EXISTS;
         }
-        if self.owner(row.sub_nbr()).is_some() {
+        if self.bearer(row.sub_nbr()).is_some() {
             return TAKEN;
         }
-        self.set_owner(row.sub_nbr(), Some(s_id));
+        self.set_bearer(row.sub_nbr(), Some(s_id));
         put(&mut self.subscribers, place, row)
     }
 
@@ -453,11 +453,11 @@ impl Plain {
         let Some(row) = self.subscriber(s_id) else {
             return NO_SUBSCRIBER;
         };
-        if self.owner(sub_nbr).is_some() && !self.is_own(s_id, sub_nbr) {
+        if self.bearer(sub_nbr).is_some() && !self.is_own(s_id, sub_nbr) {
             return TAKEN;
         }
-        self.set_owner(row.sub_nbr(), None);
-        self.set_owner(sub_nbr, Some(row.s_id()));
+        self.set_bearer(row.sub_nbr(), None);
+        self.set_bearer(sub_nbr, Some(row.s_id()));
         let place = self.place(s_id);
         set(
             &mut self.subscribers,
@@ -537,14 +537,14 @@ impl Plain {
     /// Whether an index has the pairs of the map of numbers, and no others.
     fn has_pairs_of(&self, index: &NumberIndex) -> bool {
         let mut pairs = 0u64;
-        for (value, owner) in self.owners.iter().enumerate() {
+        for (value, bearer) in self.bearers.iter().enumerate() {
             let Ok(sub_nbr) = Number::try_new(value as u64) else {
                 return false;
             };
-            if index.find(sub_nbr) != *owner {
+            if index.find(sub_nbr) != *bearer {
                 return false;
             }
-            pairs = pairs.wrapping_add(u64::from(owner.is_some()));
+            pairs = pairs.wrapping_add(u64::from(bearer.is_some()));
         }
         index.len() == pairs
     }

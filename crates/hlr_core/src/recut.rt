@@ -1,7 +1,8 @@
 //! The bounds between parts, moved one after another.
 ghost use Rattle.std.specs.Prelude.{◌≡◌};
 ghost use Rattle.std.specs.Result.{IsOk};
-ghost use Rattle.hlr_core.specs.Recut.{IsRecut, IsHanded, given_away, half_moved};
+ghost use Rattle.hlr_core.specs.Inside.{IsHanded};
+ghost use Rattle.hlr_core.specs.Recut.{IsRecut, given_away, half_moved};
 ghost use Rattle.part_table.specs.Recut.{handed_over, moved};
 
 use crate::holdings::Holdings;

@@ -4,7 +4,8 @@ use crate::tests::{
     OUT_OF_RANGE, difference, facility_row, moved, number, opened, posting, read, replies, row,
     stands,
 };
-use crate::{Event, Register, Reply};
+use crate::{Answer, Event, Order, Register, Reply};
+use arrayvec::ArrayVec;
 use part_table::Place::{Part, Piece};
 use part_table::{END, Place, Region, Side};
 use std::alloc::Global;
@@ -593,4 +594,45 @@ fn recut_of_three(rt: HostRuntime) -> Result<(), Fail> {
     drop(register);
     assert_eq!(rt; moves, Ok(true));
     Ok(())
+}
+
+/// Asserts the answers to a list that gives, takes and re-cuts between events on rows.
+fn expect_answers(rt: &impl Abort, register: &mut Register) -> Result<(), Refusal> {
+    let (added, changed, seventy) = (row(7, 70, 1)?, row(7, 70, 2)?, number(70)?);
+    let mut bounds = ArrayVec::new();
+    bounds.push(33);
+    let orders = [
+        Order::Event(Event::AddSubscriber(added)),
+        Order::Event(giving(0, 5)),
+        Order::Event(read(7)),
+        Order::Event(taking(1, 1)),
+        Order::Recut(bounds),
+        Order::Event(moved(seventy, 2)),
+        Order::Event(read(7)),
+    ];
+    let given = Reply::Given {
+        piece: 1,
+        lo: 5,
+        hi: 65,
+    };
+    let want = [
+        Answer::Reply(DONE),
+        Answer::Reply(given),
+        Answer::Reply(MOVING),
+        Answer::Reply(Reply::Taken { piece: 1, part: 1 }),
+        Answer::Recut(Ok(1)),
+        Answer::Reply(DONE),
+        Answer::Reply(Reply::Rows(RowReply::Row(changed))),
+    ];
+    let answers = register.apply_all(&orders)?;
+    assert_eq!(rt; answers.as_slice(), want.as_slice());
+    Ok(())
+}
+
+#[test]
+fn orders_of_each_kind(rt: HostRuntime) -> Result<(), Fail> {
+    let mut register = opened(rt.alloc(), 2, 4)?;
+    let answered = expect_answers(&rt, &mut register);
+    drop(register);
+    Ok(answered?)
 }

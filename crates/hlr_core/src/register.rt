@@ -1,19 +1,17 @@
 //! The register: all rows under one roof, no number twice, and every cell as published with what is not posted yet.
-ghost use Rattle.std.specs.Prelude.{◌≡◌, ℕ, [], vec_len, vec_capacity, ◌<◌, ◌≤◌, ◌↔◌, ◌⊎◌, None, IfOk, IfErr, OnErr, MatchResult, slice_index, slice_index_or, ◌+◌, ℤ, pos, ◌+ℤ◌};
+ghost use Rattle.std.specs.Prelude.{◌≡◌, ℕ, [], vec_len, vec_capacity, ◌<◌, ◌↔◌, ◌⊎◌, None, IfOk, IfErr, OnErr, MatchResult, slice_index, slice_index_or, ◌+◌, ℤ, pos, ◌+ℤ◌};
 ghost use Rattle.tatp_actions.specs.Cell.{cell};
-ghost use Rattle.hlr_core.specs.Asked.{ChangesRows};
+ghost use Rattle.hlr_core.specs.Inside.Asked.{ChangesRows};
 ghost use Rattle.hlr_core.specs.Index.{index_of};
-ghost use Rattle.hlr_core.specs.Kept.{IsSameUndivided};
+ghost use Rattle.hlr_core.specs.Kept.{IsSameAtHome};
 ghost use Rattle.hlr_core.specs.Recut.{IsRecut};
-ghost use Rattle.hlr_core.specs.Step.{IsStep, IsRun, edited_reply};
+ghost use Rattle.hlr_core.specs.Run.{IsOrderStep, IsRun};
+ghost use Rattle.hlr_core.specs.Scattered.{pending_together, MayBeGathered, misfit_of, IsRefusedWhole, store_from, store_by, AreOfRegions};
+ghost use Rattle.hlr_core.specs.Step.{IsStep, edited_reply};
 ghost use Rattle.part_table.specs.Numbered.{numbered};
 ghost use Rattle.part_table.specs.Proposal.{proposal};
 ghost use Rattle.part_table.specs.Regions.{AreRegions};
-ghost use Rattle.std.specs.Arc.{arc_value};
-ghost use Rattle.hlr_core.specs.Desks.{AreOpening, desk_of};
-ghost use Rattle.hlr_core.specs.Gather.{MayGather, misfit, IsRefused, gathered, owners_of};
-ghost use Rattle.hlr_core.specs.Held.{AreHeld, of_holding, of_piece, pending_in};
-ghost use Rattle.hlr_core.specs.Owners.{seen, store_of, unboxed};
+ghost use Rattle.hlr_core.specs.Desks.{AreOpening};
 ghost use Rattle.hlr_core.specs.Sight.{IsSightOf};
 ghost use Rattle.hlr_core.specs.Store.{Store, HasOpening, opening, opening_from, published, unposted, parts_in, published_weights, counted_weights};
 
@@ -21,6 +19,7 @@ use crate::event::{Event, Reply};
 use crate::gather::{Prepared, Scattered};
 use crate::holdings::Holdings;
 use crate::level::are_level;
+use crate::order::{Answer, Order};
 use crate::weights::zone_weights;
 use arrayvec::ArrayVec;
 use number_index::NumberIndex;
@@ -138,12 +137,12 @@ impl Register {
     /// ranges, and the frame. The index goes. It takes no memory. `gather` gives the register back, with its loose
     /// pieces numbered from 1 in the order of their ranges, and can be refused for want of memory alone.
     pub fn scatter(self) -> Scattered
-        ensures store { store_of self.regions (seen of_holding result.holdings.items) (seen of_piece result.pieces.items) result.frame.spare (seen desk_of result.holdings.items) result.frame.width ≡ self }
-        ensures held { AreHeld self.regions (seen of_holding result.holdings.items) (seen of_piece result.pieces.items) self.width }
-        ensures pending { (c : ℕ) → c < CELLS → pending_in (owners_of (unboxed result.holdings.items) (unboxed result.pieces.items)) c ≡ unposted self c }
-        ensures desks { MayGather (arc_value result.frame.board) result.frame.spare (unboxed result.holdings.items) }
-        ensures again { gathered result.frame.width result.frame.spare (unboxed result.holdings.items) (unboxed result.pieces.items) ≡ record self { regions = numbered 0 1 self.regions } }
-        ensures fits { (why : Refusal) → IsRefused result.frame.width (unboxed result.holdings.items) (unboxed result.pieces.items) why → why ≡ Refusal.Memory }
+        ensures store { store_by self.regions result ≡ self }
+        ensures held { AreOfRegions self.regions self.width result }
+        ensures pending { (c : ℕ) → c < CELLS → pending_together result c ≡ unposted self c }
+        ensures desks { MayBeGathered result }
+        ensures again { store_from result ≡ record self { regions = numbered 0 1 self.regions } }
+        ensures fits { (why : Refusal) → IsRefusedWhole result why → why ≡ Refusal.Memory }
     {
         let Register { holdings, .. } = self;
         holdings.scatter()
@@ -159,12 +158,12 @@ impl Register {
     /// where two rows have one number, `Memory` where a growth was refused, before or after that: each hands all back
     /// as it came.
     pub fn gather(alloc: Global, scattered: Scattered) -> Result<Register, Back<Scattered>>
-        requires { MayGather (arc_value scattered.frame.board) scattered.frame.spare (unboxed scattered.holdings.items) }
-        ensures gathered { IfOk result (λ register. (misfit scattered.frame.width (unboxed scattered.holdings.items) (unboxed scattered.pieces.items) ≡ None)
-            × (register ≡ gathered scattered.frame.width scattered.frame.spare (unboxed scattered.holdings.items) (unboxed scattered.pieces.items))) }
-        ensures pending { IfOk result (λ register. (c : ℕ) → c < CELLS → unposted register c ≡ pending_in (owners_of (unboxed scattered.holdings.items) (unboxed scattered.pieces.items)) c) }
+        requires { MayBeGathered scattered }
+        ensures gathered { IfOk result (λ register. (misfit_of scattered ≡ None)
+            × (register ≡ store_from scattered)) }
+        ensures pending { IfOk result (λ register. (c : ℕ) → c < CELLS → unposted register c ≡ pending_together scattered c) }
         ensures refused { IfErr result (λ back. (back.item ≡ scattered)
-            × IsRefused scattered.frame.width (unboxed scattered.holdings.items) (unboxed scattered.pieces.items) back.why) }
+            × IsRefusedWhole scattered back.why) }
     {
         let prepared = match scattered.prepare(alloc) {
             Ok(prepared) => prepared,
@@ -262,21 +261,35 @@ impl Register {
         }
     }
 
-    /// Applies events one after another, and gives their replies in order. `Memory` where the list of replies could
-    /// not be reserved: then no event was applied.
-    pub fn apply_all(&mut self, events: &[Event]) -> Result<Vec<Reply>, Refusal>
-        ensures ok { IfOk result (λ replies. IsRun events.now self.old replies.items self.new) }
-        ensures kept { IfOk result (λ replies. IsSameUndivided events.now self.old.book replies.items self.new.book) }
+    /// Carries orders out one after another, each an event or a re-cut, and gives their answers in order. `Memory`
+    /// where the list of answers could not be reserved: then no order was carried out.
+    ///
+    /// Gives, takes and re-cuts change no reply but `Moving`: begun where no piece is loose, the list without them,
+    /// without postings and without what was answered `Moving` or `Memory` has the same answers, and leaves the same
+    /// rows.
+    pub fn apply_all(&mut self, orders: &[Order]) -> Result<Vec<Answer>, Refusal>
+        ensures ok { IfOk result (λ answers. IsRun orders.now self.old answers.items self.new) }
+        ensures kept { IfOk result (λ answers. IsSameAtHome orders.now self.old.book answers.items self.new.book) }
         ensures err { OnErr result ((result ≡ Err Refusal.Memory) × (self.new ≡ self.old)) }
     {
         // The borrow checker of the kit can push a reply only in a body that names each type inside it.
         let _inside: Option<RowReply> = None;
-        let mut replies = reserve(self.alloc, events.len())?;
-        for event in events {
-            let reply = self.apply(*event);
-            replies.push_reserved(reply);
+        let mut answers = reserve(self.alloc, orders.len())?;
+        for order in orders {
+            let answer = self.carry_out(order);
+            answers.push_reserved(answer);
         }
-        Ok(replies)
+        Ok(answers)
+    }
+
+    /// Carries one order out.
+    fn carry_out(&mut self, order: &Order) -> Answer
+        ensures { IsOrderStep order.now self.old result self.new }
+    {
+        match order {
+            Order::Event(event) => Answer::Reply(self.apply(*event)),
+            Order::Recut(bounds) => Answer::Recut(self.recut_to(bounds.as_slice())),
+        }
     }
 
     /// The cells as published: for each, the sum of its plus-words less the sum of its minus-words.
@@ -365,7 +378,7 @@ impl Register {
     fn take(&mut self, piece: u64, part: u64) -> Reply
         ensures { IsStep (Event.Take piece part) self.old result self.new }
     {
-        // The regions tell that a piece and a part that are there have small numbers.
+        // For the prover: the regions tell that a piece and a part that are there have small numbers.
         let _regions = self.holdings.regions();
         match self.holdings.take(piece, part) {
             Ok(_) => Reply::Taken {
@@ -377,9 +390,9 @@ impl Register {
     }
 }
 
-/// An empty list with room for so many replies; `Memory` where a growth was refused.
-fn reserve(alloc: Global, count: usize) -> Result<Vec<Reply>, Refusal>
-    ensures ok { IfOk result (λ replies. (replies.items ≡ []) × (vec_len replies ≡ 0) × (vec_capacity replies ≡ count)) }
+/// An empty list with room for so many answers; `Memory` where a growth was refused.
+fn reserve(alloc: Global, count: usize) -> Result<Vec<Answer>, Refusal>
+    ensures ok { IfOk result (λ answers. (answers.items ≡ []) × (vec_len answers ≡ 0) × (vec_capacity answers ≡ count)) }
     ensures err { OnErr result (result ≡ Err Refusal.Memory) }
 {
     Ok(Vec::with_capacity(alloc, count)?)

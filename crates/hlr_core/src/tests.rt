@@ -105,7 +105,7 @@ struct Standing {
     published: [i64; CELLS as usize],
     unposted: [i64; CELLS as usize],
     row: Reply,
-    owner: Option<u32>,
+    bearer: Option<u32>,
     named: Option<u32>,
     pairs: u64,
 }
@@ -120,7 +120,7 @@ fn regions_of(register: &Register) -> ArrayVec<Region, 32> {
 }
 
 /// Whom a register finds by a number, if there is one.
-fn owner(register: &Register, sub_nbr: Option<Number>) -> Option<u32> {
+fn bearer(register: &Register, sub_nbr: Option<Number>) -> Option<u32> {
     register.index().find(sub_nbr?)
 }
 
@@ -171,8 +171,8 @@ fn shown(register: &mut Register, event: &Event) -> Option<Standing> {
         published: register.published(),
         unposted: register.unposted(),
         row,
-        owner: owner(register, own),
-        named: owner(register, named),
+        bearer: bearer(register, own),
+        named: bearer(register, named),
         pairs: register.index().len(),
     })
 }
@@ -229,15 +229,15 @@ fn has_run(register: &Register, second_added: bool) -> bool {
     }
 }
 
-/// Applies a list of events, and where memory was refused, the same list again, with all as before in between. None
+/// Carries a list of orders out, and where memory was refused, the same list again, with all as before in between. None
 /// where it wasn't as before.
-fn run_of(register: &mut Register, events: &[Event]) -> Option<Result<Vec<Reply>, Refusal>> {
-    match register.apply_all(events) {
+fn run_of(register: &mut Register, orders: &[Order]) -> Option<Result<Vec<Answer>, Refusal>> {
+    match register.apply_all(orders) {
         Err(Refusal::Memory) => {
             if stands(register, &[], &[(3, 1), (19, 1)])
                 && register.apply(read(7)) == NO_SUBSCRIBER
             {
-                return Some(register.apply_all(events));
+                return Some(register.apply_all(orders));
             }
             None
         }
@@ -245,31 +245,42 @@ fn run_of(register: &mut Register, events: &[Event]) -> Option<Result<Vec<Reply>
     }
 }
 
-/// A list of events, and then an empty one.
+/// A list of orders, and then an empty one.
 fn expect_runs(rt: &impl Abort, register: &mut Register) -> Result<(), Refusal> {
     let (first, second) = (row(7, 70, 4_294_967_295)?, row(7, 71, 1)?);
-    let events = [
-        Event::AddSubscriber(row(7, 70, 268_435_456)?),
-        Event::AddSubscriber(second),
-        moved(number(70)?, 4_294_967_295),
-        posting(0, 2),
-        read(7),
-        posting(3, 2),
+    let (begun, other, seventy) = (row(7, 70, 268_435_456)?, row(1, 1, 1)?, number(70)?);
+    let orders = [
+        Order::Event(Event::AddSubscriber(begun)),
+        Order::Event(Event::AddSubscriber(second)),
+        Order::Event(moved(seventy, 4_294_967_295)),
+        Order::Event(posting(0, 2)),
+        Order::Event(read(7)),
+        Order::Event(posting(3, 2)),
+        Order::Recut(ArrayVec::new()),
     ];
-    let added = replies(register, Event::AddSubscriber(row(1, 1, 1)?), DONE);
-    let Some(all) = run_of(register, &events) else {
+    let stands_beside = replies(register, Event::AddSubscriber(other), DONE);
+    let Some(all) = run_of(register, &orders) else {
         return Err(Refusal::Exists);
     };
     let all = all?;
     // Where the first event was refused memory, the second adds its row.
-    let second_added = all.first() == Some(&MEMORY);
-    let stood = added && has_run(register, second_added);
+    let second_added = all.first() == Some(&Answer::Reply(MEMORY));
+    let stood = stands_beside && has_run(register, second_added);
     let there = Reply::Rows(RowReply::Row(if second_added { second } else { first }));
-    let want = if second_added {
-        [MEMORY, DONE, NO_NUMBER, Reply::Posted(2), there, NO_PART]
+    let (added, again, changed) = if second_added {
+        (MEMORY, DONE, NO_NUMBER)
     } else {
-        [DONE, EXISTS, DONE, Reply::Posted(2), there, NO_PART]
+        (DONE, EXISTS, DONE)
     };
+    let want = [
+        Answer::Reply(added),
+        Answer::Reply(again),
+        Answer::Reply(changed),
+        Answer::Reply(Reply::Posted(2)),
+        Answer::Reply(there),
+        Answer::Reply(NO_PART),
+        Answer::Recut(Ok(0)),
+    ];
     let none = register.apply_all(&[])?;
     let stands_still = none.is_empty() && has_run(register, second_added);
     assert_eq!(rt;

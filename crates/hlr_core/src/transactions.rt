@@ -3,11 +3,11 @@
 //! answers `Moving` where the subscriber lies in a loose piece.
 ghost use Rattle.std.specs.Prelude.{◌≡◌, ◌+◌, ℕ, Some, IfOk, IfErr, Bool, Option};
 ghost use Rattle.tatp_rows.specs.declared.ranges.TheConstants.{LAST_SUBSCRIBER};
-ghost use Rattle.hlr_core.specs.Asked.{IsAsked, IsRowAction, action_asked};
-ghost use Rattle.hlr_core.specs.Step.{IsStep, IsRowStep, edited_reply};
+ghost use Rattle.hlr_core.specs.Inside.Asked.{IsAsked, IsRowAction, IsRowStep, action_asked};
+ghost use Rattle.hlr_core.specs.Step.{IsStep, edited_reply};
 ghost use Rattle.hlr_core.specs.declared.event.Event.TheVariants as event;
 ghost use Rattle.hlr_core.specs.declared.event.Reply.TheVariants as reply;
-ghost use Rattle.hlr_core.specs.Numbers.{owner_id};
+ghost use Rattle.hlr_core.specs.Numbers.{bearer_id};
 ghost use Rattle.tatp_actions.specs.Book.{IsWithin};
 ghost use Rattle.tatp_actions.specs.declared.action.Action.{Action};
 ghost use Rattle.tatp_actions.specs.declared.action.RowReply.TheVariants as row_reply;
@@ -87,8 +87,8 @@ impl Register {
     pub fn update_location(&mut self, sub_nbr: Number, vlr_location: u64) -> Result<(), Refusal>
         ensures { IsStep (event.UpdateLocation sub_nbr vlr_location) self.old (edited_reply result) self.new }
     {
-        let owner = self.owner(sub_nbr);
-        self.edit(checked::update_location(owner, vlr_location))
+        let bearer_id = self.bearer(sub_nbr);
+        self.edit(checked::update_location(bearer_id, vlr_location))
     }
 
     /// INSERT_CALL_FORWARDING (TATP, section 3.6), as `Event::InsertForwarding`: `Field` where sf_type isn't in 1..=4,
@@ -104,8 +104,8 @@ impl Register {
     ) -> Result<(), Refusal>
         ensures { IsStep (event.InsertForwarding sub_nbr sf_type start_time end_time numberx) self.old (edited_reply result) self.new }
     {
-        let owner = self.owner(sub_nbr);
-        self.edit(checked::insert_forwarding(owner, sf_type, start_time, end_time, numberx))
+        let bearer_id = self.bearer(sub_nbr);
+        self.edit(checked::insert_forwarding(bearer_id, sf_type, start_time, end_time, numberx))
     }
 
     /// DELETE_CALL_FORWARDING (TATP, section 3.7), as `Event::DeleteForwarding`: `Field` where sf_type isn't in 1..=4
@@ -118,8 +118,8 @@ impl Register {
     ) -> Result<(), Refusal>
         ensures { IsStep (event.DeleteForwarding sub_nbr sf_type start_time) self.old (edited_reply result) self.new }
     {
-        let owner = self.owner(sub_nbr);
-        self.edit(checked::delete_forwarding(owner, sf_type, start_time))
+        let bearer_id = self.bearer(sub_nbr);
+        self.edit(checked::delete_forwarding(bearer_id, sf_type, start_time))
     }
 
     /// Adds an Access_Info row, as `Event::AddAccess`: `Moving`, `NoSubscriber`, `Exists`, `Memory`.
@@ -175,15 +175,15 @@ impl Register {
         let Some(old) = self.holdings.number_in(part, s_id) else {
             return Err(Refusal::NoSubscriber);
         };
-        // A number tells by its value that it is in range.
+        // For the prover: a number is in range, as its reader says.
         let _value = sub_nbr.value();
         self.index.rename(old, sub_nbr)?;
         self.holdings.edit_in(part, SetNumber { s_id, sub_nbr })
     }
 
-    /// The subscriber who has a number, or `None`.
-    fn owner(&self, sub_nbr: Number) -> Option<u32>
-        ensures value { result ≡ owner_id self.now.book.subscribers sub_nbr }
+    /// The s_id of the subscriber who has a number, or `None`.
+    fn bearer(&self, sub_nbr: Number) -> Option<u32>
+        ensures value { result ≡ bearer_id self.now.book.subscribers sub_nbr }
         ensures within { (s_id : ℕ) → result ≡ Some s_id → IsWithin 1 (LAST_SUBSCRIBER + 1) s_id }
     {
         self.index.find(sub_nbr)

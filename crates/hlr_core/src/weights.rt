@@ -8,6 +8,9 @@ use tatp_actions::{CELLS, FIRST_ZONE};
 /// How many zones there are.
 const ZONES: u8 = CELLS - FIRST_ZONE;
 
+// The number that the definitions mean.
+const _: () = prove!(ZONES == 32);
+
 /// The weight of a zone of which so much is published: nothing below 0, and no more than all rows that there can be.
 fn weight_of(published: i64) -> u64
     ensures { result ≡ weight published }

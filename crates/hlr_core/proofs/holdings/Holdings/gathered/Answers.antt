@@ -4,22 +4,22 @@ use Rattle.tatp_rows.specs.Ordered.{in_order}
 use Rattle.holding.specs.Held.{HoldingState, PieceState}
 use Rattle.hlr_core.specs.Desks.{desk_of}
 use Rattle.hlr_core.specs.Held.{of_holding, of_piece}
-use Rattle.hlr_core.specs.Owners.{seen, unboxed}
-use Rattle.hlr_core.proofs.GatheredLemmas.{do_fit, gathered_held, gathered_desks, gathered_store, seen_sorted}
+use Rattle.hlr_core.specs.Owners.{map_boxed, unboxed}
+use Rattle.hlr_core.proofs.GatheredLemmas.{do_fit, gathered_held, gathered_desks, gathered_store, map_boxed_sorted}
 use Rattle.hlr_core.proofs.PendingLemmas.{pending_is, pending_sorted}
 use Rattle.hlr_core.proofs.StoreCountLemmas.{unposted_is}
 use Rattle.hlr_core.proofs.StoreLemmas.{all_rows}
 use Rattle.hlr_core.proofs.holdings.Holdings.gathered.Goals as goal
 
 -- the holdings and pieces in order
-holdings_are : (c : goal.After-put_in_order-2) → seen of_holding c.put_in_order.result.items ≡ map of_holding (in_order (λ holding. holding.part.lo) (unboxed c.args.scattered.holdings.items))
-holdings_are c = ap (seen of_holding) c.put_in_order.ensures.owners ∙ seen_sorted of_holding (λ (holding : HoldingState). holding.part.lo) c.args.scattered.holdings.items
+holdings_are : (c : goal.After-put_in_order-2) → map_boxed of_holding c.put_in_order.result.items ≡ map of_holding (in_order (λ holding. holding.part.lo) (unboxed c.args.scattered.holdings.items))
+holdings_are c = ap (map_boxed of_holding) c.put_in_order.ensures.owners ∙ map_boxed_sorted of_holding (λ (holding : HoldingState). holding.part.lo) c.args.scattered.holdings.items
 
-pieces_are : (c : goal.After-put_in_order-2) → seen of_piece c.put_in_order-2.result.items ≡ map of_piece (in_order (λ piece. piece.part.lo) (unboxed c.args.scattered.pieces.items))
-pieces_are c = ap (seen of_piece) c.put_in_order-2.ensures.owners ∙ seen_sorted of_piece (λ (piece : PieceState). piece.part.lo) c.args.scattered.pieces.items
+pieces_are : (c : goal.After-put_in_order-2) → map_boxed of_piece c.put_in_order-2.result.items ≡ map of_piece (in_order (λ piece. piece.part.lo) (unboxed c.args.scattered.pieces.items))
+pieces_are c = ap (map_boxed of_piece) c.put_in_order-2.ensures.owners ∙ map_boxed_sorted of_piece (λ (piece : PieceState). piece.part.lo) c.args.scattered.pieces.items
 
-desks_are : (c : goal.After-put_in_order-2) → seen desk_of c.put_in_order.result.items ≡ map desk_of (in_order (λ holding. holding.part.lo) (unboxed c.args.scattered.holdings.items))
-desks_are c = ap (seen desk_of) c.put_in_order.ensures.owners ∙ seen_sorted desk_of (λ (holding : HoldingState). holding.part.lo) c.args.scattered.holdings.items
+desks_are : (c : goal.After-put_in_order-2) → map_boxed desk_of c.put_in_order.result.items ≡ map desk_of (in_order (λ holding. holding.part.lo) (unboxed c.args.scattered.holdings.items))
+desks_are c = ap (map_boxed desk_of) c.put_in_order.ensures.owners ∙ map_boxed_sorted desk_of (λ (holding : HoldingState). holding.part.lo) c.args.scattered.holdings.items
 
 pub invariant_of-result : goal.invariant_of-result
 invariant_of-result c =
@@ -42,4 +42,4 @@ pub returns-clause-pending : goal.returns-clause-pending
 returns-clause-pending c k below =
     let rules = invariant_of-result c in
     sym (unposted_is _ c.put_in_order.result.items c.put_in_order-2.result.items _ _ _ rules.0 rules.1 rules.2 k below)
-    ∙ pending_is (seen of_holding c.put_in_order.result.items) (seen of_piece c.put_in_order-2.result.items) k ∙ pending_sorted _ _ (unboxed c.args.scattered.holdings.items) (unboxed c.args.scattered.pieces.items) k (holdings_are c) (pieces_are c)
+    ∙ pending_is (map_boxed of_holding c.put_in_order.result.items) (map_boxed of_piece c.put_in_order-2.result.items) k ∙ pending_sorted _ _ (unboxed c.args.scattered.holdings.items) (unboxed c.args.scattered.pieces.items) k (holdings_are c) (pieces_are c)

@@ -2,7 +2,7 @@ use Rattle.std.proofs.Common.{◌≡◌, ◌∙◌, arith, refl, sym, rules, len
 use Rattle.view_board.specs.declared.words.TheConstants.{WORDS}
 use Rattle.hlr_core.specs.Desks.{desk_of}
 use Rattle.hlr_core.specs.Held.{of_holding}
-use Rattle.hlr_core.proofs.BoxLemmas.{length-seen, seen-push}
+use Rattle.hlr_core.proofs.BoxLemmas.{length-map_boxed, map_boxed-push}
 use Rattle.hlr_core.proofs.OpenLemmas.{regions_few, width_fits, range_at, none_opened, one_opened, all_held, all_opened}
 use Rattle.hlr_core.proofs.ShareLemmas.{none_shared, first_of_board, one_of_board, one_shared, level_small, shared_desks}
 use Rattle.hlr_core.proofs.holdings.Holdings.open.Goals as goal
@@ -33,7 +33,7 @@ pub opened-requires-clause-own : goal.opened-requires-clause-own
 opened-requires-clause-own c =
     let few = regions_few c.args.parts c.args.width _ c.requires.can c.in_ok-regions.ensures in
     let below = rw c.list-region-items.ensures.value at c.loop-region-test.true in
-    let desks = length-seen desk_of c.loop-region.holdings.items in
+    let desks = length-map_boxed desk_of c.loop-region.holdings.items in
     c.loop-region.invariant.shared.left c.len-slot.result (omega (arith, c.len-slot.ensures, c.loop-region.holdings.ok.0)) (omega (arith, c.len-slot.ensures, c.loop-region.invariant.long))
 
 pub opened-requires-clause-small : goal.opened-requires-clause-small
@@ -59,14 +59,14 @@ loop-region-preserved c =
     let few = regions_few c.args.parts c.args.width _ c.requires.can c.in_ok-regions.ensures in
     let long = c.loop-region.invariant.long in
     let below = rw c.list-region-items.ensures.value at c.loop-region-test.true in
-    let desks = length-seen desk_of c.loop-region.holdings.items in
+    let desks = length-map_boxed desk_of c.loop-region.holdings.items in
     let is = c.in_ok-opened.ensures.ok in
     record {
       room = rw c.push_reserved.ensures.capacity c.loop-region.invariant.room;
       long = omega (arith, c.push_reserved.ensures.len);
-      opened = rw (c.push_reserved.ensures.items, seen-push of_holding) (one_opened _ _ _ _ _ _ c.loop-region-test.true c.loop-region.invariant.opened is.0);
-      of_board = rw (c.push_reserved.ensures.items, seen-push desk_of c.loop-region.holdings.items c.in_ok-opened.field-0, is.1, is.2) (one_of_board c.args.words.now c.loop-region.spare _ c.len-slot.result (omega (arith, c.len-slot.ensures)) (omega (arith, c.len-slot.ensures, c.loop-region.holdings.ok.0)) _ c.loop-region.invariant.of_board);
-      shared = rw (c.push_reserved.ensures.items, seen-push desk_of, is.1, is.2) (one_shared c.args.words.now c.loop-region.spare _ c.len-slot.result (omega (arith, c.len-slot.ensures)) (omega (arith, c.len-slot.ensures, c.loop-region.holdings.ok.0))
+      opened = rw (c.push_reserved.ensures.items, map_boxed-push of_holding) (one_opened _ _ _ _ _ _ c.loop-region-test.true c.loop-region.invariant.opened is.0);
+      of_board = rw (c.push_reserved.ensures.items, map_boxed-push desk_of c.loop-region.holdings.items c.in_ok-opened.field-0, is.1, is.2) (one_of_board c.args.words.now c.loop-region.spare _ c.len-slot.result (omega (arith, c.len-slot.ensures)) (omega (arith, c.len-slot.ensures, c.loop-region.holdings.ok.0)) _ c.loop-region.invariant.of_board);
+      shared = rw (c.push_reserved.ensures.items, map_boxed-push desk_of, is.1, is.2) (one_shared c.args.words.now c.loop-region.spare _ c.len-slot.result (omega (arith, c.len-slot.ensures)) (omega (arith, c.len-slot.ensures, c.loop-region.holdings.ok.0))
           c.loop-region.invariant.of_board.0.wide c.loop-region.invariant.shared);
     }
 
@@ -89,5 +89,5 @@ returns-clause-ok c =
     let wide : length c.args.words.now ≡ WORDS = search rules in (
       c.in_ok-board.ensures.ok.0,
       all_opened _ _ _ _ _ c.requires.can c.in_ok-regions.ensures opened past _ _ _ _ (rw c.in_ok-pieces.ensures.empty refl)
-          (length-seen desk_of c.loop-region.holdings.items ∙ sym (length-seen of_holding c.loop-region.holdings.items)) c.loop-region.invariant.shared wide,
+          (length-map_boxed desk_of c.loop-region.holdings.items ∙ sym (length-map_boxed of_holding c.loop-region.holdings.items)) c.loop-region.invariant.shared wide,
     )

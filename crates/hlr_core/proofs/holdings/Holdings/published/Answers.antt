@@ -4,7 +4,7 @@ use Rattle.std.proofs.lemmas.Int.{ints}
 use Rattle.tatp_rows.proofs.BlankLemmas.{blank_at}
 use Rattle.tatp_actions.specs.declared.cells.TheConstants.{CELLS}
 use Rattle.hlr_core.specs.Held.{of_holding}
-use Rattle.hlr_core.proofs.BoxLemmas.{length-seen, seen_at}
+use Rattle.hlr_core.proofs.BoxLemmas.{length-map_boxed, map_boxed_at}
 use Rattle.hlr_core.proofs.StoreCountLemmas.{few_owners}
 use Rattle.hlr_core.proofs.TotalLemmas.{nets, all_countable, box_countable, none_added, added_small, one_added, added_published}
 use Rattle.hlr_core.proofs.holdings.Holdings.published.Goals as goal
@@ -28,12 +28,12 @@ add_published-requires-clause-nets c = λ k below.
 
 pub loop-holding-preserved : goal.loop-holding-preserved
 loop-holding-preserved c =
-    let at = seen_at of_holding c.deref-holding-items.result.now _ _ _ c.holding-item.is c.deref.ensures in
-    let within = rw (← length-seen of_holding c.deref-holding-items.result.now) at c.loop-holding-test.true in
+    let at = map_boxed_at of_holding c.deref-holding-items.result.now _ _ _ c.holding-item.is c.deref.ensures in
+    let within = rw (← length-map_boxed of_holding c.deref-holding-items.result.now) at c.loop-holding-test.true in
     one_added nets _ _ _ _ _ _ _ within at c.loop-holding.invariant c.add_published.ensures
 
 pub returns : goal.returns
 returns c =
-    let holdings = rw (← length-seen of_holding c.deref-holding-items.result.now, c.deref-holding-items.ensures.value) at c.loop-holding-test.false in
+    let holdings = rw (← length-map_boxed of_holding c.deref-holding-items.result.now, c.deref-holding-items.ensures.value) at c.loop-holding-test.false in
     rw (← c.self.view_is)
     (added_published _ _ _ _ _ _ c.self.invariant.0 c.self.invariant.1 c.self.invariant.2 _ _ _ (λ k. blank_at {A = ℤ} CELLS k (pos 0)) holdings (rw c.deref-holding-items.ensures.value at c.loop-holding.invariant))

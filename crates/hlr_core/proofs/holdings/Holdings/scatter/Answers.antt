@@ -1,6 +1,6 @@
 use Rattle.std.proofs.Common.{sym, ◌∙◌}
 use Rattle.hlr_core.specs.Held.{of_holding, of_piece}
-use Rattle.hlr_core.specs.Owners.{seen}
+use Rattle.hlr_core.specs.Owners.{map_boxed}
 use Rattle.hlr_core.proofs.GatheredLemmas.{may_gather}
 use Rattle.hlr_core.proofs.PendingLemmas.{pending_is, pending_boxed}
 use Rattle.hlr_core.proofs.ScatterLemmas.{boxes_again, boxes_fit}
@@ -18,5 +18,5 @@ returns-clause-fits c = boxes_fit _ c.self.inside.holdings.items c.self.inside.p
 
 pub returns-clause-pending : goal.returns-clause-pending
 returns-clause-pending c k below =
-    rw (← c.self.view_is) (sym (pending_boxed c.self.inside.holdings.items c.self.inside.pieces.items k) ∙ sym (pending_is (seen of_holding c.self.inside.holdings.items) (seen of_piece c.self.inside.pieces.items) k)
+    rw (← c.self.view_is) (sym (pending_boxed c.self.inside.holdings.items c.self.inside.pieces.items k) ∙ sym (pending_is (map_boxed of_holding c.self.inside.holdings.items) (map_boxed of_piece c.self.inside.pieces.items) k)
     ∙ unposted_is _ c.self.inside.holdings.items c.self.inside.pieces.items _ _ _ c.self.invariant.0 c.self.invariant.1 c.self.invariant.2 k below)

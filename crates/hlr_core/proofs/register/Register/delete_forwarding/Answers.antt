@@ -1,4 +1,4 @@
 use Rattle.hlr_core.proofs.register.Register.delete_forwarding.Goals as goal
 
 pub returns : goal.returns
-returns c = rw (← c.owner-owner.ensures.value) (c.edit.ensures _ _ c.delete_forwarding.ensures.asked)
+returns c = rw (← c.bearer-bearer_id.ensures.value) (c.edit.ensures _ _ c.delete_forwarding.ensures.asked)

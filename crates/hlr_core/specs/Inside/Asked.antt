@@ -1,5 +1,4 @@
--- What an event on rows asks for, once its plain numbers are checked, and what the owner of the rows answers. No clause of a
--- public call cites this.
+-- What an event on rows asks for, once its plain numbers are checked, and what the owner of the rows answers.
 use Rattle.std.specs.Prelude.{⊤, ◌≡◌, ◌+◌, Bool, true, false, Option, Some, None, Result, Ok, Err, if◌then◌else◌}
 use Rattle.tatp_rows.specs.declared.refusal.Refusal.{Refusal}
 use Rattle.tatp_rows.specs.declared.refusal.Refusal.TheVariants as refusal
@@ -9,9 +8,11 @@ use Rattle.tatp_actions.specs.Book.{Book, IsWithin}
 use Rattle.tatp_actions.specs.declared.action.Action.{Action}
 use Rattle.tatp_actions.specs.declared.action.RowReply.{RowReply}
 use Rattle.tatp_actions.specs.declared.action.RowReply.TheVariants as row_reply
-use Rattle.hlr_core.specs.Step.{given_number}
+use Rattle.hlr_core.specs.Step.{IsAskedStep, checked, given_number}
+use Rattle.hlr_core.specs.Store.{Store}
 use Rattle.hlr_core.specs.declared.event.Event.{Event}
 use Rattle.hlr_core.specs.declared.event.Event.TheVariants as event
+use Rattle.hlr_core.specs.declared.event.Reply.{Reply}
 
 -- an event that changes rows
 abbrev pub ChangesRows : Event → Type 0
@@ -38,6 +39,14 @@ IsAsked true (Some act) (Err why) = ⊥
 -- an event that names its subscriber asks for its action
 abbrev pub IsAskedAlone : Action → Result Action Refusal → Type 0
 IsAskedAlone act = IsAsked (is_in_range act) (Some act)
+
+-- a right step of an event whose fields are in range or not, and that wants an action or finds no subscriber
+abbrev pub IsRowStep : Bool → Option Action → Store → Reply → Store → Type 0
+IsRowStep fits wanted before answer after = IsAskedStep (checked fits wanted) before answer after
+
+-- a right step of an event that names its subscriber
+abbrev pub IsActionStep : Action → Store → Reply → Store → Type 0
+IsActionStep act before answer after = IsRowStep (is_in_range act) (Some act) before answer after
 
 -- what the owner of an action's rows may answer: a loose piece answers Moving, after Field, and else it is a right outcome
 abbrev pub IsAnswered : Bool → Action → Book → RowReply → Book → Type 0

@@ -1,4 +1,4 @@
--- What is known of all that is handed in, before anything of it is moved. No clause of a public call cites this.
+-- What is known of all that is handed in, before anything of it is moved.
 use Rattle.std.specs.Prelude.{◌≡◌, ◌≤◌, ℕ, List, [], length, None}
 use Rattle.std.specs.List.{AllByRecursion}
 use Rattle.number_index.specs.Pairs.{ArePairs}
@@ -8,7 +8,7 @@ use Rattle.part_table.specs.declared.region.Region.{Region}
 use Rattle.part_table.specs.declared.region.TheConstants.{MOST_PARTS, MOST_PIECES}
 use Rattle.holding.specs.Held.{HoldingState, PieceState, IsHolding, IsPiece}
 use Rattle.hlr_core.specs.Gather.{misfit, ranges_of, rows_of_all}
-use Rattle.hlr_core.specs.Noted.{AreNoted}
+use Rattle.hlr_core.specs.Inside.Noted.{AreNoted}
 
 -- there is a holding, and few of each
 pub record AreFew (holdings : List HoldingState) (pieces : List PieceState) : Type 0 where

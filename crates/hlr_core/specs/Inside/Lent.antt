@@ -1,10 +1,10 @@
--- Rows that are lent to be read. No clause of a public call cites these.
+-- Rows that are lent to be read.
 use Rattle.std.specs.Prelude.{◌≡◌, ℕ, false}
 use Rattle.tatp_actions.specs.Action.{IsOutcome, s_id_of}
 use Rattle.tatp_actions.specs.declared.action.Action.{Action}
 use Rattle.tatp_actions.specs.declared.action.RowReply.{RowReply}
 use Rattle.holding.specs.Held.{HoldingState}
-use Rattle.hlr_core.specs.Asked.{IsAnswered}
+use Rattle.hlr_core.specs.Inside.Asked.{IsAnswered}
 use Rattle.hlr_core.specs.Step.{is_loose}
 use Rattle.hlr_core.specs.Store.{Store}
 

@@ -1,7 +1,7 @@
 use Rattle.std.proofs.Common.{◌∙◌, sym}
 use Rattle.std.proofs.lemmas.Result.{err_from_is_err_and}
 use Rattle.hlr_core.proofs.NotedLemmas.{rows_from_start, rows_from_end, rows_from_fewer, noting_start, noting_end, noting_row, row_refused}
-use Rattle.hlr_core.proofs.numbers.note_rows.Goals as goal
+use Rattle.hlr_core.proofs.numbers.add_numbers_of.Goals as goal
 
 pub loop-row-init : goal.loop-row-init
 loop-row-init g c = noting_start _ _ c.args.index.now (rows_from_start (g.O.Owner.rows_of c.args.owner.now))
@@ -10,7 +10,7 @@ pub returns-in_err-add-clause-err : goal.returns-in_err-add-clause-err
 returns-in_err-add-clause-err g c =
     let why = err_from_is_err_and c.from_residual.result c.from_residual.ensures.1 in
     let refused = c.in_err-add.ensures.added in
-    let h = row_refused _ c.in-Some.row.now _ _ _ c.in-Some.ensures.ordered c.in-Some.ensures.value c.loop-row.invariant c.sub_nbr.result c.in_err-add.field-0.0 c.sub_nbr.ensures refused.1 refused.2 in
+    let h = row_refused _ c.in-Some.row.now _ _ _ c.in-Some.ensures.ordered c.in-Some.ensures.value c.loop-row.invariant c.sub_nbr.result c.in_err-add.field-0.0 c.sub_nbr.ensures refused.1 in
     rw (why.1, why.2) h
 
 pub loop-row-smaller : goal.loop-row-smaller

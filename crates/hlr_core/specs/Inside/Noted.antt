@@ -1,4 +1,4 @@
--- Pairs of numbers and subscribers that are put in one after another, in whatever order. No clause of a public call cites this.
+-- Pairs of numbers and subscribers that are put in one after another, in whatever order.
 use Rattle.std.specs.Prelude.{◌≡◌, ℕ, ◌+◌, ◌≤◌, ◌==◌, List, sum_by, if◌then◌else◌}
 use Rattle.tatp_rows.specs.Rows.{SubscriberRow}
 use Rattle.hlr_core.specs.Index.{number_pair}

@@ -1,7 +1,7 @@
 use Rattle.std.proofs.Common.{drop}
 use Rattle.hlr_core.specs.Gather.{rows_of_each}
 use Rattle.hlr_core.proofs.NotedLemmas.{IsNoting}
-use Rattle.hlr_core.proofs.numbers.note_all.Given as goal
+use Rattle.hlr_core.proofs.numbers.add_numbers_of_all.Given as goal
 
 abbrev pub invariant-loop-owner : goal.invariant-loop-owner
 invariant-loop-owner g l =

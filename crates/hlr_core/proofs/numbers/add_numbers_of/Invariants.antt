@@ -1,6 +1,6 @@
 use Rattle.std.proofs.Common.{length}
 use Rattle.hlr_core.proofs.NotedLemmas.{IsNoting, rows_from}
-use Rattle.hlr_core.proofs.numbers.note_rows.Given as goal
+use Rattle.hlr_core.proofs.numbers.add_numbers_of.Given as goal
 
 abbrev pub invariant-loop-row : goal.invariant-loop-row
 invariant-loop-row g l = IsNoting (rows_from l.from (g.O.Owner.rows_of l.owner)) (g.O.Owner.rows_of l.owner) l.fn.index l.index

@@ -1,9 +1,0 @@
-use Rattle.std.proofs.Common.{◌∙◌, sym}
-use Rattle.hlr_core.proofs.IndexLemmas.{owner_indexed, owner_within}
-use Rattle.hlr_core.proofs.register.Register.owner.Goals as goal
-
-pub returns-clause-value : goal.returns-clause-value
-returns-clause-value c = rw (← c.self.view_is) (c.find.ensures ∙ owner_indexed _ _ _ c.self.invariant)
-
-pub returns-clause-within : goal.returns-clause-within
-returns-clause-within c = λ s_id found. owner_within _ _ _ s_id c.self.invariant (sym found ∙ c.find.ensures)
