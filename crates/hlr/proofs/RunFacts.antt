@@ -21,7 +21,9 @@ use Rattle.hlr.specs.Inside.{Answers, word_of_report, report_on}
 use Rattle.hlr.specs.Lines.{reply_line, refused_line}
 use Rattle.hlr_core.specs.declared.event.Reply.{Reply}
 use Rattle.hlr.specs.Sink.{Puts}
-use Rattle.hlr.specs.Text.{CommandText, RecordText, RecordsText, WritesWhole, AnsweredRecords, RanWhole, RanFront, Ran}
+use Rattle.hlr.specs.Run.{WritesWhole, AnsweredRecords, RanWhole, RanFront, Ran}
+use Rattle.hlr.specs.Text.{CommandText, RecordText, RecordsText}
+use Rattle.hlr.proofs.OrderFacts.{answered_records}
 use Rattle.tatp_rows.specs.declared.refusal.Refusal.{Refusal}
 use Rattle.tatp_rows.specs.declared.refusal.Refusal.TheVariants as refusal
 use Rattle.hlr.specs.declared.fault.Fault.{Fault}
@@ -93,13 +95,8 @@ started start bytes source at old source_is at_start = record {
 -- what is answered so far, where the count is within the limit
 abbrev answered_so_far : (start : Store) (bytes : List ℕ) (source : Option (List ℕ)) (at : State) (now : Store) (old new : Option (List ℕ)) (count : ℕ)
     → SoFar start bytes source at now old new count → count ≤ 1048576 → AnsweredRecords start
-answered_so_far start bytes source at now old new count so within = record {
-  rows = so.rows;
-  few = (let many = so.many in omega arith);
-  text = so.text;
-  end = now;
-  answers = so.answers;
-}
+answered_so_far start bytes source at now old new count so within =
+    let many = so.many in answered_records start so.rows so.text now (omega arith) so.answers
 
 module _ {R : Type 0} (rem : R → Option (List ℕ)) (start : Store) (bytes : List ℕ) where
   -- one record more is read and answered
@@ -142,13 +139,8 @@ module _ {R : Type 0} (rem : R → Option (List ℕ)) (start : Store) (bytes : L
       let many = so.many in
       let front = (put_front cut.text mid new stalled r failed cut.put).0 in
       record {
-        answered = record {
-          rows = so.rows ++ fields ∷ [];
-          few = rw length-append (omega arith);
-          text = so.text ++ cut.text;
-          end = next;
-          answers = records_more so.rows fields start now next so.text cut.text so.answers cut.answer;
-        };
+        answered = answered_records start (so.rows ++ fields ∷ []) (so.text ++ cut.text) next (rw length-append (omega arith))
+            (records_more so.rows fields start now next so.text cut.text so.answers cut.answer);
         state = reader_state b;
         left = more.0;
         are_first = more.2;
@@ -204,7 +196,7 @@ stops start bytes source at now old new count why so within =
 pub ran_nothing : (start : Store) (bytes : List ℕ) (old new : Option (List ℕ)) (why : Fault) → Keeps old new → RanFront start bytes old new why
 unfolding RecordsText Reached
 ran_nothing start bytes old new why kept =
-    front_is_whole start bytes old new why (record { rows = []; few = omega arith; text = []; end = start; answers = (refl, refl) }) st.StartRecord bytes (refl, refl)
+    front_is_whole start bytes old new why (answered_records start [] [] start (omega arith) (refl, refl)) st.StartRecord bytes (refl, refl)
     (appends_kept old old new [] (appends_none old) kept)
 
 -- nothing more is written after a run

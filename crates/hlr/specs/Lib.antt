@@ -4,8 +4,10 @@ pub mod Fields
 pub mod Inside
 pub mod Lines
 pub mod Options
+pub mod Orders
 pub mod Records
 pub mod Reports
+pub mod Run
 pub mod Sink
 pub mod Text
 pub mod WholeRecords

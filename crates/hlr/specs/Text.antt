@@ -1,10 +1,6 @@
--- The text that answers a list of records, and what a run writes of it.
-use Rattle.std.specs.Prelude.{◌≡◌, ◌≤◌, ℕ, Bool, true, List, [], ◌∷◌, ◌++◌, length, Option, Result, Ok, Err, ⊤}
-use Rattle.std.specs.Io.KnownBytes.{Appends}
+-- The text that answers a list of records.
+use Rattle.std.specs.Prelude.{◌≡◌, ℕ, List, [], ◌∷◌, ◌++◌, Result, Ok, Err}
 use Rattle.arrayvec.specs.ArrayVec.{ArrayVec}
-use Rattle.csv.specs.Reading.{AreRecords, Reached, default_config}
-use Rattle.csv.specs.declared.parser.State.{State}
-use Rattle.csv.specs.declared.parser.State.TheVariants as st
 use Rattle.tatp_rows.specs.declared.refusal.Refusal.{Refusal}
 use Rattle.part_table.specs.Proposal.{proposal}
 use Rattle.tatp_actions.specs.Cell.{cell}
@@ -14,13 +10,9 @@ use Rattle.hlr_core.specs.Step.{IsStep}
 use Rattle.hlr_core.specs.Store.{Store, parts_in, published, published_weights, unposted}
 use Rattle.hlr_core.specs.declared.event.Event.{Event}
 use Rattle.hlr_core.specs.declared.event.Reply.{Reply}
-use Rattle.hlr.specs.declared.run.TheConstants.{RECORDS}
 use Rattle.hlr.specs.Lines.{bounds_line, recut_line, refused_line, reply_line}
 use Rattle.hlr.specs.Records.{bounds_of, command_of}
-use Rattle.hlr.specs.Sink.{Begins}
 use Rattle.hlr.specs.Reports.{index_text, regions_text, scan_text, views_text}
-use Rattle.hlr.specs.declared.fault.Fault.{Fault}
-use Rattle.hlr.specs.declared.fault.Fault.TheVariants as fault
 use Rattle.hlr.specs.Command.{Command}
 use Rattle.hlr.specs.Command.{Command as command}
 
@@ -66,50 +58,3 @@ RecordsText [] before text after = (text ≡ []) × (after ≡ before)
 RecordsText (row ∷ rows) before text after =
     (first : List ℕ) × (next : Store) × (rest : List ℕ)
     × RecordText row before first next × RecordsText rows next rest after × (text ≡ first ++ rest)
-
--- after a fault of the sink a front of the text was taken, after any other fault all of it
-abbrev pub WritesWhole : Fault → List ℕ → List ℕ → Type 0
-WritesWhole fault.Write written text = ⊤
-WritesWhole fault.Memory written text = written ≡ text
-WritesWhole fault.Field written text = written ≡ text
-WritesWhole fault.Thread written text = written ≡ text
-WritesWhole fault.Read written text = written ≡ text
-
--- records that a run answered, as many as it may at most, with their text and the store after them
-pub record AnsweredRecords (start : Store) : Type 0 where
-  pub rows : List (List (List ℕ))
-  pub few : length rows ≤ RECORDS
-  pub text : List ℕ
-  pub end : Store
-  pub answers : RecordsText rows start text end
-
--- all records of the bytes are answered
-pub record RanWhole (start : Store) (bytes : List ℕ) (old new : Option (List ℕ)) : Type 0 where
-  pub answered : AnsweredRecords start
-  pub are_records : AreRecords default_config st.StartRecord bytes answered.rows
-  pub grew : Appends old new answered.text
-
--- the first records of the bytes are answered
-pub record RanFront (start : Store) (bytes : List ℕ) (old new : Option (List ℕ)) (why : Fault) : Type 0 where
-  pub answered : AnsweredRecords start
-  pub state : State
-  pub left : List ℕ
-  pub are_first : Reached default_config st.StartRecord bytes answered.rows state left
-  pub written : List ℕ
-  pub begins : Begins written answered.text
-  pub whole : WritesWhole why written answered.text
-  pub grew : Appends old new written
-
--- a run from a store over these bytes: on Ok all records are answered, after a fault the first ones
-abbrev pub Ran : Store → List ℕ → Option (List ℕ) → Option (List ℕ) → Result (Unit {0}) Fault → Type 0
-Ran start bytes old new (Ok done) = RanWhole start bytes old new
-Ran start bytes old new (Err why) = RanFront start bytes old new why
-
--- all that a run wrote is flushed, unless the sink failed or was never used
-abbrev pub IsFlushedAfter : Result (Unit {0}) Fault → Bool → Type 0
-IsFlushedAfter (Ok done) flushed = flushed ≡ true
-IsFlushedAfter (Err fault.Memory) flushed = flushed ≡ true
-IsFlushedAfter (Err fault.Thread) flushed = flushed ≡ true
-IsFlushedAfter (Err fault.Read) flushed = flushed ≡ true
-IsFlushedAfter (Err fault.Write) flushed = ⊤
-IsFlushedAfter (Err fault.Field) flushed = ⊤

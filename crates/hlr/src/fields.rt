@@ -7,7 +7,7 @@ ghost use Rattle.hlr.specs.Fields.{number_field, byte_field, digits_field, bytes
 
 use tatp_rows::Refusal;
 
-// The number that a field of any length spells, as `parse_number`.
+/// The number that a field of any length spells, as `parse_number`.
 #[cold]
 #[inline(never)]
 fn parse_long(text: &[u8]) -> Result<u64, Refusal>

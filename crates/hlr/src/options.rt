@@ -63,8 +63,8 @@ subscribers by area, cell 3 + V / 268435456; 19 to 50 of the rows of all kinds b
 The subscribers are shared among parts, numbered from 0: each part has those from a number FROM on and below a number
 TO, and publishes their counts. What a part gives away is a loose piece until a part beside it takes it; till then
 its subscribers are answered refused,11,Moving. A bound S between two parts is the first subscriber of the second.
-propose and recut share rows out by whole zones, so give --zone the number of subscribers divided by 32, rounded up, and
-post every part before propose, which goes by the published counts.
+propose shares rows out by whole zones, so give --zone the greatest S divided by 32, rounded up, and post every part
+before propose, which goes by the published counts.
 
 Example:
 

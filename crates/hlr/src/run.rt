@@ -9,7 +9,7 @@ ghost use Rattle.csv.specs.declared.reader.Trim.TheVariants as trim;
 ghost use Rattle.hlr_core.specs.Store.{HasOpening, opening};
 ghost use Rattle.hlr.specs.WholeRecords.{inner_remaining};
 ghost use Rattle.hlr.specs.Records.{command_of, field, word_named};
-ghost use Rattle.hlr.specs.Text.{IsFlushedAfter, Ran};
+ghost use Rattle.hlr.specs.Run.{IsFlushedAfter, Ran};
 ghost use Rattle.hlr.specs.Command.{Command as command};
 ghost use Rattle.hlr.specs.Inside.{Answers, report_on, word_of_report};
 ghost use Rattle.hlr.specs.Sink.{Puts};
@@ -36,6 +36,9 @@ use tatp_rows::Refusal;
 
 /// How many records a run answers at most.
 pub const RECORDS: u32 = 1_048_576;
+
+// The number that the definition of a run means.
+const _: () = prove!(RECORDS == 1_048_576);
 
 /// Answers a re-cut: by how many bounds it moved, or why it was refused.
 ///

@@ -93,7 +93,7 @@ struct Seen {
 }
 
 impl Seen {
-    // Adds a block that has no quote and doesn't begin in quotes: each of its lines is a record.
+    /// Adds a block that has no quote and doesn't begin in quotes: each of its lines is a record.
     fn add_lines(&mut self, block: &[u8]) {
         if let Some(end) = last_line_end(block) {
             self.whole = self.read.saturating_add(end as u64);
@@ -103,7 +103,7 @@ impl Seen {
         }
     }
 
-    // Adds any block, byte by byte.
+    /// Adds any block, byte by byte.
     fn add_bytes(&mut self, block: &[u8]) {
         let mut state = self.state;
         let mut whole = self.whole;
@@ -118,7 +118,7 @@ impl Seen {
         self.whole = whole;
     }
 
-    // Adds a block that was read.
+    /// Adds a block that was read.
     fn add(&mut self, block: &[u8]) {
         match self.state {
             TextState::Record | TextState::Field | TextState::Plain | TextState::Closing

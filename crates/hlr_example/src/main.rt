@@ -108,13 +108,12 @@ fn owners_work<R: AllocGlobal + Threads + Sync>(
     let ((low, _), (high, _)) = work_side_by_side(rt, &board, low, high);
     holdings.push_reserved(low);
     holdings.push_reserved(high);
-    let frame = Frame {
-        board,
-        spare,
-        width,
-    };
     let scattered = Scattered {
-        frame,
+        frame: Frame {
+            board,
+            spare,
+            width,
+        },
         holdings,
         pieces,
     };
@@ -133,7 +132,7 @@ fn show<R: Print>(rt: &R, register: &Register) {
     }
 }
 
-/// Adds, posts the first part, lets the owners work, and posts once more.
+/// Adds, posts the first part, and lets the owners move their subscribers and post.
 fn run<R: AllocGlobal + Print + Threads + Sync>(rt: &R) -> Result<(), Refusal> {
     let mut register = opened(rt.alloc())?;
     show(rt, &register);

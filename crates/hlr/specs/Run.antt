@@ -1,0 +1,66 @@
+-- What a run answers, and what it writes of that.
+use Rattle.std.specs.Prelude.{◌≡◌, ◌≤◌, ℕ, Bool, true, List, length, Option, Result, Ok, Err, ⊤}
+use Rattle.std.specs.Io.KnownBytes.{Appends}
+use Rattle.csv.specs.Reading.{AreRecords, Reached, default_config}
+use Rattle.csv.specs.declared.parser.State.{State}
+use Rattle.csv.specs.declared.parser.State.TheVariants as st
+use Rattle.hlr_core.specs.Kept.{IsSameAtHome}
+use Rattle.hlr_core.specs.Run.{IsRun}
+use Rattle.hlr_core.specs.Store.{Store}
+use Rattle.hlr.specs.declared.run.TheConstants.{RECORDS}
+use Rattle.hlr.specs.declared.fault.Fault.{Fault}
+use Rattle.hlr.specs.declared.fault.Fault.TheVariants as fault
+use Rattle.hlr.specs.Orders.{answers_in, orders_of}
+use Rattle.hlr.specs.Sink.{Begins}
+use Rattle.hlr.specs.Text.{RecordsText}
+
+-- after a fault of the sink a front of the text was taken, after any other fault all of it
+abbrev pub WritesWhole : Fault → List ℕ → List ℕ → Type 0
+WritesWhole fault.Write written text = ⊤
+WritesWhole fault.Memory written text = written ≡ text
+WritesWhole fault.Field written text = written ≡ text
+WritesWhole fault.Thread written text = written ≡ text
+WritesWhole fault.Read written text = written ≡ text
+
+-- records that a run answered, as many as it may at most, with their text and the store after them: what they order of
+-- the register is a right run, with the answers that the text tells, and gives, takes and re-cuts change none of these
+-- but Moving
+pub record AnsweredRecords (start : Store) : Type 0 where
+  pub rows : List (List (List ℕ))
+  pub few : length rows ≤ RECORDS
+  pub text : List ℕ
+  pub end : Store
+  pub answers : RecordsText rows start text end
+  pub run : IsRun (orders_of rows) start (answers_in rows start text end answers) end
+  pub kept : IsSameAtHome (orders_of rows) start.book (answers_in rows start text end answers) end.book
+
+-- all records of the bytes are answered
+pub record RanWhole (start : Store) (bytes : List ℕ) (old new : Option (List ℕ)) : Type 0 where
+  pub answered : AnsweredRecords start
+  pub are_records : AreRecords default_config st.StartRecord bytes answered.rows
+  pub grew : Appends old new answered.text
+
+-- the first records of the bytes are answered
+pub record RanFront (start : Store) (bytes : List ℕ) (old new : Option (List ℕ)) (why : Fault) : Type 0 where
+  pub answered : AnsweredRecords start
+  pub state : State
+  pub left : List ℕ
+  pub are_first : Reached default_config st.StartRecord bytes answered.rows state left
+  pub written : List ℕ
+  pub begins : Begins written answered.text
+  pub whole : WritesWhole why written answered.text
+  pub grew : Appends old new written
+
+-- a run from a store over these bytes: on Ok all records are answered, after a fault the first ones
+abbrev pub Ran : Store → List ℕ → Option (List ℕ) → Option (List ℕ) → Result (Unit {0}) Fault → Type 0
+Ran start bytes old new (Ok done) = RanWhole start bytes old new
+Ran start bytes old new (Err why) = RanFront start bytes old new why
+
+-- all that a run wrote is flushed, unless the sink failed or was never used
+abbrev pub IsFlushedAfter : Result (Unit {0}) Fault → Bool → Type 0
+IsFlushedAfter (Ok done) flushed = flushed ≡ true
+IsFlushedAfter (Err fault.Memory) flushed = flushed ≡ true
+IsFlushedAfter (Err fault.Thread) flushed = flushed ≡ true
+IsFlushedAfter (Err fault.Read) flushed = flushed ≡ true
+IsFlushedAfter (Err fault.Write) flushed = ⊤
+IsFlushedAfter (Err fault.Field) flushed = ⊤
