@@ -130,7 +130,7 @@ options() {
     is "--help: the refusal $word" "$(grep -cwF -e "$word" "$room/out")" 1
   done
   has '--help' "$room/out" 'cell 3 + V / 268435456'
-  has '--help' "$room/out" 'give --zone the number of subscribers divided by 32, rounded up'
+  has '--help' "$room/out" 'give --zone the greatest S divided by 32, rounded up'
   has '--help' "$room/out" "The status is 0, or 1 after 'hlr: no memory'"
   # the example that it ends with does what it says
   sed -n "s/^  [$] \(printf .*\) | hlr$/\1/p" "$room/out" > "$room/example"
@@ -234,9 +234,76 @@ waiting() {
   is 'the end of the input ends the program' "$ended" 'status 0'
 }
 
+# asked OPTION .. : how often the program asks for memory, given the script $room/in.
+asked() {
+  rm -f "$room/asked"
+  ASKED_FILE=$room/asked LD_PRELOAD=$room/count.so "$hlr" "$@" < "$room/in" > "$room/out"
+  wc -c < "$room/asked"
+}
+
+# taken N: how often it asks for memory in one take, where a part and a piece of N subscribers each are joined.
+taken() {
+  local half=$1 number before after
+  for number in $(seq 1 $((2 * half))); do
+    printf 'sub,%d,%015d,0000000000,0000000000,00000000000000000000,1,1\n' "$number" "$number"
+  done > "$room/in"
+  printf 'give,0,high,%d\n' $((half + 1)) >> "$room/in"
+  before=$(asked)
+  echo 'take,1,0' >> "$room/in"
+  after=$(asked)
+  tail -n 1 "$room/out" | grep -q '^taken,1,0$' && echo $((after - before))
+}
+
+# What a take asks of memory goes by the heights of the trees that are joined, and not by how many rows they have.
+memory() {
+  local few
+  if ! command -v gcc > /dev/null; then
+    echo 'skipped, since there is no gcc: what a take asks of memory'
+    return
+  fi
+  cat > "$room/count.c" <<'C'
+#include <fcntl.h>
+#include <stdlib.h>
+#include <unistd.h>
+
+void *__libc_malloc(size_t size);
+void *__libc_realloc(void *old, size_t size);
+
+static int file = -1;
+
+static void count(void) {
+    const char *name = getenv("ASKED_FILE");
+    if (file < 0 && name) {
+        file = open(name, O_CREAT | O_WRONLY | O_APPEND, 0600);
+    }
+    if (file < 0 || write(file, "x", 1) != 1) {
+        abort();
+    }
+}
+
+void *malloc(size_t size) {
+    count();
+    return __libc_malloc(size);
+}
+
+void *realloc(void *old, size_t size) {
+    count();
+    return __libc_realloc(old, size);
+}
+C
+  gcc -O2 -shared -fPIC -o "$room/count.so" "$room/count.c" || fail 'the counting malloc'
+  few=$(taken 200)
+  is 'a take of 200 rows asks for memory' "$([ "${few:-0}" -gt 0 ] && echo yes)" yes
+  is 'a take of 400 rows asks as often' "$(taken 400)" "$few"
+}
+
 program() {
   if [ ! -x "$hlr" ]; then
     fail "there is no program at $hlr: run rt run in crates/hlr"
+    return
+  fi
+  if [ ! -x crates/hlr_example/out/hlr_example ]; then
+    fail 'there is no program at crates/hlr_example/out/hlr_example: run rt run in crates/hlr_example'
     return
   fi
   examples
@@ -245,6 +312,7 @@ program() {
   options
   streams
   bytes
+  memory
   waiting
 }
 

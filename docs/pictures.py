@@ -48,7 +48,7 @@ def counts():
     picture.box(620, 90, 180, 130, ["views", "for each cell: what is", "published (plus less minus,", "over all slots) and the", "deltas not posted:", "together the count now"])
     picture.arrow(250, 76, 350, 110, "post")
     picture.arrow(250, 262, 350, 220, "post")
-    picture.arrow(530, 150, 620, 150, "look")
+    picture.arrow(530, 150, 620, 150, "published")
     picture.arrow(135, 206, 135, 218)
     picture.arrow(135, 122, 135, 134)
     picture.text(142, 131, "give", 12, color=MARK)
@@ -68,15 +68,17 @@ def table(title):
 
 
 def speed():
-    """Instructions a command, the program above the plain one."""
-    rows = [(row[0].strip("`"), *(int(cell.replace(",", "")) for cell in row[1:3])) for row in table("command |")]
-    picture = Picture(620, 60 + 44 * len(rows))
-    picture.text(20, 28, "Instructions a command: hlr (dark), plain Rust over BTreeMap and HashMap (light)", 14)
-    scale = 440 / max(max(row[1:]) for row in rows)
-    for place, (name, ours, plain) in enumerate(rows):
-        y = 48 + 44 * place
-        picture.text(20, y + 20, name, 13)
-        for line, (count, fill) in enumerate(((ours, MARK), (plain, "#b9cdd6"))):
+    """Instructions a command of the program, below them those of the plain one and of SQLite."""
+    kind = ": instructions"
+    rows = [(row[0].removesuffix(kind).strip("`"), *(int(cell.replace(",", "")) for cell in row[1:]))
+            for row in table("| hlr |") if row[0].endswith(kind)]
+    picture = Picture(640, 60 + 58 * len(rows))
+    picture.text(20, 28, "Instructions a command: hlr (dark), plain Rust over BTreeMap and HashMap, SQLite (pale)", 14)
+    scale = 460 / max(max(row[1:]) for row in rows)
+    for place, (name, *counts) in enumerate(rows):
+        y = 44 + 58 * place
+        picture.text(20, y + 28, name, 13)
+        for line, (count, fill) in enumerate(zip(counts, (MARK, "#8fb3c3", "#d5e2e8"))):
             picture.bar(80, y + 16 * line, count * scale, fill)
             picture.text(86 + count * scale, y + 12 + 16 * line, f"{count:,}", 11)
     return picture
