@@ -1,5 +1,5 @@
 //! An event's plain numbers, checked, as the edit that it asks for.
-ghost use Rattle.std.specs.Prelude.{◌≡◌, ◌&&◌, ◌<◌, ◌≤◌, ◌+◌, ℕ, Some, IfOk, OnErr, true, Option, option_map};
+ghost use Rattle.std.specs.Prelude.{◌≡◌, ◌&&◌, ◌<◌, ◌≤◌, ◌+◌, ℕ, Some, IfOk, OnErr, true, false, Option, option_map};
 ghost use Rattle.tatp_rows.specs.Rows.{is_between};
 ghost use Rattle.tatp_rows.specs.declared.ranges.TheConstants.{LAST_SUBSCRIBER};
 ghost use Rattle.tatp_actions.specs.Action.{is_in_range};
@@ -8,6 +8,7 @@ ghost use Rattle.tatp_actions.specs.declared.action.Action.TheVariants as action
 ghost use Rattle.hlr_core.specs.Inside.Asked.{IsAsked, IsAskedAlone, IsRowAction, action_asked};
 ghost use Rattle.hlr_core.specs.Step.{has_forwarding_key};
 
+use std::num::NonZeroU32;
 use tatp_actions::Edit;
 use tatp_actions::edit::{
     AddAccess, AddFacility, DeleteForwarding, InsertForwarding, SetActive, UpdateLocation,
@@ -23,6 +24,15 @@ fn byte(value: u64) -> Result<u8, Refusal>
     ensures { (IfOk result (λ small. small ≡ value)) × OnErr result ((256 ≤ value) × (result ≡ Err Refusal.Field)) }
 {
     u8::try_from(value).map_err(|_| Refusal::Field)
+}
+
+/// A location. 0, and what is above 4,294,967,295, is out of its range.
+fn location(value: u64) -> Result<NonZeroU32, Refusal>
+    ensures ok { IfOk result (λ location. (location.value ≡ value) × (is_between 1 4294967295 value ≡ true)) }
+    ensures err { OnErr result ((is_between 1 4294967295 value ≡ false) × (result ≡ Err Refusal.Field)) }
+{
+    let small = u32::try_from(value).map_err(|_| Refusal::Field)?;
+    NonZeroU32::new(small).ok_or(Refusal::Field)
 }
 
 pub(crate) fn update_subscriber(
@@ -61,7 +71,7 @@ pub(crate) fn update_location(
     ensures action { IfOk result (λ edit. IsRowAction (⟦<UpdateLocation as Edit>⟧.action edit)) }
     ensures asked { IsAsked (is_between 1 4294967295 vlr_location) (option_map (λ s_id. action.UpdateLocation s_id vlr_location) bearer_id) (action_asked ⟦<UpdateLocation as Edit>⟧.action result) }
 {
-    let vlr_location = in_range(vlr_location, u32::MAX)?;
+    let vlr_location = location(vlr_location)?;
     let s_id = bearer_id.ok_or(Refusal::NoNumber)?;
     Ok(UpdateLocation { s_id, vlr_location })
 }

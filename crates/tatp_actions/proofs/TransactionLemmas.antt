@@ -24,19 +24,21 @@ use Rattle.tatp_actions.proofs.RevisedLemmas.{revised_after, refitted_after}
 use Rattle.tatp_actions.proofs.CellLemmas.{change_of_move, change_of_put_subscriber, change_of_insertion, change_of_deletion, change_twice}
 
 -- UpdateLocation
-pub location_moved : (before after : PartState) (s v new was : ℕ) (notes : List (ℕ × ℤ)) (o : Option SubscriberRow) → IsPart before → IsWithin before.lo before.hi s → is_between 1 4294967295 v ≡ true → v < 2 ^ 32
+pub location_moved : (before after : PartState) (s v new was : ℕ) (notes : List (ℕ × ℤ)) (o : Option SubscriberRow)
+    → IsPart before → IsWithin before.lo before.hi s → 0 < v → v < 2 ^ 32
     → subscriber_at before.book s ≡ o → true ≡ is_some o → IfSome o (λ row. was ≡ row.vlr_location)
     → new ≡ v
     → after ≡ changed_to before (subscriber_revised before.book s (λ row. record row { vlr_location = new })) after
     → after.asked ≤ before.asked + 2
     → notes ≡ area_moved (area_of was) (area_of v)
     → Acts (UpdateLocation s v) before reply.Done notes after
-location_moved before after s v new was notes None rules within ranged below is some old brought kept few noted = absurd cc
-location_moved before after s v new was notes (Some row) rules within ranged below is some old brought kept few noted =
+location_moved before after s v new was notes None rules within from below is some old brought kept few noted =
+    absurd cc
+location_moved before after s v new was notes (Some row) rules within from below is some old brought kept few noted =
     acts_done (UpdateLocation s v) before after notes (put_subscriber before.book s (record row { vlr_location = v })) after.asked
     (revised_after before after s (λ row. record row { vlr_location = new }) row is kept
     ∙ ap (λ (l : ℕ). changed_to before (put_subscriber before.book s (record row { vlr_location = l })) after) brought) (omega arith)
-    (both_from _ _ (is_subscriber before s rules within) ranged)
+    (both_from _ _ (is_subscriber before s rules within) (between_from 1 4294967295 v from (omega arith)))
     (rw is refl)
     (subst (λ (ns : List (ℕ × ℤ)). IsChange before.width before.book (put_subscriber before.book s (record row { vlr_location = v })) ns) (sym (noted ∙ ap (λ (l : ℕ). area_moved (area_of l) (area_of v)) old))
     (change_of_move before.width before.book s row (record row { vlr_location = v }) is refl (area_found before.book s row rules.rows.rules is) (area_below v below)))

@@ -96,13 +96,6 @@ fn is_subscriber(s_id: u32) -> bool
     (1..=LAST_SUBSCRIBER).contains(&s_id)
 }
 
-/// Whether there can be a location with this number.
-pub(crate) fn is_location(vlr_location: u32) -> bool
-    ensures { result ≡ is_between 1 4294967295 vlr_location }
-{
-    vlr_location > 0
-}
-
 /// Whether there can be a row of a subscriber with this s_id and type.
 fn is_typed(s_id: u32, kind: u8) -> bool
     ensures { result ≡ is_typed s_id kind }
@@ -155,7 +148,7 @@ impl Action {
                 data_a,
             } => is_typed(s_id, sf_type) && bit_1 <= 1 && is_between(data_a, 0, 255),
             Action::UpdateLocation { s_id, vlr_location } => {
-                is_subscriber(s_id) && is_location(vlr_location)
+                is_subscriber(s_id) && vlr_location != 0
             }
             Action::DeleteForwarding {
                 s_id,

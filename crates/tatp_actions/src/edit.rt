@@ -12,6 +12,7 @@ use crate::action::Action;
 use crate::change::Change;
 use crate::part::Part;
 use crate::rows::Rows;
+use std::num::NonZeroU32;
 use tatp_rows::{Access, Facility, Forwarding, Number, Refusal, Subscriber};
 
 /// An action that changes the rows of one subscriber.
@@ -75,12 +76,12 @@ impl Edit for UpdateSubscriber {
 pub struct UpdateLocation {
     /// The subscriber.
     pub s_id: u32,
-    /// The new location, at least 1.
-    pub vlr_location: u32,
+    /// The new location.
+    pub vlr_location: NonZeroU32,
 }
 
 impl Edit for UpdateLocation {
-    ghost action = { λ edit. action.UpdateLocation edit.s_id edit.vlr_location };
+    ghost action = { λ edit. action.UpdateLocation edit.s_id edit.vlr_location.value };
 
     fn s_id(&self) -> u32 {
         self.s_id
@@ -89,7 +90,7 @@ impl Edit for UpdateLocation {
     fn to_action(&self) -> Action {
         Action::UpdateLocation {
             s_id: self.s_id,
-            vlr_location: self.vlr_location,
+            vlr_location: self.vlr_location.get(),
         }
     }
 

@@ -2,12 +2,13 @@
 ghost use Rattle.std.specs.Prelude.{◌≡◌, ◌+◌, ◌<◌, ◌≤◌, [], IfOk, IfErr};
 ghost use Rattle.tatp_rows.specs.Zones.{zone_of};
 ghost use Rattle.tatp_actions.specs.Action.{s_id_of, done_reply, IsOutcome};
-ghost use Rattle.tatp_actions.specs.Inside.{notes_of};
+ghost use Rattle.tatp_actions.specs.Inside.{Acts, notes_of};
 ghost use Rattle.tatp_actions.specs.Book.{IsWithin, IsRowsOf, empty_book};
 ghost use Rattle.tatp_actions.specs.Change.{IsChange};
 ghost use Rattle.tatp_actions.specs.Heights.{zero_heights};
 ghost use Rattle.tatp_actions.specs.Part.{PartState, IsPart, IsRange, IsWidth};
 ghost use Rattle.tatp_actions.specs.Tables.{AreKeyed, stored_book};
+ghost use Rattle.tatp_actions.specs.declared.action.Action.{Action};
 
 use crate::action::{Action, RowReply};
 use crate::change::Change;
@@ -15,6 +16,7 @@ use crate::rows::Rows;
 use crate::trees::Trees;
 use std::alloc::Global;
 use std::marker::Model;
+use std::num::NonZeroU32;
 use tatp_rows::{Refusal, zone};
 
 /// The rows of the subscribers of a range lo..hi (hi excluded), with the width of the zones by which they count.
@@ -116,6 +118,18 @@ impl<R: Rows> Part<R> {
         zone(s_id, self.width)
     }
 
+    /// The body of UPDATE_LOCATION, to a number that may be 0: `Field`, `NoSubscriber`.
+    fn update_any_location(&mut self, s_id: u32, vlr_location: u32) -> Result<Change, Refusal>
+        requires { IsWithin self.old.lo self.old.hi s_id }
+        ensures { Acts (Action.UpdateLocation s_id vlr_location)
+            self.old (done_reply result) (notes_of result) self.new }
+    {
+        let Some(vlr_location) = NonZeroU32::new(vlr_location) else {
+            return Err(Refusal::Field);
+        };
+        self.update_location(s_id, vlr_location)
+    }
+
     /// Does an action on the rows of one subscriber of the range: its answer, and by how much each cell moves.
     ///
     /// `Memory` comes only in place of `Done` where a row is added. A number that another subscriber has is no
@@ -149,7 +163,7 @@ impl<R: Rows> Part<R> {
                 data_a,
             } => answered(self.update_subscriber(s_id, sf_type, bit_1, data_a)),
             Action::UpdateLocation { s_id, vlr_location } => {
-                answered(self.update_location(s_id, vlr_location))
+                answered(self.update_any_location(s_id, vlr_location))
             }
             Action::InsertForwarding(row) => answered(self.insert_forwarding(row)),
             Action::DeleteForwarding {

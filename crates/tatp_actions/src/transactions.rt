@@ -8,12 +8,13 @@ ghost use Rattle.tatp_actions.specs.Inside.{destination, Acts, asked_once, notes
 ghost use Rattle.tatp_actions.specs.Part.{IsPart};
 ghost use Rattle.tatp_actions.specs.declared.action.Action.{Action};
 
-use crate::action::{RowReply, is_location};
+use crate::action::RowReply;
 use crate::change::Change;
 use crate::part::{Part, refused};
 use crate::revisions::{SetBit1, SetDataA, SwapLocation};
 use crate::rows::Rows;
 use arrayvec::ArrayVec;
+use std::num::NonZeroU32;
 use tatp_rows::{Forwarding, Number, Refusal, is_between, is_start_time};
 
 /// The numbers that were found, in order.
@@ -168,18 +169,17 @@ impl<R: Rows> Part<R> {
         }
     }
 
-    /// The body of UPDATE_LOCATION: `Field`, `NoSubscriber`.
+    /// The body of UPDATE_LOCATION: `NoSubscriber`.
     pub(crate) fn update_location(
         &mut self,
         s_id: u32,
-        vlr_location: u32,
+        vlr_location: NonZeroU32,
     ) -> Result<Change, Refusal>
         requires { IsWithin self.old.lo self.old.hi s_id }
-        ensures { Acts (Action.UpdateLocation s_id vlr_location) self.old (done_reply result) (notes_of result) self.new }
+        ensures { Acts (Action.UpdateLocation s_id vlr_location.value)
+            self.old (done_reply result) (notes_of result) self.new }
     {
-        if !is_location(vlr_location) {
-            return Err(Refusal::Field);
-        }
+        let vlr_location = vlr_location.get();
         let mut swap = SwapLocation::to(vlr_location);
         if !self.revise_subscriber(s_id, &mut swap) {
             return Err(Refusal::NoSubscriber);
