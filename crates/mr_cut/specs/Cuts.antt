@@ -27,13 +27,13 @@ pub record IsCut {V : Type 0} (key : ℕ) (whole low high : Seen V) : Type 0 whe
   pub low_height : low.height ≤ whole.height
   pub high_height : high.height ≤ whole.height
 
--- a root over some children of a node of this height, which has room where it is as high
+-- a root over some children of a node of this height, which has room where it is as high (no public clause cites it)
 pub record IsSideRoot {V : Type 0} (height : ℕ) (s : Seen V) : Type 0 where
   pub root : IsRoot s
   pub low : s.height ≤ height
   pub room : s.height ≡ height → s.width < 32
 
--- an inner node divided at the child to which a key belongs
+-- an inner node divided at the child to which a key belongs (no public clause cites it)
 pub record IsDivided {V : Type 0} (key : ℕ) (b : NodeBranch V) (left mid right : Seen V) : Type 0 where
   pub front : IsSideRoot b.height left
   pub back : IsSideRoot b.height right

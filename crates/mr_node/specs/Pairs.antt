@@ -4,11 +4,13 @@ use Rattle.mr_node.specs.Rows.{Seen}
 use Rattle.mr_node.specs.Levels.{IsWell}
 
 -- the widths of two neighbours that are evened out: the left one has all, or both have 16 or more, and 33 together
+-- (no public clause cites it)
 abbrev pub AreEvenWidths : Bool → ℕ → ℕ → Type 0
 AreEvenWidths true c d = (c ≤ 32) × (d ≡ 0)
 AreEvenWidths false c d = (16 ≤ c) × (c ≤ 32) × (16 ≤ d) × (d ≤ 32) × (32 < c + d)
 
 -- how many of two neighbours' entries the first one may get: all, or so many that both are half full
+-- (no public clause cites it)
 pub record IsShare (both low : ℕ) : Type 0 where
   pub fits : low ≤ 32
   pub within : low ≤ both
@@ -41,7 +43,7 @@ abbrev pub AreEvened : {V : Type 0} → Bool → Seen V → Seen V → Seen V �
 AreEvened true a b x y = IsJoined a b x
 AreEvened false a b x y = ArePaired a b x y
 
--- a full node made into two half full ones
+-- a full node made into two half full ones (no public clause cites it)
 pub record IsHalved {V : Type 0} (a x y : Seen V) : Type 0 where
   pub low : IsKidNode a.height x
   pub high : IsKidNode a.height y

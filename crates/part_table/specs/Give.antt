@@ -16,7 +16,7 @@ use Rattle.part_table.specs.declared.region.TheConstants.{MOST_PIECES}
 abbrev pub free_number : List ℕ → ℕ
 free_number pieces = least (λ n. not (list_any (λ m. m == n) pieces)) 1 MOST_PIECES
 
--- that number, of pieces of which fewer than sixteen are loose
+-- that number, of pieces of which fewer than sixteen are loose (no public clause cites it)
 pub record IsFreeNumber (pieces : List ℕ) (n : ℕ) : Type 0 where
   pub least_free : n ≡ free_number pieces
   pub fresh : list_any (λ m. m == n) pieces ≡ false
