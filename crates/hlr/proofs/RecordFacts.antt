@@ -28,7 +28,8 @@ abbrev pub read_before : List ℕ → Result (List ℕ) Refusal → Result (List
 read_before ns (Ok more) = Ok (ns ++ more)
 read_before ns (Err why) = Err why
 
--- the numbers of the fields behind the word are those that were read so far, and then those of the fields from a place on
+-- the numbers of the fields behind the word are those that were read so far, and then those of the fields from a place
+-- on
 pub record AreReadFrom (fields : List (List ℕ)) (i : ℕ) (ns : List ℕ) : Type 0 where
   pub whole : number_fields (drop 1 fields) ≡ read_before ns (number_fields (drop i fields))
   pub many : length ns + 1 ≡ i

@@ -37,7 +37,8 @@ abbrev pub RecutText : Result (ArrayVec ℕ) Refusal → Store → List ℕ → 
 RecutText (Ok bounds) before text after = RecutAnswered before bounds.items text after
 RecutText (Err why) before text after = (text ≡ refused_line why) × (after ≡ before)
 
--- a command of these fields is answered: an event by its reply, a report by its lines, a record that is no command by its refusal
+-- a command of these fields is answered: an event by its reply, a report by its lines, a record that is no command by
+-- its refusal
 abbrev pub CommandText : List (List ℕ) → Result Command Refusal → Store → List ℕ → Store → Type 0
 CommandText fields (Ok (command.Ask event)) before text after = Answered before event text after
 CommandText fields (Ok command.Views) before text after = (text ≡ views_text (published before) (unposted before)) × (after ≡ before)

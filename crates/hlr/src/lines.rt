@@ -14,27 +14,27 @@ use tatp_actions::RowReply;
 use tatp_rows::{Letters, Number, Refusal, Subscriber};
 
 /// How many bytes a line has room for: all lines of a report of the cells fit.
-pub const ROOM: usize = 4096;
+pub const LINE_ROOM: usize = 4096;
 
 /// A line while it is built, or several that go out together. It is built from its last byte to its first, so that each
 /// number's digits are written where they stay: what is put stands in front of what is there. It takes no memory: its
 /// bytes lie in the value itself.
 #[derive(Drop)]
 pub struct Line {
-    bytes: [u8; ROOM],
+    bytes: [u8; LINE_ROOM],
     start: usize,
 }
 
 impl Model for Line {
     ghost use Rattle.std.specs.Prelude.{◌≤◌, drop};
     ghost use Rattle.hlr.specs.Written.{Written};
-    ghost use Rattle.hlr.specs.declared.lines.TheConstants.{ROOM};
+    ghost use Rattle.hlr.specs.declared.lines.TheConstants.{LINE_ROOM};
 
     ghost Value = { Written };
 
     ghost view = { λ l. record { items = drop l.start l.bytes } };
 
-    ghost invariant = { λ l. l.start ≤ ROOM };
+    ghost invariant = { λ l. l.start ≤ LINE_ROOM };
 }
 
 /// An empty line.
@@ -42,8 +42,8 @@ pub fn empty_line() -> Line
     ensures { result.items ≡ [] }
 {
     Line {
-        bytes: [0; ROOM],
-        start: ROOM,
+        bytes: [0; LINE_ROOM],
+        start: LINE_ROOM,
     }
 }
 
@@ -52,7 +52,7 @@ impl Line {
     #[inline(always)]
     pub fn as_slice(&self) -> &[u8]
         ensures value { result.now ≡ self.now.items }
-        ensures fits { length result.now ≤ ROOM }
+        ensures fits { length result.now ≤ LINE_ROOM }
     {
         &self.bytes[self.start..]
     }
@@ -62,13 +62,13 @@ impl Line {
     pub fn clear(&mut self)
         ensures { self.new.items ≡ [] }
     {
-        self.start = ROOM;
+        self.start = LINE_ROOM;
     }
 
     /// Puts bytes in front.
     #[inline(always)]
     pub fn put(&mut self, bytes: &[u8])
-        requires { length self.old.items + length bytes.now ≤ ROOM }
+        requires { length self.old.items + length bytes.now ≤ LINE_ROOM }
         ensures bytes { self.new.items ≡ bytes.now ++ self.old.items }
         ensures len { length self.new.items ≡ length bytes.now + length self.old.items }
     {
@@ -81,7 +81,7 @@ impl Line {
     /// Puts a byte in front.
     #[inline(always)]
     fn put_byte(&mut self, byte: u8)
-        requires { length self.old.items < ROOM }
+        requires { length self.old.items < LINE_ROOM }
         ensures bytes { self.new.items ≡ byte ∷ self.old.items }
         ensures len { length self.new.items ≡ length self.old.items + 1 }
     {
@@ -93,7 +93,7 @@ impl Line {
     /// Puts a word of a fixed length in front, byte by byte, so that it is compiled into stores.
     #[inline(always)]
     fn put_word<const N: usize>(&mut self, word: &[u8; N])
-        requires { length self.old.items + N ≤ ROOM }
+        requires { length self.old.items + N ≤ LINE_ROOM }
         ensures bytes { self.new.items ≡ word.now ++ self.old.items }
         ensures len { length self.new.items ≡ N + length self.old.items }
     {
@@ -105,7 +105,7 @@ impl Line {
     /// Puts a number in decimal in front.
     #[inline(always)]
     fn put_decimal(&mut self, n: u64)
-        requires { length self.old.items + 20 ≤ ROOM }
+        requires { length self.old.items + 20 ≤ LINE_ROOM }
         ensures bytes { self.new.items ≡ decimal n ++ self.old.items }
         ensures len { length self.new.items ≤ length self.old.items + 20 }
     {
@@ -115,7 +115,7 @@ impl Line {
     /// Puts a number in decimal in front, with `-` before it where it is negative.
     #[inline(always)]
     fn put_signed(&mut self, n: i64)
-        requires { length self.old.items + 21 ≤ ROOM }
+        requires { length self.old.items + 21 ≤ LINE_ROOM }
         ensures bytes { self.new.items ≡ signed_decimal n ++ self.old.items }
         ensures len { length self.new.items ≤ length self.old.items + 21 }
     {
@@ -129,7 +129,7 @@ impl Line {
     /// Puts the digits of a number in front, 15 at least: zeros, and the number's own over the last of them.
     #[inline(always)]
     fn put_number(&mut self, n: u64)
-        requires { length self.old.items + 20 ≤ ROOM }
+        requires { length self.old.items + 20 ≤ LINE_ROOM }
         ensures bytes { self.new.items ≡ number_text n ++ self.old.items }
         ensures len { length self.new.items ≤ length self.old.items + 20 }
     {
@@ -154,7 +154,7 @@ fn hex_digit(byte: u8) -> u8
 
 /// Puts one hexadecimal digit for each number in front.
 fn put_hexes(line: &mut Line, digits: &[u8])
-    requires { length line.old.items + length digits.now ≤ ROOM }
+    requires { length line.old.items + length digits.now ≤ LINE_ROOM }
     ensures bytes { line.new.items ≡ hexes_text digits.now ++ line.old.items }
     ensures len { length line.new.items ≡ length digits.now + length line.old.items }
 {
@@ -165,7 +165,7 @@ fn put_hexes(line: &mut Line, digits: &[u8])
 
 /// Puts two hexadecimal digits for each byte in front.
 fn put_bytes(line: &mut Line, bytes: &[u8])
-    requires { length line.old.items + 2 * length bytes.now ≤ ROOM }
+    requires { length line.old.items + 2 * length bytes.now ≤ LINE_ROOM }
     ensures bytes { line.new.items ≡ bytes_text bytes.now ++ line.old.items }
     ensures len { length line.new.items ≡ 2 * length bytes.now + length line.old.items }
 {
@@ -221,7 +221,7 @@ pub fn build_subscriber(line: &mut Line, row: &Subscriber)
 
 /// Puts the numbers of a list in front, each after a comma.
 fn put_numbers(line: &mut Line, numbers: &[Number])
-    requires { length line.old.items + 21 * length numbers.now ≤ ROOM }
+    requires { length line.old.items + 21 * length numbers.now ≤ LINE_ROOM }
     ensures bytes { line.new.items ≡ numbers_text numbers.now ++ line.old.items }
     ensures len { length line.new.items ≤ length line.old.items + 21 * length numbers.now }
 {
@@ -274,7 +274,7 @@ pub fn build_total(line: &mut Line, word: &[u8], count: u64)
 /// Puts the line of a cell in front: its published and its unposted count.
 #[tactic(auto, unfolding(crate::specs::Lines::cell_line))]
 pub fn put_cell(line: &mut Line, cell: u64, published: i64, unposted: i64)
-    requires { length line.old.items + 70 ≤ ROOM }
+    requires { length line.old.items + 70 ≤ LINE_ROOM }
     ensures bytes { line.new.items ≡ cell_line cell published unposted ++ line.old.items }
     ensures len { length line.new.items ≤ length line.old.items + 70 }
 {
@@ -290,7 +290,7 @@ pub fn put_cell(line: &mut Line, cell: u64, published: i64, unposted: i64)
 /// Puts the line of a cell counted over the rows in front.
 #[tactic(auto, unfolding(crate::specs::Lines::counted_line))]
 pub fn put_counted(line: &mut Line, cell: u64, count: u64)
-    requires { length line.old.items + 70 ≤ ROOM }
+    requires { length line.old.items + 70 ≤ LINE_ROOM }
     ensures bytes { line.new.items ≡ counted_line cell count ++ line.old.items }
     ensures len { length line.new.items ≤ length line.old.items + 70 }
 {
@@ -304,7 +304,7 @@ pub fn put_counted(line: &mut Line, cell: u64, count: u64)
 /// Puts the line of a number and the subscriber who has it in front.
 #[tactic(auto, unfolding(crate::specs::Lines::number_line))]
 pub fn put_pair(line: &mut Line, number: u64, s_id: u32)
-    requires { length line.old.items + 70 ≤ ROOM }
+    requires { length line.old.items + 70 ≤ LINE_ROOM }
     ensures bytes { line.new.items ≡ number_line (number, s_id) ++ line.old.items }
     ensures len { length line.new.items ≤ length line.old.items + 70 }
 {
@@ -317,7 +317,7 @@ pub fn put_pair(line: &mut Line, number: u64, s_id: u32)
 
 /// Puts a part or a loose piece in front, by its number.
 fn put_place(line: &mut Line, place: Place)
-    requires { length line.old.items + 26 ≤ ROOM }
+    requires { length line.old.items + 26 ≤ LINE_ROOM }
     ensures bytes { line.new.items ≡ place_text place ++ line.old.items }
     ensures len { length line.new.items ≤ length line.old.items + 26 }
 {
@@ -362,7 +362,7 @@ pub fn build_taken(line: &mut Line, piece: u8, part: u8)
 
 /// Puts bounds between parts in front, each after a comma.
 fn put_bounds(line: &mut Line, bounds: &Bounds)
-    requires { length line.old.items + 315 ≤ ROOM }
+    requires { length line.old.items + 315 ≤ LINE_ROOM }
     ensures bytes { line.new.items ≡ decimals_text bounds.now ++ line.old.items }
     ensures len { length line.new.items ≤ length line.old.items + 315 }
 {

@@ -16,7 +16,7 @@ use Rattle.part_table.specs.declared.region.Place.TheVariants.{Part, Piece}
 use Rattle.part_table.specs.declared.region.Region.{Region}
 use Rattle.hlr_core.specs.Kept.{IsSameAtHome, is_kept, is_on_rows, is_lasting, kept_answers, kept_orders}
 use Rattle.hlr_core.specs.Run.{IsOrderStep, IsRun}
-use Rattle.hlr_core.specs.Step.{IsStep, IsAskedStep, IsOwnedStep, IsPostStep, asked, whole_effect, takes_number}
+use Rattle.hlr_core.specs.Step.{IsStep, IsAskedStep, IsOwnedStep, IsPostStep, action_for, whole_effect, takes_number}
 use Rattle.hlr_core.specs.Step.{given_number, is_done, is_loose, is_loose_place, reply_of}
 use Rattle.hlr_core.specs.Store.{Store, slots_of}
 use Rattle.hlr_core.specs.declared.event.Event.{Event}
@@ -39,8 +39,8 @@ with_book base book = record base { book = book }
 -- a step of an event on rows is one of what it asks for
 record IsRowEvent (event : Event) : Type 0 where
   asks : (before after : Store) (reply : Reply) → IsStep event before reply after
-      → IsAskedStep (asked event before.book) before reply after
-  answers : (before after : Store) (reply : Reply) → IsAskedStep (asked event before.book) before reply after
+      → IsAskedStep (action_for event before.book) before reply after
+  answers : (before after : Store) (reply : Reply) → IsAskedStep (action_for event before.book) before reply after
       → IsStep event before reply after
 
 row_event : (event : Event) → is_on_rows event ≡ true → IsRowEvent event
@@ -170,14 +170,14 @@ step_at_home base before after event reply none keeps step =
     let is = both (is_on_rows event) (is_lasting reply) keeps in
     let row = row_event event is.0 in
     row.answers (with_book base before.book) (with_book base after.book) reply
-    (asked_at_home base before after reply none is.1 (asked event before.book) (row.asks before after reply step))
+    (asked_at_home base before after reply none is.1 (action_for event before.book) (row.asks before after reply step))
 
 step_stays : (before after : Store) (event : Event) (reply : Reply) → (is_on_rows event && is_lasting reply) ≡ false
     → IsStep event before reply after → after.book ≡ before.book
 step_stays before after event reply out step =
     by_test (is_on_rows event)
     (λ e. let row = row_event event e in
-    asked_stays before after reply (rw e at out) (asked event before.book) (row.asks before after reply step))
+    asked_stays before after reply (rw e at out) (action_for event before.book) (row.asks before after reply step))
     (λ e. other_stays event before after reply e step)
 
 -- one order, that is kept or left out

@@ -1,4 +1,5 @@
--- Holdings that may be brought home: those of no part, over a new board, and those of which the last two are taken out and put back.
+-- Holdings that may be brought home: those of no part, over a new board, and those of which the last two are taken out
+-- and put back.
 use Rattle.std.proofs.Common.{◌≡◌, ◌∙◌, ℕ, ◌+◌, arith, List, [], ◌∷◌, ◌++◌, length, map, refl}
 use Rattle.std.specs.Prelude.{Box, sum_by}
 use Rattle.std.specs.List.{AllByRecursion}

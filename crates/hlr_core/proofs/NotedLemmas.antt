@@ -176,7 +176,8 @@ same_pairs (x ∷ xs) (y ∷ ys) rises risen sums =
     omega (arith, same, all, left, right)) in
     ap (λ (p : ℕ × ℕ). p ∷ xs) head ∙ ap (λ (l : List (ℕ × ℕ)). y ∷ l) rest
 
--- rising pairs that were noted of rows in another order than the book's: no number of the book stands twice, and they are its index
+-- rising pairs that were noted of rows in another order than the book's: no number of the book stands twice, and they
+-- are its index
 pub indexed : (as_in book_rows : List SubscriberRow) (pairs : List (ℕ × ℕ)) → IsOrderedBy key_of_pair pairs → AreNoted as_in [] pairs
     → ((f : SubscriberRow → ℕ) → sum_by f as_in ≡ sum_by f book_rows) → HasNoTwin book_rows × (pairs ≡ index_of book_rows)
 indexed as_in book_rows pairs rises noted sums =

@@ -83,7 +83,8 @@ owners_rows width from (region ∷ regions) (owner ∷ owners) each consecutive 
           ∙ has.1) regions owners others,
     )
 
--- owners of regions that follow one another have the rows of a book from where they begin, where each has those of its region
+-- owners of regions that follow one another have the rows of a book from where they begin, where each has those of its
+-- region
 pub book_from : (from : ℕ) (regions : List Region) (owners : List Owner) (book : Book) → 1 ≤ from → IsRowsOf 1 END book → IsConsecutive from regions → AllZip (HasRows book) regions owners
     → book_of_owners owners ≡ rows_between from END book
 book_from from [] [] book first rows consecutive each = rw consecutive (sym (between_none END book))

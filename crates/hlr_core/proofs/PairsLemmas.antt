@@ -1,4 +1,5 @@
--- What actions leave of the book; and those that leave each subscriber's number: the index and the rule of numbers stay.
+-- What actions leave of the book; and those that leave each subscriber's number: the index and the rule of numbers
+-- stay.
 use Rattle.std.proofs.Common.{◌≡◌, ℕ, Bool, true, false, ◌+◌, refl, sym, ap, ◌∙◌, List, [], ◌∷◌, Option, Some, None, inl, inr}
 use Rattle.std.specs.Prelude.{◌⊎◌}
 use Rattle.tatp_rows.specs.Keys.{key_of, subscriber_key}

@@ -12,7 +12,8 @@ use Rattle.hlr_core.specs.Recut.{IsStopped, IsRecutBy, half_moved}
 use Rattle.hlr_core.specs.Inside.{IsHanded}
 use Rattle.hlr_core.specs.Store.{Store}
 
--- where a re-cut stands in front of the moves that are left: they lead to its bounds, and what stops them stops all moves
+-- where a re-cut stands in front of the moves that are left: they lead to its bounds, and what stops them stops all
+-- moves
 pub record IsMoving (bounds : List ℕ) (moves left : List CutMove) (before now : Store) : Type 0 where
   pub leads : all_moved left (Ok now.regions) ≡ Ok (parts_between 0 1 bounds)
   pub same : now ≡ record before { regions = now.regions }

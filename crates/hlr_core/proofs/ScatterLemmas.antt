@@ -1,4 +1,5 @@
--- Holdings and loose pieces as a register has them: what is gathered of them is its store, but for the numbers of the pieces.
+-- Holdings and loose pieces as a register has them: what is gathered of them is its store, but for the numbers of the
+-- pieces.
 use Rattle.std.proofs.Common.{◌≡◌, ◌∙◌, refl, sym, ap, ℕ, ◌<◌, ◌≤◌, ◌≢◌, List, [], ◌∷◌, ◌++◌, length, map, Bool, true, inl, inr, Some, None, arith}
 use Rattle.std.specs.Prelude.{Box, ◌==◌, nat_lt}
 use Rattle.std.specs.List.{AllZip, AllByRecursion, list_all}

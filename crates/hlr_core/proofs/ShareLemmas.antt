@@ -22,7 +22,8 @@ use Rattle.hlr_core.specs.Desks.{owns_one, own_number, words_of, slots_in, IsOfB
 use Rattle.hlr_core.specs.Words.{all_slots, blank_words}
 use Rattle.hlr_core.proofs.DeskLemmas.{words_at}
 
--- the first slots are desks' own, one each, the spare desk has the others and has seen the words, and all desks have their numbers
+-- the first slots are desks' own, one each, the spare desk has the others and has seen the words, and all desks have
+-- their numbers
 pub record AreShared (words : List ℕ) (spare : Station) (desks : List Station) : Type 0 where
   pub left : (slot : ℕ) → length desks ≤ slot → slot < SLOTS → Owns spare.view slot
   pub once : (slot : ℕ) → slot < SLOTS → sum_by (owns_one slot) (spare ∷ desks) ≡ 1

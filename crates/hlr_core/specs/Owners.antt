@@ -17,8 +17,8 @@ map_boxed as_what boxes = map (λ b. as_what b.value) boxes
 abbrev pub unboxed : {X : Type 0} → List (Box X Global) → List X
 unboxed boxes = map (λ b. b.value) boxes
 
--- the store of holdings, by the number of their part, and loose pieces, by their regions, with the desks of the holdings and the
--- spare one
+-- the store of holdings, by the number of their part, and loose pieces, by their regions, with the desks of the
+-- holdings and the spare one
 abbrev pub store_of : List Region → List Owner → List Owner → Station → List Station → ℕ → Store
 store_of regions holdings pieces spare desks width = record {
   book = book_of (map (λ owner. owner.part) (woven regions holdings pieces));

@@ -8,7 +8,8 @@ use Rattle.hlr_core.specs.Store.{Store}
 abbrev pub IsSpare : Store → ℕ → Type 0
 IsSpare store slot = AllByRecursion (λ slots. list_any (λ own. own == slot) slots ≡ false) store.slots
 
--- the words of slots that no part has as they are, each other word at least as it had been seen, and none past the limit
+-- the words of slots that no part has as they are, each other word at least as it had been seen, and none past the
+-- limit
 pub record IsSightOf (store : Store) (words : List ℕ) : Type 0 where
   pub wide : length words ≡ WORDS
   pub own : (w : ℕ) → w < WORDS → IsSpare store (w / SLOT_WORDS) → slice_index words w ≡ slice_index store.words w

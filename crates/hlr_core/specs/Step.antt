@@ -110,38 +110,38 @@ checked true None = Err refusal.NoNumber
 checked true (Some act) = Ok act
 
 -- an action, or Field where its numbers are out of range
-abbrev pub in_range : Action → Result Action Refusal
-in_range act = checked (is_in_range act) (Some act)
+abbrev pub if_in_range : Action → Result Action Refusal
+if_in_range act = checked (is_in_range act) (Some act)
 
 -- the type and the start time of a forwarding are in range
 abbrev pub has_forwarding_key : ℕ → ℕ → Bool
 has_forwarding_key sf_type start_time = is_between 1 4 sf_type && is_start_time start_time
 
 -- what an event on rows asks for; any other event asks for no action, and what stands for it here is of no matter
-abbrev pub asked : Event → Book → Result Action Refusal
-asked (SubscriberData s_id) book = in_range (action.SubscriberData s_id)
-asked (NewDestination s_id sf_type start_time end_time) book =
-    in_range (action.NewDestination s_id sf_type start_time end_time)
-asked (AccessData s_id ai_type) book = in_range (action.AccessData s_id ai_type)
-asked (UpdateSubscriber s_id sf_type bit_1 data_a) book = in_range (action.UpdateSubscriber s_id sf_type bit_1 data_a)
-asked (UpdateLocation sub_nbr vlr_location) book =
+abbrev pub action_for : Event → Book → Result Action Refusal
+action_for (SubscriberData s_id) book = if_in_range (action.SubscriberData s_id)
+action_for (NewDestination s_id sf_type start_time end_time) book =
+    if_in_range (action.NewDestination s_id sf_type start_time end_time)
+action_for (AccessData s_id ai_type) book = if_in_range (action.AccessData s_id ai_type)
+action_for (UpdateSubscriber s_id sf_type bit_1 data_a) book = if_in_range (action.UpdateSubscriber s_id sf_type bit_1 data_a)
+action_for (UpdateLocation sub_nbr vlr_location) book =
     checked (is_between 1 4294967295 vlr_location)
     (option_map (λ s_id. action.UpdateLocation s_id vlr_location) (bearer_id book.subscribers sub_nbr))
-asked (InsertForwarding sub_nbr sf_type start_time end_time numberx) book =
+action_for (InsertForwarding sub_nbr sf_type start_time end_time numberx) book =
     checked (has_forwarding_key sf_type start_time && is_between 1 24 end_time)
     (option_map
     (λ s_id. action.InsertForwarding (record { s_id = s_id; sf_type = sf_type; start_time = start_time; end_time = end_time; numberx = numberx }))
     (bearer_id book.subscribers sub_nbr))
-asked (DeleteForwarding sub_nbr sf_type start_time) book =
+action_for (DeleteForwarding sub_nbr sf_type start_time) book =
     checked (has_forwarding_key sf_type start_time)
     (option_map (λ s_id. action.DeleteForwarding s_id sf_type start_time) (bearer_id book.subscribers sub_nbr))
-asked (AddSubscriber row) book = Ok (action.AddSubscriber row)
-asked (AddAccess row) book = Ok (action.AddAccess row)
-asked (AddFacility row) book = Ok (action.AddFacility row)
-asked (SetActive s_id sf_type is_active) book = in_range (action.SetActive s_id sf_type is_active)
-asked (SetNumber s_id sub_nbr) book =
+action_for (AddSubscriber row) book = Ok (action.AddSubscriber row)
+action_for (AddAccess row) book = Ok (action.AddAccess row)
+action_for (AddFacility row) book = Ok (action.AddFacility row)
+action_for (SetActive s_id sf_type is_active) book = if_in_range (action.SetActive s_id sf_type is_active)
+action_for (SetNumber s_id sub_nbr) book =
     checked (is_between 1 LAST_SUBSCRIBER s_id) (Some (action.SetNumber s_id sub_nbr))
-asked other book = Err refusal.Field
+action_for other book = Err refusal.Field
 
 -- the reply of a posting
 abbrev pub posted_reply : Result ℕ Refusal → Reply
@@ -189,4 +189,4 @@ abbrev pub IsStep : Event → Store → Reply → Store → Type 0
 IsStep (Post part limit) before answer after = IsPostStep (slots_of before part) part limit before answer after
 IsStep (Give part side at) before answer after = IsGiveStep part side at before answer after
 IsStep (Take piece part) before answer after = IsTakeStep piece part before answer after
-IsStep event before answer after = IsAskedStep (asked event before.book) before answer after
+IsStep event before answer after = IsAskedStep (action_for event before.book) before answer after

@@ -1,5 +1,5 @@
--- The store that a register is seen as: its book, the regions, the words of the board, what it has seen of them, the slots of each
--- part, and the width of the zones.
+-- The store that a register is seen as: its book, the regions, the words of the board, what it has seen of them, the
+-- slots of each part, and the width of the zones.
 use Rattle.std.specs.Prelude.{◌≡◌, ℕ, ◌+◌, ◌-◌, true, List, [], ◌∷◌, map, length, Option, Some, None, ℤ, pos, negsuc, ◌-ℤ◌, min, slice_get}
 use Rattle.std.specs.List.{find, range_with_len}
 use Rattle.tatp_actions.specs.Book.{Book, empty_book, rows_between}
@@ -22,7 +22,8 @@ pub record Store : Type 0 where
   pub slots : List (List ℕ)
   pub width : ℕ
 
--- the store at opening: no row, parts alone with the zones shared out among them, all words 0, and part p has slot p alone
+-- the store at opening: no row, parts alone with the zones shared out among them, all words 0, and part p has slot p
+-- alone
 abbrev pub opening : ℕ → ℕ → Store
 opening parts width = record {
   book = empty_book;

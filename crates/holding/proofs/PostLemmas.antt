@@ -23,8 +23,8 @@ use Rattle.holding.specs.Post.{post_cells, all_cells, gap, post}
 abbrev pub open_from : (ℕ → ℤ) → ℕ → ℕ → List ℕ
 open_from gaps c left = filter (λ k. not (is_zero (gaps k))) (range_with_len c left)
 
--- where a posting stands before cell c: what is left of it gives the whole answer, the deltas from c on are the gaps, the
--- desk has the slots that it had, and it raised a word for each cell that was posted
+-- where a posting stands before cell c: what is left of it gives the whole answer, the deltas from c on are the gaps,
+-- the desk has the slots that it had, and it raised a word for each cell that was posted
 pub record IsPosting (count : ℕ → ℕ) (slot limit : ℕ) (start : View) (c done : ℕ) (pending : List ℤ) (view : View) : Type 0 where
   pub goes : (left : ℕ) → c + left ≡ CELLS →
       post_cells (gap count start) slot (take (limit - done) (open_from (gap count start) c left)) done view ≡ post count slot limit start

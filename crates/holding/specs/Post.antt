@@ -22,8 +22,8 @@ gap count view c = pos (count c) -ℤ net_of view c
 abbrev pub due : (ℕ → ℤ) → ℕ → List ℕ
 due gaps limit = take limit (filter (λ c. not (is_zero (gaps c))) all_cells)
 
--- the gaps of cells are posted in a slot, each in one step, one cell after another, up to one whose word would wear; the
--- answer is how many were posted, and what the desk knows then
+-- the gaps of cells are posted in a slot, each in one step, one cell after another, up to one whose word would wear;
+-- the answer is how many were posted, and what the desk knows then
 abbrev pub post_cells : (ℕ → ℤ) → ℕ → List ℕ → ℕ → View → Result ℕ Refusal × View
 post_cells gaps slot [] done view = (Ok done, view)
 post_cells gaps slot (c ∷ cells) done view =

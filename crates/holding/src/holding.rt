@@ -18,11 +18,11 @@ use tatp_rows::{Refusal, Subscriber};
 use view_board::{Board, Desk, SLOTS};
 use view_delta::Pending;
 
-/// A part with what is pending of each cell, and the desk of its owner. What the desk has published of a cell and what is
-/// pending of it are together the count over the part's rows.
+/// A part with what is pending of each cell, and the desk of its owner. What the desk has published of a cell and what
+/// is pending of it are together the count over the part's rows.
 ///
-/// The desk never comes out. So a holding that is dropped takes its slot along, and since a register is made of desks that
-/// have each slot once, none can be made of the others then.
+/// The desk never comes out. So a holding that is dropped takes its slot along, and since a register is made of desks
+/// that have each slot once, none can be made of the others then.
 #[derive(Drop)]
 pub struct Holding<R: Rows = Trees> {
     pub(crate) part: Part<R>,
@@ -85,9 +85,9 @@ fn pending_of(counts: &Cells, desk: &Desk) -> [i64; CELLS as usize]
 impl<R: Rows> Holding<R> {
     /// Does an action on the rows, and moves what is pending by its change.
     ///
-    /// The subscriber is in the range. `Field` comes first, where a field is out of its range, then the refusals of the rows;
-    /// `Memory` comes only in place of `Done` where a row is added. A number that another subscriber has is no refusal here:
-    /// whoever has all parts refuses it. After a refusal the rows and what is pending are as before.
+    /// The subscriber is in the range. `Field` comes first, where a field is out of its range, then the refusals of the
+    /// rows; `Memory` comes only in place of `Done` where a row is added. A number that another subscriber has is no
+    /// refusal here: whoever has all parts refuses it. After a refusal the rows and what is pending are as before.
     pub fn act(&mut self, action: Action) -> RowReply
         requires { IsWithin self.old.part.lo self.old.part.hi (s_id_of action) }
         ensures outcome { IsOutcome action self.old.part.book result self.new.part.book }
@@ -105,8 +105,8 @@ impl<R: Rows> Holding<R> {
         reply
     }
 
-    /// Does an action that changes rows, as `act` does the action that it is: `Field` first, then the refusals of the rows,
-    /// `Memory` only where a row is added. After a refusal the rows and what is pending are as before.
+    /// Does an action that changes rows, as `act` does the action that it is: `Field` first, then the refusals of the
+    /// rows, `Memory` only where a row is added. After a refusal the rows and what is pending are as before.
     pub fn edit<E: Edit>(&mut self, edit: E) -> Result<(), Refusal>
         requires { IsWithin self.old.part.lo self.old.part.hi (s_id_of (E.action edit)) }
         ensures outcome { IsOutcome (E.action edit) self.old.part.book (done_reply result) self.new.part.book }
@@ -136,9 +136,10 @@ impl<R: Rows> Holding<R> {
         Ok(())
     }
 
-    /// Posts what is pending to the words of the desk's least slot, cells ascending, each whole and in one step, until `limit`
-    /// are posted or none is left; tells how many were, 0..=51, and so in how many steps the desk raised words. `Worn` stops
-    /// it at a cell whose word would pass its limit: the cells before stay posted, and that cell stays pending.
+    /// Posts what is pending to the words of the desk's least slot, cells ascending, each whole and in one step, until
+    /// `limit` are posted or none is left; tells how many were, 0..=51, and so in how many steps the desk raised words.
+    /// `Worn` stops it at a cell whose word would pass its limit: the cells before stay posted, and that cell stays
+    /// pending.
     pub fn post(&mut self, board: &Board, limit: u64) -> Result<u8, Refusal>
         requires { self.old.desk.board ≡ board.now }
         ensures posted { (result, self.new.desk.view) ≡ post (count_of self.old.part) self.old.slot limit self.old.desk.view }
@@ -165,8 +166,8 @@ impl<R: Rows> Holding<R> {
 }
 
 impl Holding {
-    /// A part and the desk of its owner, which owns a slot and has published at most 2^40 of each cell, up or down. The rows are
-    /// counted once: what the desk has not published of them is pending. It keeps the allocator.
+    /// A part and the desk of its owner, which owns a slot and has published at most 2^40 of each cell, up or down. The
+    /// rows are counted once: what the desk has not published of them is pending. It keeps the allocator.
     pub fn of(alloc: Global, part: Part, desk: Desk) -> Self
         requires slot { (slot : ℕ) × (slot < SLOTS) × Owns desk.view slot }
         requires small { HasSmallNets desk.view }

@@ -22,8 +22,8 @@ impl Holding {
         self.part.lend_access(s_id, ai_type)
     }
 
-    /// The numbers of the forwardings of an active facility that start by one hour and end after another, in the order of
-    /// their start times: at most three, and none where the facility isn't active.
+    /// The numbers of the forwardings of an active facility that start by one hour and end after another, in the order
+    /// of their start times: at most three, and none where the facility isn't active.
     pub fn destinations(
         &self,
         s_id: u32,

@@ -26,11 +26,11 @@ fn touches(part: &Part, other: &Part) -> bool
 }
 
 impl Holding {
-    /// Gives the stretch on one side of a subscriber away as a loose piece, whose rows are counted once: on the high side it has
-    /// the subscriber and all above, on the low side all below.
+    /// Gives the stretch on one side of a subscriber away as a loose piece, whose rows are counted once: on the high
+    /// side it has the subscriber and all above, on the low side all below.
     ///
-    /// `OutOfRange` where the subscriber is not strictly inside the range, `Memory` where a growth was refused: then nothing is
-    /// changed.
+    /// `OutOfRange` where the subscriber is not strictly inside the range, `Memory` where a growth was refused: then
+    /// nothing is changed.
     pub fn give(&mut self, side: Side, at: u32) -> Result<Box<Piece>, Refusal>
         ensures given { IfOk result (λ piece. IsGiven side at self.old piece.value self.new) }
         ensures refused { OnErr result (self.new ≡ self.old) }
@@ -57,8 +57,8 @@ impl Holding {
 
     /// Takes a loose piece of the same width of zones. No row is counted.
     ///
-    /// `NotAdjacent` where it doesn't touch the part, `Memory` where a growth was refused: then nothing is changed, and the piece
-    /// is handed back as it came.
+    /// `NotAdjacent` where it doesn't touch the part, `Memory` where a growth was refused: then nothing is changed, and
+    /// the piece is handed back as it came.
     pub fn take(&mut self, mut piece: Box<Piece>) -> Result<(), Back<Box<Piece>>>
         requires { self.old.part.width ≡ piece.value.part.width }
         ensures piece { IsPiece piece.value }

@@ -273,8 +273,8 @@ fn three_desks(board: &Board, mut desk: Desk) -> Result<(Desk, Desk, Desk), Refu
     Ok((first, last, desk))
 }
 
-/// The words that are posted: of slot 1 those of area 1 and zone 1, each up and down, and of slot 0 those of area 1 and two
-/// zones, up alone.
+/// The words that are posted: of slot 1 those of area 1 and zone 1, each up and down, and of slot 0 those of area 1 and
+/// two zones, up alone.
 type Watched = [u64; 7];
 
 /// What a desk sees of them.
@@ -319,14 +319,16 @@ fn home(holding: Holding) -> Home {
     )
 }
 
-/// What an owner is to do in its thread, once it took what it was handed: to add a subscriber, and to give all from one on.
+/// What an owner is to do in its thread, once it took what it was handed: to add a subscriber, and to give all from one
+/// on.
 #[derive(Clone, Copy)]
 struct Shift {
     adds: u64,
     at: Option<u32>,
 }
 
-/// What comes of it: the holding, whether all was taken and added, and what a posting answered; and the piece that was given.
+/// What comes of it: the holding, whether all was taken and added, and what a posting answered; and the piece that was
+/// given.
 type Worked = ((Holding, bool, Result<u8, Refusal>), Option<Box<Piece>>);
 
 /// What is done beside it comes to: the holding, what a posting answered, and the desk with what it saw.
@@ -411,8 +413,8 @@ type Way = (
     [bool; 2],
 );
 
-/// An owner works and gives in a thread, and another one takes in the next thread, and works there; meanwhile the one that
-/// doesn't work posts, and a desk looks.
+/// An owner works and gives in a thread, and another one takes in the next thread, and works there; meanwhile the one
+/// that doesn't work posts, and a desk looks.
 fn piece_goes_over<R: Threads + Sync>(
     rt: &R,
     board: &Board,

@@ -17,7 +17,8 @@ rows_from key rows = keys_from key_of_pair key rows
 abbrev pub AreApart : {V : Type 0} → List (ℕ × V) → List (ℕ × V) → Type 0
 AreApart low high = (key : ℕ) × (KeysBelow key low) × (KeysFrom key high)
 
--- two roots that a node was cut into at a key: the rows in front of the key and those from it on, no higher than the node
+-- two roots that a node was cut into at a key: the rows in front of the key and those from it on, no higher than the
+-- node
 pub record IsCut {V : Type 0} (key : ℕ) (whole low high : Seen V) : Type 0 where
   pub low_root : IsRoot low
   pub high_root : IsRoot high

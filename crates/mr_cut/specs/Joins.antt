@@ -24,7 +24,8 @@ abbrev pub IsCrowned : {V : Type 0} → Seen V → MaybeNode V → Seen V → Ty
 IsCrowned one None root = root ≡ one
 IsCrowned one (Some two) root = IsRoot root × (root.height ≡ one.height + 1) × (root.rows ≡ one.rows ++ two.value.rows)
 
--- how high two roots are together: a level more than the higher one at most, and no more than it where it has room and the other one is lower
+-- how high two roots are together: a level more than the higher one at most, and no more than it where it has room and
+-- the other one is lower
 pub record IsHeightOfBoth {V : Type 0} (a b : Seen V) (height : ℕ) : Type 0 where
   pub most : height ≤ max a.height b.height + 1
   pub left : b.height < a.height → a.width < 32 → height ≤ a.height

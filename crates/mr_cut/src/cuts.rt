@@ -8,7 +8,7 @@ ghost use Rattle.mr_cut.specs.Cuts.{IsSideRoot, IsDivided, IsCut};
 use crate::joins::join;
 use mr_node::{
     Body, Branch, Leaf, Meter, Node, Stock, build_blank, build_inner, build_leaf, cut_kids,
-    cut_leaf, open, place_of, take_kid,
+    cut_leaf, kid_place, open, take_kid,
 };
 
 /// A root over some children of an inner node: a blank leaf, the only child, or an inner node. One step at most.
@@ -48,7 +48,7 @@ fn divide<V: Drop>(
     ensures no_fewer { after_steps 0 meter.old ≤ meter.new }
     ensures steps { meter.new ≤ meter.old + 2 }
 {
-    let place = place_of(&branch, key);
+    let place = kid_place(&branch, key);
     let behind = cut_kids(&mut branch, place + 1);
     let mid = take_kid(&mut branch, place);
     let left = root_of(branch, blank, meter);

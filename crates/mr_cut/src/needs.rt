@@ -16,8 +16,8 @@ pub fn need_slice(height: u64) -> usize
     levels * levels + 1
 }
 
-/// How many blank nodes a meld of trees of these heights wants: three more than the heights differ by, no more than it may
-/// take steps.
+/// How many blank nodes a meld of trees of these heights wants: three more than the heights differ by, no more than it
+/// may take steps.
 pub fn need_meld(low: u64, high: u64) -> usize
     requires low { low < 16 }
     requires high { high < 16 }

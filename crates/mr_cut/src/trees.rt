@@ -30,8 +30,8 @@ fn boxed<V: Drop>(node: Node<V>, mut blank: Box<Node<V>>) -> Box<Node<V>>
     blank
 }
 
-/// Cuts a tree at a key: at most three steps a level on the path, and two melds a level beside it. It takes no memory but
-/// the blank nodes of the stock (`need_slice`).
+/// Cuts a tree at a key: at most three steps a level on the path, and two melds a level beside it. It takes no memory
+/// but the blank nodes of the stock (`need_slice`).
 pub fn slice<V: Drop>(tree: SubTree<V>, key: u64, stock: &mut Stock<V>) -> Cut<V>
     requires stock { blanks_for_slice tree.height ≤ stock.old }
     ensures low { result.low.rows ≡ rows_below key tree.rows }
@@ -59,8 +59,8 @@ pub fn slice<V: Drop>(tree: SubTree<V>, key: u64, stock: &mut Stock<V>) -> Cut<V
 }
 
 /// Joins two trees, the keys of the low one below those of the high one: the rows of the one, and then those of the
-/// other; and how many steps it took: four, two for each level by which the heights differ, five for each of those levels
-/// from which two nodes came back, and one for a new root. It takes no memory but the blank nodes of the stock
+/// other; and how many steps it took: four, two for each level by which the heights differ, five for each of those
+/// levels from which two nodes came back, and one for a new root. It takes no memory but the blank nodes of the stock
 /// (`need_meld`): two, one for each such level, and one for a new root.
 pub fn meld<V: Drop>(low: SubTree<V>, high: SubTree<V>, stock: &mut Stock<V>) -> (SubTree<V>, u64)
     requires apart { AreApart low.rows high.rows }

@@ -1,4 +1,5 @@
--- The first entries of a leaf that go behind those of another one: what each turn of the loops leaves, and both leaves after them.
+-- The first entries of a leaf that go behind those of another one: what each turn of the loops leaves, and both leaves
+-- after them.
 use Rattle.std.proofs.Common.{◌≡◌, ℕ, ◌+◌, ◌-◌, ◌<◌, ◌≤◌, List, [], ◌∷◌, ◌++◌, length, max, replicate, reverse, get_or, set, take, drop, Option, Some, None, refl, sym, ap, subst, ◌∙◌, arith, length-append, length-drop, take_at}
 use Rattle.std.proofs.lemmas.List.{append_assoc, drop-drop, drop-set-lt, drop_at, get_or-drop, get_or_default, length-reverse, length-set, length-take-le, reverse-reverse, take-append-drop, take-set-le, take_more, take_more_set}
 use Rattle.mr_node.specs.Runs.{no_key, somes, IsPacked, entries, IsRun}

@@ -1,4 +1,5 @@
--- Entries in order: their keys in an array, and beside them places; what they are after a write, an insertion and a removal.
+-- Entries in order: their keys in an array, and beside them places; what they are after a write, an insertion and a
+-- removal.
 use Rattle.std.proofs.Common.{◌≡◌, ℕ, ◌+◌, ◌-◌, ◌<◌, ◌≤◌, suc, zero, List, [], ◌∷◌, ◌++◌, length, reverse, replicate, get_or, set, take, drop, Option, Some, None, refl, sym, ap, subst, ◌∙◌, arith, add-one, inl, inr, length-append, length-take, length-drop}
 use Rattle.std.proofs.lemmas.List.{set_split, take-set, length-set, length-take-le, length-reverse, reverse-append, take_all, take_more, drop_more, get_or-set_same, set-set}
 use Rattle.std.proofs.lemmas.Slice.Zip.{length-zip, get_or-zip}

@@ -13,7 +13,8 @@ pub record IsGrown {V : Type 0} (key : ℕ) (value : V) (old new : Seen V) : Typ
   pub width : old.width ≤ new.width
   pub well : IsWell new
 
--- the answer of an insertion that takes no memory: the row went in, or the key is there, or the leaf is full, and so has 32 rows
+-- the answer of an insertion that takes no memory: the row went in, or the key is there, or the leaf is full, and so
+-- has 32 rows
 abbrev pub IsRoomAnswer : {V : Type 0} → ℕ → V → Seen V → Seen V → Room → Type 0
 IsRoomAnswer key value old new Done = (row_at key_of_pair key old.rows ≡ None) × IsGrown key value old new
 IsRoomAnswer key value old new Exists = IsSome (row_at key_of_pair key old.rows) × (new ≡ old)

@@ -70,7 +70,8 @@ pub record IsLeaf {V : Type 0} (leaf : Leaf V) : Type 0 where
   pub ordered : IsOrderedBy key_of_pair (pairs_of leaf)
   pub keys : KeysBelow key_limit (pairs_of leaf)
 
--- an inner node: its children, each of the next height down, have w of their own at least, and their rows rise one after another
+-- an inner node: its children, each of the next height down, have w of their own at least, and their rows rise one
+-- after another
 pub record IsBranchOf {V : Type 0} (w : ℕ) (b : NodeBranch V) : Type 0 where
   pub inner : 0 < b.height
   pub some : 0 < b.len

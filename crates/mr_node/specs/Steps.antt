@@ -5,7 +5,8 @@ use Rattle.std.specs.Prelude.{ℕ, ◌+◌, ◌-◌, ◌*◌, ◌^◌, ◌≤◌
 abbrev pub after_steps : ℕ → ℕ → ℕ
 after_steps steps before = min (before + steps) (2 ^ 64 - 1)
 
--- room made on so many levels: a full child is halved, which takes three steps and a blank node, or gives to its neighbour in four
+-- room made on so many levels: a full child is halved, which takes three steps and a blank node, or gives to its
+-- neighbour in four
 pub record IsRoomMade (levels used before after : ℕ) : Type 0 where
   pub given : ℕ
   pub each : used + given ≤ levels

@@ -37,7 +37,7 @@ pub fn no_branch<B>(height: u64) -> Branch<B>
 }
 
 /// The place of the child to which a key belongs: the last whose least key isn't above the key, or the first.
-pub fn place_of<B>(branch: &Branch<B>, key: u64) -> usize
+pub fn kid_place<B>(branch: &Branch<B>, key: u64) -> usize
     requires some { 0 < branch.now.len }
     requires run { IsRun branch.now.len branch.now.leasts branch.now.kids }
     requires ordered { IsOrderedBy key_of_pair (entries branch.now.leasts branch.now.kids) }

@@ -20,7 +20,7 @@ mod tests;
 
 pub use body::{Body, Branch, Kid, Leaf};
 pub use cuts::{build_blank, cut_kids, cut_leaf};
-pub use kids::{no_branch, place_of, take_kid};
+pub use kids::{kid_place, no_branch, take_kid};
 pub use meter::Meter;
 pub use node::{Node, build_inner, build_leaf, hang, open};
 pub use revise::Revise;

@@ -5,7 +5,7 @@ ghost use Rattle.mr_node.specs.Pairs.{IsShare};
 ghost use Rattle.mr_node.specs.Inside.{IsLooseAt, IsPairAt, IsSplicedAt, IsWholeAgain, IsPartedAt, IsRoomAt};
 ghost use Rattle.mr_node.specs.Steps.{after_steps, IsRoomMade};
 
-use crate::kids::{place_of, put_kid, take_kid};
+use crate::kids::{kid_place, put_kid, take_kid};
 use crate::runs::low_of;
 use crate::{Branch, Kid, Meter, Node, Stock};
 
@@ -199,7 +199,7 @@ pub(crate) fn make_room<V: Drop>(
     ensures used { stock.old ≤ stock.new + 1 }
     ensures made { IsRoomMade 1 (stock.old - stock.new) meter.old meter.new }
 {
-    let place = place_of(branch, key);
+    let place = kid_place(branch, key);
     if kid_width(&branch.kids, place) < 32 {
         return place;
     }

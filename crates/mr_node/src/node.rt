@@ -18,7 +18,7 @@ use crate::entries::{
     find_entry, first_entry, fold_entries, insert_entry, insert_new, no_leaf, page_entries,
     remove_entry, revise_entry, walk_entries,
 };
-use crate::kids::{no_branch, place_of, put_kid, sum_counts, take_kid};
+use crate::kids::{kid_place, no_branch, put_kid, sum_counts, take_kid};
 use crate::mending::{make_room, mend};
 use crate::revise::Swap;
 use crate::runs::{even, low_of, share};
@@ -112,7 +112,7 @@ impl<V> Node<V> {
         match &self.body {
             Body::Leaf(leaf) => find_entry(leaf, key),
             Body::Inner(branch) => {
-                let place = place_of(branch, key);
+                let place = kid_place(branch, key);
                 match &branch.kids[place] {
                     Some(kid) => kid.node.find(key),
                     None => unreachable!(),
@@ -128,7 +128,7 @@ impl<V> Node<V> {
         match &self.body {
             Body::Leaf(leaf) => first_entry(leaf, key),
             Body::Inner(branch) => {
-                let place = place_of(branch, key);
+                let place = kid_place(branch, key);
                 match &branch.kids[place] {
                     Some(kid) => match kid.node.first_from(key) {
                         Some(row) => Some(row),
@@ -198,8 +198,8 @@ impl<V> Node<V> {
 }
 
 impl<V: Copy> Node<V> {
-    /// Puts the next rows from a key on into an empty page, as many as one leaf has: some where there are any. Looking is
-    /// no step.
+    /// Puts the next rows from a key on into an empty page, as many as one leaf has: some where there are any. Looking
+    /// is no step.
     pub fn page_from(&self, key: u64, page: &mut ArrayVec<(u64, V), 32>)
         requires { page.old.items ≡ [] }
         ensures { IsPage key self.now.rows page.new.items }
@@ -207,7 +207,7 @@ impl<V: Copy> Node<V> {
         match &self.body {
             Body::Leaf(leaf) => page_entries(leaf, key, page),
             Body::Inner(branch) => {
-                for place in place_of(branch, key)..branch.len {
+                for place in kid_place(branch, key)..branch.len {
                     match &branch.kids[place] {
                         Some(kid) => kid.node.page_from(key, page),
                         None => unreachable!(),
@@ -246,7 +246,7 @@ impl<V: Drop> Node<V> {
         match &mut self.body {
             Body::Leaf(leaf) => revise_entry(leaf, key, edit),
             Body::Inner(branch) => {
-                let place = place_of(branch, key);
+                let place = kid_place(branch, key);
                 match &mut branch.kids[place] {
                     Some(kid) => {
                         let node = &mut *kid.node;
@@ -284,7 +284,7 @@ impl<V: Drop> Node<V> {
         match &mut self.body {
             Body::Leaf(leaf) => put(gone, remove_entry(leaf, key)),
             Body::Inner(branch) => {
-                let place = place_of(branch, key);
+                let place = kid_place(branch, key);
                 match &mut branch.kids[place] {
                     Some(kid) => {
                         let node = &mut *kid.node;
@@ -444,7 +444,7 @@ impl<V: Drop> Node<V> {
         match &mut self.body {
             Body::Leaf(leaf) => insert_entry(leaf, key, value),
             Body::Inner(branch) => {
-                let place = place_of(branch, key);
+                let place = kid_place(branch, key);
                 match &mut branch.kids[place] {
                     Some(kid) => {
                         let node = &mut *kid.node;

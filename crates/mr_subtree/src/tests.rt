@@ -1,5 +1,5 @@
-//! What no clause says: that insertions succeed and what each call answers then, for values of several sizes, and what stands
-//! where a growth is refused.
+//! What no clause says: that insertions succeed and what each call answers then, for values of several sizes, and what
+//! stands where a growth is refused.
 ghost use Rattle.std.specs.Prelude.{◌<◌};
 ghost use Rattle.mr_node.specs.Rows.{key_limit};
 
@@ -156,8 +156,9 @@ fn put(rt: &impl Abort, tree: &mut SubTree<u64>, number: u32)
     }
 }
 
-// Leaves give and are halved under a root, and the root rises from height 0 to 1 and from 1 to 2. Each leaf is left with
-// 29 rows, so the root has 32 children at 30 * 29 + 33 rows, and rises at the next row whose leaf is full, the 919th.
+// Leaves give and are halved under a root, and the root rises from height 0 to 1 and from 1 to 2. Each leaf is left
+// with 29 rows, so the root has 32 children at 30 * 29 + 33 rows, and rises at the next row whose leaf is full, the
+// 919th.
 fn grow(rt: &impl Abort, tree: &mut SubTree<u64>) {
     for number in 0..918u32 {
         put(rt, tree, number);

@@ -99,8 +99,8 @@ impl NumberIndex {
     }
 
     /// Gives the subscriber who has a number another one; nothing changes where the two are equal. `NoNumber` where no
-    /// subscriber has the number, `NumberTaken` where one has the other, `Memory` where the index can't grow: then it is
-    /// as before, for the new pair goes in before the old one goes.
+    /// subscriber has the number, `NumberTaken` where one has the other, `Memory` where the index can't grow: then it
+    /// is as before, for the new pair goes in before the old one goes.
     pub fn rename(&mut self, from: Number, to: Number) -> Result<(), Refusal>
         ensures renamed { IsRenamed from to self.old self.new result (bearer_in from self.old) }
         ensures memory { IfErr result (λ why. why ≡ Refusal.Memory → 32 ≤ length self.old) }

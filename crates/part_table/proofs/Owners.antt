@@ -31,7 +31,8 @@ half_owners High given kept = kept ∷ given ∷ []
 abbrev pub cut_owner : {X : Type 0} → ℕ → Side → X → X → List Region → List X → List X
 cut_owner p side given kept regions owners = put_owners (is_part p) (half_owners side given kept) regions owners
 
--- one owner in the place of those of two neighbours that are a piece and its part; of others the first, and what becomes of those behind it
+-- one owner in the place of those of two neighbours that are a piece and its part; of others the first, and what
+-- becomes of those behind it
 abbrev pub joined_owner : {X : Type 0} → Option Side → X → X → List X → List X → List X
 joined_owner None whole owner owners others = owner ∷ others
 joined_owner (Some side) whole owner owners others = whole ∷ owners

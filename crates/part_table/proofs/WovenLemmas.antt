@@ -1,4 +1,5 @@
--- Parts and loose pieces, a part for each region of a part and a piece for each of a piece, in the order of the regions.
+-- Parts and loose pieces, a part for each region of a part and a piece for each of a piece, in the order of the
+-- regions.
 use Rattle.std.proofs.Common.{◌≡◌, ◌∙◌, refl, sym, ap, ℕ, suc, ◌+◌, ◌<◌, ◌≤◌, List, [], ◌∷◌, ◌++◌, Bool, true, length, get_or, length-append, add_assoc, arith}
 use Rattle.std.specs.Prelude.{Some, find, sum_by, ℤ, pos, ◌+ℤ◌}
 use Rattle.std.specs.List.{AllZip, range_with_len}

@@ -6,7 +6,8 @@ use Rattle.part_table.specs.declared.region.Place.{Place}
 use Rattle.part_table.specs.declared.region.Region.{Region}
 use Rattle.part_table.specs.declared.region.TheConstants.{END, MOST_PARTS, MOST_PIECES}
 
--- each region has an s_id and begins where the one before it ends; the first begins at a number, and the last ends behind all s_ids
+-- each region has an s_id and begins where the one before it ends; the first begins at a number, and the last ends
+-- behind all s_ids
 abbrev pub IsConsecutive : ℕ → List Region → Type 0
 IsConsecutive from [] = from ≡ END
 IsConsecutive from (region ∷ regions) = (region.lo ≡ from) × (region.lo < region.hi) × IsConsecutive region.hi regions

@@ -38,7 +38,8 @@ part_place first second High = first.place
 abbrev pub joint : Region → Region → Side → Region
 joint first second side = record { lo = first.lo; hi = second.hi; place = part_place first second side }
 
--- one region in place of two neighbours that are a piece and its part; of others the first, and what becomes of those behind it
+-- one region in place of two neighbours that are a piece and its part; of others the first, and what becomes of those
+-- behind it
 abbrev pub joined_pair : Option Side → Region → Region → List Region → List Region → List Region
 joined_pair None first second regions others = first ∷ others
 joined_pair (Some side) first second regions others = joint first second side ∷ regions

@@ -7,8 +7,8 @@ ghost use Rattle.part_table.specs.Take.{joined, side_between, joint};
 use crate::region::{Region, Side};
 use arrayvec::ArrayVec;
 
-/// Joins a loose piece to the part beside it. The answer is the side of the part on which the piece lies, or `None` where
-/// they don't touch.
+/// Joins a loose piece to the part beside it. The answer is the side of the part on which the piece lies, or `None`
+/// where they don't touch.
 pub(crate) fn join(list: &mut ArrayVec<Region, 32>, n: u64, q: u64) -> Option<Side>
     requires { 0 < array_vec_len list.old }
     ensures side { result ≡ side_of n q list.old.items }

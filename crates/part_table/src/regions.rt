@@ -22,8 +22,8 @@ use tatp_rows::{GREATEST_WIDTH, Refusal};
 
 /// The regions of all s_ids in order, each of a part or of a loose piece: seen as their list.
 ///
-/// Each s_id of 1..=16,777,216 lies in one region. There are 1 to 16 parts, numbered from 0 in order, and at most 16 loose
-/// pieces, each with a number of 1..=16 of its own.
+/// Each s_id of 1..=16,777,216 lies in one region. There are 1 to 16 parts, numbered from 0 in order, and at most 16
+/// loose pieces, each with a number of 1..=16 of its own.
 #[derive(Debug, Drop)]
 pub struct Regions {
     list: ArrayVec<Region, 32>,
@@ -42,8 +42,8 @@ impl Model for Regions {
 }
 
 impl Regions {
-    /// The regions of so many parts at opening, where each has its share of the 32 zones of a width. `Field` where parts
-    /// isn't 1..=16 or the width isn't 1..=524,288.
+    /// The regions of so many parts at opening, where each has its share of the 32 zones of a width. `Field` where
+    /// parts isn't 1..=16 or the width isn't 1..=524,288.
     pub fn opening(parts: u8, width: u32) -> Result<Regions, Refusal>
         ensures { result ≡ opening parts width }
     {
@@ -69,9 +69,9 @@ impl Regions {
         Ok(Regions { list })
     }
 
-    /// The regions over the ranges of 1 to 16 parts and at most 16 loose pieces, which are numbered anew in their order: the parts
-    /// from 0, the pieces from 1. `NotAdjacent` where the first doesn't begin at 1, one is empty or begins elsewhere than the one
-    /// before it ends, or the last doesn't end at 16,777,217. It takes no memory.
+    /// The regions over the ranges of 1 to 16 parts and at most 16 loose pieces, which are numbered anew in their
+    /// order: the parts from 0, the pieces from 1. `NotAdjacent` where the first doesn't begin at 1, one is empty or
+    /// begins elsewhere than the one before it ends, or the last doesn't end at 16,777,217. It takes no memory.
     pub fn over(ranges: &[Region]) -> Result<Regions, Refusal>
         requires some { 1 ≤ length (parts_of ranges.now) }
         requires parts { length (parts_of ranges.now) ≤ MOST_PARTS }
@@ -125,7 +125,8 @@ impl Regions {
         find_part(self.list(), p)
     }
 
-    /// How many regions of loose pieces stand in front of that of the part `p`; all of them where there is no such part.
+    /// How many regions of loose pieces stand in front of that of the part `p`; all of them where there is no such
+    /// part.
     pub fn pieces_before_part(&self, p: u64) -> usize
         ensures { result ≡ pieces_before (is_part p) self.now }
     {
@@ -133,8 +134,8 @@ impl Regions {
         pieces_in_front(regions, part_at(regions, p))
     }
 
-    /// How many regions of loose pieces stand in front of that of the loose piece `n`; all of them where there is no such
-    /// piece.
+    /// How many regions of loose pieces stand in front of that of the loose piece `n`; all of them where there is no
+    /// such piece.
     pub fn pieces_before_piece(&self, n: u64) -> usize
         ensures { result ≡ pieces_before (is_piece n) self.now }
     {
@@ -142,8 +143,8 @@ impl Regions {
         pieces_in_front(regions, piece_at(regions, n))
     }
 
-    /// What [`Regions::give`] would answer: the number of the new loose piece, and where it begins and ends; or `NoPart`,
-    /// `OutOfRange` or `ManyPieces`, the first that holds. Nothing changes.
+    /// What [`Regions::give`] would answer: the number of the new loose piece, and where it begins and ends; or
+    /// `NoPart`, `OutOfRange` or `ManyPieces`, the first that holds. Nothing changes.
     pub fn give_answer(&self, p: u64, side: Side, at: u64) -> Result<(u8, u32, u32), Refusal>
         ensures { result ≡ give_answer p side at self.now }
     {
@@ -156,8 +157,8 @@ impl Regions {
         Ok((n, lo, hi))
     }
 
-    /// What [`Regions::take`] would answer: the side of the part on which the loose piece lies; or `NoPiece`, `NoPart` or
-    /// `NotAdjacent`, the first that holds. Nothing changes.
+    /// What [`Regions::take`] would answer: the side of the part on which the loose piece lies; or `NoPiece`, `NoPart`
+    /// or `NotAdjacent`, the first that holds. Nothing changes.
     pub fn take_answer(&self, n: u64, q: u64) -> Result<Side, Refusal>
         ensures { result ≡ take_answer n q self.now }
     {
@@ -166,10 +167,10 @@ impl Regions {
         touching(piece, part).ok_or(Refusal::NotAdjacent)
     }
 
-    /// The part `p` gives the stretch on one side of `at` away: from `at` on where the side is high, below it where it is low.
-    /// The stretch becomes a loose piece with the least number of 1..=16 that is free; the answer is that number, and where
-    /// the piece begins and ends. `NoPart`, then `OutOfRange` where `at` isn't strictly inside the part, then `ManyPieces`
-    /// where sixteen pieces are loose. A refusal changes nothing.
+    /// The part `p` gives the stretch on one side of `at` away: from `at` on where the side is high, below it where it
+    /// is low. The stretch becomes a loose piece with the least number of 1..=16 that is free; the answer is that
+    /// number, and where the piece begins and ends. `NoPart`, then `OutOfRange` where `at` isn't strictly inside the
+    /// part, then `ManyPieces` where sixteen pieces are loose. A refusal changes nothing.
     pub fn give(&mut self, p: u64, side: Side, at: u64) -> Result<(u8, u32, u32), Refusal>
         ensures answer { result ≡ give_answer p side at self.old }
         ensures after { self.new ≡ after_give p side at result self.old }
@@ -179,8 +180,8 @@ impl Regions {
         Ok((n, lo, hi))
     }
 
-    /// The part `q` takes the loose piece `n`, which has to touch it; the answer is the side of the part on which the piece
-    /// lies. `NoPiece`, then `NoPart`, then `NotAdjacent`. A refusal changes nothing.
+    /// The part `q` takes the loose piece `n`, which has to touch it; the answer is the side of the part on which the
+    /// piece lies. `NoPiece`, then `NoPart`, then `NotAdjacent`. A refusal changes nothing.
     pub fn take(&mut self, n: u64, q: u64) -> Result<Side, Refusal>
         ensures answer { result ≡ take_answer n q self.old }
         ensures after { self.new ≡ after_take n q result self.old }
@@ -211,8 +212,8 @@ fn touching(piece: Region, part: Region) -> Option<Side>
     }
 }
 
-/// Cuts a part's region in two at `at`, of which the half on one side becomes the loose piece `n`; without such a part the
-/// regions stay.
+/// Cuts a part's region in two at `at`, of which the half on one side becomes the loose piece `n`; without such a part
+/// the regions stay.
 fn cut(list: &mut ArrayVec<Region, 32>, p: u64, n: u8, side: Side, at: u32)
     requires { array_vec_len list.old < 32 }
     ensures { list.new.items ≡ cut p n side at list.old.items }

@@ -30,7 +30,8 @@ few_below P key other low high rises from below xs each ordered =
     length-ordered other low high xs (ordered_by_other P key other rises xs each ordered)
     (each-weaker {P = P} {Q = λ x. low ≤ other x} from xs each) (each-weaker {P = P} {Q = λ x. other x < high} below xs each)
 
--- what the rows of a subscriber are numbered by: an access or a facility by its type, a forwarding by its type and start time
+-- what the rows of a subscriber are numbered by: an access or a facility by its type, a forwarding by its type and
+-- start time
 typed_rises : (s t s' t' : ℕ) → 1 ≤ t → t < 5 → 1 ≤ t' → t' < 5 → s * 65536 + t * 256 + 0 < s' * 65536 + t' * 256 + 0 → s * 4 + t < s' * 4 + t'
 typed_rises s t s' t' from below from' below' rises = omega arith
 

@@ -123,7 +123,8 @@ abbrev pub set_number : Book → ℕ → ℕ → Option SubscriberRow → RowRep
 set_number book s_id sub_nbr None = (reply.Refused refusal.NoSubscriber, book)
 set_number book s_id sub_nbr (Some row) = (reply.Done, put_subscriber book s_id (record row { sub_nbr = sub_nbr }))
 
--- the answer of an action whose fields are in range, and the book after it; a number that is taken is the register's to refuse
+-- the answer of an action whose fields are in range, and the book after it; a number that is taken is the register's to
+-- refuse
 abbrev pub effect : Action → Book → RowReply × Book
 effect (SubscriberData s_id) book = subscriber_data book (subscriber_at book s_id)
 effect (NewDestination s_id sf_type start_time end_time) book =

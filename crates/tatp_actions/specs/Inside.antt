@@ -48,7 +48,8 @@ KeepsFacility change = (row : SpecialFacilityRow) → facility_in_range row ≡ 
 abbrev pub facility_revised : Book → ℕ → ℕ → (SpecialFacilityRow → SpecialFacilityRow) → Book
 facility_revised book s_id sf_type change = unwrap_or (option_map (λ row. put_facility book s_id sf_type (change row)) (facility_at book s_id sf_type)) book
 
--- what an addition answers, where the key has a row or not: the row is in; or its key has one, or memory was refused, and nothing changed
+-- what an addition answers, where the key has a row or not: the row is in; or its key has one, or memory was refused,
+-- and nothing changed
 abbrev pub IsAdded : Bool → Book → Book → Book → Result (Unit {0}) Refusal → Type 0
 IsAdded there before with after (Ok u) = (there ≡ false) × (after ≡ with)
 IsAdded there before with after (Err why) = (after ≡ before) × (why ≡ (if there then refusal.Exists else refusal.Memory))
@@ -87,7 +88,8 @@ abbrev pub notes_of : Result (List (ℕ × ℤ)) Refusal → List (ℕ × ℤ)
 notes_of (Ok notes) = notes
 notes_of (Err why) = []
 
--- what an action does to a part: a right outcome, the exact change of every cell, the same range and width, no cut or join, and at most eight questions
+-- what an action does to a part: a right outcome, the exact change of every cell, the same range and width, no cut or
+-- join, and at most eight questions
 pub record Acts (action : Action) (before : PartState) (answer : RowReply) (notes : List (ℕ × ℤ)) (after : PartState) : Type 0 where
   pub outcome : IsOutcome action before.book answer after.book
   pub change : IsChange before.width before.book after.book notes

@@ -33,6 +33,7 @@ is_active_at key facilities = option_map_or (λ facility. facility.is_active == 
 abbrev pub is_active_in : List (ℕ × SpecialFacilityRow) → CallForwardingRow → Bool
 is_active_in facilities row = is_active_at (key_of row.s_id row.sf_type 0) facilities
 
--- the counts with one more Call_Forwarding row, in the cell of its zone and, where it is active, in that of its start time
+-- the counts with one more Call_Forwarding row, in the cell of its zone and, where it is active, in that of its start
+-- time
 abbrev pub with_forwarding : ℕ → Bool → CallForwardingRow → List ℕ → List ℕ
 with_forwarding width active row counts = with_row_of width row.s_id (if active then one_more_in (row.start_time / 8) counts else counts)

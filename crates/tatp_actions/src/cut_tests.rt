@@ -65,8 +65,8 @@ fn counts_of_both(low: &Part, high: &Part) -> [u64; CELLS as usize] {
     both
 }
 
-/// Asserts that two halves that were cut at a subscriber count together what the whole part counted, and that each finds
-/// its own subscribers alone.
+/// Asserts that two halves that were cut at a subscriber count together what the whole part counted, and that each
+/// finds its own subscribers alone.
 fn expect_counts(rt: &impl Abort, low: &Part, high: &Part, at: u32, whole: &Cells) {
     let found = [first_from(low, 0), first_from(low, at), first_from(high, 0)];
     let both = counts_of_both(low, high);
@@ -233,8 +233,8 @@ fn steps_of_both(rt: &impl Abort, part: &mut Part, at: u32, side: Side) -> (u64,
     (cut, part.last_steps())
 }
 
-/// Cuts a part of 33 subscribers, whose tree has the height 1, on both sides, and joins it each time. An empty tree takes
-/// three steps to be cut and four to be joined, the other one thirteen and five.
+/// Cuts a part of 33 subscribers, whose tree has the height 1, on both sides, and joins it each time. An empty tree
+/// takes three steps to be cut and four to be joined, the other one thirteen and five.
 fn expect_two_cuts(rt: &impl Abort, part: &mut Part) {
     expect_all_added(rt, part, 33, 2);
     assert_eq!(rt; heights(part), [1, 0, 0, 0]);
@@ -264,8 +264,8 @@ fn add_falling(rt: &impl Abort, part: &mut Part) {
     }
 }
 
-/// How high the Subscriber trees of both halves of a part are that is cut at a subscriber, first of the half that stays,
-/// and how many steps it took to cut the part and to join it.
+/// How high the Subscriber trees of both halves of a part are that is cut at a subscriber, first of the half that
+/// stays, and how many steps it took to cut the part and to join it.
 fn large_cut(rt: &impl Abort, part: &mut Part, at: u32, side: Side) -> [u64; 4] {
     let given = sliced(rt, part, at, side);
     let heights = [
@@ -277,8 +277,8 @@ fn large_cut(rt: &impl Abort, part: &mut Part, at: u32, side: Side) -> [u64; 4] 
     [heights[0], heights[1], cut, part.last_steps()]
 }
 
-/// Cuts a part of 600 subscribers, whose tree has the height 2, in the middle and near both ends, and joins it again. Of
-/// the steps each of the three empty trees takes three to be cut and four to be joined.
+/// Cuts a part of 600 subscribers, whose tree has the height 2, in the middle and near both ends, and joins it again.
+/// Of the steps each of the three empty trees takes three to be cut and four to be joined.
 fn expect_large_cuts(rt: &impl Abort, part: &mut Part) {
     add_falling(rt, part);
     let whole = (heights(part), part.recount());

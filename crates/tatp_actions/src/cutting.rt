@@ -75,7 +75,8 @@ impl Trees {
         Halves { low, high, steps }
     }
 
-    /// Joins trees with others, whose keys are all higher; and how many steps it took. The joined ones were not asked yet.
+    /// Joins trees with others, whose keys are all higher; and how many steps it took. The joined ones were not asked
+    /// yet.
     fn join(self, high: Trees, mut stocks: Stocks) -> (Trees, u64)
         requires apart { TablesApart (tables_of self) (tables_of high) }
         requires stocks { AreForMeld (heights_of self) (heights_of high) stocks }
@@ -108,8 +109,8 @@ impl Trees {
 }
 
 impl Part {
-    /// Cuts the part in two at a subscriber strictly inside its range: it keeps one half, and gives the other one, on the side
-    /// that is named, which was never asked, cut or joined.
+    /// Cuts the part in two at a subscriber strictly inside its range: it keeps one half, and gives the other one, on
+    /// the side that is named, which was never asked, cut or joined.
     ///
     /// `Memory` where the blank nodes can't be had, all of which are taken first: then the part is as before.
     pub fn slice(&mut self, at: u32, side: Side) -> Result<Part, Refusal>
@@ -151,8 +152,8 @@ impl Part {
         }
     }
 
-    /// Takes the rows and the range of another part of the same width of zones, which begins where this one ends, or ends
-    /// where it begins.
+    /// Takes the rows and the range of another part of the same width of zones, which begins where this one ends, or
+    /// ends where it begins.
     ///
     /// `Memory` where the blank nodes can't be had, all of which are taken first: then the part is as before, and the
     /// other one is handed back as it was.

@@ -1,5 +1,5 @@
-//! Actions that change rows, each as a type of its own, so that none is looked up by which one it is as it goes down to the
-//! rows.
+//! Actions that change rows, each as a type of its own, so that none is looked up by which one it is as it goes down to
+//! the rows.
 ghost use Rattle.std.specs.Prelude.{◌≡◌};
 ghost use Rattle.tatp_actions.specs.Action.{done_reply, s_id_of};
 ghost use Rattle.tatp_actions.specs.Book.{IsWithin};
@@ -27,7 +27,8 @@ pub trait Edit: Copy {
     fn to_action(&self) -> Action
         ensures { result ≡ action self.now };
 
-    /// Does the action on the rows of a part that has the subscriber: by how much each cell moves, or why it was refused.
+    /// Does the action on the rows of a part that has the subscriber: by how much each cell moves, or why it was
+    /// refused.
     fn make<R: Rows>(self, part: &mut Part<R>) -> Result<Change, Refusal>
         requires { IsWithin part.old.lo part.old.hi (s_id_of (action self)) }
         ensures acts { Acts (action self) part.old (done_reply result) (notes_of result) part.new }

@@ -1,5 +1,5 @@
-//! The rows of a part by their keys. Each call asks the rows once, but those that change a row where it lies may ask twice,
-//! and keeps the rules of the part.
+//! The rows of a part by their keys. Each call asks the rows once, but those that change a row where it lies may ask
+//! twice, and keeps the rules of the part.
 ghost use Rattle.std.specs.Prelude.{◌≡◌, ◌+◌, ◌≤◌, IfSome, IsSome, is_some};
 ghost use Rattle.tatp_actions.specs.Book.{IsWithin, has_active, subscriber_at, access_at, facility_at, forwarding_at, more_subscribers, more_access, more_facilities, more_forwardings, without_forwarding};
 ghost use Rattle.tatp_actions.specs.Part.{IsPart};

@@ -24,8 +24,8 @@ impl Part {
         self.rows.access.get(row_key(s_id, ai_type, 0))
     }
 
-    /// The numbers of the forwardings of an active facility that start by one hour and end after another, in the order of
-    /// their start times: at most three, and none where the facility isn't active.
+    /// The numbers of the forwardings of an active facility that start by one hour and end after another, in the order
+    /// of their start times: at most three, and none where the facility isn't active.
     pub fn destinations(
         &self,
         s_id: u32,

@@ -10,7 +10,8 @@ use std::process::Abort;
 use tally::Tally;
 use tatp_rows::{Access, Facility, Forwarding, Refusal};
 
-/// What an action answers and notes, and how often it asks the rows; none where a growth was refused, which moves no cell.
+/// What an action answers and notes, and how often it asks the rows; none where a growth was refused, which moves no
+/// cell.
 fn attempted<R: Rows>(
     rt: &impl Abort,
     part: &mut Part<R>,
@@ -125,7 +126,8 @@ pub(crate) fn expect_same_book(rt: &impl Abort, part: &mut Part, plain: &mut Par
     }
 }
 
-/// Asserts that two parts do alike in 20,000 actions, among them each kind of reply, and that the cells move as they count.
+/// Asserts that two parts do alike in 20,000 actions, among them each kind of reply, and that the cells move as they
+/// count.
 fn expect_alike(rt: &impl Abort, part: &mut Part, plain: &mut Part<PlainRows>) {
     let mut seed = 7u64;
     let mut tally = Tally::new();

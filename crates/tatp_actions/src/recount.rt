@@ -14,8 +14,9 @@ use tatp_rows::{
     Facility, Forwarding, LAST_SUBSCRIBER, Subscriber, area, row_key, subscriber_key, zone,
 };
 
-/// The counts of the rows so far, by zones of a width and beside the facilities of a part. Rows come in key order, so the zone
-/// of the last subscriber, and whether the last facility that was asked for is active, serve the rows that follow.
+/// The counts of the rows so far, by zones of a width and beside the facilities of a part. Rows come in key order, so
+/// the zone of the last subscriber, and whether the last facility that was asked for is active, serve the rows that
+/// follow.
 #[derive(Drop)]
 pub(crate) struct Tally<'a> {
     cells: Cells,

@@ -18,8 +18,8 @@ use tatp_rows::{Access, Back, Facility, Forwarding, Subscriber};
 /// (saturating), but for `revise_s` and `revise_f`, which may ask twice; so an action's cost is bounded by how often it
 /// asks. Sixteen calls are enough: those two are made of two others each, where a store has no better way.
 ///
-/// `heights` is how high the trees are that hold the rows. A call that reads leaves it. A read lends its row, so what it
-/// leaves (the same tables, asked once more) is said of the time when the row is given back: its clause `after`.
+/// `heights` is how high the trees are that hold the rows. A call that reads leaves it. A read lends its row, so what
+/// it leaves (the same tables, asked once more) is said of the time when the row is given back: its clause `after`.
 pub trait Rows {
     ghost tables: { Self → Tables };
 
@@ -109,7 +109,8 @@ pub trait Rows {
             × (heights rows ≡ heights self.old))) }
         ensures value { option_copied result ≡ value_at key (tables self.old).facilities };
 
-    /// Replaces the Special_Facility row at a key, and hands back the old one; where there is none, hands back the value.
+    /// Replaces the Special_Facility row at a key, and hands back the old one; where there is none, hands back the
+    /// value.
     fn replace_f(&mut self, key: u64, value: Facility) -> Result<Facility, Facility>
         ensures value { result ≡ ok_or (value_at key (tables self.old).facilities) value }
         ensures rows { tables self.new ≡ record (tables self.old) { facilities = with_row_at key_of_pair key (key, value) (tables self.old).facilities } }
@@ -132,8 +133,8 @@ pub trait Rows {
         true
     }
 
-    /// Adds a Special_Facility row. `Exists` where the key has a row, `Memory` where a growth was refused: then the rows
-    /// are as before, and the row is handed back.
+    /// Adds a Special_Facility row. `Exists` where the key has a row, `Memory` where a growth was refused: then the
+    /// rows are as before, and the row is handed back.
     fn insert_f(&mut self, key: u64, value: Facility) -> Result<(), Back<Facility>>
         requires { key < key_limit }
         ensures table { IsInserted key value (tables self.old).facilities (tables self.new).facilities result }
@@ -153,7 +154,8 @@ pub trait Rows {
             × (heights rows ≡ heights self.old))) }
         ensures value { option_copied result ≡ value_at key (tables self.old).forwardings };
 
-    /// Replaces the Call_Forwarding row at a key, and hands back the old one; where there is none, hands back the value.
+    /// Replaces the Call_Forwarding row at a key, and hands back the old one; where there is none, hands back the
+    /// value.
     fn replace_c(&mut self, key: u64, value: Forwarding) -> Result<Forwarding, Forwarding>
         ensures value { result ≡ ok_or (value_at key (tables self.old).forwardings) value }
         ensures rows { tables self.new ≡ record (tables self.old) { forwardings = with_row_at key_of_pair key (key, value) (tables self.old).forwardings } }

@@ -95,7 +95,8 @@ fn first_from(part: &Part, s_id: u64) -> Option<Subscriber> {
     part.first_sub_from(s_id).copied()
 }
 
-/// Asserts what a part of all subscribers counts and finds, where it has these rows: two at its start, and the last one.
+/// Asserts what a part of all subscribers counts and finds, where it has these rows: two at its start, and the last
+/// one.
 fn expect_counts(
     rt: &impl Abort,
     part: &Part,
@@ -305,8 +306,8 @@ fn counted_twice(facilities: &SubTree<Facility>, row: &Forwarding) -> [(u64, u64
     [counts_seen(&once), counts_seen(&tally.cells())]
 }
 
-/// How rows of subscriber 7 count by zones of 4: a forwarding without its facility, with it, and with an idle one, and at
-/// last an access, and a facility too.
+/// How rows of subscriber 7 count by zones of 4: a forwarding without its facility, with it, and with an idle one, and
+/// at last an access, and a facility too.
 fn counted(
     facilities: &mut SubTree<Facility>,
     access: &Access,

@@ -1,4 +1,5 @@
--- Ordered lists under `map`: the edits of a list of pairs are the edits of its rows, where each pair's key is its row's.
+-- Ordered lists under `map`: the edits of a list of pairs are the edits of its rows, where each pair's key is its
+-- row's.
 use Rattle.std.proofs.Common.{◌≡◌, refl, ℕ, ◌<◌, List, [], ◌∷◌, map, arith}
 use Rattle.std.specs.Prelude.{◌==◌}
 use Rattle.std.specs.Option.{option_map}

@@ -1,4 +1,5 @@
--- The rows of the four tables (TATP, sections 2.1 to 2.4), and the ranges of their fields, which are this project's choice.
+-- The rows of the four tables (TATP, sections 2.1 to 2.4), and the ranges of their fields, which are this project's
+-- choice.
 use Rattle.std.specs.Prelude.{ℕ, ◌==◌, ◌&&◌, ◌||◌, nat_le, Bool, List, length, if◌then◌else◌, Result, Ok, Err}
 use Rattle.std.specs.List.{list_all}
 use Rattle.tatp_rows.specs.Number.{is_number}

@@ -90,8 +90,8 @@ fn subscribers(rt: HostRuntime) -> Result<(), Fail> {
     Ok(())
 }
 
-/// Rows with their fields at both ends of the ranges, and with digits that tell their places: s_id, number, bits, hexes,
-/// bytes and both locations.
+/// Rows with their fields at both ends of the ranges, and with digits that tell their places: s_id, number, bits,
+/// hexes, bytes and both locations.
 const ENDS: [(u64, u64, [u8; 10], [u8; 10], [u8; 10], u64); 5] = [
     (1, 0, [0; 10], [0; 10], [0; 10], 1),
     (

@@ -8,7 +8,8 @@ use Rattle.view_board.specs.declared.words.TheConstants.{WORDS, LIMIT}
 use Rattle.view_board.specs.Words.{AreSmall}
 use Rattle.view_board.specs.Views.{Owns, OwnsWord, raised, saw}
 
--- a desk and the words: its own words are its numbers, what it has seen of a word is at most the word, and no slot came to it twice
+-- a desk and the words: its own words are its numbers, what it has seen of a word is at most the word, and no slot came
+-- to it twice
 pub record Fits (words : List ℕ) (v : View) : Type 0 where
   pub own : (w : ℕ) → OwnsWord v w → slice_index v.numbers w ≡ slice_index words w
   pub seen : (w : ℕ) → slice_index v.seen w ≤ slice_index words w
@@ -26,7 +27,8 @@ pub record IsRaiseStep (step : Step (Unit {0})) (before : Me (Unit {0}) View) (f
   pub view : after.0 ≡ raised before.0 step.word step.first
   pub hand : after.1 ≡ before.1
 
--- a word was looked at: it is the desk's number where it is its own, at least what was seen of it, and not past the limit
+-- a word was looked at: it is the desk's number where it is its own, at least what was seen of it, and not past the
+-- limit
 pub record IsLookStep (step : Step (Unit {0})) (before : Me (Unit {0}) View) (found : ℕ) (after : Me (Unit {0}) View) : Type 0 where
   pub view : after.0 ≡ saw before.0 step.word found
   pub hand : after.1 ≡ before.1

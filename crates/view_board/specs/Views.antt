@@ -1,5 +1,5 @@
--- What a desk knows of the board: which slots are its own, the numbers of their words, what it has seen of each word, and
--- how often it raised one.
+-- What a desk knows of the board: which slots are its own, the numbers of their words, what it has seen of each word,
+-- and how often it raised one.
 use Rattle.std.specs.Prelude.{◌≡◌, ℕ, ◌+◌, ◌/◌, ◌<◌, ◌≤◌, max, Bool, true, false, ◌&&◌, ◌||◌, not, if◌then◌else◌, List, [], ◌∷◌, length, replicate, slice_index, slice_index_or, slice_set, ℤ}
 use Rattle.view_board.specs.declared.rule.View.{View}
 use Rattle.view_board.specs.declared.words.TheConstants.{SLOTS, SLOT_WORDS, WORDS, LIMIT}

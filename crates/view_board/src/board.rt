@@ -89,8 +89,8 @@ impl Board {
         }
     }
 
-    /// Looks at all words, one after another, while others may raise theirs: own words are exact, each other one is at least
-    /// what the desk has seen of it, and none passes `LIMIT`. Then the sight is what the desk has seen.
+    /// Looks at all words, one after another, while others may raise theirs: own words are exact, each other one is at
+    /// least what the desk has seen of it, and none passes `LIMIT`. Then the sight is what the desk has seen.
     pub fn look(&self, desk: &mut Desk) -> Sight
         requires { desk.old.board ≡ self.now }
         ensures right { IsRightSight desk.old.view result.words }
@@ -103,8 +103,8 @@ impl Board {
         Sight { words }
     }
 
-    /// Splits an own slot off: a new desk owns it, and has seen what this one has seen. It may be the last one; a desk with no
-    /// slot can still look and join. `Memory` where a growth was refused: then nothing is changed.
+    /// Splits an own slot off: a new desk owns it, and has seen what this one has seen. It may be the last one; a desk
+    /// with no slot can still look and join. `Memory` where a growth was refused: then nothing is changed.
     pub fn split(&self, desk: &mut Desk, slot: u8) -> Result<Desk, Refusal>
         requires board { desk.old.board ≡ self.now }
         requires own { Owns desk.old.view slot }
@@ -161,8 +161,9 @@ impl Board {
         self.table.shared.load::<Checks>(&mut desk.seat, 0);
     }
 
-    /// Ends the board, by the desk that owns all slots, and answers its words: the desk's numbers, and at least all that it has
-    /// seen. A register keeps its board to the end, so this is for who uses a board by itself, as the tests do.
+    /// Ends the board, by the desk that owns all slots, and answers its words: the desk's numbers, and at least all
+    /// that it has seen. A register keeps its board to the end, so this is for who uses a board by itself, as the tests
+    /// do.
     pub fn close(self, desk: Desk) -> [u64; WORDS]
         requires board { desk.board ≡ self }
         requires all { OwnsAll desk.view }

@@ -36,7 +36,8 @@ impl Desk {
         slot < SLOTS && self.owned[usize::from(slot)]
     }
 
-    /// What the desk has published of a cell below 51: the sum over its slots of their plus-words less their minus-words.
+    /// What the desk has published of a cell below 51: the sum over its slots of their plus-words less their
+    /// minus-words.
     #[inline(always)]
     pub fn net(&self, cell: u8) -> i128
         requires { cell < CELLS }
@@ -121,8 +122,8 @@ fn net_in(numbers: &[u64; WORDS], slot: u8, cell: u8) -> i128
     i128::from(numbers[plus]) - i128::from(numbers[minus])
 }
 
-/// True only where no cell of a slot has a net, since all its words are 0. It looks at all of them, which is faster than
-/// to stop at the first that isn't.
+/// True only where no cell of a slot has a net, since all its words are 0. It looks at all of them, which is faster
+/// than to stop at the first that isn't.
 #[inline(always)]
 fn is_blank(numbers: &[u64; WORDS], slot: u8) -> bool
     requires { slot < SLOTS }

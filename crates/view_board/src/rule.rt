@@ -7,9 +7,9 @@ use crate::words::WORDS;
 use atomic_table::{Join, Play, Split, TableRule};
 use std::marker::{Brand, PhantomData};
 
-/// What a desk knows: for each slot whether it is its own, for each word its number and what was seen of it, in how many
-/// steps it raised words, and that no slot came to it twice. It stands in proofs alone, where its arrays are lists of
-/// any length and its number of steps has no end.
+/// What a desk knows: for each slot whether it is its own, for each word its number and what was seen of it, in how
+/// many steps it raised words, and that no slot came to it twice. It stands in proofs alone, where its arrays are lists
+/// of any length and its number of steps has no end.
 pub struct View {
     pub owned: [bool; 0],
     pub numbers: [u64; 0],

@@ -32,16 +32,17 @@ const _: () = prove!(WORDS == 1_632);
 
 const _: () = prove!(LIMIT == (1 << 63) - 1);
 
-/// The words as a look found them, one after another. The plus-word of slot s and cell c is word `s * SLOT_WORDS + c`, and its
-/// minus-word comes `CELLS` behind; what is published of a cell is the sum of its plus-words less that of its minus-words.
+/// The words as a look found them, one after another. The plus-word of slot s and cell c is word `s * SLOT_WORDS + c`,
+/// and its minus-word comes `CELLS` behind; what is published of a cell is the sum of its plus-words less that of its
+/// minus-words.
 #[derive(Clone, Copy, Debug, PartialEq, Eq)]
 pub struct Sight {
     pub words: [u64; WORDS],
 }
 
 impl Sight {
-    /// The plus-word and the minus-word of a slot below 16 and a cell below 51: how much was added to the cell there, and
-    /// how much was taken off it.
+    /// The plus-word and the minus-word of a slot below 16 and a cell below 51: how much was added to the cell there,
+    /// and how much was taken off it.
     pub fn words_of(&self, slot: u8, cell: u8) -> (u64, u64)
         requires slot { slot < SLOTS }
         requires cell { cell < CELLS }

@@ -84,8 +84,8 @@ impl Pending {
         None
     }
 
-    /// Moves each cell's delta as a change says. Its notes are taken in one after another, and each sum on the way has to
-    /// fit 64 bits.
+    /// Moves each cell's delta as a change says. Its notes are taken in one after another, and each sum on the way has
+    /// to fit 64 bits.
     pub fn note(&mut self, change: &Change)
         requires { NotesFit self.old change.now }
         ensures { (c : ℕ) → c < CELLS → pending_at self.new c ≡ pending_at self.old c +ℤ change_at change.now c }

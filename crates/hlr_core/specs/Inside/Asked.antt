@@ -48,7 +48,8 @@ IsRowStep fits wanted before answer after = IsAskedStep (checked fits wanted) be
 abbrev pub IsActionStep : Action → Store → Reply → Store → Type 0
 IsActionStep act before answer after = IsRowStep (is_in_range act) (Some act) before answer after
 
--- what the owner of an action's rows may answer: a loose piece answers Moving, after Field, and else it is a right outcome
+-- what the owner of an action's rows may answer: a loose piece answers Moving, after Field, and else it is a right
+-- outcome
 abbrev pub IsAnswered : Bool → Action → Book → RowReply → Book → Type 0
 IsAnswered false act before answer after = IsOutcome act before answer after
 IsAnswered true act before answer after =

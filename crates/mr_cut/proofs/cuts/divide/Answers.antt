@@ -6,14 +6,14 @@ use Rattle.mr_cut.proofs.cuts.divide.Goals.{After-take_kid-mid}
 use Rattle.mr_cut.proofs.cuts.divide.Goals as goal
 
 -- the child to which the key belongs, and the others on both sides of it
-parted : (g : _) (c : After-take_kid-mid g) → IsPartedAt c.args.key c.args.branch c.take_kid-mid.new.branch c.cut_kids-behind.result (kid_at c.cut_kids-behind.new.branch c.place_of-place.result c.take_kid-mid.result)
+parted : (g : _) (c : After-take_kid-mid g) → IsPartedAt c.args.key c.args.branch c.take_kid-mid.new.branch c.cut_kids-behind.result (kid_at c.cut_kids-behind.new.branch c.kid_place-place.result c.take_kid-mid.result)
 parted g c =
     let cut = c.cut_kids-behind.ensures in
     let taken = c.take_kid-mid.ensures in
-    parted_at c.args.key c.place_of-place.result c.args.branch c.cut_kids-behind.new.branch _ _ _ c.requires.branch c.place_of-place.ensures cut.kids cut.len cut.low_height cut.high_height cut.low cut.high taken.height taken.len taken.run taken.rest taken.kid
+    parted_at c.args.key c.kid_place-place.result c.args.branch c.cut_kids-behind.new.branch _ _ _ c.requires.branch c.kid_place-place.ensures cut.kids cut.len cut.low_height cut.high_height cut.low cut.high taken.height taken.len taken.run taken.rest taken.kid
 
-pub place_of-place-requires : goal.place_of-place-requires
-place_of-place-requires g c =
+pub kid_place-place-requires : goal.kid_place-place-requires
+kid_place-place-requires g c =
     let whole = c.requires.branch in
     (search rules, (whole.some, (whole.run, (kids_rise c.args.branch whole, kids_below c.args.branch whole))))
 

@@ -9,30 +9,30 @@ pub unreachable-requires : goal.unreachable-requires
 unreachable-requires g t c =
     let branch = c.in-Inner.branch in
     let whole : IsBranch branch = subst IsNode c.in-Inner.is c.self.invariant in
-    let at = c.place_of-place.ensures in
-    never_none branch.len c.place_of-place.result c.index-branch-place.result branch.kids whole.run.packed at.within c.in-None.is
+    let at = c.kid_place-place.ensures in
+    never_none branch.len c.kid_place-place.result c.index-branch-place.result branch.kids whole.run.packed at.within c.in-None.is
 
 pub returns-in-Some : goal.returns-in-Some
 returns-in-Some g t c =
     let branch = c.in-Inner.branch in
     let whole : IsBranch branch = subst IsNode c.in-Inner.is c.self.invariant in
-    let at = c.place_of-place.ensures in
-    let got = got_used branch.len c.place_of-place.result c.index-branch-place.result c.in-Some.kid branch.kids whole.run.packed at.within c.in-Some.is in
+    let at = c.kid_place-place.ensures in
+    let got = got_used branch.len c.kid_place-place.result c.index-branch-place.result c.in-Some.kid branch.kids whole.run.packed at.within c.in-Some.is in
     let now : c.args.self.now ≡ seen_branch branch = sym c.self.view_is ∙ ap seen c.in-Inner.is in
-    let below = find_branch c.args.key c.place_of-place.result branch c.in-Some.kid whole at got in
+    let below = find_branch c.args.key c.kid_place-place.result branch c.in-Some.kid whole at got in
     c.find.ensures ∙ ap (λ s. value_at c.args.key s.rows) c.deref.ensures ∙ sym (ap (option_map (λ p. p.1)) below) ∙ sym (ap (λ s. value_at c.args.key s.rows) now)
 
-pub place_of-place-requires : goal.place_of-place-requires
-place_of-place-requires g t c =
+pub kid_place-place-requires : goal.kid_place-place-requires
+kid_place-place-requires g t c =
     let branch = c.in-Inner.branch in
     let whole : IsBranch branch = subst IsNode c.in-Inner.is c.self.invariant in
     (search rules, (whole.some, (whole.run, (kids_rise branch whole, kids_below branch whole))))
 
 pub listed : goal.listed
-listed g t c = omega (arith, c.place_of-place.ensures.within, packed_fits c.in-Inner.branch.len c.in-Inner.branch.kids (subst IsNode c.in-Inner.is c.self.invariant).run.packed)
+listed g t c = omega (arith, c.kid_place-place.ensures.within, packed_fits c.in-Inner.branch.len c.in-Inner.branch.kids (subst IsNode c.in-Inner.is c.self.invariant).run.packed)
 
 pub bounds-branch-place : goal.bounds-branch-place
-bounds-branch-place g t c = omega (arith, c.place_of-place.ensures.within, (subst IsNode c.in-Inner.is c.self.invariant).run.fits)
+bounds-branch-place g t c = omega (arith, c.kid_place-place.ensures.within, (subst IsNode c.in-Inner.is c.self.invariant).run.fits)
 
 pub offset_bounds-branch-place : goal.offset_bounds-branch-place
-offset_bounds-branch-place g t c = omega (arith, c.place_of-place.ensures.within, (subst IsNode c.in-Inner.is c.self.invariant).run.fits)
+offset_bounds-branch-place g t c = omega (arith, c.kid_place-place.ensures.within, (subst IsNode c.in-Inner.is c.self.invariant).run.fits)

@@ -25,9 +25,9 @@ in_kid g t c = subst (λ s. IsPage c.args.key s.rows c.page_from.new.page.items)
 pub returns-in-Leaf : goal.returns-in-Leaf
 returns-in-Leaf g t c = subst (λ s. IsPage c.args.key s.rows c.page_entries.new.page.items) (sym (ap seen c.in-Leaf.is) ∙ c.self.view_is) c.page_entries.ensures
 
-pub place_of-place-requires : goal.place_of-place-requires
-place_of-place-requires g t c =
-    let branch = whole g t (goal.at.place_of-place-requires g t c).In-Inner in
+pub kid_place-place-requires : goal.kid_place-place-requires
+kid_place-place-requires g t c =
+    let branch = whole g t (goal.at.kid_place-place-requires g t c).In-Inner in
     (search rules, (branch.some, (branch.run, (kids_rise c.in-Inner.branch branch, kids_below c.in-Inner.branch branch))))
 
 pub unreachable-requires : goal.unreachable-requires
@@ -36,7 +36,7 @@ unreachable-requires g t c =
     never_none c.in-Inner.branch.len c.loop-place.place c.index-branch-place.result c.in-Inner.branch.kids branch.run.packed c.loop-place-test.true c.in-None.is
 
 pub loop-place-init : goal.loop-place-init
-loop-place-init g t c = (c.requires, none_before c.args.key c.place_of-place.result c.in-Inner.branch (whole g t (goal.at.loop-place-init g t c).In-Inner) c.place_of-place.ensures)
+loop-place-init g t c = (c.requires, none_before c.args.key c.kid_place-place.result c.in-Inner.branch (whole g t (goal.at.loop-place-init g t c).In-Inner) c.kid_place-place.ensures)
 
 pub page_from-requires : goal.page_from-requires
 page_from-requires g t c κs within =

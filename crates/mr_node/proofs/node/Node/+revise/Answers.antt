@@ -17,22 +17,22 @@ now : (g : _) (t : _) (c : In-Inner g t) → c.args.self.now ≡ seen_branch c.i
 now g t c = sym c.self.view_is ∙ ap seen c.in-Inner.is
 
 -- the child to which the key belongs
-got : (g : _) (t : _) (c : In-Some g t) → IsBranch c.in-Inner.branch → get_or c.in-Inner.branch.kids c.place_of-place.result None ≡ Some c.in-Some.kid
-got g t c branch = got_used c.in-Inner.branch.len c.place_of-place.result _ c.in-Some.kid c.in-Inner.branch.kids branch.run.packed c.place_of-place.ensures.within c.in-Some.is
+got : (g : _) (t : _) (c : In-Some g t) → IsBranch c.in-Inner.branch → get_or c.in-Inner.branch.kids c.kid_place-place.result None ≡ Some c.in-Some.kid
+got g t c branch = got_used c.in-Inner.branch.len c.kid_place-place.result _ c.in-Some.kid c.in-Inner.branch.kids branch.run.packed c.kid_place-place.ensures.within c.in-Some.is
 
 -- the node with the value changed in that child
-revised : (g : _) (t : _) (c : After-revise g t) → IsBranch c.in-Inner.branch → get_or c.in-Inner.branch.kids c.place_of-place.result None ≡ Some c.in-Some.kid → IsRevisedIn c.args.key c.place_of-place.result (g.E.Revise.revised c.args.edit.now) c.in-Inner.branch c.in-Some.kid c.revise.new.self
-revised g t c branch is = revised_branch c.args.key c.place_of-place.result (g.E.Revise.revised c.args.edit.now) c.in-Inner.branch c.in-Some.kid c.deref_mut-node.result.now c.revise.new.self branch c.place_of-place.ensures is c.revise.ensures.rows c.deref_mut-node.ensures.value c.revise.ensures.well
+revised : (g : _) (t : _) (c : After-revise g t) → IsBranch c.in-Inner.branch → get_or c.in-Inner.branch.kids c.kid_place-place.result None ≡ Some c.in-Some.kid → IsRevisedIn c.args.key c.kid_place-place.result (g.E.Revise.revised c.args.edit.now) c.in-Inner.branch c.in-Some.kid c.revise.new.self
+revised g t c branch is = revised_branch c.args.key c.kid_place-place.result (g.E.Revise.revised c.args.edit.now) c.in-Inner.branch c.in-Some.kid c.deref_mut-node.result.now c.revise.new.self branch c.kid_place-place.ensures is c.revise.ensures.rows c.deref_mut-node.ensures.value c.revise.ensures.well
 
-pub place_of-place-requires : goal.place_of-place-requires
-place_of-place-requires g t c =
-    let branch = whole g t (goal.at.place_of-place-requires g t c).In-Inner in
+pub kid_place-place-requires : goal.kid_place-place-requires
+kid_place-place-requires g t c =
+    let branch = whole g t (goal.at.kid_place-place-requires g t c).In-Inner in
     (search rules, (branch.some, (branch.run, (kids_rise c.in-Inner.branch branch, kids_below c.in-Inner.branch branch))))
 
 pub unreachable-requires : goal.unreachable-requires
 unreachable-requires g t c =
     let branch = whole g t (goal.at.unreachable-requires g t c).In-Inner in
-    never_none c.in-Inner.branch.len c.place_of-place.result _ c.in-Inner.branch.kids branch.run.packed c.place_of-place.ensures.within c.in-None.is
+    never_none c.in-Inner.branch.len c.kid_place-place.result _ c.in-Inner.branch.kids branch.run.packed c.kid_place-place.ensures.within c.in-None.is
 
 pub invariant_of-self-in-Inner : goal.invariant_of-self-in-Inner
 invariant_of-self-in-Inner g t c =
@@ -51,7 +51,7 @@ returns-in-Some-clause-rows g t c =
     let at = goal.at.returns-in-Some-clause-rows g t c in
     let branch = whole g t at.In-Inner in
     let after = revised g t at.After-revise branch (got g t at.In-Some branch) in
-    revised_answer c.args.key (g.E.Revise.revised c.args.edit.now) c.in-Inner.branch (branch_with c.in-Inner.branch c.place_of-place.result (part_with c.in-Some.kid c.revise.new.self)) c.args.self.now (now g t at.In-Inner) refl after.rows
+    revised_answer c.args.key (g.E.Revise.revised c.args.edit.now) c.in-Inner.branch (branch_with c.in-Inner.branch c.kid_place-place.result (part_with c.in-Some.kid c.revise.new.self)) c.args.self.now (now g t at.In-Inner) refl after.rows
 
 pub returns-in-Some-clause-well : goal.returns-in-Some-clause-well
 returns-in-Some-clause-well g t c =
@@ -60,10 +60,10 @@ returns-in-Some-clause-well g t c =
     branch_well _ (revised g t at.After-revise branch (got g t at.In-Some branch)).whole
 
 -- the value at the key, in that child and here
-value : (g : _) (t : _) (c : After-revise g t) → IsBranch c.in-Inner.branch → c.args.self.now ≡ seen_branch c.in-Inner.branch → get_or c.in-Inner.branch.kids c.place_of-place.result None ≡ Some c.in-Some.kid → value_at c.args.key c.deref_mut-node.result.now.rows ≡ value_at c.args.key c.args.self.now.rows
+value : (g : _) (t : _) (c : After-revise g t) → IsBranch c.in-Inner.branch → c.args.self.now ≡ seen_branch c.in-Inner.branch → get_or c.in-Inner.branch.kids c.kid_place-place.result None ≡ Some c.in-Some.kid → value_at c.args.key c.deref_mut-node.result.now.rows ≡ value_at c.args.key c.args.self.now.rows
 value g t c branch is is_kid =
     ap (λ s. value_at c.args.key s.rows) c.deref_mut-node.ensures.value
-    ∙ sym (value_in_kid c.args.key c.place_of-place.result c.in-Inner.branch c.in-Some.kid branch c.place_of-place.ensures is_kid) ∙ sym (ap (λ s. value_at c.args.key s.rows) is)
+    ∙ sym (value_in_kid c.args.key c.kid_place-place.result c.in-Inner.branch c.in-Some.kid branch c.kid_place-place.ensures is_kid) ∙ sym (ap (λ s. value_at c.args.key s.rows) is)
 
 pub returns-in-Some-clause-spent : goal.returns-in-Some-clause-spent
 returns-in-Some-clause-spent g t c =
@@ -80,10 +80,10 @@ returns-in-Some-clause-found g t c =
     c.revise.ensures.found ∙ ap is_some same
 
 pub listed : goal.listed
-listed g t c = omega (arith, c.place_of-place.ensures.within, packed_fits c.in-Inner.branch.len c.in-Inner.branch.kids (whole g t (goal.at.listed g t c).In-Inner).run.packed)
+listed g t c = omega (arith, c.kid_place-place.ensures.within, packed_fits c.in-Inner.branch.len c.in-Inner.branch.kids (whole g t (goal.at.listed g t c).In-Inner).run.packed)
 
 pub bounds-branch-place : goal.bounds-branch-place
-bounds-branch-place g t c = omega (arith, c.place_of-place.ensures.within, (whole g t (goal.at.bounds-branch-place g t c).In-Inner).run.fits)
+bounds-branch-place g t c = omega (arith, c.kid_place-place.ensures.within, (whole g t (goal.at.bounds-branch-place g t c).In-Inner).run.fits)
 
 pub offset_bounds-branch-place : goal.offset_bounds-branch-place
-offset_bounds-branch-place g t c = omega (arith, c.place_of-place.ensures.within, (whole g t (goal.at.offset_bounds-branch-place g t c).In-Inner).run.fits)
+offset_bounds-branch-place g t c = omega (arith, c.kid_place-place.ensures.within, (whole g t (goal.at.offset_bounds-branch-place g t c).In-Inner).run.fits)

@@ -2,7 +2,7 @@ use Rattle.std.proofs.Common.{rules, ◌≡◌, length, subst, sym}
 use Rattle.mr_node.specs.Search.{IsKidPlace}
 use Rattle.mr_node.proofs.RunLemmas.{run_rises}
 use Rattle.mr_node.proofs.SearchLemmas.{kid_placed}
-use Rattle.mr_node.proofs.kids.place_of.Goals as goal
+use Rattle.mr_node.proofs.kids.kid_place.Goals as goal
 
 pub count_below-requires : goal.count_below-requires
 count_below-requires g c = run_rises c.args.branch.now.len c.args.branch.now.leasts c.args.branch.now.kids c.requires.run c.requires.ordered c.requires.below
