@@ -3,8 +3,8 @@ use Rattle.std.proofs.Common.{◌≡◌, ◌≤◌, refl, ℕ, List, [], ◌∷�
 use Rattle.std.specs.Prelude.{Result, Ok, Err}
 use Rattle.arrayvec.specs.ArrayVec.{ArrayVec}
 use Rattle.tatp_rows.specs.declared.refusal.Refusal.{Refusal}
+use Rattle.hlr_owners.specs.Store.{Store}
 use Rattle.hlr_core.specs.Run.{IsRun}
-use Rattle.hlr_core.specs.Store.{Store}
 use Rattle.hlr_core.specs.declared.order.Answer.{Answer}
 use Rattle.hlr_core.specs.declared.order.Answer.TheVariants as answer
 use Rattle.hlr_core.specs.declared.order.Order.{Order}

@@ -11,7 +11,7 @@ use Rattle.csv.specs.declared.parser.State.{State}
 use Rattle.csv.specs.declared.parser.State.TheVariants as st
 use Rattle.csv.specs.declared.reader.Reader.{Reader}
 use Rattle.csv.proofs.ReadFacts.{rows-more, rows-end}
-use Rattle.hlr_core.specs.Store.{Store}
+use Rattle.hlr_owners.specs.Store.{Store}
 use Rattle.hlr.specs.Records.{command_of, command_named, field, word_named}
 use Rattle.hlr.specs.declared.records.Report.{Report}
 use Rattle.hlr.specs.declared.records.Report.TheVariants as report
@@ -239,6 +239,11 @@ ran_finished start bytes old mid new done r ran kept (inr failed) = rw failed (r
 pub ran_refused : (start : Store) (bytes : List ℕ) (old new : Option (List ℕ)) (r : Result (Unit {0}) Fault) → is_err r ≡ true → Keeps old new → Ran start bytes old new r
 ran_refused start bytes old new (Ok done) failed kept = absurd (false≢true failed)
 ran_refused start bytes old new (Err why) failed kept = ran_nothing start bytes old new why kept
+
+-- a run over a reader's bytes from a store that is another one
+pub ran_from : (known : Option (List ℕ)) (start other : Store) (old new : Option (List ℕ)) (r : Result (Unit {0}) Fault) → start ≡ other
+    → IfSome known (λ bytes. Ran start (strip_bom bytes) old new r) → IfSome known (λ bytes. Ran other (strip_bom bytes) old new r)
+ran_from known start other old new r same ran = subst (λ (store : Store). IfSome known (λ bytes. Ran store (strip_bom bytes) old new r)) same ran
 
 -- a run over a reader's bytes, without the byte order mark before them, that ended with a flush
 pub ran_flushed : (known source : Option (List ℕ)) (start : Store) (old mid new : Option (List ℕ)) (done r : Result (Unit {0}) Fault) → source ≡ option_map strip_bom known

@@ -1,8 +1,8 @@
 -- What the calls that write answers promise each other; no clause of `run_alone` cites this.
 use Rattle.std.specs.Prelude.{ℕ, Bool, List, Option, Result, codes, ℤ, pos, slice_index, slice_index_or}
 use Rattle.tatp_actions.specs.Cell.{cell}
+use Rattle.hlr_owners.specs.Store.{Store, published, unpublished}
 use Rattle.hlr_core.specs.Index.{index_of}
-use Rattle.hlr_core.specs.Store.{Store, published, unposted}
 use Rattle.hlr.specs.Reports.{report_text, cells_where, is_standing, standing_line, is_counted, rows_line, index_text, regions_text, scan_text, views_text}
 use Rattle.hlr.specs.Sink.{Puts}
 use Rattle.hlr.specs.Text.{proposal_line, RecordText}
@@ -54,7 +54,7 @@ word_of_report report.Propose = word.Propose
 
 -- the text of a report on a store
 abbrev pub report_on : Report → Store → List ℕ
-report_on report.Views store = views_text (published store) (unposted store)
+report_on report.Views store = views_text (published store) (unpublished store)
 report_on report.Scan store = scan_text (λ c. cell store.width c store.book)
 report_on report.Index store = index_text (index_of store.book.subscribers)
 report_on report.Regions store = regions_text store.regions

@@ -5,7 +5,7 @@ use Rattle.clap.specs.Words.{App, Row, Rule, Text, new_app, new_rule, one_of, wi
 use Rattle.clap.specs.declared.builder.value_parser.ValueParser.TheVariants as parser
 use Rattle.part_table.specs.declared.region.TheConstants.{MOST_PARTS}
 use Rattle.tatp_rows.specs.declared.ranges.TheConstants.{GREATEST_WIDTH}
-use Rattle.hlr_core.specs.Store.{HasOpening}
+use Rattle.hlr_owners.specs.Store.{HasOpening}
 use Rattle.hlr.specs.declared.options.Options.{Options}
 
 -- `--parts N`: a number from 1 to 16, which is 1 where the option isn't given

@@ -2,7 +2,7 @@
 use Rattle.std.specs.Prelude.{ℕ, ◌==◌, ◌++◌, ◌&&◌, not, Bool, List, length, codes, ℤ}
 use Rattle.std.specs.List.{filter, flat_map, range_with_len}
 use Rattle.tatp_actions.specs.declared.cells.TheConstants.{CELLS}
-use Rattle.hlr_core.specs.Post.{is_zero}
+use Rattle.view_delta.specs.Pending.{is_zero}
 use Rattle.part_table.specs.declared.region.Region.{Region}
 use Rattle.hlr.specs.Lines.{cell_line, counted_line, number_line, region_line, total_line}
 

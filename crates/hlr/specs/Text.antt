@@ -4,10 +4,11 @@ use Rattle.arrayvec.specs.ArrayVec.{ArrayVec}
 use Rattle.tatp_rows.specs.declared.refusal.Refusal.{Refusal}
 use Rattle.part_table.specs.Proposal.{proposal}
 use Rattle.tatp_actions.specs.Cell.{cell}
+use Rattle.hlr_owners.specs.Recut.{IsRecut}
+use Rattle.hlr_owners.specs.Store.{Store, parts_in, published, unpublished}
 use Rattle.hlr_core.specs.Index.{index_of}
-use Rattle.hlr_core.specs.Recut.{IsRecut}
 use Rattle.hlr_core.specs.Step.{IsStep}
-use Rattle.hlr_core.specs.Store.{Store, parts_in, published, published_weights, unposted}
+use Rattle.hlr_core.specs.Weights.{published_weights}
 use Rattle.hlr_core.specs.declared.event.Event.{Event}
 use Rattle.hlr_core.specs.declared.event.Reply.{Reply}
 use Rattle.hlr.specs.Lines.{bounds_line, recut_line, refused_line, reply_line}
@@ -41,7 +42,7 @@ RecutText (Err why) before text after = (text ≡ refused_line why) × (after �
 -- its refusal
 abbrev pub CommandText : List (List ℕ) → Result Command Refusal → Store → List ℕ → Store → Type 0
 CommandText fields (Ok (command.Ask event)) before text after = Answered before event text after
-CommandText fields (Ok command.Views) before text after = (text ≡ views_text (published before) (unposted before)) × (after ≡ before)
+CommandText fields (Ok command.Views) before text after = (text ≡ views_text (published before) (unpublished before)) × (after ≡ before)
 CommandText fields (Ok command.Scan) before text after = (text ≡ scan_text (λ c. cell before.width c before.book)) × (after ≡ before)
 CommandText fields (Ok command.Index) before text after = (text ≡ index_text (index_of before.book.subscribers)) × (after ≡ before)
 CommandText fields (Ok command.Regions) before text after = (text ≡ regions_text before.regions) × (after ≡ before)

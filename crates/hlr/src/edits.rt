@@ -1,6 +1,7 @@
 //! The records that change rows, done by the register's own calls.
 ghost use Rattle.std.specs.Prelude.{Some};
 ghost use Rattle.csv.specs.Records.{fields_of};
+ghost use Rattle.hlr_owners.specs.Seats.{AllHome, store_in};
 ghost use Rattle.hlr_core.specs.Step.{edited_reply};
 ghost use Rattle.hlr.specs.Lines.{reply_line};
 ghost use Rattle.hlr.specs.Records.{command_named};
@@ -15,7 +16,9 @@ use tatp_rows::{Access, Facility, Letters, Number, Refusal, Subscriber};
 
 /// Does `usd,S,sf_type,bit_1,data_a`: `Syntax`, `Field`, `Moving`, `NoSubscriber`, `NoFacility`.
 pub fn update_subscriber(row: &ByteRecord, register: &mut Register) -> Result<(), Refusal>
-    ensures { CommandText (fields_of row.now) (command_named (Some word.Usd) (fields_of row.now)) register.old (reply_line (edited_reply result)) register.new }
+    requires { AllHome register.old.seats }
+    ensures text { CommandText (fields_of row.now) (command_named (Some word.Usd) (fields_of row.now)) (store_in register.old) (reply_line (edited_reply result)) (store_in register.new) }
+    ensures home { AllHome register.new.seats }
 {
     check_len(row, 5)?;
     let s_id = parse_number(field(row, 1))?;
@@ -27,7 +30,9 @@ pub fn update_subscriber(row: &ByteRecord, register: &mut Register) -> Result<()
 
 /// Does `ul,N,vlr`: `Syntax`, `Field`, `NoNumber`, `Moving`.
 pub fn update_location(row: &ByteRecord, register: &mut Register) -> Result<(), Refusal>
-    ensures { CommandText (fields_of row.now) (command_named (Some word.Ul) (fields_of row.now)) register.old (reply_line (edited_reply result)) register.new }
+    requires { AllHome register.old.seats }
+    ensures text { CommandText (fields_of row.now) (command_named (Some word.Ul) (fields_of row.now)) (store_in register.old) (reply_line (edited_reply result)) (store_in register.new) }
+    ensures home { AllHome register.new.seats }
 {
     check_len(row, 3)?;
     let sub_nbr = Number::from_digits(field(row, 1))?;
@@ -38,7 +43,9 @@ pub fn update_location(row: &ByteRecord, register: &mut Register) -> Result<(), 
 /// Does `icf,N,sf_type,start_time,end_time,numberx`: `Syntax`, `Field`, `NoNumber`, `Moving`, `NoFacility`, `Exists`,
 /// `Memory`.
 pub fn insert_forwarding(row: &ByteRecord, register: &mut Register) -> Result<(), Refusal>
-    ensures { CommandText (fields_of row.now) (command_named (Some word.Icf) (fields_of row.now)) register.old (reply_line (edited_reply result)) register.new }
+    requires { AllHome register.old.seats }
+    ensures text { CommandText (fields_of row.now) (command_named (Some word.Icf) (fields_of row.now)) (store_in register.old) (reply_line (edited_reply result)) (store_in register.new) }
+    ensures home { AllHome register.new.seats }
 {
     check_len(row, 6)?;
     let sub_nbr = Number::from_digits(field(row, 1))?;
@@ -51,7 +58,9 @@ pub fn insert_forwarding(row: &ByteRecord, register: &mut Register) -> Result<()
 
 /// Does `dcf,N,sf_type,start_time`: `Syntax`, `Field`, `NoNumber`, `Moving`, `NoForwarding`.
 pub fn delete_forwarding(row: &ByteRecord, register: &mut Register) -> Result<(), Refusal>
-    ensures { CommandText (fields_of row.now) (command_named (Some word.Dcf) (fields_of row.now)) register.old (reply_line (edited_reply result)) register.new }
+    requires { AllHome register.old.seats }
+    ensures text { CommandText (fields_of row.now) (command_named (Some word.Dcf) (fields_of row.now)) (store_in register.old) (reply_line (edited_reply result)) (store_in register.new) }
+    ensures home { AllHome register.new.seats }
 {
     check_len(row, 4)?;
     let sub_nbr = Number::from_digits(field(row, 1))?;
@@ -62,7 +71,9 @@ pub fn delete_forwarding(row: &ByteRecord, register: &mut Register) -> Result<()
 
 /// Does `sub,S,N,BITS,HEXES,BYTES,msc,vlr`: `Syntax`, `Field`, `Moving`, `Exists`, `NumberTaken`, `Memory`.
 pub fn add_subscriber(row: &ByteRecord, register: &mut Register) -> Result<(), Refusal>
-    ensures { CommandText (fields_of row.now) (command_named (Some word.Sub) (fields_of row.now)) register.old (reply_line (edited_reply result)) register.new }
+    requires { AllHome register.old.seats }
+    ensures text { CommandText (fields_of row.now) (command_named (Some word.Sub) (fields_of row.now)) (store_in register.old) (reply_line (edited_reply result)) (store_in register.new) }
+    ensures home { AllHome register.new.seats }
 {
     check_len(row, 8)?;
     let s_id = parse_number(field(row, 1))?;
@@ -86,7 +97,9 @@ pub fn add_subscriber(row: &ByteRecord, register: &mut Register) -> Result<(), R
 
 /// Does `acc,S,ai_type,data1,data2,data3,data4`: `Syntax`, `Field`, `Moving`, `NoSubscriber`, `Exists`, `Memory`.
 pub fn add_access(row: &ByteRecord, register: &mut Register) -> Result<(), Refusal>
-    ensures { CommandText (fields_of row.now) (command_named (Some word.Acc) (fields_of row.now)) register.old (reply_line (edited_reply result)) register.new }
+    requires { AllHome register.old.seats }
+    ensures text { CommandText (fields_of row.now) (command_named (Some word.Acc) (fields_of row.now)) (store_in register.old) (reply_line (edited_reply result)) (store_in register.new) }
+    ensures home { AllHome register.new.seats }
 {
     check_len(row, 7)?;
     let s_id = parse_number(field(row, 1))?;
@@ -102,7 +115,9 @@ pub fn add_access(row: &ByteRecord, register: &mut Register) -> Result<(), Refus
 /// Does `fac,S,sf_type,is_active,error_cntrl,data_a,data_b`: `Syntax`, `Field`, `Moving`, `NoSubscriber`, `Exists`,
 /// `Memory`.
 pub fn add_facility(row: &ByteRecord, register: &mut Register) -> Result<(), Refusal>
-    ensures { CommandText (fields_of row.now) (command_named (Some word.Fac) (fields_of row.now)) register.old (reply_line (edited_reply result)) register.new }
+    requires { AllHome register.old.seats }
+    ensures text { CommandText (fields_of row.now) (command_named (Some word.Fac) (fields_of row.now)) (store_in register.old) (reply_line (edited_reply result)) (store_in register.new) }
+    ensures home { AllHome register.new.seats }
 {
     check_len(row, 7)?;
     let s_id = parse_number(field(row, 1))?;
@@ -117,7 +132,9 @@ pub fn add_facility(row: &ByteRecord, register: &mut Register) -> Result<(), Ref
 
 /// Does `active,S,sf_type,is_active`: `Syntax`, `Field`, `Moving`, `NoFacility`.
 pub fn set_active(row: &ByteRecord, register: &mut Register) -> Result<(), Refusal>
-    ensures { CommandText (fields_of row.now) (command_named (Some word.Active) (fields_of row.now)) register.old (reply_line (edited_reply result)) register.new }
+    requires { AllHome register.old.seats }
+    ensures text { CommandText (fields_of row.now) (command_named (Some word.Active) (fields_of row.now)) (store_in register.old) (reply_line (edited_reply result)) (store_in register.new) }
+    ensures home { AllHome register.new.seats }
 {
     check_len(row, 4)?;
     let s_id = parse_number(field(row, 1))?;
@@ -128,7 +145,9 @@ pub fn set_active(row: &ByteRecord, register: &mut Register) -> Result<(), Refus
 
 /// Does `number,S,N`: `Syntax`, `Field`, `Moving`, `NoSubscriber`, `NumberTaken`, `Memory`.
 pub fn set_number(row: &ByteRecord, register: &mut Register) -> Result<(), Refusal>
-    ensures { CommandText (fields_of row.now) (command_named (Some word.Number) (fields_of row.now)) register.old (reply_line (edited_reply result)) register.new }
+    requires { AllHome register.old.seats }
+    ensures text { CommandText (fields_of row.now) (command_named (Some word.Number) (fields_of row.now)) (store_in register.old) (reply_line (edited_reply result)) (store_in register.new) }
+    ensures home { AllHome register.new.seats }
 {
     check_len(row, 3)?;
     let s_id = parse_number(field(row, 1))?;

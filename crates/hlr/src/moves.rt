@@ -1,6 +1,7 @@
 //! The records that post, give and take, as events for the register.
 ghost use Rattle.std.specs.Prelude.{Some, IfOk, IfErr};
 ghost use Rattle.csv.specs.Records.{fields_of};
+ghost use Rattle.hlr_owners.specs.Seats.{AllHome, store_in};
 ghost use Rattle.hlr.specs.Lines.{refused_line, reply_line};
 ghost use Rattle.hlr.specs.Records.{command_named};
 ghost use Rattle.hlr.specs.Text.{CommandText};
@@ -14,8 +15,10 @@ use tatp_rows::Refusal;
 
 /// Does `post,part,limit`: `Syntax`, `Field`, or what the register replies.
 pub fn post(row: &ByteRecord, register: &mut Register) -> Result<Reply, Refusal>
-    ensures done { IfOk result (λ reply. CommandText (fields_of row.now) (command_named (Some word.Post) (fields_of row.now)) register.old (reply_line reply) register.new) }
-    ensures refused { IfErr result (λ why. CommandText (fields_of row.now) (command_named (Some word.Post) (fields_of row.now)) register.old (refused_line why) register.new) }
+    requires { AllHome register.old.seats }
+    ensures done { IfOk result (λ reply. CommandText (fields_of row.now) (command_named (Some word.Post) (fields_of row.now)) (store_in register.old) (reply_line reply) (store_in register.new)) }
+    ensures refused { IfErr result (λ why. CommandText (fields_of row.now) (command_named (Some word.Post) (fields_of row.now)) (store_in register.old) (refused_line why) (store_in register.new)) }
+    ensures home { AllHome register.new.seats }
 {
     check_len(row, 3)?;
     let part = parse_number(field(row, 1))?;
@@ -25,8 +28,10 @@ pub fn post(row: &ByteRecord, register: &mut Register) -> Result<Reply, Refusal>
 
 /// Does `give,part,side,at`: `Syntax`, `Field`, or what the register replies.
 pub fn give(row: &ByteRecord, register: &mut Register) -> Result<Reply, Refusal>
-    ensures done { IfOk result (λ reply. CommandText (fields_of row.now) (command_named (Some word.Give) (fields_of row.now)) register.old (reply_line reply) register.new) }
-    ensures refused { IfErr result (λ why. CommandText (fields_of row.now) (command_named (Some word.Give) (fields_of row.now)) register.old (refused_line why) register.new) }
+    requires { AllHome register.old.seats }
+    ensures done { IfOk result (λ reply. CommandText (fields_of row.now) (command_named (Some word.Give) (fields_of row.now)) (store_in register.old) (reply_line reply) (store_in register.new)) }
+    ensures refused { IfErr result (λ why. CommandText (fields_of row.now) (command_named (Some word.Give) (fields_of row.now)) (store_in register.old) (refused_line why) (store_in register.new)) }
+    ensures home { AllHome register.new.seats }
 {
     check_len(row, 4)?;
     let side = side_named(field(row, 2))?;
@@ -37,8 +42,10 @@ pub fn give(row: &ByteRecord, register: &mut Register) -> Result<Reply, Refusal>
 
 /// Does `take,piece,part`: `Syntax`, `Field`, or what the register replies.
 pub fn take(row: &ByteRecord, register: &mut Register) -> Result<Reply, Refusal>
-    ensures done { IfOk result (λ reply. CommandText (fields_of row.now) (command_named (Some word.Take) (fields_of row.now)) register.old (reply_line reply) register.new) }
-    ensures refused { IfErr result (λ why. CommandText (fields_of row.now) (command_named (Some word.Take) (fields_of row.now)) register.old (refused_line why) register.new) }
+    requires { AllHome register.old.seats }
+    ensures done { IfOk result (λ reply. CommandText (fields_of row.now) (command_named (Some word.Take) (fields_of row.now)) (store_in register.old) (reply_line reply) (store_in register.new)) }
+    ensures refused { IfErr result (λ why. CommandText (fields_of row.now) (command_named (Some word.Take) (fields_of row.now)) (store_in register.old) (refused_line why) (store_in register.new)) }
+    ensures home { AllHome register.new.seats }
 {
     check_len(row, 3)?;
     let piece = parse_number(field(row, 1))?;

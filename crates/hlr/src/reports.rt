@@ -2,8 +2,9 @@
 ghost use Rattle.std.specs.Prelude.{◌≡◌, ◌+◌, ◌-◌, ◌^◌, ◌<◌, ◌≤◌, ◌&&◌, not, min, true, length, pos, slice_index, slice_index_or};
 ghost use Rattle.std.specs.List.{flat_map};
 ghost use Rattle.tatp_actions.specs.Cell.{cell};
-ghost use Rattle.hlr_core.specs.Post.{is_zero};
-ghost use Rattle.hlr_core.specs.Store.{published, unposted};
+ghost use Rattle.view_delta.specs.Pending.{is_zero};
+ghost use Rattle.hlr_owners.specs.Seats.{AllHome, book_in, store_in};
+ghost use Rattle.hlr_owners.specs.Store.{published, unpublished};
 ghost use Rattle.hlr.specs.Sink.{Puts};
 ghost use Rattle.hlr.specs.Lines.{number_line};
 ghost use Rattle.hlr.specs.Reports.{cells_where, index_text, is_counted, is_standing, regions_text, rows_line, scan_text, standing_line, views_text};
@@ -141,7 +142,8 @@ pub fn write_views<S: Sink>(
     line: &mut Line,
     sink: &mut S,
 ) -> Result<(), Stalled>
-    ensures { Puts (views_text (published register.now) (unposted register.now)) (S.taken sink.old) (S.taken sink.new) (S.has_stalled sink.new) result }
+    requires { AllHome register.now.seats }
+    ensures { Puts (views_text (published (store_in register.now)) (unpublished (store_in register.now))) (S.taken sink.old) (S.taken sink.new) (S.has_stalled sink.new) result }
 {
     let counts = Counts::Standing {
         published: &register.published(),
@@ -157,7 +159,8 @@ pub fn write_scan<S: Sink>(
     line: &mut Line,
     sink: &mut S,
 ) -> Result<(), Stalled>
-    ensures { Puts (scan_text (λ c. cell register.now.width c register.now.book)) (S.taken sink.old) (S.taken sink.new) (S.has_stalled sink.new) result }
+    requires { AllHome register.now.seats }
+    ensures { Puts (scan_text (λ c. cell register.now.width c (book_in register.now.seats))) (S.taken sink.old) (S.taken sink.new) (S.has_stalled sink.new) result }
 {
     write_cells(&Counts::Rows(&register.recount()), line, sink)
 }
@@ -240,7 +243,8 @@ pub fn write_proposal<S: Sink>(
     line: &mut Line,
     sink: &mut S,
 ) -> Result<(), Stalled>
-    ensures { Puts (proposal_line register.now) (S.taken sink.old) (S.taken sink.new) (S.has_stalled sink.new) result }
+    requires { AllHome register.now.seats }
+    ensures { Puts (proposal_line (store_in register.now)) (S.taken sink.old) (S.taken sink.new) (S.has_stalled sink.new) result }
 {
     build_bounds(line, &register.propose());
     put_all(sink, line.as_slice())

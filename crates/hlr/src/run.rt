@@ -6,7 +6,8 @@ ghost use Rattle.csv.specs.Reading.{Ready, default_config, reader_config, reader
 ghost use Rattle.csv.specs.Records.{fields_of};
 ghost use Rattle.csv.specs.declared.parser.State.TheVariants as state;
 ghost use Rattle.csv.specs.declared.reader.Trim.TheVariants as trim;
-ghost use Rattle.hlr_core.specs.Store.{HasOpening, opening};
+ghost use Rattle.hlr_owners.specs.Seats.{AllHome, store_in};
+ghost use Rattle.hlr_owners.specs.Store.{HasOpening, opening};
 ghost use Rattle.hlr.specs.WholeRecords.{inner_remaining};
 ghost use Rattle.hlr.specs.Records.{command_of, field, word_named};
 ghost use Rattle.hlr.specs.Run.{IsFlushedAfter, Ran};
@@ -50,8 +51,10 @@ fn write_recut<S: Sink>(
     line: &mut Line,
     sink: &mut S,
 ) -> Result<(), Stalled>
-    requires { command_of (fields_of row.now) ≡ Ok command.Recut }
-    ensures { Answers (fields_of row.now) register.old register.new (S.taken sink.old) (S.taken sink.new) (S.has_stalled sink.new) result }
+    requires named { command_of (fields_of row.now) ≡ Ok command.Recut }
+    requires home { AllHome register.old.seats }
+    ensures text { Answers (fields_of row.now) (store_in register.old) (store_in register.new) (S.taken sink.old) (S.taken sink.new) (S.has_stalled sink.new) result }
+    ensures home { AllHome register.new.seats }
 {
     match read_bounds(row) {
         Ok(bounds) => build_recut(line, register.recut_to(bounds.as_slice())),
@@ -67,7 +70,8 @@ fn write_report<S: Sink>(
     line: &mut Line,
     sink: &mut S,
 ) -> Result<(), Stalled>
-    ensures { Puts (report_on report register.now) (S.taken sink.old) (S.taken sink.new) (S.has_stalled sink.new) result }
+    requires { AllHome register.now.seats }
+    ensures { Puts (report_on report (store_in register.now)) (S.taken sink.old) (S.taken sink.new) (S.has_stalled sink.new) result }
 {
     match report {
         Report::Views => write_views(register, line, sink),
@@ -86,8 +90,9 @@ fn answer_report<S: Sink>(
     line: &mut Line,
     sink: &mut S,
 ) -> Result<(), Stalled>
-    requires { Some (word_of_report report) ≡ word_named (field (fields_of row.now) 0) }
-    ensures { Answers (fields_of row.now) register.now register.now (S.taken sink.old) (S.taken sink.new) (S.has_stalled sink.new) result }
+    requires named { Some (word_of_report report) ≡ word_named (field (fields_of row.now) 0) }
+    requires home { AllHome register.now.seats }
+    ensures { Answers (fields_of row.now) (store_in register.now) (store_in register.now) (S.taken sink.old) (S.taken sink.new) (S.has_stalled sink.new) result }
 {
     if row.len() != 1 {
         build_refused(line, Refusal::Syntax);
@@ -104,8 +109,10 @@ fn answer_word<S: Sink>(
     line: &mut Line,
     sink: &mut S,
 ) -> Result<(), Stalled>
-    requires { Some word ≡ word_named (field (fields_of row.now) 0) }
-    ensures { Answers (fields_of row.now) register.old register.new (S.taken sink.old) (S.taken sink.new) (S.has_stalled sink.new) result }
+    requires named { Some word ≡ word_named (field (fields_of row.now) 0) }
+    requires home { AllHome register.old.seats }
+    ensures text { Answers (fields_of row.now) (store_in register.old) (store_in register.new) (S.taken sink.old) (S.taken sink.new) (S.has_stalled sink.new) result }
+    ensures home { AllHome register.new.seats }
 {
     match word {
         Word::Gsd => build_gsd(row, register, line),
@@ -142,7 +149,9 @@ fn answer<S: Sink>(
     line: &mut Line,
     sink: &mut S,
 ) -> Result<(), Stalled>
-    ensures { Answers (fields_of row.now) register.old register.new (S.taken sink.old) (S.taken sink.new) (S.has_stalled sink.new) result }
+    requires { AllHome register.old.seats }
+    ensures text { Answers (fields_of row.now) (store_in register.old) (store_in register.new) (S.taken sink.old) (S.taken sink.new) (S.has_stalled sink.new) result }
+    ensures home { AllHome register.new.seats }
 {
     match word_of(field(row, 0)) {
         Some(word) => answer_word(word, row, register, line, sink),
@@ -162,7 +171,9 @@ fn answer_in_time<R: Read, S: Sink>(
     line: &mut Line,
     sink: &mut S,
 ) -> Result<(), Stalled>
-    ensures { Answers (fields_of row.now) register.old register.new (S.taken sink.old) (S.taken sink.new) (S.has_stalled sink.new) result }
+    requires { AllHome register.old.seats }
+    ensures text { Answers (fields_of row.now) (store_in register.old) (store_in register.new) (S.taken sink.old) (S.taken sink.new) (S.has_stalled sink.new) result }
+    ensures home { AllHome register.new.seats }
 {
     if answer(row, register, line, sink).is_err() {
         return Err(Stalled);
@@ -189,8 +200,9 @@ fn answer_all<R: Read, S: Sink>(
     requires ready { Ready reader.old }
     requires config { reader_config reader.old ≡ default_config }
     requires start { reader_state reader.old ≡ state.StartRecord }
+    requires home { AllHome register.old.seats }
     ensures text { IfSome (source_of (inner_remaining R.remaining) reader.old)
-        (λ bytes. Ran register.old bytes (S.taken sink.old) (S.taken sink.new) result) }
+        (λ bytes. Ran (store_in register.old) bytes (S.taken sink.old) (S.taken sink.new) result) }
     ensures write { result ≡ Err fault.Write → S.has_stalled sink.new ≡ true }
     ensures field { result ≢ Err fault.Field }
     ensures thread { result ≢ Err fault.Thread }
@@ -239,8 +251,9 @@ fn run_store<R: Read + Drop, S: Sink>(
     register: &mut Register,
     sink: &mut S,
 ) -> Result<(), Fault>
+    requires { AllHome register.old.seats }
     ensures text { IfSome (R.remaining reader)
-        (λ bytes. Ran register.old (strip_bom bytes) (S.taken sink.old) (S.taken sink.new) result) }
+        (λ bytes. Ran (store_in register.old) (strip_bom bytes) (S.taken sink.old) (S.taken sink.new) result) }
     ensures write { result ≡ Err fault.Write → S.has_stalled sink.new ≡ true }
     ensures field { result ≢ Err fault.Field }
     ensures thread { result ≢ Err fault.Thread }

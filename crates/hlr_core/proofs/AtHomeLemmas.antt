@@ -17,8 +17,9 @@ use Rattle.part_table.specs.declared.region.Region.{Region}
 use Rattle.hlr_core.specs.Kept.{IsSameAtHome, is_kept, is_on_rows, is_lasting, kept_answers, kept_orders}
 use Rattle.hlr_core.specs.Run.{IsOrderStep, IsRun}
 use Rattle.hlr_core.specs.Step.{IsStep, IsAskedStep, IsOwnedStep, IsPostStep, action_for, whole_effect, takes_number}
-use Rattle.hlr_core.specs.Step.{given_number, is_done, is_loose, is_loose_place, reply_of}
-use Rattle.hlr_core.specs.Store.{Store, slots_of}
+use Rattle.hlr_core.specs.Step.{given_number, is_done, reply_of}
+use Rattle.hlr_owners.specs.Answered.{is_loose, is_loose_place}
+use Rattle.hlr_owners.specs.Store.{Store, slots_of}
 use Rattle.hlr_core.specs.declared.event.Event.{Event}
 use Rattle.hlr_core.specs.declared.event.Event.TheVariants.{SubscriberData, NewDestination, AccessData, UpdateSubscriber}
 use Rattle.hlr_core.specs.declared.event.Event.TheVariants.{UpdateLocation, InsertForwarding, DeleteForwarding}
@@ -30,7 +31,7 @@ use Rattle.hlr_core.specs.declared.order.Answer.TheVariants as answer
 use Rattle.hlr_core.specs.declared.order.Order.{Order}
 use Rattle.hlr_core.specs.declared.order.Order.TheVariants as order
 use Rattle.hlr_core.proofs.PairsLemmas.{effect_refused}
-use Rattle.hlr_core.proofs.RecutLemmas.{recut_stays}
+use Rattle.hlr_owners.proofs.RecutLemmas.{recut_stays}
 
 -- a store with another book
 abbrev with_book : Store → Book → Store
@@ -146,8 +147,8 @@ module _ (before after : Store) (reply : Reply) (passes : is_lasting reply ≡ f
 -- an event that isn't on rows leaves the book
 post_stays : (slots : Option (List ℕ)) (part limit : ℕ) (before after : Store) (reply : Reply)
     → IsPostStep slots part limit before reply after → after.book ≡ before.book
-post_stays None part limit before after reply step = ap (λ (s : Store). s.book) step.1
-post_stays (Some slots) part limit before after reply step = ap (λ (s : Store). s.book) step.1
+post_stays None part limit before after reply step = ap (λ (s : Store). s.book) step.1.1
+post_stays (Some slots) part limit before after reply step = ap (λ (s : Store). s.book) step.1.1
 
 other_stays : (event : Event) (before after : Store) (reply : Reply) → is_on_rows event ≡ false
     → IsStep event before reply after → after.book ≡ before.book

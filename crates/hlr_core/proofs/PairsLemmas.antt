@@ -13,7 +13,7 @@ use Rattle.tatp_actions.specs.declared.action.Action.{Action}
 use Rattle.tatp_actions.specs.declared.action.Action.TheVariants as action
 use Rattle.tatp_actions.specs.declared.action.RowReply.{RowReply}
 use Rattle.tatp_actions.specs.declared.action.RowReply.TheVariants as row_reply
-use Rattle.hlr_core.specs.Inside.Asked.{IsAnswered}
+use Rattle.hlr_owners.specs.Answered.{IsAnswered}
 use Rattle.hlr_core.specs.Step.{given_number}
 use Rattle.hlr_core.specs.Index.{number_pair, IsRegister}
 use Rattle.hlr_core.proofs.IndexLemmas.{index_kept}

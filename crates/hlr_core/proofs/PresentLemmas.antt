@@ -10,7 +10,7 @@ use Rattle.part_table.specs.Regions.{AreRegions, IsPieceNumber, parts_of, pieces
 use Rattle.part_table.specs.Take.{take_answer, answer_of_both}
 use Rattle.part_table.specs.declared.region.Region.{Region}
 use Rattle.part_table.specs.declared.region.Side.{Side}
-use Rattle.hlr_core.specs.Step.{MayAnswer}
+use Rattle.hlr_owners.specs.Answered.{MayAnswer}
 
 -- what was found passes the test
 found_passes : {A : Type 0} (test : A → Bool) (xs : List A) (x : A) → find test xs ≡ Some x → list_any test xs ≡ true

@@ -1,4 +1,4 @@
--- Right steps of the register, from what its holdings and its index do.
+-- Right steps of the register, from what its seats and its index do.
 use Rattle.std.proofs.Common.{◌≡◌, ◌≢◌, ℕ, ◌+◌, refl, List, Bool, true, false, Option, Some, None, Result, Ok, Err, sym, ap, ◌∙◌, inl, inr}
 use Rattle.std.specs.Prelude.{is_some, option_map, ◌||◌, if◌then◌else◌}
 use Rattle.tatp_rows.specs.Rows.{SubscriberRow}
@@ -16,17 +16,16 @@ use Rattle.tatp_actions.specs.declared.action.Action.{Action}
 use Rattle.tatp_actions.specs.declared.action.Action.TheVariants as action
 use Rattle.tatp_actions.specs.declared.action.RowReply.{RowReply}
 use Rattle.tatp_actions.specs.declared.action.RowReply.TheVariants as row_reply
-use Rattle.part_table.specs.Regions.{place_of}
-use Rattle.part_table.specs.declared.region.Place.TheVariants.{Part}
-use Rattle.hlr_core.specs.Inside.Asked.{IsAsked, IsAnswered, IsRowStep}
+use Rattle.hlr_core.specs.Inside.Asked.{IsAsked, IsRowStep}
+use Rattle.hlr_owners.specs.Answered.{IsAnswered, is_loose}
 use Rattle.hlr_core.specs.Index.{IsRegister}
 use Rattle.hlr_core.specs.Numbers.{bearer_of}
-use Rattle.hlr_core.specs.Step.{is_loose, IsWholeOutcome, given_number, takes_number, changes_number, whole_effect, reply_of, edited_reply}
-use Rattle.hlr_core.specs.Store.{Store}
+use Rattle.hlr_core.specs.Step.{IsPostStep, IsWholeOutcome, posted_reply, given_number, takes_number, changes_number, whole_effect, reply_of, edited_reply}
+use Rattle.hlr_owners.specs.Posting.{IsPosting}
+use Rattle.hlr_owners.specs.Store.{Store}
 use Rattle.hlr_core.specs.declared.event.Reply.{Reply}
 use Rattle.hlr_core.specs.declared.event.Reply.TheVariants as reply
 use Rattle.hlr_core.proofs.NumbersLemmas.{bearer_is_another, no_twin-with_row}
-use Rattle.hlr_core.proofs.HoldingsLemmas.{home_of_part}
 use Rattle.hlr_core.proofs.IndexLemmas.{index-with_row, free_number, taken_number}
 use Rattle.hlr_core.proofs.PairsLemmas.{outcome_book}
 
@@ -73,6 +72,10 @@ module _ (act : Action) (before after : Store) (rows : RowReply) (answer : Reply
   answered_step true loose gives fits answered =
       moving_step act before after answer loose (is ∙ ap reply_of (rw fits at answered.0)) (same ∙ ap (λ (b : Book). record before { book = b }) answered.1)
   answered_step false home gives fits outcome = acted_step act before after rows answer fits home (rw gives refl) outcome same is
+
+-- what is answered of rows that lie in a part is a right outcome
+pub outcome_of_answer : (act : Action) (loose : Bool) (before after : Book) (rows : RowReply) → loose ≡ false → IsAnswered loose act before rows after → IsOutcome act before rows after
+outcome_of_answer act loose before after rows home answered = rw home at answered
 
 -- an action that was asked for and gives no number is a right step
 pub asked_step : (fits : Bool) (wanted : Option Action) (act : Action) (before after : Store) (rows : RowReply) (answer : Reply) → given_number act ≡ None
@@ -139,10 +142,10 @@ some_number : (o : Option SubscriberRow) → is_some (option_map (λ (row : Subs
 some_number None = refl
 some_number (Some row) = refl
 
-pub at_home : (s p : ℕ) (row : SubscriberRow) (store : Store) (number : Option ℕ) (has : Bool) → s ≡ row.s_id → place_of s store.regions ≡ Some (Part p)
+pub at_home : (s : ℕ) (row : SubscriberRow) (store : Store) (number : Option ℕ) (has : Bool) → s ≡ row.s_id → is_loose s store.regions ≡ false
     → number ≡ option_map (λ (r : SubscriberRow). r.sub_nbr) (subscriber_at store.book s) → has ≡ is_some number → IsHome row store has
-at_home s p row store number has same place is there = record {
-  home = rw same at (home_of_part store.regions s p place);
+at_home s row store number has same home is there = record {
+  home = rw same at home;
   there = rw same at (sym (there ∙ ap is_some is ∙ some_number (subscriber_at store.book s)));
 }
 
@@ -211,3 +214,8 @@ undone_same row before after answer lacks undone outcome =
 -- a number without a pair is free to take
 pub free_to_take : (act : Action) (s n : ℕ) (book : Book) (pairs : List (ℕ × ℕ)) → IsRegister book pairs → given_number act ≡ Some (s, n) → pair_of n pairs ≡ None → takes_number (given_number act) book ≡ false
 free_to_take act s n book pairs register gives unpaired = rw (gives, free_number book pairs n register unpaired) refl
+
+-- a posting is a right step, with its reply
+pub posted_step : (slots : Option (List ℕ)) (part limit : ℕ) (before after : Store) (posted : Result ℕ Refusal) → IsPosting slots part limit before posted after
+    → IsPostStep slots part limit before (posted_reply posted) after
+posted_step slots part limit before after posted is = (posted, is, refl)

@@ -17,8 +17,9 @@ use Rattle.tatp_actions.specs.declared.action.RowReply.{RowReply}
 use Rattle.tatp_actions.specs.declared.action.RowReply.TheVariants as row_reply
 use Rattle.hlr_core.specs.Index.{index_of, IsRegister}
 use Rattle.hlr_core.specs.Inside.Asked.{IsRowStep}
-use Rattle.hlr_core.specs.Step.{is_loose, given_number, takes_number, reply_of}
-use Rattle.hlr_core.specs.Store.{Store}
+use Rattle.hlr_owners.specs.Answered.{is_loose}
+use Rattle.hlr_core.specs.Step.{given_number, takes_number, reply_of}
+use Rattle.hlr_owners.specs.Store.{Store}
 use Rattle.hlr_core.specs.declared.event.Reply.{Reply}
 use Rattle.hlr_core.specs.declared.event.Reply.TheVariants as reply
 use Rattle.hlr_core.proofs.NumbersLemmas.{other_numbers, bearer_found, no_twin-with_row_at}

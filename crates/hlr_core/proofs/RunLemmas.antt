@@ -2,7 +2,7 @@
 use Rattle.std.proofs.lemmas.List.{take_more}
 use Rattle.std.proofs.Common.{ℕ, ◌<◌, ◌+◌, length, get_or, take, ◌≡◌, refl, List, [], ◌∷◌, ◌++◌}
 use Rattle.hlr_core.specs.Run.{IsOrderStep, IsRun}
-use Rattle.hlr_core.specs.Store.{Store}
+use Rattle.hlr_owners.specs.Store.{Store}
 use Rattle.hlr_core.specs.declared.order.Answer.{Answer}
 use Rattle.hlr_core.specs.declared.order.Order.{Order}
 

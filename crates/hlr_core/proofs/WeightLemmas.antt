@@ -11,7 +11,8 @@ use Rattle.tatp_actions.specs.Cell.{cell}
 use Rattle.tatp_actions.specs.declared.cells.TheConstants.{CELLS, FIRST_ZONE}
 use Rattle.part_table.specs.Proposal.{proposal}
 use Rattle.part_table.specs.declared.bounds.TheConstants.{GREATEST_WEIGHT}
-use Rattle.hlr_core.specs.Store.{Store, all_zones, weight, published, unposted, published_weights, counted_weights, parts_in}
+use Rattle.hlr_owners.specs.Store.{Store, published, unpublished, parts_in}
+use Rattle.hlr_core.specs.Weights.{all_zones, weight, published_weights, counted_weights}
 use Rattle.hlr_core.specs.declared.weights.TheConstants.{ZONES}
 use Rattle.tatp_actions.proofs.CountLemmas.{few_in_weight}
 
@@ -52,24 +53,24 @@ pub read_weights : (store : Store) (read : ℕ → ℤ) → ((c : ℕ) → c < C
     → map (λ zone. weight (read (FIRST_ZONE + zone))) all_zones ≡ published_weights store
 read_weights store read is = same_on_zones (λ zone. weight (read (FIRST_ZONE + zone))) (λ zone. weight (published store (FIRST_ZONE + zone))) (λ z below. ap weight (is (FIRST_ZONE + z) (omega arith)))
 
--- with nothing unposted, a weight is the count
+-- with nothing unpublished, a weight is the count
 counted_weight : (count : ℕ) (amount : ℤ) → count ≤ GREATEST_WEIGHT → pos count -ℤ amount ≡ pos 0 → weight amount ≡ count
 counted_weight count amount few none =
     let is : amount ≡ pos count = omega (arith, ints) in
     let fits : min count GREATEST_WEIGHT ≡ count = omega arith in
     rw (is, fits) refl
 
-pub weights_counted : (store : Store) → IsBook store.book → ((c : ℕ) → c < CELLS → unposted store c ≡ pos 0) → published_weights store ≡ counted_weights store
+pub weights_counted : (store : Store) → IsBook store.book → ((c : ℕ) → c < CELLS → unpublished store c ≡ pos 0) → published_weights store ≡ counted_weights store
 weights_counted store rules none =
     same_on_zones (λ zone. weight (published store (FIRST_ZONE + zone))) (λ zone. cell store.width (FIRST_ZONE + zone) store.book)
     (λ z below. counted_weight (cell store.width (FIRST_ZONE + z) store.book) (published store (FIRST_ZONE + z)) (few_in_weight store.width (FIRST_ZONE + z) store.book rules) (none (FIRST_ZONE + z) (omega arith)))
 
--- a proposal by the cells that were read is one by the published weights, and with nothing unposted by the counts
+-- a proposal by the cells that were read is one by the published weights, and with nothing unpublished by the counts
 pub proposed : (store : Store) (read : ℕ → ℤ) (weights bounds : List ℕ) (parts width : ℕ) → ((c : ℕ) → c < CELLS → read c ≡ published store c)
     → weights ≡ map (λ zone. weight (read (FIRST_ZONE + zone))) all_zones → parts ≡ parts_in store → width ≡ store.width → bounds ≡ proposal weights parts width
     → bounds ≡ proposal (published_weights store) (parts_in store) store.width
 proposed store read weights bounds parts width reads are there wide is = rw (← there, ← wide, ← read_weights store read reads, ← are) is
 
 pub proposed_counted : (store : Store) (bounds : List ℕ) → IsBook store.book → bounds ≡ proposal (published_weights store) (parts_in store) store.width
-    → ((c : ℕ) → c < CELLS → unposted store c ≡ pos 0) → bounds ≡ proposal (counted_weights store) (parts_in store) store.width
+    → ((c : ℕ) → c < CELLS → unpublished store c ≡ pos 0) → bounds ≡ proposal (counted_weights store) (parts_in store) store.width
 proposed_counted store bounds rules is none = is ∙ ap (λ weights. proposal weights (parts_in store) store.width) (weights_counted store rules none)

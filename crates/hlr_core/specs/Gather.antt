@@ -1,37 +1,13 @@
--- Holdings and loose pieces that are brought home: whether they make a register, and which.
-use Rattle.std.specs.Prelude.{◌≡◌, ℕ, ◌==◌, ◌||◌, ◌⊎◌, nat_lt, not, List, [], ◌∷◌, ◌++◌, map, length, Option, Some, None, if◌then◌else◌}
-use Rattle.std.specs.List.{AllByRecursion, list_all}
-use Rattle.atomic_table.specs.Seated.{TableId}
-use Rattle.tatp_rows.specs.Ordered.{in_order}
+-- The numbers of what is brought home, and a right refusal of it.
+use Rattle.std.specs.Prelude.{◌≡◌, ◌⊎◌, List, [], ◌∷◌, ◌++◌, None, Some}
 use Rattle.tatp_rows.specs.Rows.{SubscriberRow}
 use Rattle.tatp_rows.specs.declared.refusal.Refusal.{Refusal}
-use Rattle.tatp_rows.specs.declared.refusal.Refusal.TheVariants.{NoPart, ManyPieces, Field, NotAdjacent, NumberTaken, Memory}
-use Rattle.tatp_actions.specs.Joined.{book_of}
-use Rattle.part_table.specs.Numbered.{numbered, do_follow}
-use Rattle.part_table.specs.declared.region.Place.TheVariants.{Part, Piece}
-use Rattle.part_table.specs.declared.region.Region.{Region}
-use Rattle.part_table.specs.declared.region.TheConstants.{MOST_PARTS, MOST_PIECES}
-use Rattle.view_board.specs.Desks.{Station}
+use Rattle.tatp_rows.specs.declared.refusal.Refusal.TheVariants.{NumberTaken, Memory}
 use Rattle.holding.specs.Held.{HoldingState, PieceState}
-use Rattle.hlr_core.specs.Desks.{desk_of, ShareSlots, words_of, slots_in}
-use Rattle.hlr_core.specs.Held.{Owner, of_holding, of_piece}
+use Rattle.hlr_owners.specs.Gather.{owners_of}
+use Rattle.hlr_owners.specs.Scattered.{holdings_in, pieces_in, misfit_of}
+use Rattle.hlr_owners.specs.declared.scattered.Scattered.{Scattered}
 use Rattle.hlr_core.specs.Numbers.{HasNoTwin}
-use Rattle.hlr_core.specs.Store.{Store}
-
--- all owners as they are handed in
-abbrev pub owners_of : List HoldingState → List PieceState → List Owner
-owners_of holdings pieces = map of_holding holdings ++ map of_piece pieces
-
--- the range of a holding, and of a piece: of the place only its kind counts
-abbrev pub holding_range : HoldingState → Region
-holding_range holding = record { lo = holding.part.lo; hi = holding.part.hi; place = Part 0 }
-
-abbrev pub piece_range : PieceState → Region
-piece_range piece = record { lo = piece.part.lo; hi = piece.part.hi; place = Piece 0 }
-
--- their ranges, by where they begin
-abbrev pub ranges_of : List HoldingState → List PieceState → List Region
-ranges_of holdings pieces = in_order (λ range. range.lo) (map holding_range holdings ++ map piece_range pieces)
 
 -- the rows of all in a list, one after another
 abbrev pub rows_of_each : {X : Type 0} → (X → List SubscriberRow) → List X → List SubscriberRow
@@ -42,33 +18,11 @@ rows_of_each rows_in (x ∷ xs) = rows_in x ++ rows_of_each rows_in xs
 abbrev pub rows_of_all : List HoldingState → List PieceState → List SubscriberRow
 rows_of_all holdings pieces = rows_of_each (λ owner. owner.part.book.subscribers) (owners_of holdings pieces)
 
--- all desks are the board's, and share its slots
-pub record MayGather (board : TableId) (spare : Station) (holdings : List HoldingState) : Type 0 where
-  pub same : AllByRecursion (λ desk. desk.board ≡ board) (spare ∷ map desk_of holdings)
-  pub shares : ShareSlots spare (map desk_of holdings)
-
--- why they make no register, memory and numbers aside
-abbrev pub misfit : ℕ → List HoldingState → List PieceState → Option Refusal
-misfit width holdings pieces =
-    if (length holdings == 0) || nat_lt MOST_PARTS (length holdings) then Some NoPart
-    else if nat_lt MOST_PIECES (length pieces) then Some ManyPieces
-    else if not (list_all (λ owner. owner.part.width == width) (owners_of holdings pieces)) then Some Field
-    else if not (do_follow 1 (ranges_of holdings pieces)) then Some NotAdjacent
-    else None
+-- two of the rows have one number
+abbrev pub HasTwins : Scattered → Type 0
+HasTwins apart = ¬ (HasNoTwin (rows_of_all (holdings_in apart) (pieces_in apart)))
 
 -- a right refusal: a number that two rows have comes after all else but memory
-abbrev pub IsRefused : ℕ → List HoldingState → List PieceState → Refusal → Type 0
-IsRefused width holdings pieces why =
-    (misfit width holdings pieces ≡ Some why)
-    ⊎ ((misfit width holdings pieces ≡ None) × (((why ≡ NumberTaken) × ¬ (HasNoTwin (rows_of_all holdings pieces))) ⊎ (why ≡ Memory)))
-
--- the store that they make: the rows in the order of the ranges, the parts and pieces numbered in that order
-abbrev pub gathered : ℕ → Station → List HoldingState → List PieceState → Store
-gathered width spare holdings pieces = record {
-  book = book_of (map (λ owner. owner.part) (in_order (λ owner. owner.part.lo) (owners_of holdings pieces)));
-  regions = numbered 0 1 (ranges_of holdings pieces);
-  words = words_of (spare ∷ map desk_of holdings);
-  sight = spare.view.seen;
-  slots = map (λ holding. slots_in (desk_of holding)) (in_order (λ holding. holding.part.lo) holdings);
-  width = width;
-}
+abbrev pub IsRefusedWhole : Scattered → Refusal → Type 0
+IsRefusedWhole apart why =
+    (misfit_of apart ≡ Some why) ⊎ ((misfit_of apart ≡ None) × (((why ≡ NumberTaken) × HasTwins apart) ⊎ (why ≡ Memory)))

@@ -6,7 +6,7 @@ use Rattle.tatp_rows.specs.declared.refusal.Refusal.TheVariants as refusal
 use Rattle.tatp_actions.specs.Book.{Book}
 use Rattle.part_table.specs.Regions.{pieces_of}
 use Rattle.hlr_core.specs.Run.{IsRun}
-use Rattle.hlr_core.specs.Store.{Store}
+use Rattle.hlr_owners.specs.Store.{Store}
 use Rattle.hlr_core.specs.declared.event.Event.{Event}
 use Rattle.hlr_core.specs.declared.event.Event.TheVariants.{Post, Give, Take}
 use Rattle.hlr_core.specs.declared.event.Reply.{Reply}

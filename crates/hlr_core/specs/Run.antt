@@ -1,8 +1,8 @@
 -- Right runs: which answer an order may have, and a list of orders carried out one after another.
 use Rattle.std.specs.Prelude.{◌≡◌, List, [], ◌∷◌}
-use Rattle.hlr_core.specs.Recut.{IsRecut}
+use Rattle.hlr_owners.specs.Recut.{IsRecut}
 use Rattle.hlr_core.specs.Step.{IsStep}
-use Rattle.hlr_core.specs.Store.{Store}
+use Rattle.hlr_owners.specs.Store.{Store}
 use Rattle.hlr_core.specs.declared.order.Answer.{Answer}
 use Rattle.hlr_core.specs.declared.order.Answer.TheVariants as answer
 use Rattle.hlr_core.specs.declared.order.Order.{Order}

@@ -5,22 +5,18 @@ use Rattle.tatp_rows.specs.declared.ranges.TheConstants.{LAST_SUBSCRIBER}
 use Rattle.tatp_rows.specs.declared.refusal.Refusal.{Refusal}
 use Rattle.tatp_rows.specs.declared.refusal.Refusal.TheVariants as refusal
 use Rattle.part_table.specs.Give.{give_answer, after_give}
-use Rattle.part_table.specs.Regions.{place_of}
 use Rattle.part_table.specs.Take.{take_answer, after_take}
-use Rattle.part_table.specs.declared.region.Place.{Place}
-use Rattle.part_table.specs.declared.region.Place.TheVariants as place
-use Rattle.part_table.specs.declared.region.Region.{Region}
 use Rattle.part_table.specs.declared.region.Side.{Side}
 use Rattle.tatp_actions.specs.Action.{effect, adds_row, is_in_range, s_id_of}
 use Rattle.tatp_actions.specs.Book.{Book, subscriber_at}
-use Rattle.tatp_actions.specs.Cell.{cell}
 use Rattle.tatp_actions.specs.declared.action.Action.{Action}
 use Rattle.tatp_actions.specs.declared.action.Action.TheVariants as action
 use Rattle.tatp_actions.specs.declared.action.RowReply.{RowReply}
 use Rattle.tatp_actions.specs.declared.action.RowReply.TheVariants as row_reply
+use Rattle.hlr_owners.specs.Answered.{is_loose, MayAnswer}
+use Rattle.hlr_owners.specs.Posting.{IsPosting}
+use Rattle.hlr_owners.specs.Store.{Store, slots_of}
 use Rattle.hlr_core.specs.Numbers.{bearer_of, bearer_id}
-use Rattle.hlr_core.specs.Post.{post}
-use Rattle.hlr_core.specs.Store.{Store, rows_of, slots_of}
 use Rattle.hlr_core.specs.declared.event.Event.{Event}
 use Rattle.hlr_core.specs.declared.event.Event.TheVariants.{SubscriberData, NewDestination, AccessData, UpdateSubscriber, UpdateLocation, InsertForwarding, DeleteForwarding, AddSubscriber, AddAccess, AddFacility, SetActive, SetNumber, Post, Give, Take}
 use Rattle.hlr_core.specs.declared.event.Reply.{Reply}
@@ -79,16 +75,6 @@ reply_of answer = reply.Rows answer
 abbrev pub edited_reply : Result (Unit {0}) Refusal → Reply
 edited_reply (Ok done) = reply.Rows row_reply.Done
 edited_reply (Err why) = reply.Refused why
-
--- the place is that of a loose piece
-abbrev pub is_loose_place : Option Place → Bool
-is_loose_place (Some (place.Piece n)) = true
-is_loose_place (Some (place.Part p)) = false
-is_loose_place None = false
-
--- an s_id lies in a loose piece
-abbrev pub is_loose : ℕ → List Region → Bool
-is_loose s_id regions = is_loose_place (place_of s_id regions)
 
 -- a right step of an action whose rows lie in a loose piece or not: Moving, else a right outcome
 abbrev pub IsOwnedStep : Bool → Action → Store → Reply → Store → Type 0
@@ -150,10 +136,8 @@ posted_reply (Err why) = reply.Refused why
 
 -- a right step of a posting to a part with these slots, if there is such a part
 abbrev pub IsPostStep : Option (List ℕ) → ℕ → ℕ → Store → Reply → Store → Type 0
-IsPostStep None part limit before answer after = (answer ≡ reply.Refused refusal.NoPart) × (after ≡ before)
-IsPostStep (Some slots) part limit before answer after =
-    let done = post (λ c. cell before.width c (rows_of before part)) slots limit before.words in
-    (answer ≡ posted_reply done.0) × (after ≡ record before { words = done.1 })
+IsPostStep slots part limit before answer after =
+    (done : Result ℕ Refusal) × IsPosting slots part limit before done after × (answer ≡ posted_reply done)
 
 -- the reply of a give
 abbrev pub given_reply : Result (ℕ × ℕ × ℕ) Refusal → Reply
@@ -164,11 +148,6 @@ given_reply (Err why) = reply.Refused why
 abbrev pub taken_reply : ℕ → ℕ → Result Side Refusal → Reply
 taken_reply n q (Ok side) = reply.Taken n q
 taken_reply n q (Err why) = reply.Refused why
-
--- what a give or a take may answer: what the regions say, or Memory where they refuse nothing
-abbrev pub MayAnswer : {A : Type 0} → Result A Refusal → Result A Refusal → Type 0
-MayAnswer (Ok done) answer = (answer ≡ Ok done) ⊎ (answer ≡ Err refusal.Memory)
-MayAnswer (Err why) answer = answer ≡ Err why
 
 -- a right step of a give: it moves the regions alone
 abbrev pub IsGiveStep : ℕ → Side → ℕ → Store → Reply → Store → Type 0

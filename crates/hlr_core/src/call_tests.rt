@@ -1,7 +1,7 @@
 //! The calls that lend rows and change them, beside the events that ask for the same.
 use crate::plain::Plain;
 use crate::plain_tests::Draws;
-use crate::tests::opened;
+use crate::tests::{ask, opened, recounted, unposted};
 use crate::{Event, Register, Reply};
 use arrayvec::ArrayVec;
 use std::alloc::Global;
@@ -63,6 +63,9 @@ fn is_done(done: Result<(), Refusal>, reply: &Reply) -> bool {
 /// Whether the call that changes what an event asks for answers what a reply says. None for an event that changes no
 /// row.
 fn changes_so(register: &mut Register, event: &Event, reply: &Reply) -> Option<bool> {
+    if !register.all_at_home() {
+        return Some(false);
+    }
     let done = match *event {
         Event::UpdateSubscriber {
             s_id,
@@ -102,6 +105,9 @@ fn changes_so(register: &mut Register, event: &Event, reply: &Reply) -> Option<b
 
 /// Whether the call for an event answers what a reply says. An event that is not on rows has none, and is applied.
 fn answers_so(register: &mut Register, event: &Event, reply: &Reply) -> bool {
+    if !register.all_at_home() {
+        return false;
+    }
     match *event {
         Event::SubscriberData { s_id } => is_row(register.lend_subscriber(s_id), reply),
         Event::AccessData { s_id, ai_type } => {
@@ -118,7 +124,7 @@ fn answers_so(register: &mut Register, event: &Event, reply: &Reply) -> bool {
         ),
         _ => match changes_so(register, event, reply) {
             Some(is_so) => is_so,
-            None => register.apply(*event) == *reply,
+            None => ask(register, *event) == *reply,
         },
     }
 }
@@ -157,7 +163,7 @@ struct Pair {
 impl Pair {
     /// Whether both answer an event alike.
     fn answers(&mut self, event: &Event) -> bool {
-        let reply = self.applied.apply(*event);
+        let reply = ask(&mut self.applied, *event);
         answers_so(&mut self.called, event, &reply)
     }
 
@@ -190,8 +196,8 @@ impl Pair {
 
     /// Whether both read the same of all subscribers, count the same, and have the same pending.
     fn reads_all(&mut self, stride: u64) -> bool {
-        let mut is_same = self.applied.recount() == self.called.recount()
-            && self.applied.unposted() == self.called.unposted();
+        let mut is_same = recounted(&self.applied) == recounted(&self.called)
+            && unposted(&self.applied) == unposted(&self.called);
         for place in 0..40u64 {
             is_same = is_same && self.reads(place.wrapping_mul(stride).wrapping_add(1));
         }
@@ -210,7 +216,8 @@ impl Pair {
         for step in 0..steps {
             let event = draws.event(plain)?;
             let want = plain.apply(event);
-            if self.applied.apply(event) != want || !answers_so(&mut self.called, &event, &want) {
+            let reply = ask(&mut self.applied, event);
+            if reply != want || !answers_so(&mut self.called, &event, &want) {
                 return Ok(Some(step));
             }
             let s_id = subject(&self.called, &event);

@@ -20,7 +20,7 @@ use tatp_rows::{
 };
 
 /// A byte. What is above 255 is out of each range.
-fn byte(value: u64) -> Result<u8, Refusal>
+pub(crate) fn byte(value: u64) -> Result<u8, Refusal>
     ensures { (IfOk result (λ small. small ≡ value)) × OnErr result ((256 ≤ value) × (result ≡ Err Refusal.Field)) }
 {
     u8::try_from(value).map_err(|_| Refusal::Field)

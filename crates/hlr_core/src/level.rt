@@ -1,6 +1,6 @@
 //! Whether words are level: in each slot and cell as much was added as taken away.
 ghost use Rattle.std.specs.Prelude.{◌<◌, ◌↔◌, IsTrue};
-ghost use Rattle.hlr_core.specs.Desks.{AreLevel, IsLevel};
+ghost use Rattle.hlr_owners.specs.Desks.{AreLevel, IsLevel};
 ghost use Rattle.view_board.specs.declared.words.TheConstants.{SLOTS};
 
 use view_board::{CELLS, SLOT_WORDS, SLOTS, WORDS};

@@ -12,40 +12,38 @@
 mod call_tests;
 mod checked;
 mod event;
-mod gather;
 #[cfg(test)]
 mod gather_tests;
-mod holdings;
-mod lending;
+mod lent;
+#[cfg(test)]
+mod lent_tests;
 mod level;
 mod numbers;
 mod order;
-mod owner;
 #[cfg(test)]
 mod plain;
 #[cfg(test)]
 mod plain_regions;
 #[cfg(test)]
 mod plain_tests;
-mod recut;
 #[cfg(test)]
 mod region_tests;
 mod register;
-mod room;
-mod sums;
+mod route;
 #[cfg(test)]
 mod tests;
 mod transactions;
 mod weights;
 
 pub use event::{Event, Reply};
-pub use gather::{Frame, Scattered};
 pub use order::{Answer, Order};
 pub use register::Register;
+pub use route::Route;
 
 // What the register's calls take and give, so that a caller needs no other crate's name.
 pub use arrayvec::ArrayVec;
-pub use holding::{Holding, Piece};
+pub use hlr_owners::{Frame, Scattered};
+pub use holding::{Holding, Job, Piece};
 pub use number_index::{NumberIndex, Page};
 pub use part_table::{Bounds, Place, Region, Regions, Side};
 pub use tatp_actions::{Action, CELLS, Cells, RowReply};

@@ -1,15 +1,47 @@
-//! The numbers of all rows, put into an index one after another.
-ghost use Rattle.std.specs.Prelude.{◌≡◌, ◌⊎◌, OnOk, IfErr};
-ghost use Rattle.hlr_core.specs.Inside.Noted.{AreNoted, HasTwin};
-ghost use Rattle.hlr_core.specs.Gather.{rows_of_each};
+//! The index of the numbers of all rows that are brought home.
+ghost use Rattle.std.specs.Prelude.{◌≡◌, ◌⊎◌, List, OnOk, IfOk, IfErr, option_copied};
+ghost use Rattle.tatp_rows.specs.Keys.{subscriber_key};
+ghost use Rattle.tatp_rows.specs.Ordered.{IsOrderedBy};
+ghost use Rattle.tatp_rows.specs.Rows.{SubscriberRow};
+ghost use Rattle.tatp_actions.specs.Book.{first_subscriber};
+ghost use Rattle.hlr_core.specs.Inside.Noted.{AreNoted, HasTwin, IsIndexed};
+ghost use Rattle.hlr_core.specs.Gather.{HasTwins, rows_of_each};
 
-use crate::owner::Owner;
+use hlr_owners::Scattered;
+use holding::{Holding, Piece};
 use number_index::NumberIndex;
-use tatp_rows::Refusal;
+use std::alloc::Global;
+use tatp_rows::{Refusal, Subscriber};
+
+/// What has Subscriber rows: a part's holding, or a loose piece.
+trait HasSubscribers {
+    ghost rows_of: { Self → List SubscriberRow };
+
+    /// The first Subscriber row from a subscriber on.
+    fn first_row(&self, s_id: u64) -> Option<&Subscriber>
+        ensures value { option_copied result ≡ first_subscriber s_id (rows_of self.now) }
+        ensures ordered { IsOrderedBy subscriber_key (rows_of self.now) };
+}
+
+impl HasSubscribers for Holding {
+    ghost rows_of = { λ holding. holding.part.book.subscribers };
+
+    fn first_row(&self, s_id: u64) -> Option<&Subscriber> {
+        self.first_sub_from(s_id)
+    }
+}
+
+impl HasSubscribers for Piece {
+    ghost rows_of = { λ piece. piece.part.book.subscribers };
+
+    fn first_row(&self, s_id: u64) -> Option<&Subscriber> {
+        self.first_sub_from(s_id)
+    }
+}
 
 /// Puts the numbers of an owner's rows into the index. `NumberTaken` where one is there already, `Memory` where the
 /// index can't grow.
-fn add_numbers_of<O: Owner>(index: &mut NumberIndex, owner: &O) -> Result<(), Refusal>
+fn add_numbers_of<O: HasSubscribers>(index: &mut NumberIndex, owner: &O) -> Result<(), Refusal>
     ensures ok { OnOk result (AreNoted (O.rows_of owner.now) index.old index.new) }
     ensures err { IfErr result (λ why. ((why ≡ Refusal.NumberTaken) × HasTwin (O.rows_of owner.now) index.old) ⊎ (why ≡ Refusal.Memory)) }
 {
@@ -22,7 +54,7 @@ fn add_numbers_of<O: Owner>(index: &mut NumberIndex, owner: &O) -> Result<(), Re
 }
 
 /// The same of each owner in a list.
-pub(crate) fn add_numbers_of_all<O: Owner>(
+fn add_numbers_of_all<O: HasSubscribers>(
     index: &mut NumberIndex,
     owners: &[Box<O>],
 ) -> Result<(), Refusal>
@@ -33,4 +65,17 @@ pub(crate) fn add_numbers_of_all<O: Owner>(
         add_numbers_of::<O>(index, owner)?;
     }
     Ok(())
+}
+
+/// The index of the numbers of all rows: `NumberTaken` where a number stands twice, `Memory`.
+pub(crate) fn index_of(alloc: Global, scattered: &Scattered) -> Result<NumberIndex, Refusal>
+    ensures ok { IfOk result (IsIndexed scattered.now) }
+    ensures err { IfErr result (λ why. ((why ≡ Refusal.NumberTaken) × HasTwins scattered.now) ⊎ (why ≡ Refusal.Memory)) }
+{
+    let mut index = NumberIndex::new(alloc)?;
+    add_numbers_of_all(&mut index, &scattered.holdings)?;
+    add_numbers_of_all(&mut index, &scattered.pieces)?;
+    // For the prover: an index tells by its first pair that its pairs are in order.
+    let _first = index.first_from(0);
+    Ok(index)
 }

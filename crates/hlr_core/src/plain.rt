@@ -3,7 +3,7 @@
 use crate::plain_regions::PlainRegions;
 use crate::tests::{
     DONE, EXISTS, FIELD, MEMORY, MOVING, NO_ACCESS, NO_DESTINATION, NO_FACILITY, NO_FORWARDING,
-    NO_NUMBER, NO_PART, NO_SUBSCRIBER, TAKEN,
+    NO_NUMBER, NO_PART, NO_SUBSCRIBER, TAKEN, published, recounted, unposted,
 };
 use crate::{Event, Register, Reply};
 use arrayvec::ArrayVec;
@@ -75,7 +75,10 @@ fn count_one(cells: &mut [i64; CELLS as usize], cell: u32) {
 }
 
 /// Whether these are the same counts.
-fn are_counts(cells: &Cells, counted: &[i64; CELLS as usize]) -> bool {
+fn are_counts(cells: Option<Cells>, counted: &[i64; CELLS as usize]) -> bool {
+    let Some(cells) = cells else {
+        return false;
+    };
     for cell in 0..CELLS {
         let count = i64::try_from(cells.get(cell)).ok();
         if counted.get(usize::from(cell)).copied() != count {
@@ -553,14 +556,14 @@ impl Plain {
     /// regions.
     pub fn agrees(&self, register: &Register) -> bool {
         let counted = self.counted(1, 16_777_217);
-        let published = self.published();
+        let cells = self.published();
         let mut rest = counted;
-        for (count, cell) in rest.iter_mut().zip(published.iter()) {
+        for (count, cell) in rest.iter_mut().zip(cells.iter()) {
             *count = count.wrapping_sub(*cell);
         }
-        register.published() == published
-            && register.unposted() == rest
-            && are_counts(&register.recount(), &counted)
+        published(register) == cells
+            && unposted(register) == rest
+            && are_counts(recounted(register), &counted)
             && self.has_pairs_of(register.index())
             && self.regions.list() == register.regions().list()
     }

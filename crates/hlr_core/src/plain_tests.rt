@@ -1,6 +1,8 @@
 //! A register against the plain one, on the same drawn events.
 use crate::plain::Plain;
-use crate::tests::{MEMORY, MOVING, access_row, facility_row, number, opened, replies_to, row};
+use crate::tests::{
+    MOVING, access_row, facility_row, number, opened, recounted, recut, replies_to, row,
+};
 use crate::{Event, Register, Reply};
 use arrayvec::ArrayVec;
 use part_table::{Place, Side};
@@ -484,13 +486,13 @@ impl Trio {
             Err(why) => why.name(),
         };
         tally.note("recut", kind)
-            && self.register.recut_to(bounds) == want
+            && recut(&mut self.register, bounds) == want
             && self.plain.agrees(&self.register)
     }
 
     /// Whether the register agrees with the plain one, and its counts with those of the single part.
     fn agrees(&self) -> bool {
-        self.plain.agrees(&self.register) && self.register.recount() == self.undivided.recount()
+        self.plain.agrees(&self.register) && recounted(&self.register) == recounted(&self.undivided)
     }
 
     /// Applies drawn events, and a re-cut now and then; tells the first step at which they differ, if there is one.

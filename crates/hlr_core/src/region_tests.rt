@@ -1,8 +1,8 @@
 //! Registers of several parts: worked examples of gives, takes, proposals and re-cuts.
 use crate::tests::{
     DONE, FIELD, MANY_PIECES, MOVING, NO_FACILITY, NO_PART, NO_PIECE, NO_SUBSCRIBER, NOT_ADJACENT,
-    OUT_OF_RANGE, difference, facility_row, moved, number, opened, posting, read, replies, row,
-    stands,
+    OUT_OF_RANGE, ask, difference, facility_row, moved, number, opened, posting, published, ran,
+    read, recounted, recut, replies, row, stands, unposted,
 };
 use crate::{Answer, Event, Order, Register, Reply};
 use arrayvec::ArrayVec;
@@ -27,13 +27,18 @@ pub fn has_regions(register: &Register, regions: &[Region]) -> bool {
 
 /// Whether these are the bounds that a register proposes.
 fn proposes(register: &Register, bounds: &[u64]) -> bool {
+    if !register.all_at_home() {
+        return false;
+    }
     let proposed = register.propose();
     proposed.list() == bounds
 }
 
 /// Whether a walk over all rows counts so many in these cells, and none in the others.
 pub fn scans(register: &Register, counts: &[(u8, u64)]) -> bool {
-    let counted = register.recount();
+    let Some(counted) = recounted(register) else {
+        return false;
+    };
     let mut cells = 0u64;
     for cell in 0..CELLS {
         cells = cells.wrapping_add(u64::from(counted.get(cell) != 0));
@@ -146,10 +151,10 @@ fn stretch_is_moved(register: &mut Register, seven: Number) -> Moved {
     let differs = difference(register, &events, &want);
     let published = [(0, 1), (1, 1), (2, 1), (18, 1), (20, 5)];
     let loose = stands(register, &published, &[(0, -1), (1, -1), (20, 2)]);
-    let posted = register.apply(posting(0, 51));
+    let posted = ask(register, posting(0, 51));
     let counts = [(2, 1), (18, 1), (20, 7)];
     let counted = stands(register, &[], &counts) && scans(register, &[(2, 1), (18, 1), (20, 7)]);
-    let taken = register.apply(taking(1, 1));
+    let taken = ask(register, taking(1, 1));
     let there = [region(Part(0), 1, 5), region(Part(1), 5, END)];
     let is_right = loose && counted && has_regions(register, &there);
     (differs, [posted, taken], is_right)
@@ -165,12 +170,12 @@ fn stretch_is_handed_back(
     let first = [read(7), posting(1, 51)];
     let taken = difference(register, &first, &[row, Reply::Posted(3)]);
     let proposed = stands(register, &counts, &[]) && proposes(register, &[9]);
-    let moves = register.recut_to(&[9]);
+    let moves = recut(register, &[9]);
     let moved = stands(register, &counts, &[]);
-    let giver = register.apply(posting(0, 51));
+    let giver = ask(register, posting(0, 51));
     let twice = [(2, 2), (18, 2), (20, 14)];
     let doubled = stands(register, &twice, &[(2, -1), (18, -1), (20, -7)]);
-    let taker = register.apply(posting(1, 51));
+    let taker = ask(register, posting(1, 51));
     let is_right = proposed && moved && doubled && stands(register, &counts, &[]);
     ((taken, [giver, taker], is_right), moves)
 }
@@ -289,15 +294,15 @@ fn recuts_three(register: &mut Register) -> bool {
         hi: 8,
     };
     let field = Err(Refusal::Field);
-    register.recut_to(&[90, 100]) == Ok(2)
-        && register.recut_to(&[5, 6]) == Ok(2)
-        && register.recut_to(&[5, 6]) == Ok(0)
-        && register.recut_to(&[6, 6]) == field
-        && register.recut_to(&[6]) == field
-        && register.recut_to(&[1, 9]) == field
-        && register.apply(low) == given
-        && register.recut_to(&[5, 6]) == Err(Refusal::Moving)
-        && register.recut_to(&[6, 6]) == field
+    recut(register, &[90, 100]) == Ok(2)
+        && recut(register, &[5, 6]) == Ok(2)
+        && recut(register, &[5, 6]) == Ok(0)
+        && recut(register, &[6, 6]) == field
+        && recut(register, &[6]) == field
+        && recut(register, &[1, 9]) == field
+        && ask(register, low) == given
+        && recut(register, &[5, 6]) == Err(Refusal::Moving)
+        && recut(register, &[6, 6]) == field
 }
 
 #[test]
@@ -319,9 +324,9 @@ fn recuts_four(register: &mut Register) -> bool {
         region(Part(3), 90, END),
     ];
     proposes(register, &[5, 9, 13])
-        && register.recut_to(&[20, 70, 90]) == Ok(3)
+        && recut(register, &[20, 70, 90]) == Ok(3)
         && has_regions(register, &there)
-        && register.recut_to(&[33, 65, 97]) == Ok(3)
+        && recut(register, &[33, 65, 97]) == Ok(3)
 }
 
 /// Whether nine subscribers of the last zone, once posted, draw all bounds to it.
@@ -329,9 +334,9 @@ fn last_zone_draws(register: &mut Register) -> Result<bool, Refusal> {
     let mut are_added = true;
     for s_id in 125u64..134 {
         let added = Event::AddSubscriber(row(s_id, s_id, 1)?);
-        are_added = register.apply(added) == DONE && are_added;
+        are_added = ask(register, added) == DONE && are_added;
     }
-    let posted = register.apply(posting(3, 51)) == Reply::Posted(2);
+    let posted = ask(register, posting(3, 51)) == Reply::Posted(2);
     Ok(are_added && posted && proposes(register, &[117, 121, 125]))
 }
 
@@ -351,8 +356,8 @@ fn ends_with_sixteenth(register: &mut Register) -> bool {
     let regions = register.regions().list();
     regions.len() == 16
         && regions.last() == Some(&last)
-        && register.apply(posting(15, 51)) == Reply::Posted(0)
-        && register.apply(posting(16, 51)) == NO_PART
+        && ask(register, posting(15, 51)) == Reply::Posted(0)
+        && ask(register, posting(16, 51)) == NO_PART
 }
 
 /// Whether a register of one part proposes no bound.
@@ -408,7 +413,7 @@ pub fn are_seen(sight: &Sight, words: &[(usize, u64)]) -> bool {
 }
 
 /// Whether a register sees these words.
-fn sees(register: &mut Register, words: &[(usize, u64)]) -> bool {
+pub fn sees(register: &mut Register, words: &[(usize, u64)]) -> bool {
     are_seen(&register.look(), words)
 }
 
@@ -435,9 +440,9 @@ fn posts(register: &mut Register, posting_is: &Posting) -> Result<bool, Refusal>
     let word = posting_is.word;
     let added = Event::AddSubscriber(row(7, 7, 268_435_456)?);
     let is_added = replies(register, added, DONE) && sees(register, &[(20, word), (71, word)]);
-    let first = register.apply(posting(0, 51)) == posting_is.reply;
+    let first = ask(register, posting(0, 51)) == posting_is.reply;
     let is_first = first && is_posted(register, posting_is);
-    let again = register.apply(posting(0, 51)) == posting_is.again;
+    let again = ask(register, posting(0, 51)) == posting_is.again;
     Ok(is_added && is_first && again && is_posted(register, posting_is))
 }
 
@@ -525,12 +530,12 @@ fn goes_on(register: &mut Register) -> bool {
         return false;
     };
     if let Some(event) = rest {
-        let taken = register.apply(event);
+        let taken = ask(register, event);
         if !matches!(taken, Reply::Taken { .. }) {
             return false;
         }
     }
-    register.recut_to(&[90, 100]).is_ok()
+    recut(register, &[90, 100]).is_ok()
 }
 
 /// What a re-cut leaves of a register.
@@ -545,8 +550,8 @@ type Left = (
 fn left(register: &Register, sub_nbr: Number) -> Left {
     let index = register.index();
     (
-        register.published(),
-        register.unposted(),
+        published(register),
+        unposted(register),
         index.len(),
         index.find(sub_nbr),
     )
@@ -559,11 +564,11 @@ fn recut_moves_regions(register: &mut Register) -> Result<bool, Refusal> {
         let added = Event::AddSubscriber(row(s_id, s_id, 1)?);
         are_added = replies(register, added, DONE) && are_added;
     }
-    are_added = register.apply(posting(1, 2)) == Reply::Posted(2) && are_added;
+    are_added = ask(register, posting(1, 2)) == Reply::Posted(2) && are_added;
     let sixty = number(60)?;
     let before = left(register, sixty);
-    let first = register.recut_to(&[90, 100]);
-    let recut = first == Ok(2) || (first == Err(Refusal::Memory) && goes_on(register));
+    let first = recut(register, &[90, 100]);
+    let is_recut = first == Ok(2) || (first == Err(Refusal::Memory) && goes_on(register));
     let there = [
         region(Part(0), 1, 90),
         region(Part(1), 90, 100),
@@ -583,7 +588,7 @@ fn recut_moves_regions(register: &mut Register) -> Result<bool, Refusal> {
     let stays = left(register, sixty) == before && scans(register, &counts);
     let row = Reply::Rows(RowReply::Row(row(60, 60, 1)?));
     let moved = has_regions(register, &there) && replies(register, read(60), row);
-    Ok(are_added && recut && stays && moved)
+    Ok(are_added && is_recut && stays && moved)
 }
 
 // Also run with each allocation refused in turn (`refuse_memory.sh`).
@@ -624,7 +629,7 @@ fn expect_answers(rt: &impl Abort, register: &mut Register) -> Result<(), Refusa
         Answer::Reply(DONE),
         Answer::Reply(Reply::Rows(RowReply::Row(changed))),
     ];
-    let answers = register.apply_all(&orders)?;
+    let answers = ran(register, &orders)?;
     assert_eq!(rt; answers.as_slice(), want.as_slice());
     Ok(())
 }

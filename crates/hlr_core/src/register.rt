@@ -1,27 +1,34 @@
 //! The register: all rows under one roof, no number twice, and every cell as published with what is not posted yet.
-ghost use Rattle.std.specs.Prelude.{◌≡◌, ℕ, [], vec_len, vec_capacity, ◌<◌, ◌↔◌, ◌⊎◌, None, IfOk, IfErr, OnErr, MatchResult, slice_index, slice_index_or, ◌+◌, ℤ, pos, ◌+ℤ◌};
+ghost use Rattle.std.specs.Prelude.{◌≡◌, ℕ, [], vec_len, vec_capacity, ◌<◌, ◌↔◌, ◌⊎◌, None, IsTrue, IfOk, IfErr, OnErr, MatchResult, slice_index, slice_index_or, ◌+◌, ℤ, pos, ◌+ℤ◌};
 ghost use Rattle.tatp_actions.specs.Cell.{cell};
 ghost use Rattle.hlr_core.specs.Inside.Asked.{ChangesRows};
 ghost use Rattle.hlr_core.specs.Index.{index_of};
 ghost use Rattle.hlr_core.specs.Kept.{IsSameAtHome};
-ghost use Rattle.hlr_core.specs.Recut.{IsRecut};
+ghost use Rattle.hlr_owners.specs.Apart.{pieces_seated};
+ghost use Rattle.hlr_owners.specs.Boxed.{unboxed};
+ghost use Rattle.hlr_owners.specs.Recut.{IsHomeToCut, IsRecut};
 ghost use Rattle.hlr_core.specs.Run.{IsOrderStep, IsRun};
-ghost use Rattle.hlr_core.specs.Scattered.{pending_together, MayBeGathered, misfit_of, IsRefusedWhole, store_from, store_by, AreOfRegions};
-ghost use Rattle.hlr_core.specs.Step.{IsStep, edited_reply};
+ghost use Rattle.hlr_core.specs.Gather.{IsRefusedWhole};
+ghost use Rattle.hlr_core.specs.Home.{IsHomeTo, IsSameHouse};
+ghost use Rattle.hlr_core.specs.Inside.Noted.{IsIndexed};
+ghost use Rattle.hlr_core.specs.Weights.{published_weights, counted_weights};
+ghost use Rattle.hlr_owners.specs.Scattered.{holdings_in, pieces_in, pending_together, MayBeGathered, IsSurveyed, misfit_of, store_from, store_by, AreOfRegions};
+ghost use Rattle.hlr_owners.specs.Seats.{AllHome, IsPartHome, book_in, holdings_seated, store_in, unposted};
+ghost use Rattle.hlr_core.specs.Step.{IsStep, edited_reply, posted_reply};
 ghost use Rattle.part_table.specs.Numbered.{numbered};
 ghost use Rattle.part_table.specs.Proposal.{proposal};
 ghost use Rattle.part_table.specs.Regions.{AreRegions};
-ghost use Rattle.hlr_core.specs.Desks.{AreOpening};
-ghost use Rattle.hlr_core.specs.Sight.{IsSightOf};
-ghost use Rattle.hlr_core.specs.Store.{Store, HasOpening, opening, opening_from, published, unposted, parts_in, published_weights, counted_weights};
+ghost use Rattle.hlr_owners.specs.Desks.{AreOpening};
+ghost use Rattle.hlr_owners.specs.Sight.{IsSightOf};
+ghost use Rattle.hlr_owners.specs.Store.{HasOpening, opening, opening_from, published, unpublished, parts_in};
 
 use crate::event::{Event, Reply};
-use crate::gather::{Prepared, Scattered};
-use crate::holdings::Holdings;
 use crate::level::are_level;
+use crate::numbers::index_of;
 use crate::order::{Answer, Order};
 use crate::weights::zone_weights;
 use arrayvec::ArrayVec;
+use hlr_owners::{Prepared, Scattered, Seats};
 use number_index::NumberIndex;
 use part_table::{Bounds, Regions, Side, can_open};
 use std::alloc::Global;
@@ -30,27 +37,29 @@ use tatp_actions::{CELLS, Cells, RowReply};
 use tatp_rows::{Access, Back, Number, Refusal, Subscriber};
 use view_board::{Sight, WORDS};
 
-/// A home location register, seen as the store of the definitions: its rows, the regions, the words of the board, what
-/// was seen of them, the slots of each part and the width of the zones.
+/// A home location register, seen as its regions with the owner who sits beside each: a part's holding, which is at home
+/// or lent, or a loose piece. What they have together is the store of the definitions (`store_in`): the rows, the
+/// regions, the words of the board, what was seen of them, the slots of each part and the width of the zones. Of a part
+/// that is lent the register knows what it had then.
 ///
 /// Each event moves the store by one right step, and after it every cell as published plus its delta not posted yet
 /// is that cell counted over the rows.
 #[derive(Drop)]
 pub struct Register {
-    pub(crate) holdings: Holdings,
+    pub(crate) seats: Seats,
     pub(crate) index: NumberIndex,
     alloc: Global,
 }
 
 impl Model for Register {
-    ghost use Rattle.hlr_core.specs.Store.{Store};
+    ghost use Rattle.hlr_owners.specs.Seats.{Seating, book_in};
     ghost use Rattle.hlr_core.specs.Index.{IsRegister};
 
-    ghost Value = { Store };
+    ghost Value = { Seating };
 
-    ghost view = { λ r. r.holdings };
+    ghost view = { λ r. r.seats };
 
-    ghost invariant = { λ r. IsRegister r.holdings.book r.index };
+    ghost invariant = { λ r. IsRegister (book_in r.seats.seats) r.index };
 }
 
 fn row_reply(lent: Result<&Subscriber, Refusal>) -> Reply
@@ -94,11 +103,21 @@ fn edited_reply(done: Result<(), Refusal>) -> Reply
     }
 }
 
+fn posted_reply(posted: Result<u8, Refusal>) -> Reply
+    ensures { result ≡ posted_reply posted }
+{
+    match posted {
+        Ok(count) => Reply::Posted(count),
+        Err(why) => Reply::Refused(why),
+    }
+}
+
 impl Register {
     /// An empty register whose words are all 0, with so many parts that share the zones out. `Field` where parts isn't
     /// in 1..=16 or the width isn't in 1..=524,288; `Memory` where a growth was refused.
     pub fn open(alloc: Global, parts: u8, width: u32) -> Result<Register, Refusal>
-        ensures ok { IfOk result (λ register. register ≡ opening parts width) }
+        ensures ok { IfOk result (λ register. store_in register ≡ opening parts width) }
+        ensures home { IfOk result (λ register. AllHome register.seats) }
         ensures field { (result ≡ Err Refusal.Field) ↔ ¬ (HasOpening parts width) }
         ensures other { OnErr result ((result ≡ Err Refusal.Field) ⊎ (result ≡ Err Refusal.Memory)) }
     {
@@ -114,7 +133,8 @@ impl Register {
         width: u32,
         words: &[u64; WORDS],
     ) -> Result<Register, Refusal>
-        ensures ok { IfOk result (λ register. register ≡ opening_from parts width words.now) }
+        ensures ok { IfOk result (λ register. store_in register ≡ opening_from parts width words.now) }
+        ensures home { IfOk result (λ register. AllHome register.seats) }
         ensures field { (result ≡ Err Refusal.Field) ↔ ¬ (HasOpening parts width × AreOpening words.now) }
         ensures other { OnErr result ((result ≡ Err Refusal.Field) ⊎ (result ≡ Err Refusal.Memory)) }
     {
@@ -124,10 +144,10 @@ impl Register {
         if !are_level(words) {
             return Err(Refusal::Field);
         }
-        let holdings = Holdings::open(alloc, parts, width, words)?;
+        let seats = Seats::open(alloc, parts, width, words)?;
         let index = NumberIndex::new(alloc)?;
         Ok(Register {
-            holdings,
+            seats,
             index,
             alloc,
         })
@@ -137,15 +157,19 @@ impl Register {
     /// ranges, and the frame. The index goes. It takes no memory. `gather` gives the register back, with its loose
     /// pieces numbered from 1 in the order of their ranges, and can be refused for want of memory alone.
     pub fn scatter(self) -> Scattered
-        ensures store { store_by self.regions result ≡ self }
+        requires { AllHome self.seats }
+        ensures store { store_by self.regions result ≡ store_in self }
         ensures held { AreOfRegions self.regions self.width result }
-        ensures pending { (c : ℕ) → c < CELLS → pending_together result c ≡ unposted self c }
+        ensures holdings { holdings_in result ≡ holdings_seated self.seats }
+        ensures pieces { pieces_in result ≡ unboxed (pieces_seated self.seats) }
+        ensures pending { (c : ℕ) → pending_together result c ≡ unposted self.seats c }
+        ensures difference { (c : ℕ) → c < CELLS → pending_together result c ≡ unpublished (store_in self) c }
         ensures desks { MayBeGathered result }
-        ensures again { store_from result ≡ record self { regions = numbered 0 1 self.regions } }
+        ensures again { store_from result ≡ record (store_in self) { regions = numbered 0 1 self.regions } }
         ensures fits { (why : Refusal) → IsRefusedWhole result why → why ≡ Refusal.Memory }
     {
-        let Register { holdings, .. } = self;
-        holdings.scatter()
+        let Register { seats, .. } = self;
+        seats.scatter()
     }
 
     /// Makes a register of parts, loose pieces and a frame, whatever was done to them: the regions are their ranges,
@@ -160,36 +184,31 @@ impl Register {
     pub fn gather(alloc: Global, scattered: Scattered) -> Result<Register, Back<Scattered>>
         requires { MayBeGathered scattered }
         ensures gathered { IfOk result (λ register. (misfit_of scattered ≡ None)
-            × (register ≡ store_from scattered)) }
-        ensures pending { IfOk result (λ register. (c : ℕ) → c < CELLS → unposted register c ≡ pending_together scattered c) }
+            × (store_in register ≡ store_from scattered)) }
+        ensures home { IfOk result (λ register. AllHome register.seats) }
+        ensures pending { IfOk result (λ register. (c : ℕ) → unposted register.seats c ≡ pending_together scattered c) }
+        ensures difference { IfOk result (λ register. (c : ℕ) → c < CELLS → unposted register.seats c ≡ unpublished (store_in register) c) }
         ensures refused { IfErr result (λ back. (back.item ≡ scattered)
             × IsRefusedWhole scattered back.why) }
     {
-        let prepared = match scattered.prepare(alloc) {
-            Ok(prepared) => prepared,
-            Err(why) => {
-                return Err(Back {
-                    why,
-                    item: scattered,
-                });
-            }
-        };
-        let Prepared {
-            regions,
-            index,
-            room_for_holdings,
-            room_for_pieces,
-        } = prepared;
-        Ok(Register {
-            holdings: Holdings::gathered(scattered, regions, room_for_holdings, room_for_pieces),
-            index,
-            alloc,
-        })
+        match prepare(alloc, &scattered) {
+            Ok((prepared, index)) => Ok(Register {
+                seats: Seats::gathered(scattered, prepared),
+                index,
+                alloc,
+            }),
+            Err(why) => Err(Back {
+                why,
+                item: scattered,
+            }),
+        }
     }
 
     /// Applies an event, and replies to it. A refusal changes nothing; after `Worn` the cells posted before stand.
     pub fn apply(&mut self, event: Event) -> Reply
-        ensures { IsStep event self.old result self.new }
+        requires { IsHomeTo event self.old }
+        ensures step { IsStep event (store_in self.old) result (store_in self.new) }
+        ensures house { IsSameHouse self.old self.new }
     {
         match event {
             Event::SubscriberData { s_id } => row_reply(self.lend_subscriber(s_id)),
@@ -217,8 +236,10 @@ impl Register {
 
     /// Does what an event asks for that changes rows.
     fn change(&mut self, event: Event) -> Result<(), Refusal>
-        requires { ChangesRows event }
-        ensures { IsStep event self.old (edited_reply result) self.new }
+        requires rows { ChangesRows event }
+        requires home { IsHomeTo event self.old }
+        ensures step { IsStep event (store_in self.old) (edited_reply result) (store_in self.new) }
+        ensures house { IsSameHouse self.old self.new }
     {
         match event {
             Event::UpdateSubscriber {
@@ -268,9 +289,11 @@ impl Register {
     /// without postings and without what was answered `Moving` or `Memory` has the same answers, and leaves the same
     /// rows.
     pub fn apply_all(&mut self, orders: &[Order]) -> Result<Vec<Answer>, Refusal>
-        ensures ok { IfOk result (λ answers. IsRun orders.now self.old answers.items self.new) }
-        ensures kept { IfOk result (λ answers. IsSameAtHome orders.now self.old.book answers.items self.new.book) }
+        requires { AllHome self.old.seats }
+        ensures ok { IfOk result (λ answers. IsRun orders.now (store_in self.old) answers.items (store_in self.new)) }
+        ensures kept { IfOk result (λ answers. IsSameAtHome orders.now (book_in self.old.seats) answers.items (book_in self.new.seats)) }
         ensures err { OnErr result ((result ≡ Err Refusal.Memory) × (self.new ≡ self.old)) }
+        ensures house { IsSameHouse self.old self.new }
     {
         // The borrow checker of the kit can push a reply only in a body that names each type inside it.
         let _inside: Option<RowReply> = None;
@@ -284,7 +307,9 @@ impl Register {
 
     /// Carries one order out.
     fn carry_out(&mut self, order: &Order) -> Answer
-        ensures { IsOrderStep order.now self.old result self.new }
+        requires { AllHome self.old.seats }
+        ensures step { IsOrderStep order.now (store_in self.old) result (store_in self.new) }
+        ensures house { IsSameHouse self.old self.new }
     {
         match order {
             Order::Event(event) => Answer::Reply(self.apply(*event)),
@@ -294,34 +319,47 @@ impl Register {
 
     /// The cells as published: for each, the sum of its plus-words less the sum of its minus-words.
     pub fn published(&self) -> [i64; CELLS as usize]
-        ensures { (c : ℕ) → c < CELLS → slice_index_or result c (pos 0) ≡ published self.now c }
+        requires { AllHome self.now.seats }
+        ensures { (c : ℕ) → c < CELLS → slice_index_or result c (pos 0) ≡ published (store_in self.now) c }
     {
-        self.holdings.published()
+        self.seats.published()
     }
 
     /// A sight of the board's words: those of slots that no part has as they are, each other one at least what was seen
     /// of it before, at first its word at opening, and none past `LIMIT`. It takes no memory.
     pub fn look(&mut self) -> Sight
-        ensures right { IsSightOf self.old result.words }
-        ensures seen { self.new ≡ record self.old { sight = result.words } }
+        ensures right { IsSightOf (store_in self.old) result.words }
+        ensures seen { store_in self.new ≡ record (store_in self.old) { sight = result.words } }
+        ensures same { self.new ≡ record self.old { spare = self.new.spare } }
     {
-        self.holdings.look()
+        self.seats.look()
     }
 
-    /// What is not posted yet of each cell: with what is published, it is the cell counted over the rows now.
+    /// What is not posted yet of each cell, which is what the owners keep as pending, added up: with what is published,
+    /// it is the cell counted over the rows now.
     pub fn unposted(&self) -> [i64; CELLS as usize]
-        ensures value { (c : ℕ) → c < CELLS → slice_index_or result c (pos 0) ≡ unposted self.now c }
+        requires { AllHome self.now.seats }
+        ensures pending { (c : ℕ) → c < CELLS → slice_index_or result c (pos 0) ≡ unposted self.now.seats c }
+        ensures difference { (c : ℕ) → c < CELLS → slice_index_or result c (pos 0) ≡ unpublished (store_in self.now) c }
         ensures counted { (c : ℕ) → c < CELLS
-            → published self.now c +ℤ slice_index_or result c (pos 0) ≡ pos (cell self.now.width c self.now.book) }
+            → published (store_in self.now) c +ℤ slice_index_or result c (pos 0) ≡ pos (cell self.now.width c (book_in self.now.seats)) }
     {
-        self.holdings.unposted()
+        self.seats.unposted()
     }
 
     /// The count of each cell over the rows now, taken by a walk over all of them.
     pub fn recount(&self) -> Cells
-        ensures { (c : ℕ) → c < CELLS → slice_index result c ≡ cell self.now.width c self.now.book }
+        requires { AllHome self.now.seats }
+        ensures { (c : ℕ) → c < CELLS → slice_index result c ≡ cell self.now.width c (book_in self.now.seats) }
     {
-        self.holdings.recount()
+        self.seats.recount()
+    }
+
+    /// Whether all parts are at home, as the reports, a re-cut and `scatter` want it.
+    pub fn all_at_home(&self) -> bool
+        ensures { IsTrue result ↔ AllHome self.now.seats }
+    {
+        self.seats.all_at_home()
     }
 
     /// The regions of all subscribers, each of a part or of a loose piece.
@@ -329,18 +367,21 @@ impl Register {
         ensures value { result.now ≡ self.now.regions }
         ensures regions { AreRegions result.now }
     {
-        self.holdings.regions()
+        self.seats.regions()
     }
 
     /// The bounds between zones that would give each part about its share of the rows, by what is published of the
     /// zones; where nothing is unposted, these are the counts of the rows. It takes no memory.
     pub fn propose(&self) -> Bounds
-        ensures value { result ≡ proposal (published_weights self.now) (parts_in self.now) self.now.width }
-        ensures counted { ((c : ℕ) → c < CELLS → unposted self.now c ≡ pos 0)
-            → result ≡ proposal (counted_weights self.now) (parts_in self.now) self.now.width }
+        requires { AllHome self.now.seats }
+        ensures value { result ≡ proposal (published_weights (store_in self.now)) (parts_in (store_in self.now)) self.now.width }
+        ensures counted { ((c : ℕ) → c < CELLS → unposted self.now.seats c ≡ pos 0)
+            → result ≡ proposal (counted_weights (store_in self.now)) (parts_in (store_in self.now)) self.now.width }
     {
+        // For the prover: each region has its owner beside it.
+        let _board = self.seats.board();
         let weights = zone_weights(&self.published());
-        Regions::propose(&weights, self.holdings.parts(), self.holdings.width())
+        Regions::propose(&weights, self.seats.parts(), self.seats.width())
     }
 
     /// Moves the bounds between parts to these: each that differs by a give and a take. The answer is how many were
@@ -348,39 +389,47 @@ impl Register {
     /// then `Moving` where a piece is loose; then `Memory`, after which the moves that were done stand, and where a
     /// take was refused its piece is loose. No row, no word and no pair of the index changes.
     pub fn recut_to(&mut self, bounds: &[u64]) -> Result<u8, Refusal>
-        ensures { IsRecut bounds.now self.old result self.new }
+        requires { IsHomeToCut bounds.now self.old }
+        ensures recut { IsRecut bounds.now (store_in self.old) result (store_in self.new) }
+        ensures house { IsSameHouse self.old self.new }
     {
-        self.holdings.recut_to(bounds)
+        self.seats.recut_to(bounds)
     }
 
     /// The index of numbers: for each Subscriber row the pair of its number and its s_id.
     pub fn index(&self) -> &NumberIndex
-        ensures { result.now ≡ index_of self.now.book.subscribers }
+        ensures { result.now ≡ index_of (book_in self.now.seats).subscribers }
     {
         &self.index
     }
 
     fn post(&mut self, part: u64, limit: u64) -> Reply
-        ensures { IsStep (Event.Post part limit) self.old result self.new }
+        requires { IsPartHome part self.old }
+        ensures step { IsStep (Event.Post part limit) (store_in self.old) result (store_in self.new) }
+        ensures house { IsSameHouse self.old self.new }
     {
-        self.holdings.post(part, limit)
+        posted_reply(self.seats.post(part, limit))
     }
 
     fn give(&mut self, part: u64, side: Side, at: u64) -> Reply
-        ensures { IsStep (Event.Give part side at) self.old result self.new }
+        requires { IsPartHome part self.old }
+        ensures step { IsStep (Event.Give part side at) (store_in self.old) result (store_in self.new) }
+        ensures house { IsSameHouse self.old self.new }
     {
-        match self.holdings.give(part, side, at) {
+        match self.seats.give(part, side, at) {
             Ok((piece, lo, hi)) => Reply::Given { piece, lo, hi },
             Err(why) => Reply::Refused(why),
         }
     }
 
     fn take(&mut self, piece: u64, part: u64) -> Reply
-        ensures { IsStep (Event.Take piece part) self.old result self.new }
+        requires { IsPartHome part self.old }
+        ensures step { IsStep (Event.Take piece part) (store_in self.old) result (store_in self.new) }
+        ensures house { IsSameHouse self.old self.new }
     {
         // For the prover: the regions tell that a piece and a part that are there have small numbers.
-        let _regions = self.holdings.regions();
-        match self.holdings.take(piece, part) {
+        let _regions = self.seats.regions();
+        match self.seats.take(piece, part) {
             Ok(_) => Reply::Taken {
                 piece: piece as u8,
                 part: part as u8,
@@ -388,6 +437,17 @@ impl Register {
             Err(why) => Reply::Refused(why),
         }
     }
+}
+
+/// All that a register needs besides what is handed in, or why it makes none. Nothing is moved yet.
+fn prepare(alloc: Global, scattered: &Scattered) -> Result<(Prepared, NumberIndex), Refusal>
+    ensures surveyed { IfOk result (λ both. IsSurveyed scattered.now both.0) }
+    ensures indexed { IfOk result (λ both. IsIndexed scattered.now both.1) }
+    ensures err { IfErr result (IsRefusedWhole scattered.now) }
+{
+    let prepared = scattered.prepare(alloc)?;
+    let index = index_of(alloc, scattered)?;
+    Ok((prepared, index))
 }
 
 /// An empty list with room for so many answers; `Memory` where a growth was refused.

@@ -6,7 +6,7 @@ use part_table::{Place, Region};
 use std::alloc::Global;
 use std::process::Abort;
 use std::test::Fail;
-use tatp_actions::{CELLS, RowReply};
+use tatp_actions::{CELLS, Cells, RowReply};
 use tatp_rows::{Access, Facility, Letters, Number, Refusal, Subscriber};
 
 pub const DONE: Reply = Reply::Rows(RowReply::Done);
@@ -42,6 +42,66 @@ pub const OUT_OF_RANGE: Reply = Reply::Refused(Refusal::OutOfRange);
 pub const NOT_ADJACENT: Reply = Reply::Refused(Refusal::NotAdjacent);
 
 pub const MANY_PIECES: Reply = Reply::Refused(Refusal::ManyPieces);
+
+/// What `ask` replies where a part is away; no register does, and no test wants it.
+pub const AWAY: Reply = Reply::Refused(Refusal::Thread);
+
+/// What is told of the cells where a part is away.
+const NO_COUNTS: [i64; CELLS as usize] = [i64::MIN; CELLS as usize];
+
+/// What a register replies to an event, if all parts are at home.
+pub fn ask(register: &mut Register, event: Event) -> Reply {
+    if register.all_at_home() {
+        register.apply(event)
+    } else {
+        AWAY
+    }
+}
+
+/// What becomes of a list of orders, if all parts are at home.
+pub fn ran(register: &mut Register, orders: &[Order]) -> Result<Vec<Answer>, Refusal> {
+    if register.all_at_home() {
+        register.apply_all(orders)
+    } else {
+        Err(Refusal::Thread)
+    }
+}
+
+/// What a re-cut answers, if all parts are at home.
+pub fn recut(register: &mut Register, bounds: &[u64]) -> Result<u8, Refusal> {
+    if register.all_at_home() {
+        register.recut_to(bounds)
+    } else {
+        Err(Refusal::Thread)
+    }
+}
+
+/// The cells as published, if all parts are at home.
+pub fn published(register: &Register) -> [i64; CELLS as usize] {
+    if register.all_at_home() {
+        register.published()
+    } else {
+        NO_COUNTS
+    }
+}
+
+/// What is not posted yet of each cell, if all parts are at home.
+pub fn unposted(register: &Register) -> [i64; CELLS as usize] {
+    if register.all_at_home() {
+        register.unposted()
+    } else {
+        NO_COUNTS
+    }
+}
+
+/// The count of each cell by a walk over all rows, if all parts are at home.
+pub fn recounted(register: &Register) -> Option<Cells> {
+    if register.all_at_home() {
+        Some(register.recount())
+    } else {
+        None
+    }
+}
 
 /// A register of so many parts; where a growth was refused, at the second try.
 pub fn opened(alloc: Global, parts: u8, width: u32) -> Result<Register, Refusal> {
@@ -94,8 +154,8 @@ fn counts(some: &[(u8, i64)]) -> [i64; CELLS as usize] {
 }
 
 /// Whether these are the cells as published, and these what is not posted yet.
-pub fn stands(register: &Register, published: &[(u8, i64)], unposted: &[(u8, i64)]) -> bool {
-    register.published() == counts(published) && register.unposted() == counts(unposted)
+pub fn stands(register: &Register, posted: &[(u8, i64)], pending: &[(u8, i64)]) -> bool {
+    published(register) == counts(posted) && unposted(register) == counts(pending)
 }
 
 /// What a register shows of its regions, of a subscriber and of numbers.
@@ -164,12 +224,12 @@ fn subject(register: &Register, event: &Event) -> Option<(u64, Option<Number>)> 
 /// who has its number, who has the number that the event names, and how many numbers there are.
 fn shown(register: &mut Register, event: &Event) -> Option<Standing> {
     let (s_id, named) = subject(register, event)?;
-    let row = register.apply(read(s_id));
+    let row = ask(register, read(s_id));
     let own = number_read(&row);
     Some(Standing {
         regions: regions_of(register),
-        published: register.published(),
-        unposted: register.unposted(),
+        published: published(register),
+        unposted: unposted(register),
         row,
         bearer: bearer(register, own),
         named: bearer(register, named),
@@ -180,11 +240,11 @@ fn shown(register: &mut Register, event: &Event) -> Option<Standing> {
 /// Whether an event is replied to so; where a growth was refused, at the second try, with all as before in between.
 pub fn replies_to(register: &mut Register, event: &Event, reply: &Reply) -> bool {
     let before = shown(register, event);
-    let answer = register.apply(*event);
+    let answer = ask(register, *event);
     if answer != MEMORY || before.is_none() {
         return answer == *reply;
     }
-    shown(register, event) == before && register.apply(*event) == *reply
+    shown(register, event) == before && ask(register, *event) == *reply
 }
 
 /// The same of values.
@@ -213,7 +273,7 @@ pub fn posting(part: u64, limit: u64) -> Event {
 /// Applies events; tells the first that isn't replied to so, if there is one.
 pub fn difference(register: &mut Register, events: &[Event], want: &[Reply]) -> Option<usize> {
     for (index, (event, reply)) in events.iter().zip(want).enumerate() {
-        if register.apply(*event) != *reply {
+        if ask(register, *event) != *reply {
             return Some(index);
         }
     }
@@ -232,12 +292,12 @@ fn has_run(register: &Register, second_added: bool) -> bool {
 /// Carries a list of orders out, and where memory was refused, the same list again, with all as before in between. None
 /// where it wasn't as before.
 fn run_of(register: &mut Register, orders: &[Order]) -> Option<Result<Vec<Answer>, Refusal>> {
-    match register.apply_all(orders) {
+    match ran(register, orders) {
         Err(Refusal::Memory) => {
             if stands(register, &[], &[(3, 1), (19, 1)])
-                && register.apply(read(7)) == NO_SUBSCRIBER
+                && ask(register, read(7)) == NO_SUBSCRIBER
             {
-                return Some(register.apply_all(orders));
+                return Some(ran(register, orders));
             }
             None
         }
@@ -281,7 +341,7 @@ fn expect_runs(rt: &impl Abort, register: &mut Register) -> Result<(), Refusal> 
         Answer::Reply(NO_PART),
         Answer::Recut(Ok(0)),
     ];
-    let none = register.apply_all(&[])?;
+    let none = ran(register, &[])?;
     let stands_still = none.is_empty() && has_run(register, second_added);
     assert_eq!(rt;
         (all.as_slice(), stood, stands_still),

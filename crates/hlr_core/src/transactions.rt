@@ -7,7 +7,10 @@ ghost use Rattle.hlr_core.specs.Inside.Asked.{IsAsked, IsRowAction, IsRowStep, a
 ghost use Rattle.hlr_core.specs.Step.{IsStep, edited_reply};
 ghost use Rattle.hlr_core.specs.declared.event.Event.TheVariants as event;
 ghost use Rattle.hlr_core.specs.declared.event.Reply.TheVariants as reply;
+ghost use Rattle.hlr_core.specs.Home.{IsHomeTo, IsSameHouse};
 ghost use Rattle.hlr_core.specs.Numbers.{bearer_id};
+ghost use Rattle.hlr_owners.specs.Seats.{IsHomeFor, book_in, store_in};
+ghost use Rattle.tatp_actions.specs.Action.{s_id_of};
 ghost use Rattle.tatp_actions.specs.Book.{IsWithin};
 ghost use Rattle.tatp_actions.specs.declared.action.Action.{Action};
 ghost use Rattle.tatp_actions.specs.declared.action.RowReply.TheVariants as row_reply;
@@ -26,23 +29,25 @@ impl Register {
     /// GET_SUBSCRIBER_DATA (TATP, section 3.1), as `Event::SubscriberData`, but the row is lent from where it lies:
     /// `Field` where s_id isn't in 1..=16,777,216, `Moving`, `NoSubscriber`.
     pub fn lend_subscriber(&self, s_id: u64) -> Result<&Subscriber, Refusal>
-        ensures row { IfOk result (λ row. IsStep (event.SubscriberData s_id) self.now (reply.Rows (row_reply.Row row.now)) self.now) }
-        ensures refused { IfErr result (λ why. IsStep (event.SubscriberData s_id) self.now (reply.Refused why) self.now) }
+        requires { IsHomeTo (event.SubscriberData s_id) self.now }
+        ensures row { IfOk result (λ row. IsStep (event.SubscriberData s_id) (store_in self.now) (reply.Rows (row_reply.Row row.now)) (store_in self.now)) }
+        ensures refused { IfErr result (λ why. IsStep (event.SubscriberData s_id) (store_in self.now) (reply.Refused why) (store_in self.now)) }
     {
         let s_id = in_range(s_id, LAST_SUBSCRIBER)?;
-        self.holdings.lend_subscriber(s_id)
+        self.seats.lend_subscriber(s_id)
     }
 
     /// GET_ACCESS_DATA (TATP, section 3.3), as `Event::AccessData`, but the row is lent from where it lies: `Field`
     /// where s_id isn't in 1..=16,777,216 or ai_type isn't in 1..=4, `Moving`, `NoAccess`.
     pub fn lend_access(&self, s_id: u64, ai_type: u64) -> Result<&Access, Refusal>
-        ensures row { IfOk result (λ row. IsStep (event.AccessData s_id ai_type) self.now
-            (reply.Rows (row_reply.AccessRow row.now.data1 row.now.data2 row.now.data3 row.now.data4)) self.now) }
-        ensures refused { IfErr result (λ why. IsStep (event.AccessData s_id ai_type) self.now (reply.Refused why) self.now) }
+        requires { IsHomeTo (event.AccessData s_id ai_type) self.now }
+        ensures row { IfOk result (λ row. IsStep (event.AccessData s_id ai_type) (store_in self.now)
+            (reply.Rows (row_reply.AccessRow row.now.data1 row.now.data2 row.now.data3 row.now.data4)) (store_in self.now)) }
+        ensures refused { IfErr result (λ why. IsStep (event.AccessData s_id ai_type) (store_in self.now) (reply.Refused why) (store_in self.now)) }
     {
         let s_id = in_range(s_id, LAST_SUBSCRIBER)?;
         let ai_type = byte_in_range(ai_type, 4)?;
-        self.holdings.lend_access(s_id, ai_type)
+        self.seats.lend_access(s_id, ai_type)
     }
 
     /// GET_NEW_DESTINATION (TATP, section 3.2), as `Event::NewDestination`: the numbers, one to three, of forwardings
@@ -55,8 +60,9 @@ impl Register {
         start_time: u64,
         end_time: u64,
     ) -> Result<ArrayVec<Number, 3>, Refusal>
-        ensures numbers { IfOk result (λ numbers. IsStep (event.NewDestination s_id sf_type start_time end_time) self.now (reply.Rows (row_reply.Numbers numbers)) self.now) }
-        ensures refused { IfErr result (λ why. IsStep (event.NewDestination s_id sf_type start_time end_time) self.now (reply.Refused why) self.now) }
+        requires { IsHomeTo (event.NewDestination s_id sf_type start_time end_time) self.now }
+        ensures numbers { IfOk result (λ numbers. IsStep (event.NewDestination s_id sf_type start_time end_time) (store_in self.now) (reply.Rows (row_reply.Numbers numbers)) (store_in self.now)) }
+        ensures refused { IfErr result (λ why. IsStep (event.NewDestination s_id sf_type start_time end_time) (store_in self.now) (reply.Refused why) (store_in self.now)) }
     {
         let s_id = in_range(s_id, LAST_SUBSCRIBER)?;
         let sf_type = byte_in_range(sf_type, 4)?;
@@ -64,7 +70,7 @@ impl Register {
             return Err(Refusal::Field);
         }
         let end_time = byte_in_range(end_time, 24)?;
-        self.holdings
+        self.seats
             .destinations(s_id, sf_type, start_time as u8, end_time)
     }
 
@@ -77,7 +83,9 @@ impl Register {
         bit_1: u64,
         data_a: u64,
     ) -> Result<(), Refusal>
-        ensures { IsStep (event.UpdateSubscriber s_id sf_type bit_1 data_a) self.old (edited_reply result) self.new }
+        requires { IsHomeTo (event.UpdateSubscriber s_id sf_type bit_1 data_a) self.old }
+        ensures step { IsStep (event.UpdateSubscriber s_id sf_type bit_1 data_a) (store_in self.old) (edited_reply result) (store_in self.new) }
+        ensures house { IsSameHouse self.old self.new }
     {
         self.edit(checked::update_subscriber(s_id, sf_type, bit_1, data_a))
     }
@@ -85,7 +93,9 @@ impl Register {
     /// UPDATE_LOCATION (TATP, section 3.5), as `Event::UpdateLocation`: `Field` where vlr_location isn't in
     /// 1..=4,294,967,295, `NoNumber`, `Moving`.
     pub fn update_location(&mut self, sub_nbr: Number, vlr_location: u64) -> Result<(), Refusal>
-        ensures { IsStep (event.UpdateLocation sub_nbr vlr_location) self.old (edited_reply result) self.new }
+        requires { IsHomeTo (event.UpdateLocation sub_nbr vlr_location) self.old }
+        ensures step { IsStep (event.UpdateLocation sub_nbr vlr_location) (store_in self.old) (edited_reply result) (store_in self.new) }
+        ensures house { IsSameHouse self.old self.new }
     {
         let bearer_id = self.bearer(sub_nbr);
         self.edit(checked::update_location(bearer_id, vlr_location))
@@ -102,7 +112,9 @@ impl Register {
         end_time: u64,
         numberx: Number,
     ) -> Result<(), Refusal>
-        ensures { IsStep (event.InsertForwarding sub_nbr sf_type start_time end_time numberx) self.old (edited_reply result) self.new }
+        requires { IsHomeTo (event.InsertForwarding sub_nbr sf_type start_time end_time numberx) self.old }
+        ensures step { IsStep (event.InsertForwarding sub_nbr sf_type start_time end_time numberx) (store_in self.old) (edited_reply result) (store_in self.new) }
+        ensures house { IsSameHouse self.old self.new }
     {
         let bearer_id = self.bearer(sub_nbr);
         self.edit(checked::insert_forwarding(bearer_id, sf_type, start_time, end_time, numberx))
@@ -116,7 +128,9 @@ impl Register {
         sf_type: u64,
         start_time: u64,
     ) -> Result<(), Refusal>
-        ensures { IsStep (event.DeleteForwarding sub_nbr sf_type start_time) self.old (edited_reply result) self.new }
+        requires { IsHomeTo (event.DeleteForwarding sub_nbr sf_type start_time) self.old }
+        ensures step { IsStep (event.DeleteForwarding sub_nbr sf_type start_time) (store_in self.old) (edited_reply result) (store_in self.new) }
+        ensures house { IsSameHouse self.old self.new }
     {
         let bearer_id = self.bearer(sub_nbr);
         self.edit(checked::delete_forwarding(bearer_id, sf_type, start_time))
@@ -124,14 +138,18 @@ impl Register {
 
     /// Adds an Access_Info row, as `Event::AddAccess`: `Moving`, `NoSubscriber`, `Exists`, `Memory`.
     pub fn add_access(&mut self, row: Access) -> Result<(), Refusal>
-        ensures { IsStep (event.AddAccess row) self.old (edited_reply result) self.new }
+        requires { IsHomeTo (event.AddAccess row) self.old }
+        ensures step { IsStep (event.AddAccess row) (store_in self.old) (edited_reply result) (store_in self.new) }
+        ensures house { IsSameHouse self.old self.new }
     {
         self.edit(checked::add_access(row))
     }
 
     /// Adds a Special_Facility row, as `Event::AddFacility`: `Moving`, `NoSubscriber`, `Exists`, `Memory`.
     pub fn add_facility(&mut self, row: Facility) -> Result<(), Refusal>
-        ensures { IsStep (event.AddFacility row) self.old (edited_reply result) self.new }
+        requires { IsHomeTo (event.AddFacility row) self.old }
+        ensures step { IsStep (event.AddFacility row) (store_in self.old) (edited_reply result) (store_in self.new) }
+        ensures house { IsSameHouse self.old self.new }
     {
         self.edit(checked::add_facility(row))
     }
@@ -139,23 +157,27 @@ impl Register {
     /// Switches a facility on or off, as `Event::SetActive`: `Field` where s_id isn't in 1..=16,777,216, sf_type in
     /// 1..=4 or is_active in 0..=1, `Moving`, `NoFacility`.
     pub fn set_active(&mut self, s_id: u64, sf_type: u64, is_active: u64) -> Result<(), Refusal>
-        ensures { IsStep (event.SetActive s_id sf_type is_active) self.old (edited_reply result) self.new }
+        requires { IsHomeTo (event.SetActive s_id sf_type is_active) self.old }
+        ensures step { IsStep (event.SetActive s_id sf_type is_active) (store_in self.old) (edited_reply result) (store_in self.new) }
+        ensures house { IsSameHouse self.old self.new }
     {
         self.edit(checked::set_active(s_id, sf_type, is_active))
     }
 
     /// Adds a Subscriber row, as `Event::AddSubscriber`: `Moving`, `Exists`, `NumberTaken`, `Memory`.
     pub fn add_subscriber(&mut self, row: Subscriber) -> Result<(), Refusal>
-        ensures { IsStep (event.AddSubscriber row) self.old (edited_reply result) self.new }
+        requires { IsHomeTo (event.AddSubscriber row) self.old }
+        ensures step { IsStep (event.AddSubscriber row) (store_in self.old) (edited_reply result) (store_in self.new) }
+        ensures house { IsSameHouse self.old self.new }
     {
         let s_id = row.s_id();
-        let part = self.holdings.part_of(s_id)?;
-        if self.holdings.number_in(part, s_id).is_some() {
+        let seat = self.seats.seat_of(s_id);
+        if self.seats.number_in(seat, s_id)?.is_some() {
             return Err(Refusal::Exists);
         }
         let number = row.sub_nbr();
         self.index.add(number, s_id)?;
-        match self.holdings.edit_in(part, AddSubscriber { row }) {
+        match self.seats.edit_in(seat, AddSubscriber { row }) {
             Ok(()) => Ok(()),
             Err(why) => {
                 self.index.remove(number);
@@ -168,22 +190,24 @@ impl Register {
     /// then the row, which can't be. `Field` where s_id isn't in 1..=16,777,216, `Moving`, `NoSubscriber`,
     /// `NumberTaken`, `Memory`.
     pub fn set_number(&mut self, s_id: u64, sub_nbr: Number) -> Result<(), Refusal>
-        ensures { IsStep (event.SetNumber s_id sub_nbr) self.old (edited_reply result) self.new }
+        requires { IsHomeTo (event.SetNumber s_id sub_nbr) self.old }
+        ensures step { IsStep (event.SetNumber s_id sub_nbr) (store_in self.old) (edited_reply result) (store_in self.new) }
+        ensures house { IsSameHouse self.old self.new }
     {
         let s_id = in_range(s_id, LAST_SUBSCRIBER)?;
-        let part = self.holdings.part_of(s_id)?;
-        let Some(old) = self.holdings.number_in(part, s_id) else {
+        let seat = self.seats.seat_of(s_id);
+        let Some(old) = self.seats.number_in(seat, s_id)? else {
             return Err(Refusal::NoSubscriber);
         };
         // For the prover: a number is in range, as its reader says.
         let _value = sub_nbr.value();
         self.index.rename(old, sub_nbr)?;
-        self.holdings.edit_in(part, SetNumber { s_id, sub_nbr })
+        self.seats.edit_in(seat, SetNumber { s_id, sub_nbr })
     }
 
     /// The s_id of the subscriber who has a number, or `None`.
-    fn bearer(&self, sub_nbr: Number) -> Option<u32>
-        ensures value { result ≡ bearer_id self.now.book.subscribers sub_nbr }
+    pub(crate) fn bearer(&self, sub_nbr: Number) -> Option<u32>
+        ensures value { result ≡ bearer_id (book_in self.now.seats).subscribers sub_nbr }
         ensures within { (s_id : ℕ) → result ≡ Some s_id → IsWithin 1 (LAST_SUBSCRIBER + 1) s_id }
     {
         self.index.find(sub_nbr)
@@ -191,10 +215,12 @@ impl Register {
 
     /// Does an edit that gives no number, unless a field was refused.
     fn edit<E: Edit>(&mut self, asked: Result<E, Refusal>) -> Result<(), Refusal>
-        requires { IfOk asked (λ edit. IsRowAction (E.action edit)) }
-        ensures { (fits : Bool) (wanted : Option Action) → IsAsked fits wanted (action_asked E.action asked) → IsRowStep fits wanted self.old (edited_reply result) self.new }
+        requires action { IfOk asked (λ edit. IsRowAction (E.action edit)) }
+        requires home { IfOk asked (λ edit. IsHomeFor (s_id_of (E.action edit)) self.old) }
+        ensures house { IsSameHouse self.old self.new }
+        ensures step { (fits : Bool) (wanted : Option Action) → IsAsked fits wanted (action_asked E.action asked) → IsRowStep fits wanted (store_in self.old) (edited_reply result) (store_in self.new) }
     {
         let edit = asked?;
-        self.holdings.edit(edit)
+        self.seats.edit(edit)
     }
 }

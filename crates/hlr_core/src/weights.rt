@@ -1,6 +1,6 @@
 //! The weights of the zones by which bounds are proposed.
 ghost use Rattle.std.specs.Prelude.{◌≡◌, ◌+◌, ◌≤◌, map, slice_index_or, ℤ, pos, All};
-ghost use Rattle.hlr_core.specs.Store.{weight, all_zones};
+ghost use Rattle.hlr_core.specs.Weights.{weight, all_zones};
 
 use part_table::GREATEST_WEIGHT;
 use tatp_actions::{CELLS, FIRST_ZONE};

@@ -2,7 +2,8 @@
 //! what comes home.
 #![tactic(auto)]
 
-ghost use Rattle.std.specs.Prelude.{◌≡◌};
+ghost use Rattle.std.specs.Prelude.{◌≡◌, IfOk};
+ghost use Rattle.hlr_owners.specs.Seats.{AllHome};
 
 use hlr_core::{
     Action, Board, Event, Frame, Holding, Number, Refusal, Register, Scattered, Subscriber,
@@ -34,7 +35,9 @@ fn subscriber(s_id: u32) -> Result<Subscriber, Refusal> {
 }
 
 /// A register of two parts over zones of four subscribers, with one in each part.
-fn opened(alloc: Global) -> Result<Register, Refusal> {
+fn opened(alloc: Global) -> Result<Register, Refusal>
+    ensures { IfOk result (λ register. AllHome register.seats) }
+{
     let mut register = Register::open(alloc, 2, 4)?;
     register.add_subscriber(subscriber(LOW)?)?;
     register.add_subscriber(subscriber(HIGH)?)?;
@@ -88,7 +91,10 @@ fn work_side_by_side<R: Threads + Sync>(
 fn owners_work<R: AllocGlobal + Threads + Sync>(
     rt: &R,
     register: Register,
-) -> Result<Register, Refusal> {
+) -> Result<Register, Refusal>
+    requires { AllHome register.seats }
+    ensures { IfOk result (λ register. AllHome register.seats) }
+{
     let Scattered {
         frame,
         mut holdings,
@@ -121,7 +127,9 @@ fn owners_work<R: AllocGlobal + Threads + Sync>(
 }
 
 /// Prints the subscribers of areas 0 and 1: how many are published, and how many more are not posted yet.
-fn show<R: Print>(rt: &R, register: &Register) {
+fn show<R: Print>(rt: &R, register: &Register)
+    requires { AllHome register.now.seats }
+{
     let published = register.published();
     let unposted = register.unposted();
     for cell in 3..5 {

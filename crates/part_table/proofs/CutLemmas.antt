@@ -1,6 +1,6 @@
 -- What a cut of a part's region keeps.
-use Rattle.std.proofs.Common.{◌≡◌, refl, sym, ap, ℕ, zero, suc, ◌+◌, ◌<◌, List, [], ◌∷◌, ◌++◌, true, false, length, get_or, set, arith}
-use Rattle.std.specs.Prelude.{Some, None, ◌==◌, find, insert, position}
+use Rattle.std.proofs.Common.{◌≡◌, refl, ap, ℕ, zero, suc, ◌+◌, ◌<◌, List, [], ◌∷◌, ◌++◌, true, false, length, get_or, set, arith}
+use Rattle.std.specs.Prelude.{Some, ◌==◌, find, insert, position}
 use Rattle.std.specs.List.{AllByRecursion, IsDistinct, list_any}
 use Rattle.std.proofs.lemmas.List.Quantifiers.{position-Some}
 use Rattle.std.proofs.lemmas.Map.Keys.{IsDistinct-cons, IsDistinct-head, IsDistinct-tail}
@@ -13,7 +13,6 @@ use Rattle.part_table.specs.declared.region.Place.TheVariants.{Part, Piece}
 use Rattle.part_table.specs.declared.region.Region.{Region}
 use Rattle.part_table.specs.declared.region.Side.{Side}
 use Rattle.part_table.specs.declared.region.Side.TheVariants.{Low, High}
-use Rattle.part_table.proofs.FirstLemmas.{find_none}
 use Rattle.part_table.proofs.NumberLemmas.{each_differs, each_with}
 
 -- a part's region cut in two, in its place
@@ -31,17 +30,6 @@ pub cut_found : (p n : ℕ) (side : Side) (at : ℕ) (regions : List Region) (i 
     → low ∷ high ∷ [] ≡ halves n side at (get_or regions i d) → insert (set regions i low) (i + 1) high ≡ cut p n side at regions
 cut_found p n side at regions i low high d found two =
     let is = position-Some (is_part p) regions i d found in cut_at p n side at regions i low high d is.0 is.1 is.2 two
-
--- without such a part the regions stay
-cut_without : (p n : ℕ) (side : Side) (at : ℕ) (regions : List Region) → find (is_part p) regions ≡ None → cut p n side at regions ≡ regions
-cut_without p n side at [] none = refl
-cut_without p n side at (region ∷ regions) none =
-    by_test (is_part p region)
-    (λ e. let found : Some region ≡ None = rw e at none in absurd cc)
-    (λ e. rw e (ap (λ rest. region ∷ rest) (cut_without p n side at regions (rw e at none))))
-
-pub cut_none : (p n : ℕ) (side : Side) (at : ℕ) (regions : List Region) → position (is_part p) regions ≡ None → regions ≡ cut p n side at regions
-cut_none p n side at regions none = sym (cut_without p n side at regions (find_none (is_part p) regions none))
 
 -- the halves of a region follow one another
 consecutive_halves : (n : ℕ) (side : Side) (at from : ℕ) (region : Region) (regions : List Region) → region.lo < at → at < region.hi → IsConsecutive from (region ∷ regions)

@@ -1,15 +1,13 @@
 -- What joining a piece to the part beside it keeps.
-use Rattle.std.proofs.Common.{◌≡◌, ◌∙◌, refl, sym, ap, ℕ, suc, ◌+◌, ◌-◌, ◌<◌, ◌≤◌, List, [], ◌∷◌, ◌++◌, length, get_or, set, take, drop, append_assoc, arith}
-use Rattle.std.specs.Prelude.{Some, None, Option, ◌==◌, ◌&&◌, remove}
+use Rattle.std.proofs.Common.{◌≡◌, refl, ap, ℕ, List, [], ◌∷◌, ◌++◌, append_assoc, arith}
+use Rattle.std.specs.Prelude.{Some, None, Option, ◌==◌, ◌&&◌}
 use Rattle.std.specs.List.{AllByRecursion, IsDistinct}
-use Rattle.std.proofs.lemmas.List.{drop_more, drop_all, take_more, take_all, take_more_set, drop-set-lt}
 use Rattle.std.proofs.lemmas.Map.Keys.{IsDistinct-tail}
 use Rattle.tatp_rows.proofs.OrderedLemmas.{by_test}
 use Rattle.tatp_rows.proofs.RowLemmas.{both}
 use Rattle.part_table.specs.Region.{is_part, is_piece, part_number, piece_number}
 use Rattle.part_table.specs.Regions.{AreRegions, IsConsecutive, IsPieceNumber, parts_of, pieces_of}
-use Rattle.part_table.specs.Inside.{side_behind, side_of}
-use Rattle.part_table.specs.Take.{side_between, joint, part_place, joined_pair, joined_behind, joined}
+use Rattle.part_table.specs.Take.{side_between, part_place, joined_pair, joined_behind, joined}
 use Rattle.part_table.specs.declared.region.Place.{Place}
 use Rattle.part_table.specs.declared.region.Place.TheVariants.{Part, Piece}
 use Rattle.part_table.specs.declared.region.Region.{Region}
@@ -126,60 +124,3 @@ regions-joined n q (region ∷ regions) are =
       numbered = each-joined_behind IsPieceNumber n q region regions are.numbered;
       distinct = distinct-joined_behind n q region regions are.distinct;
     }
-
--- the neighbours in front of a place, of which none are the piece and the part: what is left of the list decides
-pub record IsJoining (n q : ℕ) (d : Region) (regions : List Region) (i : ℕ) : Type 0 where
-  pub side : side_of n q regions ≡ side_behind n q (get_or regions i d) (drop (i + 1) regions)
-  pub rest : joined n q regions ≡ take i regions ++ joined_behind n q (get_or regions i d) (drop (i + 1) regions)
-
--- at the first region
-pub joining_none : (n q : ℕ) (d : Region) (regions : List Region) → 0 < length regions → IsJoining n q d regions 0
-joining_none n q d [] some = absurd (omega arith)
-joining_none n q d (region ∷ regions) some = record { side = refl; rest = refl }
-
--- two neighbours that are something else
-pub joining_more : (n q : ℕ) (d : Region) (regions : List Region) (i : ℕ) → i + 1 < length regions → side_between n q (get_or regions i d) (get_or regions (i + 1) d) ≡ None
-    → IsJoining n q d regions i → IsJoining n q d regions (i + 1)
-joining_more n q d regions i within none joining =
-    let e = drop_more regions (i + 1) d within in
-    let front = take_more regions i d (omega arith) in
-    record {
-      side = joining.side ∙ rw (e, none) refl;
-      rest = joining.rest ∙ rw (e, none, front) (rw append_assoc refl);
-    }
-
--- two neighbours that are the piece and the part
-pub joining_found : (n q : ℕ) (d : Region) (regions : List Region) (i : ℕ) (side : Side) → i + 1 < length regions → side_between n q (get_or regions i d) (get_or regions (i + 1) d) ≡ Some side
-    → IsJoining n q d regions i
-    → (side_of n q regions ≡ Some side) × (joined n q regions ≡ remove (set regions i (joint (get_or regions i d) (get_or regions (i + 1) d) side)) (i + 1))
-joining_found n q d regions i side within found joining =
-    let e = drop_more regions (i + 1) d within in
-    let one = joint (get_or regions i d) (get_or regions (i + 1) d) side in
-    let front = take_more_set regions i one (omega arith) in
-    let back = drop-set-lt (suc (i + 1)) regions i one (omega arith) in
-    let more : suc (i + 1) ≡ i + 1 + 1 = omega arith in
-    (joining.side ∙ rw (e, found) refl, joining.rest ∙ rw (e, found, front, back, more) (rw append_assoc refl))
-
--- no neighbours are left
-pub joining_all : (n q : ℕ) (d : Region) (regions : List Region) (i : ℕ) → i + 1 ≡ length regions → IsJoining n q d regions i → (side_of n q regions ≡ None) × (joined n q regions ≡ regions)
-joining_all n q d regions i at joining =
-    let e = drop_all (i + 1) regions (omega arith) in
-    let front = take_more regions i d (omega arith) in
-    let whole = take_all (i + 1) regions (omega arith) in
-    (joining.side ∙ rw e refl, joining.rest ∙ rw e (sym front ∙ whole))
-
--- the same at the place of the second of two neighbours
-pub joining_next : (n q : ℕ) (d : Region) (regions : List Region) (i : ℕ) → 1 ≤ i → i < length regions → None ≡ side_between n q (get_or regions (i - 1) d) (get_or regions i d)
-    → IsJoining n q d regions (i - 1) → IsJoining n q d regions (i + 1 - 1)
-joining_next n q d regions i second within none joining =
-    let more : i + 1 - 1 ≡ i - 1 + 1 = omega arith in
-    let here : i - 1 + 1 ≡ i = omega arith in
-    rw more (joining_more n q d regions (i - 1) (omega arith) (rw here (sym none)) joining)
-
-pub joining_here : (n q : ℕ) (d : Region) (regions : List Region) (i : ℕ) (side : Side) → 1 ≤ i → i < length regions → Some side ≡ side_between n q (get_or regions (i - 1) d) (get_or regions i d)
-    → IsJoining n q d regions (i - 1)
-    → (Some side ≡ side_of n q regions) × (remove (set regions (i - 1) (joint (get_or regions (i - 1) d) (get_or regions i d) side)) i ≡ joined n q regions)
-joining_here n q d regions i side second within found joining =
-    let here : i - 1 + 1 ≡ i = omega arith in
-    let both = joining_found n q d regions (i - 1) side (omega arith) (rw here (sym found)) joining in
-    (sym both.0, sym (rw here at both.1))

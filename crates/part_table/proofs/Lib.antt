@@ -1,5 +1,4 @@
 pub mod FirstLemmas
-pub mod FrontLemmas
 pub mod LeastLemmas
 pub mod NumberLemmas
 pub mod NumberedLemmas
@@ -15,11 +14,6 @@ pub mod GiveLemmas
 pub mod OpeningLemmas
 pub mod MoveLemmas
 pub mod AnswerLemmas
-pub mod StandLemmas
-pub mod Owners
-pub mod BesideLemmas
-pub mod WovenCutLemmas
-pub mod WovenLemmas
-pub mod WovenNumberedLemmas
-pub mod WovenJoinLemmas
-pub mod OwnerEditLemmas
+pub mod IndexLemmas
+pub mod GivingLemmas
+pub mod PairLemmas

@@ -1,8 +1,10 @@
 -- The numbers of parts and of loose pieces among regions.
-use Rattle.std.proofs.Common.{◌≡◌, ◌∙◌, refl, ap, ℕ, zero, suc, ◌+◌, ◌<◌, ◌≤◌, ◌≢◌, List, [], ◌∷◌, ◌++◌, Bool, true, false, length, arith}
-use Rattle.std.specs.Prelude.{◌==◌, ◌||◌, eqb, cond, count_by, if◌then◌else◌}
-use Rattle.std.specs.List.{AllByRecursion, IsDistinct, list_any, range_with_len}
+use Rattle.std.proofs.Common.{◌≡◌, ◌∙◌, refl, sym, ap, ℕ, ◌-◌, zero, suc, ◌+◌, ◌<◌, ◌≤◌, ◌≢◌, List, [], ◌∷◌, ◌++◌, Bool, true, false, length, arith, inl, inr}
+use Rattle.std.specs.Prelude.{◌==◌, ◌||◌, eqb, cond, count_by, if◌then◌else◌, nat_lt, drop, option_map, None, Option, position, take, slice_range}
+use Rattle.std.specs.List.{AllByRecursion, IsDistinct, list_any, position_or_len, range_with_len}
+use Rattle.std.proofs.lemmas.Bool.{cases_lt}
 use Rattle.std.proofs.lemmas.Bool.Decides.{nat_tests}
+use Rattle.std.proofs.lemmas.List.{length-drop, take_all}
 use Rattle.std.proofs.lemmas.List.Sums.{sum_by-cons}
 use Rattle.std.proofs.lemmas.Map.Keys.{IsDistinct-cons, IsDistinct-head, IsDistinct-tail}
 use Rattle.std.proofs.lemmas.Map.Steps.{length-le_from_distinct_below}
@@ -11,7 +13,7 @@ use Rattle.std.proofs.lemmas.List.FromFn.{length-range_with_len}
 use Rattle.std.proofs.lemmas.Map.Made.{length-le_from_is_member}
 use Rattle.tatp_rows.proofs.OrderedLemmas.{by_test, each-weaker}
 use Rattle.part_table.specs.Region.{is_part, is_of_part, is_of_part_place, is_piece, is_part_place, is_piece_place, part_number, piece_number}
-use Rattle.part_table.specs.Regions.{parts_of, pieces_of, IsPieceNumber}
+use Rattle.part_table.specs.Regions.{AreRegions, parts_of, pieces_of, IsPieceNumber}
 use Rattle.part_table.specs.declared.region.Place.{Place}
 use Rattle.part_table.specs.declared.region.Place.TheVariants.{Part, Piece}
 use Rattle.part_table.specs.declared.region.Region.{Region}
@@ -36,6 +38,65 @@ any_place n (Piece number) pieces rest same = ap (λ r. (number == n) || r) same
 pub any_piece : (n : ℕ) (regions : List Region) → list_any (is_piece n) regions ≡ list_any (λ m. m == n) (pieces_of regions)
 any_piece n [] = refl
 any_piece n (region ∷ regions) = any_place n region.place (pieces_of regions) (list_any (is_piece n) regions) (any_piece n regions)
+
+-- the region of a part stands behind as many regions as there are parts before it, at least
+module _ (p : ℕ) where
+  one_in_front : (from k : ℕ) (region : Region) (regions : List Region)
+      → ((next : ℕ) → parts_of regions ≡ range_with_len next (length (parts_of regions)) → next + k ≤ p → position_or_len (is_part p) regions ≡ k + position_or_len (is_part p) (drop k regions))
+      → (place : Place) → region.place ≡ place → parts_of (region ∷ regions) ≡ range_with_len from (length (parts_of (region ∷ regions))) → from + suc k ≤ p
+      → position_or_len (is_part p) (region ∷ regions) ≡ suc k + position_or_len (is_part p) (drop k regions)
+  one_in_front from k region regions more (Part number) is numbers before =
+      let told : number ∷ parts_of regions ≡ from ∷ range_with_len (from + 1) (length (parts_of regions)) = rw is at numbers in
+      let own : number ≡ from = cc in
+      let other : is_part p region ≡ false = rw is (grind (arith, nat_tests)) in
+      let rest : parts_of regions ≡ range_with_len (from + 1) (length (parts_of regions)) = cc in
+      let ahead : (from + 1) + k ≤ p = omega arith in
+      let same = more (from + 1) rest ahead in
+      rw other (omega (arith, same))
+  one_in_front from k region regions more (Piece number) is numbers before =
+      let rest : parts_of regions ≡ range_with_len from (length (parts_of regions)) = rw is at numbers in
+      let ahead : from + k ≤ p = omega arith in
+      let same = more from rest ahead in
+      rw is (omega (arith, same))
+
+  in_front : (from k : ℕ) (regions : List Region) → parts_of regions ≡ range_with_len from (length (parts_of regions)) → from + k ≤ p → k ≤ length regions
+      → position_or_len (is_part p) regions ≡ k + position_or_len (is_part p) (drop k regions)
+  in_front from zero regions numbers before few = omega arith
+  in_front from (suc k) [] numbers before few = absurd (omega arith)
+  in_front from (suc k) (region ∷ regions) numbers before few =
+      one_in_front from k region regions (λ next rest ahead. in_front next k regions rest ahead (omega arith)) region.place refl numbers before
+
+  -- so it is found among those behind them
+  pub part_behind : (regions : List Region) → AreRegions regions → p ≤ length regions
+      → position (is_part p) regions ≡ option_map (λ i. p + i) (position (is_part p) (drop p regions))
+  part_behind regions are low =
+      let front = in_front 0 p regions are.in_order (omega arith) low in
+      let count = length-drop p regions in
+      let behind = position_or_len (is_part p) (drop p regions) in
+      elim (cases_lt behind (length (drop p regions))) [
+        | inl found ↦
+            let there : nat_lt (position_or_len (is_part p) regions) (length regions) ≡ true = grind (arith, nat_tests) in
+            let here : nat_lt behind (length (drop p regions)) ≡ true = grind (arith, nat_tests) in
+            rw (there, here, front) refl
+        | inr none ↦
+            let there : nat_lt (position_or_len (is_part p) regions) (length regions) ≡ false = grind (arith, nat_tests) in
+            let here : nat_lt behind (length (drop p regions)) ≡ false = grind (arith, nat_tests) in
+            rw (there, here) refl
+      ]
+
+  -- what is found among those behind them is found
+  pub found_behind : (regions behind : List Region) (found : Option ℕ) → AreRegions regions → p ≤ length regions → behind ≡ slice_range regions p (length regions)
+      → found ≡ position (is_part p) behind → option_map (λ i. p + i) found ≡ position (is_part p) regions
+  found_behind regions behind found are low is same =
+      let all : take (length regions - p) (drop p regions) ≡ drop p regions = let count = length-drop p regions in grind (arith, take_all) in
+      rw (same, is, all) (sym (part_behind regions are low))
+
+  -- and there is none where there are fewer regions
+  pub part_nowhere : (regions : List Region) → AreRegions regions → length regions < p → position (is_part p) regions ≡ None
+  part_nowhere regions are past =
+      let front = in_front 0 (length regions) regions are.in_order (omega arith) (omega arith) in
+      let past_all : nat_lt (position_or_len (is_part p) regions) (length regions) ≡ false = grind (arith, nat_tests) in
+      rw past_all refl
 
 -- each region is of a part or of a piece
 one_place : (place : Place) (parts pieces : List ℕ) (count : ℕ) → count ≡ length parts + length pieces

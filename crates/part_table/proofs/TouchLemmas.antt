@@ -2,20 +2,29 @@
 use Rattle.std.proofs.Common.{◌≡◌, ◌∙◌, refl, sym, ap, ℕ, ◌<◌, ◌≤◌, List, [], ◌∷◌, ◌++◌, Bool, true, false, length, arith}
 use Rattle.std.specs.Prelude.{Some, None, Ok, Option, ◌==◌, find}
 use Rattle.std.specs.List.{IsDistinct, list_any}
-use Rattle.std.specs.Option.{ok_or}
+use Rattle.std.specs.Option.{ok_or, option_or}
 use Rattle.std.proofs.lemmas.Bool.Decides.{nat_tests}
 use Rattle.std.proofs.lemmas.Map.Keys.{IsDistinct-head, IsDistinct-tail}
 use Rattle.tatp_rows.proofs.OrderedLemmas.{by_test}
 use Rattle.part_table.specs.Region.{is_part, is_piece, is_part_place, is_piece_place, part_number, piece_number}
 use Rattle.part_table.specs.Regions.{AreRegions, IsConsecutive, parts_of, pieces_of}
-use Rattle.part_table.specs.Inside.{side_behind, side_of}
-use Rattle.part_table.specs.Take.{touching, answer_of_both, take_answer}
+use Rattle.part_table.specs.Take.{side_between, touching, answer_of_both, take_answer}
 use Rattle.part_table.specs.declared.region.Place.{Place}
 use Rattle.part_table.specs.declared.region.Place.TheVariants.{Part, Piece}
 use Rattle.part_table.specs.declared.region.Region.{Region}
 use Rattle.part_table.specs.declared.region.Side.{Side}
 use Rattle.tatp_rows.specs.declared.refusal.Refusal.TheVariants.{NotAdjacent}
 use Rattle.part_table.proofs.NumberLemmas.{part_place_is, piece_place_is, any_piece, any_part, none_among, range_distinct}
+
+-- the side of a part on which a piece lies, where two neighbours among a region and those behind it are the two
+abbrev pub side_behind : ℕ → ℕ → Region → List Region → Option Side
+side_behind n q first [] = None
+side_behind n q first (second ∷ regions) = option_or (side_between n q first second) (side_behind n q second regions)
+
+-- the same among all regions
+abbrev pub side_of : ℕ → ℕ → List Region → Option Side
+side_of n q [] = None
+side_of n q (region ∷ regions) = side_behind n q region regions
 
 -- a region is of a part or of a piece
 not_part : (n q : ℕ) (place : Place) → is_piece_place n place ≡ true → is_part_place q place ≡ false

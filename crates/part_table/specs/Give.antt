@@ -1,5 +1,5 @@
 -- Giving: a part's range is cut in two at a bound, and the stretch on one side becomes a loose piece.
-use Rattle.std.specs.Prelude.{◌≡◌, ℕ, ◌<◌, ◌==◌, false, ◌&&◌, ◌++◌, not, nat_lt, List, [], ◌∷◌, length, Option, Some, None, if◌then◌else◌, Result, Ok, Err}
+use Rattle.std.specs.Prelude.{◌≡◌, ℕ, ◌+◌, ◌<◌, ◌==◌, false, ◌&&◌, ◌++◌, not, nat_lt, List, [], ◌∷◌, length, Option, Some, None, if◌then◌else◌, Result, Ok, Err}
 use Rattle.std.specs.List.{find, list_any}
 use Rattle.tatp_rows.specs.declared.refusal.Refusal.{Refusal}
 use Rattle.tatp_rows.specs.declared.refusal.Refusal.TheVariants.{NoPart, OutOfRange, ManyPieces}
@@ -53,3 +53,13 @@ cut p n side at (region ∷ regions) = if is_part p region then halves n side at
 abbrev pub after_give : ℕ → Side → ℕ → Result (ℕ × ℕ × ℕ) Refusal → List Region → List Region
 after_give p side at (Ok piece) regions = cut p piece.0 side at regions
 after_give p side at (Err why) regions = regions
+
+-- of two neighbours, a part and a piece on one side of it: the index of the piece, by that of the first, and the index of
+-- the second, by that of the piece (no public clause cites these two)
+abbrev pub piece_index : Side → ℕ → ℕ
+piece_index Low i = i
+piece_index High i = i + 1
+
+abbrev pub second_index : Side → ℕ → ℕ
+second_index Low i = i + 1
+second_index High i = i

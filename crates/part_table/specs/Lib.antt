@@ -1,6 +1,5 @@
 pub mod Bounds
 pub mod Give
-pub mod Inside
 pub mod Least
 pub mod Numbered
 pub mod Opening
@@ -9,4 +8,3 @@ pub mod Recut
 pub mod Region
 pub mod Regions
 pub mod Take
-pub mod Woven

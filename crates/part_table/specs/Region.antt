@@ -34,6 +34,10 @@ is_of_part region = is_of_part_place region.place
 abbrev pub lies_in : ℕ → Region → Bool
 lies_in s_id region = nat_le region.lo s_id && nat_lt s_id region.hi
 
+-- the range ends behind an s_id
+abbrev pub ends_behind : ℕ → Region → Bool
+ends_behind s_id region = nat_lt s_id region.hi
+
 -- the number of a part, and nothing of a piece
 abbrev pub part_number : Place → List ℕ
 part_number (Part number) = number ∷ []

@@ -1,17 +1,41 @@
-//! Finding the regions of parts and of loose pieces, and a number for a new piece.
-ghost use Rattle.std.specs.Prelude.{◌≡◌, ◌<◌, length, take, position, unwrap_or, IfSome, MatchOption};
-ghost use Rattle.std.specs.List.{find, list_any};
+//! Finding regions, counting those of parts, and a number for a new piece.
+ghost use Rattle.std.specs.Prelude.{◌≡◌, length, position, count_by, MatchOption};
+ghost use Rattle.std.specs.List.{list_any};
 ghost use Rattle.part_table.specs.Give.{IsFreeNumber};
-ghost use Rattle.part_table.specs.Region.{is_part, is_piece};
+ghost use Rattle.part_table.specs.Region.{ends_behind, is_of_part, is_part, is_piece};
 ghost use Rattle.part_table.specs.Regions.{AreRegions, pieces_of};
 
 use crate::region::{MOST_PIECES, Region};
 
-/// Where the region of the part `p` stands, if it is there.
-pub(crate) fn part_at(regions: &[Region], p: u64) -> Option<usize>
+/// How many regions are of parts.
+pub(crate) fn count_parts(regions: &[Region]) -> usize
+    ensures { result ≡ count_by is_of_part regions.now }
+{
+    regions.iter().filter(|region| region.is_of_part()).count()
+}
+
+/// Where the first region stands that ends behind an s_id, if there is one.
+pub(crate) fn end_behind(regions: &[Region], s_id: u32) -> Option<usize>
+    ensures { result ≡ position (ends_behind s_id) regions.now }
+{
+    regions.iter().position(|region| s_id < region.hi)
+}
+
+/// Where the region of the part `p` stands among some of the regions, if it is there.
+fn part_among(regions: &[Region], p: u64) -> Option<usize>
     ensures { result ≡ position (is_part p) regions.now }
 {
     regions.iter().position(|region| region.is_part(p))
+}
+
+/// Where the region of the part `p` stands, if it is there: behind those of the parts before it.
+pub(crate) fn part_at(regions: &[Region], p: u64) -> Option<usize>
+    requires { AreRegions regions.now }
+    ensures { result ≡ position (is_part p) regions.now }
+{
+    let before = p as usize;
+    let i = part_among(regions.get(before..)?, p)?;
+    Some(before + i)
 }
 
 /// Where the region of the loose piece `n` stands, if it is there.
@@ -19,29 +43,6 @@ pub(crate) fn piece_at(regions: &[Region], n: u64) -> Option<usize>
     ensures { result ≡ position (is_piece n) regions.now }
 {
     regions.iter().position(|region| region.is_piece(n))
-}
-
-/// How many regions of loose pieces stand in front of a place, or in all where there is none.
-pub(crate) fn pieces_in_front(regions: &[Region], place: Option<usize>) -> usize
-    requires { IfSome place (λ i. i < length regions.now) }
-    ensures { result ≡ length (pieces_of (take (unwrap_or place (length regions.now)) regions.now)) }
-{
-    let front = &regions[..place.unwrap_or(regions.len())];
-    front.iter().filter(|region| !region.is_of_part()).count()
-}
-
-/// The region of the part `p`, if there is such a part.
-pub(crate) fn find_part(regions: &[Region], p: u64) -> Option<Region>
-    ensures { result ≡ find (is_part p) regions.now }
-{
-    regions.iter().copied().find(|region| region.is_part(p))
-}
-
-/// The region of the loose piece `n`, if there is such a piece.
-pub(crate) fn find_piece(regions: &[Region], n: u64) -> Option<Region>
-    ensures { result ≡ find (is_piece n) regions.now }
-{
-    regions.iter().copied().find(|region| region.is_piece(n))
 }
 
 /// Whether a loose piece has this number.

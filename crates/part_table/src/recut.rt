@@ -1,11 +1,11 @@
 //! Which bounds a re-cut moves, and in which order.
-ghost use Rattle.std.specs.Prelude.{◌≡◌, ◌+◌, ◌-◌, ◌<◌, ◌≤◌, [], ◌∷◌, ◌++◌, true, Ok, Err, length, count_by, IfOk, MatchResult};
+ghost use Rattle.std.specs.Prelude.{◌≡◌, ◌+◌, ◌-◌, ◌<◌, ◌≤◌, [], ◌∷◌, ◌++◌, true, Ok, Err, length, IfOk, MatchResult};
 ghost use Rattle.arrayvec.specs.ArrayVec.{array_vec_len};
 ghost use Rattle.part_table.specs.Bounds.{are_rising, parts_between};
 ghost use Rattle.part_table.specs.Recut.{recut_answer, all_moved, rising_moves, falling_moves, bounds_of};
-ghost use Rattle.part_table.specs.Region.{is_of_part};
 
 use crate::bounds::are_rising;
+use crate::finding::count_parts;
 use crate::moves::CutMove;
 use crate::region::Region;
 use crate::regions::Regions;
@@ -34,13 +34,6 @@ impl Regions {
         let falling = falling_moves(regions, bounds);
         Ok(joined(rising, &falling))
     }
-}
-
-/// How many regions are of parts.
-fn count_parts(regions: &[Region]) -> usize
-    ensures { result ≡ count_by is_of_part regions.now }
-{
-    regions.iter().filter(|region| region.is_of_part()).count()
 }
 
 /// Appends the move of a bound.

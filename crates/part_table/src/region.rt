@@ -1,6 +1,6 @@
 //! A region: a range of s_ids, and who holds it.
 ghost use Rattle.std.specs.Prelude.{◌≡◌};
-ghost use Rattle.part_table.specs.Region.{is_of_part, is_part, is_piece, lies_in};
+ghost use Rattle.part_table.specs.Region.{is_of_part, is_part, is_piece};
 
 use tatp_rows::LAST_SUBSCRIBER;
 
@@ -90,12 +90,5 @@ impl Region {
             Place::Part(_) => true,
             Place::Piece(_) => false,
         }
-    }
-
-    /// Whether an s_id lies in the range.
-    pub(crate) fn has(&self, s_id: u32) -> bool
-        ensures { result ≡ lies_in s_id self.now }
-    {
-        self.lo <= s_id && s_id < self.hi
     }
 }

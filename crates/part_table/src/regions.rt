@@ -1,19 +1,16 @@
 //! The regions of all s_ids, and what gives and takes do to them.
-ghost use Rattle.std.specs.Prelude.{◌≡◌, ◌<◌, ◌≤◌, Some, count_by, length};
-ghost use Rattle.std.specs.List.{find};
-ghost use Rattle.arrayvec.specs.ArrayVec.{array_vec_len};
-ghost use Rattle.part_table.specs.Give.{give_answer, after_give, cut};
+ghost use Rattle.std.specs.Prelude.{◌≡◌, ◌<◌, ◌≤◌, ℕ, Some, IfOk, IfErr, count_by, length, position};
+ghost use Rattle.part_table.specs.Give.{answer_of_part, give_answer, after_give, cut, second_index};
 ghost use Rattle.part_table.specs.Numbered.{over_ranges};
 ghost use Rattle.part_table.specs.Opening.{opening, can_open};
 ghost use Rattle.part_table.specs.Region.{is_part, is_piece, lies_in};
 ghost use Rattle.part_table.specs.Regions.{AreRegions, parts_of, pieces_of, place_of};
 ghost use Rattle.part_table.specs.declared.region.TheConstants.{MOST_PARTS, MOST_PIECES};
-ghost use Rattle.part_table.specs.Take.{take_answer, after_take, touching};
-ghost use Rattle.part_table.specs.Woven.{pieces_before};
+ghost use Rattle.part_table.specs.Take.{answer_of_both, joined, take_answer, after_take, touching};
 
 use crate::cutting::{given, halves, put_two};
-use crate::finding::{find_part, find_piece, free_number, part_at, piece_at, pieces_in_front};
-use crate::joining::join;
+use crate::finding::{count_parts, end_behind, free_number, part_at, piece_at};
+use crate::joining::{joint, put_one};
 use crate::numbering::Next;
 use crate::region::{END, MOST_PARTS, Place, Region, Side};
 use arrayvec::ArrayVec;
@@ -103,6 +100,34 @@ impl Regions {
         self.list.as_slice()
     }
 
+    /// How many parts there are.
+    pub fn parts(&self) -> u8
+        ensures value { result ≡ length (parts_of self.now) }
+        ensures some { 1 ≤ result }
+        ensures few { result ≤ MOST_PARTS }
+    {
+        count_parts(self.list()) as u8
+    }
+
+    /// Where the region stands in which an s_id of 1..=16,777,216 lies.
+    pub fn index(&self, s_id: u32) -> usize
+        requires from { 1 ≤ s_id }
+        requires to { s_id < END }
+        ensures { position (lies_in s_id) self.now ≡ Some result }
+    {
+        match end_behind(self.list(), s_id) {
+            Some(i) => i,
+            None => unreachable!(),
+        }
+    }
+
+    /// Where the region of the part `p` stands, if there is such a part.
+    pub fn index_of_part(&self, p: u64) -> Option<usize>
+        ensures { result ≡ position (is_part p) self.now }
+    {
+        part_at(self.list(), p)
+    }
+
     /// Who holds an s_id of 1..=16,777,216.
     pub fn place(&self, s_id: u32) -> Place
         requires from { 1 ≤ s_id }
@@ -110,37 +135,7 @@ impl Regions {
         ensures value { Some result ≡ place_of s_id self.now }
         ensures alone { count_by (lies_in s_id) self.now ≡ 1 }
     {
-        for region in self.list() {
-            if region.has(s_id) {
-                return region.place;
-            }
-        }
-        unreachable!()
-    }
-
-    /// The region of the part `p`, if there is such a part.
-    pub(crate) fn region_of_part(&self, p: u64) -> Option<Region>
-        ensures { result ≡ find (is_part p) self.now }
-    {
-        find_part(self.list(), p)
-    }
-
-    /// How many regions of loose pieces stand in front of that of the part `p`; all of them where there is no such
-    /// part.
-    pub fn pieces_before_part(&self, p: u64) -> usize
-        ensures { result ≡ pieces_before (is_part p) self.now }
-    {
-        let regions = self.list();
-        pieces_in_front(regions, part_at(regions, p))
-    }
-
-    /// How many regions of loose pieces stand in front of that of the loose piece `n`; all of them where there is no
-    /// such piece.
-    pub fn pieces_before_piece(&self, n: u64) -> usize
-        ensures { result ≡ pieces_before (is_piece n) self.now }
-    {
-        let regions = self.list();
-        pieces_in_front(regions, piece_at(regions, n))
+        self.list()[self.index(s_id)].place
     }
 
     /// What [`Regions::give`] would answer: the number of the new loose piece, and where it begins and ends; or
@@ -148,13 +143,32 @@ impl Regions {
     pub fn give_answer(&self, p: u64, side: Side, at: u64) -> Result<(u8, u32, u32), Refusal>
         ensures { result ≡ give_answer p side at self.now }
     {
-        let part = self.region_of_part(p).ok_or(Refusal::NoPart)?;
-        if at <= u64::from(part.lo) || u64::from(part.hi) <= at {
-            return Err(Refusal::OutOfRange);
-        }
-        let n = free_number(self.list()).ok_or(Refusal::ManyPieces)?;
-        let (lo, hi) = given(part, side, at as u32);
-        Ok((n, lo, hi))
+        let (_, piece) = self.giving(p, side, at)?;
+        Ok(piece)
+    }
+
+    /// What [`Regions::give_answer`] answers, and in front of it where the region of the part stands. Nothing changes.
+    pub fn giving(&self, p: u64, side: Side, at: u64) -> Result<(usize, (u8, u32, u32)), Refusal>
+        ensures index { IfOk result (λ told. position (is_part p) self.now ≡ Some told.0) }
+        ensures answer { IfOk result (λ told. give_answer p side at self.now ≡ Ok told.1) }
+        ensures refused { IfErr result (λ why. give_answer p side at self.now ≡ Err why) }
+    {
+        let regions = self.list();
+        let Some(i) = part_at(regions, p) else {
+            return Err(Refusal::NoPart);
+        };
+        let piece = answer_of(regions, regions[i], side, at)?;
+        Ok((i, piece))
+    }
+
+    /// The part gives the stretch away of which [`Regions::giving`] told, and the index with it: the regions are those
+    /// that [`Regions::give`] leaves.
+    pub fn give_at(&mut self, i: usize, side: Side, at: u64, piece: (u8, u32, u32))
+        requires { (p : ℕ) × (position (is_part p) self.old ≡ Some i) × (give_answer p side at self.old ≡ Ok piece) }
+        ensures { (p : ℕ) → position (is_part p) self.old ≡ Some i → self.new ≡ cut p piece.0 side at self.old }
+    {
+        let (low, high) = halves(self.list[i], piece.0, side, at as u32);
+        put_two(&mut self.list, i, low, high);
     }
 
     /// What [`Regions::take`] would answer: the side of the part on which the loose piece lies; or `NoPiece`, `NoPart`
@@ -162,9 +176,39 @@ impl Regions {
     pub fn take_answer(&self, n: u64, q: u64) -> Result<Side, Refusal>
         ensures { result ≡ take_answer n q self.now }
     {
-        let piece = find_piece(self.list(), n).ok_or(Refusal::NoPiece)?;
-        let part = self.region_of_part(q).ok_or(Refusal::NoPart)?;
-        touching(piece, part).ok_or(Refusal::NotAdjacent)
+        let (_, side) = self.taking(n, q)?;
+        Ok(side)
+    }
+
+    /// What [`Regions::take_answer`] answers, and in front of it where the region of the loose piece stands. Nothing
+    /// changes.
+    pub fn taking(&self, n: u64, q: u64) -> Result<(usize, Side), Refusal>
+        ensures index { IfOk result (λ told. position (is_piece n) self.now ≡ Some told.0) }
+        ensures answer { IfOk result (λ told. take_answer n q self.now ≡ Ok told.1) }
+        ensures refused { IfErr result (λ why. take_answer n q self.now ≡ Err why) }
+    {
+        let regions = self.list();
+        let Some(i) = piece_at(regions, n) else {
+            return Err(Refusal::NoPiece);
+        };
+        let Some(k) = part_at(regions, q) else {
+            return Err(Refusal::NoPart);
+        };
+        let side = side_of_both(regions[i], regions[k])?;
+        Ok((i, side))
+    }
+
+    /// The part takes the loose piece, whose index and side [`Regions::taking`] told: the regions are those that
+    /// [`Regions::take`] leaves.
+    pub fn take_at(&mut self, i: usize, side: Side)
+        requires { (n q : ℕ) × (position (is_piece n) self.old ≡ Some i) × (take_answer n q self.old ≡ Ok side) }
+        ensures { (n q : ℕ) → position (is_piece n) self.old ≡ Some i → take_answer n q self.old ≡ Ok side → self.new ≡ joined n q self.old }
+    {
+        // Opens the regions for the prover: there are few.
+        let _ = &self.list;
+        let second = second_index(side, i);
+        let whole = joint(self.list[second - 1], self.list[second], side);
+        put_one(&mut self.list, second, whole);
     }
 
     /// The part `p` gives the stretch on one side of `at` away: from `at` on where the side is high, below it where it
@@ -175,9 +219,9 @@ impl Regions {
         ensures answer { result ≡ give_answer p side at self.old }
         ensures after { self.new ≡ after_give p side at result self.old }
     {
-        let (n, lo, hi) = self.give_answer(p, side, at)?;
-        cut(&mut self.list, p, n, side, at as u32);
-        Ok((n, lo, hi))
+        let (i, piece) = self.giving(p, side, at)?;
+        self.give_at(i, side, at, piece);
+        Ok(piece)
     }
 
     /// The part `q` takes the loose piece `n`, which has to touch it; the answer is the side of the part on which the
@@ -186,8 +230,8 @@ impl Regions {
         ensures answer { result ≡ take_answer n q self.old }
         ensures after { self.new ≡ after_take n q result self.old }
     {
-        let side = self.take_answer(n, q)?;
-        join(&mut self.list, n, q);
+        let (i, side) = self.taking(n, q)?;
+        self.take_at(i, side);
         Ok(side)
     }
 }
@@ -197,6 +241,42 @@ pub fn can_open(parts: u8, width: u32) -> bool
     ensures { result ≡ can_open parts width }
 {
     1 <= parts && parts <= MOST_PARTS && 1 <= width && width <= GREATEST_WIDTH
+}
+
+/// What a part with this region answers to a give: the number of the new loose piece, and where it begins and ends.
+fn answer_of(
+    regions: &[Region],
+    part: Region,
+    side: Side,
+    at: u64,
+) -> Result<(u8, u32, u32), Refusal>
+    requires { AreRegions regions.now }
+    ensures { result ≡ answer_of_part (Some part) side at regions.now }
+{
+    if at <= u64::from(part.lo) || u64::from(part.hi) <= at {
+        return Err(Refusal::OutOfRange);
+    }
+    let n = free_number(regions).ok_or(Refusal::ManyPieces)?;
+    let (lo, hi) = given(part, side, at as u32);
+    Ok((n, lo, hi))
+}
+
+/// What a take of a loose piece by a part with these regions answers.
+fn side_of_both(piece: Region, part: Region) -> Result<Side, Refusal>
+    ensures { result ≡ answer_of_both (Some piece) (Some part) }
+{
+    touching(piece, part).ok_or(Refusal::NotAdjacent)
+}
+
+/// The index of the second of two neighbours, by that of the piece that lies on one side of the part.
+fn second_index(side: Side, i: usize) -> usize
+    requires { i < 32 }
+    ensures { result ≡ second_index side i }
+{
+    match side {
+        Side::Low => i + 1,
+        Side::High => i,
+    }
 }
 
 /// The side of a part on which a piece lies, where their ranges touch.
@@ -209,18 +289,5 @@ fn touching(piece: Region, part: Region) -> Option<Side>
         Some(Side::High)
     } else {
         None
-    }
-}
-
-/// Cuts a part's region in two at `at`, of which the half on one side becomes the loose piece `n`; without such a part
-/// the regions stay.
-fn cut(list: &mut ArrayVec<Region, 32>, p: u64, n: u8, side: Side, at: u32)
-    requires { array_vec_len list.old < 32 }
-    ensures { list.new.items ≡ cut p n side at list.old.items }
-{
-    let regions = list.as_slice();
-    if let Some(index) = part_at(regions, p) {
-        let (low, high) = halves(regions[index], n, side, at);
-        put_two(list, index, low, high);
     }
 }

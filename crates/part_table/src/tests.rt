@@ -180,20 +180,27 @@ fn regions_are_found(rt: HostRuntime) {
         Give(0, Side::High, 5, Ok((2, 5, 65))),
     ];
     expect_each(&rt, &mut regions, &gives);
-    let found = [regions.region_of_part(1), regions.region_of_part(2)];
-    let before_parts = [
-        regions.pieces_before_part(0),
-        regions.pieces_before_part(1),
-        regions.pieces_before_part(2),
+    let indexes = [
+        regions.index(4),
+        regions.index(5),
+        regions.index(16_777_216),
     ];
-    let before_pieces = [
-        regions.pieces_before_piece(2),
-        regions.pieces_before_piece(1),
-        regions.pieces_before_piece(3),
+    let of_parts = [
+        regions.index_of_part(0),
+        regions.index_of_part(1),
+        regions.index_of_part(2),
     ];
+    let giving = regions.giving(1, Side::High, 80);
+    let taking = regions.taking(1, 1);
     assert_eq!(rt;
-        (found, before_parts, before_pieces),
-        ([Some(part(1, 70, 16_777_217)), None], [0, 2, 2], [0, 1, 2])
+        (regions.parts(), indexes, of_parts, giving, taking),
+        (
+            2,
+            [0, 1, 3],
+            [Some(0), Some(3), None],
+            Ok((3, (3, 80, 16_777_217))),
+            Ok((2, Side::Low))
+        )
     );
 }
 

@@ -1,15 +1,13 @@
--- What an event on rows asks for, once its plain numbers are checked, and what the owner of the rows answers.
-use Rattle.std.specs.Prelude.{⊤, ◌≡◌, ◌+◌, Bool, true, false, Option, Some, None, Result, Ok, Err, if◌then◌else◌}
+-- What an event on rows asks for, once its plain numbers are checked.
+use Rattle.std.specs.Prelude.{⊤, ◌≡◌, ◌+◌, Bool, true, false, Option, Some, None, Result, Ok, Err}
 use Rattle.tatp_rows.specs.declared.refusal.Refusal.{Refusal}
 use Rattle.tatp_rows.specs.declared.refusal.Refusal.TheVariants as refusal
 use Rattle.tatp_rows.specs.declared.ranges.TheConstants.{LAST_SUBSCRIBER}
-use Rattle.tatp_actions.specs.Action.{is_in_range, s_id_of, IsOutcome}
-use Rattle.tatp_actions.specs.Book.{Book, IsWithin}
+use Rattle.tatp_actions.specs.Action.{is_in_range, s_id_of}
+use Rattle.tatp_actions.specs.Book.{IsWithin}
 use Rattle.tatp_actions.specs.declared.action.Action.{Action}
-use Rattle.tatp_actions.specs.declared.action.RowReply.{RowReply}
-use Rattle.tatp_actions.specs.declared.action.RowReply.TheVariants as row_reply
+use Rattle.hlr_owners.specs.Store.{Store}
 use Rattle.hlr_core.specs.Step.{IsAskedStep, checked, given_number}
-use Rattle.hlr_core.specs.Store.{Store}
 use Rattle.hlr_core.specs.declared.event.Event.{Event}
 use Rattle.hlr_core.specs.declared.event.Event.TheVariants as event
 use Rattle.hlr_core.specs.declared.event.Reply.{Reply}
@@ -47,13 +45,6 @@ IsRowStep fits wanted before answer after = IsAskedStep (checked fits wanted) be
 -- a right step of an event that names its subscriber
 abbrev pub IsActionStep : Action → Store → Reply → Store → Type 0
 IsActionStep act before answer after = IsRowStep (is_in_range act) (Some act) before answer after
-
--- what the owner of an action's rows may answer: a loose piece answers Moving, after Field, and else it is a right
--- outcome
-abbrev pub IsAnswered : Bool → Action → Book → RowReply → Book → Type 0
-IsAnswered false act before answer after = IsOutcome act before answer after
-IsAnswered true act before answer after =
-    (answer ≡ row_reply.Refused (if is_in_range act then refusal.Moving else refusal.Field)) × (after ≡ before)
 
 -- the action that an edit asks for, which is an action by way of its type
 abbrev pub action_asked : {E : Type 0} → (E → Action) → Result E Refusal → Result Action Refusal

@@ -1,5 +1,5 @@
 use Rattle.std.proofs.Common.{◌∙◌, sym}
-use Rattle.hlr_core.proofs.MayGatherLemmas.{first_board, second_board, two_back}
+use Rattle.hlr_owners.proofs.MayGatherLemmas.{first_board, second_board, two_back}
 use Rattle.hlr_example.proofs.owners_work.Goals as goal
 
 pub work_side_by_side-low-requires-after_bounds : goal.work_side_by_side-low-requires-after_bounds

@@ -11,6 +11,7 @@ loop-count-init g c = record {
   ready = c.requires.ready;
   config = c.requires.config;
   few = omega arith;
+  home = c.requires.home;
   so_far = if_known _ _ (λ bytes is. started _ _ _ _ _ is c.requires.start);
 }
 
@@ -27,7 +28,7 @@ returns-then-is_err-clause-text g c =
     let failed : is_err c.answer_in_time.result ≡ true = search rules in
     if_some _ _ _ (λ bytes so.
     breaks (inner_remaining g.R.Read.remaining) _ bytes c.loop-count.reader c.read_byte_record.new.self _ _ _ _ _ _ _ so inv.config _ c.in-Ok-true.field-0-test
-    (c.in-Ok-true.ensures.reads inv.trims inv.ready) _ c.answer_in_time.result failed c.answer_in_time.ensures (omega arith)) inv.so_far
+    (c.in-Ok-true.ensures.reads inv.trims inv.ready) _ c.answer_in_time.result failed c.answer_in_time.ensures.text (omega arith)) inv.so_far
 
 pub returns-in-Err-clause-text : goal.returns-in-Err-clause-text
 returns-in-Err-clause-text g c = if_some _ _ _ (λ bytes so. stops _ _ _ _ _ _ _ _ _ so c.loop-count.invariant.few) c.loop-count.invariant.so_far
@@ -46,12 +47,13 @@ loop-count-preserved g c =
       ready = inl (c.in-Ok-true.ensures.ready inv.trims);
       config = read.2 ∙ inv.config;
       few = omega arith;
+      home = c.answer_in_time.ensures.home;
       so_far = if_some _ _ _ (λ bytes so.
           goes_on (inner_remaining g.R.Read.remaining) _ bytes c.loop-count.reader c.read_byte_record.new.self _ _ _ _ _ _ _ so inv.config _ c.in-Ok-true.field-0-test
-          (c.in-Ok-true.ensures.reads inv.trims inv.ready) _ c.answer_in_time.result passed c.answer_in_time.ensures) inv.so_far;
+          (c.in-Ok-true.ensures.reads inv.trims inv.ready) _ c.answer_in_time.result passed c.answer_in_time.ensures.text) inv.so_far;
     }
 
 pub returns-then-is_err-clause-write : goal.returns-then-is_err-clause-write
 returns-then-is_err-clause-write g c = λ is.
     let failed : is_err c.answer_in_time.result ≡ true = search rules in
-    (put_front _ _ _ _ c.answer_in_time.result failed c.answer_in_time.ensures.put).1
+    (put_front _ _ _ _ c.answer_in_time.result failed c.answer_in_time.ensures.text.put).1

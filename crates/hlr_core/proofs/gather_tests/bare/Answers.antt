@@ -1,8 +1,8 @@
 use Rattle.std.proofs.Common.{◌∙◌, sym, ℕ}
 use Rattle.std.proofs.lemmas.List.{length-replicate}
 use Rattle.view_board.specs.declared.words.TheConstants.{WORDS}
-use Rattle.hlr_core.proofs.MayGatherLemmas.{new_board}
-use Rattle.hlr_core.proofs.ShareLemmas.{zeros_opening}
+use Rattle.hlr_owners.proofs.MayGatherLemmas.{new_board}
+use Rattle.hlr_owners.proofs.ShareLemmas.{zeros_opening}
 use Rattle.hlr_core.proofs.gather_tests.bare.Goals as goal
 
 pub returns : goal.returns

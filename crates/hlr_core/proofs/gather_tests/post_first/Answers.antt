@@ -1,5 +1,5 @@
 use Rattle.std.proofs.Common.{◌∙◌, refl, sym}
-use Rattle.hlr_core.proofs.MayGatherLemmas.{first_board, two_back}
+use Rattle.hlr_owners.proofs.MayGatherLemmas.{first_board, two_back}
 use Rattle.hlr_core.proofs.gather_tests.post_first.Goals as goal
 
 pub post_in_thread-first-requires-after_bounds : goal.post_in_thread-first-requires-after_bounds

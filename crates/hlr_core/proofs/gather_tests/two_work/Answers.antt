@@ -1,5 +1,5 @@
 use Rattle.std.proofs.Common.{◌∙◌, sym}
-use Rattle.hlr_core.proofs.MayGatherLemmas.{first_board, second_board, two_turned, looked_may}
+use Rattle.hlr_owners.proofs.MayGatherLemmas.{first_board, second_board, two_turned, looked_may}
 use Rattle.hlr_core.proofs.gather_tests.two_work.Goals as goal
 
 pub side_by_side-low-requires-after_bounds : goal.side_by_side-low-requires-after_bounds

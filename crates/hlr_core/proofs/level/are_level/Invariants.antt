@@ -1,5 +1,5 @@
 use Rattle.std.proofs.Common.{ℕ, ◌<◌}
-use Rattle.hlr_core.specs.Desks.{IsLevel}
+use Rattle.hlr_owners.specs.Desks.{IsLevel}
 use Rattle.hlr_core.proofs.level.are_level.Given as goal
 
 abbrev pub invariant-loop-slot : goal.invariant-loop-slot

@@ -4,7 +4,7 @@ use Rattle.hlr_core.proofs.NotedLemmas.{rows_from_start, rows_from_end, rows_fro
 use Rattle.hlr_core.proofs.numbers.add_numbers_of.Goals as goal
 
 pub loop-row-init : goal.loop-row-init
-loop-row-init g c = noting_start _ _ c.args.index.now (rows_from_start (g.O.Owner.rows_of c.args.owner.now))
+loop-row-init g c = noting_start _ _ c.args.index.now (rows_from_start (g.O.HasSubscribers.rows_of c.args.owner.now))
 
 pub returns-in_err-add-clause-err : goal.returns-in_err-add-clause-err
 returns-in_err-add-clause-err g c =
@@ -24,4 +24,4 @@ loop-row-preserved g c =
     (c.from-from.ensures ∙ c.s_id-in-Some.ensures.value) added.1
 
 pub returns-clause-ok : goal.returns-clause-ok
-returns-clause-ok g c = noting_end _ _ _ _ (rows_from_end c.loop-row.from (g.O.Owner.rows_of c.args.owner.now) (sym c.in_default.ensures.value)) c.loop-row.invariant
+returns-clause-ok g c = noting_end _ _ _ _ (rows_from_end c.loop-row.from (g.O.HasSubscribers.rows_of c.args.owner.now) (sym c.in_default.ensures.value)) c.loop-row.invariant

@@ -5,4 +5,4 @@ use Rattle.hlr_core.proofs.numbers.add_numbers_of_all.Given as goal
 
 abbrev pub invariant-loop-owner : goal.invariant-loop-owner
 invariant-loop-owner g l =
-    IsNoting (rows_of_each (λ owner. g.O.Owner.rows_of owner.value) (drop l.owner-index l.owners)) (rows_of_each (λ owner. g.O.Owner.rows_of owner.value) l.owners) l.fn.index l.index
+    IsNoting (rows_of_each (λ owner. g.O.HasSubscribers.rows_of owner.value) (drop l.owner-index l.owners)) (rows_of_each (λ owner. g.O.HasSubscribers.rows_of owner.value) l.owners) l.fn.index l.index

@@ -1,4 +1,12 @@
+use Rattle.std.proofs.Common.{refl}
+use Rattle.tatp_actions.specs.declared.action.Action.TheVariants as action
+use Rattle.hlr_core.proofs.HomeLemmas.{home_of_bearer}
 use Rattle.hlr_core.proofs.register.Register.delete_forwarding.Goals as goal
 
-pub returns : goal.returns
-returns c = rw (← c.bearer-bearer_id.ensures.value) (c.edit.ensures _ _ c.delete_forwarding.ensures.asked)
+pub edit-requires-clause-home : goal.edit-requires-clause-home
+edit-requires-clause-home c =
+    home_of_bearer _ _ (λ s_id. action.DeleteForwarding s_id c.args.sf_type c.args.start_time) c.bearer-bearer_id.result _ c.delete_forwarding.result (λ s_id. refl)
+    (rw (c.bearer-bearer_id.ensures.value) c.requires) c.delete_forwarding.ensures.asked
+
+pub returns-clause-step : goal.returns-clause-step
+returns-clause-step c = rw (← c.bearer-bearer_id.ensures.value) (c.edit.ensures.step _ _ c.delete_forwarding.ensures.asked)

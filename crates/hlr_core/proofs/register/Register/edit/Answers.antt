@@ -6,14 +6,14 @@ use Rattle.hlr_core.proofs.register.Register.edit.Goals as goal
 
 pub invariant_of-self : goal.invariant_of-self
 invariant_of-self g c =
-    answered_registered _ (g.E.Edit.action c.in_ok-edit.edit) _ _ (done_reply c.edit.result) _ (rw (c.in_ok-edit.was) at c.requires).1 c.self.invariant c.edit.ensures.rows c.edit.ensures.answer
+    answered_registered _ (g.E.Edit.action c.in_ok-edit.edit) _ _ (done_reply c.edit.result) _ (rw (c.in_ok-edit.was) at c.requires.action).1 c.self.invariant c.edit.ensures.rows c.edit.ensures.answer
 
-pub returns : goal.returns
-returns g c = λ fits wanted asked.
-    rw (← c.self.view_is) (asked_step fits wanted (g.E.Edit.action c.in_ok-edit.edit) _ _ (done_reply c.edit.result) _ (rw (c.in_ok-edit.was) at c.requires).1 (rw (c.in_ok-edit.was) at asked) c.edit.ensures.answer
-    c.edit.ensures.same (edited_is c.edit.result))
+pub returns-clause-step : goal.returns-clause-step
+returns-clause-step g c = λ fits wanted asked.
+    rw (← c.self.view_is) (asked_step fits wanted (g.E.Edit.action c.in_ok-edit.edit) _ _ (done_reply c.edit.result) _ (rw (c.in_ok-edit.was) at c.requires.action).1 (rw (c.in_ok-edit.was) at asked) c.edit.ensures.answer
+    c.edit.ensures.store (edited_is c.edit.result))
 
-pub returns-in_err-edit : goal.returns-in_err-edit
-returns-in_err-edit g c = λ fits wanted asked.
+pub returns-in_err-edit-clause-step : goal.returns-in_err-edit-clause-step
+returns-in_err-edit-clause-step g c = λ fits wanted asked.
     let p = err_from_is_err_and c.from_residual.result c.from_residual.ensures.1 in
     rw (p.1, p.2) (unasked_step fits wanted c.in_err-edit.field-0.0 _ (rw (c.in_err-edit.was) at asked))

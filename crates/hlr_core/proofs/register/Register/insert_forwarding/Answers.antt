@@ -1,4 +1,12 @@
+use Rattle.std.proofs.Common.{refl}
+use Rattle.tatp_actions.specs.declared.action.Action.TheVariants as action
+use Rattle.hlr_core.proofs.HomeLemmas.{home_of_bearer}
 use Rattle.hlr_core.proofs.register.Register.insert_forwarding.Goals as goal
 
-pub returns : goal.returns
-returns c = rw (← c.bearer-bearer_id.ensures.value) (c.edit.ensures _ _ c.insert_forwarding.ensures.asked)
+pub edit-requires-clause-home : goal.edit-requires-clause-home
+edit-requires-clause-home c =
+    home_of_bearer _ _ (λ s_id. action.InsertForwarding (record { s_id = s_id; sf_type = c.args.sf_type; start_time = c.args.start_time; end_time = c.args.end_time; numberx = c.args.numberx })) c.bearer-bearer_id.result _ c.insert_forwarding.result (λ s_id. refl)
+    (rw (c.bearer-bearer_id.ensures.value) c.requires) c.insert_forwarding.ensures.asked
+
+pub returns-clause-step : goal.returns-clause-step
+returns-clause-step c = rw (← c.bearer-bearer_id.ensures.value) (c.edit.ensures.step _ _ c.insert_forwarding.ensures.asked)

@@ -1,6 +1,6 @@
 use Rattle.part_table.specs.Recut.{recut_answer}
-use Rattle.hlr_core.proofs.RecutLemmas.{recut_stays}
+use Rattle.hlr_owners.proofs.RecutLemmas.{recut_stays}
 use Rattle.hlr_core.proofs.register.Register.recut_to.Goals as goal
 
 pub invariant_of-self : goal.invariant_of-self
-invariant_of-self c = rw (recut_stays (recut_answer c.self.inside.holdings.regions c.args.bounds.now) c.args.bounds.now _ _ _ c.recut_to.ensures) c.self.invariant
+invariant_of-self c = rw (recut_stays (recut_answer c.self.inside.seats.regions c.args.bounds.now) c.args.bounds.now _ _ _ c.recut_to.ensures.recut) c.self.invariant

@@ -1,4 +1,12 @@
+use Rattle.std.proofs.Common.{refl}
+use Rattle.tatp_actions.specs.declared.action.Action.TheVariants as action
+use Rattle.hlr_core.proofs.HomeLemmas.{home_of_bearer}
 use Rattle.hlr_core.proofs.register.Register.update_location.Goals as goal
 
-pub returns : goal.returns
-returns c = rw (← c.bearer-bearer_id.ensures.value) (c.edit.ensures _ _ c.update_location.ensures.asked)
+pub edit-requires-clause-home : goal.edit-requires-clause-home
+edit-requires-clause-home c =
+    home_of_bearer _ _ (λ s_id. action.UpdateLocation s_id c.args.vlr_location) c.bearer-bearer_id.result _ c.update_location.result (λ s_id. refl)
+    (rw (c.bearer-bearer_id.ensures.value) c.requires) c.update_location.ensures.asked
+
+pub returns-clause-step : goal.returns-clause-step
+returns-clause-step c = rw (← c.bearer-bearer_id.ensures.value) (c.edit.ensures.step _ _ c.update_location.ensures.asked)

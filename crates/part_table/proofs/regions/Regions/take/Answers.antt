@@ -1,6 +1,8 @@
--- A piece joined to the part beside it leaves regions of all s_ids.
-use Rattle.part_table.proofs.JoinLemmas.{regions-joined}
+-- What was told of the regions is what is done to them.
 use Rattle.part_table.proofs.regions.Regions.take.Goals as goal
 
-pub invariant_of-self : goal.invariant_of-self
-invariant_of-self c = rw c.join.ensures.joined (regions-joined c.args.n c.args.q c.self.inside.list.items c.self.invariant)
+pub take_at-requires : goal.take_at-requires
+take_at-requires c = (c.args.n, c.args.q, c.in_ok-i.ensures.index, c.in_ok-i.ensures.answer)
+
+pub returns-clause-after : goal.returns-clause-after
+returns-clause-after c = c.take_at.ensures c.args.n c.args.q c.in_ok-i.ensures.index c.in_ok-i.ensures.answer

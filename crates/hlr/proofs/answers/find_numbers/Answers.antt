@@ -1,0 +1,5 @@
+use Rattle.hlr_owners.proofs.HomeLemmas.{home_of_all}
+use Rattle.hlr.proofs.answers.find_numbers.Goals as goal
+
+pub destinations-requires : goal.destinations-requires
+destinations-requires c = home_of_all _ c.args.register.now c.requires

@@ -1,0 +1,9 @@
+use Rattle.hlr_core.specs.declared.event.Event.TheVariants as event
+use Rattle.hlr_core.proofs.HomeLemmas.{home_to_all, still_home}
+use Rattle.hlr.proofs.edits.delete_forwarding.Goals as goal
+
+pub delete_forwarding-requires : goal.delete_forwarding-requires
+delete_forwarding-requires c = home_to_all (event.DeleteForwarding c.in_ok-sub_nbr.sub_nbr c.in_ok-sf_type.sf_type c.in_ok-start_time.start_time) c.args.register.now c.requires
+
+pub returns-clause-home : goal.returns-clause-home
+returns-clause-home c = still_home _ _ c.delete_forwarding.ensures.house c.requires

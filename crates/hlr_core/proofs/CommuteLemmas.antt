@@ -1,0 +1,102 @@
+-- Jobs of different parts commute.
+use Rattle.std.proofs.Common.{◌≡◌, ◌≢◌, ◌∙◌, refl, sym, ap, ℕ, zero, suc, List, [], ◌∷◌, ◌++◌, get_or, set, arith, true, Some}
+use Rattle.std.specs.Prelude.{position, slice_get, ◌==◌}
+use Rattle.std.specs.List.{AllByRecursion}
+use Rattle.tatp_rows.proofs.OrderedLemmas.{by_test}
+use Rattle.std.proofs.lemmas.Bool.Decides.{nat_tests}
+use Rattle.std.proofs.lemmas.List.{set_comm}
+use Rattle.std.proofs.lemmas.List.Quantifiers.{position-Some}
+use Rattle.part_table.specs.Region.{is_part, is_part_place}
+use Rattle.part_table.specs.declared.region.Place.{Place}
+use Rattle.part_table.specs.declared.region.Place.TheVariants as place
+use Rattle.part_table.specs.declared.region.Region.{Region}
+use Rattle.part_table.proofs.PlaceLemmas.{blank}
+use Rattle.holding.specs.declared.job.Job.{Job}
+use Rattle.hlr_owners.specs.declared.lodging.Seat.{Seat}
+use Rattle.hlr_owners.specs.declared.lodging.Seat.TheVariants.{Part}
+use Rattle.hlr_core.specs.Session.{AreDone, IsDoneAt, JobReply, JobsCommute, jobs_beside, jobs_of}
+use Rattle.hlr_core.specs.declared.event.Reply.{Reply}
+
+-- a place is that of one part
+one_part : (of : Place) (p q : ℕ) → is_part_place p of ≡ true → is_part_place q of ≡ true → p ≡ q
+one_part (place.Part n) p q one other =
+    let a : n ≡ p = grind (arith, nat_tests) in
+    let b : n ≡ q = grind (arith, nat_tests) in
+    sym a ∙ b
+one_part (place.Piece n) p q one other = absurd cc
+
+apart : (regions : List Region) (p q i j : ℕ) → p ≢ q → position (is_part p) regions ≡ Some i → position (is_part q) regions ≡ Some j → i ≢ j
+apart regions p q i j other here there same =
+    let one = (position-Some (is_part p) regions i blank here).1 in
+    let two = (position-Some (is_part q) regions j blank there).1 in
+    other (one_part (get_or regions i blank).place p q one (rw (← same) at two))
+
+-- what stands at another index is as it was
+others_stay : {X : Type 0} (xs : List X) (i j : ℕ) (x : X) → i ≢ j → slice_get (set xs i x) j ≡ slice_get xs j
+others_stay [] i j x other = refl
+others_stay (y ∷ xs) zero zero x other = absurd (other refl)
+others_stay (y ∷ xs) zero (suc j) x other = refl
+others_stay (y ∷ xs) (suc i) zero x other = refl
+others_stay (y ∷ xs) (suc i) (suc j) x other = others_stay xs i j x (λ same. other (ap suc same))
+
+-- two jobs of different parts, done in either order
+exchanged : (regions : List Region) (p q : ℕ) → p ≢ q → (job next : Job) (a b c : List Seat) (answer told : Reply) → IsDoneAt regions p job a answer b → IsDoneAt regions q next b told c
+    → (d : List Seat) × IsDoneAt regions q next a told d × IsDoneAt regions p job d answer c
+exchanged regions p q other job next a b c answer told first second =
+    let differ = apart regions p q first.index second.index other first.region second.region in
+    let here : Seat = Part (record first.lodged { holding = first.holding }) in
+    let there : Seat = Part (record second.lodged { holding = second.holding }) in
+    let stood : slice_get a second.index ≡ Some (Part second.lodged) = sym (others_stay a first.index second.index here differ) ∙ rw first.is at second.seat in
+    let stands : slice_get (set a second.index there) first.index ≡ Some (Part first.lodged) = others_stay a second.index first.index there (λ same. differ (sym same)) ∙ first.seat in (
+      set a second.index there,
+      record { index = second.index; lodged = second.lodged; holding = second.holding; region = second.region; seat = stood; done = second.done; is = refl },
+      record {
+        index = first.index;
+        lodged = first.lodged;
+        holding = first.holding;
+        region = first.region;
+        seat = stands;
+        done = first.done;
+        is = second.is ∙ ap (λ (seats : List Seat). set seats second.index there) first.is ∙ set_comm a first.index second.index here there differ;
+      },
+    )
+
+-- a job before those of another part, and behind them
+module _ (regions : List Region) (p : ℕ) (one : JobReply) (other : one.part ≢ p) (ys : List JobReply) where
+  moved_behind : (xs : List JobReply) → AllByRecursion (λ x. x.part ≡ p) xs → (a b c : List Seat) → IsDoneAt regions one.part one.job a one.answer b → AreDone regions b (xs ++ ys) c
+      → AreDone regions a (xs ++ one ∷ ys) c
+  moved_behind [] own a b c first rest = (b, first, rest)
+  moved_behind (x ∷ xs) own a b c first rest =
+      let turned = exchanged regions one.part x.part (λ same. other (same ∙ own.0)) one.job x.job a b rest.0 one.answer x.answer first rest.1 in
+      (turned.0, turned.1, moved_behind xs own.1 turned.0 rest.0 c turned.2 rest.2)
+
+  moved_before : (xs : List JobReply) → AllByRecursion (λ x. x.part ≡ p) xs → (a c : List Seat) → AreDone regions a (xs ++ one ∷ ys) c
+      → (b : List Seat) × IsDoneAt regions one.part one.job a one.answer b × AreDone regions b (xs ++ ys) c
+  moved_before [] own a c done = done
+  moved_before (x ∷ xs) own a c done =
+      let rest = moved_before xs own.1 done.0 c done.2 in
+      let turned = exchanged regions x.part one.part (λ same. other (sym same ∙ own.0)) x.job one.job a done.0 rest.0 x.answer one.answer done.1 rest.1 in
+      (turned.0, turned.1, (rest.0, turned.2, rest.2))
+
+each_own : (p : ℕ) (jobs : List JobReply) → AllByRecursion (λ x. x.part ≡ p) (jobs_of p jobs)
+each_own p [] = tt
+each_own p (one ∷ jobs) =
+    by_test (one.part == p)
+    (λ e. rw e ((grind (arith, nat_tests)), each_own p jobs))
+    (λ e. rw e (each_own p jobs))
+
+pub jobs_commute : (regions : List Region) → JobsCommute regions
+jobs_commute regions p [] before after = (λ done. done, λ done. done)
+jobs_commute regions p (one ∷ jobs) before after =
+    by_test (one.part == p)
+    (λ e. rw e (
+      λ done. (done.0, done.1, (jobs_commute regions p jobs done.0 after).0 done.2),
+      λ done. (done.0, done.1, (jobs_commute regions p jobs done.0 after).1 done.2),
+    ))
+    (λ e.
+    let other : one.part ≢ p = grind (arith, nat_tests) in
+    rw e (
+      λ done. moved_behind regions p one other (jobs_beside p jobs) (jobs_of p jobs) (each_own p jobs) before done.0 after done.1 ((jobs_commute regions p jobs done.0 after).0 done.2),
+      λ done. (let first = moved_before regions p one other (jobs_beside p jobs) (jobs_of p jobs) (each_own p jobs) before after done in
+          (first.0, first.1, (jobs_commute regions p jobs first.0 after).1 first.2)),
+    ))

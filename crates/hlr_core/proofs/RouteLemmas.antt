@@ -1,0 +1,202 @@
+-- Where an event goes: what it asks for, and what may be answered to it at once, are the same whatever jobs are done.
+use Rattle.std.proofs.Common.{◌≡◌, ◌∙◌, refl, sym, ap, ℕ, zero, suc, ◌<◌, ◌≤◌, arith, List, [], ◌∷◌, length, get_or, map, Bool, true, false, Option, Some, None, Result, Ok, Err}
+use Rattle.std.specs.Prelude.{Box, position, ◌==◌}
+use Rattle.std.specs.declared.alloc.Global.{Global}
+use Rattle.std.specs.List.{list_any}
+use Rattle.std.proofs.lemmas.List.{length-map}
+use Rattle.std.proofs.lemmas.Option.{slice_get_past, get_or_from_slice_get}
+use Rattle.atomic_table.specs.Seated.{TableId}
+use Rattle.tatp_rows.proofs.OrderedLemmas.{by_test}
+use Rattle.tatp_rows.specs.Rows.{SubscriberRow}
+use Rattle.tatp_rows.specs.declared.refusal.Refusal.{Refusal}
+use Rattle.tatp_rows.specs.declared.refusal.Refusal.TheVariants as refusal
+use Rattle.tatp_actions.specs.Action.{is_in_range, s_id_of}
+use Rattle.tatp_actions.specs.Book.{Book}
+use Rattle.tatp_actions.specs.declared.action.Action.{Action}
+use Rattle.part_table.specs.Region.{is_part, lies_in}
+use Rattle.part_table.specs.Regions.{place_of, parts_of}
+use Rattle.part_table.specs.declared.region.Place.TheVariants as place
+use Rattle.part_table.specs.declared.region.Region.{Region}
+use Rattle.part_table.proofs.FirstLemmas.{none_passes}
+use Rattle.part_table.proofs.IndexLemmas.{is_part_there}
+use Rattle.holding.specs.Held.{PieceState}
+use Rattle.holding.specs.declared.job.Job.TheVariants as jobs
+use Rattle.hlr_owners.specs.Desks.{AreDesks, slots_in}
+use Rattle.hlr_owners.specs.Lodged.{Lodged}
+use Rattle.hlr_owners.specs.Seats.{Seating, AreSeated, book_in, desks_in, homes_in, store_in}
+use Rattle.hlr_owners.specs.Store.{Store, slots_of}
+use Rattle.hlr_owners.specs.declared.lodging.Seat.{Seat}
+use Rattle.hlr_owners.specs.declared.lodging.Seat.TheVariants.{Part, Piece}
+use Rattle.hlr_owners.proofs.LendLemmas.{desks_later}
+use Rattle.hlr_owners.proofs.PartLemmas.{at_number, count_parts, part_sits, part_sits_there}
+use Rattle.hlr_core.specs.Index.{number_pair}
+use Rattle.hlr_core.specs.Inside.Asked.{IsAsked}
+use Rattle.hlr_core.specs.Inside.Routed.{AsksFor, IsSendable}
+use Rattle.hlr_core.specs.Kept.{is_on_rows}
+use Rattle.hlr_core.specs.Later.{AreLater, with_seats}
+use Rattle.hlr_core.specs.Numbers.{bearer_id}
+use Rattle.hlr_core.specs.Route.{IsRouted}
+use Rattle.hlr_core.specs.Step.{IsAskedStep, IsStep, action_for, checked}
+use Rattle.hlr_core.specs.declared.event.Event.{Event}
+use Rattle.hlr_core.specs.declared.event.Event.TheVariants.{SubscriberData, NewDestination, AccessData, UpdateSubscriber}
+use Rattle.hlr_core.specs.declared.event.Event.TheVariants.{UpdateLocation, InsertForwarding, DeleteForwarding}
+use Rattle.hlr_core.specs.declared.event.Event.TheVariants.{AddSubscriber, AddAccess, AddFacility, SetActive, SetNumber}
+use Rattle.hlr_core.specs.declared.event.Event.TheVariants.{Post, Give, Take}
+use Rattle.hlr_core.specs.declared.event.Reply.{Reply}
+use Rattle.hlr_core.specs.declared.event.Reply.TheVariants as reply
+use Rattle.hlr_core.specs.declared.route.Route.TheVariants.{Now, To}
+use Rattle.hlr_core.proofs.LaterLemmas.{all_seated_later, each_seat, numbers_later}
+use Rattle.hlr_core.proofs.SentLemmas.{acted_sent, posted_sent}
+
+-- an event that asks for an action asks so before its fields are tested
+pub asks_for : (fits : Bool) (act : Option Action) (asked : Result Action Refusal) → IsAsked fits act asked → AsksFor (checked fits act) asked
+asks_for fits act asked is = (fits, act, refl, is)
+
+-- once they are, it is what the event asks for
+fitting_err : (fits : Bool) (act : Option Action) (why : Refusal) → IsAsked fits act (Err why) → Err why ≡ checked fits act
+fitting_err false act why is = ap Err is
+fitting_err true None why is = ap Err is
+fitting_err true (Some act) why is = absurd is
+
+fitting_ok : (fits : Bool) (wanted : Option Action) (act : Action) → IsAsked fits wanted (Ok act) → is_in_range act ≡ true → Ok act ≡ checked fits wanted
+fitting_ok fits wanted act is in_range = rw (is.1 ∙ in_range, is.0) refl
+
+fitting_field : (fits : Bool) (wanted : Option Action) (act : Action) → IsAsked fits wanted (Ok act) → is_in_range act ≡ false → Err refusal.Field ≡ checked fits wanted
+fitting_field fits wanted act is out = rw (is.1 ∙ out) refl
+
+module _ (wanted : Result Action Refusal) where
+  pub fits_err : (why : Refusal) → AsksFor wanted (Err why) → Err why ≡ wanted
+  fits_err why asks = fitting_err asks.0 asks.1 why asks.3 ∙ sym asks.2
+
+-- a right step of what an event on rows asks for is one of the event
+step_asked : (event : Event) (before : Store) (answer : Reply) (after : Store) → is_on_rows event ≡ true → IsAskedStep (action_for event before.book) before answer after → IsStep event before answer after
+step_asked (SubscriberData s_id) before answer after rows step = step
+step_asked (NewDestination s_id sf_type start_time end_time) before answer after rows step = step
+step_asked (AccessData s_id ai_type) before answer after rows step = step
+step_asked (UpdateSubscriber s_id sf_type bit_1 data_a) before answer after rows step = step
+step_asked (UpdateLocation sub_nbr vlr_location) before answer after rows step = step
+step_asked (InsertForwarding sub_nbr sf_type start_time end_time numberx) before answer after rows step = step
+step_asked (DeleteForwarding sub_nbr sf_type start_time) before answer after rows step = step
+step_asked (AddSubscriber row) before answer after rows step = step
+step_asked (AddAccess row) before answer after rows step = step
+step_asked (AddFacility row) before answer after rows step = step
+step_asked (SetActive s_id sf_type is_active) before answer after rows step = step
+step_asked (SetNumber s_id sub_nbr) before answer after rows step = step
+step_asked (Post part limit) before answer after rows step = absurd cc
+step_asked (Give part side at) before answer after rows step = absurd cc
+step_asked (Take piece part) before answer after rows step = absurd cc
+
+-- the subscriber with a number is of the pairs alone
+bearer_same : (rows others : List SubscriberRow) (n : ℕ) → map number_pair others ≡ map number_pair rows → bearer_id others n ≡ bearer_id rows n
+bearer_same [] [] n same = refl
+bearer_same [] (y ∷ ys) n same = absurd cc
+bearer_same (x ∷ xs) [] n same = absurd cc
+bearer_same (x ∷ xs) (y ∷ ys) n same =
+    let pair : number_pair y ≡ number_pair x = cc in
+    let number : y.sub_nbr ≡ x.sub_nbr = ap (λ (one : ℕ × ℕ). one.0) pair in
+    let bearer : y.s_id ≡ x.s_id = ap (λ (one : ℕ × ℕ). one.1) pair in
+    let tail : map number_pair ys ≡ map number_pair xs = cc in
+    let rest = bearer_same xs ys n tail in
+    by_test (x.sub_nbr == n)
+    (λ e. rw (number, e) (ap Some bearer))
+    (λ e. rw (number, e) rest)
+
+-- so is what an event asks for
+asked_same : (event : Event) (book other : Book) → ((n : ℕ) → bearer_id other.subscribers n ≡ bearer_id book.subscribers n) → action_for event other ≡ action_for event book
+asked_same (SubscriberData s_id) book other same = refl
+asked_same (NewDestination s_id sf_type start_time end_time) book other same = refl
+asked_same (AccessData s_id ai_type) book other same = refl
+asked_same (UpdateSubscriber s_id sf_type bit_1 data_a) book other same = refl
+asked_same (UpdateLocation sub_nbr vlr_location) book other same = rw (same sub_nbr) refl
+asked_same (InsertForwarding sub_nbr sf_type start_time end_time numberx) book other same = rw (same sub_nbr) refl
+asked_same (DeleteForwarding sub_nbr sf_type start_time) book other same = rw (same sub_nbr) refl
+asked_same (AddSubscriber row) book other same = refl
+asked_same (AddAccess row) book other same = refl
+asked_same (AddFacility row) book other same = refl
+asked_same (SetActive s_id sf_type is_active) book other same = refl
+asked_same (SetNumber s_id sub_nbr) book other same = refl
+asked_same (Post part limit) book other same = refl
+asked_same (Give part side at) book other same = refl
+asked_same (Take piece part) book other same = refl
+
+-- the part of a place is there
+part_stands : (s_id p : ℕ) (regions : List Region) → place_of s_id regions ≡ Some (place.Part p) → list_any (is_part p) regions ≡ true
+part_stands s_id p [] placed = absurd cc
+part_stands s_id p (r ∷ regions) placed =
+    by_test (is_part p r)
+    (λ e. rw e refl)
+    (λ e. rw e (part_stands s_id p regions (behind r placed e)))
+  where
+    behind : (r : Region) → place_of s_id (r ∷ regions) ≡ Some (place.Part p) → is_part p r ≡ false → place_of s_id regions ≡ Some (place.Part p)
+    behind r placed other =
+        by_test (lies_in s_id r)
+        (λ e. let here : Some r.place ≡ Some (place.Part p) = rw e at placed in
+        let clash : true ≡ false = sym (is_part_there p r cc) ∙ other in absurd cc)
+        (λ e. rw e at placed)
+
+pub part_index : (s_id p : ℕ) (regions : List Region) → place_of s_id regions ≡ Some (place.Part p) → (i : ℕ) × (position (is_part p) regions ≡ Some i)
+part_index s_id p regions placed = cases (position (is_part p) regions) refl
+  where
+    cases : (o : Option ℕ) → position (is_part p) regions ≡ o → (i : ℕ) × (position (is_part p) regions ≡ Some i)
+    cases (Some i) e = (i, e)
+    cases None e = let clash : true ≡ false = sym (part_stands s_id p regions placed) ∙ none_passes (is_part p) regions e in absurd cc
+
+-- who sits there
+lodged_there : (seats : List Seat) (i : ℕ) → i < length seats → ((b : Box PieceState Global) → Piece b ≡ get_or seats i (Piece b) → ⊥) → (l : Lodged) × (Part l ≡ get_or seats i (Part l))
+lodged_there [] i within never = absurd (omega arith)
+lodged_there (Part l ∷ seats) zero within never = (l, refl)
+lodged_there (Piece b ∷ seats) zero within never = absurd (never b refl)
+lodged_there (s ∷ seats) (suc i) within never = lodged_there seats i (omega arith) never
+
+part_low : (h : Seating) (are : AreSeated h) (p i : ℕ) → position (is_part p) h.regions ≡ Some i → p < length (homes_in h.seats)
+part_low h are p i index =
+    let sits = lodged_there h.seats i (part_sits_there h are p i index) (part_sits h are p i index) in
+    (at_number h are p i index (λ (o : Lodged). o.home) sits.0 sits.1 false).0
+
+module _ (event : Event) (h : Seating) (rows : is_on_rows event ≡ true) where
+  -- what an event asks for is what it asked for when it was routed
+  asks_later : (ks : List Seat) → AreLater h.seats ks → action_for event (book_in ks) ≡ action_for event (book_in h.seats)
+  asks_later ks later = asked_same event (book_in h.seats) (book_in ks) (λ n. bearer_same (book_in h.seats).subscribers (book_in ks).subscribers n (numbers_later h.seats ks later))
+
+  -- it is refused at once
+  pub now_refused : (why : Refusal) → action_for event (book_in h.seats) ≡ Err why → IsRouted event h (Now (reply.Refused why))
+  now_refused why asked = λ ks later.
+      step_asked event (store_in (with_seats h ks)) (reply.Refused why) (store_in (with_seats h ks)) rows (rw (asks_later ks later, asked) (refl, refl))
+
+  module _ (act : Action) (asked : action_for event (book_in h.seats) ≡ Ok act) where
+    -- its subscriber lies in a loose piece
+    pub now_moving : (n : ℕ) → place_of (s_id_of act) h.regions ≡ Some (place.Piece n) → IsRouted event h (Now (reply.Refused refusal.Moving))
+    now_moving n placed = λ ks later.
+        step_asked event (store_in (with_seats h ks)) (reply.Refused refusal.Moving) (store_in (with_seats h ks)) rows (rw (asks_later ks later, asked, placed) (refl, refl))
+
+    -- the part of its subscriber does the action
+    pub to_part : (p : ℕ) → AreSeated h → IsSendable act → place_of (s_id_of act) h.regions ≡ Some (place.Part p) → IsRouted event h (To p (jobs.Act act))
+    to_part p are sendable placed = (
+      (let there = part_index (s_id_of act) p h.regions placed in part_low h are p there.0 there.1),
+      (placed, sendable.0.1),
+      λ ks after answer later done.
+          step_asked event (store_in (with_seats h ks)) answer (store_in (with_seats h after)) rows
+          (rw (asks_later ks later, asked, done.is)
+          (acted_sent (with_seats h ks) (all_seated_later h ks are later) p done.index done.region done.lodged (record done.lodged { holding = done.holding })
+          (sym (get_or_from_slice_get ks done.index (Part done.lodged) (Part done.lodged) done.seat)) act placed answer sendable.0.1 sendable.1 done.done)),
+    )
+
+-- a posting goes to its part, if there is such a part
+pub post_to : (h : Seating) (are : AreSeated h) (board : TableId) → AreDesks board h.spare (desks_in h.seats) → (p limit : ℕ) → p < length (parts_of h.regions)
+    → IsRouted (Post p limit) h (To p (jobs.Post limit))
+post_to h are board rules p limit low = (
+  (let count = count_parts (λ (o : Lodged). o.home) h.width h.regions h.seats are.each in omega arith),
+  tt,
+  λ ks after answer later done.
+      rw done.is
+      (posted_sent (with_seats h ks) (all_seated_later h ks are later) p done.index done.region done.lodged (record done.lodged { holding = done.holding })
+      (sym (get_or_from_slice_get ks done.index (Part done.lodged) (Part done.lodged) done.seat)) board (desks_later board h.spare h.seats ks (each_seat h.seats ks later) rules) limit answer done.done),
+)
+
+pub post_nowhere : (h : Seating) (are : AreSeated h) (p limit : ℕ) → length (parts_of h.regions) ≤ p → IsRouted (Post p limit) h (Now (reply.Refused refusal.NoPart))
+post_nowhere h are p limit past = λ ks later.
+    let now = all_seated_later h ks are later in
+    let count = count_parts (λ (o : Lodged). o.holding.desk) h.width h.regions ks now.each in
+    let long = length-map (desks_in ks) slots_in in
+    let none : slots_of (store_in (with_seats h ks)) p ≡ None = slice_get_past (map slots_in (desks_in ks)) p (omega arith) in
+    rw none (Err refusal.NoPart, (refl, refl), refl)

@@ -1,0 +1,61 @@
+-- What a job does to the holding of a part, and answers, is a right step of the whole store.
+use Rattle.std.proofs.Common.{◌≡◌, refl, ℕ, List, get_or, set, true, Some, None, Ok}
+use Rattle.std.specs.Prelude.{position}
+use Rattle.atomic_table.specs.Seated.{TableId}
+use Rattle.tatp_actions.specs.Action.{IsOutcome, is_in_range, s_id_of}
+use Rattle.tatp_actions.specs.Book.{IsWithin}
+use Rattle.tatp_actions.specs.declared.action.Action.{Action}
+use Rattle.tatp_actions.specs.declared.action.RowReply.{RowReply}
+use Rattle.part_table.specs.Region.{is_part}
+use Rattle.part_table.specs.Regions.{place_of}
+use Rattle.part_table.specs.declared.region.Place.TheVariants as place
+use Rattle.part_table.specs.declared.region.Region.{Region}
+use Rattle.part_table.proofs.IndexLemmas.{part_has}
+use Rattle.part_table.proofs.PlaceLemmas.{blank}
+use Rattle.holding.specs.Held.{HoldingState}
+use Rattle.holding.specs.declared.job.Job.{Job}
+use Rattle.holding.specs.declared.job.Job.TheVariants as jobs
+use Rattle.hlr_owners.specs.Desks.{AreDesks}
+use Rattle.hlr_owners.specs.Held.{of_holding}
+use Rattle.hlr_owners.specs.Lodged.{Lodged}
+use Rattle.hlr_owners.specs.Seats.{Seating, AreSeated, book_in, desks_in, owners_in, store_in}
+use Rattle.hlr_owners.specs.Store.{slots_of}
+use Rattle.hlr_owners.specs.declared.lodging.Seat.TheVariants.{Part}
+use Rattle.hlr_owners.proofs.PartLemmas.{part_sits_there}
+use Rattle.hlr_owners.proofs.PostedLemmas.{posted_right}
+use Rattle.hlr_owners.proofs.SeatLemmas.{acts_at, owned, owner_is, owners-set, parts-kept, region_there}
+use Rattle.hlr_core.specs.Later.{with_seats}
+use Rattle.hlr_core.specs.Session.{IsActed, IsJobOf, IsPosted, IsWithinJob}
+use Rattle.hlr_core.specs.Step.{IsAskedStep, IsStep, given_number}
+use Rattle.hlr_core.specs.declared.event.Event.TheVariants.{Post}
+use Rattle.hlr_core.specs.declared.event.Reply.{Reply}
+use Rattle.hlr_core.proofs.RegisterLemmas.{acted_step, posted_step}
+
+module _ (h : Seating) (are : AreSeated h) (p i : ℕ) (index : position (is_part p) h.regions ≡ Some i) (l m : Lodged) (is : Part l ≡ get_or h.seats i (Part l)) where
+  -- an action on a subscriber of the part
+  module _ (act : Action) (placed : place_of (s_id_of act) h.regions ≡ Some (place.Part p)) where
+    sent_outcome : (rows : RowReply) → IsOutcome act l.holding.part.book rows m.holding.part.book → IsOutcome act (book_in h.seats) rows (book_in (set h.seats i (Part m)))
+    sent_outcome rows outcome =
+        rw (owners-set h.seats i (Part m))
+        (acts_at h.width 1 h.regions (owners_in h.seats) i blank act (of_holding l.holding) (of_holding m.holding) rows (owned h.width h.regions h.seats are.each) are.are.consecutive
+        (region_there h are i (Part l) is (part_sits_there h are p i index)) (owner_is h.seats i (Part l) is) (part_has (s_id_of act) p i h.regions are.are index placed) outcome)
+
+    pub acted_sent : (answer : Reply) → given_number act ≡ None → is_in_range act ≡ true → IsActed act l.holding answer m.holding
+        → IsAskedStep (Ok act) (store_in h) answer (store_in (with_seats h (set h.seats i (Part m))))
+    acted_sent answer none fits done =
+        let desks = parts-kept (λ (o : Lodged). o.holding.desk) h.seats i l m done.desk.0 is in
+        acted_step act (store_in h) (store_in (with_seats h (set h.seats i (Part m)))) done.rows answer fits (rw placed refl) (rw none refl) (sent_outcome done.rows done.outcome) (rw desks refl) done.answered
+
+  -- a posting of the part
+  pub posted_sent : (board : TableId) → AreDesks board h.spare (desks_in h.seats) → (limit : ℕ) (answer : Reply) → IsPosted limit l.holding answer m.holding
+      → IsStep (Post p limit) (store_in h) answer (store_in (with_seats h (set h.seats i (Part m))))
+  posted_sent board rules limit answer done =
+      rw done.answered
+      (posted_step (slots_of (store_in h) p) p limit (store_in h) (store_in (with_seats h (set h.seats i (Part m)))) done.posted
+      (posted_right h are board rules p i index l is m limit done.posted done.lawful done.done done.part done.desk))
+
+-- a part's holding may be asked for each job of the part
+pub within_job : (regions : List Region) (p : ℕ) (holding : HoldingState) → ((s_id : ℕ) → place_of s_id regions ≡ Some (place.Part p) → IsWithin holding.part.lo holding.part.hi s_id)
+    → (job : Job) → IsJobOf regions p job → IsWithinJob holding job
+within_job regions p holding within (jobs.Act act) sent = within (s_id_of act) sent.0
+within_job regions p holding within (jobs.Post limit) sent = tt

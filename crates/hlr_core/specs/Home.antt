@@ -1,0 +1,33 @@
+-- The parts on which an event works are at home.
+use Rattle.std.specs.Prelude.{◌≡◌, ℕ, IfSome}
+use Rattle.hlr_owners.specs.Seats.{Seating, IsHomeFor, IsPartHome, book_in, homes_in}
+use Rattle.hlr_core.specs.Numbers.{bearer_id}
+use Rattle.hlr_core.specs.declared.event.Event.{Event}
+use Rattle.hlr_core.specs.declared.event.Event.TheVariants.{SubscriberData, NewDestination, AccessData, UpdateSubscriber, UpdateLocation, InsertForwarding, DeleteForwarding, AddSubscriber, AddAccess, AddFacility, SetActive, SetNumber, Post, Give, Take}
+
+-- whoever has the subscriber with a number is at home, if there is such a subscriber
+abbrev pub IsBearerHome : ℕ → Seating → Type 0
+IsBearerHome sub_nbr h = IfSome (bearer_id (book_in h.seats).subscribers sub_nbr) (λ s_id. IsHomeFor s_id h)
+
+-- the owner of the rows on which an event works is at home, or the part that posts, gives or takes
+abbrev pub IsHomeTo : Event → Seating → Type 0
+IsHomeTo (SubscriberData s_id) h = IsHomeFor s_id h
+IsHomeTo (NewDestination s_id sf_type start_time end_time) h = IsHomeFor s_id h
+IsHomeTo (AccessData s_id ai_type) h = IsHomeFor s_id h
+IsHomeTo (UpdateSubscriber s_id sf_type bit_1 data_a) h = IsHomeFor s_id h
+IsHomeTo (UpdateLocation sub_nbr vlr_location) h = IsBearerHome sub_nbr h
+IsHomeTo (InsertForwarding sub_nbr sf_type start_time end_time numberx) h = IsBearerHome sub_nbr h
+IsHomeTo (DeleteForwarding sub_nbr sf_type start_time) h = IsBearerHome sub_nbr h
+IsHomeTo (AddSubscriber row) h = IsHomeFor row.s_id h
+IsHomeTo (AddAccess row) h = IsHomeFor row.s_id h
+IsHomeTo (AddFacility row) h = IsHomeFor row.s_id h
+IsHomeTo (SetActive s_id sf_type is_active) h = IsHomeFor s_id h
+IsHomeTo (SetNumber s_id sub_nbr) h = IsHomeFor s_id h
+IsHomeTo (Post part limit) h = IsPartHome part h
+IsHomeTo (Give part side at) h = IsPartHome part h
+IsHomeTo (Take piece part) h = IsPartHome part h
+
+-- what no event and no re-cut changes: which parts are at home, and the desk of the slots that no part has
+pub record IsSameHouse (before after : Seating) : Type 0 where
+  pub homes : homes_in after.seats ≡ homes_in before.seats
+  pub spare : after.spare ≡ before.spare

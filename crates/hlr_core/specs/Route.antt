@@ -1,0 +1,39 @@
+-- Where an event goes: what is right of it holds whatever jobs the holdings have done since.
+use Rattle.std.specs.Prelude.{◌≡◌, ℕ, ◌<◌, Bool, true, false, List, length}
+use Rattle.holding.specs.declared.job.Job.{Job}
+use Rattle.hlr_owners.specs.Seats.{Seating, homes_in, store_in}
+use Rattle.hlr_owners.specs.declared.lodging.Seat.{Seat}
+use Rattle.hlr_core.specs.Later.{AreLater, with_seats}
+use Rattle.hlr_core.specs.Session.{IsDoneAt, IsJobOf}
+use Rattle.hlr_core.specs.Step.{IsStep}
+use Rattle.hlr_core.specs.declared.event.Event.{Event}
+use Rattle.hlr_core.specs.declared.event.Event.TheVariants.{AddSubscriber, SetNumber, Give, Take}
+use Rattle.hlr_core.specs.declared.event.Reply.{Reply}
+use Rattle.hlr_core.specs.declared.route.Route.{Route}
+use Rattle.hlr_core.specs.declared.route.Route.TheVariants.{Now, To, Here}
+
+-- the reply is right, and changes nothing
+abbrev pub IsRightNow : Event → Seating → Reply → Type 0
+IsRightNow event h answer =
+    (seats : List Seat) → AreLater h.seats seats
+    → IsStep event (store_in (with_seats h seats)) answer (store_in (with_seats h seats))
+
+-- whatever the job does to the part's holding, and answers, is a right step of the whole store
+abbrev pub IsRightSent : Event → Seating → ℕ → Job → Type 0
+IsRightSent event h p job =
+    (seats after : List Seat) (answer : Reply) → AreLater h.seats seats → IsDoneAt h.regions p job seats answer after
+    → IsStep event (store_in (with_seats h seats)) answer (store_in (with_seats h after))
+
+-- the event gives a number, or moves regions
+abbrev pub is_here : Event → Bool
+is_here (AddSubscriber row) = true
+is_here (SetNumber s_id sub_nbr) = true
+is_here (Give part side at) = true
+is_here (Take piece part) = true
+is_here _ = false
+
+-- a right route: the reply, a job of a part that is there, or the register itself
+abbrev pub IsRouted : Event → Seating → Route → Type 0
+IsRouted event h (Now answer) = IsRightNow event h answer
+IsRouted event h (To p job) = (p < length (homes_in h.seats)) × IsJobOf h.regions p job × IsRightSent event h p job
+IsRouted event h Here = is_here event ≡ true

@@ -1,0 +1,91 @@
+-- Jobs on the holdings of parts: what each does to its holding, and how it is answered.
+use Rattle.std.specs.Prelude.{◌≡◌, ◌==◌, ◌↔◌, ℕ, not, List, [], ◌∷◌, ◌++◌, None, Some, Result, position, slice_get, slice_set, ⊤}
+use Rattle.std.specs.List.{filter}
+use Rattle.tatp_rows.specs.declared.refusal.Refusal.{Refusal}
+use Rattle.tatp_actions.specs.Action.{IsOutcome, s_id_of}
+use Rattle.tatp_actions.specs.Book.{IsWithin}
+use Rattle.tatp_actions.specs.declared.action.Action.{Action}
+use Rattle.tatp_actions.specs.declared.action.RowReply.{RowReply}
+use Rattle.part_table.specs.Region.{is_part}
+use Rattle.part_table.specs.Regions.{place_of}
+use Rattle.part_table.specs.declared.region.Place.TheVariants as place
+use Rattle.part_table.specs.declared.region.Region.{Region}
+use Rattle.holding.specs.Held.{HoldingState, IsHolding, count_of}
+use Rattle.holding.specs.Post as own
+use Rattle.holding.specs.declared.job.Job.{Job}
+use Rattle.holding.specs.declared.job.Job.TheVariants.{Act, Post}
+use Rattle.hlr_owners.specs.Lodged.{Lodged}
+use Rattle.hlr_owners.specs.declared.lodging.Seat.{Seat}
+use Rattle.hlr_owners.specs.declared.lodging.Seat.TheVariants.{Part}
+use Rattle.hlr_core.specs.Step.{given_number, reply_of, posted_reply}
+use Rattle.hlr_core.specs.declared.event.Reply.{Reply}
+
+-- an action on a holding, and the reply to it
+pub record IsActed (act : Action) (before : HoldingState) (answer : Reply) (after : HoldingState) : Type 0 where
+  pub rows : RowReply
+  pub outcome : IsOutcome act before.part.book rows after.part.book
+  pub answered : answer ≡ reply_of rows
+  pub range : (after.part.lo ≡ before.part.lo) × (after.part.hi ≡ before.part.hi) × (after.part.width ≡ before.part.width)
+  pub desk : (after.desk ≡ before.desk) × (after.slot ≡ before.slot)
+  pub rules : IsHolding after
+
+-- a posting of a holding, and the reply to it
+pub record IsPosted (limit : ℕ) (before : HoldingState) (answer : Reply) (after : HoldingState) : Type 0 where
+  pub posted : Result ℕ Refusal
+  pub done : (posted, after.desk.view) ≡ own.post (count_of before.part) before.slot limit before.desk.view
+  pub answered : answer ≡ posted_reply posted
+  pub part : after.part ≡ before.part
+  pub desk : (after.desk.board ≡ before.desk.board) × (after.desk.view.owned ≡ before.desk.view.owned) × (after.slot ≡ before.slot)
+  pub lawful : IsHolding before
+  pub rules : IsHolding after
+
+-- a job done by a holding, and the reply to it
+abbrev pub IsJobDone : Job → HoldingState → Reply → HoldingState → Type 0
+IsJobDone (Act act) before answer after = IsActed act before answer after
+IsJobDone (Post limit) before answer after = IsPosted limit before answer after
+
+-- a job of a part: an action on a subscriber of the part, that gives no number, or a posting
+abbrev pub IsJobOf : List Region → ℕ → Job → Type 0
+IsJobOf regions p (Act act) = (place_of (s_id_of act) regions ≡ Some (place.Part p)) × (given_number act ≡ None)
+IsJobOf regions p (Post limit) = ⊤
+
+-- a holding can be asked for the job: the subscriber of an action lies in its range
+abbrev pub IsWithinJob : HoldingState → Job → Type 0
+IsWithinJob holding (Act act) = IsWithin holding.part.lo holding.part.hi (s_id_of act)
+IsWithinJob holding (Post limit) = ⊤
+
+-- a job done by the holding of a part, among all seats
+pub record IsDoneAt (regions : List Region) (p : ℕ) (job : Job) (before : List Seat) (answer : Reply) (after : List Seat) : Type 0 where
+  pub index : ℕ
+  pub lodged : Lodged
+  pub holding : HoldingState
+  pub region : position (is_part p) regions ≡ Some index
+  pub seat : slice_get before index ≡ Some (Part lodged)
+  pub done : IsJobDone job lodged.holding answer holding
+  pub is : after ≡ slice_set before index (Part (record lodged { holding = holding }))
+
+-- a job of a part, and the reply to it
+pub record JobReply : Type 0 where
+  pub part : ℕ
+  pub job : Job
+  pub answer : Reply
+
+-- jobs done one after another, each by the holding of its part, whatever the other parts are
+abbrev pub AreDone : List Region → List Seat → List JobReply → List Seat → Type 0
+AreDone regions before [] after = after ≡ before
+AreDone regions before (one ∷ jobs) after =
+    (next : List Seat) × IsDoneAt regions one.part one.job before one.answer next × AreDone regions next jobs after
+
+-- those of a part, in order, and those of all others
+abbrev pub jobs_of : ℕ → List JobReply → List JobReply
+jobs_of p jobs = filter (λ one. one.part == p) jobs
+
+abbrev pub jobs_beside : ℕ → List JobReply → List JobReply
+jobs_beside p jobs = filter (λ one. not (one.part == p)) jobs
+
+-- jobs of different parts commute: those of any part may as well be done before all others, with the same replies, and
+-- lead to the same seats
+abbrev pub JobsCommute : List Region → Type 0
+JobsCommute regions =
+    (p : ℕ) (jobs : List JobReply) (before after : List Seat)
+    → AreDone regions before jobs after ↔ AreDone regions before (jobs_of p jobs ++ jobs_beside p jobs) after

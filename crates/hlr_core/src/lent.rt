@@ -1,0 +1,71 @@
+//! Holdings of parts that are lent, and come home with what jobs did to them.
+ghost use Rattle.std.specs.Prelude.{◌≡◌, ℕ, List, true, false, Some, slice_get, slice_set, slice_index_or};
+ghost use Rattle.std.specs.Arc.{arc_value};
+ghost use Rattle.holding.specs.Held.{IsHolding};
+ghost use Rattle.holding.specs.declared.job.Job.{Job as Jobs};
+ghost use Rattle.hlr_owners.specs.Desks.{AreDesks};
+ghost use Rattle.hlr_core.specs.Later.{AreLater, IsBackWith};
+ghost use Rattle.hlr_core.specs.Session.{IsDoneAt, IsJobOf, IsWithinJob, JobsCommute};
+ghost use Rattle.hlr_owners.specs.Seats.{AreSeated, IsLent, desks_in, holdings_seated, homes_in, store_in};
+ghost use Rattle.hlr_core.specs.declared.event.Reply.{Reply as Replies};
+ghost use Rattle.hlr_owners.specs.declared.lodging.Seat.{Seat as Seats};
+ghost use Rattle.hlr_owners.specs.declared.lodging.Seat.TheVariants as seat;
+
+use crate::register::Register;
+use holding::Holding;
+use std::sync::Arc;
+use view_board::Board;
+
+impl Register {
+    /// Hands the holding of a part out, which is at home: to a thread, where it does the jobs that `Register::route`
+    /// sends to the part. The register is seen as before, with that part as it is now. Such jobs change neither index nor
+    /// regions, and those of different parts may be done in any order, with the same replies. It takes no memory.
+    pub fn lend(&mut self, part: u8) -> Box<Holding>
+        requires { slice_index_or (homes_in self.old.seats) part false ≡ true }
+        ensures lent { IsLent part self.old result.value self.new }
+        ensures holding { slice_get (holdings_seated self.old.seats) part ≡ Some result.value }
+        ensures away { homes_in self.new.seats ≡ slice_set (homes_in self.old.seats) part false }
+        ensures holdings { holdings_seated self.new.seats ≡ holdings_seated self.old.seats }
+        ensures store { store_in self.new ≡ store_in self.old }
+        ensures same { self.new ≡ record self.old { seats = self.new.seats } }
+        ensures board { result.value.desk.board ≡ self.old.spare.board }
+        ensures within { (job : Jobs) → IsJobOf self.old.regions part job → IsWithinJob result.value job }
+        ensures later { (job : Jobs) (before after : List Seats) (answer : Replies) → IsJobOf self.old.regions part job
+            → IsDoneAt self.old.regions part job before answer after → AreLater before after }
+        ensures commute { JobsCommute self.old.regions }
+        ensures rules { IsHolding result.value }
+    {
+        self.seats.lend(part)
+    }
+
+    /// Takes the holding of a part home that was lent, with what the jobs did that `Register::route` sent to the part:
+    /// its range, its desk's board and slots, and its subscribers with their numbers are as they were. It takes no
+    /// memory.
+    pub fn back(&mut self, holding: Box<Holding>)
+        requires { (i : ℕ) × IsBackWith (slice_get self.old.seats i) holding.value }
+        ensures { (i : ℕ) → IsBackWith (slice_get self.old.seats i) holding.value
+            → self.new ≡ record self.old { seats = slice_set self.old.seats i (seat.Part (record { holding = holding.value; home = true })) } }
+    {
+        // For the prover: the holding keeps the rules, as all who have a seat do.
+        let _lo = holding.lo();
+        let _board = self.seats.board();
+        self.seats.back(holding);
+    }
+
+    /// Whether the holding of a part is at home; where there is no such part, it isn't.
+    pub fn at_home(&self, part: u8) -> bool
+        ensures { result ≡ slice_index_or (homes_in self.now.seats) part false }
+    {
+        self.seats.at_home(part)
+    }
+
+    /// The board to which the desks of all holdings belong, at home or lent. Each region has its owner beside it, and the
+    /// desks share the board's slots. It takes no memory.
+    pub fn board(&self) -> &Arc<Board>
+        ensures board { arc_value result.now ≡ self.now.spare.board }
+        ensures seated { AreSeated self.now }
+        ensures desks { AreDesks (arc_value result.now) self.now.spare (desks_in self.now.seats) }
+    {
+        self.seats.board()
+    }
+}

@@ -1,0 +1,80 @@
+-- The rules of one owner: those of a holding and of a loose piece, and what follows from them.
+use Rattle.std.proofs.Common.{◌≡◌, ℕ, ◌<◌, ◌^◌, refl, arith}
+use Rattle.std.specs.Prelude.{ℤ, pos, neg_ℤ, ◌≤ℤ◌}
+use Rattle.std.proofs.lemmas.Int.{ints}
+use Rattle.tatp_actions.specs.Book.{empty_book, IsRowsOf}
+use Rattle.tatp_actions.specs.declared.cells.TheConstants.{CELLS}
+use Rattle.part_table.specs.declared.region.Region.{Region}
+use Rattle.view_board.specs.Nets.{net_of, net_from}
+use Rattle.view_board.specs.Views.{nobody}
+use Rattle.view_delta.specs.Pending.{pending_at}
+use Rattle.holding.specs.Held.{HoldingState, PieceState, IsHolding, IsPiece}
+use Rattle.holding.proofs.HeldLemmas.{few}
+use Rattle.hlr_owners.specs.Held.{Owner, of_holding, of_piece, IsLawful, IsOwner}
+use Rattle.hlr_owners.specs.Inside.{IsOpened}
+
+-- an empty book keeps the rules
+pub empty_rows : (lo hi : ℕ) → IsRowsOf lo hi empty_book
+empty_rows lo hi = record {
+  rules = record {
+    subscribers_ordered = tt;
+    access_ordered = tt;
+    facilities_ordered = tt;
+    forwardings_ordered = tt;
+    subscribers_in_range = tt;
+    access_in_range = tt;
+    facilities_in_range = tt;
+    forwardings_in_range = tt;
+    access_have_subscriber = tt;
+    facilities_have_subscriber = tt;
+    forwardings_have_facility = tt;
+  };
+  subscribers = tt;
+  access = tt;
+  facilities = tt;
+  forwardings = tt;
+}
+
+-- a holding keeps the local law
+pub holding_keeps : (holding : HoldingState) → IsHolding holding → IsLawful (of_holding holding)
+holding_keeps holding is = record { rules = is.rules; law = is.law; small = is.small }
+
+-- nobody has published anything
+pub nobody_net : (c : ℕ) → net_of nobody c ≡ pos 0
+unfolding net_from
+nobody_net c = refl
+
+-- and a loose piece keeps the law
+pub piece_keeps : (piece : PieceState) → IsPiece piece → IsLawful (of_piece piece)
+piece_keeps piece is = record {
+  rules = is.rules;
+  law = λ c below. (let law = is.law c below in let none = nobody_net c in omega (arith, ints));
+  small = λ c below. (let none = nobody_net c in (omega (arith, ints), omega (arith, ints)));
+}
+
+-- a holding with no row, for a region and a width of zones
+pub record IsFresh (width : ℕ) (region : Region) (owner : Owner) : Type 0 where
+  pub owned : IsOwner width region owner
+  pub no_rows : owner.part.book ≡ empty_book
+
+pub fresh_holding : (width : ℕ) (region : Region) (holding : HoldingState) → IsOpened region width holding → IsFresh width region (of_holding holding)
+fresh_holding width region holding is = record {
+  owned = record { from = is.from; to = is.to; zones = is.zones; keeps = holding_keeps holding is.rules };
+  no_rows = is.no_rows;
+}
+
+-- a whole number is at most another one, either way
+abbrev pub IsAtMost : ℕ → ℤ → Type 0
+IsAtMost most z = (neg_ℤ (pos most) ≤ℤ z) × (z ≤ℤ pos most)
+
+-- the most that one owner has published of a cell, and that is pending of it: a net and a count of 2^40 at most
+abbrev pub owner_most : ℕ
+owner_most = 2 ^ 41
+
+pub pending_fits : (owner : Owner) → IsLawful owner → (c : ℕ) → c < CELLS → IsAtMost owner_most (pending_at owner.pending c)
+pending_fits owner is c below =
+    let law = is.law c below in
+    let low = (is.small c below).0 in
+    let high = (is.small c below).1 in
+    let most = few owner.part is.rules c in
+    (omega (arith, ints), omega (arith, ints))

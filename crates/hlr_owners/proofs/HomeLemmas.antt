@@ -1,0 +1,92 @@
+-- Who is at home: all parts, the part with a number, and whoever has an s_id.
+use Rattle.std.proofs.Common.{◌≡◌, refl, ℕ, zero, suc, ◌<◌, List, [], ◌∷◌, Bool, true, length, get_or, arith, Some, None, ◌-◌, Result, Ok, Err}
+use Rattle.std.specs.Prelude.{Option, position, IfOk}
+use Rattle.std.specs.List.{AllByRecursion}
+use Rattle.std.proofs.lemmas.List.{get_or_past}
+use Rattle.std.proofs.lemmas.List.Quantifiers.{position-Some}
+use Rattle.tatp_rows.specs.declared.refusal.Refusal.{Refusal}
+use Rattle.tatp_rows.proofs.PlaceLemmas.{each_at}
+use Rattle.part_table.specs.Recut.{recut_answer}
+use Rattle.part_table.specs.Region.{lies_in}
+use Rattle.part_table.specs.declared.moves.CutMove.{CutMove}
+use Rattle.part_table.specs.Regions.{place_of}
+use Rattle.part_table.specs.declared.region.Place.{Place}
+use Rattle.part_table.specs.declared.region.Place.TheVariants as place
+use Rattle.part_table.proofs.IndexLemmas.{is_part_there}
+use Rattle.part_table.proofs.PlaceLemmas.{blank, place_at}
+use Rattle.hlr_owners.specs.Inside.{AreHome}
+use Rattle.hlr_owners.specs.Lodged.{Lodged}
+use Rattle.hlr_owners.specs.Recut.{IsHomeToCut, IsHomeToMove}
+use Rattle.hlr_owners.specs.Seats.{is_home, homes_in, IsKind, Seating, AreSeated, IsPartHome, IsPlaceHome, IsHomeFor, AllHome}
+use Rattle.hlr_owners.specs.declared.lodging.Seat.{Seat}
+use Rattle.hlr_owners.specs.declared.lodging.Seat.TheVariants.{Part, Piece}
+use Rattle.hlr_owners.proofs.PartLemmas.{lodged_home}
+use Rattle.hlr_owners.proofs.SeatLemmas.{seat_is, seat_there}
+
+-- each of a list of trues is true, and what is behind them counts as true
+trues_at : (homes : List Bool) (p : ℕ) → AllByRecursion (λ (home : Bool). home ≡ true) homes → get_or homes p true ≡ true
+trues_at [] p all = get_or_past [] p true (omega arith)
+trues_at (home ∷ homes) zero all = all.0
+trues_at (home ∷ homes) (suc p) all = trues_at homes p all.1
+
+-- with all parts at home each is, and whoever has an s_id
+pub part_home_of_all : (p : ℕ) (h : Seating) → AllHome h.seats → IsPartHome p h
+part_home_of_all p h all = trues_at (homes_in h.seats) p all
+
+place_home_of_all : (o : Option Place) (h : Seating) → AllHome h.seats → IsPlaceHome o h
+place_home_of_all (Some (place.Part p)) h all = part_home_of_all p h all
+place_home_of_all (Some (place.Piece n)) h all = tt
+place_home_of_all None h all = tt
+
+pub home_of_all : (s_id : ℕ) (h : Seating) → AllHome h.seats → IsHomeFor s_id h
+home_of_all s_id h all = place_home_of_all (place_of s_id h.regions) h all
+
+-- with the same parts at home a bound may move, and with all at home a re-cut
+pub move_home : (before after : Seating) (move : CutMove) → homes_in after.seats ≡ homes_in before.seats → IsHomeToMove before move → IsHomeToMove after move
+move_home before after move same home = rw same home
+
+pub cut_move_home : (bounds : List ℕ) (before now : Seating) (moves : List CutMove) (i : ℕ) (d : CutMove) → recut_answer before.regions bounds ≡ Ok moves → IsHomeToCut bounds before
+    → i < length moves → homes_in now.seats ≡ homes_in before.seats → IsHomeToMove now (get_or moves i d)
+cut_move_home bounds before now moves i d answer home within same =
+    move_home before now (get_or moves i d) same (each_at (IsHomeToMove before) moves i d (rw answer at home) within)
+
+moves_home : (h : Seating) (moves : List CutMove) → AllHome h.seats → AllByRecursion (IsHomeToMove h) moves
+moves_home h [] all = tt
+moves_home h (move ∷ moves) all = ((part_home_of_all (move.bound - 1) h all, part_home_of_all move.bound h all), moves_home h moves all)
+
+pub cut_home_of_all : (bounds : List ℕ) (h : Seating) → AllHome h.seats → IsHomeToCut bounds h
+cut_home_of_all bounds h all = of_answer (recut_answer h.regions bounds)
+  where
+    of_answer : (answer : Result (List CutMove) Refusal) → IfOk answer (AllByRecursion (IsHomeToMove h))
+    of_answer (Ok moves) = moves_home h moves all
+    of_answer (Err why) = tt
+
+-- so is each seat
+pub each_home : (seats : List Seat) → AllHome seats → AreHome seats
+each_home [] all = tt
+each_home (Part l ∷ seats) all = (all.0, each_home seats all.1)
+each_home (Piece b ∷ seats) all = (refl, each_home seats all)
+
+pub all_home : (seats : List Seat) → AreHome seats → AllHome seats
+all_home [] each = tt
+all_home (Part l ∷ seats) each = (each.0, all_home seats each.1)
+all_home (Piece b ∷ seats) each = all_home seats each.1
+
+pub home_at : (seats : List Seat) (i : ℕ) (s : Seat) → AllHome seats → i < length seats → s ≡ get_or seats i s → is_home s ≡ true
+home_at [] i s all within is = absurd (omega arith)
+home_at (Part l ∷ seats) zero s all within is = rw is all.0
+home_at (Part l ∷ seats) (suc i) s all within is = home_at seats i s all.1 (omega arith) is
+home_at (Piece b ∷ seats) zero s all within is = rw is refl
+home_at (Piece b ∷ seats) (suc i) s all within is = home_at seats i s all (omega arith) is
+
+-- the part who has an s_id is at home
+module _ (h : Seating) (are : AreSeated h) (s_id i : ℕ) (at : position (lies_in s_id) h.regions ≡ Some i) (l : Lodged) (is : Part l ≡ get_or h.seats i (Part l)) where
+  within : i < length h.regions
+  within = (position-Some (lies_in s_id) h.regions i blank at).0
+
+  of_place : (q : Place) → (get_or h.regions i blank).place ≡ q → IsKind q (Part l) → IsPlaceHome (Some q) h → l.home ≡ true
+  of_place (place.Part p) placed kind home = lodged_home h are p i within (is_part_there p (get_or h.regions i blank) placed) l is home
+  of_place (place.Piece n) placed kind home = absurd kind
+
+  pub seat_home : IsHomeFor s_id h → l.home ≡ true
+  seat_home home = of_place (get_or h.regions i blank).place refl (seat_is h are i (Part l) is (seat_there h are s_id i at)).kind (rw (place_at s_id h.regions i blank at) at home)

@@ -1,0 +1,183 @@
+-- A part lent out, and seats that stand for others while parts are out.
+use Rattle.std.proofs.Common.{◌≡◌, ◌∙◌, refl, sym, ap, ℕ, zero, suc, ◌<◌, ◌≤◌, List, [], ◌∷◌, length, get_or, set, arith, true, false, Some, subst}
+use Rattle.std.specs.Prelude.{Box, slice_get, position, nat_le, nat_lt, sum_by}
+use Rattle.std.specs.declared.alloc.Global.{Global}
+use Rattle.std.specs.List.{AllZip, AllByRecursion}
+use Rattle.std.proofs.lemmas.List.Sums.{sum_by-cons}
+use Rattle.std.proofs.Math.Seq.{map-set_same}
+use Rattle.std.proofs.lemmas.Bool.Decides.{nat_tests}
+use Rattle.std.proofs.lemmas.List.Quantifiers.{position-Some}
+use Rattle.std.proofs.lemmas.Option.{slice_get_read}
+use Rattle.part_table.specs.Region.{is_part, lies_in}
+use Rattle.part_table.specs.Regions.{IsConsecutive}
+use Rattle.hlr_owners.proofs.OwnerLemmas.{lies_within}
+use Rattle.atomic_table.specs.Seated.{TableId}
+use Rattle.part_table.specs.declared.region.Region.{Region}
+use Rattle.part_table.proofs.PlaceLemmas.{blank}
+use Rattle.holding.specs.Held.{HoldingState, PieceState, IsHolding}
+use Rattle.hlr_owners.specs.Held.{of_holding}
+use Rattle.view_board.specs.Desks.{Station}
+use Rattle.hlr_owners.specs.Desks.{AreDesks, IsOfBoard, owns_one}
+use Rattle.hlr_owners.proofs.PostLemmas.{desks_posted}
+use Rattle.hlr_owners.specs.Lodged.{Lodged}
+use Rattle.hlr_owners.specs.Seats.{owner_of, owners_in, IsSeat, Seating, AreSeated, IsSameOwner, IsLaterSeat, IsBackFor, IsLent, desks_in}
+use Rattle.hlr_owners.specs.declared.lodging.Seat.{Seat}
+use Rattle.hlr_owners.specs.declared.lodging.Seat.TheVariants.{Part, Piece}
+use Rattle.hlr_owners.proofs.PartLemmas.{ahead, at_ahead, set_ahead}
+use Rattle.hlr_owners.proofs.SeatLemmas.{exchanged, part_kind, seat_is, region_there, region_behind}
+
+pub lent_owners : (seats : List Seat) (i : ℕ) (l m : Lodged) → Part l ≡ get_or seats i (Part l) → m.holding ≡ l.holding → owners_in (set seats i (Part m)) ≡ owners_in seats
+lent_owners seats i l m is same = map-set_same owner_of seats i (Part m) (Part l) (ap of_holding same ∙ ap owner_of is)
+
+-- seats with others that stand for them keep the rules
+seat_later : (width : ℕ) (r : Region) (s t : Seat) → IsLaterSeat s t → IsSeat width r s → IsSeat width r t
+seat_later width r (Part l) (Part m) later is = record {
+  kind = part_kind r.place l m is.kind;
+  owner = record { from = later.0.lo ∙ is.owner.from; to = later.0.hi ∙ is.owner.to; zones = later.0.width ∙ is.owner.zones; keeps = later.1 is.owner.keeps };
+}
+seat_later width r (Part l) (Piece b) later is = absurd later
+seat_later width r (Piece a) (Part m) later is = absurd later
+seat_later width r (Piece a) (Piece b) later is = rw later is
+
+zip_later : (width : ℕ) (regions : List Region) (seats ks : List Seat) → AllZip IsLaterSeat seats ks → AllZip (IsSeat width) regions seats → AllZip (IsSeat width) regions ks
+zip_later width [] [] [] later each = tt
+zip_later width [] [] (k ∷ ks) later each = absurd later
+zip_later width [] (s ∷ seats) ks later each = absurd each
+zip_later width (r ∷ regions) [] ks later each = absurd each
+zip_later width (r ∷ regions) (s ∷ seats) [] later each = absurd later
+zip_later width (r ∷ regions) (s ∷ seats) (k ∷ ks) later each = (seat_later width r s k later.0 each.0, zip_later width regions seats ks later.1 each.1)
+
+pub seated_later : (h : Seating) (ks : List Seat) → AreSeated h → AllZip IsLaterSeat h.seats ks → AreSeated (record h { seats = ks })
+seated_later h ks are later = record { are = are.are; each = zip_later h.width h.regions h.seats ks later are.each; zones = are.zones }
+
+-- and their desks share the slots
+module _ (board : TableId) where
+  later_of_board : (seats ks : List Seat) → AllZip IsLaterSeat seats ks → AllByRecursion (IsOfBoard board) (desks_in seats) → AllByRecursion (IsOfBoard board) (desks_in ks)
+  later_of_board [] [] later each = tt
+  later_of_board [] (k ∷ ks) later each = absurd later
+  later_of_board (s ∷ seats) [] later each = absurd later
+  later_of_board (Part l ∷ seats) (Part m ∷ ks) later each = (record { same = later.0.0.board ∙ each.0.same; wide = later.0.2 each.0.wide }, later_of_board seats ks later.1 each.1)
+  later_of_board (Part l ∷ seats) (Piece b ∷ ks) later each = absurd later.0
+  later_of_board (Piece a ∷ seats) (Part m ∷ ks) later each = absurd later.0
+  later_of_board (Piece a ∷ seats) (Piece b ∷ ks) later each = later_of_board seats ks later.1 each
+
+later_owned : (slot : ℕ) (seats ks : List Seat) → AllZip IsLaterSeat seats ks → sum_by (owns_one slot) (desks_in ks) ≡ sum_by (owns_one slot) (desks_in seats)
+later_owned slot [] [] later = refl
+later_owned slot [] (k ∷ ks) later = absurd later
+later_owned slot (s ∷ seats) [] later = absurd later
+later_owned slot (Part l ∷ seats) (Part m ∷ ks) later =
+    let one : owns_one slot m.holding.desk ≡ owns_one slot l.holding.desk = rw later.0.0.owned refl in
+    let rest = later_owned slot seats ks later.1 in
+    sum_by-cons (owns_one slot) m.holding.desk (desks_in ks) ∙ rw (one, rest) (sym (sum_by-cons (owns_one slot) l.holding.desk (desks_in seats)))
+later_owned slot (Part l ∷ seats) (Piece b ∷ ks) later = absurd later.0
+later_owned slot (Piece a ∷ seats) (Part m ∷ ks) later = absurd later.0
+later_owned slot (Piece a ∷ seats) (Piece b ∷ ks) later = later_owned slot seats ks later.1
+
+pub desks_later : (board : TableId) (spare : Station) (seats ks : List Seat) → AllZip IsLaterSeat seats ks → AreDesks board spare (desks_in seats) → AreDesks board spare (desks_in ks)
+desks_later board spare seats ks later are = record {
+  of_board = (are.of_board.0, later_of_board board seats ks later are.of_board.1);
+  shares = record {
+    once = λ slot below. (
+        let was = are.shares.once slot below in
+        let one = sum_by-cons (owns_one slot) spare (desks_in ks) in
+        let other = sum_by-cons (owns_one slot) spare (desks_in seats) in
+        let same = later_owned slot seats ks later in
+        omega arith);
+    idle = are.shares.idle;
+  };
+}
+
+-- each seat may stand for itself
+pub later_self : (seats : List Seat) → AllZip IsLaterSeat seats seats
+later_self [] = tt
+later_self (Part l ∷ seats) = ((record { lo = refl; hi = refl; width = refl; board = refl; owned = refl }, λ lawful. lawful, λ wide. wide), later_self seats)
+later_self (Piece b ∷ seats) = (refl, later_self seats)
+
+-- a holding that comes home has a seat
+back_there : (seats : List Seat) (i : ℕ) (k : HoldingState) → IsBackFor (slice_get seats i) k → (l : Lodged) × (Part l ≡ get_or seats i (Part l)) × (i < length seats) × (l.home ≡ false) × IsSameOwner l.holding k
+back_there [] i k back = absurd back
+back_there (Part l ∷ seats) zero k back = (l, refl, omega arith, back.0, back.1)
+back_there (Piece b ∷ seats) zero k back = absurd back
+back_there (s ∷ seats) (suc i) k back = let rest = back_there seats i k back in let lt = rest.2 in (rest.0, rest.1, omega arith, rest.3, rest.4)
+
+-- an s_id lies in one region
+lies_once : (from s_id : ℕ) (regions : List Region) (i j : ℕ) → IsConsecutive from regions → i < length regions → j < length regions
+    → lies_in s_id (get_or regions i blank) ≡ true → lies_in s_id (get_or regions j blank) ≡ true → i ≡ j
+lies_once from s_id [] i j consecutive lt below one two = absurd (omega arith)
+lies_once from s_id (r ∷ regions) zero zero consecutive lt below one two = refl
+lies_once from s_id (r ∷ regions) zero (suc j) consecutive lt below one two =
+    let behind = region_behind r.hi regions j blank consecutive.2 (omega arith) in
+    let under = (lies_within s_id r one).1 in
+    let above = (lies_within s_id (get_or regions j blank) two).0 in
+    absurd (omega arith)
+lies_once from s_id (r ∷ regions) (suc i) zero consecutive lt below one two =
+    let behind = region_behind r.hi regions i blank consecutive.2 (omega arith) in
+    let under = (lies_within s_id r two).1 in
+    let above = (lies_within s_id (get_or regions i blank) one).0 in
+    absurd (omega arith)
+lies_once from s_id (r ∷ regions) (suc i) (suc j) consecutive lt below one two = ap suc (lies_once r.hi s_id regions i j consecutive.2 (omega arith) (omega arith) one two)
+
+-- which is that of its first subscriber
+pub back_index : (h : Seating) (are : AreSeated h) (k : HoldingState) → IsHolding k → (i j : ℕ) → position (lies_in k.part.lo) h.regions ≡ Some i → IsBackFor (slice_get h.seats j) k → i ≡ j
+back_index h are k keeps i j index back =
+    let here = position-Some (lies_in k.part.lo) h.regions i blank index in
+    let there = back_there h.seats j k back in
+    let seat = seat_is h are j (Part there.0) there.1 there.2 in
+    let low = seat.owner.from in
+    let high = seat.owner.to in
+    let lo = there.4.lo in
+    let hi = there.4.hi in
+    let some = keeps.rules.range.1 in
+    let inside : lies_in k.part.lo (get_or h.regions j blank) ≡ true = lies (get_or h.regions j blank) k.part.lo (omega arith) (omega arith) in
+    lies_once 1 k.part.lo h.regions i j are.are.consecutive here.0 (region_there h are j (Part there.0) there.1 there.2) here.1 inside
+  where
+    lies : (r : Region) (s_id : ℕ) → r.lo ≤ s_id → s_id < r.hi → lies_in s_id r ≡ true
+    lies r s_id from to =
+        let a : nat_le r.lo s_id ≡ true = grind (arith, nat_tests) in
+        let b : nat_lt s_id r.hi ≡ true = grind (arith, nat_tests) in
+        rw (a, b) refl
+
+pub back_here : (h : Seating) (are : AreSeated h) (k : HoldingState) → IsHolding k → (i : ℕ) → position (lies_in k.part.lo) h.regions ≡ Some i → ((j : ℕ) × IsBackFor (slice_get h.seats j) k) → IsBackFor (slice_get h.seats i) k
+back_here h are k keeps i index back = subst (λ (n : ℕ). IsBackFor (slice_get h.seats n) k) (sym (back_index h are k keeps i back.0 index back.1)) back.1
+
+-- at home again
+pub lodged_is : (m : Lodged) (k : HoldingState) → m.holding ≡ k → m.home ≡ true → Part m ≡ Part (record { holding = k; home = true })
+lodged_is m k same home = rw (← same, ← home) refl
+
+module _ (h : Seating) (are : AreSeated h) (i : ℕ) (k : HoldingState) (back : IsBackFor (slice_get h.seats i) k) (l : Lodged) (is : Part l ≡ get_or h.seats i (Part l)) where
+  facts : (i < length h.seats) × IsBackFor (Some (Part l)) k
+  facts = at h.seats i back is
+    where
+      at : (seats : List Seat) (i : ℕ) → IsBackFor (slice_get seats i) k → Part l ≡ get_or seats i (Part l) → (i < length seats) × IsBackFor (Some (Part l)) k
+      at [] i back is = absurd back
+      at (s ∷ seats) zero back is = (omega arith, subst (λ (t : Seat). IsBackFor (Some t) k) (sym is) back)
+      at (s ∷ seats) (suc i) back is = let rest = at seats i back is in let lt = rest.0 in (omega arith, rest.1)
+
+  pub home_is : l.home ≡ false
+  home_is = facts.1.0
+
+  pub back_seated : (m : Lodged) → m.holding ≡ k → IsHolding k → AreSeated (record h { seats = set h.seats i (Part m) })
+  back_seated m same keeps = exchanged h are i l m is facts.0 (rw same (facts.1.1.lo, facts.1.1.hi, facts.1.1.width)) (rw same keeps)
+
+  -- the desk that comes home has the slots that went
+  pub back_desks : (m : Lodged) (board : TableId) → m.holding ≡ k → IsHolding k → AreDesks board h.spare (desks_in h.seats) → AreDesks board h.spare (desks_in (set h.seats i (Part m)))
+  back_desks m board same keeps rules =
+      let at = at_ahead (λ (o : Lodged). o.holding.desk) h.seats i l l.holding.desk facts.0 is in
+      rw (set_ahead (λ (o : Lodged). o.holding.desk) h.seats i l m facts.0 is)
+      (desks_posted board h.spare (desks_in h.seats) (ahead h.seats i) l.holding.desk m.holding.desk at.0 at.1 rules (rw same facts.1.1.board) (rw same facts.1.1.owned) (rw same keeps.wide))
+
+-- a piece is not one that may come home
+pub back_piece : (seats : List Seat) (i : ℕ) (k : HoldingState) (b : Box PieceState Global) → IsBackFor (slice_get seats i) k → Piece b ≡ get_or seats i (Piece b) → ⊥
+back_piece [] i k b back is = back
+back_piece (s ∷ seats) zero k b back is = subst (λ (t : Seat). IsBackFor (Some t) k) (sym is) back
+back_piece (s ∷ seats) (suc i) k b back is = back_piece seats i k b back is
+
+-- a part whose holding goes out
+pub lent_from : (h : Seating) (p i : ℕ) (l m : Lodged) (k : HoldingState) → position (is_part p) h.regions ≡ Some i → i < length h.seats → Part l ≡ get_or h.seats i (Part l)
+    → k ≡ l.holding → l.home ≡ true → m ≡ record l { home = false } → IsLent p h k (record h { seats = set h.seats i (Part m) })
+lent_from h p i l m k at within is same home gone = record {
+  index = i;
+  region = at;
+  seat = slice_get_read h.seats (length h.seats) i (Part l) refl within is ∙ rw (same, ← home) refl;
+  away = rw (gone, ← same) refl;
+}

@@ -1,0 +1,123 @@
+-- Holdings that may be brought home: those of no part, over a new board, and those of which the last two are taken out
+-- and put back.
+use Rattle.std.proofs.Common.{◌≡◌, ◌∙◌, ℕ, ◌+◌, arith, List, [], ◌∷◌, ◌++◌, length, map, refl}
+use Rattle.std.specs.Prelude.{Box, sum_by}
+use Rattle.std.specs.List.{AllByRecursion}
+use Rattle.std.specs.declared.alloc.Global.{Global}
+use Rattle.std.proofs.lemmas.List.{map-append}
+use Rattle.std.proofs.lemmas.List.Sums.{sum_by-cons, sum_by_push}
+use Rattle.atomic_table.specs.Seated.{TableId}
+use Rattle.view_board.specs.Desks.{Station, with_view}
+use Rattle.view_board.specs.Views.{first_view, looked}
+use Rattle.view_board.specs.declared.words.TheConstants.{WORDS}
+use Rattle.holding.specs.Held.{HoldingState}
+use Rattle.hlr_owners.specs.Desks.{desk_of, owns_one, AreOpening}
+use Rattle.hlr_owners.specs.Gather.{MayGather}
+use Rattle.hlr_owners.specs.Boxed.{map_boxed, unboxed}
+use Rattle.hlr_owners.proofs.PartedLemmas.{map_twice}
+use Rattle.hlr_owners.proofs.ShareLemmas.{none_shared, first_of_board, shared_desks}
+
+-- a desk of the same board that has the same slots
+pub record IsSameDesk (before after : Station) : Type 0 where
+  pub board : after.board ≡ before.board
+  pub owned : after.view.owned ≡ before.view.owned
+
+-- the desks of what boxes contain
+desks_in : (boxes : List (Box HoldingState Global)) → map desk_of (unboxed boxes) ≡ map_boxed desk_of boxes
+desks_in boxes = map_twice (λ (b : Box HoldingState Global). b.value) desk_of boxes
+
+-- one more at the end
+desks_pushed : (boxes : List (Box HoldingState Global)) (b : Box HoldingState Global) → map_boxed desk_of (boxes ++ b ∷ []) ≡ map_boxed desk_of boxes ++ b.value.desk ∷ []
+desks_pushed boxes b = map-append (λ (one : Box HoldingState Global). desk_of one.value) boxes (b ∷ [])
+
+-- each of a list and one behind it
+each_front : {X : Type 0} (P : X → Type 0) (xs : List X) (x : X) → AllByRecursion P (xs ++ x ∷ []) → AllByRecursion P xs × P x
+each_front P [] x each = (tt, each.0)
+each_front P (first ∷ xs) x each = let rest = each_front P xs x each.1 in ((each.0, rest.0), rest.1)
+
+each_back : {X : Type 0} (P : X → Type 0) (xs : List X) (x : X) → AllByRecursion P xs → P x → AllByRecursion P (xs ++ x ∷ [])
+each_back P [] x each here = (here, tt)
+each_back P (first ∷ xs) x each here = (each.0, each_back P xs x each.1 here)
+
+same_owns : (slot : ℕ) (before after : Station) → IsSameDesk before after → owns_one slot after ≡ owns_one slot before
+same_owns slot before after same = rw same.owned refl
+
+-- a new board's desk alone
+pub new_board : (board : TableId) (spare : Station) (words : List ℕ) → spare.board ≡ board → spare.view ≡ first_view words → AreOpening words → length words ≡ WORDS → MayGather board spare []
+new_board board spare words same first opening wide =
+    record {
+      same = (same, tt);
+      shares = (shared_desks words board spare [] opening.level (first_of_board words board spare same first wide, tt) (none_shared words spare [] first refl)).shares;
+    }
+
+-- with what the spare desk saw
+pub looked_may : (board : TableId) (spare : Station) (holdings : List HoldingState) (words : List ℕ) → MayGather board spare holdings → MayGather board (with_view spare (looked spare.view words)) holdings
+looked_may board spare holdings words may = record { same = may.same; shares = record { once = may.shares.once; idle = may.shares.idle } }
+
+-- two holdings at the end of a list
+module _ (rest : List (Box HoldingState Global)) (first second : Box HoldingState Global) where
+  desks_of_two : map desk_of (unboxed ((rest ++ first ∷ []) ++ second ∷ [])) ≡ (map_boxed desk_of rest ++ first.value.desk ∷ []) ++ second.value.desk ∷ []
+  desks_of_two = desks_in ((rest ++ first ∷ []) ++ second ∷ []) ∙ rw (desks_pushed (rest ++ first ∷ []) second, desks_pushed rest first) refl
+
+  owned_by_two : (spare : Station) (slot : ℕ)
+      → sum_by (owns_one slot) (spare ∷ map desk_of (unboxed ((rest ++ first ∷ []) ++ second ∷ []))) ≡ owns_one slot spare + sum_by (owns_one slot) (map_boxed desk_of rest) + owns_one slot first.value.desk + owns_one slot second.value.desk
+  owned_by_two spare slot =
+      let head = sum_by-cons (owns_one slot) spare ((map_boxed desk_of rest ++ first.value.desk ∷ []) ++ second.value.desk ∷ []) in
+      let last = sum_by_push (owns_one slot) (map_boxed desk_of rest ++ first.value.desk ∷ []) second.value.desk in
+      let before = sum_by_push (owns_one slot) (map_boxed desk_of rest) first.value.desk in
+      rw desks_of_two (omega arith)
+
+  of_board : (board : TableId) → AllByRecursion (λ (desk : Station). desk.board ≡ board) (map_boxed desk_of rest) → first.value.desk.board ≡ board → second.value.desk.board ≡ board
+      → AllByRecursion (λ (desk : Station). desk.board ≡ board) (map desk_of (unboxed ((rest ++ first ∷ []) ++ second ∷ [])))
+  of_board board others one other =
+      rw desks_of_two (each_back (λ (desk : Station). desk.board ≡ board) (map_boxed desk_of rest ++ first.value.desk ∷ []) second.value.desk (each_back (λ (desk : Station). desk.board ≡ board) (map_boxed desk_of rest) first.value.desk others one) other)
+
+-- they are taken out
+module _ (board : TableId) (spare : Station) (all some rest : List (Box HoldingState Global)) (first second : Box HoldingState Global) (are : all ≡ some ++ second ∷ []) (were : some ≡ rest ++ first ∷ []) (may : MayGather board spare (unboxed all)) where
+  may_two : MayGather board spare (unboxed ((rest ++ first ∷ []) ++ second ∷ []))
+  may_two = rw (are, were) at may
+
+  front : AllByRecursion (λ (desk : Station). desk.board ≡ board) (map_boxed desk_of rest ++ first.value.desk ∷ []) × (second.value.desk.board ≡ board)
+  front = each_front (λ (desk : Station). desk.board ≡ board) (map_boxed desk_of rest ++ first.value.desk ∷ []) second.value.desk (rw (desks_of_two rest first second) at may_two.same.1)
+
+  others : AllByRecursion (λ (desk : Station). desk.board ≡ board) (map_boxed desk_of rest) × (first.value.desk.board ≡ board)
+  others = each_front (λ (desk : Station). desk.board ≡ board) (map_boxed desk_of rest) first.value.desk front.0
+
+  -- their desks are of the board
+  pub first_board : first.value.desk.board ≡ board
+  first_board = others.1
+
+  pub second_board : second.value.desk.board ≡ board
+  second_board = front.1
+
+  -- and put back, as they were or the other way round, over desks of the same slots
+  module _ (first' second' : Box HoldingState Global) (same_first : IsSameDesk first.value.desk first'.value.desk) (same_second : IsSameDesk second.value.desk second'.value.desk) where
+    pub two_back : MayGather board spare (unboxed ((rest ++ first' ∷ []) ++ second' ∷ []))
+    two_back = record {
+      same = (may.same.0, of_board rest first' second' board others.0 (same_first.board ∙ first_board) (same_second.board ∙ second_board));
+      shares = record {
+        once = λ slot within. (
+            let was = owned_by_two rest first second spare slot in
+            let now = owned_by_two rest first' second' spare slot in
+            let once = may_two.shares.once slot within in
+            let one = same_owns slot first.value.desk first'.value.desk same_first in
+            let other = same_owns slot second.value.desk second'.value.desk same_second in
+            omega arith);
+        idle = may.shares.idle;
+      };
+    }
+
+    pub two_turned : MayGather board spare (unboxed ((rest ++ second' ∷ []) ++ first' ∷ []))
+    two_turned = record {
+      same = (may.same.0, of_board rest second' first' board others.0 (same_second.board ∙ second_board) (same_first.board ∙ first_board));
+      shares = record {
+        once = λ slot within. (
+            let was = owned_by_two rest first second spare slot in
+            let now = owned_by_two rest second' first' spare slot in
+            let once = may_two.shares.once slot within in
+            let one = same_owns slot first.value.desk first'.value.desk same_first in
+            let other = same_owns slot second.value.desk second'.value.desk same_second in
+            omega arith);
+        idle = may.shares.idle;
+      };
+    }

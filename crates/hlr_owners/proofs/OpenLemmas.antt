@@ -1,0 +1,82 @@
+-- The store at opening: an empty holding for each region, one after another.
+use Rattle.std.proofs.Common.{◌≡◌, ap, ℕ, ◌+◌, ◌-◌, ◌<◌, ◌≤◌, arith, List, [], ◌∷◌, ◌++◌, length, get_or, take, map, true}
+use Rattle.std.specs.Prelude.{Result, Ok}
+use Rattle.std.specs.List.{AllZip, AllByRecursion, range_with_len}
+use Rattle.std.proofs.lemmas.List.{take_more}
+use Rattle.std.proofs.lemmas.List.FromFn.{length-map-range_with_len}
+use Rattle.tatp_rows.specs.declared.refusal.Refusal.{Refusal}
+use Rattle.tatp_actions.specs.Part.{IsRange, IsWidth}
+use Rattle.part_table.proofs.BoundsLemmas.{length_parts, no_pieces, within}
+use Rattle.part_table.proofs.NumberLemmas.{length_regions}
+use Rattle.part_table.proofs.OpeningLemmas.{openable}
+use Rattle.part_table.specs.Bounds.{parts_between}
+use Rattle.part_table.specs.Opening as table
+use Rattle.part_table.specs.Opening.{can_open, opening_bound}
+use Rattle.part_table.specs.Regions.{AreRegions, IsConsecutive}
+use Rattle.part_table.specs.declared.region.Region.{Region}
+use Rattle.hlr_owners.specs.Held.{Owner, of_holding}
+use Rattle.hlr_owners.specs.Inside.{IsOpened}
+use Rattle.holding.specs.Held.{HoldingState}
+use Rattle.hlr_owners.proofs.HeldLemmas.{IsFresh, fresh_holding}
+use Rattle.tatp_rows.proofs.PlaceLemmas.{each_at}
+
+-- the bounds between parts at opening
+abbrev pub bounds_opened : ℕ → ℕ → List ℕ
+bounds_opened parts width = map (opening_bound parts width) (range_with_len 1 (parts - 1))
+
+ok_same : (one other : List Region) → (let answer : Result (List Region) Refusal = Ok one in answer) ≡ Ok other → one ≡ other
+ok_same one other same = cc
+
+module _ (parts width : ℕ) (regions : List Region) (can : can_open parts width ≡ true) (is : Ok regions ≡ table.opening parts width) where
+  -- they make the regions
+  pub regions_are : regions ≡ parts_between 0 1 (bounds_opened parts width)
+  regions_are = ok_same regions (parts_between 0 1 (bounds_opened parts width)) (rw can at is)
+
+  -- as many as parts
+  pub regions_long : length regions ≡ parts
+  regions_long =
+      let bounds = bounds_opened parts width in
+      let some = (openable parts width can).some_part in
+      let count = length-map-range_with_len (opening_bound parts width) 1 (parts - 1) in
+      let none = ap length (no_pieces 0 1 bounds) in
+      let each = length_parts 0 1 bounds in
+      let all = length_regions (parts_between 0 1 bounds) in
+      rw regions_are (omega arith)
+
+  pub regions_few : length regions ≤ 16
+  regions_few = let few = (openable parts width can).few_parts in let long = regions_long in omega arith
+
+  pub width_fits : IsWidth width
+  width_fits = let fits = openable parts width can in (fits.some_width, fits.small_width)
+
+-- each region is a range of subscribers
+ranges_from : (from : ℕ) (regions : List Region) → 1 ≤ from → IsConsecutive from regions → AllByRecursion (λ (region : Region). IsRange region.lo region.hi) regions
+ranges_from from [] above consecutive = tt
+ranges_from from (region ∷ regions) above consecutive =
+    let begins = consecutive.0 in
+    let some = consecutive.1 in
+    let end = within region.hi regions consecutive.2 in
+    ((omega arith, some, end), ranges_from region.hi regions (omega arith) consecutive.2)
+
+pub range_at : (regions : List Region) (i : ℕ) (d : Region) → AreRegions regions → i < length regions → IsRange (get_or regions i d).lo (get_or regions i d).hi
+range_at regions i d are below = each_at (λ (region : Region). IsRange region.lo region.hi) regions i d (ranges_from 1 regions (omega arith) are.consecutive) below
+
+-- one more at the end of both
+zip_push : {A B : Type 0} (R : A → B → Type 0) (xs : List A) (ys : List B) (x : A) (y : B) → AllZip R xs ys → R x y → AllZip R (xs ++ x ∷ []) (ys ++ y ∷ [])
+zip_push R [] [] x y each here = (here, tt)
+zip_push R [] (y' ∷ ys) x y each here = absurd each
+zip_push R (x' ∷ xs) [] x y each here = absurd each
+zip_push R (x' ∷ xs) (y' ∷ ys) x y each here = (each.0, zip_push R xs ys x y each.1 here)
+
+-- the first i holdings stand beside the first i regions, each with no row
+abbrev pub AreOpened : ℕ → List Region → List Owner → ℕ → Type 0
+AreOpened width regions holdings i = AllZip (IsFresh width) (take i regions) holdings
+
+pub none_opened : (width : ℕ) (regions : List Region) (holdings : List Owner) → holdings ≡ [] → AreOpened width regions holdings 0
+none_opened width [] holdings none = rw none tt
+none_opened width (region ∷ regions) holdings none = rw none tt
+
+pub one_opened : (width i : ℕ) (d : Region) (regions : List Region) (holdings : List Owner) (holding : HoldingState) → i < length regions → AreOpened width regions holdings i
+    → IsOpened (get_or regions i d) width holding → AreOpened width regions (holdings ++ of_holding holding ∷ []) (i + 1)
+one_opened width i d regions holdings holding below each is =
+    rw (take_more regions i d below) (zip_push (IsFresh width) (take i regions) holdings (get_or regions i d) (of_holding holding) each (fresh_holding width (get_or regions i d) holding is))

@@ -1,0 +1,129 @@
+-- The owners of all regions, one beside each, and their rows as one book.
+use Rattle.std.proofs.Common.{◌≡◌, ℕ, ◌<◌, ◌≤◌, arith, List, [], ◌∷◌, sym, ◌∙◌, ap, true, map}
+use Rattle.std.specs.List.{AllZip}
+use Rattle.tatp_actions.specs.Book.{Book, IsRowsOf, IsWithin, rows_between, subscriber_at}
+use Rattle.tatp_actions.specs.Joined.{join_books, book_of}
+use Rattle.tatp_actions.proofs.JoinedLemmas.{rows_joined}
+use Rattle.part_table.specs.declared.region.Region.{Region}
+use Rattle.hlr_owners.specs.Held.{Owner, IsOwner, AreOwners}
+use Rattle.std.proofs.lemmas.Bool.Decides.{nat_tests}
+use Rattle.tatp_actions.proofs.BetweenLemmas.{low_between, own_rows, none_past, between_joined}
+use Rattle.tatp_actions.proofs.LocalLemmas.{apart, subscriber-low, subscriber-high}
+use Rattle.part_table.proofs.BoundsLemmas.{within}
+use Rattle.part_table.specs.Region.{lies_in}
+use Rattle.part_table.specs.Regions.{IsConsecutive}
+use Rattle.part_table.specs.declared.region.TheConstants.{END}
+use Rattle.hlr_owners.proofs.StretchLemmas.{between_none, between_halves}
+use Rattle.hlr_owners.proofs.HeldLemmas.{empty_rows}
+use Rattle.hlr_owners.proofs.HalvesLemmas.{HasRows}
+
+-- the rows of all owners, in their order
+abbrev pub book_of_owners : List Owner → Book
+book_of_owners owners = book_of (map (λ (owner : Owner). owner.part) owners)
+
+-- the rows of an owner lie in its region
+pub own_region : (width : ℕ) (region : Region) (owner : Owner) → IsOwner width region owner → IsRowsOf region.lo region.hi owner.part.book
+own_region width region owner is = rw (← is.from, ← is.to) is.keeps.rules.rows
+
+-- the rows of all owners are those of all subscribers from where their regions begin
+pub owner_rows : (width from : ℕ) (regions : List Region) (owners : List Owner) → AreOwners width regions owners → IsConsecutive from regions
+    → IsRowsOf from END (book_of_owners owners)
+owner_rows width from [] [] each consecutive = rw consecutive (empty_rows END END)
+owner_rows width from [] (owner ∷ owners) each consecutive = absurd each
+owner_rows width from (region ∷ regions) [] each consecutive = absurd each
+owner_rows width from (region ∷ regions) (owner ∷ owners) each consecutive =
+    let begins = consecutive.0 in
+    let some = consecutive.1 in
+    let end = within region.hi regions consecutive.2 in
+    let own : IsRowsOf region.lo region.hi owner.part.book = own_region width region owner each.0 in
+    rw (← begins) (rows_joined region.lo region.hi END owner.part.book (book_of_owners owners) own (owner_rows width region.hi regions owners each.1 consecutive.2) (omega arith) end)
+
+-- a fact of each pair from another one
+pub zip_weaker : {A B : Type 0} {P Q : A → B → Type 0} → ((x : A) (y : B) → P x y → Q x y) → (xs : List A) (ys : List B) → AllZip P xs ys → AllZip Q xs ys
+zip_weaker weaker [] [] each = tt
+zip_weaker weaker [] (y ∷ ys) each = absurd each
+zip_weaker weaker (x ∷ xs) [] each = absurd each
+zip_weaker weaker (x ∷ xs) (y ∷ ys) each = (weaker x y each.0, zip_weaker weaker xs ys each.1)
+
+-- a region behind a number
+abbrev IsBehind : ℕ → Region → Type 0
+IsBehind from region = (from ≤ region.lo) × (region.lo < region.hi) × (region.hi ≤ END)
+
+-- regions that follow one another are behind the number where they begin
+zip_behind : (P : Region → Owner → Type 0) (from : ℕ) (regions : List Region) (owners : List Owner) → IsConsecutive from regions → AllZip P regions owners
+    → AllZip (λ (region : Region) (owner : Owner). IsBehind from region × P region owner) regions owners
+zip_behind P from [] [] consecutive each = tt
+zip_behind P from [] (owner ∷ owners) consecutive each = absurd each
+zip_behind P from (region ∷ regions) [] consecutive each = absurd each
+zip_behind P from (region ∷ regions) (owner ∷ owners) consecutive each =
+    let begins = consecutive.0 in
+    let some = consecutive.1 in
+    let end = within region.hi regions consecutive.2 in
+    let rest = zip_behind P region.hi regions owners consecutive.2 each.1 in (
+      ((omega arith, some, end), each.0),
+      zip_weaker {P = λ (r : Region) (o : Owner). IsBehind region.hi r × P r o} {Q = λ (r : Region) (o : Owner). IsBehind from r × P r o}
+          (λ r o has. let later = has.0.0 in ((omega arith, has.0.1, has.0.2), has.1)) regions owners rest,
+    )
+
+-- so the rows of each region are its owner's
+pub owners_rows : (width from : ℕ) (regions : List Region) (owners : List Owner) → AreOwners width regions owners → IsConsecutive from regions
+    → AllZip (HasRows (book_of_owners owners)) regions owners
+owners_rows width from [] [] each consecutive = tt
+owners_rows width from [] (owner ∷ owners) each consecutive = absurd each
+owners_rows width from (region ∷ regions) [] each consecutive = absurd each
+owners_rows width from (region ∷ regions) (owner ∷ owners) each consecutive =
+    let own = own_region width region owner each.0 in
+    let rest = book_of_owners owners in
+    let of_rest = owner_rows width region.hi regions owners each.1 consecutive.2 in
+    let others = zip_behind (HasRows rest) region.hi regions owners consecutive.2 (owners_rows width region.hi regions owners each.1 consecutive.2) in (
+      low_between region.lo region.hi END owner.part.book rest own of_rest,
+      zip_weaker {P = λ (r : Region) (o : Owner). IsBehind region.hi r × HasRows rest r o} {Q = HasRows (join_books owner.part.book rest)}
+          (λ r o has. between_joined r.lo r.hi owner.part.book rest
+          ∙ ap (λ (book : Book). join_books book (rows_between r.lo r.hi rest)) (none_past region.lo region.hi r.lo r.hi owner.part.book has.0.0 own)
+          ∙ has.1) regions owners others,
+    )
+
+-- owners of regions that follow one another have the rows of a book from where they begin, where each has those of its
+-- region
+pub book_from : (from : ℕ) (regions : List Region) (owners : List Owner) (book : Book) → 1 ≤ from → IsRowsOf 1 END book → IsConsecutive from regions → AllZip (HasRows book) regions owners
+    → book_of_owners owners ≡ rows_between from END book
+book_from from [] [] book first rows consecutive each = rw consecutive (sym (between_none END book))
+book_from from [] (owner ∷ owners) book first rows consecutive each = absurd each
+book_from from (region ∷ regions) [] book first rows consecutive each = absurd each
+book_from from (region ∷ regions) (owner ∷ owners) book first rows consecutive each =
+    let begins = consecutive.0 in
+    let some = consecutive.1 in
+    let end = within region.hi regions consecutive.2 in
+    let rest = book_from region.hi regions owners book (omega arith) rows consecutive.2 each.1 in
+    ap (λ (b : Book). join_books b (book_of_owners owners)) (sym each.0) ∙ ap (λ (b : Book). join_books (rows_between region.lo region.hi book) b) rest
+    ∙ between_halves 1 END book rows region.lo region.hi END (omega arith) (omega arith) end (omega arith)
+    ∙ ap (λ (n : ℕ). rows_between n END book) begins
+
+pub book_stays : (regions : List Region) (owners : List Owner) (book : Book) → IsRowsOf 1 END book → IsConsecutive 1 regions → AllZip (HasRows book) regions owners → book_of_owners owners ≡ book
+book_stays regions owners book rows consecutive each = book_from 1 regions owners book (omega arith) rows consecutive each ∙ own_rows 1 END book rows
+
+-- an s_id that lies in a region
+pub lies_within : (s_id : ℕ) (region : Region) → lies_in s_id region ≡ true → IsWithin region.lo region.hi s_id
+lies_within s_id region inside = (grind (arith, nat_tests), grind (arith, nat_tests))
+
+-- an owner's subscribers are those of its region in a book
+abbrev pub HasSubscribers : Book → Region → Owner → Type 0
+HasSubscribers book region owner =
+    (s_id : ℕ) → lies_in s_id region ≡ true → IsWithin owner.part.lo owner.part.hi s_id × (subscriber_at book s_id ≡ subscriber_at owner.part.book s_id)
+
+-- so are they in the rows of all
+pub owners_subscriber : (width from : ℕ) (regions : List Region) (owners : List Owner) → AreOwners width regions owners → IsConsecutive from regions
+    → AllZip (HasSubscribers (book_of_owners owners)) regions owners
+owners_subscriber width from [] [] each consecutive = tt
+owners_subscriber width from [] (owner ∷ owners) each consecutive = absurd each
+owners_subscriber width from (region ∷ regions) [] each consecutive = absurd each
+owners_subscriber width from (region ∷ regions) (owner ∷ owners) each consecutive =
+    let own = own_region width region owner each.0 in
+    let rest = book_of_owners owners in
+    let parts = apart region.lo region.hi END owner.part.book rest own (owner_rows width region.hi regions owners each.1 consecutive.2) in
+    let others = zip_behind (HasSubscribers rest) region.hi regions owners consecutive.2 (owners_subscriber width region.hi regions owners each.1 consecutive.2) in (
+      (λ s_id inside. let here = lies_within s_id region inside in (rw (each.0.from, each.0.to) here, subscriber-low region.hi owner.part.book rest s_id parts here.1)),
+      zip_weaker {P = λ (r : Region) (o : Owner). IsBehind region.hi r × HasSubscribers rest r o} {Q = HasSubscribers (join_books owner.part.book rest)}
+          (λ r o has s_id inside. let there = (lies_within s_id r inside).0 in let behind = has.0.0 in let known = has.1 s_id inside in
+          (known.0, subscriber-high region.hi owner.part.book rest s_id parts (omega arith) ∙ known.1)) regions owners others,
+    )

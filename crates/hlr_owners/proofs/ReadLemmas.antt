@@ -1,0 +1,40 @@
+-- What is read of one part's rows is what all rows answer.
+use Rattle.std.proofs.Common.{◌≡◌, refl, sym, ℕ, ◌+◌, nat_le, List, [], ◌∷◌, length, true, false, inl, inr, arith}
+use Rattle.std.specs.Prelude.{◌==◌}
+use Rattle.std.proofs.lemmas.Bool.Decides.{nat_tests}
+use Rattle.arrayvec.specs.ArrayVec.{ArrayVec, array_vec_len}
+use Rattle.tatp_rows.specs.Rows.{is_between}
+use Rattle.tatp_rows.specs.declared.ranges.TheConstants.{LAST_SUBSCRIBER}
+use Rattle.tatp_rows.specs.declared.refusal.Refusal.TheVariants as refusal
+use Rattle.tatp_actions.specs.Action.{s_id_of, effect, is_in_range, new_destination}
+use Rattle.tatp_actions.specs.Book.{Book, IsWithin}
+use Rattle.tatp_actions.specs.declared.action.Action.{Action}
+use Rattle.tatp_actions.specs.declared.action.RowReply.{RowReply}
+use Rattle.tatp_actions.specs.declared.action.RowReply.TheVariants as row_reply
+use Rattle.holding.specs.Held.{HoldingState}
+use Rattle.hlr_owners.specs.Read.{HasRowsOf, IsRead}
+use Rattle.hlr_owners.specs.Store.{Store}
+
+-- one of all subscribers has an s_id in range, and with a type in range both are
+pub subscriber_fits : (s_id : ℕ) → IsWithin 1 (LAST_SUBSCRIBER + 1) s_id → is_between 1 LAST_SUBSCRIBER s_id ≡ true
+subscriber_fits s_id within =
+    let from : nat_le 1 s_id ≡ true = grind (arith, nat_tests) in
+    let to : nat_le s_id LAST_SUBSCRIBER ≡ true = grind (arith, nat_tests) in
+    rw (from, to) refl
+
+-- an answer that leaves a part's rows, where the fields are in range
+module _ (act : Action) (store : Store) (holding : HoldingState) (has : HasRowsOf (s_id_of act) store holding) (fits : is_in_range act ≡ true) where
+  pub is_read : (answer : RowReply) → effect act holding.part.book ≡ (answer, holding.part.book) → IsRead act store answer
+  is_read answer does = rw (has.home) (has.answers act answer refl (inr (inl (fits, sym does))))
+
+-- the answer to numbers that were found, and to none
+pub numbers_read : (book : Book) (numbers : ArrayVec ℕ) → (array_vec_len numbers == 0) ≡ false → new_destination book numbers.items ≡ (row_reply.Numbers numbers, book)
+numbers_read book numbers some = cases numbers.items some
+  where
+    cases : (ns : List ℕ) → (length ns == 0) ≡ false → new_destination book ns ≡ (row_reply.Numbers (record { items = ns }), book)
+    cases [] some = absurd cc
+    cases (n ∷ ns) some = refl
+
+pub none_read : (book : Book) (ns : List ℕ) → (length ns == 0) ≡ true → new_destination book ns ≡ (row_reply.Refused refusal.NoDestination, book)
+none_read book [] none = refl
+none_read book (n ∷ ns) none = absurd (grind (arith, nat_tests))

@@ -1,0 +1,170 @@
+-- A take among all seats: the piece's seat goes, and the part's stands for both.
+use Rattle.std.proofs.Common.{◌≡◌, ◌∙◌, refl, sym, ℕ, ◌+◌, ◌<◌, List, length, get_or, set, arith, true, Some, inl, inr}
+use Rattle.std.specs.Prelude.{Ok, remove, insert, position, Box}
+use Rattle.std.specs.declared.alloc.Global.{Global}
+use Rattle.std.specs.List.{AllZip}
+use Rattle.std.proofs.lemmas.List.Quantifiers.{position-Some}
+use Rattle.std.proofs.lemmas.List.Edits.{length-remove}
+use Rattle.std.proofs.lemmas.Slice.Zip.{AllZip-long}
+use Rattle.tatp_actions.specs.Cut.{Touch}
+use Rattle.part_table.specs.Give.{piece_index}
+use Rattle.part_table.specs.Region.{is_piece}
+use Rattle.part_table.specs.Take.{joined, take_answer}
+use Rattle.part_table.specs.declared.region.Place.{Place}
+use Rattle.part_table.specs.declared.region.Place.TheVariants as place
+use Rattle.part_table.specs.declared.region.Region.{Region}
+use Rattle.part_table.specs.declared.region.Side.{Side}
+use Rattle.part_table.specs.declared.region.Side.TheVariants.{Low, High}
+use Rattle.part_table.proofs.IndexLemmas.{is_part_there}
+use Rattle.part_table.proofs.JoinLemmas.{regions-joined}
+use Rattle.part_table.proofs.PairLemmas.{IsPair, part_index, pair, places, within, stands, touch, join_edit, joint_region, joint_place}
+use Rattle.part_table.proofs.PlaceLemmas.{blank}
+use Rattle.holding.specs.Held.{PieceState, IsHolding}
+use Rattle.holding.specs.Moved.{IsTaken}
+use Rattle.hlr_owners.proofs.GiveTakeLemmas.{touch_either, taken_owned, taken_rows}
+use Rattle.hlr_owners.proofs.HalvesLemmas.{HasRows}
+use Rattle.hlr_owners.proofs.OwnerLemmas.{book_stays}
+use Rattle.hlr_owners.specs.Lodged.{Lodged}
+use Rattle.hlr_owners.specs.Seats.{owner_of, owners_in, book_in, desks_in, homes_in, store_in, IsKind, IsPartHome, IsSeat, Seating, AreSeated, taker}
+use Rattle.hlr_owners.specs.declared.lodging.Seat.{Seat}
+use Rattle.hlr_owners.specs.declared.lodging.Seat.TheVariants.{Part, Piece}
+use Rattle.hlr_owners.proofs.IndexedLemmas.{set_same, put_back, other_left, both_edited}
+use Rattle.hlr_owners.proofs.PartLemmas.{lodged_home}
+use Rattle.hlr_owners.proofs.SeatLemmas.{parts-remove, parts-kept, seated_rows, each_rows, rows_at, zip_owners}
+use Rattle.hlr_owners.proofs.ZipLemmas.{zip_at, zip_set, zip_remove}
+
+-- once the piece's seat is gone
+taker_is : (side : Side) (i : ℕ) → taker side (piece_index side i) ≡ i
+taker_is Low i = refl
+taker_is High i = omega arith
+
+-- no part sits beside a piece's region, and no piece beside a part's
+no_part_there : (n : ℕ) (p : Place) (l : Lodged) → p ≡ place.Piece n → IsKind p (Part l) → ⊥
+no_part_there n (place.Part p) l placed kind = cc
+no_part_there n (place.Piece m) l placed kind = kind
+
+no_piece_there : (q : ℕ) (p : Place) (b : Box PieceState Global) → p ≡ place.Part q → IsKind p (Piece b) → ⊥
+no_piece_there q (place.Part p) b placed kind = kind
+no_piece_there q (place.Piece m) b placed kind = cc
+
+module _ (h : Seating) (are : AreSeated h) (n q : ℕ) (side : Side) (j : ℕ) (index : position (is_piece n) h.regions ≡ Some j) (answer : take_answer n q h.regions ≡ Ok side) where
+  abbrev two : IsPair n q side h.regions
+  two = pair n q side h.regions are.are j index answer
+
+  at : j ≡ piece_index side two.i
+  at = stands n q side h.regions are.are j index answer
+
+  inside : (piece_index side two.i < length h.regions) × (part_index side two.i < length h.regions)
+  inside = within n q side h.regions are.are j index answer
+
+  placed : ((get_or h.regions (piece_index side two.i) blank).place ≡ place.Piece n) × ((get_or h.regions (part_index side two.i) blank).place ≡ place.Part q)
+  placed = places n q side h.regions are.are j index answer
+
+  abbrev piece : Region
+  piece = get_or h.regions (piece_index side two.i) blank
+
+  abbrev part : Region
+  part = get_or h.regions (part_index side two.i) blank
+
+  long : length h.seats ≡ length h.regions
+  long = AllZip-long (IsSeat h.width) h.regions h.seats are.each
+
+  pub piece_there : j < length h.seats
+  piece_there = let lt = (position-Some (is_piece n) h.regions j blank index).0 in omega (arith, long)
+
+  -- a piece sits there
+  piece_seat : (s : Seat) → s ≡ get_or h.seats j s → IsSeat h.width piece s
+  piece_seat s is =
+      let there : s ≡ get_or h.seats (piece_index side two.i) s = rw at at is in
+      rw there (zip_at (IsSeat h.width) h.regions h.seats (piece_index side two.i) blank s are.each inside.0)
+
+  pub taken_is_piece : (l : Lodged) → Part l ≡ get_or h.seats j (Part l) → ⊥
+  taken_is_piece l is = no_part_there n piece.place l placed.0 (piece_seat (Part l) is).kind
+
+  -- and once it is gone the part has an index
+  pub taker_there : taker side j < length (remove h.seats j)
+  taker_there =
+      let lt = two.within in
+      let shorter = length-remove h.seats j piece_there in
+      rw at (rw (taker_is side two.i) (let less = rw at at shorter in omega (arith, long)))
+
+  -- seats without the piece
+  module _ (s : Seat) (is : s ≡ get_or (remove h.seats j) (taker side j) s) where
+    part_at : s ≡ get_or h.seats (part_index side two.i) s
+    part_at =
+        let lt = two.within in
+        let left : s ≡ get_or (remove h.seats (piece_index side two.i)) two.i s = rw (at, taker_is side two.i) at is in
+        left ∙ other_left side h.seats two.i s (omega (arith, long))
+
+    part_seat : IsSeat h.width part s
+    part_seat = rw part_at (zip_at (IsSeat h.width) h.regions h.seats (part_index side two.i) blank s are.each inside.1)
+
+  pub taker_is_part : (b : Box PieceState Global) → Piece b ≡ get_or (remove h.seats j) (taker side j) (Piece b) → ⊥
+  taker_is_part b is = no_piece_there q part.place b placed.1 (part_seat (Piece b) is).kind
+
+  pub taker_home : (l : Lodged) → Part l ≡ get_or (remove h.seats j) (taker side j) (Part l) → IsPartHome q h → l.home ≡ true
+  taker_home l is home = lodged_home h are q (part_index side two.i) inside.1 (is_part_there q part placed.1) l (part_at (Part l) is) home
+
+  module _ (b : Box PieceState Global) (stood : Piece b ≡ get_or h.seats j (Piece b)) (l : Lodged) (is : Part l ≡ get_or (remove h.seats j) (taker side j) (Part l)) where
+    seat : IsSeat h.width part (Part l)
+    seat = part_seat (Part l) is
+
+    loose : IsSeat h.width piece (Piece b)
+    loose = piece_seat (Piece b) stood
+
+    pub taken_width : l.holding.part.width ≡ b.value.part.width
+    taken_width = seat.owner.zones ∙ sym loose.owner.zones
+
+    pub taken_touch : Touch l.holding.part b.value.part
+    taken_touch = elim (touch_either side piece part (touch n q side h.regions are.are j index answer)) [
+      | inl above ↦ inl (seat.owner.to ∙ above ∙ sym loose.owner.from)
+      | inr below ↦ inr (loose.owner.to ∙ below ∙ sym seat.owner.from)
+    ]
+
+    -- a refusal leaves all seats
+    pub put_again : (m : Lodged) (c : Box PieceState Global) → m ≡ l → c ≡ b → insert (set (remove h.seats j) (taker side j) (Part m)) j (Piece c) ≡ h.seats
+    put_again m c same one = rw (same, one, set_same (remove h.seats j) (taker side j) (Part l) is) (put_back h.seats j (Piece b) piece_there stood)
+
+    module _ (m : Lodged) (taken : IsTaken l.holding b.value m.holding) (keeps : IsHolding m.holding) where
+      -- the seats after it
+      abbrev pub melded : List Seat
+      melded = set (remove h.seats j) (taker side j) (Part m)
+
+      edited_by : (k i : ℕ) → k ≡ piece_index side i → i + 1 < length h.seats → set (remove h.seats k) (taker side k) (Part m) ≡ remove (set h.seats i (Part m)) (i + 1)
+      edited_by k i same lt = rw (same, taker_is side i) (both_edited side h.seats i (Part m) lt)
+
+      melded_is : melded ≡ remove (set h.seats two.i (Part m)) (two.i + 1)
+      melded_is = let lt = two.within in edited_by j two.i at (omega (arith, long))
+
+      -- what holds of both together and of all others holds of all
+      edit_zip : (P : Region → Seat → Type 0) → AllZip P h.regions h.seats → P (joint_region side piece part) (Part m) → AllZip P (joined n q h.regions) melded
+      edit_zip P each one = rw (melded_is, join_edit n q side h.regions are.are j index answer)
+          (zip_remove P (set h.regions two.i (joint_region side piece part)) (set h.seats two.i (Part m)) (two.i + 1)
+          (zip_set P h.regions h.seats two.i (joint_region side piece part) (Part m) each one))
+
+      whole_kind : IsKind (joint_region side piece part).place (Part m)
+      whole_kind = rw (joint_place side piece part, placed.1) tt
+
+      pub taken_seated : AreSeated (record h { regions = joined n q h.regions; seats = melded })
+      taken_seated = record {
+        are = regions-joined n q h.regions are.are;
+        each = edit_zip (IsSeat h.width) are.each
+            (record { kind = whole_kind; owner = taken_owned h.width piece part side b.value l.holding m.holding loose.owner seat.owner (touch n q side h.regions are.are j index answer) taken keeps });
+        zones = are.zones;
+      }
+
+      taken_book : book_in melded ≡ book_in h.seats
+      taken_book =
+          book_stays (joined n q h.regions) (owners_in melded) (book_in h.seats) (seated_rows h are) (regions-joined n q h.regions are.are).consecutive
+          (zip_owners (HasRows (book_in h.seats)) (joined n q h.regions) melded (edit_zip (λ (r : Region) (s : Seat). HasRows (book_in h.seats) r (owner_of s)) (each_rows h are)
+          (taken_rows h.width piece part side b.value l.holding m.holding loose.owner seat.owner (touch n q side h.regions are.are j index answer) taken (book_in h.seats) (seated_rows h are)
+          (rows_at h are (piece_index side two.i) (Piece b) (rw at at stood) inside.0) (rows_at h are (part_index side two.i) (Part l) (part_at (Part l) is) inside.1))))
+
+      pub taken_desks : desks_in melded ≡ desks_in h.seats
+      taken_desks = parts-kept (λ (o : Lodged). o.holding.desk) (remove h.seats j) (taker side j) l m taken.desk is ∙ parts-remove (λ (o : Lodged). o.holding.desk) h.seats j b stood
+
+      pub taken_store : store_in (record h { regions = joined n q h.regions; seats = melded }) ≡ record (store_in h) { regions = joined n q h.regions }
+      taken_store = rw (taken_book, taken_desks) refl
+
+      pub taken_homes : m.home ≡ l.home → homes_in melded ≡ homes_in h.seats
+      taken_homes same = parts-kept (λ (o : Lodged). o.home) (remove h.seats j) (taker side j) l m same is ∙ parts-remove (λ (o : Lodged). o.home) h.seats j b stood

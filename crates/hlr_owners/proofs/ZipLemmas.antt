@@ -1,0 +1,42 @@
+-- Lists whose elements stand beside one another, edited at an index.
+use Rattle.std.proofs.Common.{ℕ, zero, suc, ◌<◌, List, [], ◌∷◌, length, get_or, set, arith}
+use Rattle.std.specs.Prelude.{insert, remove}
+use Rattle.std.specs.List.{AllZip}
+
+module _ {A B : Type 0} (P : A → B → Type 0) where
+  pub zip_at : (xs : List A) (ys : List B) (i : ℕ) (d : A) (e : B) → AllZip P xs ys → i < length xs → P (get_or xs i d) (get_or ys i e)
+  zip_at [] ys i d e each lt = absurd (omega arith)
+  zip_at (x ∷ xs) [] i d e each lt = absurd each
+  zip_at (x ∷ xs) (y ∷ ys) zero d e each lt = each.0
+  zip_at (x ∷ xs) (y ∷ ys) (suc i) d e each lt = zip_at xs ys i d e each.1 (omega arith)
+
+  pub zip_set : (xs : List A) (ys : List B) (i : ℕ) (x : A) (y : B) → AllZip P xs ys → P x y → AllZip P (set xs i x) (set ys i y)
+  zip_set [] [] i x y each one = tt
+  zip_set [] (b ∷ ys) i x y each one = absurd each
+  zip_set (a ∷ xs) [] i x y each one = absurd each
+  zip_set (a ∷ xs) (b ∷ ys) zero x y each one = (one, each.1)
+  zip_set (a ∷ xs) (b ∷ ys) (suc i) x y each one = (each.0, zip_set xs ys i x y each.1 one)
+
+  -- one of them alone
+  pub zip_put : (xs : List A) (ys : List B) (i : ℕ) (d : A) (y : B) → AllZip P xs ys → P (get_or xs i d) y → AllZip P xs (set ys i y)
+  zip_put [] [] i d y each one = tt
+  zip_put [] (b ∷ ys) i d y each one = absurd each
+  zip_put (a ∷ xs) [] i d y each one = absurd each
+  zip_put (a ∷ xs) (b ∷ ys) zero d y each one = (one, each.1)
+  zip_put (a ∷ xs) (b ∷ ys) (suc i) d y each one = (each.0, zip_put xs ys i d y each.1 one)
+
+  pub zip_insert : (xs : List A) (ys : List B) (i : ℕ) (x : A) (y : B) → AllZip P xs ys → P x y → AllZip P (insert xs i x) (insert ys i y)
+  zip_insert [] [] zero x y each one = (one, tt)
+  zip_insert [] [] (suc i) x y each one = (one, tt)
+  zip_insert [] (b ∷ ys) i x y each one = absurd each
+  zip_insert (a ∷ xs) [] i x y each one = absurd each
+  zip_insert (a ∷ xs) (b ∷ ys) zero x y each one = (one, each)
+  zip_insert (a ∷ xs) (b ∷ ys) (suc i) x y each one = (each.0, zip_insert xs ys i x y each.1 one)
+
+  pub zip_remove : (xs : List A) (ys : List B) (i : ℕ) → AllZip P xs ys → AllZip P (remove xs i) (remove ys i)
+  zip_remove [] [] zero each = tt
+  zip_remove [] [] (suc i) each = tt
+  zip_remove [] (b ∷ ys) i each = absurd each
+  zip_remove (a ∷ xs) [] i each = absurd each
+  zip_remove (a ∷ xs) (b ∷ ys) zero each = each.1
+  zip_remove (a ∷ xs) (b ∷ ys) (suc i) each = (each.0, zip_remove xs ys i each.1)

@@ -1,0 +1,20 @@
+use Rattle.std.proofs.Common.{sym, ap, ◌∙◌}
+use Rattle.tatp_rows.proofs.RowLemmas.{both_from}
+use Rattle.tatp_actions.specs.Action.{new_destination}
+use Rattle.tatp_actions.specs.declared.action.Action.TheVariants as action
+use Rattle.hlr_owners.proofs.ReadLemmas.{subscriber_fits, is_read, numbers_read, none_read}
+use Rattle.hlr_owners.proofs.seats.Seats.destinations.Goals as goal
+
+pub returns-then-is_empty-clause-refused : goal.returns-then-is_empty-clause-refused
+returns-then-is_empty-clause-refused c =
+    let book = c.in_ok-holding.holding.now.part.book in
+    is_read (action.NewDestination c.args.s_id c.args.sf_type c.args.start_time c.args.end_time) _ c.in_ok-holding.holding.now c.in_ok-holding.ensures.home
+    (both_from _ _ (both_from _ _ (subscriber_fits _ c.requires.subscriber) c.requires.kind) (both_from _ _ c.requires.start c.requires.end)) _
+    (ap (new_destination book) (sym c.destinations-numbers.ensures) ∙ none_read book c.destinations-numbers.result.items (sym c.is_empty.ensures ∙ c.if-is_empty.true))
+
+pub returns-clause-numbers : goal.returns-clause-numbers
+returns-clause-numbers c =
+    let book = c.in_ok-holding.holding.now.part.book in
+    is_read (action.NewDestination c.args.s_id c.args.sf_type c.args.start_time c.args.end_time) _ c.in_ok-holding.holding.now c.in_ok-holding.ensures.home
+    (both_from _ _ (both_from _ _ (subscriber_fits _ c.requires.subscriber) c.requires.kind) (both_from _ _ c.requires.start c.requires.end)) _
+    (ap (new_destination book) (sym c.destinations-numbers.ensures) ∙ numbers_read book c.destinations-numbers.result (sym c.is_empty.ensures ∙ c.if-is_empty.false))

@@ -1,0 +1,75 @@
+use Rattle.std.proofs.Common.{◌∙◌, refl, sym}
+use Rattle.hlr_owners.specs.Lodged.{Lodged}
+use Rattle.hlr_owners.specs.declared.lodging.Seat.TheVariants.{Part}
+use Rattle.hlr_owners.proofs.HomeLemmas.{seat_home}
+use Rattle.hlr_owners.proofs.IndexedLemmas.{set_same}
+use Rattle.hlr_owners.proofs.SeatLemmas.{seat_there, seat_within, exchanged, parts-kept, acted_answer, piece_answer, seated_rows}
+use Rattle.hlr_owners.proofs.seats.Seats.edit_in.Goals as goal
+use Rattle.hlr_owners.proofs.seats.Seats.edit_in.Goals.{in-Part, in-Piece}
+
+pub edit-requires-clause-home : goal.edit-requires-clause-home
+edit-requires-clause-home g c =
+    let at = rw (← c.self.view_is) at c.requires.seat in
+    let home = rw (← c.self.view_is) at c.requires.home in
+    seat_home _ c.self.invariant.0 _ _ at c.in-Part.lodging (rw c.in-Part.is at c.index_mut.ensures.value) home
+
+pub edit-requires-clause-within : goal.edit-requires-clause-within
+edit-requires-clause-within g c =
+    let at = rw (← c.self.view_is) at c.requires.seat in
+    seat_within _ c.self.invariant.0 _ _ at (Part c.in-Part.lodging) (rw c.in-Part.is at c.index_mut.ensures.value)
+
+pub index_mut-requires : goal.index_mut-requires
+index_mut-requires g c = rw c.self.inside.seats.ok.0 (seat_there _ c.self.invariant.0 _ _ (rw (← c.self.view_is) at c.requires.seat))
+
+pub invariant_of-self : goal.invariant_of-self
+invariant_of-self g c =
+    let at = rw (← c.self.view_is) at c.requires.seat in
+    let there = seat_there _ c.self.invariant.0 _ _ at in
+    elim c.match-index_mut.branch [
+      | in-Part w ↦
+          let is = rw w.in-Part.is at c.index_mut.ensures.value in
+          rw (w.self-inside-is, parts-kept (λ (o : Lodged). o.holding.desk) c.self.inside.seats.items _ w.in-Part.lodging w.edit.new.self w.edit.ensures.desk.0 is)
+          (exchanged _ c.self.invariant.0 _ w.in-Part.lodging w.edit.new.self is there w.edit.ensures.range w.edit.ensures.rules, c.self.invariant.1, c.self.invariant.2)
+      | in-Piece w ↦ rw (w.self-inside-is, set_same c.self.inside.seats.items _ _ c.index_mut.ensures.value) c.self.invariant
+    ]
+
+pub returns-clause-answer : goal.returns-clause-answer
+returns-clause-answer g c =
+    let at = rw (← c.self.view_is) at c.requires.seat in
+    elim c.match-index_mut.branch [
+      | in-Part w ↦ rw (w.self-inside-is, w.result-is, ← c.self.view_is)
+          (acted_answer _ c.self.invariant.0 _ _ at w.in-Part.lodging (rw w.in-Part.is at c.index_mut.ensures.value) w.edit.new.self (g.E.Edit.action c.args.edit) _ refl w.edit.ensures.outcome)
+      | in-Piece w ↦ rw (w.self-inside-is, ← c.self.view_is, set_same c.self.inside.seats.items _ _ c.index_mut.ensures.value, w.result-is)
+          (piece_answer _ c.self.invariant.0 _ _ at _ (rw w.in-Piece.is at c.index_mut.ensures.value) (g.E.Edit.action c.args.edit) _ (rw w.to_action.ensures at w.moving.ensures))
+    ]
+
+pub returns-clause-store : goal.returns-clause-store
+returns-clause-store g c =
+    elim c.match-index_mut.branch [
+      | in-Part w ↦
+          let desks = parts-kept (λ (o : Lodged). o.holding.desk) c.self.inside.seats.items _ w.in-Part.lodging w.edit.new.self w.edit.ensures.desk.0 (rw w.in-Part.is at c.index_mut.ensures.value) in
+          rw (w.self-inside-is, ← c.self.view_is, desks) refl
+      | in-Piece w ↦ rw (w.self-inside-is, ← c.self.view_is, set_same c.self.inside.seats.items _ _ c.index_mut.ensures.value) refl
+    ]
+
+pub returns-clause-rows : goal.returns-clause-rows
+returns-clause-rows g c =
+    let at = rw (← c.self.view_is) at c.requires.seat in
+    let there = seat_there _ c.self.invariant.0 _ _ at in
+    elim c.match-index_mut.branch [
+      | in-Part w ↦ rw w.self-inside-is
+          (seated_rows _ (exchanged _ c.self.invariant.0 _ w.in-Part.lodging w.edit.new.self (rw w.in-Part.is at c.index_mut.ensures.value) there w.edit.ensures.range w.edit.ensures.rules))
+      | in-Piece w ↦ rw (w.self-inside-is, set_same c.self.inside.seats.items _ _ c.index_mut.ensures.value) (seated_rows _ c.self.invariant.0)
+    ]
+
+pub returns-clause-homes : goal.returns-clause-homes
+returns-clause-homes g c =
+    let at = rw (← c.self.view_is) at c.requires.seat in
+    let home = rw (← c.self.view_is) at c.requires.home in
+    elim c.match-index_mut.branch [
+      | in-Part w ↦
+          let is = rw w.in-Part.is at c.index_mut.ensures.value in
+          let was = seat_home _ c.self.invariant.0 _ _ at w.in-Part.lodging is home in
+          rw (w.self-inside-is, ← c.self.view_is) (parts-kept (λ (o : Lodged). o.home) c.self.inside.seats.items _ w.in-Part.lodging w.edit.new.self (w.edit.ensures.home ∙ sym was) is)
+      | in-Piece w ↦ rw (w.self-inside-is, ← c.self.view_is, set_same c.self.inside.seats.items _ _ c.index_mut.ensures.value) refl
+    ]

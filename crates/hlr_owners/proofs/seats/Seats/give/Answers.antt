@@ -1,0 +1,63 @@
+use Rattle.std.proofs.Common.{◌∙◌, refl, sym, arith}
+use Rattle.std.proofs.lemmas.Result.{err_from_is_err_and}
+use Rattle.hlr_owners.proofs.RefusedLemmas.{only_memory, may_refuse}
+use Rattle.hlr_owners.proofs.EditLemmas.{room_for_piece, giver_inside, piece_index-le, given_seated, given_desks, given_store, given_homes}
+use Rattle.hlr_owners.proofs.PartLemmas.{part_sits_there, part_sits, part_is_home}
+use Rattle.hlr_owners.proofs.seats.Seats.give.Goals as goal
+
+pub index_mut-requires : goal.index_mut-requires
+index_mut-requires c = rw c.self.inside.seats.ok.0 (part_sits_there _ c.self.invariant.0 c.args.part _ c.in_ok-i.ensures.index)
+
+pub give-requires : goal.give-requires
+give-requires c = record {
+  home = part_is_home _ c.self.invariant.0 c.args.part _ c.in_ok-i.ensures.index c.in-Part.lodging (rw c.in-Part.is at c.index_mut.ensures.value) (rw (← c.self.view_is) at c.requires.home);
+}
+
+pub unreachable-requires : goal.unreachable-requires
+unreachable-requires c = part_sits _ c.self.invariant.0 c.args.part _ c.in_ok-i.ensures.index c.in-Piece.field-0 (rw c.in-Piece.is at c.index_mut.ensures.value)
+
+pub returns-in_err-piece-in-Part-clause-answer : goal.returns-in_err-piece-in-Part-clause-answer
+returns-in_err-piece-in-Part-clause-answer c =
+    let why = err_from_is_err_and c.from_residual-in_err-piece-in-Part.result c.from_residual-in_err-piece-in-Part.ensures.1 in
+    let inside = giver_inside _ c.self.invariant.0 _ _ _ _ c.in_ok-i.ensures.answer _ c.in_ok-i.ensures.index c.in-Part.lodging (rw c.in-Part.is at c.index_mut.ensures.value) in
+    rw (← c.self.view_is, why.1, why.2) (may_refuse _ _ _ c.in_err-piece-in-Part.field-0.0 c.in_ok-i.ensures.answer refl (only_memory _ _ inside c.in_err-piece-in-Part.ensures.why))
+
+pub piece_index-requires : goal.piece_index-requires
+piece_index-requires c =
+    let there = part_sits_there _ c.self.invariant.0 c.args.part _ c.in_ok-i.ensures.index in
+    let room = room_for_piece _ c.self.invariant.0 _ _ _ _ c.in_ok-i.ensures.answer in
+    omega (arith, there, room)
+
+pub insert_reserved-requires-clause-inside : goal.insert_reserved-requires-clause-inside
+insert_reserved-requires-clause-inside c =
+    rw (c.piece_index.ensures, c.self.inside.seats.ok.0) (piece_index-le c.args.side _ _ (part_sits_there _ c.self.invariant.0 c.args.part _ c.in_ok-i.ensures.index))
+
+pub insert_reserved-requires-clause-room : goal.insert_reserved-requires-clause-room
+insert_reserved-requires-clause-room c =
+    let room = room_for_piece _ c.self.invariant.0 _ _ _ _ c.in_ok-i.ensures.answer in
+    omega (arith, room, c.self.inside.seats.ok.0, c.self.invariant.2)
+
+pub give_at-requires : goal.give_at-requires
+give_at-requires c = (c.args.part, c.in_ok-i.ensures.index, c.in_ok-i.ensures.answer)
+
+pub invariant_of-self-2 : goal.invariant_of-self-2
+invariant_of-self-2 c =
+    let seated = given_seated _ c.self.invariant.0 _ _ _ _ c.in_ok-i.ensures.answer _ c.in_ok-i.ensures.index c.in-Part.lodging (rw c.in-Part.is at c.index_mut.ensures.value) c.give.new.self c.in_ok-piece-in-Part.piece
+    c.in_ok-piece-in-Part.ensures.given c.in_ok-piece-in-Part.ensures.piece c.in_ok-piece-in-Part.ensures.after in
+    let desks = given_desks _ c.self.invariant.0 _ _ _ _ c.in_ok-i.ensures.answer _ c.in_ok-i.ensures.index c.in-Part.lodging (rw c.in-Part.is at c.index_mut.ensures.value) c.give.new.self c.in_ok-piece-in-Part.piece
+    c.in_ok-piece-in-Part.ensures.given c.in_ok-piece-in-Part.ensures.piece c.in_ok-piece-in-Part.ensures.after in
+    rw (c.give_at.ensures c.args.part c.in_ok-i.ensures.index, c.insert_reserved.ensures.items, c.piece_index.ensures, desks) (seated, c.self.invariant.1, omega (arith, c.self.invariant.2, c.insert_reserved.ensures.capacity))
+
+pub returns-clause-after : goal.returns-clause-after
+returns-clause-after c =
+    let store = given_store _ c.self.invariant.0 _ _ _ _ c.in_ok-i.ensures.answer _ c.in_ok-i.ensures.index c.in-Part.lodging (rw c.in-Part.is at c.index_mut.ensures.value) c.give.new.self c.in_ok-piece-in-Part.piece
+    c.in_ok-piece-in-Part.ensures.given c.in_ok-piece-in-Part.ensures.piece c.in_ok-piece-in-Part.ensures.after in
+    rw (← c.self.view_is, c.give_at.ensures c.args.part c.in_ok-i.ensures.index, c.insert_reserved.ensures.items, c.piece_index.ensures) store
+
+pub returns-clause-homes : goal.returns-clause-homes
+returns-clause-homes c =
+    let is = rw c.in-Part.is at c.index_mut.ensures.value in
+    let was = part_is_home _ c.self.invariant.0 c.args.part _ c.in_ok-i.ensures.index c.in-Part.lodging is (rw (← c.self.view_is) at c.requires.home) in
+    rw (← c.self.view_is, c.insert_reserved.ensures.items, c.piece_index.ensures)
+    (given_homes _ c.self.invariant.0 _ _ _ _ c.in_ok-i.ensures.answer _ c.in_ok-i.ensures.index c.in-Part.lodging is c.give.new.self c.in_ok-piece-in-Part.piece
+    c.in_ok-piece-in-Part.ensures.given c.in_ok-piece-in-Part.ensures.piece c.in_ok-piece-in-Part.ensures.after (c.give.ensures.home ∙ sym was))

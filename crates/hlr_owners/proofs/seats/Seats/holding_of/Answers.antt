@@ -1,0 +1,23 @@
+use Rattle.std.proofs.Common.{refl}
+use Rattle.hlr_owners.proofs.HomeLemmas.{seat_home}
+use Rattle.hlr_owners.proofs.SeatLemmas.{part_not_loose, piece_loose, read_answer}
+use Rattle.hlr_owners.proofs.seats.Seats.holding_of.Goals as goal
+
+pub holding-requires : goal.holding-requires
+holding-requires c =
+    let at = rw (← c.self.view_is) at c.seat_of.ensures.at in
+    seat_home _ c.self.invariant.0 _ _ at c.in-Part.lodging (rw c.in-Part.is at c.index.ensures) (rw (← c.self.view_is) at c.requires.home)
+
+pub returns-in-Part-clause-home : goal.returns-in-Part-clause-home
+returns-in-Part-clause-home c =
+    let at = rw (← c.self.view_is) at c.seat_of.ensures.at in
+    let is = rw c.in-Part.is at c.index.ensures in
+    rw (← c.self.view_is, c.holding.ensures.value) (record {
+      home = part_not_loose _ c.self.invariant.0 _ _ at c.in-Part.lodging is;
+      answers = read_answer _ c.self.invariant.0 _ _ at c.in-Part.lodging is;
+    })
+
+pub returns-in-Piece-clause-moving : goal.returns-in-Piece-clause-moving
+returns-in-Piece-clause-moving c =
+    let at = rw (← c.self.view_is) at c.seat_of.ensures.at in
+    (refl, rw (← c.self.view_is) (piece_loose _ c.self.invariant.0 _ _ at c.in-Piece.field-0 (rw c.in-Piece.is at c.index.ensures)))

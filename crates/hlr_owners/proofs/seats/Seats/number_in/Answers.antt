@@ -1,0 +1,28 @@
+use Rattle.std.proofs.Common.{refl}
+use Rattle.hlr_owners.proofs.HomeLemmas.{seat_home}
+use Rattle.hlr_owners.proofs.SeatLemmas.{seat_there, part_not_loose, piece_loose, seat_subscriber}
+use Rattle.hlr_owners.specs.declared.lodging.Seat.TheVariants.{Part}
+use Rattle.hlr_owners.proofs.seats.Seats.number_in.Goals as goal
+
+pub index-requires : goal.index-requires
+index-requires c = rw c.self.inside.seats.ok.0 (seat_there _ c.self.invariant.0 _ _ (rw (← c.self.view_is) at c.requires.seat))
+
+pub holding-requires : goal.holding-requires
+holding-requires c =
+    let at = rw (← c.self.view_is) at c.requires.seat in
+    seat_home _ c.self.invariant.0 _ _ at c.in-Part.lodging (rw c.in-Part.is at c.index.ensures) (rw (← c.self.view_is) at c.requires.home)
+
+pub returns-in-Part-clause-number : goal.returns-in-Part-clause-number
+returns-in-Part-clause-number c =
+    let at = rw (← c.self.view_is) at c.requires.seat in
+    rw (← c.self.view_is, seat_subscriber _ c.self.invariant.0 _ _ at (Part c.in-Part.lodging) (rw c.in-Part.is at c.index.ensures), c.number_of.ensures, c.holding.ensures.value) refl
+
+pub returns-in-Part-clause-home : goal.returns-in-Part-clause-home
+returns-in-Part-clause-home c =
+    let at = rw (← c.self.view_is) at c.requires.seat in
+    rw (← c.self.view_is) (part_not_loose _ c.self.invariant.0 _ _ at c.in-Part.lodging (rw c.in-Part.is at c.index.ensures))
+
+pub returns-in-Piece-clause-moving : goal.returns-in-Piece-clause-moving
+returns-in-Piece-clause-moving c =
+    let at = rw (← c.self.view_is) at c.requires.seat in
+    (refl, rw (← c.self.view_is) (piece_loose _ c.self.invariant.0 _ _ at c.in-Piece.field-0 (rw c.in-Piece.is at c.index.ensures)))

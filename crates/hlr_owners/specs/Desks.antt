@@ -1,0 +1,60 @@
+-- The desks of the parts, and the one of the slots that no part has: the words of the board as they have them.
+use Rattle.std.specs.Prelude.{◌≡◌, ℕ, ◌<◌, ◌/◌, List, ◌∷◌, sum_by, if◌then◌else◌, slice_index, pos}
+use Rattle.std.specs.List.{AllByRecursion, filter}
+use Rattle.atomic_table.specs.Seated.{TableId}
+use Rattle.tatp_actions.specs.declared.cells.TheConstants.{CELLS}
+use Rattle.view_board.specs.Desks.{Station}
+use Rattle.view_board.specs.Nets.{net_of}
+use Rattle.view_board.specs.Views.{owned_at, IsWide}
+use Rattle.view_board.specs.Words.{each_word, plus_word, minus_word, AreSmall}
+use Rattle.view_board.specs.declared.words.TheConstants.{SLOTS, SLOT_WORDS}
+use Rattle.holding.specs.Held.{HoldingState}
+use Rattle.hlr_owners.specs.Words.{all_slots}
+
+-- the desk of a holding
+abbrev pub desk_of : HoldingState → Station
+desk_of holding = holding.desk
+
+-- a desk's number at a word of its own, and 0 at a word of another's
+abbrev pub own_number : ℕ → Station → ℕ
+own_number w desk = if owned_at desk.view (w / SLOT_WORDS) then slice_index desk.view.numbers w else 0
+
+-- the words of the board: each is the number of the desk whose own it is
+abbrev pub words_of : List Station → List ℕ
+words_of desks = each_word (λ w. sum_by (own_number w) desks)
+
+-- the slots of a desk, ascending
+abbrev pub slots_in : Station → List ℕ
+slots_in desk = filter (owned_at desk.view) all_slots
+
+-- 1 where the slot is the desk's, else 0
+abbrev pub owns_one : ℕ → Station → ℕ
+owns_one slot desk = if owned_at desk.view slot then 1 else 0
+
+-- a desk of a board
+pub record IsOfBoard (board : TableId) (desk : Station) : Type 0 where
+  pub same : desk.board ≡ board
+  pub wide : IsWide desk.view
+
+-- each slot is of one of the desks, and what no part has published has a net of 0
+pub record ShareSlots (spare : Station) (desks : List Station) : Type 0 where
+  pub once : (slot : ℕ) → slot < SLOTS → sum_by (owns_one slot) (spare ∷ desks) ≡ 1
+  pub idle : (c : ℕ) → c < CELLS → net_of spare.view c ≡ pos 0
+
+-- the rules of all desks: they are the board's, and share its slots
+pub record AreDesks (board : TableId) (spare : Station) (desks : List Station) : Type 0 where
+  pub of_board : AllByRecursion (IsOfBoard board) (spare ∷ desks)
+  pub shares : ShareSlots spare desks
+
+-- in each cell the plus-word of a slot is its minus-word
+abbrev pub IsLevel : List ℕ → ℕ → Type 0
+IsLevel words slot = (c : ℕ) → c < CELLS → slice_index words (plus_word slot c) ≡ slice_index words (minus_word slot c)
+
+-- so it is in each slot
+abbrev pub AreLevel : List ℕ → Type 0
+AreLevel words = (slot : ℕ) → slot < SLOTS → IsLevel words slot
+
+-- words that a register may open with: none is past the limit, and each slot has a net of 0 in each cell
+pub record AreOpening (words : List ℕ) : Type 0 where
+  pub small : AreSmall words
+  pub level : AreLevel words

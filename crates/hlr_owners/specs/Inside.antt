@@ -1,0 +1,35 @@
+-- What calls inside the crate promise each other. No clause of a public call cites this.
+use Rattle.std.specs.Prelude.{◌≡◌, ℕ, ◌<◌, ◌^◌, true, List, Result, Ok, Err, ◌⊎◌, ℤ, pos, neg_ℤ, ◌≤ℤ◌}
+use Rattle.std.specs.List.{AllByRecursion}
+use Rattle.tatp_rows.specs.declared.refusal.Refusal.{Refusal}
+use Rattle.tatp_rows.specs.declared.refusal.Refusal.TheVariants.{Memory}
+use Rattle.tatp_actions.specs.Book.{empty_book}
+use Rattle.tatp_actions.specs.declared.cells.TheConstants.{CELLS}
+use Rattle.part_table.specs.declared.region.Region.{Region}
+use Rattle.holding.specs.Held.{HoldingState, IsHolding}
+use Rattle.hlr_owners.specs.Seats.{is_home}
+use Rattle.hlr_owners.specs.Store.{Store}
+use Rattle.hlr_owners.specs.declared.lodging.Seat.{Seat}
+
+-- a sum for each cell is at most 2^60, either way
+abbrev pub AreSummable : (ℕ → ℤ) → Type 0
+AreSummable sum = (c : ℕ) → c < CELLS → (neg_ℤ (pos (2 ^ 60)) ≤ℤ sum c) × (sum c ≤ℤ pos (2 ^ 60))
+
+-- whoever sits there is at home, seat by seat
+abbrev pub AreHome : List Seat → Type 0
+AreHome seats = AllByRecursion (λ (seat : Seat). is_home seat ≡ true) seats
+
+-- a holding of a region that has no row
+pub record IsOpened (region : Region) (width : ℕ) (holding : HoldingState) : Type 0 where
+  pub from : holding.part.lo ≡ region.lo
+  pub to : holding.part.hi ≡ region.hi
+  pub zones : holding.part.width ≡ width
+  pub no_rows : holding.part.book ≡ empty_book
+  pub rules : IsHolding holding
+
+-- what becomes of a store where a piece is handed on: the regions alone move, to those after it; or, where memory was
+-- wanted, they are as they were, or as the give alone leaves them
+abbrev pub IsHanded : Result (List Region) Refusal → List Region → Store → Result (Unit {0}) Refusal → Store → Type 0
+IsHanded whole half before (Ok done) after = (whole ≡ Ok after.regions) × (after ≡ record before { regions = after.regions })
+IsHanded whole half before (Err why) after =
+    (why ≡ Memory) × (after ≡ record before { regions = after.regions }) × ((after.regions ≡ before.regions) ⊎ (after.regions ≡ half))

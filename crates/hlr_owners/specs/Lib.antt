@@ -1,0 +1,17 @@
+pub mod Answered
+pub mod Apart
+pub mod Boxed
+pub mod Desks
+pub mod Gather
+pub mod Held
+pub mod Inside
+pub mod Lodged
+pub mod Post
+pub mod Posting
+pub mod Read
+pub mod Recut
+pub mod Scattered
+pub mod Seats
+pub mod Sight
+pub mod Store
+pub mod Words

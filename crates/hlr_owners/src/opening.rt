@@ -1,0 +1,79 @@
+//! Seats of parts that have no row.
+ghost use Rattle.std.specs.Prelude.{◌≡◌, ◌<◌, ◌⊎◌, IfOk, OnErr};
+ghost use Rattle.tatp_actions.specs.Part.{IsRange, IsWidth};
+ghost use Rattle.view_board.specs.Desks.{with_view};
+ghost use Rattle.view_board.specs.Views.{Owns, alone, without};
+ghost use Rattle.view_board.specs.Words.{AreSmall, HasGreat};
+ghost use Rattle.view_board.specs.declared.words.TheConstants.{SLOTS};
+ghost use Rattle.holding.specs.Held.{HasSmallNets};
+ghost use Rattle.hlr_owners.specs.Desks.{AreLevel};
+ghost use Rattle.hlr_owners.specs.Inside.{IsOpened};
+ghost use Rattle.hlr_owners.specs.Store.{HasOpening, opening_from};
+ghost use Rattle.hlr_owners.specs.Seats.{AllHome, store_in};
+
+use crate::lodging::{Lodging, Seat};
+use crate::prepared::{Rooms, SEATS};
+use crate::seats::Seats;
+use holding::Holding;
+use part_table::{Region, Regions};
+use std::alloc::Global;
+use std::sync::Arc;
+use tatp_actions::Part;
+use tatp_rows::Refusal;
+use view_board::{Board, Desk, WORDS};
+
+/// A holding with no row, over a slot that is split off the desk of those that no part has yet. `Memory` where a growth
+/// was refused.
+fn opened(
+    alloc: Global,
+    board: &Board,
+    spare: &mut Desk,
+    slot: u8,
+    region: Region,
+    width: u32,
+) -> Result<Box<Holding>, Refusal>
+    requires board { spare.old.board ≡ board.now }
+    requires slot { slot < SLOTS }
+    requires own { Owns spare.old.view slot }
+    requires small { HasSmallNets (alone spare.old.view slot) }
+    requires range { IsRange region.lo region.hi }
+    requires width { IsWidth width }
+    ensures ok { IfOk result (λ holding. IsOpened region width holding.value × (holding.value.desk ≡ with_view spare.old (alone spare.old.view slot))
+        × (spare.new ≡ with_view spare.old (without spare.old.view slot))) }
+    ensures err { OnErr result (result ≡ Err Refusal.Memory) }
+{
+    let desk = board.split(spare, slot)?;
+    let part = Part::new(alloc, region.lo, region.hi, width)?;
+    Ok(Box::new(alloc, Holding::of(alloc, part, desk))?)
+}
+
+impl Seats {
+    /// Empty parts with their shares of all subscribers, no loose piece, and a board of these words, of which each part
+    /// has one slot; `Field` where a word passes `LIMIT`, else `Memory` where a growth was refused.
+    pub fn open(alloc: Global, parts: u8, width: u32, words: &[u64; WORDS]) -> Result<Self, Refusal>
+        requires can { HasOpening parts width }
+        requires level { AreLevel words.now }
+        ensures ok { IfOk result (λ seats. AreSmall words.now × (store_in seats ≡ opening_from parts width words.now)) }
+        ensures home { IfOk result (λ seats. AllHome seats.seats) }
+        ensures err { OnErr result (((result ≡ Err Refusal.Field) × HasGreat words.now) ⊎ ((result ≡ Err Refusal.Memory) × AreSmall words.now)) }
+    {
+        let regions = Regions::opening(parts, width)?;
+        let (board, mut spare) = Board::open(alloc, words)?;
+        let board = Arc::new(alloc, board)?;
+        let mut seats = Vec::with_capacity(alloc, SEATS)?;
+        let rooms = Rooms::new(alloc)?;
+        for region in regions.list() {
+            let slot = seats.len() as u8;
+            let holding = opened(alloc, &board, &mut spare, slot, *region, width)?;
+            seats.push_reserved(Seat::Part(Lodging::of(holding)));
+        }
+        Ok(Seats {
+            regions,
+            seats,
+            rooms,
+            board,
+            spare,
+            width,
+        })
+    }
+}
