@@ -1,4 +1,7 @@
 //! The events that a register takes, and its replies.
+ghost use Rattle.std.specs.Prelude.{◌≡◌};
+ghost use Rattle.hlr_core.specs.Step.{posted_reply, reply_of};
+
 use part_table::Side;
 use tatp_actions::RowReply;
 use tatp_rows::{Access, Facility, Number, Refusal, Subscriber};
@@ -144,4 +147,26 @@ pub enum Reply {
     },
     /// The event was refused.
     Refused(Refusal),
+}
+
+impl Reply {
+    /// The reply that carries what the rows answered.
+    pub fn of_rows(answer: RowReply) -> Reply
+        ensures { result ≡ reply_of answer }
+    {
+        match answer {
+            RowReply::Refused(why) => Reply::Refused(why),
+            answered => Reply::Rows(answered),
+        }
+    }
+
+    /// The reply that carries what a posting answered.
+    pub fn of_posting(posted: Result<u8, Refusal>) -> Reply
+        ensures { result ≡ posted_reply posted }
+    {
+        match posted {
+            Ok(count) => Reply::Posted(count),
+            Err(why) => Reply::Refused(why),
+        }
+    }
 }

@@ -14,7 +14,7 @@ ghost use Rattle.hlr_core.specs.Inside.Noted.{IsIndexed};
 ghost use Rattle.hlr_core.specs.Weights.{published_weights, counted_weights};
 ghost use Rattle.hlr_owners.specs.Scattered.{holdings_in, pieces_in, pending_together, MayBeGathered, IsSurveyed, misfit_of, store_from, store_by, AreOfRegions};
 ghost use Rattle.hlr_owners.specs.Seats.{AllHome, IsPartHome, book_in, holdings_seated, store_in, unposted};
-ghost use Rattle.hlr_core.specs.Step.{IsStep, edited_reply, posted_reply};
+ghost use Rattle.hlr_core.specs.Step.{IsStep, edited_reply};
 ghost use Rattle.part_table.specs.Numbered.{numbered};
 ghost use Rattle.part_table.specs.Proposal.{proposal};
 ghost use Rattle.part_table.specs.Regions.{AreRegions};
@@ -99,15 +99,6 @@ fn edited_reply(done: Result<(), Refusal>) -> Reply
 {
     match done {
         Ok(()) => Reply::Rows(RowReply::Done),
-        Err(why) => Reply::Refused(why),
-    }
-}
-
-fn posted_reply(posted: Result<u8, Refusal>) -> Reply
-    ensures { result ≡ posted_reply posted }
-{
-    match posted {
-        Ok(count) => Reply::Posted(count),
         Err(why) => Reply::Refused(why),
     }
 }
@@ -408,7 +399,7 @@ impl Register {
         ensures step { IsStep (Event.Post part limit) (store_in self.old) result (store_in self.new) }
         ensures house { IsSameHouse self.old self.new }
     {
-        posted_reply(self.seats.post(part, limit))
+        Reply::of_posting(self.seats.post(part, limit))
     }
 
     fn give(&mut self, part: u64, side: Side, at: u64) -> Reply

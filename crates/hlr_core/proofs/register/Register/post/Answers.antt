@@ -2,4 +2,4 @@ use Rattle.hlr_core.proofs.RegisterLemmas.{posted_step}
 use Rattle.hlr_core.proofs.register.Register.post.Goals as goal
 
 pub returns-clause-step : goal.returns-clause-step
-returns-clause-step c = rw (← c.self.view_is, c.posted_reply.ensures) (posted_step _ _ _ _ _ c.post.result c.post.ensures.posted)
+returns-clause-step c = rw (← c.self.view_is, c.of_posting.ensures) (posted_step _ _ _ _ _ c.post.result c.post.ensures.posted)
