@@ -1,3 +1,4 @@
+pub mod Beside
 pub mod Gather
 pub mod Home
 pub mod Index

@@ -6,6 +6,7 @@ pub mod Gather
 pub mod Held
 pub mod Inside
 pub mod Lodged
+pub mod Out
 pub mod Post
 pub mod Posting
 pub mod Read
