@@ -20,7 +20,7 @@ use Rattle.hlr_owners.proofs.GiveTakeLemmas.{given_owned, given_rows}
 use Rattle.hlr_owners.proofs.HalvesLemmas.{HasRows}
 use Rattle.hlr_owners.proofs.OwnerLemmas.{book_stays}
 use Rattle.hlr_owners.specs.Lodged.{Lodged}
-use Rattle.hlr_owners.specs.Seats.{owner_of, owners_in, book_in, desks_in, homes_in, store_in, IsKind, IsSeat, Seating, AreSeated}
+use Rattle.hlr_owners.specs.Seats.{owner_of, owners_in, book_in, desks_in, of_parts, store_in, IsKind, IsSeat, Seating, AreSeated}
 use Rattle.hlr_owners.specs.declared.lodging.Seat.{Seat}
 use Rattle.hlr_owners.specs.declared.lodging.Seat.TheVariants.{Part, Piece}
 use Rattle.hlr_owners.proofs.SeatLemmas.{parts-insert, parts-kept, part_kind, seated_rows, each_rows, rows_at, zip_owners}
@@ -90,12 +90,13 @@ module _ (h : Seating) (are : AreSeated h) (p : ℕ) (side : Side) (at : ℕ) (t
           (zip_owners (HasRows (book_in h.seats)) (cut p told.0 side at h.regions) edited
           (edit_zip (λ (r : Region) (s : Seat). HasRows (book_in h.seats) r (owner_of s)) (each_rows h are) both.0 both.1))
 
+      -- what the parts have stays where it is the giver's as it was
+      pub given_parts : {X : Type 0} (f : Lodged → X) → f m ≡ f l → of_parts f edited ≡ of_parts f h.seats
+      given_parts f same = parts-insert f (set h.seats i (Part m)) (piece_index side i) b ∙ parts-kept f h.seats i l m same is
+
       -- and of the store the regions alone move
       pub given_desks : desks_in edited ≡ desks_in h.seats
-      given_desks = parts-insert (λ (o : Lodged). o.holding.desk) (set h.seats i (Part m)) (piece_index side i) b ∙ parts-kept (λ (o : Lodged). o.holding.desk) h.seats i l m parts.desk is
+      given_desks = given_parts (λ (o : Lodged). o.holding.desk) parts.desk
 
       pub given_store : store_in (record h { regions = cut p told.0 side at h.regions; seats = edited }) ≡ record (store_in h) { regions = cut p told.0 side at h.regions }
       given_store = rw (given_book, given_desks) refl
-
-      pub given_homes : m.home ≡ l.home → homes_in edited ≡ homes_in h.seats
-      given_homes same = parts-insert (λ (o : Lodged). o.home) (set h.seats i (Part m)) (piece_index side i) b ∙ parts-kept (λ (o : Lodged). o.home) h.seats i l m same is

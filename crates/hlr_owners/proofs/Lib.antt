@@ -3,6 +3,7 @@ pub mod ApartFitLemmas
 pub mod ApartLemmas
 pub mod ApartRegionsLemmas
 pub mod ApartStoreLemmas
+pub mod BesideLemmas
 pub mod DeskLemmas
 pub mod EditLemmas
 pub mod GiveTakeLemmas
@@ -15,6 +16,7 @@ pub mod LendLemmas
 pub mod MayGatherLemmas
 pub mod OpenLemmas
 pub mod OpenedLemmas
+pub mod OutLemmas
 pub mod OwnerActLemmas
 pub mod OwnerCountLemmas
 pub mod OwnerLemmas

@@ -25,7 +25,7 @@ use Rattle.hlr_owners.proofs.GiveTakeLemmas.{touch_either, taken_owned, taken_ro
 use Rattle.hlr_owners.proofs.HalvesLemmas.{HasRows}
 use Rattle.hlr_owners.proofs.OwnerLemmas.{book_stays}
 use Rattle.hlr_owners.specs.Lodged.{Lodged}
-use Rattle.hlr_owners.specs.Seats.{owner_of, owners_in, book_in, desks_in, homes_in, store_in, IsKind, IsPartHome, IsSeat, Seating, AreSeated, taker}
+use Rattle.hlr_owners.specs.Seats.{owner_of, owners_in, book_in, desks_in, of_parts, store_in, IsKind, IsPartHome, IsSeat, Seating, AreSeated, taker}
 use Rattle.hlr_owners.specs.declared.lodging.Seat.{Seat}
 use Rattle.hlr_owners.specs.declared.lodging.Seat.TheVariants.{Part, Piece}
 use Rattle.hlr_owners.proofs.IndexedLemmas.{set_same, put_back, other_left, both_edited}
@@ -160,11 +160,12 @@ module _ (h : Seating) (are : AreSeated h) (n q : ℕ) (side : Side) (j : ℕ) (
           (taken_rows h.width piece part side b.value l.holding m.holding loose.owner seat.owner (touch n q side h.regions are.are j index answer) taken (book_in h.seats) (seated_rows h are)
           (rows_at h are (piece_index side two.i) (Piece b) (rw at at stood) inside.0) (rows_at h are (part_index side two.i) (Part l) (part_at (Part l) is) inside.1))))
 
+      -- what the parts have stays where it is the taker's as it was
+      pub taken_parts : {X : Type 0} (f : Lodged → X) → f m ≡ f l → of_parts f melded ≡ of_parts f h.seats
+      taken_parts f same = parts-kept f (remove h.seats j) (taker side j) l m same is ∙ parts-remove f h.seats j b stood
+
       pub taken_desks : desks_in melded ≡ desks_in h.seats
-      taken_desks = parts-kept (λ (o : Lodged). o.holding.desk) (remove h.seats j) (taker side j) l m taken.desk is ∙ parts-remove (λ (o : Lodged). o.holding.desk) h.seats j b stood
+      taken_desks = taken_parts (λ (o : Lodged). o.holding.desk) taken.desk
 
       pub taken_store : store_in (record h { regions = joined n q h.regions; seats = melded }) ≡ record (store_in h) { regions = joined n q h.regions }
       taken_store = rw (taken_book, taken_desks) refl
-
-      pub taken_homes : m.home ≡ l.home → homes_in melded ≡ homes_in h.seats
-      taken_homes same = parts-kept (λ (o : Lodged). o.home) (remove h.seats j) (taker side j) l m same is ∙ parts-remove (λ (o : Lodged). o.home) h.seats j b stood

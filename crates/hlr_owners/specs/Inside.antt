@@ -7,7 +7,9 @@ use Rattle.tatp_actions.specs.Book.{empty_book}
 use Rattle.tatp_actions.specs.declared.cells.TheConstants.{CELLS}
 use Rattle.part_table.specs.declared.region.Region.{Region}
 use Rattle.holding.specs.Held.{HoldingState, IsHolding}
-use Rattle.hlr_owners.specs.Seats.{is_home}
+use Rattle.hlr_owners.specs.Beside.{IsMovedBeside}
+use Rattle.hlr_owners.specs.Out.{outs_in}
+use Rattle.hlr_owners.specs.Seats.{Seating, homes_in, is_home}
 use Rattle.hlr_owners.specs.Store.{Store}
 use Rattle.hlr_owners.specs.declared.lodging.Seat.{Seat}
 
@@ -33,3 +35,11 @@ abbrev pub IsHanded : Result (List Region) Refusal → List Region → Store →
 IsHanded whole half before (Ok done) after = (whole ≡ Ok after.regions) × (after ≡ record before { regions = after.regions })
 IsHanded whole half before (Err why) after =
     (why ≡ Memory) × (after ≡ record before { regions = after.regions }) × ((after.regions ≡ before.regions) ⊎ (after.regions ≡ half))
+
+-- what a move leaves: who is at home, which holdings are out, the desk of the slots that no part has, and the width;
+-- and of the store the regions alone move, whatever the holdings that are out have become
+pub record IsMovedAlone (before after : Seating) : Type 0 where
+  pub homes : homes_in after.seats ≡ homes_in before.seats
+  pub outs : outs_in after.seats ≡ outs_in before.seats
+  pub same : after ≡ record before { regions = after.regions; seats = after.seats }
+  pub beside : IsMovedBeside before after

@@ -1,5 +1,6 @@
 pub mod Answered
 pub mod Apart
+pub mod Beside
 pub mod Boxed
 pub mod Desks
 pub mod Gather

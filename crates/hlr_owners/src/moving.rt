@@ -3,6 +3,8 @@ ghost use Rattle.std.specs.Prelude.{◌≡◌, ◌+◌, ◌<◌};
 ghost use Rattle.part_table.specs.Give.{give_answer, after_give, piece_index};
 ghost use Rattle.part_table.specs.Take.{take_answer, after_take};
 ghost use Rattle.hlr_owners.specs.Answered.{MayAnswer};
+ghost use Rattle.hlr_owners.specs.Beside.{IsMovedBeside};
+ghost use Rattle.hlr_owners.specs.Out.{outs_in};
 ghost use Rattle.hlr_owners.specs.Seats.{IsPartHome, taker, homes_in, store_in};
 
 use crate::lodging::Seat;
@@ -42,6 +44,8 @@ impl Seats {
         ensures after { store_in self.new ≡ record (store_in self.old) { regions = after_give part side at result self.old.regions } }
         ensures same { self.new ≡ record self.old { regions = self.new.regions; seats = self.new.seats } }
         ensures homes { homes_in self.new.seats ≡ homes_in self.old.seats }
+        ensures outs { outs_in self.new.seats ≡ outs_in self.old.seats }
+        ensures beside { IsMovedBeside self.old self.new }
     {
         let (i, told) = self.regions.giving(part, side, at)?;
         let piece = match &mut self.seats[i] {
@@ -61,6 +65,8 @@ impl Seats {
         ensures after { store_in self.new ≡ record (store_in self.old) { regions = after_take piece part result self.old.regions } }
         ensures same { self.new ≡ record self.old { regions = self.new.regions; seats = self.new.seats } }
         ensures homes { homes_in self.new.seats ≡ homes_in self.old.seats }
+        ensures outs { outs_in self.new.seats ≡ outs_in self.old.seats }
+        ensures beside { IsMovedBeside self.old self.new }
     {
         let (i, side) = self.regions.taking(piece, part)?;
         let Seat::Piece(taken) = self.seats.remove(i) else {

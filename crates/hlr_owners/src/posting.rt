@@ -1,6 +1,7 @@
 //! Postings of parts to the board.
 ghost use Rattle.std.specs.Prelude.{◌≡◌};
 ghost use Rattle.hlr_owners.specs.Store.{slots_of};
+ghost use Rattle.hlr_owners.specs.Out.{outs_in};
 ghost use Rattle.hlr_owners.specs.Posting.{IsPosting};
 ghost use Rattle.hlr_owners.specs.Seats.{IsPartHome, homes_in, store_in};
 
@@ -16,6 +17,7 @@ impl Seats {
         ensures posted { IsPosting (slots_of (store_in self.old) part) part limit (store_in self.old) result (store_in self.new) }
         ensures same { self.new ≡ record self.old { seats = self.new.seats } }
         ensures homes { homes_in self.new.seats ≡ homes_in self.old.seats }
+        ensures outs { outs_in self.new.seats ≡ outs_in self.old.seats }
     {
         let Some(i) = self.regions.index_of_part(part) else {
             return Err(Refusal::NoPart);

@@ -2,7 +2,9 @@
 ghost use Rattle.std.specs.Prelude.{◌≡◌};
 ghost use Rattle.std.specs.Result.{IsOk};
 ghost use Rattle.part_table.specs.Recut.{handed_over, moved};
-ghost use Rattle.hlr_owners.specs.Inside.{IsHanded};
+ghost use Rattle.hlr_owners.specs.Beside.{IsMovedBeside};
+ghost use Rattle.hlr_owners.specs.Inside.{IsHanded, IsMovedAlone};
+ghost use Rattle.hlr_owners.specs.Out.{outs_in};
 ghost use Rattle.hlr_owners.specs.Recut.{IsHomeToCut, IsHomeToMove, IsRecut, given_away, half_moved};
 ghost use Rattle.hlr_owners.specs.Seats.{IsPartHome, homes_in, store_in};
 
@@ -19,7 +21,9 @@ impl Seats {
         requires home { IsHomeToCut bounds.now self.old }
         ensures recut { IsRecut bounds.now (store_in self.old) result (store_in self.new) }
         ensures homes { homes_in self.new.seats ≡ homes_in self.old.seats }
+        ensures outs { outs_in self.new.seats ≡ outs_in self.old.seats }
         ensures same { self.new ≡ record self.old { regions = self.new.regions; seats = self.new.seats } }
+        ensures beside { IsMovedBeside self.old self.new }
     {
         let moves = self.regions.moves_to(bounds)?;
         for bound_move in moves.as_slice() {
@@ -33,8 +37,7 @@ impl Seats {
         requires can { IsOk (moved bound_move self.old.regions) }
         requires home { IsHomeToMove self.old bound_move }
         ensures handed { IsHanded (moved bound_move self.old.regions) (half_moved bound_move self.old.regions) (store_in self.old) result (store_in self.new) }
-        ensures homes { homes_in self.new.seats ≡ homes_in self.old.seats }
-        ensures same { self.new ≡ record self.old { regions = self.new.regions; seats = self.new.seats } }
+        ensures moved { IsMovedAlone self.old self.new }
     {
         let above = u64::from(bound_move.bound);
         let below = above.saturating_sub(1);
@@ -52,8 +55,7 @@ impl Seats {
         requires giver { IsPartHome giver self.old }
         requires taker { IsPartHome taker self.old }
         ensures handed { IsHanded (handed_over giver side at taker self.old.regions) (given_away giver side at self.old.regions) (store_in self.old) result (store_in self.new) }
-        ensures homes { homes_in self.new.seats ≡ homes_in self.old.seats }
-        ensures same { self.new ≡ record self.old { regions = self.new.regions; seats = self.new.seats } }
+        ensures moved { IsMovedAlone self.old self.new }
     {
         let (piece, _, _) = self.give(giver, side, at)?;
         self.take(u64::from(piece), taker)?;

@@ -7,6 +7,8 @@ ghost use Rattle.part_table.specs.declared.region.TheConstants.{MOST_PARTS};
 ghost use Rattle.hlr_owners.specs.Read.{HasRowsOf};
 ghost use Rattle.hlr_owners.specs.Sight.{IsSightOf};
 ghost use Rattle.hlr_owners.specs.Answered.{IsAnswered, is_loose};
+ghost use Rattle.hlr_owners.specs.Beside.{IsAnsweredBeside};
+ghost use Rattle.hlr_owners.specs.Out.{outs_in};
 ghost use Rattle.tatp_actions.specs.Action.{s_id_of, is_in_range, done_reply};
 ghost use Rattle.tatp_actions.specs.Book.{IsRowsOf, IsWithin, subscriber_at};
 ghost use Rattle.tatp_actions.specs.Part.{IsWidth};
@@ -116,6 +118,8 @@ impl Seats {
         ensures rows { IsRowsOf 1 (LAST_SUBSCRIBER + 1) (book_in self.new.seats) }
         ensures same { self.new ≡ record self.old { seats = self.new.seats } }
         ensures homes { homes_in self.new.seats ≡ homes_in self.old.seats }
+        ensures outs { outs_in self.new.seats ≡ outs_in self.old.seats }
+        ensures beside { IsAnsweredBeside (E.action edit) self.old (done_reply result) self.new }
     {
         match &mut self.seats[i] {
             Seat::Part(lodging) => lodging.edit(edit),
@@ -132,6 +136,8 @@ impl Seats {
         ensures rows { IsRowsOf 1 (LAST_SUBSCRIBER + 1) (book_in self.new.seats) }
         ensures same { self.new ≡ record self.old { seats = self.new.seats } }
         ensures homes { homes_in self.new.seats ≡ homes_in self.old.seats }
+        ensures outs { outs_in self.new.seats ≡ outs_in self.old.seats }
+        ensures beside { IsAnsweredBeside (E.action edit) self.old (done_reply result) self.new }
     {
         let i = self.seat_of(edit.s_id());
         self.edit_in(i, edit)

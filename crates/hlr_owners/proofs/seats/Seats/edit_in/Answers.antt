@@ -1,8 +1,11 @@
 use Rattle.std.proofs.Common.{◌∙◌, refl, sym}
 use Rattle.hlr_owners.specs.Lodged.{Lodged}
+use Rattle.hlr_owners.specs.Out.{out_of}
 use Rattle.hlr_owners.specs.declared.lodging.Seat.TheVariants.{Part}
+use Rattle.hlr_owners.proofs.BesideLemmas.{acted_beside, refused_beside}
 use Rattle.hlr_owners.proofs.HomeLemmas.{seat_home}
 use Rattle.hlr_owners.proofs.IndexedLemmas.{set_same}
+use Rattle.hlr_owners.proofs.OutLemmas.{none_out}
 use Rattle.hlr_owners.proofs.SeatLemmas.{seat_there, seat_within, exchanged, parts-kept, acted_answer, piece_answer, seated_rows}
 use Rattle.hlr_owners.proofs.seats.Seats.edit_in.Goals as goal
 use Rattle.hlr_owners.proofs.seats.Seats.edit_in.Goals.{in-Part, in-Piece}
@@ -72,4 +75,30 @@ returns-clause-homes g c =
           let was = seat_home _ c.self.invariant.0 _ _ at w.in-Part.lodging is home in
           rw (w.self-inside-is, ← c.self.view_is) (parts-kept (λ (o : Lodged). o.home) c.self.inside.seats.items _ w.in-Part.lodging w.edit.new.self (w.edit.ensures.home ∙ sym was) is)
       | in-Piece w ↦ rw (w.self-inside-is, ← c.self.view_is, set_same c.self.inside.seats.items _ _ c.index_mut.ensures.value) refl
+    ]
+
+pub returns-clause-outs : goal.returns-clause-outs
+returns-clause-outs g c =
+    let at = rw (← c.self.view_is) at c.requires.seat in
+    let home = rw (← c.self.view_is) at c.requires.home in
+    elim c.match-index_mut.branch [
+      | in-Part w ↦
+          let is = rw w.in-Part.is at c.index_mut.ensures.value in
+          let was = seat_home _ c.self.invariant.0 _ _ at w.in-Part.lodging is home in
+          rw (w.self-inside-is, ← c.self.view_is) (parts-kept out_of c.self.inside.seats.items _ w.in-Part.lodging w.edit.new.self (none_out _ _ was w.edit.ensures.home) is)
+      | in-Piece w ↦ rw (w.self-inside-is, ← c.self.view_is, set_same c.self.inside.seats.items _ _ c.index_mut.ensures.value) refl
+    ]
+
+pub returns-clause-beside : goal.returns-clause-beside
+returns-clause-beside g c =
+    let at = rw (← c.self.view_is) at c.requires.seat in
+    let home = rw (← c.self.view_is) at c.requires.home in
+    elim c.match-index_mut.branch [
+      | in-Part w ↦
+          let is = rw w.in-Part.is at c.index_mut.ensures.value in
+          let was = seat_home _ c.self.invariant.0 _ _ at w.in-Part.lodging is home in
+          rw (w.self-inside-is, w.result-is, ← c.self.view_is)
+          (acted_beside _ c.self.invariant.0 (g.E.Edit.action c.args.edit) _ at w.in-Part.lodging w.edit.new.self is was w.edit.ensures.home w.edit.ensures.desk.0 _ w.edit.ensures.outcome)
+      | in-Piece w ↦ rw (w.self-inside-is, w.result-is, ← c.self.view_is, set_same c.self.inside.seats.items _ _ c.index_mut.ensures.value)
+          (refused_beside _ c.self.invariant.0 (g.E.Edit.action c.args.edit) _ at _ (rw w.in-Piece.is at c.index_mut.ensures.value) _ (rw w.to_action.ensures at w.moving.ensures))
     ]

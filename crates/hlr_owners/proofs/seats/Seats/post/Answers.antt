@@ -1,5 +1,7 @@
 use Rattle.std.proofs.Common.{◌∙◌, sym}
 use Rattle.hlr_owners.specs.Lodged.{Lodged}
+use Rattle.hlr_owners.specs.Out.{out_of}
+use Rattle.hlr_owners.proofs.OutLemmas.{none_out}
 use Rattle.hlr_owners.proofs.PartLemmas.{part_sits_there, part_sits, part_is_home}
 use Rattle.hlr_owners.proofs.PostedLemmas.{none_posted, posted_before, posted_desks, posted_seated, posted_right}
 use Rattle.hlr_owners.proofs.SeatLemmas.{parts-kept}
@@ -41,3 +43,9 @@ returns-clause-homes c =
     let is = rw c.in-Part.is at c.index_mut.ensures.value in
     let was = part_is_home _ c.self.invariant.0 c.args.part _ (sym c.index_of_part.ensures ∙ c.in-Some.is) c.in-Part.lodging is (rw (← c.self.view_is) at c.requires.home) in
     rw (← c.self.view_is) (parts-kept (λ (o : Lodged). o.home) c.self.inside.seats.items _ c.in-Part.lodging c.post.new.self (c.post.ensures.home ∙ sym was) is)
+
+pub returns-clause-outs : goal.returns-clause-outs
+returns-clause-outs c =
+    let is = rw c.in-Part.is at c.index_mut.ensures.value in
+    let was = part_is_home _ c.self.invariant.0 c.args.part _ (sym c.index_of_part.ensures ∙ c.in-Some.is) c.in-Part.lodging is (rw (← c.self.view_is) at c.requires.home) in
+    rw (← c.self.view_is) (parts-kept out_of c.self.inside.seats.items _ c.in-Part.lodging c.post.new.self (none_out _ _ was c.post.ensures.home) is)

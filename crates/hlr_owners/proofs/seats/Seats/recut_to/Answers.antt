@@ -1,22 +1,13 @@
-use Rattle.std.proofs.Common.{◌≡◌, refl, sym, ap, length, ◌∙◌}
+use Rattle.std.proofs.Common.{sym, ap, length, ◌∙◌}
 use Rattle.std.proofs.lemmas.Result.{err_from_is_err_and}
+use Rattle.hlr_owners.proofs.BesideLemmas.{moved_after, moved_none}
 use Rattle.hlr_owners.proofs.HomeLemmas.{cut_move_home}
 use Rattle.hlr_owners.proofs.RecutLemmas.{moving_begins, move_can, moving_more, moving_stopped, all_moves}
 use Rattle.hlr_owners.specs.Seats.{Seating}
 use Rattle.hlr_owners.proofs.seats.Seats.recut_to.Goals as goal
 
--- the desk and the width stay from move to move
-same_so_far : (a b d : Seating) → b ≡ record a { regions = b.regions; seats = b.seats } → d ≡ record b { regions = d.regions; seats = d.seats } → d ≡ record a { regions = d.regions; seats = d.seats }
-same_so_far a b d one two = two ∙ ap (λ (h : Seating). record h { regions = d.regions; seats = d.seats }) one
-
-pub returns-in_err-move_bound-clause-same : goal.returns-in_err-move_bound-clause-same
-returns-in_err-move_bound-clause-same c = same_so_far c.args.self.now c.loop-bound_move.self c.move_bound.new.self c.loop-bound_move.invariant.2 c.in_err-move_bound.ensures.same
-
-pub returns-clause-same : goal.returns-clause-same
-returns-clause-same c = c.loop-bound_move.invariant.2
-
 pub loop-bound_move-init : goal.loop-bound_move-init
-loop-bound_move-init c = (rw (← c.self.view_is, c.as_slice-bound_move-items.ensures.value) (moving_begins _ _ _ c.in_ok-moves.ensures.done), refl, refl)
+loop-bound_move-init c = (rw (← c.self.view_is, c.as_slice-bound_move-items.ensures.value) (moving_begins _ _ _ c.in_ok-moves.ensures.done), moved_none _)
 
 pub move_bound-requires-clause-can : goal.move_bound-requires-clause-can
 move_bound-requires-clause-can c = move_can _ _ _ _ _ _ c.loop-bound_move-test.true c.loop-bound_move.invariant.0
@@ -24,7 +15,7 @@ move_bound-requires-clause-can c = move_can _ _ _ _ _ _ c.loop-bound_move-test.t
 pub move_bound-requires-clause-home : goal.move_bound-requires-clause-home
 move_bound-requires-clause-home c =
     let answer = rw (← c.as_slice-bound_move-items.ensures.value) at c.in_ok-moves.ensures.answer in
-    let same = rw (← c.self.view_is) at c.loop-bound_move.invariant.1 in
+    let same = rw (← c.self.view_is) at c.loop-bound_move.invariant.1.homes in
     let began : Seating = record { regions = c.self.inside.regions; seats = c.self.inside.seats.items; spare = c.self.inside.spare; width = c.self.inside.width } in
     cut_move_home c.args.bounds.now began c.loop-bound_move.self _ _ _ answer (rw (← c.self.view_is) at c.requires.home) c.loop-bound_move-test.true same
 
@@ -36,7 +27,8 @@ returns-in_err-move_bound-clause-recut c =
     rw (← c.self.view_is, why.1, why.2, answer) (moving_stopped _ _ _ _ _ _ c.loop-bound_move-test.true moving _ _ c.in_err-move_bound.ensures.handed)
 
 pub loop-bound_move-preserved : goal.loop-bound_move-preserved
-loop-bound_move-preserved c = (moving_more _ _ _ _ _ _ c.loop-bound_move-test.true c.loop-bound_move.invariant.0 _ c.in_ok-move_bound.ensures.handed, c.in_ok-move_bound.ensures.homes ∙ c.loop-bound_move.invariant.1, same_so_far c.args.self.now c.loop-bound_move.self c.move_bound.new.self c.loop-bound_move.invariant.2 c.in_ok-move_bound.ensures.same)
+loop-bound_move-preserved c =
+    (moving_more _ _ _ _ _ _ c.loop-bound_move-test.true c.loop-bound_move.invariant.0 _ c.in_ok-move_bound.ensures.handed, moved_after _ _ _ c.loop-bound_move.invariant.1 c.in_ok-move_bound.ensures.moved)
 
 pub returns-clause-recut : goal.returns-clause-recut
 returns-clause-recut c =
@@ -45,4 +37,13 @@ returns-clause-recut c =
     rw (← c.self.view_is, answer) (c.len.ensures.value ∙ ap length (sym c.as_slice-bound_move-items.ensures.value), all_moves _ _ _ _ _ c.loop-bound_move-test.false moving)
 
 pub returns-in_err-move_bound-clause-homes : goal.returns-in_err-move_bound-clause-homes
-returns-in_err-move_bound-clause-homes c = c.in_err-move_bound.ensures.homes ∙ c.loop-bound_move.invariant.1
+returns-in_err-move_bound-clause-homes c = (moved_after _ _ _ c.loop-bound_move.invariant.1 c.in_err-move_bound.ensures.moved).homes
+
+pub returns-in_err-move_bound-clause-outs : goal.returns-in_err-move_bound-clause-outs
+returns-in_err-move_bound-clause-outs c = (moved_after _ _ _ c.loop-bound_move.invariant.1 c.in_err-move_bound.ensures.moved).outs
+
+pub returns-in_err-move_bound-clause-same : goal.returns-in_err-move_bound-clause-same
+returns-in_err-move_bound-clause-same c = (moved_after _ _ _ c.loop-bound_move.invariant.1 c.in_err-move_bound.ensures.moved).same
+
+pub returns-in_err-move_bound-clause-beside : goal.returns-in_err-move_bound-clause-beside
+returns-in_err-move_bound-clause-beside c = (moved_after _ _ _ c.loop-bound_move.invariant.1 c.in_err-move_bound.ensures.moved).beside
