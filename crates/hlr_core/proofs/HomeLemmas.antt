@@ -1,10 +1,11 @@
 -- Whoever an event needs is at home where all are, and where the one is whom its action needs.
-use Rattle.std.proofs.Common.{◌≡◌, ◌∙◌, sym, ℕ, Bool, Option, Some, None, Result, Ok, Err}
+use Rattle.std.proofs.Common.{◌≡◌, ◌∙◌, refl, sym, ap, ℕ, Bool, Option, Some, None, Result, Ok, Err}
 use Rattle.std.specs.Prelude.{IfOk, IfSome, option_map}
 use Rattle.tatp_rows.specs.declared.refusal.Refusal.{Refusal}
 use Rattle.tatp_actions.specs.Action.{s_id_of}
 use Rattle.tatp_actions.specs.declared.action.Action.{Action}
-use Rattle.hlr_owners.specs.Seats.{AllHome, IsHomeFor, Seating, book_in}
+use Rattle.hlr_owners.specs.Out.{outs_in}
+use Rattle.hlr_owners.specs.Seats.{AllHome, IsHomeFor, Seating, book_in, homes_in}
 use Rattle.hlr_owners.proofs.HomeLemmas.{home_of_all, part_home_of_all}
 use Rattle.hlr_core.specs.Home.{IsBearerHome, IsHomeTo, IsSameHouse}
 use Rattle.hlr_core.specs.Inside.Asked.{IsAsked, action_asked}
@@ -56,9 +57,16 @@ home_of_bearer action fits wanted (Some s_id) h (Ok edit) own home is =
     let named : s_id ≡ s_id_of (action edit) = rw same at (sym (own s_id)) in
     rw named at home
 
+-- what changes nothing, and what changes seats alone and nobody's being at home or out
+pub house_kept : (h : Seating) → IsSameHouse h h
+house_kept h = record { homes = refl; outs = refl; spare = refl }
+
+pub house_edited : (before after : Seating) → homes_in after.seats ≡ homes_in before.seats → outs_in after.seats ≡ outs_in before.seats → after ≡ record before { seats = after.seats } → IsSameHouse before after
+house_edited before after homes outs same = record { homes = homes; outs = outs; spare = ap (λ (h : Seating). h.spare) same }
+
 -- the same parts are at home after two that changed nothing of it
 pub house_more : (a b c : Seating) → IsSameHouse a b → IsSameHouse b c → IsSameHouse a c
-house_more a b c one two = record { homes = two.homes ∙ one.homes; spare = two.spare ∙ one.spare }
+house_more a b c one two = record { homes = two.homes ∙ one.homes; outs = two.outs ∙ one.outs; spare = two.spare ∙ one.spare }
 
 -- so all are at home where all were
 pub still_home : (before after : Seating) → IsSameHouse before after → AllHome before.seats → AllHome after.seats

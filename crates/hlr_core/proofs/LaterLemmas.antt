@@ -1,14 +1,14 @@
 -- A register with seats that stand for others keeps its rules, with the same index.
 use Rattle.std.proofs.Common.{◌≡◌, ◌∙◌, refl, sym, ap, ℕ, zero, suc, List, [], ◌∷◌, set, map, inl, inr, true, Some, None}
-use Rattle.std.specs.Prelude.{◌==◌, ◌≢◌, Option, slice_get}
+use Rattle.std.specs.Prelude.{◌==◌, ◌≢◌, Option, option_map, slice_get}
 use Rattle.std.specs.List.{AllZip, AllByRecursion}
 use Rattle.std.proofs.lemmas.List.{map-append}
 use Rattle.tatp_rows.proofs.OrderedLemmas.{by_test}
-use Rattle.tatp_rows.specs.Keys.{subscriber_key}
+use Rattle.tatp_rows.specs.Keys.{key_of, subscriber_key}
 use Rattle.tatp_rows.specs.Ordered.{row_at, with_row_at}
 use Rattle.tatp_rows.specs.Rows.{SubscriberRow}
 use Rattle.tatp_actions.specs.Action.{IsOutcome, effect}
-use Rattle.tatp_actions.specs.Book.{Book}
+use Rattle.tatp_actions.specs.Book.{Book, subscriber_at}
 use Rattle.tatp_actions.specs.Part.{PartState}
 use Rattle.tatp_actions.specs.declared.action.Action.{Action}
 use Rattle.tatp_actions.specs.declared.action.RowReply.{RowReply}
@@ -166,6 +166,23 @@ numbers_later (s ∷ seats) (k ∷ ks) later =
     let rest = numbers_later seats ks later.1 in
     map-append number_pair (owner_of k).part.book.subscribers (book_in ks).subscribers
     ∙ rw (here, rest) (sym (map-append number_pair (owner_of s).part.book.subscribers (book_in seats).subscribers))
+
+-- each subscriber keeps the number
+number_same : (k : ℕ) (rows others : List SubscriberRow) → map number_pair others ≡ map number_pair rows
+    → option_map (λ (row : SubscriberRow). row.sub_nbr) (row_at subscriber_key k others) ≡ option_map (λ (row : SubscriberRow). row.sub_nbr) (row_at subscriber_key k rows)
+number_same k [] [] same = refl
+number_same k [] (y ∷ ys) same = absurd cc
+number_same k (x ∷ xs) [] same = absurd cc
+number_same k (x ∷ xs) (y ∷ ys) same =
+    let pair : number_pair y ≡ number_pair x = cc in
+    let number : y.sub_nbr ≡ x.sub_nbr = ap (λ (one : ℕ × ℕ). one.0) pair in
+    let key : subscriber_key y ≡ subscriber_key x = ap (λ (one : ℕ × ℕ). key_of one.1 0 0) pair in
+    let tail : map number_pair ys ≡ map number_pair xs = cc in
+    by_test (subscriber_key x == k) (λ e. rw (key, e, number) refl) (λ e. rw (key, e) (number_same k xs ys tail))
+
+pub number_later : (seats ks : List Seat) → AreLater seats ks → (s_id : ℕ)
+    → option_map (λ (row : SubscriberRow). row.sub_nbr) (subscriber_at (book_in ks) s_id) ≡ option_map (λ (row : SubscriberRow). row.sub_nbr) (subscriber_at (book_in seats) s_id)
+number_later seats ks later s_id = number_same (key_of s_id 0 0) (book_in seats).subscribers (book_in ks).subscribers (numbers_later seats ks later)
 
 -- the index, and that no number stands twice, are of the pairs alone
 index_same : (rows others : List SubscriberRow) → map number_pair others ≡ map number_pair rows → index_of others ≡ index_of rows

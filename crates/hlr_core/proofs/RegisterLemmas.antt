@@ -138,7 +138,7 @@ pub record IsHome (row : SubscriberRow) (store : Store) (has : Bool) : Type 0 wh
   pub home : is_loose row.s_id store.regions ≡ false
   pub there : is_some (subscriber_at store.book row.s_id) ≡ has
 
-some_number : (o : Option SubscriberRow) → is_some (option_map (λ (row : SubscriberRow). row.sub_nbr) o) ≡ is_some o
+pub some_number : (o : Option SubscriberRow) → is_some (option_map (λ (row : SubscriberRow). row.sub_nbr) o) ≡ is_some o
 some_number None = refl
 some_number (Some row) = refl
 

@@ -1,5 +1,6 @@
 -- The parts on which an event works are at home.
 use Rattle.std.specs.Prelude.{◌≡◌, ℕ, IfSome}
+use Rattle.hlr_owners.specs.Out.{outs_in}
 use Rattle.hlr_owners.specs.Seats.{Seating, IsHomeFor, IsPartHome, book_in, homes_in}
 use Rattle.hlr_core.specs.Numbers.{bearer_id}
 use Rattle.hlr_core.specs.declared.event.Event.{Event}
@@ -27,7 +28,9 @@ IsHomeTo (Post part limit) h = IsPartHome part h
 IsHomeTo (Give part side at) h = IsPartHome part h
 IsHomeTo (Take piece part) h = IsPartHome part h
 
--- what no event and no re-cut changes: which parts are at home, and the desk of the slots that no part has
+-- what no event and no re-cut changes: which parts are at home, the holdings that are out, and the desk of the slots
+-- that no part has
 pub record IsSameHouse (before after : Seating) : Type 0 where
   pub homes : homes_in after.seats ≡ homes_in before.seats
+  pub outs : outs_in after.seats ≡ outs_in before.seats
   pub spare : after.spare ≡ before.spare

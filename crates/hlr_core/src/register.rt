@@ -1,12 +1,14 @@
 //! The register: all rows under one roof, no number twice, and every cell as published with what is not posted yet.
-ghost use Rattle.std.specs.Prelude.{◌≡◌, ℕ, [], vec_len, vec_capacity, ◌<◌, ◌↔◌, ◌⊎◌, None, IsTrue, IfOk, IfErr, OnErr, MatchResult, slice_index, slice_index_or, ◌+◌, ℤ, pos, ◌+ℤ◌};
+ghost use Rattle.std.specs.Prelude.{◌≡◌, ℕ, [], vec_len, vec_capacity, ◌<◌, ◌↔◌, ◌⊎◌, true, None, IsTrue, IfOk, IfErr, OnErr, MatchResult, slice_index, slice_index_or, ◌+◌, ℤ, pos, ◌+ℤ◌};
 ghost use Rattle.tatp_actions.specs.Cell.{cell};
 ghost use Rattle.hlr_core.specs.Inside.Asked.{ChangesRows};
+ghost use Rattle.hlr_core.specs.Beside.{IsRecutBeside, IsStepBeside};
 ghost use Rattle.hlr_core.specs.Index.{index_of};
 ghost use Rattle.hlr_core.specs.Kept.{IsSameAtHome};
 ghost use Rattle.hlr_owners.specs.Apart.{pieces_seated};
 ghost use Rattle.hlr_owners.specs.Boxed.{unboxed};
 ghost use Rattle.hlr_owners.specs.Recut.{IsHomeToCut, IsRecut};
+ghost use Rattle.hlr_core.specs.Route.{is_here};
 ghost use Rattle.hlr_core.specs.Run.{IsOrderStep, IsRun};
 ghost use Rattle.hlr_core.specs.Gather.{IsRefusedWhole};
 ghost use Rattle.hlr_core.specs.Home.{IsHomeTo, IsSameHouse};
@@ -195,11 +197,13 @@ impl Register {
         }
     }
 
-    /// Applies an event, and replies to it. A refusal changes nothing; after `Worn` the cells posted before stand.
+    /// Applies an event, and replies to it. A refusal changes nothing; after `Worn` the cells posted before stand. An event
+    /// that gives a number or moves regions is right whatever jobs have done to the holdings that are out.
     pub fn apply(&mut self, event: Event) -> Reply
         requires { IsHomeTo event self.old }
         ensures step { IsStep event (store_in self.old) result (store_in self.new) }
         ensures house { IsSameHouse self.old self.new }
+        ensures beside { is_here event ≡ true → IsStepBeside event self.old result self.new }
     {
         match event {
             Event::SubscriberData { s_id } => row_reply(self.lend_subscriber(s_id)),
@@ -231,6 +235,7 @@ impl Register {
         requires home { IsHomeTo event self.old }
         ensures step { IsStep event (store_in self.old) (edited_reply result) (store_in self.new) }
         ensures house { IsSameHouse self.old self.new }
+        ensures beside { is_here event ≡ true → IsStepBeside event self.old (edited_reply result) self.new }
     {
         match event {
             Event::UpdateSubscriber {
@@ -378,11 +383,13 @@ impl Register {
     /// Moves the bounds between parts to these: each that differs by a give and a take. The answer is how many were
     /// moved. `Field` where the bounds aren't strictly rising ones in 2..=16,777,216, one less than there are parts;
     /// then `Moving` where a piece is loose; then `Memory`, after which the moves that were done stand, and where a
-    /// take was refused its piece is loose. No row, no word and no pair of the index changes.
+    /// take was refused its piece is loose. No row, no word and no pair of the index changes, whatever jobs have done to
+    /// the holdings that are out.
     pub fn recut_to(&mut self, bounds: &[u64]) -> Result<u8, Refusal>
         requires { IsHomeToCut bounds.now self.old }
         ensures recut { IsRecut bounds.now (store_in self.old) result (store_in self.new) }
         ensures house { IsSameHouse self.old self.new }
+        ensures beside { IsRecutBeside bounds.now self.old result self.new }
     {
         self.seats.recut_to(bounds)
     }
@@ -406,6 +413,7 @@ impl Register {
         requires { IsPartHome part self.old }
         ensures step { IsStep (Event.Give part side at) (store_in self.old) result (store_in self.new) }
         ensures house { IsSameHouse self.old self.new }
+        ensures beside { IsStepBeside (Event.Give part side at) self.old result self.new }
     {
         match self.seats.give(part, side, at) {
             Ok((piece, lo, hi)) => Reply::Given { piece, lo, hi },
@@ -417,6 +425,7 @@ impl Register {
         requires { IsPartHome part self.old }
         ensures step { IsStep (Event.Take piece part) (store_in self.old) result (store_in self.new) }
         ensures house { IsSameHouse self.old self.new }
+        ensures beside { IsStepBeside (Event.Take piece part) self.old result self.new }
     {
         // For the prover: the regions tell that a piece and a part that are there have small numbers.
         let _regions = self.seats.regions();

@@ -7,6 +7,7 @@ ghost use Rattle.hlr_core.specs.Inside.Asked.{IsAsked, IsRowAction, IsRowStep, a
 ghost use Rattle.hlr_core.specs.Step.{IsStep, edited_reply};
 ghost use Rattle.hlr_core.specs.declared.event.Event.TheVariants as event;
 ghost use Rattle.hlr_core.specs.declared.event.Reply.TheVariants as reply;
+ghost use Rattle.hlr_core.specs.Beside.{IsStepBeside};
 ghost use Rattle.hlr_core.specs.Home.{IsHomeTo, IsSameHouse};
 ghost use Rattle.hlr_core.specs.Numbers.{bearer_id};
 ghost use Rattle.hlr_owners.specs.Seats.{IsHomeFor, book_in, store_in};
@@ -169,7 +170,10 @@ impl Register {
         requires { IsHomeTo (event.AddSubscriber row) self.old }
         ensures step { IsStep (event.AddSubscriber row) (store_in self.old) (edited_reply result) (store_in self.new) }
         ensures house { IsSameHouse self.old self.new }
+        ensures beside { IsStepBeside (event.AddSubscriber row) self.old (edited_reply result) self.new }
     {
+        // For the prover: each region has its owner beside it.
+        let _board = self.seats.board();
         let s_id = row.s_id();
         let seat = self.seats.seat_of(s_id);
         if self.seats.number_in(seat, s_id)?.is_some() {
@@ -193,7 +197,10 @@ impl Register {
         requires { IsHomeTo (event.SetNumber s_id sub_nbr) self.old }
         ensures step { IsStep (event.SetNumber s_id sub_nbr) (store_in self.old) (edited_reply result) (store_in self.new) }
         ensures house { IsSameHouse self.old self.new }
+        ensures beside { IsStepBeside (event.SetNumber s_id sub_nbr) self.old (edited_reply result) self.new }
     {
+        // For the prover: each region has its owner beside it.
+        let _board = self.seats.board();
         let s_id = in_range(s_id, LAST_SUBSCRIBER)?;
         let seat = self.seats.seat_of(s_id);
         let Some(old) = self.seats.number_in(seat, s_id)? else {

@@ -3,32 +3,52 @@ use Rattle.std.proofs.lemmas.Result.{err_from_is_err_and}
 use Rattle.tatp_rows.proofs.RowLemmas.{between_ok}
 use Rattle.tatp_rows.specs.declared.ranges.TheConstants.{LAST_SUBSCRIBER}
 use Rattle.tatp_rows.specs.declared.refusal.Refusal.TheVariants as refusal
+use Rattle.tatp_actions.specs.Action.{done_reply}
 use Rattle.tatp_actions.specs.declared.action.Action.TheVariants as action
-use Rattle.hlr_core.proofs.RegisterLemmas.{edited_is, moving_step, outcome_of_answer}
-use Rattle.hlr_core.proofs.RenamedLemmas.{renaming_in_range, unnumbered_step, unrenamed_step, renamed_registered, renamed_step}
+use Rattle.hlr_core.specs.Step.{edited_reply}
+use Rattle.hlr_core.specs.declared.event.Event.TheVariants as event
+use Rattle.hlr_core.specs.declared.event.Reply.TheVariants as reply
+use Rattle.hlr_core.proofs.BesideLemmas.{moving_beside, unnumbered_beside, unrenamed_beside, renamed_beside, own_step}
+use Rattle.hlr_core.proofs.HomeLemmas.{house_edited, house_kept}
+use Rattle.hlr_core.proofs.RegisterLemmas.{edited_is, outcome_of_answer}
+use Rattle.hlr_core.proofs.RenamedLemmas.{renaming_in_range, renamed_registered}
 use Rattle.hlr_core.proofs.register.Register.set_number.Goals as goal
 
-pub returns-in_err-old-clause-step : goal.returns-in_err-old-clause-step
-returns-in_err-old-clause-step c =
+pub returns-in_err-old : goal.returns-in_err-old
+returns-in_err-old c =
     let p = err_from_is_err_and c.from_residual-in_err-old.result c.from_residual-in_err-old.ensures.1 in
     let fits = between_ok 1 LAST_SUBSCRIBER c.args.s_id c.in_ok-s_id.s_id c.in_ok-s_id.ensures in
     let moving = c.in_err-old.ensures.moving in
     let why : c.in_err-old.field-0.0 ≡ refusal.Moving = let is = moving.0 in cc in
-    rw (p.1, p.2, why, fits.1, ← fits.0, ← c.self.view_is) (moving_step (action.SetNumber c.in_ok-s_id.s_id c.args.sub_nbr) _ _ _ moving.1 refl refl)
+    let right = moving_beside (action.SetNumber c.in_ok-s_id.s_id c.args.sub_nbr) c.self.inside.seats moving.1 in
+    rw (p.1, p.2, why, ← c.self.view_is) (record {
+      step = own_step (event.SetNumber c.args.s_id c.args.sub_nbr) c.self.inside.seats c.self.inside.seats (reply.Refused refusal.Moving) refl (rw (fits.1, ← fits.0) right);
+      house = house_kept c.self.inside.seats;
+      beside = rw (fits.1, ← fits.0) right;
+    })
 
-pub returns-in_default-clause-step : goal.returns-in_default-clause-step
-returns-in_default-clause-step c =
+pub returns-in_default : goal.returns-in_default
+returns-in_default c =
     let fits = between_ok 1 LAST_SUBSCRIBER c.args.s_id c.in_ok-s_id.s_id c.in_ok-s_id.ensures in
-    let home = c.in_ok-old.ensures.home in
-    rw (fits.1, ← fits.0, ← c.self.view_is) (unnumbered_step c.in_ok-s_id.s_id c.args.sub_nbr _ home (sym c.in_default.is ∙ c.in_ok-old.ensures.number))
+    let right = unnumbered_beside c.self.inside.seats c.in_ok-s_id.s_id c.args.sub_nbr c.in_ok-old.ensures.home (sym c.in_default.is ∙ c.in_ok-old.ensures.number) in
+    rw (← c.self.view_is) (record {
+      step = own_step (event.SetNumber c.args.s_id c.args.sub_nbr) c.self.inside.seats c.self.inside.seats (reply.Refused refusal.NoSubscriber) refl (rw (fits.1, ← fits.0) right);
+      house = house_kept c.self.inside.seats;
+      beside = rw (fits.1, ← fits.0) right;
+    })
 
-pub returns-in_err-rename-clause-step : goal.returns-in_err-rename-clause-step
-returns-in_err-rename-clause-step c =
+pub returns-in_err-rename : goal.returns-in_err-rename
+returns-in_err-rename c =
     let p = err_from_is_err_and c.from_residual-in_err-rename.result c.from_residual-in_err-rename.ensures.1 in
     let fits = between_ok 1 LAST_SUBSCRIBER c.args.s_id c.in_ok-s_id.s_id c.in_ok-s_id.ensures in
-    let home = c.in_ok-old.ensures.home in
-    rw (p.1, p.2, fits.1, ← fits.0, ← c.self.view_is)
-    (unrenamed_step c.in_ok-s_id.s_id c.in-Some.old c.args.sub_nbr _ c.self.inside.index c.rename.new.self _ c.self.invariant home (sym c.in-Some.is ∙ c.in_ok-old.ensures.number) c.in_err-rename.ensures.renamed)
+    let right =
+    unrenamed_beside c.self.inside.seats c.in_ok-s_id.s_id c.args.sub_nbr c.in_ok-old.ensures.home c.board-board.ensures.seated c.self.inside.index c.self.invariant c.in-Some.old (sym c.in-Some.is ∙ c.in_ok-old.ensures.number)
+    c.rename.new.self c.in_err-rename.field-0.0 c.in_err-rename.ensures.renamed in
+    rw (p.1, p.2, ← c.self.view_is) (record {
+      step = own_step (event.SetNumber c.args.s_id c.args.sub_nbr) c.self.inside.seats c.self.inside.seats (reply.Refused c.in_err-rename.field-0.0) refl (rw (fits.1, ← fits.0) right);
+      house = house_kept c.self.inside.seats;
+      beside = rw (fits.1, ← fits.0) right;
+    })
 
 pub invariant_of-self-2 : goal.invariant_of-self-2
 invariant_of-self-2 c =
@@ -37,11 +57,15 @@ invariant_of-self-2 c =
     let in_range = renaming_in_range c.in_ok-s_id.s_id c.args.sub_nbr c.value-value.result (rw (fits.0) fits.1) c.value-value.ensures.value c.value-value.ensures.in_range in
     renamed_registered c.in_ok-s_id.s_id c.in-Some.old c.args.sub_nbr _ _ _ _ _ c.self.invariant c.edit_in.ensures.rows (sym c.in-Some.is ∙ c.in_ok-old.ensures.number) c.in_ok-rename.ensures.renamed in_range (outcome_of_answer _ _ _ _ _ home c.edit_in.ensures.answer)
 
-pub returns-clause-step : goal.returns-clause-step
-returns-clause-step c =
+pub returns : goal.returns
+returns c =
     let fits = between_ok 1 LAST_SUBSCRIBER c.args.s_id c.in_ok-s_id.s_id c.in_ok-s_id.ensures in
-    let home = c.in_ok-old.ensures.home in
     let in_range = renaming_in_range c.in_ok-s_id.s_id c.args.sub_nbr c.value-value.result (rw (fits.0) fits.1) c.value-value.ensures.value c.value-value.ensures.in_range in
-    rw (fits.1, ← fits.0, ← c.self.view_is)
-    (renamed_step c.in_ok-s_id.s_id c.in-Some.old c.args.sub_nbr _ _ _ c.rename.new.self _ _ c.self.invariant home (sym c.in-Some.is ∙ c.in_ok-old.ensures.number) c.in_ok-rename.ensures.renamed in_range
-    (outcome_of_answer _ _ _ _ _ home c.edit_in.ensures.answer) c.edit_in.ensures.store (edited_is c.edit_in.result))
+    let right =
+    renamed_beside c.self.inside.seats c.in_ok-s_id.s_id c.args.sub_nbr c.in_ok-old.ensures.home c.board-board.ensures.seated c.self.inside.index c.self.invariant c.in-Some.old (sym c.in-Some.is ∙ c.in_ok-old.ensures.number)
+    c.rename.new.self c.edit_in.new.self (done_reply c.edit_in.result) (edited_reply c.edit_in.result) c.in_ok-rename.ensures.renamed in_range c.edit_in.ensures.beside (edited_is c.edit_in.result) in
+    rw (← c.self.view_is) (record {
+      step = own_step (event.SetNumber c.args.s_id c.args.sub_nbr) c.self.inside.seats c.edit_in.new.self (edited_reply c.edit_in.result) c.edit_in.ensures.outs (rw (fits.1, ← fits.0) right);
+      house = house_edited c.self.inside.seats c.edit_in.new.self c.edit_in.ensures.homes c.edit_in.ensures.outs c.edit_in.ensures.same;
+      beside = rw (fits.1, ← fits.0) right;
+    })

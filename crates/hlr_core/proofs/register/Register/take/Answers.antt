@@ -1,6 +1,9 @@
-use Rattle.std.proofs.Common.{arith}
+use Rattle.std.proofs.Common.{◌≡◌, refl, arith}
+use Rattle.hlr_core.specs.Step.{taken_reply}
+use Rattle.hlr_core.proofs.BesideLemmas.{taken_beside}
 use Rattle.hlr_core.proofs.PresentLemmas.{taken_small}
 use Rattle.hlr_core.proofs.register.Register.take.Goals as goal
+use Rattle.hlr_core.proofs.register.Register.take.Goals.{in-Ok, in-Err}
 
 pub overflow_cast-result : goal.overflow_cast-result
 overflow_cast-result c =
@@ -13,3 +16,11 @@ overflow_cast-result-in-Ok c =
     let regions = rw c.regions-regions.ensures.value at c.regions-regions.ensures.regions in
     let small = taken_small c.args.piece c.args.part c.in-Ok.field-0 c.self.inside.seats.regions regions c.in-Ok.ensures.answer in
     omega (arith, small.1)
+
+pub returns-clause-beside : goal.returns-clause-beside
+returns-clause-beside c =
+    let told : c.match-take.result ≡ taken_reply c.args.piece c.args.part c.take.result = elim c.match-take.branch [
+      | in-Ok w ↦ rw (w.result-is, w.in-Ok.is) refl
+      | in-Err w ↦ rw (w.result-is, w.in-Err.is) refl
+    ] in
+    rw (← c.self.view_is) (taken_beside c.self.inside.seats c.take.new.self c.take.ensures.beside c.args.piece c.args.part c.take.result c.match-take.result c.take.ensures.answer told c.take.ensures.after)
