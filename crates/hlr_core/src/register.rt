@@ -197,8 +197,8 @@ impl Register {
         }
     }
 
-    /// Applies an event, and replies to it. A refusal changes nothing; after `Worn` the cells posted before stand. An event
-    /// that gives a number or moves regions is right whatever jobs have done to the holdings that are out.
+    /// Applies an event, and replies to it. A refusal changes nothing; after `Worn` the cells posted before stand. An
+    /// event that gives a number or moves regions is right whatever jobs have done to the holdings that are out.
     pub fn apply(&mut self, event: Event) -> Reply
         requires { IsHomeTo event self.old }
         ensures step { IsStep event (store_in self.old) result (store_in self.new) }
@@ -383,8 +383,8 @@ impl Register {
     /// Moves the bounds between parts to these: each that differs by a give and a take. The answer is how many were
     /// moved. `Field` where the bounds aren't strictly rising ones in 2..=16,777,216, one less than there are parts;
     /// then `Moving` where a piece is loose; then `Memory`, after which the moves that were done stand, and where a
-    /// take was refused its piece is loose. No row, no word and no pair of the index changes, whatever jobs have done to
-    /// the holdings that are out.
+    /// take was refused its piece is loose. No row, no word and no pair of the index changes, whatever jobs have done
+    /// to the holdings that are out.
     pub fn recut_to(&mut self, bounds: &[u64]) -> Result<u8, Refusal>
         requires { IsHomeToCut bounds.now self.old }
         ensures recut { IsRecut bounds.now (store_in self.old) result (store_in self.new) }
