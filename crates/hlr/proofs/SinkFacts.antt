@@ -1,10 +1,9 @@
 -- Bytes that a sink took, piece by piece.
-use Rattle.std.proofs.Common.{◌≡◌, refl, sym, ap, ◌∙◌, subst, ℕ, ◌+◌, ◌-◌, ◌≤◌, List, [], ◌++◌, length, take, drop, Option, Some, None, append_assoc, arith}
+use Rattle.std.proofs.Common.{◌≡◌, refl, sym, ap, ◌∙◌, ℕ, ◌-◌, List, [], ◌++◌, length, take, drop, Option, Some, None, append_assoc}
 use Rattle.std.specs.Prelude.{Bool, true, false, ◌||◌, Result, Ok, Err, IsErrAnd}
 use Rattle.std.specs.Result.{is_err}
 use Rattle.std.proofs.lemmas.Bool.{false≢true}
-use Rattle.std.proofs.Math.Seq.{take-add}
-use Rattle.std.proofs.lemmas.List.{append-nil, length-take, take-append-drop, take_rest}
+use Rattle.std.proofs.lemmas.List.{append-nil, take-append-drop, take_rest}
 use Rattle.std.specs.Io.KnownBytes.{Appends, Keeps}
 use Rattle.hlr.specs.Sink.{Begins, AppendsFront, Puts}
 use Rattle.hlr.specs.declared.sink.Stalled.{Stalled}
@@ -35,10 +34,6 @@ appends_after (Some xs) None new a h k = absurd h
 appends_after (Some xs) (Some ys) None a h k = k
 appends_after (Some xs) (Some ys) (Some zs) a h k = rw (← h) k
 
--- the first part of a list is a front of it
-pub begins_taken : (n : ℕ) (whole : List ℕ) → Begins (take n whole) whole
-begins_taken n whole = record { rest = drop n whole; whole_is = sym (take-append-drop n whole) }
-
 -- a front of the first piece is one of both
 pub begins_wider : (front a b : List ℕ) → Begins front a → Begins front (a ++ b)
 begins_wider front a b h = record { rest = h.rest ++ b; whole_is = ap (λ w. w ++ b) h.whole_is ∙ append_assoc front h.rest b }
@@ -61,25 +56,27 @@ front_after old mid new a b h k = record { front = a ++ k.front; begins = begins
 pub front_all : (old new : Option (List ℕ)) (a : List ℕ) → Appends old new a → AppendsFront old new a
 front_all old new a h = record { front = a; begins = begins_all a; grew = h }
 
--- the first part of a piece was taken, and then nothing more
-pub front_of_kept : (old mid new : Option (List ℕ)) (n : ℕ) (piece : List ℕ) → Appends old mid (take n piece) → Keeps mid new → AppendsFront old new piece
-front_of_kept old mid new n piece h k = record { front = take n piece; begins = begins_taken n piece; grew = appends_kept old mid new (take n piece) h k }
+-- what is left of a piece of which a front was taken
+pub record IsLeft (old now : Option (List ℕ)) (piece rest : List ℕ) : Type 0 where
+  pub front : List ℕ
+  pub whole_is : piece ≡ front ++ rest
+  pub grew : Appends old now front
 
--- the next part of a piece was taken
-pub grew_on : (old mid new : Option (List ℕ)) (i n : ℕ) (piece : List ℕ) → Appends old mid (take i piece) → Appends mid new (take n (take (length piece - i) (drop i piece))) → Appends old new (take (i + n) piece)
-grew_on old mid new i n piece h k =
-    subst (λ (bytes : List ℕ). Appends old new bytes) (sym (take-add i n piece))
-    (appends_both old mid new (take i piece) (take n (drop i piece)) h
-    (subst (λ (left : List ℕ). Appends mid new (take n left)) (take_rest piece i) k))
+-- the next bytes of what was left are taken
+pub left_on : (old mid new : Option (List ℕ)) (n : ℕ) (piece rest : List ℕ) → IsLeft old mid piece rest → Appends mid new (take n rest) → IsLeft old new piece (take (length rest - n) (drop n rest))
+left_on old mid new n piece rest h k = record {
+  front = h.front ++ take n rest;
+  whole_is = rw (take_rest rest n) (h.whole_is ∙ ap (λ r. h.front ++ r) (sym (take-append-drop n rest)) ∙ sym (append_assoc h.front (take n rest) (drop n rest)));
+  grew = appends_both old mid new h.front (take n rest) h.grew k;
+}
 
--- the first part of a piece was taken, and then the next one
-pub front_of_taken : (old mid new : Option (List ℕ)) (i n : ℕ) (piece : List ℕ) → Appends old mid (take i piece) → Appends mid new (take n (take (length piece - i) (drop i piece))) → AppendsFront old new piece
-front_of_taken old mid new i n piece h k =
-    record { front = take (i + n) piece; begins = begins_taken (i + n) piece; grew = grew_on old mid new i n piece h k }
+-- what was taken is a front of the piece
+pub left_front : (old now : Option (List ℕ)) (piece rest : List ℕ) → IsLeft old now piece rest → AppendsFront old now piece
+left_front old now piece rest h = record { front = h.front; begins = record { rest = rest; whole_is = h.whole_is }; grew = h.grew }
 
--- what is left of a piece has no more bytes than it has from there on
-pub left_within : (i n : ℕ) (piece : List ℕ) → i ≤ length piece → n ≤ length (take (length piece - i) (drop i piece)) → i + n ≤ length piece
-left_within i n piece h k = omega (arith, length-take (length piece - i) (drop i piece))
+-- nothing more was taken
+pub left_kept : (old mid new : Option (List ℕ)) (piece rest : List ℕ) → IsLeft old mid piece rest → Keeps mid new → IsLeft old new piece rest
+left_kept old mid new piece rest h k = record { front = h.front; whole_is = h.whole_is; grew = appends_kept old mid new h.front h.grew k }
 
 -- a test that is false although a part was added to it was false before
 pub or_false_left : (now before part : Bool) → now ≡ (before || part) → now ≡ false → before ≡ false

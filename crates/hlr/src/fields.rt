@@ -65,8 +65,11 @@ pub fn parse_byte(text: &[u8]) -> Result<u8, Refusal>
 fn digit_value(byte: u8) -> u8
     ensures { result ≡ digit_value byte }
 {
+    let digit = byte.wrapping_sub(b'0');
+    if digit < 10 {
+        return digit;
+    }
     match byte {
-        b'0'..=b'9' => byte - b'0',
         b'A'..=b'Z' => byte - b'A' + 10,
         b'a'..=b'z' => byte - b'a' + 10,
         _ => 36,

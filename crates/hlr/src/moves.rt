@@ -1,4 +1,4 @@
-//! The records that post, give and take, as events for the register.
+//! The records that post, give and take.
 ghost use Rattle.std.specs.Prelude.{Some, IfOk, IfErr};
 ghost use Rattle.csv.specs.Records.{fields_of};
 ghost use Rattle.hlr_owners.specs.Seats.{AllHome, store_in};
@@ -23,7 +23,7 @@ pub fn post(row: &ByteRecord, register: &mut Register) -> Result<Reply, Refusal>
     check_len(row, 3)?;
     let part = parse_number(field(row, 1))?;
     let limit = parse_number(field(row, 2))?;
-    Ok(register.apply(Event::Post { part, limit }))
+    Ok(register.post(part, limit))
 }
 
 /// Does `give,part,side,at`: `Syntax`, `Field`, or what the register replies.

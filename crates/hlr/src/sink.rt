@@ -73,8 +73,11 @@ impl<W: Write + Drop> Sink for Out<W> {
     fn put(&mut self, piece: &[u8]) -> Result<usize, PutFault> {
         match self.writer.write(piece) {
             Ok(n) => {
-                self.stalled = self.stalled || (n == 0 && !piece.is_empty());
-                self.flushed = self.flushed && n == 0;
+                if n > 0 {
+                    self.flushed = false;
+                } else if !piece.is_empty() {
+                    self.stalled = true;
+                }
                 Ok(n)
             }
             Err(error) => {
@@ -121,13 +124,13 @@ pub fn put_all<S: Sink>(sink: &mut S, piece: &[u8]) -> Result<(), Stalled>
     ensures put { Puts piece.now (S.taken sink.old) (S.taken sink.new) (S.has_stalled sink.new) result }
     ensures quiet { S.has_stalled sink.new ≡ false → S.has_stalled sink.old ≡ false }
 {
-    let mut at = 0usize;
+    let mut rest = piece;
     let mut tries = 0u8;
-    while at < piece.len() {
-        match sink.put(&piece[at..]) {
+    while !rest.is_empty() {
+        match sink.put(rest) {
             Ok(0) => return Err(Stalled),
             Ok(n) => {
-                at += n;
+                rest = &rest[n..];
                 tries = 0;
             }
             Err(PutFault::Interrupted) if tries < RETRIES => tries += 1,

@@ -376,8 +376,9 @@ impl Register {
     {
         // For the prover: each region has its owner beside it.
         let _board = self.seats.board();
+        let parts = self.seats.parts();
         let weights = zone_weights(&self.published());
-        Regions::propose(&weights, self.seats.parts(), self.seats.width())
+        Regions::propose(&weights, parts, self.seats.width())
     }
 
     /// Moves the bounds between parts to these: each that differs by a give and a take. The answer is how many were
@@ -401,7 +402,8 @@ impl Register {
         &self.index
     }
 
-    fn post(&mut self, part: u64, limit: u64) -> Reply
+    /// Posts what is pending of a part, as `Event::Post`: `NoPart`, `Worn`.
+    pub fn post(&mut self, part: u64, limit: u64) -> Reply
         requires { IsPartHome part self.old }
         ensures step { IsStep (Event.Post part limit) (store_in self.old) result (store_in self.new) }
         ensures house { IsSameHouse self.old self.new }

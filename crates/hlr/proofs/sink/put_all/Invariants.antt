@@ -1,14 +1,13 @@
-use Rattle.std.proofs.Common.{length, take, ◌≡◌, ◌≤◌, ◌-◌, ◌+◌, ◌*◌, false}
-use Rattle.std.specs.Io.KnownBytes.{Appends}
+use Rattle.std.proofs.Common.{length, ◌≡◌, ◌≤◌, ◌-◌, ◌+◌, ◌*◌, false}
+use Rattle.hlr.proofs.SinkFacts.{IsLeft}
 use Rattle.hlr.proofs.sink.put_all.Given as goal
 
-abbrev pub invariant-loop-at : goal.invariant-loop-at
-invariant-loop-at g l = record {
-  within : l.at ≤ length l.piece;
+abbrev pub invariant-loop-rest : goal.invariant-loop-rest
+invariant-loop-rest g l = record {
   few : l.tries ≤ 100;
-  grew : Appends (g.S.Sink.taken l.fn.sink) (g.S.Sink.taken l.sink) (take l.at l.piece);
+  left : IsLeft (g.S.Sink.taken l.fn.sink) (g.S.Sink.taken l.sink) l.piece l.rest;
   quiet : g.S.Sink.has_stalled l.sink ≡ false → g.S.Sink.has_stalled l.fn.sink ≡ false;
 }
 
-abbrev pub decreases-loop-at : goal.decreases-loop-at
-decreases-loop-at g l = (length l.piece - l.at) * 101 + (100 - l.tries)
+abbrev pub decreases-loop-rest : goal.decreases-loop-rest
+decreases-loop-rest g l = length l.rest * 101 + (100 - l.tries)

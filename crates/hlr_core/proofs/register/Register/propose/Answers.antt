@@ -6,7 +6,7 @@ use Rattle.hlr_core.proofs.register.Register.propose.Goals as goal
 
 pub returns-clause-value : goal.returns-clause-value
 returns-clause-value c =
-    proposed (store_in c.args.self.now) _ _ _ _ _ c.published.ensures c.zone_weights-weights.ensures.value (rw (c.self.view_is) at c.parts.ensures.value) (rw (c.self.view_is) at c.width.ensures.value) c.propose.ensures.value
+    proposed (store_in c.args.self.now) _ _ _ _ _ c.published.ensures c.zone_weights-weights.ensures.value (rw (c.self.view_is) at c.parts-parts.ensures.value) (rw (c.self.view_is) at c.width.ensures.value) c.propose.ensures.value
 
 pub returns-clause-counted : goal.returns-clause-counted
 returns-clause-counted c = λ none.
