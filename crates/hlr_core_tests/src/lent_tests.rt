@@ -12,7 +12,6 @@ use hlr_core::{Event, Register, Reply, Route};
 use holding::{Holding, Job};
 use part_table::{END, Place, Side};
 use std::process::Abort;
-use std::test::Fail;
 use tatp_actions::{Action, RowReply};
 use tatp_rows::Refusal;
 use view_board::Board;
@@ -80,8 +79,11 @@ fn first_is_lent(register: &mut Register, words: &[(usize, u64)]) -> Option<([bo
 }
 
 /// Asserts what a register of two parts shows while a part is lent, and once it is home again.
-fn expect_lent(rt: &impl Abort, register: &mut Register) -> Result<(), Refusal> {
-    let (added, moved) = (row(100, 100, 1)?, row(100, 100, 268_435_456)?);
+fn expect_lent(rt: &impl Abort, register: &mut Register) {
+    let (added, moved) = (
+        row(100, 100, 1).expect(rt, "a row"),
+        row(100, 100, 268_435_456).expect(rt, "a row"),
+    );
     let is_added = replies(register, Event::AddSubscriber(added), DONE);
     let outside = works_outside(register);
     let are_home = homes(register);
@@ -98,15 +100,13 @@ fn expect_lent(rt: &impl Abort, register: &mut Register) -> Result<(), Refusal> 
             Some(([false, true, false, false], true)),
         )
     );
-    Ok(())
 }
 
 #[test]
-fn part_is_lent(rt: HostRuntime) -> Result<(), Fail> {
-    let mut register = opened(rt.alloc(), 2, 4)?;
-    let lent = expect_lent(&rt, &mut register);
+fn part_is_lent(rt: HostRuntime) {
+    let mut register = opened(rt.alloc(), 2, 4).expect(&rt, "a register");
+    expect_lent(&rt, &mut register);
     drop(register);
-    Ok(lent?)
 }
 
 /// What the first part answers while the second one is out, and where a read of each one's subscribers goes then:
@@ -131,8 +131,12 @@ fn works_beside(register: &mut Register) -> Option<([Route; 2], [Reply; 3])> {
 }
 
 /// Asserts what the first of two parts does beside a part that is out.
-fn expect_beside(rt: &impl Abort, register: &mut Register) -> Result<(), Refusal> {
-    let is_added = replies(register, Event::AddSubscriber(row(3, 3, 1)?), DONE);
+fn expect_beside(rt: &impl Abort, register: &mut Register) {
+    let is_added = replies(
+        register,
+        Event::AddSubscriber(row(3, 3, 1).expect(rt, "a row")),
+        DONE,
+    );
     let beside = works_beside(register);
     let given = Reply::Given {
         piece: 1,
@@ -153,20 +157,21 @@ fn expect_beside(rt: &impl Abort, register: &mut Register) -> Result<(), Refusal
             ))
         )
     );
-    Ok(())
 }
 
 #[test]
-fn others_go_on(rt: HostRuntime) -> Result<(), Fail> {
-    let mut register = opened(rt.alloc(), 2, 4)?;
-    let beside = expect_beside(&rt, &mut register);
+fn others_go_on(rt: HostRuntime) {
+    let mut register = opened(rt.alloc(), 2, 4).expect(&rt, "a register");
+    expect_beside(&rt, &mut register);
     drop(register);
-    Ok(beside?)
 }
 
 /// Asserts where events go in a register that has subscriber 3 in its first part, and the next ones in a loose piece.
-fn expect_routes(rt: &impl Abort, register: &Register) -> Result<(), Refusal> {
-    let (three, nine) = (number(3)?, number(9)?);
+fn expect_routes(rt: &impl Abort, register: &Register) {
+    let (three, nine) = (
+        number(3).expect(rt, "a number"),
+        number(9).expect(rt, "a number"),
+    );
     let routes = [
         register.route(&read(3)),
         register.route(&moved(three, 5)),
@@ -190,13 +195,15 @@ fn expect_routes(rt: &impl Abort, register: &Register) -> Result<(), Refusal> {
         Route::Now(NO_PART),
     ];
     assert_eq!(rt; routes, want);
-    Ok(())
 }
 
 /// Asserts where events go there that add rows, switch a facility, give numbers, or move regions.
-fn expect_more_routes(rt: &impl Abort, register: &Register) -> Result<(), Refusal> {
-    let (access, facility) = (access_row(3, 1, 7)?, facility_row(3, 2, 1)?);
-    let (s_id, sub_nbr) = (3, number(9)?);
+fn expect_more_routes(rt: &impl Abort, register: &Register) {
+    let (access, facility) = (
+        access_row(3, 1, 7).expect(rt, "a row"),
+        facility_row(3, 2, 1).expect(rt, "a row"),
+    );
+    let (s_id, sub_nbr) = (3, number(9).expect(rt, "a number"));
     let routes = [
         register.route(&Event::AddAccess(access)),
         register.route(&Event::AddFacility(facility)),
@@ -205,7 +212,7 @@ fn expect_more_routes(rt: &impl Abort, register: &Register) -> Result<(), Refusa
             sf_type: 2,
             is_active: 0,
         }),
-        register.route(&Event::AddSubscriber(row(8, 8, 1)?)),
+        register.route(&Event::AddSubscriber(row(8, 8, 1).expect(rt, "a row"))),
         register.route(&Event::SetNumber { s_id, sub_nbr }),
         register.route(&giving(1, 100)),
         register.route(&taking(1, 0)),
@@ -225,27 +232,25 @@ fn expect_more_routes(rt: &impl Abort, register: &Register) -> Result<(), Refusa
         Route::Here,
     ];
     assert_eq!(rt; routes, want);
-    Ok(())
 }
 
 /// Asserts where events go once subscriber 3 is there, and the next ones are given away.
-fn expect_all_routes(rt: &impl Abort, register: &mut Register) -> Result<(), Refusal> {
+fn expect_all_routes(rt: &impl Abort, register: &mut Register) {
     let given = Reply::Given {
         piece: 1,
         lo: 5,
         hi: 65,
     };
-    let there = Event::AddSubscriber(row(3, 3, 1)?);
+    let there = Event::AddSubscriber(row(3, 3, 1).expect(rt, "a row"));
     let is_right = replies(register, there, DONE) && replies(register, giving(0, 5), given);
     assert!(rt; is_right);
-    expect_routes(rt, register)?;
-    expect_more_routes(rt, register)
+    expect_routes(rt, register);
+    expect_more_routes(rt, register);
 }
 
 #[test]
-fn events_go(rt: HostRuntime) -> Result<(), Fail> {
-    let mut register = opened(rt.alloc(), 2, 4)?;
-    let routed = expect_all_routes(&rt, &mut register);
+fn events_go(rt: HostRuntime) {
+    let mut register = opened(rt.alloc(), 2, 4).expect(&rt, "a register");
+    expect_all_routes(&rt, &mut register);
     drop(register);
-    Ok(routed?)
 }

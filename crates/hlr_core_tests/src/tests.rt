@@ -306,9 +306,16 @@ fn run_of(register: &mut Register, orders: &[Order]) -> Option<Result<Vec<Answer
 }
 
 /// A list of orders, and then an empty one.
-fn expect_runs(rt: &impl Abort, register: &mut Register) -> Result<(), Refusal> {
-    let (first, second) = (row(7, 70, 4_294_967_295)?, row(7, 71, 1)?);
-    let (begun, other, seventy) = (row(7, 70, 268_435_456)?, row(1, 1, 1)?, number(70)?);
+fn expect_runs(rt: &impl Abort, register: &mut Register) {
+    let (first, second) = (
+        row(7, 70, 4_294_967_295).expect(rt, "a row"),
+        row(7, 71, 1).expect(rt, "a row"),
+    );
+    let (begun, other, seventy) = (
+        row(7, 70, 268_435_456).expect(rt, "a row"),
+        row(1, 1, 1).expect(rt, "a row"),
+        number(70).expect(rt, "a number"),
+    );
     let orders = [
         Order::Event(Event::AddSubscriber(begun)),
         Order::Event(Event::AddSubscriber(second)),
@@ -319,10 +326,9 @@ fn expect_runs(rt: &impl Abort, register: &mut Register) -> Result<(), Refusal> 
         Order::Recut(ArrayVec::new()),
     ];
     let stands_beside = replies(register, Event::AddSubscriber(other), DONE);
-    let Some(all) = run_of(register, &orders) else {
-        return Err(Refusal::Exists);
+    let Some(Ok(all)) = run_of(register, &orders) else {
+        panic!(rt; "no answers, or not as before")
     };
-    let all = all?;
     // Where the first event was refused memory, the second adds its row.
     let second_added = all.first() == Some(&Answer::Reply(MEMORY));
     let stood = stands_beside && has_run(register, second_added);
@@ -341,22 +347,22 @@ fn expect_runs(rt: &impl Abort, register: &mut Register) -> Result<(), Refusal> 
         Answer::Reply(NO_PART),
         Answer::Recut(Ok(0)),
     ];
-    let none = ran(register, &[])?;
+    let Ok(none) = ran(register, &[]) else {
+        panic!(rt; "no answers to an empty list")
+    };
     let stands_still = none.is_empty() && has_run(register, second_added);
     assert_eq!(rt;
         (all.as_slice(), stood, stands_still),
         (want.as_slice(), true, true)
     );
-    Ok(())
 }
 
 // Also run with each allocation refused in turn (`refuse_memory.sh`).
 #[test]
-fn runs(rt: HostRuntime) -> Result<(), Fail> {
-    let mut register = opened(rt.alloc(), 1, 4)?;
-    let ran = expect_runs(&rt, &mut register);
+fn runs(rt: HostRuntime) {
+    let mut register = opened(rt.alloc(), 1, 4).expect(&rt, "a register");
+    expect_runs(&rt, &mut register);
     drop(register);
-    Ok(ran?)
 }
 
 /// Asserts that the subscribers 1 to `count` are added. Their numbers rise with them, so that the rows and the index
@@ -437,9 +443,12 @@ fn forwarded(sub_nbr: Number, numberx: Number) -> Event {
 }
 
 /// Additions to subscriber 7 with the number 7, and reads of them; the first that isn't replied to so, if there is one.
-fn added_differs(register: &mut Register) -> Result<Option<usize>, Refusal> {
-    let (seven, hundred) = (number(7)?, number(100)?);
-    let access = access_row(7, 1, 3)?;
+fn added_differs(rt: &impl Abort, register: &mut Register) -> Option<usize> {
+    let (seven, hundred) = (
+        number(7).expect(rt, "a number"),
+        number(100).expect(rt, "a number"),
+    );
+    let access = access_row(7, 1, 3).expect(rt, "a row");
     let found = RowReply::AccessRow {
         data1: 3,
         data2: 4,
@@ -454,21 +463,24 @@ fn added_differs(register: &mut Register) -> Result<Option<usize>, Refusal> {
     numbers.push(hundred);
     let numbers = Reply::Rows(RowReply::Numbers(numbers));
     let events = [
-        Event::AddSubscriber(row(7, 7, 1)?),
+        Event::AddSubscriber(row(7, 7, 1).expect(rt, "a row")),
         Event::AddAccess(access),
-        Event::AddFacility(facility_row(7, 2, 1)?),
+        Event::AddFacility(facility_row(7, 2, 1).expect(rt, "a row")),
         forwarded(seven, hundred),
         forwarded(seven, hundred),
         read,
         asked(),
     ];
     let want = [DONE, DONE, DONE, DONE, EXISTS, Reply::Rows(found), numbers];
-    Ok(difference(register, &events, &want))
+    difference(register, &events, &want)
 }
 
 /// The same of changes of those rows.
-fn changed_differs(register: &mut Register) -> Result<Option<usize>, Refusal> {
-    let (seven, nine) = (number(7)?, number(9)?);
+fn changed_differs(rt: &impl Abort, register: &mut Register) -> Option<usize> {
+    let (seven, nine) = (
+        number(7).expect(rt, "a number"),
+        number(9).expect(rt, "a number"),
+    );
     let off = Event::SetActive {
         s_id: 7,
         sf_type: 2,
@@ -496,15 +508,14 @@ fn changed_differs(register: &mut Register) -> Result<Option<usize>, Refusal> {
     let lost = forwarded(seven, nine);
     let events = [off, asked(), renamed, lost, away, updated, out_of_range];
     let want = [DONE, NO_DESTINATION, DONE, NO_NUMBER, DONE, DONE, FIELD];
-    Ok(difference(register, &events, &want))
+    difference(register, &events, &want)
 }
 
 #[test]
-fn each_event_is_answered(rt: HostRuntime) -> Result<(), Fail> {
-    let mut register = opened(rt.alloc(), 1, 64)?;
-    let added = added_differs(&mut register);
-    let changed = changed_differs(&mut register);
+fn each_event_is_answered(rt: HostRuntime) {
+    let mut register = opened(rt.alloc(), 1, 64).expect(&rt, "a register");
+    let added = added_differs(&rt, &mut register);
+    let changed = changed_differs(&rt, &mut register);
     drop(register);
-    assert_eq!(rt; (added, changed), (Ok(None), Ok(None)));
-    Ok(())
+    assert_eq!(rt; (added, changed), (None, None));
 }
