@@ -212,8 +212,8 @@ tests() {
   tests_of number_index tests::numbers
   tests_of tatp_actions tests::refused_nodes plain_tests::same_actions cut_tests::refused_cuts
   tests_of view_board tests::two_threads tests::words_at_limit
-  tests_of holding tests::a_worn_word_ends_a_posting tests::pieces_are_given_and_taken tests::owners_work_in_threads
-  tests_of hlr_core tests::runs tests::additions_at_split tests::renamings_at_split plain_tests::few_drawn_events region_tests::gives_of_two_parts region_tests::recut_of_three region_tests::one_part_and_sixteen region_tests::words_that_stand gather_tests::refusals_hand_all_back gather_tests::many_numbers_are_gathered lent_tests::part_is_lent lent_tests::events_go
+  tests_of hlr_core_tests holding_tests::a_worn_word_ends_a_posting holding_tests::pieces_are_given_and_taken holding_tests::owners_work_in_threads
+  tests_of hlr_core_tests tests::runs tests::additions_at_split tests::renamings_at_split plain_tests::few_drawn_events region_tests::gives_of_two_parts region_tests::recut_of_three region_tests::one_part_and_sixteen region_tests::words_that_stand gather_tests::refusals_hand_all_back gather_tests::many_numbers_are_gathered lent_tests::part_is_lent lent_tests::events_go
   tests_of hlr tests::refused_memory_is_told
 }
 

@@ -313,7 +313,11 @@ pub fn run_alone<R: Read + Drop, S: Sink>(
     ensures flushed { IsFlushedAfter result (S.is_flushed sink.new) }
 {
     match Register::open(alloc, parts, width) {
-        Ok(mut register) => run_store(alloc, reader, &mut register, sink),
+        Ok(mut register) => {
+            let done = run_store(alloc, reader, &mut register, sink);
+            drop(register);
+            done
+        }
         Err(why) => refuse_start(sink, why),
     }
 }

@@ -8,30 +8,14 @@
 //! of what comes home (`Register::gather`).
 #![tactic(auto)]
 
-#[cfg(test)]
-mod call_tests;
 mod checked;
 mod event;
-#[cfg(test)]
-mod gather_tests;
 mod lent;
-#[cfg(test)]
-mod lent_tests;
 mod level;
 mod numbers;
 mod order;
-#[cfg(test)]
-mod plain;
-#[cfg(test)]
-mod plain_regions;
-#[cfg(test)]
-mod plain_tests;
-#[cfg(test)]
-mod region_tests;
 mod register;
 mod route;
-#[cfg(test)]
-mod tests;
 mod transactions;
 mod weights;
 

@@ -138,7 +138,9 @@ impl Register {
             return Err(Refusal::Field);
         }
         let seats = Seats::open(alloc, parts, width, words)?;
-        let index = NumberIndex::new(alloc)?;
+        let Ok(index) = NumberIndex::new(alloc) else {
+            unreachable!()
+        };
         Ok(Register {
             seats,
             index,

@@ -157,7 +157,8 @@ impl Register {
         ensures action { IfOk result IsRowAction }
         ensures asked { AsksFor (action_for event.now (book_in self.now.seats)) result }
     {
-        match *event {
+        let event = *event;
+        match event {
             Event::SubscriberData { s_id } => subscriber_data(s_id),
             Event::NewDestination {
                 s_id,

@@ -10,8 +10,6 @@ mod job;
 mod lending;
 mod moving;
 mod piece;
-#[cfg(test)]
-mod tests;
 
 pub use holding::Holding;
 pub use job::Job;

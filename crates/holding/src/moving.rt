@@ -44,14 +44,20 @@ impl Holding {
         }
         // All memory is had before anything changes: the piece's box, and what the cut takes.
         let mut piece = Box::new(self.alloc, Piece::blank(self.alloc))?;
-        let part = self.part.slice(at, side)?;
+        let part = match self.part.slice(at, side) {
+            Ok(part) => part,
+            Err(why) => {
+                drop(piece);
+                return Err(why);
+            }
+        };
         let counts = part.recount();
         self.pending.subtract(&counts);
         let given = Piece {
             part,
             pending: counts,
         };
-        *piece = given;
+        drop(mem::replace(&mut *piece, given));
         Ok(piece)
     }
 
@@ -77,16 +83,18 @@ impl Holding {
         // An empty piece takes no memory.
         let Piece { part, pending } = mem::replace(&mut *piece, Piece::blank(self.alloc));
         if let Err(back) = self.part.meld(part) {
-            *piece = Piece {
+            let kept = Piece {
                 part: back.item,
                 pending,
             };
+            drop(mem::replace(&mut *piece, kept));
             return Err(Back {
                 why: back.why,
                 item: piece,
             });
         }
         self.pending.add(&pending);
+        drop(piece);
         Ok(())
     }
 }

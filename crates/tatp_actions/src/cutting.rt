@@ -40,7 +40,7 @@ impl Trees {
         ensures asked { self.new.asked ≡ self.old.asked }
     {
         let asked = self.asked;
-        *self = trees;
+        drop(mem::replace(self, trees));
         self.asked = asked;
     }
 

@@ -19,6 +19,17 @@ pub struct Trees {
     pub(crate) asked: u64,
 }
 
+/// A tree without rows.
+fn empty<V: Drop>(alloc: Global) -> SubTree<V>
+    ensures rows { result.rows ≡ [] }
+    ensures height { result.height ≡ 0 }
+{
+    match SubTree::new(alloc) {
+        Ok(tree) => tree,
+        Err(_) => unreachable!(),
+    }
+}
+
 impl Trees {
     /// Rows with empty trees, never asked. An empty tree takes no memory, so this is always `Ok`.
     pub fn new(alloc: Global) -> Result<Self, Refusal>
@@ -30,10 +41,10 @@ impl Trees {
         ensures ok { IfErr result (λ _. ⊥) }
     {
         Ok(Trees {
-            subscribers: SubTree::new(alloc)?,
-            access: SubTree::new(alloc)?,
-            facilities: SubTree::new(alloc)?,
-            forwardings: SubTree::new(alloc)?,
+            subscribers: empty(alloc),
+            access: empty(alloc),
+            facilities: empty(alloc),
+            forwardings: empty(alloc),
             asked: 0,
         })
     }

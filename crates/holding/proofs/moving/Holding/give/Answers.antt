@@ -5,30 +5,30 @@ use Rattle.view_delta.specs.Pending.{pending_at}
 use Rattle.holding.proofs.moving.Holding.give.Goals as goal
 
 pub subtract-requires : goal.subtract-requires
-subtract-requires c = differences_fit _ c.in_ok-part.part _ c.self.invariant c.in_ok-part.ensures.rules c.recount-counts.ensures
+subtract-requires c = differences_fit _ c.in-Ok.part _ c.self.invariant c.in-Ok.ensures.rules c.recount-counts.ensures
 
 pub invariant_of-given : goal.invariant_of-given
-invariant_of-given c = are_piece c.in_ok-part.part _ c.in_ok-part.ensures.rules c.recount-counts.ensures
+invariant_of-given c = are_piece c.in-Ok.part _ c.in-Ok.ensures.rules c.recount-counts.ensures
 
 pub invariant_of-self-2 : goal.invariant_of-self-2
 invariant_of-self-2 c =
-    left _ c.in_ok-part.part _ _ _ _ _ _ c.self.invariant c.in_ok-part.ensures.after c.recount-counts.ensures
-    (divided c.args.side c.args.at _ _ _ c.self.invariant.rules c.in_ok-part.ensures.given c.in_ok-part.ensures.kept) c.subtract.ensures
+    left _ c.in-Ok.part _ _ _ _ _ _ c.self.invariant c.in-Ok.ensures.after c.recount-counts.ensures
+    (divided c.args.side c.args.at _ _ _ c.self.invariant.rules c.in-Ok.ensures.given c.in-Ok.ensures.kept) c.subtract.ensures
 
 pub returns-clause-given : goal.returns-clause-given
-returns-clause-given c = rw (← c.self.view_is) (record {
+returns-clause-given c = rw (← c.self.view_is, c.replace.ensures.after) (record {
   inside = search rules;
-  given = c.in_ok-part.ensures.given;
-  kept = c.in_ok-part.ensures.kept;
+  given = c.in-Ok.ensures.given;
+  kept = c.in-Ok.ensures.kept;
   less = λ k below. c.subtract.ensures k below ∙ ap (λ (z : ℤ). pending_at c.self.inside.pending k -ℤ z) (sym (counts_pending _ k));
   desk = refl;
   slot = refl;
 })
 
 pub returns-clause-piece : goal.returns-clause-piece
-returns-clause-piece c = are_piece c.in_ok-part.part _ c.in_ok-part.ensures.rules c.recount-counts.ensures
+returns-clause-piece c = rw c.replace.ensures.after (are_piece c.in-Ok.part _ c.in-Ok.ensures.rules c.recount-counts.ensures)
 
 pub returns-clause-after : goal.returns-clause-after
 returns-clause-after c =
-    left _ c.in_ok-part.part _ _ _ _ _ _ c.self.invariant c.in_ok-part.ensures.after c.recount-counts.ensures
-    (divided c.args.side c.args.at _ _ _ c.self.invariant.rules c.in_ok-part.ensures.given c.in_ok-part.ensures.kept) c.subtract.ensures
+    left _ c.in-Ok.part _ _ _ _ _ _ c.self.invariant c.in-Ok.ensures.after c.recount-counts.ensures
+    (divided c.args.side c.args.at _ _ _ c.self.invariant.rules c.in-Ok.ensures.given c.in-Ok.ensures.kept) c.subtract.ensures

@@ -17,7 +17,7 @@ invariant_of-self-2 c =
 
 pub returns-in-Err-clause-refused : goal.returns-in-Err-clause-refused
 returns-in-Err-clause-refused c = (
-  box_back c.args.piece c.replace.new.dest (record { part = c.in-Err.back.item; pending = map pos c.part.inside.pending }) (rw (c.in-Err.ensures.refused) (c.part.view_is ∙ c.replace.ensures.value ∙ c.deref_mut.ensures.value)),
+  rw c.replace-in-Err.ensures.after (box_back c.args.piece c.replace.new.dest (record { part = c.in-Err.back.item; pending = map pos c.part.inside.pending }) (rw (c.in-Err.ensures.refused) (c.part.view_is ∙ c.replace.ensures.value ∙ c.deref_mut.ensures.value))),
   rw (← c.self.view_is, c.in-Err.ensures.unchanged) refl,
 )
 

@@ -1,0 +1,22 @@
+//! Tests of holdings and of the register, by public calls alone: what no clause says. They are a crate of their own, so
+//! that neither library is proved a second time with them.
+#![tactic(auto)]
+
+#[cfg(test)]
+mod call_tests;
+#[cfg(test)]
+mod gather_tests;
+#[cfg(test)]
+mod holding_tests;
+#[cfg(test)]
+mod lent_tests;
+#[cfg(test)]
+mod plain;
+#[cfg(test)]
+mod plain_regions;
+#[cfg(test)]
+mod plain_tests;
+#[cfg(test)]
+mod region_tests;
+#[cfg(test)]
+mod tests;
