@@ -122,7 +122,7 @@ later_seat (Piece a) (Part m) u one two = absurd one
 later_seat (Piece a) (Piece b) (Part n) one two = absurd two
 later_seat (Piece a) (Piece b) (Piece c) one two = two ∙ one
 
-later_after : (s t u : Seat) → IsLater s t → IsLater t u → IsLater s u
+pub later_after : (s t u : Seat) → IsLater s t → IsLater t u → IsLater s u
 later_after s t u one two = record { seat = later_seat s t u one.seat two.seat; numbers = two.numbers ∙ one.numbers }
 
 pub all_later_after : (xs ys zs : List Seat) → AreLater xs ys → AreLater ys zs → AreLater xs zs

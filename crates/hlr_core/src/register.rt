@@ -1,5 +1,7 @@
 //! The register: all rows under one roof, no number twice, and every cell as published with what is not posted yet.
 ghost use Rattle.std.specs.Prelude.{◌≡◌, ℕ, [], vec_len, vec_capacity, ◌<◌, ◌↔◌, ◌⊎◌, true, None, IsTrue, IfOk, IfErr, OnErr, MatchResult, slice_index, slice_index_or, ◌+◌, ℤ, pos, ◌+ℤ◌};
+ghost use Rattle.view_board.specs.Desks.{with_view};
+ghost use Rattle.view_board.specs.Views.{looked};
 ghost use Rattle.tatp_actions.specs.Cell.{cell};
 ghost use Rattle.hlr_core.specs.Inside.Asked.{ChangesRows};
 ghost use Rattle.hlr_core.specs.Beside.{IsRecutBeside, IsStepBeside};
@@ -328,7 +330,7 @@ impl Register {
     pub fn look(&mut self) -> Sight
         ensures right { IsSightOf (store_in self.old) result.words }
         ensures seen { store_in self.new ≡ record (store_in self.old) { sight = result.words } }
-        ensures same { self.new ≡ record self.old { spare = self.new.spare } }
+        ensures same { self.new ≡ record self.old { spare = with_view self.old.spare (looked self.old.spare.view result.words) } }
     {
         self.seats.look()
     }

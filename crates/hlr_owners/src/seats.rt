@@ -12,6 +12,8 @@ ghost use Rattle.hlr_owners.specs.Out.{outs_in};
 ghost use Rattle.tatp_actions.specs.Action.{s_id_of, is_in_range, done_reply};
 ghost use Rattle.tatp_actions.specs.Book.{IsRowsOf, IsWithin, subscriber_at};
 ghost use Rattle.tatp_actions.specs.Part.{IsWidth};
+ghost use Rattle.view_board.specs.Desks.{with_view};
+ghost use Rattle.view_board.specs.Views.{looked};
 ghost use Rattle.hlr_owners.specs.Desks.{AreDesks};
 ghost use Rattle.hlr_owners.specs.Seats.{AreSeated, IsHomeFor, book_in, desks_in, homes_in, store_in};
 
@@ -184,7 +186,7 @@ impl Seats {
     pub fn look(&mut self) -> Sight
         ensures right { IsSightOf (store_in self.old) result.words }
         ensures seen { store_in self.new ≡ record (store_in self.old) { sight = result.words } }
-        ensures same { self.new ≡ record self.old { spare = self.new.spare } }
+        ensures same { self.new ≡ record self.old { spare = with_view self.old.spare (looked self.old.spare.view result.words) } }
     {
         let board: &Board = &self.board;
         board.look(&mut self.spare)
