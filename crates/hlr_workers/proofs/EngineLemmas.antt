@@ -1,0 +1,546 @@
+-- The moves of an engine: where it stands after each.
+use Rattle.std.proofs.Common.{◌≡◌, ◌∙◌, refl, sym, ap, subst, ℕ, zero, suc, ◌+◌, ◌<◌, ◌≤◌, List, [], ◌∷◌, ◌++◌, length, get_or, set, map, arith, true, false, Bool, Some, None, inl, inr}
+use Rattle.std.specs.Prelude.{Option, Result, Ok, Err, slice_get, slice_set, if◌then◌else◌, ◌-◌, ◌⊎◌}
+use Rattle.std.specs.List.{AllByRecursion, AllZip}
+use Rattle.std.proofs.lemmas.List.{get_or_default, get_or_past, length-append, length-map, length-set, set-get_or, set-set}
+use Rattle.std.proofs.lemmas.Bool.{cases_lt}
+use Rattle.std.proofs.lemmas.Option.{none-some, same_Some, slice_get_within, slice_get-get_or, slice_get_read, get_or_from_slice_get}
+use Rattle.std.proofs.lemmas.Bool.Decides.{nat_tests}
+use Rattle.tatp_rows.proofs.OrderedLemmas.{by_test}
+use Rattle.tatp_rows.specs.Rows.{between, is_between}
+use Rattle.tatp_rows.specs.declared.ranges.TheConstants.{LAST_SUBSCRIBER}
+use Rattle.tatp_rows.specs.declared.refusal.Refusal.{Refusal}
+use Rattle.holding.specs.Held.{HoldingState}
+use Rattle.holding.specs.declared.job.Job.{Job}
+use Rattle.view_board.specs.Desks.{Station, with_view}
+use Rattle.view_board.specs.Views.{looked}
+use Rattle.hlr_owners.specs.Lodged.{Lodged}
+use Rattle.hlr_owners.specs.Out.{out_of, outs_in, with_out, with_outs}
+use Rattle.part_table.specs.Recut.{recut_answer}
+use Rattle.part_table.specs.Region.{lies_in}
+use Rattle.part_table.specs.Regions.{IsConsecutive, place_of}
+use Rattle.part_table.specs.declared.moves.CutMove.{CutMove}
+use Rattle.part_table.specs.declared.region.Region.{Region}
+use Rattle.part_table.specs.declared.region.TheConstants.{END, MOST_PARTS}
+use Rattle.hlr_owners.specs.Recut.{IsHomeToCut, IsHomeToMove, IsRecut}
+use Rattle.hlr_owners.specs.Seats.{AllHome, AreSeated, IsLent, IsHomeFor, IsPartHome, Seating, desks_in, holdings_seated, homes_in, of_parts, store_in}
+use Rattle.hlr_owners.specs.Store.{Store}
+use Rattle.hlr_owners.specs.declared.lodging.Seat.{Seat}
+use Rattle.hlr_owners.specs.declared.lodging.Seat.TheVariants.{Part, Piece}
+use Rattle.hlr_owners.proofs.OutLemmas.{own_outs}
+use Rattle.hlr_owners.proofs.OwnerLemmas.{lies_within}
+use Rattle.hlr_owners.proofs.PartLemmas.{ahead, count_parts, set_number}
+use Rattle.hlr_owners.proofs.SightLemmas.{words_looked}
+use Rattle.hlr_core.specs.Beside.{IsRecutBeside, IsStepBeside, beside}
+use Rattle.hlr_core.specs.Home.{IsSameHouse}
+use Rattle.hlr_core.specs.Later.{AreLater, IsBackWith, IsLater, with_seats}
+use Rattle.hlr_core.specs.Run.{IsRun}
+use Rattle.hlr_core.specs.Route.{IsRightNow, IsRightSent}
+use Rattle.hlr_core.specs.Session.{IsJobDone, IsJobOf}
+use Rattle.hlr_core.specs.Step.{IsStep}
+use Rattle.hlr_core.specs.declared.event.Event.{Event}
+use Rattle.hlr_core.specs.declared.event.Reply.{Reply}
+use Rattle.hlr_core.proofs.LaterLemmas.{all_later_after, all_later_self, all_seated_later, put_later}
+use Rattle.hlr_workers.specs.Inside.{AllNumberless, AreIdle, Crewed, InOrder, IsHomeAgain, IsKept, IsOut, IsSentTo, NoneOut, engaged, land}
+use Rattle.hlr_workers.specs.Session.{AreNumberless, IsNumberless, IsSession}
+use Rattle.hlr_workers.specs.Standing.{AreEnds, Asked, Cut, Engaged, IsAsBefore, IsSettled, Stands, Took, TookNext, answers_by, answers_with, orders_of, store_at}
+use Rattle.hlr_workers.proofs.CrewLemmas.{as_homes, home_is, lent_outs, none_each, numberless_of, out_is, out_part}
+use Rattle.hlr_workers.proofs.HouseLemmas.{IsPartAt, ends_later, out_done, out_ends, out_seats, part_at, part_with_number, seat_store}
+use Rattle.hlr_workers.proofs.SessionLemmas.{numberless_more}
+use Rattle.hlr_workers.proofs.StandingLemmas.{CameHome, came_home, ends_long, get_there, land-length, leads_back, leads_cut, leads_lent, leads_new, leads_sent, leads_settled, leads_told, order_new, order_sent, order_told, set_again}
+use Rattle.hlr_workers.proofs.UnseenLemmas.{recut_unseen, seen_as, step_unseen}
+
+-- jobs of all parts that give no number, with those of one part changed
+numberless_set : (jobs : List (List (ℕ × Job))) (p : ℕ) (own : List (ℕ × Job)) → AllNumberless jobs → AreNumberless own → AllNumberless (set jobs p own)
+numberless_set [] p own none one = tt
+numberless_set (js ∷ jobs) zero own none one = (one, none.1)
+numberless_set (js ∷ jobs) (suc p) own none one = (none.0, numberless_set jobs p own none.1 one)
+
+numberless_at : (jobs : List (List (ℕ × Job))) (p : ℕ) → AllNumberless jobs → AreNumberless (get_or jobs p [])
+numberless_at [] p none = tt
+numberless_at (js ∷ jobs) zero none = none.0
+numberless_at (js ∷ jobs) (suc p) none = numberless_at jobs p none.1
+
+-- a part that isn't out is at home
+at_home : (l : Lodged) → out_of l ≡ None → l.home ≡ true
+at_home l none = by_test l.home (λ e. e) (λ e. absurd (none-some l.holding (sym none ∙ ap (λ (b : Bool). if b then None else Some l.holding) e)))
+
+-- a part in the place of another
+module _ (h : Seating) (are : AreSeated h) (p i : ℕ) (l : Lodged) (at : IsPartAt h p i l) where
+  -- a part at home and one that is out, with the same holding, make the same store
+  flag_store : (a : Store) (ends : List HoldingState) (m n : Lodged) (y : HoldingState) → slice_get ends p ≡ Some y → (with_out m y).holding ≡ (with_out n y).holding
+      → store_at a (record h { seats = set h.seats i (Part m) }) ends ≡ store_at a (record h { seats = set h.seats i (Part n) }) ends
+  flag_store a ends m n y end same =
+      let end_at : slice_get ends (ahead h.seats i) ≡ Some y = rw at.number end in
+      let one : store_in (with_seats h (with_outs (set h.seats i (Part m)) ends)) ≡ store_in (with_seats h (with_outs (set h.seats i (Part n)) ends)) =
+      rw (out_seats h.seats ends i l m y at.seat at.there end_at, out_seats h.seats ends i l n y at.seat at.there end_at)
+      (seat_store h (with_outs h.seats ends) i (with_out m y) (with_out n y) same) in
+      ap (seen_as a.sight) one
+
+  set_own : set h.seats i (Part l) ≡ h.seats
+  set_own = ap (set h.seats i) at.seat ∙ set-get_or h.seats i (Part l)
+
+-- an event was answered at once, and changed nothing
+module _ (crew : Crewed) (replies : List (ℕ × Reply)) (kept : IsKept crew replies) where
+  pub now_took : (event : Event) (r : Reply) → IsRightNow event crew.house r → TookNext (Took event) (engaged crew replies) (engaged crew (replies ++ (length replies, r) ∷ []))
+  now_took event r right = λ start asked stands.
+      leads_told (outs_in crew.house.seats) crew.jobs replies kept.order (store_at start crew.house) (store_at start crew.house) start asked event r
+      (λ reply ends are.
+      let later = ends_later reply crew.house.seats crew.jobs ends kept.none are in
+      step_unseen start.sight event (store_in (beside crew.house ends)) r (store_in (beside crew.house ends)) (right (with_outs crew.house.seats ends) later)) stands
+
+  pub now_kept : (r : Reply) → IsKept crew (replies ++ (length replies, r) ∷ [])
+  now_kept r = record { paired = kept.paired; none = kept.none; order = order_told (outs_in crew.house.seats) crew.jobs replies kept.order r }
+
+  -- the register itself did an event, or moved bounds
+  module _ (after : Crewed) (house : IsSameHouse crew.house after.house) (jobs : after.jobs ≡ crew.jobs) where
+    pub here_took : (event : Event) (r : Reply) → IsStepBeside event crew.house r after.house → TookNext (Took event) (engaged crew replies) (engaged after (replies ++ (length replies, r) ∷ []))
+    here_took event r right = λ start asked stands.
+        rw (jobs, house.outs)
+        (leads_told (outs_in crew.house.seats) crew.jobs replies kept.order (store_at start crew.house) (store_at start after.house) start asked event r
+        (λ reply ends are.
+        let later = ends_later reply crew.house.seats crew.jobs ends kept.none are in
+        step_unseen start.sight event (store_in (beside crew.house ends)) r (store_in (beside after.house ends)) (right ends later)) stands)
+
+    pub cut_took : (bounds : List ℕ) (done : Result ℕ Refusal) → IsRecutBeside bounds crew.house done after.house → TookNext (Cut bounds done) (engaged crew replies) (engaged after replies)
+    cut_took bounds done right = λ start asked stands.
+        rw (jobs, house.outs)
+        (leads_cut (outs_in crew.house.seats) crew.jobs replies kept.order (store_at start crew.house) (store_at start after.house) start asked bounds done
+        (λ reply ends are.
+        let later = ends_later reply crew.house.seats crew.jobs ends kept.none are in
+        recut_unseen start.sight bounds (store_in (beside crew.house ends)) done (store_in (beside after.house ends)) (right ends later)) stands)
+
+    pub house_kept : IsKept after replies
+    house_kept = record {
+      paired = rw (jobs, house.outs) kept.paired;
+      none = rw jobs kept.none;
+      order = rw jobs kept.order;
+    }
+
+-- seats that differ in whether a part is at home
+out_later : (p : ℕ) (crew mid : Crewed) → IsOut p crew mid → AreLater crew.house.seats mid.house.seats × (mid.house ≡ with_seats crew.house mid.house.seats)
+out_later p crew mid out = elim out.1 [
+  | inl same ↦ (rw same (all_later_self crew.house.seats), rw same refl)
+  | inr goes ↦
+      let away = goes.1.away in
+      let one = put_later crew.house.seats goes.1.index (Part (record { holding = goes.0; home = true })) (Part (record { holding = goes.0; home = false })) goes.1.seat (away_later goes.0) in
+      (rw away one, away ∙ ap (λ (seats : List Seat). with_seats crew.house seats) (sym (ap (λ (g : Seating). g.seats) away)))
+]
+  where
+    away_later : (k : HoldingState) → IsLater (Part (record { holding = k; home = true })) (Part (record { holding = k; home = false }))
+    away_later k = record { seat = (record { lo = refl; hi = refl; width = refl; board = refl; owned = refl }, λ lawful. lawful, λ wide. wide); numbers = refl }
+
+module _ (crew : Crewed) (replies : List (ℕ × Reply)) (kept : IsKept crew replies) (are : AreSeated crew.house) (p : ℕ) where
+  -- a part went out
+  lent_stands : (k : HoldingState) (g : Seating) → IsLent p crew.house k g → get_or crew.jobs p [] ≡ [] → IsAsBefore (engaged crew replies) (engaged (record { house = g; jobs = crew.jobs }) replies)
+  lent_stands k g lent none = λ start asked stands.
+      let outs = lent_outs crew.house are p k g lent in
+      let found = part_at crew.house are p lent.index lent.region in
+      let l = found.0 in
+      let at = found.1 in
+      let same : l ≡ record { holding = k; home = true } =
+      (let one : ◌≡◌ {A = Option Seat} (Some (Part l)) (Some (Part (record { holding = k; home = true }))) =
+      sym (slice_get_read crew.house.seats (length crew.house.seats) lent.index (Part l) refl at.there at.seat) ∙ lent.seat in
+      cc) in
+      let low = slice_get_within (outs_in crew.house.seats) p None outs.0 in
+      let paired = kept.paired in
+      let jobs_at : slice_get crew.jobs p ≡ Some [] = slice_get-get_or crew.jobs p [] (omega arith) ∙ ap (λ (own : List (ℕ × Job)). Some own) none in
+      rw outs.1
+      (leads_lent (outs_in crew.house.seats) crew.jobs replies kept.order (store_at start crew.house) (store_at start g) start asked p k outs.0 jobs_at
+      (λ ends end.
+      rw lent.away
+      (flag_store crew.house are p lent.index l at start ends (record { holding = k; home = false }) l k end (rw same refl)
+      ∙ ap (λ (seats : List Seat). store_at start (record crew.house { seats = seats }) ends) (set_own crew.house are p lent.index l at))) stands)
+
+  out_as : (mid : Crewed) → IsOut p crew mid → IsAsBefore (engaged crew replies) (engaged mid replies)
+  out_as mid out = elim out.1 [
+    | inl same ↦ λ start asked stands. rw (same, out.0) stands
+    | inr goes ↦ λ start asked stands. rw out.0 (lent_stands goes.0 mid.house goes.1 goes.2 start asked stands)
+  ]
+
+  out_kept : (mid : Crewed) → IsOut p crew mid → IsKept mid replies
+  out_kept mid out = record {
+    paired = (elim out.1 [
+      | inl same ↦ rw (same, out.0) kept.paired
+      | inr goes ↦ let outs = lent_outs crew.house are p goes.0 mid.house goes.1 in rw (out.0, outs.1, length-set (outs_in crew.house.seats) p (Some goes.0)) kept.paired
+    ]);
+    none = rw out.0 kept.none;
+    order = rw out.0 kept.order;
+  }
+
+  -- a job was sent to a part that is out, and its place is blank
+  module _ (mid : Crewed) (out : IsOut p crew mid) (event : Event) (job : Job) (of : IsJobOf crew.house.regions p job) (right : IsRightSent event crew.house p job) (blank : Reply) where
+    abbrev after : Crewed
+    after = record mid { jobs = set mid.jobs p (get_or mid.jobs p [] ++ (length replies, job) ∷ []) }
+
+    low : p < length mid.jobs
+    low =
+        let paired = (out_kept mid out).paired in
+        let within = slice_get_within (outs_in mid.house.seats) p (Some out.2.0) out.2.1 in
+        omega arith
+
+    sent_law : (start : Store) (reply : ℕ → Reply) (ends : List HoldingState) (m y : HoldingState) → AreEnds reply (outs_in mid.house.seats) mid.jobs ends → slice_get ends p ≡ Some m
+        → IsJobDone job m (reply (length replies)) y → IsStep event (store_at start mid.house ends) (reply (length replies)) (store_at start mid.house (set ends p y))
+    sent_law start reply ends m y ends_are end done =
+        let later = out_later p crew mid out in
+        let seated : AreSeated mid.house = rw later.1 (all_seated_later crew.house mid.house.seats are later.0) in
+        let found = out_part mid.house seated p out.2.0 out.2.1 in
+        let seats = with_outs mid.house.seats ends in
+        let next = with_outs mid.house.seats (set ends p y) in
+        let ends_after : AreLater mid.house.seats seats = ends_later reply mid.house.seats mid.jobs ends (out_kept mid out).none ends_are in
+        let from_first : AreLater crew.house.seats seats = all_later_after crew.house.seats mid.house.seats seats later.0 ends_after in
+        let at = out_done mid.house p found.0 (record { holding = out.2.0; home = false }) found.1 refl ends m y end job (reply (length replies)) done in
+        let regions : mid.house.regions ≡ crew.house.regions = ap (λ (g : Seating). g.regions) later.1 in
+        let step = right seats next (reply (length replies)) from_first (rw regions at at) in
+        let now = subst (λ (g : Seating). IsStep event (store_in (with_seats g seats)) (reply (length replies)) (store_in (with_seats g next))) (sym later.1) step in
+        step_unseen start.sight event (store_in (with_seats mid.house seats)) (reply (length replies)) (store_in (with_seats mid.house next)) now
+
+    pub sent_took : TookNext (Took event) (engaged crew replies) (engaged after (replies ++ (length replies, blank) ∷ []))
+    sent_took = λ start asked stands.
+        let order = (out_kept mid out).order in
+        leads_sent (outs_in mid.house.seats) mid.jobs replies order (store_at start mid.house) start asked p out.2.0 job blank event out.2.1 low (sent_law start) (out_as mid out start asked stands)
+
+    pub sent_kept : IsKept after (replies ++ (length replies, blank) ∷ [])
+    sent_kept =
+        let was = out_kept mid out in
+        record {
+          paired = length-set mid.jobs p (get_or mid.jobs p [] ++ (length replies, job) ∷ []) ∙ was.paired;
+          none = numberless_set mid.jobs p (get_or mid.jobs p [] ++ (length replies, job) ∷ []) was.none
+              (numberless_more (get_or mid.jobs p []) (length replies, job) (numberless_at mid.jobs p was.none) (numberless_of crew.house.regions p job of));
+          order = order_sent (outs_in mid.house.seats) mid.jobs replies was.order p job blank low;
+        }
+
+  -- a part came home with its holding and its replies
+  module _ (answers : List (ℕ × Reply)) (after : Crewed) (again : IsHomeAgain p crew (Some answers) after) where
+    abbrev x : HoldingState
+    x = again.0
+
+    abbrev y : HoldingState
+    y = again.1
+
+    out_low : p < length (outs_in crew.house.seats)
+    out_low = slice_get_within (outs_in crew.house.seats) p (Some x) again.3
+
+    own : slice_get crew.jobs p ≡ Some (get_or crew.jobs p [])
+    own = let paired = kept.paired in let low = out_low in slice_get-get_or crew.jobs p [] (omega arith)
+
+    -- where it sits
+    seat : IsPartAt crew.house p again.2 (record { holding = x; home = false })
+    seat =
+        let found = out_part crew.house are p x again.3 in
+        let same : found.0 ≡ again.2 = same_Some found.0 again.2 (sym found.1.region ∙ again.5) in
+        subst (λ (i : ℕ). IsPartAt crew.house p i (record { holding = x; home = false })) same found.1
+
+    pub home_outs : outs_in after.house.seats ≡ set (outs_in crew.house.seats) p None
+    home_outs =
+        let house : after.house ≡ record crew.house { seats = set crew.house.seats again.2 (Part (record { holding = y; home = true })) } = ap (λ (c : Crewed). c.house) again.6 in
+        rw house (set_number crew.house are p again.2 again.5 out_of (record { holding = x; home = false }) seat.seat (record { holding = y; home = true }))
+
+    home_law : (start : Store) (ends : List HoldingState) → length ends ≡ length (set (outs_in crew.house.seats) p (Some y)) → store_at start after.house ends ≡ store_at start crew.house (set ends p y)
+    home_law start ends long =
+        let house : after.house ≡ record crew.house { seats = set crew.house.seats again.2 (Part (record { holding = y; home = true })) } = ap (λ (c : Crewed). c.house) again.6 in
+        let low = out_low in
+        let same = length-set (outs_in crew.house.seats) p (Some y) in
+        let z : HoldingState = get_or ends p y in
+        let end : slice_get ends (ahead crew.house.seats again.2) ≡ Some z = rw (seat.number) (slice_get-get_or ends p y (omega arith)) in
+        let one = out_seats crew.house.seats ends again.2 (record { holding = x; home = false }) (record { holding = y; home = true }) z seat.seat seat.there end in
+        let two = rw seat.number at (out_ends crew.house.seats ends again.2 (record { holding = x; home = false }) y z seat.seat seat.there end) in
+        let same_store : store_in (with_seats crew.house (with_outs (set crew.house.seats again.2 (Part (record { holding = y; home = true }))) ends)) ≡ store_in (with_seats crew.house (with_outs crew.house.seats (set ends p y))) =
+        rw (one, two) (seat_store crew.house (with_outs crew.house.seats ends) again.2 (with_out (record { holding = y; home = true }) z) (with_out (record { holding = x; home = false }) y) refl) in
+        ap (λ (g : Seating). store_at start g ends) house ∙ ap (seen_as start.sight) same_store
+
+    came : CameHome (outs_in crew.house.seats) crew.jobs replies p answers y
+    came = came_home (outs_in crew.house.seats) crew.jobs replies p (get_or crew.jobs p []) answers x y kept.order again.3 own again.4
+
+    pub home_stands : IsAsBefore (engaged crew replies) (engaged after (land replies answers))
+    home_stands = λ start asked stands.
+        let low = out_low in
+        let paired = kept.paired in
+        let out_y = get_there (outs_in crew.house.seats) p (Some y) low in
+        let none = get_there crew.jobs p [] (omega arith) in
+        let led = leads_back (set (outs_in crew.house.seats) p (Some y)) (set crew.jobs p []) (land replies answers) came.0 (store_at start crew.house) (store_at start after.house) start asked p y out_y none
+        (home_law start) (came.1 (store_at start crew.house) start asked stands) in
+        let jobs : after.jobs ≡ set crew.jobs p [] = ap (λ (c : Crewed). c.jobs) again.6 in
+        rw (jobs, home_outs, sym (set-set (outs_in crew.house.seats) p (Some y) None)) led
+
+    pub home_kept : IsKept after (land replies answers)
+    home_kept =
+        let jobs : after.jobs ≡ set crew.jobs p [] = ap (λ (c : Crewed). c.jobs) again.6 in
+        record {
+          paired = rw (jobs, home_outs, length-set crew.jobs p [], length-set (outs_in crew.house.seats) p None) kept.paired;
+          none = rw jobs (numberless_set crew.jobs p [] kept.none tt);
+          order = rw jobs came.0;
+        }
+
+-- the words were looked at
+pub looked_stands : (crew : Crewed) (replies : List (ℕ × Reply)) (words : List ℕ)
+    → IsAsBefore (engaged crew replies) (engaged (record crew { house = record crew.house { spare = with_view crew.house.spare (looked crew.house.spare.view words) } }) replies)
+looked_stands crew replies words = λ start asked stands. (
+  stands.0,
+  λ reply ends kept are.
+      subst (λ (s : Store). IsRun (orders_of asked) start (answers_by reply 0 asked) s) (sym (same start ends)) (stands.1 reply ends kept are),
+)
+  where
+    now : Seating
+    now = record crew.house { spare = with_view crew.house.spare (looked crew.house.spare.view words) }
+
+    same : (start : Store) (ends : List HoldingState) → store_at start now ends ≡ store_at start crew.house ends
+    same start ends = ap (λ (all : List ℕ). record (store_at start crew.house ends) { words = all }) (words_looked crew.house.spare (desks_in (with_outs crew.house.seats ends)) words)
+
+-- of each part one thing
+parts_long : {X Y : Type 0} (f : Lodged → X) (g : Lodged → Y) (seats : List Seat) → length (of_parts f seats) ≡ length (of_parts g seats)
+parts_long f g [] = refl
+parts_long f g (Part l ∷ seats) = ap suc (parts_long f g seats)
+parts_long f g (Piece b ∷ seats) = parts_long f g seats
+
+-- nobody is out
+with_none : (seats : List Seat) (ends : List HoldingState) → AllByRecursion (λ (out : Option HoldingState). out ≡ None) (outs_in seats) → with_outs seats ends ≡ seats
+with_none [] ends none = refl
+with_none (Piece b ∷ seats) ends none = ap (λ (rest : List Seat). Piece b ∷ rest) (with_none seats ends none)
+with_none (Part l ∷ seats) [] none = ap (λ (rest : List Seat). Part l ∷ rest) (with_none seats [] none.1)
+with_none (Part l ∷ seats) (k ∷ ends) none =
+    let home = at_home l none.0 in
+    let same : with_out l k ≡ l = ap (λ (b : Bool). record l { holding = if b then l.holding else k }) home in
+    rw (same, with_none seats ends none.1) refl
+
+pub all_home : (seats : List Seat) → AllByRecursion (λ (out : Option HoldingState). out ≡ None) (outs_in seats) → AllHome seats
+all_home [] none = tt
+all_home (Piece b ∷ seats) none = all_home seats none
+all_home (Part l ∷ seats) none = (at_home l none.0, all_home seats none.1)
+
+module _ (crew : Crewed) (none : NoneOut crew) where
+  same_at : (start : Store) (ends : List HoldingState) → store_at start crew.house ends ≡ record (store_in crew.house) { sight = start.sight }
+  same_at start ends = ap (λ (seats : List Seat). seen_as start.sight (store_in (with_seats crew.house seats))) (with_none crew.house.seats ends none)
+
+  pub new_stands : Stands (engaged crew []) (store_in crew.house) []
+  new_stands = leads_new (store_at (store_in crew.house) crew.house) (outs_in crew.house.seats) crew.jobs (store_in crew.house) (λ ends. same_at (store_in crew.house) ends)
+
+  pub settled : (replies : List (ℕ × Reply)) (blank : Reply) → IsKept crew replies → IsSettled (engaged crew replies) replies crew.house
+  settled replies blank kept = λ start asked stands.
+      let ends : List HoldingState = holdings_seated crew.house.seats in
+      let long : length ends ≡ length (outs_in crew.house.seats) = parts_long (λ (o : Lodged). o.holding) out_of crew.house.seats in
+      subst (λ (s : Store). IsRun (orders_of asked) start (answers_with replies asked) s) (same_at start ends)
+      (leads_settled (store_at start crew.house) (outs_in crew.house.seats) crew.jobs replies start asked ends blank none kept.paired long stands)
+
+-- a part that isn't out is at home, if there is such a part
+pub part_home : (seats : List Seat) (p : ℕ) → get_or (outs_in seats) p None ≡ None → get_or (homes_in seats) p true ≡ true
+part_home [] p none = refl
+part_home (Piece b ∷ seats) p none = part_home seats p none
+part_home (Part l ∷ seats) zero none = at_home l none
+part_home (Part l ∷ seats) (suc p) none = part_home seats p none
+
+-- what came home, or was at home
+pub still_none : (outs : List (Option HoldingState)) (p : ℕ) → get_or outs p None ≡ None → set outs p None ≡ outs
+still_none outs p none = ap (λ (o : Option HoldingState). set outs p o) (sym none) ∙ set-get_or outs p None
+
+pub none_set : (outs : List (Option HoldingState)) (p q : ℕ) → get_or outs q None ≡ None → get_or (set outs p None) q None ≡ None
+none_set [] p q none = none
+none_set (o ∷ outs) zero zero none = refl
+none_set (o ∷ outs) zero (suc q) none = none
+none_set (o ∷ outs) (suc p) zero none = none
+none_set (o ∷ outs) (suc p) (suc q) none = none_set outs p q none
+
+pub none_put : (outs : List (Option HoldingState)) (p : ℕ) → get_or (set outs p None) p None ≡ None
+none_put [] p = refl
+none_put (o ∷ outs) zero = refl
+none_put (o ∷ outs) (suc p) = none_put outs p
+
+pub none_still : (outs : List (Option HoldingState)) (p : ℕ) → AllByRecursion (λ (out : Option HoldingState). out ≡ None) outs → AllByRecursion (λ (out : Option HoldingState). out ≡ None) (set outs p None)
+none_still [] p none = tt
+none_still (o ∷ outs) zero none = (refl, none.1)
+none_still (o ∷ outs) (suc p) none = (none.0, none_still outs p none.1)
+
+pub all_none : (outs : List (Option HoldingState)) → ((q : ℕ) → q < length outs → get_or outs q None ≡ None) → AllByRecursion (λ (out : Option HoldingState). out ≡ None) outs
+all_none [] each = tt
+all_none (o ∷ outs) each = (each 0 (omega arith), all_none outs (λ q low. each (suc q) (omega arith)))
+
+-- a part is brought home, if it is out
+pub record IsBrought (crew : Crewed) (replies : List (ℕ × Reply)) (p : ℕ) (after : Crewed) (landed : List (ℕ × Reply)) : Type 0 where
+  pub kept : IsKept after landed
+  pub stands : IsAsBefore (engaged crew replies) (engaged after landed)
+  pub home : outs_in after.house.seats ≡ set (outs_in crew.house.seats) p None
+  pub places : length landed ≡ length replies
+  pub house : after.house ≡ record crew.house { seats = after.house.seats }
+
+pub brought_none : (crew : Crewed) (replies : List (ℕ × Reply)) (kept : IsKept crew replies) (p : ℕ) (after : Crewed) → IsHomeAgain p crew None after → IsBrought crew replies p after replies
+brought_none crew replies kept p after again = rw (again.0) (record {
+  kept = kept;
+  stands = λ start asked stands. stands;
+  home = sym (still_none (outs_in crew.house.seats) p again.1);
+  places = refl;
+  house = refl;
+})
+
+pub brought_some : (crew : Crewed) (replies : List (ℕ × Reply)) (kept : IsKept crew replies) (are : AreSeated crew.house) (p : ℕ) (answers : List (ℕ × Reply)) (after : Crewed)
+    → IsHomeAgain p crew (Some answers) after → IsBrought crew replies p after (land replies answers)
+brought_some crew replies kept are p answers after again = record {
+  kept = home_kept crew replies kept are p answers after again;
+  stands = home_stands crew replies kept are p answers after again;
+  home = home_outs crew replies kept are p answers after again;
+  places = land-length replies answers;
+  house = (let is = ap (λ (c : Crewed). c.house) again.6 in is ∙ ap (λ (seats : List Seat). record crew.house { seats = seats }) (sym (ap (λ (g : Seating). g.seats) is)));
+}
+
+-- the parts on both sides of a bound aren't out
+abbrev pub AreSidesHome : List (Option HoldingState) → CutMove → Type 0
+AreSidesHome outs move = (get_or outs (move.bound - 1) None ≡ None) × (get_or outs move.bound None ≡ None)
+
+-- two more parts came home
+pub sides_set : (outs : List (Option HoldingState)) (move : CutMove) (p q : ℕ) → AreSidesHome outs move → AreSidesHome (set (set outs p None) q None) move
+sides_set outs move p q home =
+    (none_set (set outs p None) q (move.bound - 1) (none_set outs p (move.bound - 1) home.0), none_set (set outs p None) q move.bound (none_set outs p move.bound home.1))
+
+pub sides_put : (outs : List (Option HoldingState)) (move : CutMove) → AreSidesHome (set (set outs (move.bound - 1) None) move.bound None) move
+sides_put outs move =
+    (none_set (set outs (move.bound - 1) None) move.bound (move.bound - 1) (none_put outs (move.bound - 1)), none_put (set outs (move.bound - 1) None) move.bound)
+
+-- so a re-cut finds the parts at home on which it works
+sides_each : (h : Seating) (moves : List CutMove) → ((i : ℕ) (d : CutMove) → i < length moves → AreSidesHome (outs_in h.seats) (get_or moves i d)) → AllByRecursion (IsHomeToMove h) moves
+sides_each h [] each = tt
+sides_each h (move ∷ moves) each =
+    let one = each 0 move (omega arith) in
+    ((part_home h.seats (move.bound - 1) one.0, part_home h.seats move.bound one.1), sides_each h moves (λ i d low. each (suc i) d (omega arith)))
+
+pub sides_cut : (bounds : List ℕ) (h : Seating) (moves : List CutMove) → recut_answer h.regions bounds ≡ Ok moves
+    → ((i : ℕ) (d : CutMove) → i < length moves → AreSidesHome (outs_in h.seats) (get_or moves i d)) → IsHomeToCut bounds h
+sides_cut bounds h moves answer each = rw answer (sides_each h moves each)
+
+pub refused_cut : (bounds : List ℕ) (h : Seating) (why : Refusal) → recut_answer h.regions bounds ≡ Err why → IsHomeToCut bounds h
+refused_cut bounds h why answer = rw answer tt
+
+-- a part with a number behind all is nobody's
+pub past_home : (h : Seating) (are : AreSeated h) (p : ℕ) → MOST_PARTS ≤ p → IsPartHome p h
+past_home h are p past =
+    let count = count_parts (λ (o : Lodged). o.home) h.width h.regions h.seats are.each in
+    let few = are.are.few_parts in
+    get_or_past (homes_in h.seats) p true (omega arith)
+
+-- a number out of range lies in no region
+nowhere : (from s_id : ℕ) (regions : List Region) → IsConsecutive from regions → (s_id < from) ⊎ (END ≤ s_id) → place_of s_id regions ≡ None
+nowhere from s_id [] consecutive out = refl
+nowhere from s_id (r ∷ regions) consecutive out =
+    let rest : place_of s_id regions ≡ None = nowhere r.hi s_id regions consecutive.2 (elim out [
+      | inl below ↦ inl (let lo = consecutive.0 in let some = consecutive.1 in omega arith)
+      | inr above ↦ inr above
+    ]) in
+    by_test (lies_in s_id r)
+    (λ e.
+    let within = lies_within s_id r e in
+    let end = consecutive_end r.hi regions consecutive.2 in
+    absurd (elim out [
+      | inl below ↦ (let lo = consecutive.0 in let from_lo = within.0 in omega arith)
+      | inr above ↦ (let under = within.1 in omega arith)
+    ]))
+    (λ e. rw e rest)
+  where
+    consecutive_end : (from : ℕ) (regions : List Region) → IsConsecutive from regions → from ≤ END
+    consecutive_end from [] is = let e : from ≡ END = is in omega arith
+    consecutive_end from (r ∷ regions) is = let lo = is.0 in let some = is.1 in let rest = consecutive_end r.hi regions is.2 in omega arith
+
+pub nobody_home : (h : Seating) (are : AreSeated h) (s_id : ℕ) → is_between 1 LAST_SUBSCRIBER s_id ≡ false → IsHomeFor s_id h
+nobody_home h are s_id out = rw (nowhere 1 s_id h.regions are.are.consecutive sides) tt
+  where
+    sides : (s_id < 1) ⊎ (END ≤ s_id)
+    sides = elim (cases_lt s_id 1) [
+      | inl below ↦ inl below
+      | inr from ↦ elim (cases_lt s_id END) [
+        | inl to ↦ absurd (let is : is_between 1 LAST_SUBSCRIBER s_id ≡ true = grind (arith, nat_tests, from, to) in cc)
+        | inr above ↦ inr above
+      ]
+    ]
+
+-- one after another
+pub house_more : (a b d : Seating) → b ≡ record a { seats = b.seats } → d ≡ record b { seats = d.seats } → d ≡ record a { seats = d.seats }
+house_more a b d one two = two ∙ ap (λ (h : Seating). record h { seats = d.seats }) one
+
+pub none_next : (outs : List (Option HoldingState)) (p : ℕ) → ((q : ℕ) → q < p → get_or outs q None ≡ None) → (q : ℕ) → q < p + 1 → get_or (set outs p None) q None ≡ None
+none_next outs p each q low = elim (cases_lt q p) [
+  | inl below ↦ none_set outs p q (each q below)
+  | inr from ↦ let same : q ≡ p = omega arith in rw same (none_put outs p)
+]
+
+pub sides_next : (outs : List (Option HoldingState)) (moves : List CutMove) (k : ℕ) (move : CutMove) → k < length moves → move ≡ get_or moves k move
+    → ((i : ℕ) (d : CutMove) → i < k → AreSidesHome outs (get_or moves i d))
+    → (i : ℕ) (d : CutMove) → i < k + 1 → AreSidesHome (set (set outs (move.bound - 1) None) move.bound None) (get_or moves i d)
+sides_next outs moves k move there is each i d low = elim (cases_lt i k) [
+  | inl below ↦ sides_set outs (get_or moves i d) (move.bound - 1) move.bound (each i d below)
+  | inr from ↦
+      let same : i ≡ k = omega arith in
+      let one : get_or moves i d ≡ move = ap (λ (n : ℕ). get_or moves n d) same ∙ get_or_default moves k d move there ∙ sym is in
+      rw one (sides_put outs move)
+]
+
+-- the register itself did an event, after a part came home
+pub here_after : (crew : Crewed) (replies : List (ℕ × Reply)) (mid : Crewed) (landed : List (ℕ × Reply)) → IsKept mid landed → IsAsBefore (engaged crew replies) (engaged mid landed)
+    → length landed ≡ length replies → (after : Crewed) → IsSameHouse mid.house after.house → after.jobs ≡ mid.jobs → (event : Event) (r : Reply) → IsStepBeside event mid.house r after.house
+    → IsKept after (landed ++ (length replies, r) ∷ []) × TookNext (Took event) (engaged crew replies) (engaged after (landed ++ (length replies, r) ∷ []))
+here_after crew replies mid landed kept stands places now house jobs event r step =
+    subst (λ (n : ℕ). IsKept now (landed ++ (n, r) ∷ []) × TookNext (Took event) (engaged crew replies) (engaged now (landed ++ (n, r) ∷ []))) places (
+      house_kept mid (landed ++ (length landed, r) ∷ []) (now_kept mid landed kept r) now house jobs,
+      λ start asked stood. here_took mid landed kept now house jobs event r step start asked (stands start asked stood),
+    )
+
+pub not_between : (s_id : ℕ) (why : Refusal) → Err why ≡ between 1 LAST_SUBSCRIBER s_id → is_between 1 LAST_SUBSCRIBER s_id ≡ false
+not_between s_id why is =
+    by_test (is_between 1 LAST_SUBSCRIBER s_id) (λ e. let ok : Err why ≡ Ok s_id = rw e at is in absurd cc) (λ e. e)
+
+-- an engine with no job out
+pub all_idle : (crew : Crewed) → length crew.jobs ≡ length (outs_in crew.house.seats) → NoneOut crew → AreIdle crew → AllByRecursion (λ (own : List (ℕ × Job)). own ≡ []) crew.jobs
+all_idle crew paired none idle = each crew.jobs (λ p. idle p (nothing (outs_in crew.house.seats) p none))
+  where
+    nothing : (outs : List (Option HoldingState)) (p : ℕ) → AllByRecursion (λ (out : Option HoldingState). out ≡ None) outs → get_or outs p None ≡ None
+    nothing [] p none = refl
+    nothing (o ∷ outs) zero none = none.0
+    nothing (o ∷ outs) (suc p) none = nothing outs p none.1
+
+    each : (jobs : List (List (ℕ × Job))) → ((p : ℕ) → get_or jobs p [] ≡ []) → AllByRecursion (λ (own : List (ℕ × Job)). own ≡ []) jobs
+    each [] empty = tt
+    each (own ∷ jobs) empty = (empty 0, each jobs (λ p. empty (suc p)))
+
+none_numberless : (jobs : List (List (ℕ × Job))) → AllByRecursion (λ (own : List (ℕ × Job)). own ≡ []) jobs → AllNumberless jobs
+none_numberless [] none = tt
+none_numberless (own ∷ jobs) none = (let one : own ≡ [] = none.0 in rw one tt, none_numberless jobs none.1)
+
+pub new_kept : (crew : Crewed) → length crew.jobs ≡ length (outs_in crew.house.seats) → AllByRecursion (λ (own : List (ℕ × Job)). own ≡ []) crew.jobs → IsKept crew []
+new_kept crew paired none = record { paired = paired; none = none_numberless crew.jobs none; order = order_new crew.jobs none }
+
+-- room for a job more
+pub few_jobs : (crew : Crewed) (replies : List (ℕ × Reply)) → IsKept crew replies → (p : ℕ) → length (get_or crew.jobs p []) ≤ length replies
+few_jobs crew replies kept p = elim (cases_lt p (length crew.jobs)) [
+  | inl below ↦ kept.order.few p (get_or crew.jobs p []) (slice_get-get_or crew.jobs p [] below)
+  | inr past ↦ let none = ap length (get_or_past crew.jobs p [] past) in omega arith
+]
+
+-- a part that is there has a place for its jobs
+pub part_there : (crew : Crewed) (replies : List (ℕ × Reply)) → IsKept crew replies → AreSeated crew.house → (p : ℕ) → p < length (homes_in crew.house.seats) → p < length crew.jobs
+part_there crew replies kept are p low = let homes = as_homes crew.house are in let paired = kept.paired in omega arith
+
+-- a job was sent, and its place is blank
+pub sent_after : (crew : Crewed) (replies : List (ℕ × Reply)) (kept : IsKept crew replies) (are : AreSeated crew.house) (p : ℕ) (event : Event) (job : Job) → IsJobOf crew.house.regions p job → IsRightSent event crew.house p job
+    → (blank : Reply) (now : Crewed) → IsSentTo p (length replies, job) crew now
+    → IsKept now (replies ++ (length replies, blank) ∷ []) × TookNext (Took event) (engaged crew replies) (engaged now (replies ++ (length replies, blank) ∷ []))
+    × (now.house.spare ≡ crew.house.spare)
+sent_after crew replies kept are p event job of right blank now sent =
+    let later = out_later p crew sent.0 sent.1 in (
+      rw (sent.2) (sent_kept crew replies kept are p sent.0 sent.1 event job of right blank),
+      rw (sent.2) (sent_took crew replies kept are p sent.0 sent.1 event job of right blank),
+      ap (λ (c : Crewed). c.house.spare) sent.2 ∙ ap (λ (g : Seating). g.spare) later.1,
+    )
+
+-- no replies, where there were none
+pub no_more : (replies landed : List (ℕ × Reply)) → length landed ≡ length replies → landed ≡ [] → replies ≡ []
+no_more [] landed same none = refl
+no_more (r ∷ replies) [] same none = absurd (omega arith)
+no_more (r ∷ replies) (l ∷ landed) same none = absurd cc
+
+pub none_yet : (replies landed : List (ℕ × Reply)) → length landed ≡ length replies → replies ≡ [] → landed ≡ []
+none_yet replies landed same none = no_more landed replies (sym same) none
+
+-- bounds were moved, after the parts beside them came home
+pub cut_after : (crew : Crewed) (replies : List (ℕ × Reply)) (mid : Crewed) (landed : List (ℕ × Reply)) → IsKept mid landed → IsAsBefore (engaged crew replies) (engaged mid landed)
+    → (now : Crewed) → IsSameHouse mid.house now.house → now.jobs ≡ mid.jobs → (bounds : List ℕ) (done : Result ℕ Refusal) → IsRecutBeside bounds mid.house done now.house
+    → IsKept now landed × TookNext (Cut bounds done) (engaged crew replies) (engaged now landed)
+cut_after crew replies mid landed kept stands now house jobs bounds done right = (
+  house_kept mid landed kept now house jobs,
+  λ start asked stood. cut_took mid landed kept now house jobs bounds done right start asked (stands start asked stood),
+)

@@ -1,0 +1,182 @@
+-- A register with what the holdings that are out have become.
+use Rattle.std.proofs.Common.{◌≡◌, ◌∙◌, refl, sym, ap, subst, ℕ, zero, suc, ◌<◌, ◌≤◌, List, [], ◌∷◌, ◌++◌, length, get_or, set, map, arith, true, false, Bool, Some, None}
+use Rattle.std.specs.Prelude.{Option, Box, position, slice_get, if◌then◌else◌}
+use Rattle.std.specs.declared.alloc.Global.{Global}
+use Rattle.std.specs.List.{AllZip}
+use Rattle.std.proofs.lemmas.List.Quantifiers.{position-Some}
+use Rattle.std.proofs.lemmas.Option.{none-some, same_Some, get_or_from_slice_get, slice_get_read, slice_get-get_or}
+use Rattle.tatp_rows.proofs.OrderedLemmas.{by_test}
+use Rattle.tatp_actions.specs.Joined.{book_of}
+use Rattle.part_table.specs.Region.{is_part}
+use Rattle.part_table.proofs.IndexLemmas.{past_parts}
+use Rattle.part_table.proofs.PlaceLemmas.{blank}
+use Rattle.holding.specs.Held.{HoldingState, PieceState}
+use Rattle.holding.specs.declared.job.Job.{Job}
+use Rattle.holding.specs.declared.job.Job.TheVariants.{Act, Post}
+use Rattle.hlr_owners.specs.Desks.{words_of, slots_in}
+use Rattle.hlr_owners.specs.Held.{Owner}
+use Rattle.hlr_owners.specs.Lodged.{Lodged}
+use Rattle.hlr_owners.specs.Out.{out_of, outs_in, with_out, with_outs}
+use Rattle.hlr_owners.specs.Seats.{Seating, AreSeated, IsLaterSeat, desks_in, homes_in, of_parts, of_part, owner_of, owners_in, store_in}
+use Rattle.hlr_owners.specs.Store.{Store}
+use Rattle.hlr_owners.specs.declared.lodging.Seat.{Seat}
+use Rattle.hlr_owners.specs.declared.lodging.Seat.TheVariants.{Part, Piece}
+use Rattle.hlr_owners.proofs.HeldLemmas.{holding_keeps}
+use Rattle.hlr_owners.proofs.PartLemmas.{ahead, count_parts, number_at, part_sits, part_sits_there}
+use Rattle.hlr_owners.proofs.SeatLemmas.{owners-set}
+use Rattle.hlr_core.specs.Later.{AreLater, IsLater, with_seats}
+use Rattle.hlr_core.specs.Session.{IsDoneAt, IsJobDone}
+use Rattle.hlr_core.specs.declared.event.Reply.{Reply}
+use Rattle.hlr_core.proofs.LaterLemmas.{all_later_self, later_after}
+use Rattle.hlr_workers.specs.Inside.{AllNumberless}
+use Rattle.hlr_workers.specs.Session.{AreNumberless, IsNumberless}
+use Rattle.hlr_workers.specs.Standing.{AreEnds, IsSessionBy}
+use Rattle.hlr_workers.proofs.BackLemmas.{job_numbers}
+use Rattle.hlr_workers.proofs.SessionLemmas.{job_same}
+
+-- seats of the same owners and desks make the same store
+pub same_store : (h : Seating) (a b : List Seat) → owners_in a ≡ owners_in b → desks_in a ≡ desks_in b → store_in (with_seats h a) ≡ store_in (with_seats h b)
+same_store h a b owners desks = λ i. record {
+  book = book_of (map (λ (o : Owner). o.part) (owners i));
+  regions = h.regions;
+  words = words_of (h.spare ∷ desks i);
+  sight = h.spare.view.seen;
+  slots = map slots_in (desks i);
+  width = h.width;
+}
+
+-- so do seats that differ in whether a part is at home
+parts_same : {X : Type 0} (f : Lodged → X) (seats : List Seat) (i : ℕ) (m n : Lodged) → f m ≡ f n → of_parts f (set seats i (Part m)) ≡ of_parts f (set seats i (Part n))
+parts_same f [] i m n same = refl
+parts_same f (t ∷ seats) zero m n same = ap (λ x. (x ∷ []) ++ of_parts f seats) same
+parts_same f (t ∷ seats) (suc i) m n same = ap (λ rest. of_part f t ++ rest) (parts_same f seats i m n same)
+
+pub seat_store : (h : Seating) (seats : List Seat) (i : ℕ) (m n : Lodged) → m.holding ≡ n.holding
+    → store_in (with_seats h (set seats i (Part m))) ≡ store_in (with_seats h (set seats i (Part n)))
+seat_store h seats i m n same =
+    same_store h (set seats i (Part m)) (set seats i (Part n))
+    (owners-set seats i (Part m) ∙ ap (λ (k : HoldingState). set (owners_in seats) i (owner_of (Part (record { holding = k; home = true })))) same ∙ sym (owners-set seats i (Part n)))
+    (parts_same (λ (o : Lodged). o.holding.desk) seats i m n (ap (λ (k : HoldingState). k.desk) same))
+
+-- a part that is out has the holding of its number
+pub out_at : (seats : List Seat) (ends : List HoldingState) (i : ℕ) (l : Lodged) (y : HoldingState) → Part l ≡ get_or seats i (Part l) → i < length seats → slice_get ends (ahead seats i) ≡ Some y
+    → slice_get (with_outs seats ends) i ≡ Some (Part (with_out l y))
+out_at [] ends i l y is low end = absurd (omega arith)
+out_at (Piece b ∷ seats) ends zero l y is low end = absurd cc
+out_at (Piece b ∷ seats) ends (suc i) l y is low end = out_at seats ends i l y is (omega arith) end
+out_at (Part n ∷ seats) [] zero l y is low end = absurd (none-some y end)
+out_at (Part n ∷ seats) [] (suc i) l y is low end = absurd (none-some y end)
+out_at (Part n ∷ seats) (k ∷ ends) zero l y is low end =
+    let one : n ≡ l = cc in
+    let two : k ≡ y = same_Some k y end in
+    rw (one, two) refl
+out_at (Part n ∷ seats) (k ∷ ends) (suc i) l y is low end = out_at seats ends i l y is (omega arith) end
+
+-- another end of it
+pub out_ends : (seats : List Seat) (ends : List HoldingState) (i : ℕ) (l : Lodged) (y z : HoldingState) → Part l ≡ get_or seats i (Part l) → i < length seats → slice_get ends (ahead seats i) ≡ Some z
+    → with_outs seats (set ends (ahead seats i) y) ≡ set (with_outs seats ends) i (Part (with_out l y))
+out_ends [] ends i l y z is low end = absurd (omega arith)
+out_ends (Piece b ∷ seats) ends zero l y z is low end = absurd cc
+out_ends (Piece b ∷ seats) ends (suc i) l y z is low end = ap (λ (rest : List Seat). Piece b ∷ rest) (out_ends seats ends i l y z is (omega arith) end)
+out_ends (Part n ∷ seats) [] zero l y z is low end = absurd (none-some z end)
+out_ends (Part n ∷ seats) [] (suc i) l y z is low end = absurd (none-some z end)
+out_ends (Part n ∷ seats) (k ∷ ends) zero l y z is low end = let one : n ≡ l = cc in rw one refl
+out_ends (Part n ∷ seats) (k ∷ ends) (suc i) l y z is low end = ap (λ (rest : List Seat). Part (with_out n k) ∷ rest) (out_ends seats ends i l y z is (omega arith) end)
+
+-- another part in its place
+pub out_seats : (seats : List Seat) (ends : List HoldingState) (i : ℕ) (l m : Lodged) (y : HoldingState) → Part l ≡ get_or seats i (Part l) → i < length seats → slice_get ends (ahead seats i) ≡ Some y
+    → with_outs (set seats i (Part m)) ends ≡ set (with_outs seats ends) i (Part (with_out m y))
+out_seats [] ends i l m y is low end = absurd (omega arith)
+out_seats (Piece b ∷ seats) ends zero l m y is low end = absurd cc
+out_seats (Piece b ∷ seats) ends (suc i) l m y is low end = ap (λ (rest : List Seat). Piece b ∷ rest) (out_seats seats ends i l m y is (omega arith) end)
+out_seats (Part n ∷ seats) [] zero l m y is low end = absurd (none-some y end)
+out_seats (Part n ∷ seats) [] (suc i) l m y is low end = absurd (none-some y end)
+out_seats (Part n ∷ seats) (k ∷ ends) zero l m y is low end = let two : k ≡ y = same_Some k y end in rw two refl
+out_seats (Part n ∷ seats) (k ∷ ends) (suc i) l m y is low end = ap (λ (rest : List Seat). Part (with_out n k) ∷ rest) (out_seats seats ends i l m y is (omega arith) end)
+
+-- the part with a number
+lodged_there : (seats : List Seat) (i : ℕ) → i < length seats → ((b : Box PieceState Global) → Piece b ≡ get_or seats i (Piece b) → ⊥) → (l : Lodged) × (Part l ≡ get_or seats i (Part l))
+lodged_there [] i low none = absurd (omega arith)
+lodged_there (Part l ∷ seats) zero low none = (l, refl)
+lodged_there (Piece b ∷ seats) zero low none = absurd (none b refl)
+lodged_there (s ∷ seats) (suc i) low none = lodged_there seats i (omega arith) none
+
+-- where it sits
+pub record IsPartAt (h : Seating) (p i : ℕ) (l : Lodged) : Type 0 where
+  pub region : position (is_part p) h.regions ≡ Some i
+  pub seat : Part l ≡ get_or h.seats i (Part l)
+  pub there : i < length h.seats
+  pub number : ahead h.seats i ≡ p
+
+module _ (h : Seating) (are : AreSeated h) (p : ℕ) where
+  pub part_at : (i : ℕ) → position (is_part p) h.regions ≡ Some i → (l : Lodged) × IsPartAt h p i l
+  part_at i index =
+      let there = part_sits_there h are p i index in
+      let lodged = lodged_there h.seats i there (part_sits h are p i index) in
+      let here = position-Some (is_part p) h.regions i blank index in
+      (lodged.0, record { region = index; seat = lodged.1; there = there; number = number_at h are p i here.0 here.1 })
+
+  pub part_with_number : p < length (homes_in h.seats) → (i : ℕ) × (l : Lodged) × IsPartAt h p i l
+  part_with_number low = cases (position (is_part p) h.regions) refl
+    where
+      cases : (o : Option ℕ) → position (is_part p) h.regions ≡ o → (i : ℕ) × (l : Lodged) × IsPartAt h p i l
+      cases None none =
+          let past = past_parts p h.regions are.are none in
+          let count = count_parts (λ (o : Lodged). o.home) h.width h.regions h.seats are.each in
+          absurd (omega arith)
+      cases (Some i) index = let found = part_at i index in (i, found.0, found.1)
+
+-- what jobs do to a holding that is out
+numberless_later : (job : Job) (home : Bool) (a : HoldingState) (answer : Reply) (b : HoldingState) → IsNumberless job → IsJobDone job a answer b
+    → IsLater (Part (record { holding = a; home = home })) (Part (record { holding = b; home = home }))
+numberless_later (Act act) home a answer b none done = record {
+  seat = (job_same (Act act) a answer b done, λ lawful. holding_keeps b done.rules, λ wide. done.rules.wide);
+  numbers = job_numbers (Act act) a answer b none done;
+}
+numberless_later (Post limit) home a answer b none done = record {
+  seat = (job_same (Post limit) a answer b done, λ lawful. holding_keeps b done.rules, λ wide. done.rules.wide);
+  numbers = job_numbers (Post limit) a answer b none done;
+}
+
+seat_itself : (s : Seat) → IsLater s s
+seat_itself s = (all_later_self (s ∷ [])).0
+
+session_later : (reply : ℕ → Reply) (home : Bool) (a : HoldingState) (jobs : List (ℕ × Job)) (b : HoldingState) → AreNumberless jobs → IsSessionBy reply a jobs b
+    → IsLater (Part (record { holding = a; home = home })) (Part (record { holding = b; home = home }))
+session_later reply home a [] b none session = rw session (seat_itself (Part (record { holding = a; home = home })))
+session_later reply home a (job ∷ jobs) b none session =
+    later_after (Part (record { holding = a; home = home })) (Part (record { holding = session.0; home = home })) (Part (record { holding = b; home = home }))
+    (numberless_later job.1 home a (reply job.0) session.0 none.0 session.1) (session_later reply home session.0 jobs b none.1 session.2)
+
+-- so the seats where the parts that are out end may stand for those as they were lent
+pub ends_later : (reply : ℕ → Reply) (seats : List Seat) (jobs : List (List (ℕ × Job))) (ends : List HoldingState) → AllNumberless jobs → AreEnds reply (outs_in seats) jobs ends
+    → AreLater seats (with_outs seats ends)
+ends_later reply [] jobs ends none are = tt
+ends_later reply (Piece b ∷ seats) jobs ends none are = (seat_itself (Piece b), ends_later reply seats jobs ends none are)
+ends_later reply (Part l ∷ seats) [] ends none are = absurd are
+ends_later reply (Part l ∷ seats) (own ∷ jobs) [] none are = absurd are
+ends_later reply (Part l ∷ seats) (own ∷ jobs) (y ∷ ends) none are = (
+  by_test l.home
+      (λ e. let one : with_out l y ≡ l = ap (λ (b : Bool). record l { holding = if b then l.holding else y }) e in rw one (seat_itself (Part l)))
+      (λ e.
+      let one : with_out l y ≡ record l { holding = y } = ap (λ (b : Bool). record l { holding = if b then l.holding else y }) e in
+      rw one (session_later reply l.home l.holding own y none.0 (rw e at are.0))),
+  ends_later reply seats jobs ends none.1 are.1,
+)
+
+-- a job done by a part that is out, among all seats
+pub out_done : (h : Seating) (p i : ℕ) (l : Lodged) (at : IsPartAt h p i l) → l.home ≡ false → (ends : List HoldingState) (m y : HoldingState) → slice_get ends p ≡ Some m
+    → (job : Job) (answer : Reply) → IsJobDone job m answer y → IsDoneAt h.regions p job (with_outs h.seats ends) answer (with_outs h.seats (set ends p y))
+out_done h p i l at away ends m y end job answer done =
+    let m_is : (with_out l m).holding ≡ m = ap (λ (b : Bool). if b then l.holding else m) away in
+    let y_is : with_out l y ≡ record (with_out l m) { holding = y } = ap (λ (b : Bool). record l { holding = if b then l.holding else y }) away in
+    let end_at : slice_get ends (ahead h.seats i) ≡ Some m = rw at.number end in
+    record {
+      index = i;
+      lodged = with_out l m;
+      holding = y;
+      region = at.region;
+      seat = out_at h.seats ends i l m at.seat at.there end_at;
+      done = rw m_is done;
+      is = (rw at.number at (out_ends h.seats ends i l y m at.seat at.there end_at)) ∙ ap (λ (o : Lodged). set (with_outs h.seats ends) i (Part o)) y_is;
+    }

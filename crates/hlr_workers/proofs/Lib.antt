@@ -1,0 +1,11 @@
+pub mod BackLemmas
+pub mod CrewLemmas
+pub mod CrossingLemmas
+pub mod EngineLemmas
+pub mod HouseLemmas
+pub mod RelayLemmas
+pub mod SessionLemmas
+pub mod ShapeLemmas
+pub mod StandingLemmas
+pub mod UnseenLemmas
+pub mod WorkLemmas

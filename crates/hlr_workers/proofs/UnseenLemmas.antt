@@ -1,0 +1,59 @@
+-- A right step is one whatever has been seen of the words.
+use Rattle.std.proofs.Common.{◌≡◌, ap, ℕ, List, true, false, Bool, Some, None, Ok, Err}
+use Rattle.std.specs.Prelude.{Option, Result}
+use Rattle.tatp_rows.specs.declared.refusal.Refusal.{Refusal}
+use Rattle.tatp_actions.specs.Action.{s_id_of}
+use Rattle.tatp_actions.specs.declared.action.Action.{Action}
+use Rattle.part_table.specs.Recut.{recut_answer}
+use Rattle.part_table.specs.declared.moves.CutMove.{CutMove}
+use Rattle.hlr_owners.specs.Answered.{is_loose}
+use Rattle.hlr_owners.specs.Posting.{IsPosting}
+use Rattle.hlr_owners.specs.Recut.{IsRecut, IsRecutBy}
+use Rattle.hlr_owners.specs.Store.{Store, slots_of}
+use Rattle.hlr_core.specs.Step.{IsAskedStep, IsOwnedStep, IsPostStep, IsStep, action_for}
+use Rattle.hlr_core.specs.declared.event.Event.{Event}
+use Rattle.hlr_core.specs.declared.event.Event.TheVariants.{SubscriberData, NewDestination, AccessData, UpdateSubscriber, UpdateLocation, InsertForwarding, DeleteForwarding}
+use Rattle.hlr_core.specs.declared.event.Event.TheVariants.{AddSubscriber, AddAccess, AddFacility, SetActive, SetNumber, Post, Give, Take}
+use Rattle.hlr_core.specs.declared.event.Reply.{Reply}
+
+-- a store of which this was seen
+abbrev pub seen_as : List ℕ → Store → Store
+seen_as sight store = record store { sight = sight }
+
+owned_unseen : (w : List ℕ) (loose : Bool) (act : Action) (b : Store) (r : Reply) (c : Store) → IsOwnedStep loose act b r c → IsOwnedStep loose act (seen_as w b) r (seen_as w c)
+owned_unseen w true act b r c step = (step.0, ap (seen_as w) step.1)
+owned_unseen w false act b r c step = (step.0, step.1, step.2, step.3, ap (seen_as w) step.4)
+
+asked_unseen : (w : List ℕ) (asked : Result Action Refusal) (b : Store) (r : Reply) (c : Store) → IsAskedStep asked b r c → IsAskedStep asked (seen_as w b) r (seen_as w c)
+asked_unseen w (Ok act) b r c step = owned_unseen w (is_loose (s_id_of act) b.regions) act b r c step
+asked_unseen w (Err why) b r c step = (step.0, ap (seen_as w) step.1)
+
+posting_unseen : (w : List ℕ) (slots : Option (List ℕ)) (p limit : ℕ) (b : Store) (done : Result ℕ Refusal) (c : Store) → IsPosting slots p limit b done c → IsPosting slots p limit (seen_as w b) done (seen_as w c)
+posting_unseen w None p limit b done c posting = (posting.0, ap (seen_as w) posting.1)
+posting_unseen w (Some slots) p limit b done c posting = (posting.0, ap (seen_as w) posting.1)
+
+pub step_unseen : (w : List ℕ) (event : Event) (b : Store) (r : Reply) (c : Store) → IsStep event b r c → IsStep event (seen_as w b) r (seen_as w c)
+step_unseen w (Post p limit) b r c step = (step.0, posting_unseen w (slots_of b p) p limit b step.0 c step.1, step.2)
+step_unseen w (Give p side at) b r c step = (step.0, step.1, step.2, ap (seen_as w) step.3)
+step_unseen w (Take n p) b r c step = (step.0, step.1, step.2, ap (seen_as w) step.3)
+step_unseen w (SubscriberData s_id) b r c step = asked_unseen w (action_for (SubscriberData s_id) b.book) b r c step
+step_unseen w (NewDestination s_id t a e) b r c step = asked_unseen w (action_for (NewDestination s_id t a e) b.book) b r c step
+step_unseen w (AccessData s_id t) b r c step = asked_unseen w (action_for (AccessData s_id t) b.book) b r c step
+step_unseen w (UpdateSubscriber s_id t bit d) b r c step = asked_unseen w (action_for (UpdateSubscriber s_id t bit d) b.book) b r c step
+step_unseen w (UpdateLocation n v) b r c step = asked_unseen w (action_for (UpdateLocation n v) b.book) b r c step
+step_unseen w (InsertForwarding n t a e x) b r c step = asked_unseen w (action_for (InsertForwarding n t a e x) b.book) b r c step
+step_unseen w (DeleteForwarding n t a) b r c step = asked_unseen w (action_for (DeleteForwarding n t a) b.book) b r c step
+step_unseen w (AddSubscriber row) b r c step = asked_unseen w (action_for (AddSubscriber row) b.book) b r c step
+step_unseen w (AddAccess row) b r c step = asked_unseen w (action_for (AddAccess row) b.book) b r c step
+step_unseen w (AddFacility row) b r c step = asked_unseen w (action_for (AddFacility row) b.book) b r c step
+step_unseen w (SetActive s_id t v) b r c step = asked_unseen w (action_for (SetActive s_id t v) b.book) b r c step
+step_unseen w (SetNumber s_id n) b r c step = asked_unseen w (action_for (SetNumber s_id n) b.book) b r c step
+
+recut_by_unseen : (w : List ℕ) (moves : Result (List CutMove) Refusal) (bounds : List ℕ) (b : Store) (done : Result ℕ Refusal) (c : Store) → IsRecutBy moves bounds b done c
+    → IsRecutBy moves bounds (seen_as w b) done (seen_as w c)
+recut_by_unseen w (Ok moves) bounds b (Ok count) c cut = (cut.0, ap (seen_as w) cut.1)
+recut_by_unseen w (Ok moves) bounds b (Err why) c cut = (cut.0, ap (seen_as w) cut.1, cut.2)
+recut_by_unseen w (Err why) bounds b done c cut = (cut.0, ap (seen_as w) cut.1)
+
+pub recut_unseen : (w : List ℕ) (bounds : List ℕ) (b : Store) (done : Result ℕ Refusal) (c : Store) → IsRecut bounds b done c → IsRecut bounds (seen_as w b) done (seen_as w c)
+recut_unseen w bounds b done c cut = recut_by_unseen w (recut_answer b.regions bounds) bounds b done c cut

@@ -1,0 +1,36 @@
+use Rattle.std.proofs.Common.{◌≡◌, ◌∙◌, refl, sym, subst, ◌<◌, length, arith, get_or, None, Some, List}
+use Rattle.std.specs.Prelude.{Option}
+use Rattle.std.specs.List.{AllZip}
+use Rattle.hlr_owners.specs.Out.{outs_in}
+use Rattle.hlr_owners.specs.Seats.{Seating}
+use Rattle.hlr_workers.specs.Finish.{Sent}
+use Rattle.hlr_workers.specs.Inside.{Crewed, HasWorker, jobs_at}
+use Rattle.hlr_workers.proofs.CrewLemmas.{home_again, home_each, home_still, home_with}
+use Rattle.hlr_workers.proofs.crew.Crew.bring_home.Goals as goal
+
+pub returns-in_err-worker : goal.returns-in_err-worker
+returns-in_err-worker g c =
+    rw (c.from_residual.ensures, ← c.self.view_is)
+    (home_still c.self.inside.register c.board-board.ensures.seated c.self.inside.workers.items c.self.invariant c.args.part (sym c.take_worker.ensures.worker ∙ c.in_err-worker.was)
+    c.take_worker.new.workers.items c.take_worker.ensures.items)
+
+pub back-requires : goal.back-requires
+back-requires g c =
+    home_with c.self.inside.register c.board-board.ensures.seated c.self.inside.workers.items c.self.invariant c.args.part c.in_ok-worker.worker (sym c.take_worker.ensures.worker ∙ c.in_ok-worker.was)
+    c.stop_and_join-holding.result.1.items c.stop_and_join-holding.result.0.value c.stop_and_join-holding.ensures
+
+pub invariant_of-self-2 : goal.invariant_of-self-2
+invariant_of-self-2 g c =
+    let with = home_with c.self.inside.register c.board-board.ensures.seated c.self.inside.workers.items c.self.invariant c.args.part c.in_ok-worker.worker (sym c.take_worker.ensures.worker ∙ c.in_ok-worker.was)
+    c.stop_and_join-holding.result.1.items c.stop_and_join-holding.result.0.value c.stop_and_join-holding.ensures in
+    rw (c.back.ensures with.0 with.1, c.take_worker.ensures.items)
+    (home_each c.self.inside.register c.board-board.ensures.seated c.self.inside.workers.items c.self.invariant c.args.part c.in_ok-worker.worker (sym c.take_worker.ensures.worker ∙ c.in_ok-worker.was)
+    c.stop_and_join-holding.result.1.items c.stop_and_join-holding.result.0.value c.stop_and_join-holding.ensures)
+
+pub returns : goal.returns
+returns g c =
+    let with = home_with c.self.inside.register c.board-board.ensures.seated c.self.inside.workers.items c.self.invariant c.args.part c.in_ok-worker.worker (sym c.take_worker.ensures.worker ∙ c.in_ok-worker.was)
+    c.stop_and_join-holding.result.1.items c.stop_and_join-holding.result.0.value c.stop_and_join-holding.ensures in
+    rw (c.back.ensures with.0 with.1, c.take_worker.ensures.items, ← c.self.view_is)
+    (home_again c.self.inside.register c.board-board.ensures.seated c.self.inside.workers.items c.self.invariant c.args.part c.in_ok-worker.worker (sym c.take_worker.ensures.worker ∙ c.in_ok-worker.was)
+    c.stop_and_join-holding.result.1.items c.stop_and_join-holding.result.0.value c.stop_and_join-holding.ensures)

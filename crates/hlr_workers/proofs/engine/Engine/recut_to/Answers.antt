@@ -1,0 +1,21 @@
+use Rattle.std.proofs.Common.{◌≡◌, ◌≤◌, ◌⊎◌, [], inl, inr, refl, sym}
+use Rattle.hlr_workers.proofs.EngineLemmas.{cut_after, no_more, none_yet}
+use Rattle.hlr_workers.proofs.engine.Engine.recut_to.Goals as goal
+
+pub invariant_of-self : goal.invariant_of-self
+invariant_of-self g c =
+    let b = c.bring_sides_home in
+    let old = c.self.inside.replies.items in (
+      (cut_after c.self.inside.crew old b.new.crew b.new.replies.items b.ensures.kept b.ensures.stands c.recut_to.new.self c.recut_to.ensures.house c.recut_to.ensures.jobs c.args.bounds.now c.recut_to.result c.recut_to.ensures.recut).0,
+      λ none. rw c.recut_to.ensures.house.outs (b.ensures.still (c.self.invariant.1 (no_more old b.new.replies.items b.ensures.places none))),
+      elim c.self.invariant.2 [
+        | inl none ↦ inl (none_yet old b.new.replies.items b.ensures.places none)
+        | inr room ↦ inr (rw b.ensures.capacity room)
+      ],
+    )
+
+pub returns-clause-took : goal.returns-clause-took
+returns-clause-took g c =
+    let b = c.bring_sides_home in
+    rw (← c.self.view_is)
+    (cut_after c.self.inside.crew c.self.inside.replies.items b.new.crew b.new.replies.items b.ensures.kept b.ensures.stands c.recut_to.new.self c.recut_to.ensures.house c.recut_to.ensures.jobs c.args.bounds.now c.recut_to.result c.recut_to.ensures.recut).1

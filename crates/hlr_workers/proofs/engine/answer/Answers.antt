@@ -1,0 +1,41 @@
+use Rattle.std.proofs.Common.{◌≡◌, ◌∙◌, ◌<◌, ℕ, ap, arith, get_or, length, subst, sym, []}
+use Rattle.hlr_owners.specs.Seats.{Seating}
+use Rattle.hlr_core.specs.Route.{IsRightNow, IsRouted}
+use Rattle.hlr_core.specs.declared.route.Route.TheVariants.{To}
+use Rattle.hlr_workers.specs.Inside.{IsSentTo}
+use Rattle.hlr_workers.specs.declared.work.TheConstants.{MOST_PENDING}
+use Rattle.hlr_workers.proofs.EngineLemmas.{few_jobs, now_kept, now_took, part_there, sent_after}
+use Rattle.hlr_workers.proofs.engine.answer.Goals as goal
+
+pub send-requires-clause-there : goal.send-requires-clause-there
+send-requires-clause-there g c κs within =
+    let to : IsRouted c.args.event c.args.crew.now.house (To c.in-To.part c.in-To.job) = subst (λ (h : Seating). IsRouted c.args.event h (To c.in-To.part c.in-To.job)) c.register.ensures.value c.in-To.ensures in
+    part_there c.args.crew.now c.args.replies.now.items c.requires.kept c.register.ensures.seated c.in-To.part to.0
+
+pub send-requires-clause-room : goal.send-requires-clause-room
+send-requires-clause-room g c κs within =
+    let few = few_jobs c.args.crew.now c.args.replies.now.items c.requires.kept c.in-To.part in
+    let room = c.requires.room in
+    omega arith
+
+pub returns-in-Now-clause-kept : goal.returns-in-Now-clause-kept
+returns-in-Now-clause-kept g c = now_kept c.args.crew.now c.args.replies.now.items c.requires.kept c.in-Now.reply
+
+pub returns-in-Now-clause-took : goal.returns-in-Now-clause-took
+returns-in-Now-clause-took g c =
+    now_took c.args.crew.now c.args.replies.now.items c.requires.kept c.args.event c.in-Now.reply
+    (subst (λ (h : Seating). IsRightNow c.args.event h c.in-Now.reply) c.register.ensures.value c.in-Now.ensures)
+
+pub returns-in-Ok-clause-kept : goal.returns-in-Ok-clause-kept
+returns-in-Ok-clause-kept g c =
+    let to : IsRouted c.args.event c.args.crew.now.house (To c.in-To.part c.in-To.job) = subst (λ (h : Seating). IsRouted c.args.event h (To c.in-To.part c.in-To.job)) c.register.ensures.value c.in-To.ensures in
+    let number : c.len-number.result ≡ length c.args.replies.now.items = c.len-number.ensures ∙ c.args.replies.now.ok.0 in
+    let sent = subst (λ (n : ℕ). IsSentTo c.in-To.part (n, c.in-To.job) c.args.crew.now c.send.new.self) number c.in-Ok.ensures.sent in
+    (sent_after c.args.crew.now c.args.replies.now.items c.requires.kept c.register.ensures.seated c.in-To.part c.args.event c.in-To.job to.1 to.2 c.blank.result c.send.new.self sent).0
+
+pub returns-in-Ok-clause-took : goal.returns-in-Ok-clause-took
+returns-in-Ok-clause-took g c =
+    let to : IsRouted c.args.event c.args.crew.now.house (To c.in-To.part c.in-To.job) = subst (λ (h : Seating). IsRouted c.args.event h (To c.in-To.part c.in-To.job)) c.register.ensures.value c.in-To.ensures in
+    let number : c.len-number.result ≡ length c.args.replies.now.items = c.len-number.ensures ∙ c.args.replies.now.ok.0 in
+    let sent = subst (λ (n : ℕ). IsSentTo c.in-To.part (n, c.in-To.job) c.args.crew.now c.send.new.self) number c.in-Ok.ensures.sent in
+    (sent_after c.args.crew.now c.args.replies.now.items c.requires.kept c.register.ensures.seated c.in-To.part c.args.event c.in-To.job to.1 to.2 c.blank.result c.send.new.self sent).1

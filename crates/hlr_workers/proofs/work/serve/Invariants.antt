@@ -1,0 +1,13 @@
+use Rattle.std.proofs.Common.{◌≡◌, ◌≤◌, vec_capacity}
+use Rattle.crossbeam_queue.specs.Passes.{view, IsPassOf}
+use Rattle.hlr_workers.specs.Finish.{IsAtWork}
+use Rattle.hlr_workers.specs.declared.work.TheConstants.{MOST_PENDING}
+use Rattle.hlr_workers.proofs.work.serve.Given as goal
+
+abbrev pub invariant-loop : goal.invariant-loop
+invariant-loop g l = record {
+  port : IsPassOf l.inbox.line l.port;
+  board : l.holding.value.desk.board ≡ l.board;
+  work : IsAtWork (view l.port) l.replies.items l.holding.value;
+  room : MOST_PENDING ≤ vec_capacity l.replies;
+}

@@ -1,0 +1,97 @@
+-- What calls inside the crate promise each other. No clause of a public call cites this.
+use Rattle.std.specs.Prelude.{◌≡◌, ◌≤◌, ◌++◌, ℕ, true, List, [], ◌∷◌, length, map, Option, Some, None, position, slice_get, slice_set, slice_index_or, ⊤, ◌⊎◌}
+use Rattle.std.specs.List.{AllByRecursion, AllZip}
+use Rattle.part_table.specs.Region.{is_part}
+use Rattle.holding.specs.Held.{HoldingState}
+use Rattle.holding.specs.declared.job.Job.{Job}
+use Rattle.hlr_owners.specs.Out.{outs_in}
+use Rattle.hlr_owners.specs.Seats.{Seating, IsLent}
+use Rattle.hlr_owners.specs.declared.lodging.Seat.TheVariants.{Part}
+use Rattle.hlr_core.specs.declared.event.Reply.{Reply}
+use Rattle.hlr_workers.specs.Finish.{Sent}
+use Rattle.hlr_workers.specs.Session.{AreNumberless, IsSession}
+use Rattle.hlr_workers.specs.Standing.{AreNumbered, Engaged, numbered_in}
+
+-- replies by their numbers, each put at its place
+abbrev pub land : List (ℕ × Reply) → List (ℕ × Reply) → List (ℕ × Reply)
+land replies [] = replies
+land replies (one ∷ answers) = land (slice_set replies one.0 one) answers
+
+-- the rules of numbers: a place for each event, with its number; no number out twice, and none of an event that wasn't
+-- taken; no more jobs of a part than events
+pub record InOrder (jobs : List (List (ℕ × Job))) (replies : List (ℕ × Reply)) : Type 0 where
+  pub places : AreNumbered replies
+  pub once : (k : ℕ) → numbered_in k jobs ≤ 1
+  pub below : (k : ℕ) → length replies ≤ k → numbered_in k jobs ≡ 0
+  pub few : (p : ℕ) (own : List (ℕ × Job)) → slice_get jobs p ≡ Some own → length own ≤ length replies
+
+-- a register, with the parts that are out as they were lent, and the jobs that are out, by the numbers of their parts
+pub record Crewed : Type 0 where
+  pub house : Seating
+  pub jobs : List (List (ℕ × Job))
+
+-- the jobs that a worker has, if there is one
+abbrev pub jobs_at : Option Sent → List (ℕ × Job)
+jobs_at None = []
+jobs_at (Some sent) = sent.jobs
+
+-- a part that is out has a worker, who was sent its holding, and jobs that give no number; one at home has none
+abbrev pub HasWorker : Option HoldingState → Option Sent → Type 0
+HasWorker None None = ⊤
+HasWorker None (Some sent) = ⊥
+HasWorker (Some lent) None = ⊥
+HasWorker (Some lent) (Some sent) = (sent.lent ≡ lent) × AreNumberless sent.jobs
+
+-- a part was out before, or has gone out, with no job yet
+abbrev pub IsOut : ℕ → Crewed → Crewed → Type 0
+IsOut part before after =
+    (after.jobs ≡ before.jobs)
+    × ((after.house ≡ before.house)
+    ⊎ ((lent : HoldingState) × IsLent part before.house lent after.house × (slice_index_or before.jobs part [] ≡ [])))
+    × ((lent : HoldingState) × (slice_get (outs_in after.house.seats) part ≡ Some (Some lent)))
+
+-- a part that isn't out has no jobs
+abbrev pub AreIdle : Crewed → Type 0
+AreIdle crew = (p : ℕ) → slice_index_or (outs_in crew.house.seats) p None ≡ None → slice_index_or crew.jobs p [] ≡ []
+
+-- one job more
+abbrev pub is_sent_more : Option Sent → ℕ × Job → Option Sent
+is_sent_more None job = None
+is_sent_more (Some sent) job = Some (record sent { jobs = sent.jobs ++ job ∷ [] })
+
+-- a job was sent to a part, which has gone out for it, or was out before
+abbrev pub IsSentTo : ℕ → ℕ × Job → Crewed → Crewed → Type 0
+IsSentTo part job before after =
+    (mid : Crewed) × IsOut part before mid
+    × (after ≡ record mid { jobs = slice_set mid.jobs part (slice_index_or mid.jobs part [] ++ job ∷ []) })
+
+-- a part isn't out, or came home with its holding and the replies to its jobs
+abbrev pub IsHomeAgain : ℕ → Crewed → Option (List (ℕ × Reply)) → Crewed → Type 0
+IsHomeAgain part before None after = (after ≡ before) × (slice_index_or (outs_in before.house.seats) part None ≡ None)
+IsHomeAgain part before (Some answers) after =
+    (lent : HoldingState) × (home : HoldingState) × (index : ℕ)
+    × (slice_get (outs_in before.house.seats) part ≡ Some (Some lent))
+    × IsSession lent (slice_index_or before.jobs part []) answers home
+    × (position (is_part part) before.house.regions ≡ Some index)
+    × (after ≡ record {
+      house = record before.house { seats = slice_set before.house.seats index (Part (record { holding = home; home = true })) };
+      jobs = slice_set before.jobs part [];
+    })
+
+-- jobs that give no number, of each part
+abbrev pub AllNumberless : List (List (ℕ × Job)) → Type 0
+AllNumberless jobs = AllByRecursion AreNumberless jobs
+
+-- what an engine has
+abbrev pub engaged : Crewed → List (ℕ × Reply) → Engaged
+engaged crew replies = record { house = crew.house; jobs = crew.jobs; replies = replies }
+
+-- the rules that a crew and the replies kept keep together
+pub record IsKept (crew : Crewed) (replies : List (ℕ × Reply)) : Type 0 where
+  pub paired : length crew.jobs ≡ length (outs_in crew.house.seats)
+  pub none : AllNumberless crew.jobs
+  pub order : InOrder crew.jobs replies
+
+-- nobody is out
+abbrev pub NoneOut : Crewed → Type 0
+NoneOut crew = AllByRecursion (λ (out : Option HoldingState). out ≡ None) (outs_in crew.house.seats)

@@ -1,0 +1,5 @@
+pub mod Finish
+pub mod Inside
+pub mod Relay
+pub mod Session
+pub mod Standing

@@ -1,0 +1,84 @@
+-- What goes through a worker's queue: the holding as it is lent, jobs of it, and the end. One pass at most may push,
+-- and knows what was sent; one at most may pop, and knows what was received; the rest waits in the queue.
+use Rattle.std.specs.Prelude.{◌≡◌, ℕ, ◌≤◌, Bool, true, List, [], ◌∷◌, ◌++◌, length, ⊤}
+use mathlib.Core.Option.{some}
+use lib.ListN.{get_elem?}
+use Rattle.tatp_actions.specs.Book.{empty_book}
+use Rattle.tatp_actions.specs.Heights.{zero_heights}
+use Rattle.view_board.specs.Views.{nobody}
+use Rattle.holding.specs.Held.{HoldingState}
+use Rattle.holding.specs.declared.job.Job.{Job}
+use Rattle.hlr_core.specs.Session.{IsWithinJob}
+use Rattle.hlr_workers.specs.declared.message.Log.{Log}
+use Rattle.hlr_workers.specs.declared.message.Message.{Message}
+use Rattle.hlr_workers.specs.declared.message.Message.TheVariants.{Begin, Do, Stop}
+use Rattle.hlr_workers.specs.declared.work.TheConstants.{MOST_PENDING}
+
+abbrev pub log : Bool → Bool → List Message → List Message → Log
+log pushes pops sent got = record { pushes = pushes; pops = pops; sent = sent; got = got }
+
+-- no holding: it stands for one where none was sent
+abbrev pub nothing : HoldingState
+nothing = record {
+  part = record { book = empty_book; asked = 0; lo = 0; hi = 0; width = 0; steps = 0; heights = zero_heights };
+  pending = [];
+  desk = record { board = record { words = 0; slots = 0; views_name = 0; atom = 0; block = 0; offset = 0; slot_names = [] }; view = nobody };
+  slot = 0;
+}
+
+-- jobs of a holding
+abbrev pub AreJobs : HoldingState → List Message → Type 0
+AreJobs holding [] = ⊤
+AreJobs holding (Begin lent ∷ messages) = ⊥
+AreJobs holding (Do number job ∷ messages) = IsWithinJob holding job × AreJobs holding messages
+AreJobs holding (Stop ∷ messages) = ⊥
+
+-- and then perhaps the end
+abbrev pub AreJobsToTheEnd : HoldingState → List Message → Type 0
+AreJobsToTheEnd holding [] = ⊤
+AreJobsToTheEnd holding (Begin lent ∷ messages) = ⊥
+AreJobsToTheEnd holding (Do number job ∷ messages) = IsWithinJob holding job × AreJobsToTheEnd holding messages
+AreJobsToTheEnd holding (Stop ∷ messages) = messages ≡ []
+
+-- a holding, and then jobs of it
+abbrev pub IsStarted : List Message → Type 0
+IsStarted [] = ⊥
+IsStarted (Begin lent ∷ messages) = AreJobs lent.holding.value messages
+IsStarted (Do number job ∷ messages) = ⊥
+IsStarted (Stop ∷ messages) = ⊥
+
+-- what may be sent so far: a holding, jobs of it, and then perhaps the end
+abbrev pub IsInShape : List Message → Type 0
+IsInShape [] = ⊤
+IsInShape (Begin lent ∷ messages) = AreJobsToTheEnd lent.holding.value messages
+IsInShape (Do number job ∷ messages) = ⊥
+IsInShape (Stop ∷ messages) = ⊥
+
+-- the holding that was lent
+abbrev pub lent_of : List Message → HoldingState
+lent_of [] = nothing
+lent_of (Begin lent ∷ messages) = lent.holding.value
+lent_of (Do number job ∷ messages) = nothing
+lent_of (Stop ∷ messages) = nothing
+
+-- the jobs, each with its number
+abbrev pub jobs_of : List Message → List (ℕ × Job)
+jobs_of [] = []
+jobs_of (Begin lent ∷ messages) = jobs_of messages
+jobs_of (Do number job ∷ messages) = (number, job) ∷ jobs_of messages
+jobs_of (Stop ∷ messages) = jobs_of messages
+
+-- that, with no more jobs than there is room for replies
+abbrev pub IsWellSent : List Message → Type 0
+IsWellSent messages = IsInShape messages × (length (jobs_of messages) ≤ MOST_PENDING)
+
+-- what a pass knows is so: who may push knows all that was sent, who may pop all that was received
+abbrev pub IsKnown : ℕ → ℕ → List Message → List Message → ℕ → Log → Type 0
+IsKnown writer reader sent got port v =
+    (v.pushes ≡ true → (port ≡ writer) × (v.sent ≡ sent)) × (v.pops ≡ true → (port ≡ reader) × (v.got ≡ got))
+
+-- the rule of the queue
+abbrev pub IsRelayed : List Message → List Log → Type 0
+IsRelayed waiting views =
+    (writer : ℕ) × (reader : ℕ) × (sent : List Message) × (got : List Message) × (sent ≡ got ++ waiting) × IsWellSent sent
+    × ((port : ℕ) (v : Log) → get_elem? views port ≡ some v → IsKnown writer reader sent got port v)

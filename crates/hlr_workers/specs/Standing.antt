@@ -1,0 +1,118 @@
+-- What an engine stands at: where right sessions of the jobs that are out lead, with the replies that are kept.
+use Rattle.std.specs.Prelude.{◌≡◌, ◌==◌, ◌+◌, ℕ, List, [], ◌∷◌, ◌++◌, length, Option, Some, None, Result, if◌then◌else◌, slice_get, ⊤}
+use Rattle.tatp_rows.specs.declared.refusal.Refusal.{Refusal}
+use Rattle.holding.specs.Held.{HoldingState}
+use Rattle.holding.specs.declared.job.Job.{Job}
+use Rattle.hlr_owners.specs.Out.{outs_in}
+use Rattle.hlr_owners.specs.Seats.{Seating, store_in}
+use Rattle.hlr_owners.specs.Store.{Store}
+use Rattle.hlr_core.specs.Beside.{beside}
+use Rattle.hlr_core.specs.Run.{IsRun}
+use Rattle.hlr_core.specs.Session.{IsJobDone}
+use Rattle.hlr_core.specs.declared.event.Event.{Event}
+use Rattle.hlr_core.specs.declared.event.Reply.{Reply}
+use Rattle.hlr_core.specs.declared.order.Answer.{Answer}
+use Rattle.hlr_core.specs.declared.order.Answer.TheVariants as answer
+use Rattle.hlr_core.specs.declared.order.Order.{Order}
+use Rattle.hlr_core.specs.declared.order.Order.TheVariants as order
+
+-- the numbered jobs of a part done one after another, `reply k` being the reply to the job numbered k
+abbrev pub IsSessionBy : (ℕ → Reply) → HoldingState → List (ℕ × Job) → HoldingState → Type 0
+IsSessionBy reply before [] after = after ≡ before
+IsSessionBy reply before (job ∷ jobs) after =
+    (next : HoldingState) × IsJobDone job.1 before (reply job.0) next × IsSessionBy reply next jobs after
+
+-- a part that is out ends so by a right session of its jobs; of one at home nothing is said
+abbrev pub IsEnd : (ℕ → Reply) → Option HoldingState → List (ℕ × Job) → HoldingState → Type 0
+IsEnd reply (Some lent) jobs end = IsSessionBy reply lent jobs end
+IsEnd reply None jobs end = ⊤
+
+-- all parts, by their numbers
+abbrev pub AreEnds : (ℕ → Reply) → List (Option HoldingState) → List (List (ℕ × Job)) → List HoldingState → Type 0
+AreEnds reply [] [] [] = ⊤
+AreEnds reply (lent ∷ outs) (own ∷ jobs) (end ∷ ends) = IsEnd reply lent own end × AreEnds reply outs jobs ends
+AreEnds reply _ _ _ = ⊥
+
+-- how many of a part's jobs have this number, and how many of all
+abbrev pub numbered : ℕ → List (ℕ × Job) → ℕ
+numbered k [] = 0
+numbered k (job ∷ jobs) = (if job.0 == k then 1 else 0) + numbered k jobs
+
+abbrev pub numbered_in : ℕ → List (List (ℕ × Job)) → ℕ
+numbered_in k [] = 0
+numbered_in k (own ∷ jobs) = numbered k own + numbered_in k jobs
+
+-- what an engine has: the register, with the parts that are out as they were lent; the jobs that are out, by the
+-- numbers of their parts; and for each event since the last settle its number with its reply, of which nothing is said
+-- while a job with that number is out
+pub record Engaged : Type 0 where
+  pub house : Seating
+  pub jobs : List (List (ℕ × Job))
+  pub replies : List (ℕ × Reply)
+
+-- a function has the replies that are kept
+abbrev pub HasKept : (ℕ → Reply) → List (List (ℕ × Job)) → List (ℕ × Reply) → Type 0
+HasKept reply jobs replies =
+    (k : ℕ) (kept : ℕ × Reply) → slice_get replies k ≡ Some kept → numbered_in k jobs ≡ 0 → reply k ≡ kept.1
+
+-- what an engine was asked for: an event that it took, or a re-cut to bounds, with its answer
+pub data Asked : Type 0 where
+  Took : Event → Asked
+  Cut : List ℕ → Result ℕ Refusal → Asked
+
+-- the same as orders of a register, one after another
+abbrev pub orders_of : List Asked → List Order
+orders_of [] = []
+orders_of (Took event ∷ asked) = order.Event event ∷ orders_of asked
+orders_of (Cut bounds done ∷ asked) = order.Recut (record { items = bounds }) ∷ orders_of asked
+
+-- how many events are among them
+abbrev pub events_in : List Asked → ℕ
+events_in [] = 0
+events_in (Took event ∷ asked) = 1 + events_in asked
+events_in (Cut bounds done ∷ asked) = events_in asked
+
+-- their answers, the first event having number k, and `reply k` being the reply to the event numbered k
+abbrev pub answers_by : (ℕ → Reply) → ℕ → List Asked → List Answer
+answers_by reply k [] = []
+answers_by reply k (Took event ∷ asked) = answer.Reply (reply k) ∷ answers_by reply (k + 1) asked
+answers_by reply k (Cut bounds done ∷ asked) = answer.Recut done ∷ answers_by reply k asked
+
+-- their answers, these being the replies to the events in order
+abbrev pub answers_with : List (ℕ × Reply) → List Asked → List Answer
+answers_with replies [] = []
+answers_with [] (Took event ∷ asked) = []
+answers_with (one ∷ replies) (Took event ∷ asked) = answer.Reply one.1 ∷ answers_with replies asked
+answers_with replies (Cut bounds done ∷ asked) = answer.Recut done ∷ answers_with replies asked
+
+-- the store of a register where the parts that are out end so, and with the sight of the words that another one has
+abbrev pub store_at : Store → Seating → List HoldingState → Store
+store_at before h ends = record (store_in (beside h ends)) { sight = before.sight }
+
+-- from a store, what was asked for leads where the engine stands: wherever right sessions of the jobs that are out
+-- lead, the replies that are kept and those of the sessions are right, by their numbers, and the register with the
+-- sessions' holdings is the store after them
+abbrev pub Stands : Engaged → Store → List Asked → Type 0
+Stands e before asked =
+    (events_in asked ≡ length e.replies)
+    × ((reply : ℕ → Reply) (ends : List HoldingState) → HasKept reply e.jobs e.replies
+    → AreEnds reply (outs_in e.house.seats) e.jobs ends
+    → IsRun (orders_of asked) before (answers_by reply 0 asked) (store_at before e.house ends))
+
+-- whatever was asked for before leads where the engine stands as it did
+abbrev pub IsAsBefore : Engaged → Engaged → Type 0
+IsAsBefore before after = (start : Store) (asked : List Asked) → Stands before start asked → Stands after start asked
+
+-- and so it does with this behind it
+abbrev pub TookNext : Asked → Engaged → Engaged → Type 0
+TookNext next before after = (start : Store) (asked : List Asked) → Stands before start asked → Stands after start (asked ++ next ∷ [])
+
+-- all that was asked for is a right run with these replies to its events, in their order, and leads to the register
+abbrev pub IsSettled : Engaged → List (ℕ × Reply) → Seating → Type 0
+IsSettled before replies house =
+    (start : Store) (asked : List Asked) → Stands before start asked
+    → IsRun (orders_of asked) start (answers_with replies asked) (record (store_in house) { sight = start.sight })
+
+-- each reply has the number of its place
+abbrev pub AreNumbered : List (ℕ × Reply) → Type 0
+AreNumbered replies = (k : ℕ) (one : ℕ × Reply) → slice_get replies k ≡ Some one → one.0 ≡ k

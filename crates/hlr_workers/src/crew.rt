@@ -1,0 +1,226 @@
+//! A register with the workers of its parts that are out.
+ghost use Rattle.std.specs.Prelude.{◌≡◌, ◌<◌, ◌⊎◌, [], length, true, None, Some, IsSome, IfSome, IfOk, OnOk, OnErr, option_map, slice_get, slice_set, slice_index_or};
+ghost use Rattle.std.specs.List.{AllByRecursion};
+ghost use Rattle.view_board.specs.Desks.{with_view};
+ghost use Rattle.view_board.specs.Views.{looked};
+ghost use Rattle.hlr_owners.specs.Out.{outs_in};
+ghost use Rattle.hlr_owners.specs.Recut.{IsHomeToCut};
+ghost use Rattle.hlr_owners.specs.Seats.{AllHome, AreSeated, store_in};
+ghost use Rattle.hlr_owners.specs.Sight.{IsSightOf};
+ghost use Rattle.hlr_core.specs.Beside.{IsRecutBeside, IsStepBeside};
+ghost use Rattle.hlr_core.specs.Home.{IsHomeTo, IsSameHouse};
+ghost use Rattle.hlr_core.specs.Route.{is_here};
+ghost use Rattle.hlr_core.specs.Session.{IsJobOf, IsWithinJob};
+ghost use Rattle.hlr_workers.specs.Inside.{AreIdle, IsHomeAgain, IsOut, IsSentTo, is_sent_more};
+ghost use Rattle.hlr_workers.specs.declared.work.TheConstants.{MOST_PENDING};
+
+use crate::gate::Gate;
+use crate::worker::{Idle, Worker};
+use arrayvec::ArrayVec;
+use hlr_core::{Event, Register, Reply};
+use holding::Job;
+use std::alloc::Global;
+use std::marker::Model;
+use std::sync::{Arc, Wait};
+use std::thread::Threads;
+use tatp_rows::Refusal;
+use view_board::Sight;
+
+/// The register, and for each part that is out its worker: seen as the register, with the parts that are out as they
+/// were lent, and the jobs that are out, by the numbers of their parts.
+pub(crate) struct Crew {
+    register: Register,
+    workers: ArrayVec<Option<Worker>, 16>,
+}
+
+impl Model for Crew {
+    ghost use Rattle.std.specs.Prelude.{map};
+    ghost use Rattle.std.specs.List.{AllZip};
+    ghost use Rattle.hlr_owners.specs.Out.{outs_in};
+    ghost use Rattle.hlr_workers.specs.Inside.{Crewed, HasWorker, jobs_at};
+
+    ghost Value = { Crewed };
+
+    ghost view = { λ c. record { house = c.register; jobs = map jobs_at c.workers.items } };
+
+    ghost invariant = { λ c. AllZip HasWorker (outs_in c.register.seats) c.workers.items };
+}
+
+/// Takes the worker of a part away, if there is such a part, and it has one.
+fn take_worker(workers: &mut ArrayVec<Option<Worker>, 16>, part: u8) -> Option<Worker>
+    ensures items { workers.new.items ≡ slice_set workers.old.items part None }
+    ensures worker { result ≡ slice_index_or workers.old.items part None }
+{
+    if usize::from(part) >= workers.len() {
+        return None;
+    }
+    workers.as_mut_slice()[usize::from(part)].take()
+}
+
+/// Puts the worker of a part in its place.
+fn put_worker(workers: &mut ArrayVec<Option<Worker>, 16>, part: u8, worker: Worker)
+    requires { part < length workers.old.items }
+    ensures { workers.new.items ≡ slice_set workers.old.items part (Some worker) }
+{
+    workers.as_mut_slice()[usize::from(part)] = Some(worker);
+}
+
+/// Sends a job to the worker of a part.
+fn send_to<R: Wait>(
+    rt: &R,
+    workers: &mut ArrayVec<Option<Worker>, 16>,
+    part: u8,
+    number: u64,
+    job: Job,
+)
+    requires there { part < length workers.old.items }
+    requires worker { IfSome (slice_index_or workers.old.items part None) (λ sent. (length sent.jobs < MOST_PENDING) × IsWithinJob sent.lent job) }
+    requires some { IsSome (slice_index_or workers.old.items part None) }
+    ensures { workers.new.items ≡ slice_set workers.old.items part (is_sent_more (slice_index_or workers.old.items part None) (number, job)) }
+{
+    match &mut workers.as_mut_slice()[usize::from(part)] {
+        Some(worker) => worker.send(rt, number, job),
+        None => unreachable!(),
+    }
+}
+
+impl Crew {
+    /// A register with all parts at home, and no worker.
+    pub(crate) fn of(register: Register) -> Crew
+        requires { AllHome register.seats }
+        ensures house { result.house ≡ register }
+        ensures jobs { AllByRecursion (λ own. own ≡ []) result.jobs }
+        ensures paired { length result.jobs ≡ length (outs_in register.seats) }
+    {
+        // For the prover: each region has its owner beside it.
+        let _board = register.board();
+        let mut workers = ArrayVec::new();
+        for _ in 0..register.regions().parts() {
+            workers.push(None);
+        }
+        Crew { register, workers }
+    }
+
+    /// The register, with the parts that are out as they were lent; a part that isn't out has no jobs.
+    pub(crate) fn register(&self) -> &Register
+        ensures value { result.now ≡ self.now.house }
+        ensures seated { AreSeated self.now.house }
+        ensures idle { AreIdle self.now }
+    {
+        // For the prover: each region has its owner beside it.
+        let _board = self.register.board();
+        &self.register
+    }
+
+    /// The register, once all parts are at home.
+    pub(crate) fn into_register(self) -> Register
+        ensures { result ≡ self.house }
+    {
+        let Crew {
+            register,
+            workers: _workers,
+        } = self;
+        register
+    }
+
+    /// Has the holding of a part out: where it is at home, a worker is started, and has it. `Memory` or `Thread` where
+    /// no worker could be started.
+    fn call_out<G: Gate + 'static, R: Threads + Wait + Copy + Send + Sync + 'static>(
+        &mut self,
+        rt: &R,
+        alloc: Global,
+        gate: &Arc<G>,
+        part: u8,
+    ) -> Result<(), Refusal>
+        requires { part < length self.old.jobs }
+        ensures out { OnOk result (IsOut part self.old self.new) }
+        ensures refused { OnErr result (self.new ≡ self.old) }
+        ensures why { OnErr result ((result ≡ Err Refusal.Memory) ⊎ (result ≡ Err Refusal.Thread)) }
+    {
+        // For the prover: each region has its owner beside it.
+        let _board = self.register.board();
+        if !self.register.at_home(part) {
+            return Ok(());
+        }
+        let idle = match Idle::start(rt, alloc, gate, self.register.board(), part) {
+            Ok(idle) => idle,
+            Err(why) => return Err(why),
+        };
+        let worker = idle.begin(rt, self.register.lend(part));
+        put_worker(&mut self.workers, part, worker);
+        Ok(())
+    }
+
+    /// Sends a numbered job to the worker of a part, which is started for the first one. `Memory` or `Thread` where it
+    /// could not be started.
+    pub(crate) fn send<G: Gate + 'static, R: Threads + Wait + Copy + Send + Sync + 'static>(
+        &mut self,
+        rt: &R,
+        alloc: Global,
+        gate: &Arc<G>,
+        part: u8,
+        number: u64,
+        job: Job,
+    ) -> Result<(), Refusal>
+        requires there { part < length self.old.jobs }
+        requires of { IsJobOf self.old.house.regions part job }
+        requires room { length (slice_index_or self.old.jobs part []) < MOST_PENDING }
+        ensures sent { OnOk result (IsSentTo part (number, job) self.old self.new) }
+        ensures refused { OnErr result (self.new ≡ self.old) }
+        ensures why { OnErr result ((result ≡ Err Refusal.Memory) ⊎ (result ≡ Err Refusal.Thread)) }
+    {
+        match self.call_out(rt, alloc, gate, part) {
+            Ok(()) => {}
+            Err(why) => return Err(why),
+        }
+        // For the prover: each region has its owner beside it.
+        let _board = self.register.board();
+        send_to(rt, &mut self.workers, part, number, job);
+        Ok(())
+    }
+
+    /// Brings the holding of a part home, if there is such a part and it is out, with what it answered to its jobs.
+    pub(crate) fn bring_home<R: Threads + Wait>(
+        &mut self,
+        rt: &R,
+        part: u8,
+    ) -> Option<Vec<(u64, Reply)>>
+        ensures { IsHomeAgain part self.old (option_map (λ answers. answers.items) result) self.new }
+    {
+        // For the prover: each region has its owner beside it.
+        let _board = self.register.board();
+        let worker = take_worker(&mut self.workers, part)?;
+        let (holding, answers) = worker.stop_and_join(rt);
+        self.register.back(holding);
+        Some(answers)
+    }
+
+    /// Has the register do an event that gives a number or moves regions; the parts that it works on are at home.
+    pub(crate) fn apply(&mut self, event: Event) -> Reply
+        requires here { is_here event ≡ true }
+        requires home { IsHomeTo event self.old.house }
+        ensures step { IsStepBeside event self.old.house result self.new.house }
+        ensures house { IsSameHouse self.old.house self.new.house }
+        ensures jobs { self.new.jobs ≡ self.old.jobs }
+    {
+        self.register.apply(event)
+    }
+
+    /// Has the register move the bounds between parts; the parts on both sides of each are at home.
+    pub(crate) fn recut_to(&mut self, bounds: &[u64]) -> Result<u8, Refusal>
+        requires { IsHomeToCut bounds.now self.old.house }
+        ensures recut { IsRecutBeside bounds.now self.old.house result self.new.house }
+        ensures house { IsSameHouse self.old.house self.new.house }
+        ensures jobs { self.new.jobs ≡ self.old.jobs }
+    {
+        self.register.recut_to(bounds)
+    }
+
+    /// A sight of the board's words, whoever is out.
+    pub(crate) fn look(&mut self) -> Sight
+        ensures right { IsSightOf (store_in self.old.house) result.words }
+        ensures seen { self.new ≡ record self.old { house = record self.old.house { spare = with_view self.old.house.spare (looked self.old.house.spare.view result.words) } } }
+    {
+        self.register.look()
+    }
+}

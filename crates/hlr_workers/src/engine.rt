@@ -1,0 +1,401 @@
+//! The engine: a register whose parts have workers in threads of their own.
+ghost use Rattle.std.specs.Prelude.{◌≡◌, ◌<◌, ◌≤◌, ◌⊎◌, ◌+◌, ◌++◌, [], ◌∷◌, length, true, Some, None, IfOk, IfSome, OnOk, OnErr, slice_set, vec_capacity};
+ghost use Rattle.std.specs.List.{AllByRecursion};
+ghost use Rattle.view_board.specs.Desks.{with_view};
+ghost use Rattle.view_board.specs.Views.{looked};
+ghost use Rattle.hlr_owners.specs.Out.{outs_in};
+ghost use Rattle.hlr_owners.specs.Recut.{IsHomeToCut};
+ghost use Rattle.hlr_owners.specs.Seats.{AllHome, AreSeated, IsHomeFor, IsPartHome, Seating, store_in};
+ghost use Rattle.hlr_owners.specs.Sight.{IsSightOf};
+ghost use Rattle.hlr_core.specs.Home.{IsHomeTo};
+ghost use Rattle.tatp_rows.specs.declared.ranges.TheConstants.{LAST_SUBSCRIBER};
+ghost use Rattle.hlr_core.specs.Route.{is_here};
+ghost use Rattle.hlr_workers.specs.Inside.{IsKept, NoneOut, engaged, land};
+ghost use Rattle.hlr_workers.specs.Standing.{AreNumbered, Cut, IsAsBefore, IsSettled, Stands, Took, TookNext};
+ghost use Rattle.hlr_workers.specs.declared.work.TheConstants.{MOST_PENDING};
+
+use crate::crew::Crew;
+use crate::gate::Gate;
+use crate::work::MOST_PENDING;
+use hlr_core::{Event, Register, Reply, Route};
+use part_table::{MOST_PARTS, Place};
+use std::alloc::Global;
+use std::marker::Model;
+use std::mem;
+use std::sync::{Arc, Wait};
+use std::thread::Threads;
+use tatp_actions::RowReply;
+use tatp_rows::{LAST_SUBSCRIBER, Refusal, in_range};
+use view_board::Sight;
+
+/// A register that takes events while workers, a thread for each part that has jobs, do what its parts can do alone.
+/// It is ended by `close` alone, so no worker outlives it.
+pub struct Engine<G: Gate + 'static> {
+    crew: Crew,
+    gate: Arc<G>,
+    replies: Vec<(u64, Reply)>,
+    alloc: Global,
+}
+
+impl<G: Gate + 'static> Model for Engine<G> {
+    ghost use Rattle.std.specs.Prelude.{◌≡◌, ◌≤◌, ◌⊎◌, [], vec_capacity};
+    ghost use Rattle.hlr_workers.specs.Inside.{IsKept, NoneOut, engaged};
+    ghost use Rattle.hlr_workers.specs.Standing.{Engaged};
+    ghost use Rattle.hlr_workers.specs.declared.work.TheConstants.{MOST_PENDING};
+
+    ghost Value = { Engaged };
+
+    ghost view = { λ e. engaged e.crew e.replies.items };
+
+    ghost invariant = { λ e. IsKept e.crew e.replies.items × (e.replies.items ≡ [] → NoneOut e.crew) × ((e.replies.items ≡ []) ⊎ (MOST_PENDING ≤ vec_capacity e.replies)) };
+}
+
+/// Makes room for the replies to come, where there is none.
+fn reserve(replies: &mut Vec<(u64, Reply)>, alloc: Global) -> Result<(), Refusal>
+    requires { (replies.old.items ≡ []) ⊎ (MOST_PENDING ≤ vec_capacity replies.old) }
+    ensures room { OnOk result (MOST_PENDING ≤ vec_capacity replies.new) }
+    ensures items { replies.new.items ≡ replies.old.items }
+    ensures err { OnErr result (result ≡ Err Refusal.Memory) }
+    ensures kept { OnErr result (replies.new ≡ replies.old) }
+{
+    if replies.capacity() >= MOST_PENDING {
+        return Ok(());
+    }
+    let Ok(reserved) = Vec::with_capacity(alloc, MOST_PENDING) else {
+        return Err(Refusal::Memory);
+    };
+    *replies = reserved;
+    Ok(())
+}
+
+/// What stands in the place of a reply until it comes.
+fn blank() -> Reply {
+    Reply::Rows(RowReply::Done)
+}
+
+/// Puts replies in their places.
+fn land(replies: &mut Vec<(u64, Reply)>, answers: Vec<(u64, Reply)>)
+    ensures items { replies.new.items ≡ land replies.old.items answers.items }
+    ensures capacity { vec_capacity replies.new ≡ vec_capacity replies.old }
+{
+    for answer in answers {
+        let place = answer.0 as usize;
+        if place < replies.len() {
+            replies[place] = answer;
+        }
+    }
+}
+
+/// Brings a part home, if it is out, and puts the replies to its jobs in their places.
+fn bring_home<R: Threads + Wait>(rt: &R, crew: &mut Crew, replies: &mut Vec<(u64, Reply)>, part: u8)
+    requires { IsKept crew.old replies.old.items }
+    ensures kept { IsKept crew.new replies.new.items }
+    ensures stands { IsAsBefore (engaged crew.old replies.old.items) (engaged crew.new replies.new.items) }
+    ensures home { outs_in crew.new.house.seats ≡ slice_set (outs_in crew.old.house.seats) part None }
+    ensures places { length replies.new.items ≡ length replies.old.items }
+    ensures capacity { vec_capacity replies.new ≡ vec_capacity replies.old }
+    ensures house { crew.new.house ≡ record crew.old.house { seats = crew.new.house.seats } }
+{
+    // For the prover: each region has its owner beside it.
+    let _register = crew.register();
+    if let Some(answers) = crew.bring_home(rt, part) {
+        land(replies, answers);
+    }
+}
+
+/// Brings all parts home.
+fn bring_all_home<R: Threads + Wait>(rt: &R, crew: &mut Crew, replies: &mut Vec<(u64, Reply)>)
+    requires { IsKept crew.old replies.old.items }
+    ensures kept { IsKept crew.new replies.new.items }
+    ensures stands { IsAsBefore (engaged crew.old replies.old.items) (engaged crew.new replies.new.items) }
+    ensures home { NoneOut crew.new }
+    ensures jobs { AllByRecursion (λ own. own ≡ []) crew.new.jobs }
+    ensures places { length replies.new.items ≡ length replies.old.items }
+    ensures house { crew.new.house ≡ record crew.old.house { seats = crew.new.house.seats } }
+{
+    // For the prover: each region has its owner beside it.
+    let _register = crew.register();
+    for part in 0..crew.register().regions().parts() {
+        bring_home(rt, crew, replies, part);
+    }
+    // For the prover: a part that isn't out has no jobs.
+    let _register = crew.register();
+}
+
+/// The part with a number, if there may be one.
+fn part_numbered(part: u64) -> Option<u8>
+    ensures { (h : Seating) → AreSeated h → IfSome result (λ number. IsPartHome number h) → IsPartHome part h }
+{
+    if part >= u64::from(MOST_PARTS) {
+        return None;
+    }
+    Some(part as u8)
+}
+
+/// The part that has a subscriber, unless a loose piece has them.
+fn owner_of(register: &Register, s_id: u32) -> Option<u8>
+    requires from { 1 ≤ s_id }
+    requires to { s_id ≤ LAST_SUBSCRIBER }
+    ensures { (h : Seating) → h.regions ≡ register.now.regions → IfSome result (λ part. IsPartHome part h) → IsHomeFor s_id h }
+{
+    match register.regions().place(s_id) {
+        Place::Part(part) => Some(part),
+        Place::Piece(_) => None,
+    }
+}
+
+/// The same for a number that may be nobody's s_id.
+fn owner_if_any(register: &Register, s_id: u64) -> Option<u8>
+    ensures { (h : Seating) → AreSeated h → h.regions ≡ register.now.regions → IfSome result (λ part. IsPartHome part h) → IsHomeFor s_id h }
+{
+    let Ok(s_id) = in_range(s_id, LAST_SUBSCRIBER) else {
+        return None;
+    };
+    owner_of(register, s_id)
+}
+
+/// The part that works on an event that gives a number or moves regions, if one does.
+fn part_of(register: &Register, event: &Event) -> Option<u8>
+    requires { is_here event.now ≡ true }
+    ensures { (h : Seating) → AreSeated h → h.regions ≡ register.now.regions → IfSome result (λ part. IsPartHome part h) → IsHomeTo event.now h }
+{
+    match *event {
+        Event::AddSubscriber(row) => owner_of(register, row.s_id()),
+        Event::SetNumber { s_id, .. } => owner_if_any(register, s_id),
+        Event::Give { part, .. } => part_numbered(part),
+        Event::Take { part, .. } => part_numbered(part),
+        _ => unreachable!(),
+    }
+}
+
+/// Brings the part home that works on an event which gives a number or moves regions.
+fn bring_worker_home<R: Threads + Wait>(
+    rt: &R,
+    crew: &mut Crew,
+    replies: &mut Vec<(u64, Reply)>,
+    event: &Event,
+)
+    requires here { is_here event.now ≡ true }
+    requires kept { IsKept crew.old replies.old.items }
+    ensures kept { IsKept crew.new replies.new.items }
+    ensures stands { IsAsBefore (engaged crew.old replies.old.items) (engaged crew.new replies.new.items) }
+    ensures home { IsHomeTo event.now crew.new.house }
+    ensures places { length replies.new.items ≡ length replies.old.items }
+    ensures capacity { vec_capacity replies.new ≡ vec_capacity replies.old }
+    ensures house { crew.new.house ≡ record crew.old.house { seats = crew.new.house.seats } }
+{
+    let Some(part) = part_of(crew.register(), event) else {
+        return;
+    };
+    bring_home(rt, crew, replies, part);
+    // For the prover: each region has its owner beside it.
+    let _register = crew.register();
+}
+
+/// Has the register itself do an event, which gives a number or moves regions: the part that works on it comes home
+/// first, the others go on.
+fn answer_here<R: Threads + Wait>(
+    rt: &R,
+    crew: &mut Crew,
+    replies: &mut Vec<(u64, Reply)>,
+    event: Event,
+) -> Reply
+    requires here { is_here event ≡ true }
+    requires kept { IsKept crew.old replies.old.items }
+    ensures kept { IsKept crew.new (replies.new.items ++ (length replies.old.items, result) ∷ []) }
+    ensures took { TookNext (Took event) (engaged crew.old replies.old.items) (engaged crew.new (replies.new.items ++ (length replies.old.items, result) ∷ [])) }
+    ensures places { length replies.new.items ≡ length replies.old.items }
+    ensures capacity { vec_capacity replies.new ≡ vec_capacity replies.old }
+    ensures spare { crew.new.house.spare ≡ crew.old.house.spare }
+{
+    bring_worker_home(rt, crew, replies, &event);
+    crew.apply(event)
+}
+
+/// Answers an event, or sends it to the worker of a part; its reply comes later then, and until it does a blank stands
+/// in its place.
+fn answer<G: Gate + 'static, R: Threads + Wait + Copy + Send + Sync + 'static>(
+    rt: &R,
+    alloc: Global,
+    crew: &mut Crew,
+    replies: &mut Vec<(u64, Reply)>,
+    gate: &Arc<G>,
+    event: Event,
+) -> Result<Reply, Refusal>
+    requires kept { IsKept crew.old replies.old.items }
+    requires room { length replies.old.items < MOST_PENDING }
+    ensures kept { IfOk result (λ reply. IsKept crew.new (replies.new.items ++ (length replies.old.items, reply) ∷ [])) }
+    ensures took { IfOk result (λ reply. TookNext (Took event) (engaged crew.old replies.old.items) (engaged crew.new (replies.new.items ++ (length replies.old.items, reply) ∷ []))) }
+    ensures refused { OnErr result (crew.new ≡ crew.old) }
+    ensures same { OnErr result (replies.new ≡ replies.old) }
+    ensures why { OnErr result ((result ≡ Err Refusal.Memory) ⊎ (result ≡ Err Refusal.Thread)) }
+    ensures places { length replies.new.items ≡ length replies.old.items }
+    ensures capacity { vec_capacity replies.new ≡ vec_capacity replies.old }
+    ensures spare { crew.new.house.spare ≡ crew.old.house.spare }
+{
+    match crew.register().route(&event) {
+        Route::Now(reply) => Ok(reply),
+        Route::To(part, job) => {
+            let number = replies.len() as u64;
+            match crew.send(rt, alloc, gate, part, number, job) {
+                Ok(()) => Ok(blank()),
+                Err(why) => Err(why),
+            }
+        }
+        Route::Here => Ok(answer_here(rt, crew, replies, event)),
+    }
+}
+
+/// Brings the parts home on both sides of each bound that a re-cut moves.
+fn bring_sides_home<R: Threads + Wait>(
+    rt: &R,
+    crew: &mut Crew,
+    replies: &mut Vec<(u64, Reply)>,
+    bounds: &[u64],
+)
+    requires kept { IsKept crew.old replies.old.items }
+    ensures kept { IsKept crew.new replies.new.items }
+    ensures stands { IsAsBefore (engaged crew.old replies.old.items) (engaged crew.new replies.new.items) }
+    ensures home { IsHomeToCut bounds.now crew.new.house }
+    ensures still { NoneOut crew.old → NoneOut crew.new }
+    ensures places { length replies.new.items ≡ length replies.old.items }
+    ensures capacity { vec_capacity replies.new ≡ vec_capacity replies.old }
+    ensures house { crew.new.house ≡ record crew.old.house { seats = crew.new.house.seats } }
+{
+    let Ok(moves) = crew.register().regions().moves_to(bounds) else {
+        return;
+    };
+    for bound_move in moves.as_slice() {
+        bring_home(rt, crew, replies, bound_move.bound.saturating_sub(1));
+        bring_home(rt, crew, replies, bound_move.bound);
+    }
+}
+
+impl<G: Gate + 'static> Engine<G> {
+    /// An engine over a register with all parts at home. The gate is called round each job, by the thread that does it.
+    /// It takes no memory.
+    pub fn new(alloc: Global, register: Register, gate: Arc<G>) -> Engine<G>
+        requires { AllHome register.seats }
+        ensures house { result.house ≡ register }
+        ensures replies { result.replies ≡ [] }
+        ensures stands { Stands result (store_in register) [] }
+    {
+        Engine {
+            crew: Crew::of(register),
+            gate,
+            replies: Vec::new(alloc),
+            alloc,
+        }
+    }
+
+    /// How many events were taken since the last settle.
+    pub fn pending(&self) -> usize
+        ensures { result ≡ length self.now.replies }
+    {
+        self.replies.len()
+    }
+
+    /// The register, where no event is pending.
+    pub fn register(&self) -> &Register
+        requires { self.now.replies ≡ [] }
+        ensures value { result.now ≡ self.now.house }
+        ensures home { AllHome self.now.house.seats }
+        ensures right { IsSettled self.now [] self.now.house }
+        ensures stands { Stands self.now (store_in self.now.house) [] }
+    {
+        self.crew.register()
+    }
+
+    /// Takes an event, where fewer than `MOST_PENDING` are pending: the answer is its number, counted from 0 after each
+    /// settle. What is known at once is answered at once; what a part does alone goes to the part's worker, which is
+    /// started for its first job; what gives a number or moves regions is done here, once the part is home that works
+    /// on it. `Memory` where a growth was refused, `Thread` where the start of a thread was: then the event isn't
+    /// taken. It may wait.
+    pub fn submit<R: Threads + Wait + Copy + Send + Sync + 'static>(
+        &mut self,
+        rt: &R,
+        event: Event,
+    ) -> Result<u64, Refusal>
+        requires { length self.old.replies < MOST_PENDING }
+        ensures number { IfOk result (λ number. number ≡ length self.old.replies) }
+        ensures pending { OnOk result (length self.new.replies ≡ length self.old.replies + 1) }
+        ensures took { OnOk result (TookNext (Took event) self.old self.new) }
+        ensures refused { OnErr result (self.new ≡ self.old) }
+        ensures why { OnErr result ((result ≡ Err Refusal.Memory) ⊎ (result ≡ Err Refusal.Thread)) }
+        ensures spare { self.new.house.spare ≡ self.old.house.spare }
+    {
+        match reserve(&mut self.replies, self.alloc) {
+            Ok(()) => {}
+            Err(why) => return Err(why),
+        }
+        let number = self.replies.len() as u64;
+        match answer(
+            rt,
+            self.alloc,
+            &mut self.crew,
+            &mut self.replies,
+            &self.gate,
+            event,
+        ) {
+            Ok(reply) => {
+                self.replies.push_reserved((number, reply));
+                Ok(number)
+            }
+            Err(refusal) => Err(refusal),
+        }
+    }
+
+    /// Brings all parts home: the replies to all events since the last settle, in their order, each with its number. It
+    /// takes no memory. It may wait.
+    pub fn settle<R: Threads + Wait>(&mut self, rt: &R) -> Vec<(u64, Reply)>
+        ensures each { length result.items ≡ length self.old.replies }
+        ensures numbered { AreNumbered result.items }
+        ensures right { IsSettled self.old result.items self.new.house }
+        ensures home { AllHome self.new.house.seats }
+        ensures replies { self.new.replies ≡ [] }
+        ensures stands { Stands self.new (store_in self.new.house) [] }
+        ensures spare { self.new.house.spare ≡ self.old.house.spare }
+    {
+        bring_all_home(rt, &mut self.crew, &mut self.replies);
+        mem::replace(&mut self.replies, Vec::new(self.alloc))
+    }
+
+    /// Moves the bounds between parts, as `Register::recut_to`: the parts on both sides of each bound that moves come
+    /// home first, the others go on. It may wait.
+    pub fn recut_to<R: Threads + Wait>(&mut self, rt: &R, bounds: &[u64]) -> Result<u8, Refusal>
+        ensures took { TookNext (Cut bounds.now result) self.old self.new }
+        ensures pending { length self.new.replies ≡ length self.old.replies }
+        ensures spare { self.new.house.spare ≡ self.old.house.spare }
+    {
+        bring_sides_home(rt, &mut self.crew, &mut self.replies, bounds);
+        self.crew.recut_to(bounds)
+    }
+
+    /// A sight of the board's words, as `Register::look`, while workers post. It takes no memory, and waits for nobody.
+    pub fn sight(&mut self) -> Sight
+        ensures right { IsSightOf (store_in self.old.house) result.words }
+        ensures stands { IsAsBefore self.old self.new }
+        ensures seen { self.new ≡ record self.old { house = record self.old.house { spare = with_view self.old.house.spare (looked self.old.house.spare.view result.words) } } }
+    {
+        self.crew.look()
+    }
+
+    /// Ends the engine: its register, with all parts at home, and the replies as `settle` gives them. It may wait.
+    pub fn close<R: Threads + Wait>(self, rt: &R) -> (Register, Vec<(u64, Reply)>)
+        ensures each { length result.1.items ≡ length self.replies }
+        ensures numbered { AreNumbered result.1.items }
+        ensures right { IsSettled self result.1.items result.0 }
+        ensures home { AllHome result.0.seats }
+        ensures spare { result.0.spare ≡ self.house.spare }
+    {
+        let mut engine = self;
+        let replies = engine.settle(rt);
+        let Engine {
+            crew,
+            gate: _gate,
+            replies: _replies,
+            alloc: _alloc,
+        } = engine;
+        (crew.into_register(), replies)
+    }
+}

@@ -1,0 +1,108 @@
+//! What a worker's thread does.
+ghost use Rattle.std.specs.Prelude.{◌≡◌, ◌≤◌, true, false, [], ◌∷◌, vec_capacity};
+ghost use Rattle.crossbeam_queue.specs.Passes.{view, IsPassOf};
+ghost use Rattle.hlr_core.specs.Session.{IsJobDone, IsWithinJob};
+ghost use Rattle.hlr_workers.specs.Finish.{IsAtWork, IsWorked};
+ghost use Rattle.hlr_workers.specs.Relay.{log};
+ghost use Rattle.hlr_workers.specs.declared.message.Message.TheVariants.{Begin};
+
+use crate::gate::Gate;
+use crate::inbox::Inbox;
+use crate::message::{Lent, Message};
+use crate::rule::Port;
+use hlr_core::Reply;
+use holding::{Holding, Job};
+use std::sync::Wait;
+use view_board::Board;
+
+/// How many events may be pending at most, and so for how many replies a worker has room.
+pub const MOST_PENDING: usize = 4_096;
+
+// The number that the condition of a submit means.
+const _: () = prove!(MOST_PENDING == 4_096);
+
+/// What the thread hands back: its pass, the holding as it is now, and the replies.
+#[derive(Drop)]
+pub(crate) struct Finished {
+    pub(crate) port: Port,
+    pub(crate) holding: Box<Holding>,
+    pub(crate) replies: Vec<(u64, Reply)>,
+}
+
+/// Does a job.
+fn do_job(holding: &mut Holding, board: &Board, job: Job) -> Reply
+    requires board { holding.old.desk.board ≡ board.now }
+    requires within { IsWithinJob holding.old job }
+    ensures { IsJobDone job holding.old result holding.new }
+{
+    match job {
+        Job::Act(action) => Reply::of_rows(holding.act(action)),
+        Job::Post(limit) => Reply::of_posting(holding.post(board, limit)),
+    }
+}
+
+/// The first message, which is the holding.
+fn first<R: Wait>(rt: &R, inbox: &Inbox, port: &mut Port) -> Lent
+    requires { IsPassOf inbox.now.line port.old × (view port.old ≡ log false true [] []) }
+    ensures { IsPassOf inbox.now.line port.new × (view port.new ≡ log false true [] (Begin result ∷ [])) }
+{
+    match inbox.pop(rt, port) {
+        Message::Begin(lent) => lent,
+        _ => unreachable!(),
+    }
+}
+
+/// Does the jobs that come, one after another, until the end is told.
+fn serve<G: Gate, R: Wait>(
+    rt: &R,
+    inbox: &Inbox,
+    gate: &G,
+    part: u8,
+    mut port: Port,
+    board: &Board,
+    mut holding: Box<Holding>,
+    mut replies: Vec<(u64, Reply)>,
+) -> Finished
+    requires port { IsPassOf inbox.now.line port }
+    requires board { holding.value.desk.board ≡ board.now }
+    requires work { IsAtWork (view port) replies.items holding.value }
+    requires room { MOST_PENDING ≤ vec_capacity replies }
+    ensures { IsPassOf inbox.now.line result.port × IsWorked (view result.port) result.replies.items result.holding.value }
+{
+    for _ in rt.forever() {
+        match inbox.pop(rt, &mut port) {
+            Message::Do(number, job) => {
+                gate.before(part, number);
+                let reply = do_job(&mut holding, board, job);
+                gate.after(part, number);
+                replies.push_reserved((number, reply));
+            }
+            Message::Stop => {
+                return Finished {
+                    port,
+                    holding,
+                    replies,
+                };
+            }
+            Message::Begin(_) => unreachable!(),
+        }
+    }
+    unreachable!()
+}
+
+/// The whole life of a worker's thread.
+pub(crate) fn live<G: Gate, R: Wait>(
+    rt: &R,
+    inbox: &Inbox,
+    gate: &G,
+    part: u8,
+    mut port: Port,
+    replies: Vec<(u64, Reply)>,
+) -> Finished
+    requires port { IsPassOf inbox.now.line port × (view port ≡ log false true [] []) }
+    requires room { (MOST_PENDING ≤ vec_capacity replies) × (replies.items ≡ []) }
+    ensures { IsPassOf inbox.now.line result.port × IsWorked (view result.port) result.replies.items result.holding.value }
+{
+    let Lent { holding, board } = first(rt, inbox, &mut port);
+    serve(rt, inbox, gate, part, port, &board, holding, replies)
+}
