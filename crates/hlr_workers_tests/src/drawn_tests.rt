@@ -1,0 +1,308 @@
+//! Engines against a register of one thread, on the same drawn steps.
+use crate::draws::{Draws, NUMBERS, SUBSCRIBERS, Step, s_id_at};
+use crate::engines::{
+    are_replies, ask, engine_over, open_gate, peopled, published, read, recounted, recut, submit,
+    unposted,
+};
+use crate::gates::Open;
+use hlr_core::{Event, NumberIndex, Register, Reply, WORDS};
+use hlr_workers::Engine;
+use std::alloc::Global;
+use std::process::Abort;
+use std::sync::Wait;
+use std::thread::Threads;
+use tatp_rows::Number;
+
+/// How many scripts are drawn for each number of parts.
+const SCRIPTS: u64 = 67;
+
+/// How many re-cuts that move a bound they have at least, where there are several parts.
+const RECUTS: u64 = 5 * SCRIPTS;
+
+/// How many steps a script has.
+const STEPS: u64 = 300;
+
+/// How many events there are whose replies don't depend on when they are settled.
+const EVENTS: u64 = 10_000;
+
+/// A register of one thread, its replies that are still to come from the engine, what the engine saw last, and how many
+/// re-cuts moved a bound.
+#[derive(Drop)]
+struct Double {
+    register: Register,
+    due: Vec<Reply>,
+    seen: [u64; WORDS],
+    moved: u64,
+}
+
+/// Whether each word is at least what it was, and at most another one.
+fn are_between(low: &[u64; WORDS], words: &[u64; WORDS], high: &[u64; WORDS]) -> bool {
+    for ((low, word), high) in low.iter().zip(words).zip(high) {
+        if word < low || high < word {
+            return false;
+        }
+    }
+    true
+}
+
+/// Whether two indices have the same pairs of the numbers that are given, and as many.
+fn are_same(index: &NumberIndex, other: &NumberIndex) -> bool {
+    for value in 0..NUMBERS {
+        let Ok(sub_nbr) = Number::try_new(value) else {
+            return false;
+        };
+        if index.find(sub_nbr) != other.find(sub_nbr) {
+            return false;
+        }
+    }
+    index.len() == other.len()
+}
+
+/// Whether two registers answer an event alike.
+fn answer_alike(register: &mut Register, other: &mut Register, event: &Event) -> bool {
+    ask(register, *event) == ask(other, *event)
+}
+
+/// Whether two registers have the same access of a type, and the same facility with its forwardings: it is active once
+/// it is asked.
+fn have_type_alike(register: &mut Register, other: &mut Register, s_id: u64, kind: u64) -> bool {
+    let access = Event::AccessData {
+        s_id,
+        ai_type: kind,
+    };
+    let activation = Event::SetActive {
+        s_id,
+        sf_type: kind,
+        is_active: 1,
+    };
+    let mut are_alike = answer_alike(register, other, &access)
+        && answer_alike(register, other, &activation);
+    for turn in 0..72u64 {
+        let destinations = Event::NewDestination {
+            s_id,
+            sf_type: kind,
+            start_time: turn / 24 * 8,
+            end_time: turn % 24 + 1,
+        };
+        are_alike = answer_alike(register, other, &destinations) && are_alike;
+    }
+    are_alike
+}
+
+/// Whether two registers have the same rows, as far as events read them.
+fn have_rows_alike(register: &mut Register, other: &mut Register) -> bool {
+    let mut are_alike = true;
+    for place in 0..SUBSCRIBERS {
+        let s_id = s_id_at(place);
+        are_alike = answer_alike(register, other, &read(s_id))
+            && have_type_alike(register, other, s_id, 1)
+            && have_type_alike(register, other, s_id, 2)
+            && are_alike;
+    }
+    are_alike
+}
+
+/// Whether two registers have the same regions, words, cells, numbers and rows.
+fn agree(register: &mut Register, other: &mut Register) -> bool {
+    register.regions().list() == other.regions().list()
+        && register.look().words == other.look().words
+        && published(register) == published(other)
+        && unposted(register) == unposted(other)
+        && recounted(register) == recounted(other)
+        && recounted(register).is_some()
+        && are_same(register.index(), other.index())
+        && have_rows_alike(register, other)
+}
+
+impl Double {
+    /// A register of so many parts, with subscribers in them.
+    fn peopled(rt: &impl Abort, alloc: Global, parts: u8) -> Self {
+        Double {
+            register: peopled(rt, alloc, parts),
+            due: Vec::new(alloc),
+            seen: [0; WORDS],
+            moved: 0,
+        }
+    }
+
+    /// Whether an engine takes an event and gives it the number of its place.
+    fn takes<R: Threads + Wait + Abort + Copy + Send + Sync + 'static>(
+        &mut self,
+        rt: &R,
+        engine: &mut Engine<Open>,
+        event: &Event,
+    ) -> bool {
+        let number = self.due.len();
+        let reply = ask(&mut self.register, *event);
+        self.due.push(reply).expect(rt, "room for a reply");
+        let is_taken = engine.pending() == number
+            && submit(rt, engine, *event) == Ok(number as u64);
+        is_taken && engine.pending() == number.wrapping_add(1)
+    }
+
+    /// Whether an engine sees no less than it saw before, and no more than is posted once all is done.
+    fn looks(&mut self, engine: &mut Engine<Open>) -> bool {
+        let sight = engine.sight();
+        let is_right = are_between(&self.seen, &sight.words, &self.register.look().words);
+        self.seen = sight.words;
+        is_right
+    }
+
+    /// Whether replies are those that were due; then none is.
+    fn had(&mut self, replies: &[(u64, Reply)]) -> bool {
+        let are_right = are_replies(replies, self.due.as_slice());
+        self.due.clear();
+        are_right
+    }
+
+    /// Whether an engine settles with the replies that were due, and sees what is posted.
+    fn settles<R: Threads + Wait>(&mut self, rt: &R, engine: &mut Engine<Open>) -> bool {
+        let replies = engine.settle(rt);
+        self.had(&replies)
+            && engine.pending() == 0
+            && engine.sight().words == self.register.look().words
+    }
+
+    /// Whether an engine answers a re-cut alike.
+    fn cuts<R: Threads + Wait>(
+        &mut self,
+        rt: &R,
+        engine: &mut Engine<Open>,
+        bounds: &[u64],
+    ) -> bool {
+        let want = recut(&mut self.register, bounds);
+        if let Ok(count) = want {
+            self.moved = self.moved.wrapping_add(u64::from(count > 0));
+        }
+        engine.recut_to(rt, bounds) == want
+    }
+
+    /// Whether a step is answered alike.
+    fn steps<R: Threads + Wait + Abort + Copy + Send + Sync + 'static>(
+        &mut self,
+        rt: &R,
+        engine: &mut Engine<Open>,
+        step: Step,
+    ) -> bool {
+        match step {
+            Step::Take(event) => self.takes(rt, engine, &event),
+            Step::Cut(bounds) => self.cuts(rt, engine, bounds.as_slice()),
+            Step::Look => self.looks(engine),
+            Step::Settle => self.settles(rt, engine),
+        }
+    }
+
+    /// How many of the drawn steps were answered alike.
+    fn steps_alike<R: Threads + Wait + Abort + Copy + Send + Sync + 'static>(
+        &mut self,
+        rt: &R,
+        engine: &mut Engine<Open>,
+        draws: &mut Draws,
+    ) -> u64 {
+        let mut alike = 0u64;
+        for _ in 0..STEPS {
+            let step = draws.step(rt, self.register.regions());
+            alike = alike.wrapping_add(u64::from(self.steps(rt, engine, step)));
+        }
+        alike
+    }
+
+    /// How many of the drawn events were taken and settled alike, with a settle after so many each.
+    fn settles_alike<R: Threads + Wait + Abort + Copy + Send + Sync + 'static>(
+        &mut self,
+        rt: &R,
+        engine: &mut Engine<Open>,
+        draws: &mut Draws,
+        between: u64,
+    ) -> u64 {
+        let mut alike = 0u64;
+        for _ in 0..EVENTS {
+            let event = draws.event(rt, self.register.regions());
+            let mut is_alike = self.takes(rt, engine, &event);
+            if self.due.len() as u64 == between {
+                is_alike = self.settles(rt, engine) && is_alike;
+            }
+            alike = alike.wrapping_add(u64::from(is_alike));
+        }
+        alike
+    }
+}
+
+/// An engine of so many parts with subscribers in them, and a register of one thread.
+fn begun<R: Abort>(rt: &R, alloc: Global, parts: u8) -> (Engine<Open>, Double) {
+    let gate = open_gate(rt, alloc);
+    let engine = engine_over(rt, alloc, peopled(rt, alloc, parts), &gate);
+    (engine, Double::peopled(rt, alloc, parts))
+}
+
+/// Whether an engine is closed with the replies that were due, and its register agrees with that of one thread.
+fn ends_alike<R: Threads + Wait>(rt: &R, engine: Engine<Open>, mut double: Double) -> bool {
+    let (mut register, replies) = engine.close(rt);
+    let are_right = double.had(&replies) && agree(&mut register, &mut double.register);
+    drop(register);
+    drop(double);
+    are_right
+}
+
+/// Whether a drawn script of so many parts is answered alike, and how many of its re-cuts moved a bound.
+fn script_is_alike<R: Threads + Wait + Abort + Copy + Send + Sync + 'static>(
+    rt: &R,
+    alloc: Global,
+    seed: u64,
+    parts: u8,
+) -> (bool, u64) {
+    let (mut engine, mut double) = begun(rt, alloc, parts);
+    let alike = double.steps_alike(rt, &mut engine, &mut Draws::new(seed));
+    let moved = double.moved;
+    (ends_alike(rt, engine, double) && alike == STEPS, moved)
+}
+
+/// How many drawn scripts of so many parts are answered alike, and how many of their re-cuts moved a bound.
+fn scripts_alike<R: Threads + Wait + Abort + Copy + Send + Sync + 'static>(
+    rt: &R,
+    alloc: Global,
+    parts: u8,
+) -> (u64, u64) {
+    let (mut alike, mut moved) = (0u64, 0u64);
+    for script in 0..SCRIPTS {
+        let seed = script.wrapping_mul(16).wrapping_add(u64::from(parts));
+        let (is_alike, recuts) = script_is_alike(rt, alloc, seed, parts);
+        alike = alike.wrapping_add(u64::from(is_alike));
+        moved = moved.wrapping_add(recuts);
+    }
+    (alike, moved)
+}
+
+#[test]
+fn drawn_scripts_of_one_part(rt: HostRuntime) {
+    assert_eq!(rt; scripts_alike(&rt, rt.alloc(), 1), (SCRIPTS, 0));
+}
+
+#[test]
+fn drawn_scripts_of_three_parts(rt: HostRuntime) {
+    let (alike, moved) = scripts_alike(&rt, rt.alloc(), 3);
+    assert_eq!(rt; (alike, moved >= RECUTS), (SCRIPTS, true));
+}
+
+#[test]
+fn drawn_scripts_of_sixteen_parts(rt: HostRuntime) {
+    let (alike, moved) = scripts_alike(&rt, rt.alloc(), 16);
+    assert_eq!(rt; (alike, moved >= RECUTS), (SCRIPTS, true));
+}
+
+/// Whether many drawn events are answered alike, with a settle after so many each.
+fn settling_is_alike<R: Threads + Wait + Abort + Copy + Send + Sync + 'static>(
+    rt: &R,
+    alloc: Global,
+    between: u64,
+) -> bool {
+    let (mut engine, mut double) = begun(rt, alloc, 3);
+    let alike = double.settles_alike(rt, &mut engine, &mut Draws::new(7), between);
+    ends_alike(rt, engine, double) && alike == EVENTS
+}
+
+#[test]
+fn replies_whenever_settled(rt: HostRuntime) {
+    let alike = [1, 7, 4_096].map(|between| settling_is_alike(&rt, rt.alloc(), between));
+    assert_eq!(rt; alike, [true; 3]);
+}

@@ -1,0 +1,237 @@
+//! What workers do at once, and which go on while the others come home: seen by gates.
+use crate::engines::{
+    DONE, are_replies, are_rows, engine_over, filled, has_posting, number, plain_row, read,
+    read_all, row, row_reply, submit,
+};
+use crate::gates::{Doors, Hold, Meeting, Turns};
+use hlr_core::{Event, Reply};
+use hlr_workers::{Engine, Gate};
+use part_table::Side;
+use std::alloc::Global;
+use std::process::Abort;
+use std::sync::{Arc, Wait};
+use std::thread::Threads;
+use tatp_actions::RowReply;
+use tatp_rows::Refusal;
+
+/// Asserts that the workers of these subscribers, one of each part, wait for each other before they read, and that each
+/// reads its own.
+fn expect_meeting<R: Threads + Wait + Abort + Copy + Send + Sync + 'static>(
+    rt: &R,
+    alloc: Global,
+    parts: u8,
+    s_ids: &[u64],
+) {
+    let gate = Arc::new(alloc, Meeting::of(parts)).expect(rt, "a gate");
+    let mut engine = engine_over(rt, alloc, filled(rt, alloc, parts, s_ids), &gate);
+    let replies = read_all(rt, &mut engine, s_ids);
+    let (register, late) = engine.close(rt);
+    drop(register);
+    let found = (are_rows(rt, &replies, s_ids), late.len(), gate.gave_up());
+    assert_eq!(rt; found, (true, 0, false));
+}
+
+#[test]
+fn two_work_at_once(rt: HostRuntime) {
+    expect_meeting(&rt, rt.alloc(), 2, &[1, 100]);
+}
+
+#[test]
+fn sixteen_work_at_once(rt: HostRuntime) {
+    let s_ids = [
+        1, 9, 17, 25, 33, 41, 49, 57, 65, 73, 81, 89, 97, 105, 113, 121,
+    ];
+    expect_meeting(&rt, rt.alloc(), 16, &s_ids);
+}
+
+/// What a re-cut of three parts answers that moves the bound between the last two, while the worker of the first is
+/// held up; and the replies to reads that were taken before it.
+fn recut_beside<R: Threads + Wait + Copy + Send + Sync + 'static>(
+    rt: &R,
+    engine: &mut Engine<Hold>,
+    gate: &Hold,
+    s_ids: &[u64],
+) -> (Result<u8, Refusal>, Vec<(u64, Reply)>) {
+    for s_id in s_ids {
+        let _number = submit(rt, engine, read(*s_id));
+    }
+    let moved = engine.recut_to(rt, &[41, 90]);
+    gate.let_go();
+    (moved, engine.settle(rt))
+}
+
+#[test]
+fn recut_leaves_others_at_work(rt: HostRuntime) {
+    let s_ids = [1, 50, 90];
+    let gate = Arc::new(rt.alloc(), Hold::of(0)).expect(&rt, "a gate");
+    let register = filled(&rt, rt.alloc(), 3, &s_ids);
+    let mut engine = engine_over(&rt, rt.alloc(), register, &gate);
+    let (moved, replies) = recut_beside(&rt, &mut engine, &gate, &s_ids);
+    let (register, _none) = engine.close(&rt);
+    drop(register);
+    let found = (moved, are_rows(&rt, &replies, &s_ids), gate.gave_up());
+    assert_eq!(rt; found, (Ok(1), true, false));
+}
+
+/// The replies to events that are taken while the worker of a part is held up, and settled once it is let go.
+fn done_beside<R: Threads + Wait + Copy + Send + Sync + 'static>(
+    rt: &R,
+    engine: &mut Engine<Hold>,
+    gate: &Hold,
+    events: &[Event],
+) -> Vec<(u64, Reply)> {
+    for event in events {
+        let _number = submit(rt, engine, *event);
+    }
+    gate.let_go();
+    engine.settle(rt)
+}
+
+/// A read of each of three parts; then, between reads of the second and the third, what the register does there, and
+/// what is known at once.
+fn events_beside(rt: &impl Abort) -> [Event; 11] {
+    let (five, ninety) = (number(rt, 5), number(rt, 90));
+    [
+        read(1),
+        read(50),
+        read(90),
+        Event::AddSubscriber(plain_row(rt, 60)),
+        Event::SetNumber {
+            s_id: 90,
+            sub_nbr: five,
+        },
+        read(60),
+        Event::Give {
+            part: 1,
+            side: Side::High,
+            at: 70,
+        },
+        read(70),
+        Event::UpdateLocation {
+            sub_nbr: ninety,
+            vlr_location: 1,
+        },
+        Event::Take { piece: 1, part: 2 },
+        read(90),
+    ]
+}
+
+/// The replies to these.
+fn replies_beside(rt: &impl Abort) -> [Reply; 11] {
+    [
+        row_reply(rt, 1),
+        row_reply(rt, 50),
+        row_reply(rt, 90),
+        DONE,
+        DONE,
+        row_reply(rt, 60),
+        Reply::Given {
+            piece: 1,
+            lo: 70,
+            hi: 85,
+        },
+        Reply::Refused(Refusal::Moving),
+        Reply::Refused(Refusal::NoNumber),
+        Reply::Taken { piece: 1, part: 2 },
+        Reply::Rows(RowReply::Row(row(rt, 90, 5, 268_435_456))),
+    ]
+}
+
+#[test]
+fn register_leaves_others_at_work(rt: HostRuntime) {
+    let gate = Arc::new(rt.alloc(), Hold::of(0)).expect(&rt, "a gate");
+    let register = filled(&rt, rt.alloc(), 3, &[1, 50, 90]);
+    let mut engine = engine_over(&rt, rt.alloc(), register, &gate);
+    let replies = done_beside(&rt, &mut engine, &gate, &events_beside(&rt));
+    let (register, _none) = engine.close(&rt);
+    drop(register);
+    let are_right = are_replies(&replies, &replies_beside(&rt));
+    assert_eq!(rt; (are_right, gate.gave_up()), (true, false));
+}
+
+/// Whether the posting of subscriber 7 is seen in one of a million looks.
+fn sees_posting<G: Gate + 'static>(engine: &mut Engine<G>) -> bool {
+    for _ in 0..1_000_000u32 {
+        if has_posting(engine) {
+            return true;
+        }
+    }
+    false
+}
+
+/// Whether a posting of the first part is seen while the worker of the second one is held up at a read, and the replies
+/// to both.
+fn posts_beside<R: Threads + Wait + Copy + Send + Sync + 'static>(
+    rt: &R,
+    engine: &mut Engine<Hold>,
+    gate: &Hold,
+) -> (bool, Vec<(u64, Reply)>) {
+    let _read = submit(rt, engine, read(100));
+    let _posted = submit(rt, engine, Event::Post { part: 0, limit: 51 });
+    let is_seen = sees_posting(engine);
+    gate.let_go();
+    (is_seen, engine.settle(rt))
+}
+
+#[test]
+fn posting_is_seen_at_once(rt: HostRuntime) {
+    let gate = Arc::new(rt.alloc(), Hold::of(1)).expect(&rt, "a gate");
+    let register = filled(&rt, rt.alloc(), 2, &[7, 100]);
+    let mut engine = engine_over(&rt, rt.alloc(), register, &gate);
+    let (is_seen, replies) = posts_beside(&rt, &mut engine, &gate);
+    let (register, _none) = engine.close(&rt);
+    drop(register);
+    let wanted = [row_reply(&rt, 100), Reply::Posted(2)];
+    let found = (is_seen, are_replies(&replies, &wanted), gate.gave_up());
+    assert_eq!(rt; found, (true, true, false));
+}
+
+#[test]
+fn gate_is_called_round_each_job(rt: HostRuntime) {
+    let mut s_ids = [1; 300];
+    for s_id in s_ids.iter_mut().skip(1).step_by(3) {
+        *s_id = 50;
+    }
+    for s_id in s_ids.iter_mut().skip(2).step_by(3) {
+        *s_id = 90;
+    }
+    let gate = Arc::new(rt.alloc(), Turns::new()).expect(&rt, "a gate");
+    let register = filled(&rt, rt.alloc(), 3, &[1, 50, 90]);
+    let mut engine = engine_over(&rt, rt.alloc(), register, &gate);
+    let replies = read_all(&rt, &mut engine, &s_ids);
+    let (register, _none) = engine.close(&rt);
+    drop(register);
+    let found = (are_rows(&rt, &replies, &s_ids), gate.counts());
+    assert_eq!(rt; found, (true, ([200; 3], 0)));
+}
+
+/// Whether a posting is seen while its worker stands before it, and while it stands behind it; and the reply to it.
+fn posted_between<R: Threads + Wait + Copy + Send + Sync + 'static>(
+    rt: &R,
+    engine: &mut Engine<Doors>,
+    gate: &Doors,
+) -> ([bool; 2], Vec<(u64, Reply)>) {
+    let _posted = submit(rt, engine, Event::Post { part: 0, limit: 51 });
+    gate.meet(1);
+    let is_before = has_posting(engine);
+    gate.open(1);
+    gate.meet(2);
+    let is_behind = has_posting(engine);
+    gate.open(2);
+    ([is_before, is_behind], engine.settle(rt))
+}
+
+#[test]
+fn job_is_done_between_both_calls(rt: HostRuntime) {
+    let gate = Arc::new(rt.alloc(), Doors::new()).expect(&rt, "a gate");
+    let register = filled(&rt, rt.alloc(), 1, &[7]);
+    let mut engine = engine_over(&rt, rt.alloc(), register, &gate);
+    let (seen, replies) = posted_between(&rt, &mut engine, &gate);
+    let (register, _none) = engine.close(&rt);
+    drop(register);
+    let are_right = are_replies(&replies, &[Reply::Posted(2)]);
+    assert_eq!(rt;
+        (seen, are_right, gate.gave_up()),
+        ([false, true], true, false)
+    );
+}

@@ -1,0 +1,215 @@
+//! Gates by which a test sees which workers work at once, or holds one up.
+use hlr_workers::Gate;
+use std::sync::atomic::{AtomicBool, AtomicU64, Ordering};
+use std::thread;
+
+/// How often a gate looks, before it gives up waiting.
+const TURNS: u32 = 10_000_000;
+
+/// A gate that is always open.
+#[derive(Drop)]
+pub struct Open;
+
+impl Gate for Open {
+    fn before(&self, _part: u8, _seq: u64) {}
+
+    fn after(&self, _part: u8, _seq: u64) {}
+}
+
+/// A gate at which each part waits for all others: a bit for each part that has come.
+#[derive(Drop)]
+pub struct Meeting {
+    all: u64,
+    came: AtomicU64,
+    gave_up: AtomicBool,
+}
+
+impl Meeting {
+    /// A gate for the parts from 0 on, so many.
+    pub fn of(parts: u8) -> Self {
+        Meeting {
+            all: 1u64.wrapping_shl(u32::from(parts)).wrapping_sub(1),
+            came: AtomicU64::new(0),
+            gave_up: AtomicBool::new(false),
+        }
+    }
+
+    /// Whether a part gave up waiting for the others.
+    pub fn gave_up(&self) -> bool {
+        self.gave_up.load(Ordering::SeqCst)
+    }
+}
+
+impl Gate for Meeting {
+    fn before(&self, part: u8, _seq: u64) {
+        let bit = 1u64.wrapping_shl(u32::from(part));
+        self.came.fetch_or(bit, Ordering::SeqCst);
+        for _ in 0..TURNS {
+            if self.came.load(Ordering::SeqCst) == self.all {
+                return;
+            }
+            thread::yield_now();
+        }
+        self.gave_up.store(true, Ordering::SeqCst);
+    }
+
+    fn after(&self, _part: u8, _seq: u64) {}
+}
+
+/// A gate that holds one part up until it is let go.
+#[derive(Drop)]
+pub struct Hold {
+    held: u8,
+    is_let_go: AtomicBool,
+    gave_up: AtomicBool,
+}
+
+impl Hold {
+    /// A gate that holds this part up.
+    pub fn of(held: u8) -> Self {
+        Hold {
+            held,
+            is_let_go: AtomicBool::new(false),
+            gave_up: AtomicBool::new(false),
+        }
+    }
+
+    /// Lets the part go.
+    pub fn let_go(&self) {
+        self.is_let_go.store(true, Ordering::SeqCst);
+    }
+
+    /// Whether the part gave up waiting.
+    pub fn gave_up(&self) -> bool {
+        self.gave_up.load(Ordering::SeqCst)
+    }
+}
+
+impl Gate for Hold {
+    fn before(&self, part: u8, _seq: u64) {
+        if part != self.held {
+            return;
+        }
+        for _ in 0..TURNS {
+            if self.is_let_go.load(Ordering::SeqCst) {
+                return;
+            }
+            thread::yield_now();
+        }
+        self.gave_up.store(true, Ordering::SeqCst);
+    }
+
+    fn after(&self, _part: u8, _seq: u64) {}
+}
+
+/// How many parts have their calls counted.
+const COUNTED: u64 = 3;
+
+/// A gate that counts the calls of three parts whose jobs are numbered in turn, and those that come out of turn.
+#[derive(Drop)]
+pub struct Turns {
+    calls: [AtomicU64; COUNTED as usize],
+    out_of_turn: AtomicU64,
+}
+
+impl Turns {
+    /// A gate that wasn't called.
+    pub fn new() -> Self {
+        Turns {
+            calls: [AtomicU64::new(0), AtomicU64::new(0), AtomicU64::new(0)],
+            out_of_turn: AtomicU64::new(0),
+        }
+    }
+
+    /// How often each part called, and how often one did out of turn.
+    pub fn counts(&self) -> ([u64; COUNTED as usize], u64) {
+        let [first, second, third] = &self.calls;
+        let calls = [first, second, third].map(|calls| calls.load(Ordering::SeqCst));
+        (calls, self.out_of_turn.load(Ordering::SeqCst))
+    }
+
+    /// Counts a call round the job with a number, the first or the second one: each job before it called twice.
+    fn count(&self, part: u8, seq: u64, is_second: bool) {
+        let due = (seq / COUNTED)
+            .wrapping_mul(2)
+            .wrapping_add(u64::from(is_second));
+        let found = match self.calls.get(usize::from(part)) {
+            Some(calls) => calls.fetch_add(1, Ordering::SeqCst),
+            None => u64::MAX,
+        };
+        if found != due || seq % COUNTED != u64::from(part) {
+            self.out_of_turn.fetch_add(1, Ordering::SeqCst);
+        }
+    }
+}
+
+impl Gate for Turns {
+    fn before(&self, part: u8, seq: u64) {
+        self.count(part, seq, false);
+    }
+
+    fn after(&self, part: u8, seq: u64) {
+        self.count(part, seq, true);
+    }
+}
+
+/// A gate with two doors, before a job and after it: whoever comes to one waits until it is opened.
+#[derive(Drop)]
+pub struct Doors {
+    came: AtomicU64,
+    opened: AtomicU64,
+    gave_up: AtomicBool,
+}
+
+impl Doors {
+    /// A gate with both doors closed.
+    pub fn new() -> Self {
+        Doors {
+            came: AtomicU64::new(0),
+            opened: AtomicU64::new(0),
+            gave_up: AtomicBool::new(false),
+        }
+    }
+
+    /// Waits until a word is at least so much.
+    fn wait(&self, word: &AtomicU64, least: u64) {
+        for _ in 0..TURNS {
+            if word.load(Ordering::SeqCst) >= least {
+                return;
+            }
+            thread::yield_now();
+        }
+        self.gave_up.store(true, Ordering::SeqCst);
+    }
+
+    /// Comes to the door with a number, and goes through it.
+    fn go_through(&self, door: u64) {
+        self.came.store(door, Ordering::SeqCst);
+        self.wait(&self.opened, door);
+    }
+
+    /// Waits until somebody came to the door with a number.
+    pub fn meet(&self, door: u64) {
+        self.wait(&self.came, door);
+    }
+
+    /// Opens the door with a number.
+    pub fn open(&self, door: u64) {
+        self.opened.store(door, Ordering::SeqCst);
+    }
+
+    /// Whether somebody gave up waiting.
+    pub fn gave_up(&self) -> bool {
+        self.gave_up.load(Ordering::SeqCst)
+    }
+}
+
+impl Gate for Doors {
+    fn before(&self, _part: u8, _seq: u64) {
+        self.go_through(1);
+    }
+
+    fn after(&self, _part: u8, _seq: u64) {
+        self.go_through(2);
+    }
+}
