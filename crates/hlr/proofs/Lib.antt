@@ -3,6 +3,7 @@ pub mod OptionFacts
 pub mod RecordFacts
 pub mod LineFacts
 pub mod OrderFacts
+pub mod OwedFacts
 pub mod ReportFacts
 pub mod RunFacts
 pub mod SinkFacts

@@ -1,14 +1,15 @@
 -- What a parse of the program's words gives.
-use Rattle.std.proofs.Common.{◌≡◌, refl, sym, subst, ◌∙◌, ℕ, List, [], Option, Some, None, true}
+use Rattle.std.proofs.Common.{◌≡◌, refl, sym, subst, ◌∙◌, ℕ, List, [], Option, Some, None, Bool, true, false, ap}
 use Rattle.std.specs.Prelude.{IfSome, Result, Ok, Err, codes}
-use Rattle.std.specs.Str.Parse.{digits_value, without_leading_plus, ParsesUnsigned, ExplainsUnsignedError, HasUnsignedDigitsIfOk}
+use Rattle.std.specs.Str.Parse.{digits_value, without_leading_plus, ParsesBool, ParsesUnsigned, ExplainsUnsignedError, HasUnsignedDigitsIfOk}
 use Rattle.std.specs.declared.num.ParseIntError.{ParseIntError}
+use Rattle.std.specs.declared.str.ParseBoolError.{ParseBoolError}
 use Rattle.std.proofs.lemmas.Result.{OkIff-at_ok}
 use Rattle.clap.specs.Words.{App, Rule, Text, FailsBy, HasKind, Kinds, HasMatchesOf, ReadsOne, fault_of, found_of, is_simple, is_simple_and_free, matches_of, new_app, one_of, one_text, rows_of, with_rule}
 use Rattle.clap.specs.declared.parser.matches.ArgMatches.{ArgMatches}
 use Rattle.clap.specs.declared.error.Error.{Error}
 use Rattle.clap.proofs.WalkLemmas.{one_text-rows}
-use Rattle.hlr.specs.Options.{program, parts_rule, with_version, zone_rule, Spells}
+use Rattle.hlr.specs.Options.{flag_text, program, parts_rule, threads_rule, with_version, zone_rule, Spells, Tells}
 
 -- the program is one that clap's definitions speak of
 pub program_simple : is_simple program ≡ true
@@ -19,8 +20,8 @@ pub program_free : is_simple_and_free program ≡ true
 unfolding program
 program_free = refl
 
--- the program is built from its two options
-pub program_is : with_rule (with_rule (with_version (new_app (codes "hlr"))) parts_rule) zone_rule ≡ program
+-- the program is built from its options
+pub program_is : with_rule (with_rule (with_rule (with_version (new_app (codes "hlr"))) parts_rule) zone_rule) threads_rule ≡ program
 unfolding program
 program_is = refl
 
@@ -50,11 +51,31 @@ spelled m id (Some t) r e none some = by r (some t e)
     by None h = tt
     by (Some n) h = (t, sym (one_text-rows (found_of m) id) ∙ e, h)
 
--- the program's first option, added to the program without options, and then the second
+-- what a flag's text tells
+pub told : (m : ArgMatches) (id : List ℕ) (o : Option Text) (r : Option Bool) → one_text (found_of m) id ≡ o
+    → (one_text (found_of m) id ≡ None → r ≡ None) → ((t : List ℕ) → one_text (found_of m) id ≡ Some t → IfSome r (λ given. t ≡ flag_text given)) → IfSome r (Tells (one_of id (rows_of (found_of m))))
+told m id None r e none some = rw (none e) tt
+told m id (Some t) r e none some = by r (some t e)
+  where
+    by : (r : Option Bool) → IfSome r (λ given. t ≡ flag_text given) → IfSome r (Tells (one_of id (rows_of (found_of m))))
+    by None h = tt
+    by (Some given) h = sym (one_text-rows (found_of m) id) ∙ e ∙ ap Some h
+
+-- whether a flag is given that was read from a text
+pub read_flag : (t : List ℕ) (r : Option Bool) → ReadsOne {T = Bool} {E = ParseBoolError} ParsesBool t r → IfSome r (λ given. t ≡ flag_text given)
+read_flag t None read = tt
+read_flag t (Some true) read = read
+read_flag t (Some false) read = read
+
+-- the program's options, added to the program without options one after another
 pub with_parts : (app : App) (rule : Rule) → app ≡ with_version (new_app (codes "hlr")) → rule ≡ parts_rule → with_rule app rule ≡ with_rule (with_version (new_app (codes "hlr"))) parts_rule
 with_parts app rule a r = rw (a, r) refl
 
-pub program_from : (app : App) (rule : Rule) → app ≡ with_rule (with_version (new_app (codes "hlr"))) parts_rule → rule ≡ zone_rule → with_rule app rule ≡ program
+pub with_zone : (app : App) (rule : Rule) → app ≡ with_rule (with_version (new_app (codes "hlr"))) parts_rule → rule ≡ zone_rule
+    → with_rule app rule ≡ with_rule (with_rule (with_version (new_app (codes "hlr"))) parts_rule) zone_rule
+with_zone app rule a r = rw (a, r) refl
+
+pub program_from : (app : App) (rule : Rule) → app ≡ with_rule (with_rule (with_version (new_app (codes "hlr"))) parts_rule) zone_rule → rule ≡ threads_rule → with_rule app rule ≡ program
 program_from app rule a r = rw (a, r) program_is
 
 -- what a number that was read from a text is

@@ -1,14 +1,12 @@
 -- What records order of the register is a right run.
-use Rattle.std.proofs.Common.{◌≡◌, ◌≤◌, refl, ℕ, List, [], ◌∷◌, ◌++◌, length}
+use Rattle.std.proofs.Common.{◌≤◌, ℕ, List, [], ◌∷◌, ◌++◌, length}
 use Rattle.std.specs.Prelude.{Result, Ok, Err}
 use Rattle.arrayvec.specs.ArrayVec.{ArrayVec}
 use Rattle.tatp_rows.specs.declared.refusal.Refusal.{Refusal}
 use Rattle.hlr_owners.specs.Store.{Store}
 use Rattle.hlr_core.specs.Run.{IsRun}
 use Rattle.hlr_core.specs.declared.order.Answer.{Answer}
-use Rattle.hlr_core.specs.declared.order.Answer.TheVariants as answer
 use Rattle.hlr_core.specs.declared.order.Order.{Order}
-use Rattle.hlr_core.specs.declared.order.Order.TheVariants as order
 use Rattle.hlr_core.proofs.AtHomeLemmas.{same_at_home}
 use Rattle.hlr.specs.Command.{Command}
 use Rattle.hlr.specs.Command.{Command as command}

@@ -1,9 +1,9 @@
 -- The lines of a report, one after another.
-use Rattle.std.proofs.Common.{◌≡◌, refl, sym, ap, ◌∙◌, subst, ℕ, zero, suc, ◌+◌, ◌-◌, ◌*◌, ◌^◌, ◌<◌, ◌≤◌, ◌==◌, min, List, [], ◌∷◌, ◌++◌, length, get_or, Bool, true, false, Option, append_assoc, arith}
+use Rattle.std.proofs.Common.{◌≡◌, refl, sym, ap, ◌∙◌, subst, ℕ, zero, suc, ◌+◌, ◌-◌, ◌*◌, ◌^◌, ◌<◌, ◌≤◌, ◌==◌, min, List, [], ◌∷◌, ◌++◌, length, drop, get_or, Bool, true, false, Option, append_assoc, arith}
 use Rattle.std.specs.Prelude.{ℤ, Result, nat_le}
 use Rattle.std.specs.List.{AllByRecursion, filter, flat_map, range_with_len}
 use Rattle.std.proofs.lemmas.Bool.Decides.{nat_tests}
-use Rattle.std.proofs.lemmas.List.{append-nil, length-append}
+use Rattle.std.proofs.lemmas.List.{append-nil, drop_more, length-append}
 use Rattle.std.proofs.lemmas.List.Concat.{flat_map-append}
 use Rattle.std.specs.Io.KnownBytes.{Appends}
 use Rattle.tatp_rows.proofs.OrderedLemmas.{by_test, each-weaker, filter_all}
@@ -21,6 +21,10 @@ use Rattle.hlr.specs.Reports.{cells_where, rows_line, is_counted, is_standing, r
 use Rattle.hlr.specs.Sink.{AppendsFront, Puts}
 use Rattle.hlr.specs.declared.sink.Stalled.{Stalled}
 use Rattle.hlr.proofs.SinkFacts.{appends_none, appends_both, front_after, front_wider, puts_after}
+
+-- a list from a place on begins with what stands there
+pub drop_item : {X : Type 0} (xs : List X) (i : ℕ) (x : X) → i < length xs → x ≡ get_or xs i x → drop i xs ≡ x ∷ drop (i + 1) xs
+drop_item xs i x low is = drop_more xs i x low ∙ ap (λ y. y ∷ drop (i + 1) xs) (sym is)
 
 -- the lines of all but the rest were taken
 pub record ReportTo {X : Type 0} (line : X → List ℕ) (all rest : List X) (old new : Option (List ℕ)) : Type 0 where
@@ -64,14 +68,17 @@ module _ {X : Type 0} (line : X → List ℕ) (all : List X) where
   report_stops_by word rest left more old mid new to front took = front_wider old new (flat_map line all) _ (lines_stop_by rest left more old mid new to front took)
 
   -- the sink failed in a line
+  pub lines_stop : (rest left : List X) (x : X) (old mid new : Option (List ℕ)) (bytes : List ℕ) → ReportTo line all rest old mid
+      → rest ≡ x ∷ left → bytes ≡ line x → AppendsFront mid new bytes → AppendsFront old new (flat_map line all)
+  lines_stop rest left x old mid new bytes to first is took =
+      let whole : flat_map line all ≡ flat_map line to.shown ++ (line x ++ flat_map line left) =
+      ap (flat_map line) (to.all_is ∙ ap (λ xs. to.shown ++ xs) first) ∙ flat_map-append line to.shown (x ∷ left) in
+      rw whole (front_after old mid new _ _ to.grew (front_wider mid new (line x) _ (rw is at took)))
+
   pub report_stops : (word : List ℕ) (rest left : List X) (x : X) (old mid new : Option (List ℕ)) (bytes : List ℕ) → ReportTo line all rest old mid
       → rest ≡ x ∷ left → bytes ≡ line x → AppendsFront mid new bytes → AppendsFront old new (report_text word line all)
   unfolding report_text
-  report_stops word rest left x old mid new bytes to first is took =
-      let whole : flat_map line all ≡ flat_map line to.shown ++ (line x ++ flat_map line left) =
-      ap (flat_map line) (to.all_is ∙ ap (λ xs. to.shown ++ xs) first) ∙ flat_map-append line to.shown (x ∷ left) in
-      front_wider old new (flat_map line all) _
-      (rw whole (front_after old mid new _ _ to.grew (front_wider mid new (line x) _ (rw is at took))))
+  report_stops word rest left x old mid new bytes to first is took = front_wider old new (flat_map line all) _ (lines_stop rest left x old mid new bytes to first is took)
 
   -- all lines were handed on at once, and the sink took them, or failed in them
   pub report_at_once : (old new : Option (List ℕ)) (bytes : List ℕ) → bytes ≡ flat_map line all → Appends old new bytes → ReportTo line all [] old new

@@ -159,7 +159,7 @@ writes_whole fault.Read text = refl
 writes_whole fault.Write text = tt
 
 -- the first records are answered, and their whole text is written
-front_is_whole : (start : Store) (bytes : List ℕ) (old new : Option (List ℕ)) (why : Fault) (answered : AnsweredRecords start) (at : State) (left : List ℕ)
+pub front_is_whole : (start : Store) (bytes : List ℕ) (old new : Option (List ℕ)) (why : Fault) (answered : AnsweredRecords start) (at : State) (left : List ℕ)
     → Reached default_config st.StartRecord bytes answered.rows at left → Appends old new answered.text → RanFront start bytes old new why
 front_is_whole start bytes old new why answered at left reached grew = record {
   answered = answered;

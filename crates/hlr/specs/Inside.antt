@@ -1,11 +1,31 @@
 -- What the calls that write answers promise each other; no clause of `run_alone` cites this.
-use Rattle.std.specs.Prelude.{ℕ, Bool, List, Option, Result, codes, ℤ, pos, slice_index, slice_index_or}
+use Rattle.std.specs.Prelude.{◌≡◌, ◌++◌, ◌≤◌, ⊤, ◌⊎◌, length, ℕ, Bool, true, List, [], ◌∷◌, map, MatchResult, Option, Result, Ok, Err, codes, ℤ, pos, slice_index, slice_index_or}
+use Rattle.std.specs.List.{flat_map}
+use Rattle.std.specs.Io.KnownBytes.{Appends}
+use Rattle.tatp_rows.specs.declared.refusal.Refusal.{Refusal}
+use Rattle.hlr_core.specs.declared.event.Event.{Event}
+use Rattle.hlr_core.specs.declared.event.Reply.{Reply}
+use Rattle.hlr_workers.specs.Standing.{Engaged, Stands, Took}
+use Rattle.csv.specs.Reading.{AreRecords, Reached, default_config}
+use Rattle.csv.specs.declared.parser.State.{State}
+use Rattle.csv.specs.declared.parser.State.TheVariants as st
+use Rattle.hlr.specs.Command.{Command}
+use Rattle.hlr.specs.Command.{Command as command}
+use Rattle.hlr.specs.Lines.{reply_line}
+use Rattle.hlr.specs.Records.{command_of}
 use Rattle.tatp_actions.specs.Cell.{cell}
+use Rattle.hlr_owners.specs.Seats.{Seating, store_in}
 use Rattle.hlr_owners.specs.Store.{Store, published, unpublished}
 use Rattle.hlr_core.specs.Index.{index_of}
 use Rattle.hlr.specs.Reports.{report_text, cells_where, is_standing, standing_line, is_counted, rows_line, index_text, regions_text, scan_text, views_text}
-use Rattle.hlr.specs.Sink.{Puts}
-use Rattle.hlr.specs.Text.{proposal_line, RecordText}
+use Rattle.hlr.specs.Run.{RanFront}
+use Rattle.hlr.specs.Sink.{AppendsFront, Puts}
+use Rattle.hlr.specs.Text.{proposal_line, RecordText, RecordsText}
+use Rattle.hlr.specs.declared.fault.Fault.{Fault}
+use Rattle.hlr.specs.declared.fault.Fault.TheVariants as fault
+use Rattle.hlr.specs.declared.run.TheConstants.{RECORDS}
+use Rattle.hlr.specs.declared.records.Kind.{Kind}
+use Rattle.hlr.specs.declared.records.Kind.TheVariants as kind
 use Rattle.hlr.specs.declared.records.Report.{Report}
 use Rattle.hlr.specs.declared.records.Report.TheVariants as report
 use Rattle.hlr.specs.declared.records.Word.{Word}
@@ -59,3 +79,127 @@ report_on report.Scan store = scan_text (λ c. cell store.width c store.book)
 report_on report.Index store = index_text (index_of store.book.subscribers)
 report_on report.Regions store = regions_text store.regions
 report_on report.Propose store = proposal_line store
+
+-- what the records of a word ask for
+abbrev pub kind_of : Word → Kind
+kind_of word.Views = kind.Report report.Views
+kind_of word.Scan = kind.Report report.Scan
+kind_of word.Index = kind.Report report.Index
+kind_of word.Regions = kind.Report report.Regions
+kind_of word.Propose = kind.Report report.Propose
+kind_of word.Recut = kind.Recut
+kind_of _ = kind.Event
+
+-- the command that asks for the event which is made of what was read
+abbrev pub asks : {X : Type 0} → (X → Event) → Result X Refusal → Result Command Refusal
+asks event_of (Ok read) = Ok (command.Ask (event_of read))
+asks event_of (Err why) = Err why
+
+-- the lines of replies
+abbrev pub replies_text : List (ℕ × Reply) → List ℕ
+replies_text replies = flat_map (λ (one : ℕ × Reply). reply_line one.1) replies
+
+-- the records ask for these events, one for each
+abbrev pub AskFor : List (List (List ℕ)) → List Event → Type 0
+AskFor [] [] = ⊤
+AskFor (row ∷ rows) (event ∷ events) = (command_of row ≡ Ok (command.Ask event)) × AskFor rows events
+AskFor _ _ = ⊥
+
+-- answers to records are owed: an engine took the events that they ask for since it stood at a store
+pub record IsOwed (rows : List (List (List ℕ))) (before : Store) (engine : Engaged) : Type 0 where
+  pub events : List Event
+  pub asked : AskFor rows events
+  pub stands : Stands engine before (map Took events)
+  pub sight : before.sight ≡ engine.house.spare.view.seen
+
+-- of records from a store on, the first are answered, and the sink took their text; the answers to the others are owed
+pub record IsUnderway (rows : List (List (List ℕ))) (start : Store) (engine : Engaged) (old new : Option (List ℕ))
+    : Type 0 where
+  pub answered : List (List (List ℕ))
+  pub owed : List (List (List ℕ))
+  pub all : rows ≡ answered ++ owed
+  pub text : List ℕ
+  pub now : Store
+  pub answers : RecordsText answered start text now
+  pub grew : Appends old new text
+  pub owes : IsOwed owed now engine
+
+-- records from a store on are answered, and the sink took their text
+pub record AreAnswered (rows : List (List (List ℕ))) (start now : Store) (old new : Option (List ℕ)) : Type 0 where
+  pub text : List ℕ
+  pub answers : RecordsText rows start text now
+  pub grew : Appends old new text
+
+-- records from a store on are answered, of whose text the sink took a front and then told of a fault
+pub record AreBrokenOff (rows : List (List (List ℕ))) (start : Store) (old new : Option (List ℕ)) (stalled : Bool)
+    : Type 0 where
+  pub text : List ℕ
+  pub end : Store
+  pub answers : RecordsText rows start text end
+  pub front : AppendsFront old new text
+  pub told : stalled ≡ true
+
+-- whatever records are underway, what is owed of them is written, or the sink told of a fault in their text
+abbrev pub WritesOwed : Engaged → Seating → Option (List ℕ) → Option (List ℕ) → Bool → Result (Unit {0}) Stalled → Type 0
+WritesOwed before after taken new stalled r =
+    (rows : List (List (List ℕ))) (start : Store) (old : Option (List ℕ)) → IsUnderway rows start before old taken
+    → MatchResult r (λ done. AreAnswered rows start (store_in after) old new) (λ why. AreBrokenOff rows start old new stalled)
+
+-- nothing is owed: no event is pending, and the engine stands at its register
+pub record IsAtRest (engine : Engaged) : Type 0 where
+  pub none : engine.replies ≡ []
+  pub stands : Stands engine (store_in engine.house) []
+
+-- behind records, one more is answered, or the sink told of a fault in the text of the others or in its own
+abbrev pub HasAnswered : List (List (List ℕ)) → List (List ℕ) → Store → Engaged → Option (List ℕ) → Option (List ℕ) → Bool
+    → Result (Unit {0}) Stalled → Type 0
+HasAnswered rows fields start engine old new stalled (Ok done) = IsUnderway (rows ++ fields ∷ []) start engine old new
+HasAnswered rows fields start engine old new stalled (Err why) =
+    AreBrokenOff rows start old new stalled ⊎ AreBrokenOff (rows ++ fields ∷ []) start old new stalled
+
+-- whatever records are underway, one more is answered behind them
+abbrev pub AnswersNext : List (List ℕ) → Engaged → Engaged → Option (List ℕ) → Option (List ℕ) → Bool
+    → Result (Unit {0}) Stalled → Type 0
+AnswersNext fields before after taken new stalled r =
+    (rows : List (List (List ℕ))) (start : Store) (old : Option (List ℕ)) → IsUnderway rows start before old taken
+    → HasAnswered rows fields start after old new stalled r
+
+-- behind records, one more is answered or owed; the engine stands as it did where it has no memory or thread for it
+abbrev pub HasTaken : List (List (List ℕ)) → List (List ℕ) → Store → Engaged → Option (List ℕ) → Option (List ℕ) → Bool
+    → Result (Unit {0}) Fault → Type 0
+HasTaken rows fields start engine old new stalled (Ok done) = IsUnderway (rows ++ fields ∷ []) start engine old new
+HasTaken rows fields start engine old new stalled (Err fault.Memory) = IsUnderway rows start engine old new
+HasTaken rows fields start engine old new stalled (Err fault.Thread) = IsUnderway rows start engine old new
+HasTaken rows fields start engine old new stalled (Err fault.Write) =
+    AreBrokenOff rows start old new stalled ⊎ AreBrokenOff (rows ++ fields ∷ []) start old new stalled
+HasTaken rows fields start engine old new stalled (Err _) = ⊥
+
+-- whatever records are underway, one more is taken behind them
+abbrev pub TakesNext : List (List ℕ) → Engaged → Engaged → Option (List ℕ) → Option (List ℕ) → Bool
+    → Result (Unit {0}) Fault → Type 0
+TakesNext fields before after taken new stalled r =
+    (rows : List (List (List ℕ))) (start : Store) (old : Option (List ℕ)) → IsUnderway rows start before old taken
+    → HasTaken rows fields start after old new stalled r
+
+-- all records of the bytes are answered or owed, and a run may answer so many
+pub record HasComeToEnd (start : Store) (bytes : List ℕ) (engine : Engaged) (old new : Option (List ℕ)) : Type 0 where
+  pub rows : List (List (List ℕ))
+  pub few : length rows ≤ RECORDS
+  pub are_records : AreRecords default_config st.StartRecord bytes rows
+  pub underway : IsUnderway rows start engine old new
+
+-- the first records of the bytes are
+pub record HasComeTo (start : Store) (bytes : List ℕ) (engine : Engaged) (old new : Option (List ℕ)) : Type 0 where
+  pub rows : List (List (List ℕ))
+  pub few : length rows ≤ RECORDS
+  pub state : State
+  pub left : List ℕ
+  pub are_first : Reached default_config st.StartRecord bytes rows state left
+  pub underway : IsUnderway rows start engine old new
+
+-- how far a run came that ended so, before what is owed is written: after a fault of the sink nothing more will be
+abbrev pub HasCome : Store → List ℕ → Engaged → Option (List ℕ) → Option (List ℕ) → Result (Unit {0}) Fault
+    → Type 0
+HasCome start bytes engine old new (Ok done) = HasComeToEnd start bytes engine old new
+HasCome start bytes engine old new (Err fault.Write) = RanFront start bytes old new fault.Write
+HasCome start bytes engine old new (Err _) = HasComeTo start bytes engine old new

@@ -1,7 +1,8 @@
 -- The options of the program, and what the words that it is started with make of them.
-use Rattle.std.specs.Prelude.{◌≡◌, ℕ, true, List, [], ◌∷◌, Option, Some, codes, pos}
+use Rattle.std.specs.Prelude.{◌≡◌, ℕ, Bool, true, false, List, [], ◌∷◌, Option, Some, codes, pos}
 use Rattle.std.specs.Str.Parse.{digits_value, without_leading_plus}
 use Rattle.clap.specs.Words.{App, Row, Rule, Text, new_app, new_rule, one_of, with_rule}
+use Rattle.clap.specs.declared.builder.action.ArgAction.TheVariants.{SetTrue}
 use Rattle.clap.specs.declared.builder.value_parser.ValueParser.TheVariants as parser
 use Rattle.part_table.specs.declared.region.TheConstants.{MOST_PARTS}
 use Rattle.tatp_rows.specs.declared.ranges.TheConstants.{GREATEST_WIDTH}
@@ -26,21 +27,39 @@ zone_rule = record (new_rule (codes "zone")) {
   defaults = codes "524288" ∷ [];
 }
 
+-- `--threads`, which takes no value
+abbrev pub threads_rule : Rule
+threads_rule = record (new_rule (codes "threads")) {
+  long = Some (codes "threads");
+  action = Some SetTrue;
+}
+
 -- an app that answers `--version`
 abbrev pub with_version : App → App
 with_version app = record app { top = record app.top { has_version = true } }
 
 -- the program with its options
 unfoldable pub program : App
-program = with_rule (with_rule (with_version (new_app (codes "hlr"))) parts_rule) zone_rule
+program = with_rule (with_rule (with_rule (with_version (new_app (codes "hlr"))) parts_rule) zone_rule) threads_rule
 
 -- a number is the one that a text spells; a plus sign may stand before its digits
 abbrev pub Spells : Option Text → ℕ → Type 0
 Spells text n = (digits : Text) × (text ≡ Some digits) × (n ≡ digits_value 10 (without_leading_plus digits))
 
+-- the text of a flag that is given, and of one that isn't
+abbrev pub flag_text : Bool → Text
+flag_text true = codes "true"
+flag_text false = codes "false"
+
+-- a text tells whether a flag is given
+abbrev pub Tells : Option Text → Bool → Type 0
+Tells text given = text ≡ Some (flag_text given)
+
 -- the options are those that the program's words spell
 abbrev pub OptionsOf : List Row → Options → Type 0
-OptionsOf rows options = Spells (one_of (codes "parts") rows) options.parts × Spells (one_of (codes "zone") rows) options.width
+OptionsOf rows options =
+    Spells (one_of (codes "parts") rows) options.parts × Spells (one_of (codes "zone") rows) options.width
+    × Tells (one_of (codes "threads") rows) options.threads
 
 -- the options are in range: a register can be opened with them
 abbrev pub InRange : Options → Type 0

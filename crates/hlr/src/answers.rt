@@ -7,9 +7,8 @@ ghost use Rattle.hlr.specs.Records.{command_named};
 ghost use Rattle.hlr.specs.declared.records.Word.TheVariants as word;
 ghost use Rattle.hlr.specs.Text.{CommandText};
 
-use crate::fields::parse_number;
+use crate::events::{read_gad, read_gnd, read_gsd};
 use crate::lines::{Line, build_access, build_numbers, build_refused, build_subscriber};
-use crate::records::{check_len, field};
 use arrayvec::ArrayVec;
 use csv::ByteRecord;
 use hlr_core::Register;
@@ -21,9 +20,7 @@ fn find_subscriber<'a>(row: &ByteRecord, register: &'a Register) -> Result<&'a S
     ensures found { IfOk result (λ found. CommandText (fields_of row.now) (command_named (Some word.Gsd) (fields_of row.now)) (store_in register.now) (subscriber_line found.now) (store_in register.now)) }
     ensures refused { IfErr result (λ why. CommandText (fields_of row.now) (command_named (Some word.Gsd) (fields_of row.now)) (store_in register.now) (refused_line why) (store_in register.now)) }
 {
-    check_len(row, 2)?;
-    let s_id = parse_number(field(row, 1))?;
-    register.lend_subscriber(s_id)
+    register.lend_subscriber(read_gsd(row)?)
 }
 
 /// The row that `gad,S,ai_type` reads: `Syntax`, `Field`, `Moving`, `NoAccess`.
@@ -33,9 +30,7 @@ fn find_access<'a>(row: &ByteRecord, register: &'a Register) -> Result<&'a Acces
         (access_line found.now.data1 found.now.data2 found.now.data3 found.now.data4) (store_in register.now)) }
     ensures refused { IfErr result (λ why. CommandText (fields_of row.now) (command_named (Some word.Gad) (fields_of row.now)) (store_in register.now) (refused_line why) (store_in register.now)) }
 {
-    check_len(row, 3)?;
-    let s_id = parse_number(field(row, 1))?;
-    let ai_type = parse_number(field(row, 2))?;
+    let (s_id, ai_type) = read_gad(row)?;
     register.lend_access(s_id, ai_type)
 }
 
@@ -45,11 +40,7 @@ fn find_numbers(row: &ByteRecord, register: &Register) -> Result<ArrayVec<Number
     ensures found { IfOk result (λ found. CommandText (fields_of row.now) (command_named (Some word.Gnd) (fields_of row.now)) (store_in register.now) (numbers_line found.items) (store_in register.now)) }
     ensures refused { IfErr result (λ why. CommandText (fields_of row.now) (command_named (Some word.Gnd) (fields_of row.now)) (store_in register.now) (refused_line why) (store_in register.now)) }
 {
-    check_len(row, 5)?;
-    let s_id = parse_number(field(row, 1))?;
-    let sf_type = parse_number(field(row, 2))?;
-    let start_time = parse_number(field(row, 3))?;
-    let end_time = parse_number(field(row, 4))?;
+    let (s_id, sf_type, start_time, end_time) = read_gnd(row)?;
     register.destinations(s_id, sf_type, start_time, end_time)
 }
 

@@ -8,11 +8,12 @@ ghost use Rattle.hlr.specs.Records.{command_named};
 ghost use Rattle.hlr.specs.Text.{CommandText};
 ghost use Rattle.hlr.specs.declared.records.Word.TheVariants as word;
 
-use crate::fields::{parse_byte, parse_bytes, parse_digits, parse_number};
-use crate::records::{check_len, field};
+use crate::events::{
+    read_acc, read_active, read_dcf, read_fac, read_icf, read_number, read_sub, read_ul, read_usd,
+};
 use csv::ByteRecord;
 use hlr_core::Register;
-use tatp_rows::{Access, Facility, Letters, Number, Refusal, Subscriber};
+use tatp_rows::Refusal;
 
 /// Does `usd,S,sf_type,bit_1,data_a`: `Syntax`, `Field`, `Moving`, `NoSubscriber`, `NoFacility`.
 pub fn update_subscriber(row: &ByteRecord, register: &mut Register) -> Result<(), Refusal>
@@ -20,11 +21,7 @@ pub fn update_subscriber(row: &ByteRecord, register: &mut Register) -> Result<()
     ensures text { CommandText (fields_of row.now) (command_named (Some word.Usd) (fields_of row.now)) (store_in register.old) (reply_line (edited_reply result)) (store_in register.new) }
     ensures home { AllHome register.new.seats }
 {
-    check_len(row, 5)?;
-    let s_id = parse_number(field(row, 1))?;
-    let sf_type = parse_number(field(row, 2))?;
-    let bit_1 = parse_number(field(row, 3))?;
-    let data_a = parse_number(field(row, 4))?;
+    let (s_id, sf_type, bit_1, data_a) = read_usd(row)?;
     register.update_subscriber(s_id, sf_type, bit_1, data_a)
 }
 
@@ -34,9 +31,7 @@ pub fn update_location(row: &ByteRecord, register: &mut Register) -> Result<(), 
     ensures text { CommandText (fields_of row.now) (command_named (Some word.Ul) (fields_of row.now)) (store_in register.old) (reply_line (edited_reply result)) (store_in register.new) }
     ensures home { AllHome register.new.seats }
 {
-    check_len(row, 3)?;
-    let sub_nbr = Number::from_digits(field(row, 1))?;
-    let vlr_location = parse_number(field(row, 2))?;
+    let (sub_nbr, vlr_location) = read_ul(row)?;
     register.update_location(sub_nbr, vlr_location)
 }
 
@@ -47,12 +42,7 @@ pub fn insert_forwarding(row: &ByteRecord, register: &mut Register) -> Result<()
     ensures text { CommandText (fields_of row.now) (command_named (Some word.Icf) (fields_of row.now)) (store_in register.old) (reply_line (edited_reply result)) (store_in register.new) }
     ensures home { AllHome register.new.seats }
 {
-    check_len(row, 6)?;
-    let sub_nbr = Number::from_digits(field(row, 1))?;
-    let sf_type = parse_number(field(row, 2))?;
-    let start_time = parse_number(field(row, 3))?;
-    let end_time = parse_number(field(row, 4))?;
-    let numberx = Number::from_digits(field(row, 5))?;
+    let (sub_nbr, sf_type, start_time, end_time, numberx) = read_icf(row)?;
     register.insert_forwarding(sub_nbr, sf_type, start_time, end_time, numberx)
 }
 
@@ -62,10 +52,7 @@ pub fn delete_forwarding(row: &ByteRecord, register: &mut Register) -> Result<()
     ensures text { CommandText (fields_of row.now) (command_named (Some word.Dcf) (fields_of row.now)) (store_in register.old) (reply_line (edited_reply result)) (store_in register.new) }
     ensures home { AllHome register.new.seats }
 {
-    check_len(row, 4)?;
-    let sub_nbr = Number::from_digits(field(row, 1))?;
-    let sf_type = parse_number(field(row, 2))?;
-    let start_time = parse_number(field(row, 3))?;
+    let (sub_nbr, sf_type, start_time) = read_dcf(row)?;
     register.delete_forwarding(sub_nbr, sf_type, start_time)
 }
 
@@ -75,23 +62,7 @@ pub fn add_subscriber(row: &ByteRecord, register: &mut Register) -> Result<(), R
     ensures text { CommandText (fields_of row.now) (command_named (Some word.Sub) (fields_of row.now)) (store_in register.old) (reply_line (edited_reply result)) (store_in register.new) }
     ensures home { AllHome register.new.seats }
 {
-    check_len(row, 8)?;
-    let s_id = parse_number(field(row, 1))?;
-    let sub_nbr = Number::from_digits(field(row, 2))?;
-    let bits = parse_digits::<10>(field(row, 3), 2)?;
-    let hexes = parse_digits::<10>(field(row, 4), 16)?;
-    let bytes = parse_bytes(field(row, 5))?;
-    let msc_location = parse_number(field(row, 6))?;
-    let vlr_location = parse_number(field(row, 7))?;
-    let subscriber = Subscriber::try_new(
-        s_id,
-        sub_nbr,
-        bits,
-        hexes,
-        bytes,
-        msc_location,
-        vlr_location,
-    )?;
+    let subscriber = read_sub(row)?;
     register.add_subscriber(subscriber)
 }
 
@@ -101,14 +72,7 @@ pub fn add_access(row: &ByteRecord, register: &mut Register) -> Result<(), Refus
     ensures text { CommandText (fields_of row.now) (command_named (Some word.Acc) (fields_of row.now)) (store_in register.old) (reply_line (edited_reply result)) (store_in register.new) }
     ensures home { AllHome register.new.seats }
 {
-    check_len(row, 7)?;
-    let s_id = parse_number(field(row, 1))?;
-    let ai_type = parse_number(field(row, 2))?;
-    let data1 = parse_byte(field(row, 3))?;
-    let data2 = parse_byte(field(row, 4))?;
-    let data3 = Letters::<3>::from_bytes(field(row, 5))?;
-    let data4 = Letters::<5>::from_bytes(field(row, 6))?;
-    let access = Access::try_new(s_id, ai_type, data1, data2, data3, data4)?;
+    let access = read_acc(row)?;
     register.add_access(access)
 }
 
@@ -119,14 +83,7 @@ pub fn add_facility(row: &ByteRecord, register: &mut Register) -> Result<(), Ref
     ensures text { CommandText (fields_of row.now) (command_named (Some word.Fac) (fields_of row.now)) (store_in register.old) (reply_line (edited_reply result)) (store_in register.new) }
     ensures home { AllHome register.new.seats }
 {
-    check_len(row, 7)?;
-    let s_id = parse_number(field(row, 1))?;
-    let sf_type = parse_number(field(row, 2))?;
-    let is_active = parse_number(field(row, 3))?;
-    let error_cntrl = parse_byte(field(row, 4))?;
-    let data_a = parse_byte(field(row, 5))?;
-    let data_b = Letters::<5>::from_bytes(field(row, 6))?;
-    let facility = Facility::try_new(s_id, sf_type, is_active, error_cntrl, data_a, data_b)?;
+    let facility = read_fac(row)?;
     register.add_facility(facility)
 }
 
@@ -136,10 +93,7 @@ pub fn set_active(row: &ByteRecord, register: &mut Register) -> Result<(), Refus
     ensures text { CommandText (fields_of row.now) (command_named (Some word.Active) (fields_of row.now)) (store_in register.old) (reply_line (edited_reply result)) (store_in register.new) }
     ensures home { AllHome register.new.seats }
 {
-    check_len(row, 4)?;
-    let s_id = parse_number(field(row, 1))?;
-    let sf_type = parse_number(field(row, 2))?;
-    let is_active = parse_number(field(row, 3))?;
+    let (s_id, sf_type, is_active) = read_active(row)?;
     register.set_active(s_id, sf_type, is_active)
 }
 
@@ -149,8 +103,6 @@ pub fn set_number(row: &ByteRecord, register: &mut Register) -> Result<(), Refus
     ensures text { CommandText (fields_of row.now) (command_named (Some word.Number) (fields_of row.now)) (store_in register.old) (reply_line (edited_reply result)) (store_in register.new) }
     ensures home { AllHome register.new.seats }
 {
-    check_len(row, 3)?;
-    let s_id = parse_number(field(row, 1))?;
-    let sub_nbr = Number::from_digits(field(row, 2))?;
+    let (s_id, sub_nbr) = read_number(row)?;
     register.set_number(s_id, sub_nbr)
 }

@@ -3,11 +3,13 @@
 
 mod answers;
 mod edits;
+mod events;
 mod fault;
 mod fields;
 mod lines;
 mod moves;
 mod options;
+mod owed;
 mod records;
 mod reports;
 mod run;
@@ -19,11 +21,13 @@ mod whole_records;
 use clap::error::ErrorKind;
 use fault::Fault;
 use options::{Options, read_options};
-use run::run_alone;
+use run::run;
 use sink::Out;
 use std::env::{self, Env};
 use std::io::{self, BufWriter};
 use std::process::ExitCode;
+use std::sync::Wait;
+use std::thread::Threads;
 use whole_records::BLOCK;
 
 /// Says a fault on standard error, and gives the program's status after it.
@@ -78,17 +82,22 @@ fn options_of<R: AllocGlobal + Print + Eprint>(
 
 /// Answers standard input on standard output. The answers so far are flushed before a read that may wait, and at the
 /// end, but after `Field` and `Write`.
-fn answer_input<R: AllocGlobal + Input + Print>(rt: &R, options: Options) -> Result<(), Fault> {
+fn answer_input<R: AllocGlobal + Input + Print + Threads + Wait + Copy + Send + Sync + 'static>(
+    rt: &R,
+    options: Options,
+) -> Result<(), Fault> {
     let Ok(writer) = BufWriter::with_capacity(rt.alloc(), BLOCK, io::writer(rt)) else {
         return Err(Fault::Memory);
     };
     let mut sink = Out::new(writer);
-    run_alone(
+    run(
+        rt,
         rt.alloc(),
         rt.reader(),
         &mut sink,
         options.parts,
         options.width,
+        options.threads,
     )
 }
 

@@ -7,8 +7,7 @@ ghost use Rattle.hlr.specs.Records.{command_named};
 ghost use Rattle.hlr.specs.Text.{CommandText};
 ghost use Rattle.hlr.specs.declared.records.Word.TheVariants as word;
 
-use crate::fields::parse_number;
-use crate::records::{check_len, field, side_named};
+use crate::events::{read_give, read_post, read_take};
 use csv::ByteRecord;
 use hlr_core::{Event, Register, Reply};
 use tatp_rows::Refusal;
@@ -20,9 +19,7 @@ pub fn post(row: &ByteRecord, register: &mut Register) -> Result<Reply, Refusal>
     ensures refused { IfErr result (λ why. CommandText (fields_of row.now) (command_named (Some word.Post) (fields_of row.now)) (store_in register.old) (refused_line why) (store_in register.new)) }
     ensures home { AllHome register.new.seats }
 {
-    check_len(row, 3)?;
-    let part = parse_number(field(row, 1))?;
-    let limit = parse_number(field(row, 2))?;
+    let (part, limit) = read_post(row)?;
     Ok(register.post(part, limit))
 }
 
@@ -33,10 +30,7 @@ pub fn give(row: &ByteRecord, register: &mut Register) -> Result<Reply, Refusal>
     ensures refused { IfErr result (λ why. CommandText (fields_of row.now) (command_named (Some word.Give) (fields_of row.now)) (store_in register.old) (refused_line why) (store_in register.new)) }
     ensures home { AllHome register.new.seats }
 {
-    check_len(row, 4)?;
-    let side = side_named(field(row, 2))?;
-    let part = parse_number(field(row, 1))?;
-    let at = parse_number(field(row, 3))?;
+    let (part, side, at) = read_give(row)?;
     Ok(register.apply(Event::Give { part, side, at }))
 }
 
@@ -47,8 +41,6 @@ pub fn take(row: &ByteRecord, register: &mut Register) -> Result<Reply, Refusal>
     ensures refused { IfErr result (λ why. CommandText (fields_of row.now) (command_named (Some word.Take) (fields_of row.now)) (store_in register.old) (refused_line why) (store_in register.new)) }
     ensures home { AllHome register.new.seats }
 {
-    check_len(row, 3)?;
-    let piece = parse_number(field(row, 1))?;
-    let part = parse_number(field(row, 2))?;
+    let (piece, part) = read_take(row)?;
     Ok(register.apply(Event::Take { piece, part }))
 }

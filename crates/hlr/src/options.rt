@@ -2,10 +2,10 @@
 ghost use Rattle.std.specs.Prelude.{◌≡◌, IfOk, IfSome, map, codes, false};
 ghost use Rattle.clap.specs.Words.{app_of, fault_of, found_of, matches_of, one_of, rows_of, rule_of};
 ghost use Rattle.clap.specs.Kinds.{FailsBy};
-ghost use Rattle.hlr.specs.Options.{parts_rule, zone_rule, program, Spells, OptionsOf, InRange};
+ghost use Rattle.hlr.specs.Options.{parts_rule, threads_rule, zone_rule, program, Spells, Tells, OptionsOf, InRange};
 
 use clap::builder::ValueParser;
-use clap::{Arg, ArgMatches, Command, Error};
+use clap::{Arg, ArgAction, ArgMatches, Command, Error};
 use part_table::{MOST_PARTS, can_open};
 use std::alloc::{AllocError, Global};
 use tatp_rows::GREATEST_WIDTH;
@@ -72,7 +72,8 @@ Example:
   ok
   subscriber,7,000000000000007,0000000000,0000000000,00000000000000000000,1,5
 
-The status is 0, or 1 after 'hlr: no memory', 'hlr: read fault' or 'hlr: write fault', or 2 where an option is wrong.";
+The status is 0, or 1 after 'hlr: no memory', 'hlr: no thread', 'hlr: read fault' or 'hlr: write fault', or 2 where an
+option is wrong.";
 
 /// The options of the program.
 #[derive(Clone, Copy, Debug, PartialEq, Eq)]
@@ -81,6 +82,8 @@ pub struct Options {
     pub parts: u8,
     /// How many subscribers a zone has, 1..=524,288.
     pub width: u32,
+    /// Whether parts work in threads of their own.
+    pub threads: bool,
 }
 
 /// `--parts N`.
@@ -109,6 +112,17 @@ fn zone_arg<'a>(alloc: Global) -> Arg<'a>
         .default_value("524288")
 }
 
+/// `--threads`.
+fn threads_arg<'a>(alloc: Global) -> Arg<'a>
+    ensures rule { rule_of result ≡ threads_rule }
+    ensures local { result.global ≡ false }
+{
+    Arg::new(alloc, "threads")
+        .long("threads")
+        .help("Has each part work in a thread of its own, with the same answers")
+        .action(ArgAction::SetTrue)
+}
+
 /// The program with its options.
 fn program_command<'a>(alloc: Global) -> Result<Command<'a>, AllocError>
     ensures { IfOk result (λ command. app_of command ≡ program) }
@@ -118,7 +132,8 @@ fn program_command<'a>(alloc: Global) -> Result<Command<'a>, AllocError>
         .about(ABOUT)
         .after_help(FORMATS)
         .arg(parts_arg(alloc))?
-        .arg(zone_arg(alloc))
+        .arg(zone_arg(alloc))?
+        .arg(threads_arg(alloc))
 }
 
 /// The number that `--parts` spells.
@@ -135,6 +150,13 @@ fn read_zone(matches: &ArgMatches<'_>) -> Option<u32>
     matches.get_one::<u32>("zone")
 }
 
+/// Whether `--threads` is given.
+fn read_threads(matches: &ArgMatches<'_>) -> Option<bool>
+    ensures { IfSome result (Tells (one_of (codes "threads") (rows_of (found_of matches.now)))) }
+{
+    matches.get_one::<bool>("threads")
+}
+
 /// The options that the program's words ask for, of which the first is the program's name. An error has one of the
 /// kinds that the words call for, which is a request for help or the version too, or `OutOfMemory`.
 pub fn read_options<'a>(alloc: Global, words: &'a [&'a str]) -> Result<Options, Error>
@@ -144,8 +166,16 @@ pub fn read_options<'a>(alloc: Global, words: &'a [&'a str]) -> Result<Options, 
 {
     let command = program_command(alloc)?;
     let matches = command.try_get_matches_from(words)?;
-    match (read_parts(&matches), read_zone(&matches)) {
-        (Some(parts), Some(width)) if can_open(parts, width) => Ok(Options { parts, width }),
+    match (
+        read_parts(&matches),
+        read_zone(&matches),
+        read_threads(&matches),
+    ) {
+        (Some(parts), Some(width), Some(threads)) if can_open(parts, width) => Ok(Options {
+            parts,
+            width,
+            threads,
+        }),
         _ => Err(Error::from(AllocError)),
     }
 }

@@ -1,6 +1,7 @@
 //! The words that records begin with, and their fields.
 ghost use Rattle.std.specs.Prelude.{◌≡◌, ◌==◌, Some, length, if◌then◌else◌, Ok, Err};
 ghost use Rattle.csv.specs.Records.{fields_of};
+ghost use Rattle.hlr.specs.Inside.{kind_of};
 ghost use Rattle.hlr.specs.Records.{field, word_named, side_named, bounds_of};
 
 use crate::fields::parse_number;
@@ -72,6 +73,32 @@ pub enum Report {
     Regions,
     /// The bounds that would give each part about its share of the rows.
     Propose,
+}
+
+/// What the records of a word ask for.
+#[derive(Clone, Copy, Debug)]
+pub enum Kind {
+    /// An event.
+    Event,
+    /// A report.
+    Report(Report),
+    /// A re-cut.
+    Recut,
+}
+
+/// What the records of this word ask for.
+pub fn kind_of(word: Word) -> Kind
+    ensures { result ≡ kind_of word }
+{
+    match word {
+        Word::Views => Kind::Report(Report::Views),
+        Word::Scan => Kind::Report(Report::Scan),
+        Word::Index => Kind::Report(Report::Index),
+        Word::Regions => Kind::Report(Report::Regions),
+        Word::Propose => Kind::Report(Report::Propose),
+        Word::Recut => Kind::Recut,
+        _ => Kind::Event,
+    }
 }
 
 /// The word that a text is, in lower case exactly.

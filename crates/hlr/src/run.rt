@@ -1,8 +1,8 @@
 //! A run: every record of a reader is answered.
-ghost use Rattle.std.specs.Prelude.{◌≡◌, ◌≢◌, ◌⊎◌, ◌↔◌, true, false, Some, Err, Ok, IfSome};
+ghost use Rattle.std.specs.Prelude.{◌≡◌, ◌≢◌, ◌⊎◌, ◌↔◌, true, false, Some, Err, Ok, IfErr, IfOk, IfSome, OnOk, option_map};
 ghost use Rattle.std.specs.Result.{is_err};
 ghost use Rattle.std.specs.Io.KnownBytes.{Keeps};
-ghost use Rattle.csv.specs.Reading.{Ready, default_config, reader_config, reader_state, reader_trim, source_of, strip_bom};
+ghost use Rattle.csv.specs.Reading.{ReadRecord, Ready, default_config, reader_config, reader_state, reader_trim, source_of, strip_bom, took_first};
 ghost use Rattle.csv.specs.Records.{fields_of};
 ghost use Rattle.csv.specs.declared.parser.State.TheVariants as state;
 ghost use Rattle.csv.specs.declared.reader.Trim.TheVariants as trim;
@@ -12,7 +12,7 @@ ghost use Rattle.hlr.specs.WholeRecords.{inner_remaining};
 ghost use Rattle.hlr.specs.Records.{command_of, field, word_named};
 ghost use Rattle.hlr.specs.Run.{IsFlushedAfter, Ran};
 ghost use Rattle.hlr.specs.Command.{Command as command};
-ghost use Rattle.hlr.specs.Inside.{Answers, report_on, word_of_report};
+ghost use Rattle.hlr.specs.Inside.{Answers, IsAtRest, report_on, word_of_report};
 ghost use Rattle.hlr.specs.Sink.{Puts};
 ghost use Rattle.tatp_rows.specs.declared.refusal.Refusal.TheVariants as refusal;
 ghost use Rattle.hlr.specs.declared.fault.Fault.TheVariants as fault;
@@ -25,14 +25,18 @@ use crate::edits::{
 use crate::fault::{Fault, read_fault};
 use crate::lines::{Line, build_done, build_recut, build_refused, build_told, empty_line};
 use crate::moves::{give, post, take};
+use crate::owed::{OpenGate, answer_all_by};
 use crate::records::{Report, Word, field, read_bounds, word_of};
 use crate::reports::{write_index, write_proposal, write_regions, write_scan, write_views};
 use crate::sink::{Sink, Stalled, put_all};
 use crate::whole_records::WholeRecords;
 use csv::{ByteRecord, Reader, ReaderBuilder};
 use hlr_core::Register;
+use hlr_workers::Engine;
 use std::alloc::Global;
-use std::io::Read;
+use std::io::{self, Read};
+use std::sync::{Arc, Wait};
+use std::thread::Threads;
 use tatp_rows::Refusal;
 
 /// How many records a run answers at most.
@@ -83,7 +87,7 @@ fn write_report<S: Sink>(
 }
 
 /// Answers a record whose word is that of a report: `Syntax` where it has a further field.
-fn answer_report<S: Sink>(
+pub fn answer_report<S: Sink>(
     report: Report,
     row: &ByteRecord,
     register: &Register,
@@ -187,6 +191,25 @@ fn answer_in_time<R: Read, S: Sink>(
     }
 }
 
+/// Reads the next record into the row, and tells whether there was one: `Memory` where the reader wanted memory, else
+/// `Read` where it failed.
+///
+/// It is not inlined: two loops read records, and what `csv` has for one is too long for both.
+#[inline(never)]
+pub fn read_record<R: Read>(
+    reader: &mut Reader<WholeRecords<R>>,
+    row: &mut ByteRecord,
+) -> Result<bool, Fault>
+    ensures ready { (reader_trim reader.old ≡ trim.None) → OnOk result (took_first reader.new ≡ true) }
+    ensures reads { IfOk result (λ found. (reader_trim reader.old ≡ trim.None) → Ready reader.old → ReadRecord (inner_remaining R.remaining) reader.old reader.new found (fields_of row.new)) }
+    ensures fault { IfErr result (λ why. (why ≡ fault.Memory) ⊎ (why ≡ fault.Read)) }
+{
+    match reader.read_byte_record(row) {
+        Ok(found) => Ok(found),
+        Err(error) => Err(read_fault(error)),
+    }
+}
+
 /// Answers the records of a reader in turn, each before the next read may wait: `Read` where the reader fails or gives
 /// more than 1,048,576 records, `Memory` where it wants memory, `Write` where the sink fails. The row is the memory to
 /// read records into.
@@ -209,7 +232,7 @@ fn answer_all<R: Read, S: Sink>(
 {
     let mut line = empty_line();
     for count in 0..RECORDS + 1 {
-        match reader.read_byte_record(row) {
+        match read_record(reader, row) {
             Ok(false) => return Ok(()),
             Ok(true) => {
                 if count == RECORDS {
@@ -219,7 +242,7 @@ fn answer_all<R: Read, S: Sink>(
                     return Err(Fault::Write);
                 }
             }
-            Err(error) => return Err(read_fault(error)),
+            Err(why) => return Err(why),
         }
     }
     Err(Fault::Read)
@@ -244,6 +267,24 @@ fn finish<S: Sink>(sink: &mut S, done: Result<(), Fault>) -> Result<(), Fault>
     }
 }
 
+/// The records of a reader: those of CSV with no header row, with any number of fields. An error where there is no
+/// memory for a block.
+fn records_of<R: Read + Drop>(alloc: Global, reader: R) -> io::Result<Reader<WholeRecords<R>>>
+    ensures trims { IfOk result (λ records. reader_trim records ≡ trim.None) }
+    ensures ready { IfOk result Ready }
+    ensures config { IfOk result (λ records. reader_config records ≡ default_config) }
+    ensures start { IfOk result (λ records. reader_state records ≡ state.StartRecord) }
+    ensures source { IfOk result (λ records. source_of (inner_remaining R.remaining) records ≡ option_map strip_bom (R.remaining reader)) }
+{
+    let whole = WholeRecords::new(alloc, reader)?;
+    Ok(
+        ReaderBuilder::new()
+            .has_headers(false)
+            .flexible(true)
+            .from_reader(alloc, whole),
+    )
+}
+
 /// Answers all records of a reader from the store of a register, and flushes the sink.
 fn run_store<R: Read + Drop, S: Sink>(
     alloc: Global,
@@ -259,13 +300,9 @@ fn run_store<R: Read + Drop, S: Sink>(
     ensures thread { result ≢ Err fault.Thread }
     ensures flushed { IsFlushedAfter result (S.is_flushed sink.new) }
 {
-    let Ok(whole) = WholeRecords::new(alloc, reader) else {
+    let Ok(mut records) = records_of(alloc, reader) else {
         return finish(sink, Err(Fault::Memory));
     };
-    let mut records = ReaderBuilder::new()
-        .has_headers(false)
-        .flexible(true)
-        .from_reader(alloc, whole);
     let mut row = ByteRecord::new(alloc);
     let done = answer_all(&mut records, &mut row, register, sink);
     finish(sink, done)
@@ -318,6 +355,90 @@ pub fn run_alone<R: Read + Drop, S: Sink>(
             drop(register);
             done
         }
+        Err(why) => refuse_start(sink, why),
+    }
+}
+
+/// Answers all records of a reader by an engine at rest, and flushes the sink.
+fn run_engine<R: Read + Drop, H: Threads + Wait + Copy + Send + Sync + 'static, S: Sink>(
+    rt: &H,
+    alloc: Global,
+    reader: R,
+    engine: &mut Engine<OpenGate>,
+    sink: &mut S,
+) -> Result<(), Fault>
+    requires rest { IsAtRest engine.old }
+    ensures text { IfSome (R.remaining reader)
+        (λ bytes. Ran (store_in engine.old.house) (strip_bom bytes) (S.taken sink.old) (S.taken sink.new) result) }
+    ensures write { result ≡ Err fault.Write → S.has_stalled sink.new ≡ true }
+    ensures field { result ≢ Err fault.Field }
+    ensures flushed { IsFlushedAfter result (S.is_flushed sink.new) }
+{
+    let Ok(mut records) = records_of(alloc, reader) else {
+        return finish(sink, Err(Fault::Memory));
+    };
+    let mut row = ByteRecord::new(alloc);
+    let done = answer_all_by(rt, &mut records, &mut row, engine, sink);
+    finish(sink, done)
+}
+
+/// Answers all records of a reader by an engine over a register, and flushes the sink.
+fn run_threads<R: Read + Drop, H: Threads + Wait + Copy + Send + Sync + 'static, S: Sink>(
+    rt: &H,
+    alloc: Global,
+    reader: R,
+    register: Register,
+    sink: &mut S,
+) -> Result<(), Fault>
+    requires { AllHome register.seats }
+    ensures text { IfSome (R.remaining reader)
+        (λ bytes. Ran (store_in register) (strip_bom bytes) (S.taken sink.old) (S.taken sink.new) result) }
+    ensures write { result ≡ Err fault.Write → S.has_stalled sink.new ≡ true }
+    ensures field { result ≢ Err fault.Field }
+    ensures flushed { IsFlushedAfter result (S.is_flushed sink.new) }
+{
+    match Arc::new(alloc, OpenGate) {
+        Ok(gate) => {
+            let mut engine = Engine::new(alloc, register, gate);
+            let done = run_engine(rt, alloc, reader, &mut engine, sink);
+            let (register, _replies) = engine.close(rt);
+            drop(register);
+            done
+        }
+        Err(_) => {
+            drop(register);
+            refuse_start(sink, Refusal::Memory)
+        }
+    }
+}
+
+/// Answers all records of a reader as `run_alone` does, and where threads are asked for with a worker for each part,
+/// which does the part's events in a thread of its own. The answers are the same. It may wait.
+///
+/// `Field`, `Memory`, `Read` and `Write` are as there, and `Memory` also where an event can't be handed on for want of
+/// it; `Thread` where the start of a thread is refused. The answers to all records before that one are written then.
+pub fn run<R: Read + Drop, H: Threads + Wait + Copy + Send + Sync + 'static, S: Sink>(
+    rt: &H,
+    alloc: Global,
+    reader: R,
+    sink: &mut S,
+    parts: u8,
+    width: u32,
+    threads: bool,
+) -> Result<(), Fault>
+    ensures text { IfSome (R.remaining reader)
+        (λ bytes. Ran (opening parts width) (strip_bom bytes) (S.taken sink.old) (S.taken sink.new) result) }
+    ensures write { result ≡ Err fault.Write → S.has_stalled sink.new ≡ true }
+    ensures field { (result ≡ Err fault.Field) ↔ (¬ HasOpening parts width) }
+    ensures untouched { result ≡ Err fault.Field → sink.new ≡ sink.old }
+    ensures thread { result ≡ Err fault.Thread → threads ≡ true }
+    ensures flushed { IsFlushedAfter result (S.is_flushed sink.new) }
+{
+    if !threads {
+        return run_alone(alloc, reader, sink, parts, width);
+    }
+    match Register::open(alloc, parts, width) {
+        Ok(register) => run_threads(rt, alloc, reader, register, sink),
         Err(why) => refuse_start(sink, why),
     }
 }

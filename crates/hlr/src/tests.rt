@@ -6,14 +6,19 @@ use crate::lines::{build_recut, build_reply, build_total, empty_line, put_cell, 
 use crate::options::{Options, read_options};
 use crate::records::{Word, word_of};
 use crate::reports::{Counts, write_cells};
-use crate::run::run_alone;
+use crate::run::run;
 use crate::sink::{Out, PutFault, Sink, put_all};
 use clap::error::ErrorKind as OptionFault;
 use hlr_core::Reply;
 use std::cell::Cell;
 use std::io::{self, ErrorKind, Read, Write};
 use std::process::Abort;
+use std::sync::Wait;
+use std::thread::Threads;
 use tatp_rows::Refusal;
+
+/// A run without threads, and one with.
+const WAYS: [bool; 2] = [false, true];
 
 /// What a tape does where it has no room.
 #[derive(Clone, Copy, Debug, PartialEq, Eq)]
@@ -146,8 +151,13 @@ impl<'a> Read for Feed<'a> {
 }
 
 /// Answers a feed on a tape, with one part and zones of 4 subscribers.
-fn answer_feed(rt: &impl AllocGlobal, feed: Feed<'_>, tape: &mut Tape<'_>) -> Result<(), Fault> {
-    run_alone(rt.alloc(), feed, &mut Out::new(tape), 1, 4)
+fn answer_feed<R: AllocGlobal + Threads + Wait + Copy + Send + Sync + 'static>(
+    rt: &R,
+    feed: Feed<'_>,
+    tape: &mut Tape<'_>,
+    threads: bool,
+) -> Result<(), Fault> {
+    run(rt, rt.alloc(), feed, &mut Out::new(tape), 1, 4, threads)
 }
 
 const SCRIPT: &[u8] = b"sub,7,000000000000007,0000000000,0000000000,00000000000000000000,1,268435456
@@ -222,17 +232,20 @@ const TEXTS: [(&[u8], &[u8], u32); 13] = [
 #[test]
 fn answers_come_before_a_read_may_wait(rt: HostRuntime) {
     let pending = Cell::new(false);
-    for (text, wanted, flushes) in TEXTS {
-        for stride in 1..=24 {
-            let mut tape = Tape::new(&pending);
-            let done = answer_feed(&rt, Feed::new(&pending, text, stride), &mut tape);
-            assert_eq!(rt; done, Ok(()), "{stride} bytes at a time");
-            assert_eq!(rt; tape.text(), wanted);
-            assert!(rt;
-                stride < 24 || tape.flushes == flushes,
-                "{flushes} flushes, not {}",
-                tape.flushes
-            );
+    for threads in WAYS {
+        for (text, wanted, flushes) in TEXTS {
+            for stride in 1..=24 {
+                let mut tape = Tape::new(&pending);
+                let feed = Feed::new(&pending, text, stride);
+                let done = answer_feed(&rt, feed, &mut tape, threads);
+                assert_eq!(rt; done, Ok(()), "{stride} bytes at a time");
+                assert_eq!(rt; tape.text(), wanted);
+                assert!(rt;
+                    stride < 24 || tape.flushes == flushes,
+                    "{flushes} flushes, not {}",
+                    tape.flushes
+                );
+            }
         }
     }
 }
@@ -264,12 +277,16 @@ fn repeated(record: &[u8; 16]) -> [u8; 147_456] {
 }
 
 /// Asserts how often the sink is flushed where a text of such records comes in pieces.
-fn expect_flushes(rt: &(impl Abort + AllocGlobal), text: &[u8]) {
+fn expect_flushes<R: Abort + AllocGlobal + Threads + Wait + Copy + Send + Sync + 'static>(
+    rt: &R,
+    text: &[u8],
+    threads: bool,
+) {
     let pending = Cell::new(false);
     for (len, stride, flushes) in PIECES {
         let mut tape = Tape::new(&pending);
         let feed = Feed::new(&pending, &text[..len.min(text.len())], stride);
-        let done = answer_feed(rt, feed, &mut tape);
+        let done = answer_feed(rt, feed, &mut tape, threads);
         assert_eq!(rt;
             (done, tape.taken, tape.flushes),
             (Ok(()), (len as u64 / 16).wrapping_mul(18), flushes),
@@ -280,44 +297,50 @@ fn expect_flushes(rt: &(impl Abort + AllocGlobal), text: &[u8]) {
 
 #[test]
 fn answers_are_flushed_once_a_piece(rt: HostRuntime) {
-    expect_flushes(&rt, &repeated(b"xxxxxxxxxxxxxxx\n"));
-    expect_flushes(&rt, &repeated(b"xx,\"xxxxxxxxx\"\r\n"));
+    for threads in WAYS {
+        expect_flushes(&rt, &repeated(b"xxxxxxxxxxxxxxx\n"), threads);
+        expect_flushes(&rt, &repeated(b"xx,\"xxxxxxxxx\"\r\n"), threads);
+    }
 }
 
 #[test]
 fn readers_may_fail(rt: HostRuntime) {
     let pending = Cell::new(false);
-    let mut records = 0usize;
-    for (left, byte) in SCRIPT.iter().enumerate() {
-        let mut tape = Tape::new(&pending);
-        let mut feed = Feed::new(&pending, &SCRIPT[..left], 7);
-        feed.rest = Rest::Fails;
-        let done = answer_feed(&rt, feed, &mut tape);
-        assert_eq!(rt; done, Err(Fault::Read));
-        assert_eq!(rt;
-            tape.text(),
-            &ANSWERS[..ENDS[records % 9]],
-            "at byte {left}"
-        );
-        assert!(rt; !pending.get());
-        records = records.saturating_add(usize::from(*byte == b'\n'));
+    for threads in WAYS {
+        let mut records = 0usize;
+        for (left, byte) in SCRIPT.iter().enumerate() {
+            let mut tape = Tape::new(&pending);
+            let mut feed = Feed::new(&pending, &SCRIPT[..left], 7);
+            feed.rest = Rest::Fails;
+            let done = answer_feed(&rt, feed, &mut tape, threads);
+            assert_eq!(rt; done, Err(Fault::Read));
+            assert_eq!(rt;
+                tape.text(),
+                &ANSWERS[..ENDS[records % 9]],
+                "at byte {left}"
+            );
+            assert!(rt; !pending.get());
+            records = records.saturating_add(usize::from(*byte == b'\n'));
+        }
     }
 }
 
 #[test]
 fn writers_may_be_slow_and_fail(rt: HostRuntime) {
     let pending = Cell::new(false);
-    for ending in [Ending::Fails, Ending::TakesNone] {
-        for room in 0..=ANSWERS.len() {
-            let mut tape = Tape::new(&pending);
-            tape.stride = 2;
-            tape.room = room;
-            tape.ending = ending;
-            let done = answer_feed(&rt, Feed::new(&pending, SCRIPT, 8192), &mut tape);
-            assert_eq!(rt; done.is_ok(), room == ANSWERS.len());
-            assert!(rt; done.is_ok() || done == Err(Fault::Write));
-            assert_eq!(rt; tape.text(), &ANSWERS[..room], "after {room} bytes");
-            assert_eq!(rt; tape.flushes > 0, done.is_ok());
+    for threads in WAYS {
+        for ending in [Ending::Fails, Ending::TakesNone] {
+            for room in 0..=ANSWERS.len() {
+                let mut tape = Tape::new(&pending);
+                tape.stride = 2;
+                tape.room = room;
+                tape.ending = ending;
+                let done = answer_feed(&rt, Feed::new(&pending, SCRIPT, 8192), &mut tape, threads);
+                assert_eq!(rt; done.is_ok(), room == ANSWERS.len());
+                assert!(rt; done.is_ok() || done == Err(Fault::Write));
+                assert_eq!(rt; tape.text(), &ANSWERS[..room], "after {room} bytes");
+                assert_eq!(rt; tape.flushes > 0, done.is_ok());
+            }
         }
     }
 }
@@ -367,10 +390,12 @@ views,2
 #[test]
 fn each_command_is_answered(rt: HostRuntime) {
     let pending = Cell::new(false);
-    let mut tape = Tape::new(&pending);
-    let done = answer_feed(&rt, Feed::new(&pending, COMMANDS, 8192), &mut tape);
-    assert_eq!(rt; done, Ok(()));
-    assert_eq!(rt; tape.text(), DONE);
+    for threads in WAYS {
+        let mut tape = Tape::new(&pending);
+        let done = answer_feed(&rt, Feed::new(&pending, COMMANDS, 8192), &mut tape, threads);
+        assert_eq!(rt; done, Ok(()));
+        assert_eq!(rt; tape.text(), DONE);
+    }
 }
 
 /// Each command on regions, for two parts.
@@ -418,57 +443,81 @@ regions,2
 #[test]
 fn regions_are_cut_and_shown(rt: HostRuntime) {
     let pending = Cell::new(false);
-    for room in [MOVED.len(), MOVED.len() - 60, MOVED.len() - 7, 170, 125] {
-        let mut tape = Tape::new(&pending);
-        tape.room = room;
-        let feed = Feed::new(&pending, REGIONS, 8192);
-        let done = run_alone(rt.alloc(), feed, &mut Out::new(&mut tape), 2, 4);
-        assert_eq!(rt; done.is_ok(), room == MOVED.len());
-        assert_eq!(rt; tape.text(), &MOVED[..room]);
+    for threads in WAYS {
+        for room in [MOVED.len(), MOVED.len() - 60, MOVED.len() - 7, 170, 125] {
+            let mut tape = Tape::new(&pending);
+            tape.room = room;
+            let feed = Feed::new(&pending, REGIONS, 8192);
+            let done = run(
+                &rt,
+                rt.alloc(),
+                feed,
+                &mut Out::new(&mut tape),
+                2,
+                4,
+                threads,
+            );
+            assert_eq!(rt; done.is_ok(), room == MOVED.len());
+            assert_eq!(rt; tape.text(), &MOVED[..room]);
+        }
     }
 }
 
 #[test]
 fn sixteen_parts_have_sixteen_regions(rt: HostRuntime) {
     let pending = Cell::new(false);
-    let mut tape = Tape::new(&pending);
-    let feed = Feed::new(&pending, b"regions\n", 8192);
-    let done = run_alone(rt.alloc(), feed, &mut Out::new(&mut tape), 16, 4);
-    assert_eq!(rt; done, Ok(()));
-    assert!(rt; tape.text().starts_with(b"part,0,1,9\npart,1,9,17\n"));
-    assert!(rt; tape.text().ends_with(b"part,15,121,16777217\nregions,16\n"));
+    for threads in WAYS {
+        let mut tape = Tape::new(&pending);
+        let feed = Feed::new(&pending, b"regions\n", 8192);
+        let done = run(
+            &rt,
+            rt.alloc(),
+            feed,
+            &mut Out::new(&mut tape),
+            16,
+            4,
+            threads,
+        );
+        assert_eq!(rt; done, Ok(()));
+        assert!(rt; tape.text().starts_with(b"part,0,1,9\npart,1,9,17\n"));
+        assert!(rt; tape.text().ends_with(b"part,15,121,16777217\nregions,16\n"));
+    }
 }
 
 #[test]
 fn a_writer_may_fail_in_a_report(rt: HostRuntime) {
     let pending = Cell::new(false);
-    for (text, room, wanted) in [
-        (
-            b"views\nscan\nviews\n".as_slice(),
-            17,
-            b"views,0\nscan,0\nvi".as_slice(),
-        ),
-        (COMMANDS, DONE.len() - 60, &DONE[..DONE.len() - 60]),
-        (COMMANDS, DONE.len() - 40, &DONE[..DONE.len() - 40]),
-    ] {
-        let mut tape = Tape::new(&pending);
-        tape.room = room;
-        let done = answer_feed(&rt, Feed::new(&pending, text, 8192), &mut tape);
-        assert_eq!(rt; done, Err(Fault::Write));
-        assert_eq!(rt; tape.text(), wanted);
+    for threads in WAYS {
+        for (text, room, wanted) in [
+            (
+                b"views\nscan\nviews\n".as_slice(),
+                17,
+                b"views,0\nscan,0\nvi".as_slice(),
+            ),
+            (COMMANDS, DONE.len() - 60, &DONE[..DONE.len() - 60]),
+            (COMMANDS, DONE.len() - 40, &DONE[..DONE.len() - 40]),
+        ] {
+            let mut tape = Tape::new(&pending);
+            tape.room = room;
+            let done = answer_feed(&rt, Feed::new(&pending, text, 8192), &mut tape, threads);
+            assert_eq!(rt; done, Err(Fault::Write));
+            assert_eq!(rt; tape.text(), wanted);
+        }
     }
 }
 
 #[test]
 fn interrupted_writes_are_tried_again(rt: HostRuntime) {
     let pending = Cell::new(false);
-    for (interrupts, done, wanted) in [(100, Ok(()), ANSWERS), (101, Err(Fault::Write), b"")] {
-        let mut tape = Tape::new(&pending);
-        tape.stride = 1;
-        tape.interrupts = interrupts;
-        let feed = Feed::new(&pending, SCRIPT, 8192);
-        assert_eq!(rt; answer_feed(&rt, feed, &mut tape), done);
-        assert_eq!(rt; tape.text(), wanted);
+    for threads in WAYS {
+        for (interrupts, done, wanted) in [(100, Ok(()), ANSWERS), (101, Err(Fault::Write), b"")] {
+            let mut tape = Tape::new(&pending);
+            tape.stride = 1;
+            tape.interrupts = interrupts;
+            let feed = Feed::new(&pending, SCRIPT, 8192);
+            assert_eq!(rt; answer_feed(&rt, feed, &mut tape, threads), done);
+            assert_eq!(rt; tape.text(), wanted);
+        }
     }
 }
 
@@ -477,33 +526,45 @@ fn a_failed_flush_is_a_fault_of_the_writer(rt: HostRuntime) {
     let pending = Cell::new(false);
     // The third record is still to come when the first two are answered.
     let text = &SCRIPT[..92];
-    for (flush_limit, rest, wanted) in [
-        (0, Rest::Ends, 34),
-        (1, Rest::Ends, 43),
-        (2, Rest::Ends, 43),
-        (2, Rest::Fails, 43),
-    ] {
-        let mut tape = Tape::new(&pending);
-        tape.flush_limit = flush_limit;
-        let mut feed = Feed::new(&pending, text, 84);
-        feed.rest = rest;
-        let done = answer_feed(&rt, feed, &mut tape);
-        assert_eq!(rt; done, Err(Fault::Write));
-        assert_eq!(rt; tape.text(), &ANSWERS[..wanted]);
-        assert_eq!(rt; tape.flushes, flush_limit + 1);
+    for threads in WAYS {
+        for (flush_limit, rest, wanted) in [
+            (0, Rest::Ends, 34),
+            (1, Rest::Ends, 43),
+            (2, Rest::Ends, 43),
+            (2, Rest::Fails, 43),
+        ] {
+            let mut tape = Tape::new(&pending);
+            tape.flush_limit = flush_limit;
+            let mut feed = Feed::new(&pending, text, 84);
+            feed.rest = rest;
+            let done = answer_feed(&rt, feed, &mut tape, threads);
+            assert_eq!(rt; done, Err(Fault::Write));
+            assert_eq!(rt; tape.text(), &ANSWERS[..wanted]);
+            assert_eq!(rt; tape.flushes, flush_limit + 1);
+        }
     }
 }
 
 #[test]
 fn options_out_of_range_write_nothing(rt: HostRuntime) {
     let pending = Cell::new(false);
-    for (parts, width) in [(0, 4), (17, 4), (1, 0), (16, 524_289)] {
-        let mut tape = Tape::new(&pending);
-        let feed = Feed::new(&pending, SCRIPT, 8192);
-        let done = run_alone(rt.alloc(), feed, &mut Out::new(&mut tape), parts, width);
-        assert_eq!(rt; done, Err(Fault::Field));
-        assert_eq!(rt; tape.taken, 0);
-        assert_eq!(rt; tape.flushes, 0);
+    for threads in WAYS {
+        for (parts, width) in [(0, 4), (17, 4), (1, 0), (16, 524_289)] {
+            let mut tape = Tape::new(&pending);
+            let feed = Feed::new(&pending, SCRIPT, 8192);
+            let done = run(
+                &rt,
+                rt.alloc(),
+                feed,
+                &mut Out::new(&mut tape),
+                parts,
+                width,
+                threads,
+            );
+            assert_eq!(rt; done, Err(Fault::Field));
+            assert_eq!(rt; tape.taken, 0);
+            assert_eq!(rt; tape.flushes, 0);
+        }
     }
 }
 
@@ -514,30 +575,35 @@ fn a_run_ends_after_a_million_records(rt: HostRuntime) {
     for i in 0..4096 {
         lines[2 * i + 1] = b'\n';
     }
-    let mut feed = Feed::new(&pending, &lines, 8192);
-    feed.rest = Rest::Repeats;
-    let mut tape = Tape::new(&pending);
-    let done = answer_feed(&rt, feed, &mut tape);
-    assert_eq!(rt; done, Err(Fault::Read));
-    assert_eq!(rt; tape.taken, 18 * 1_048_576);
-    assert!(rt;
-        tape.text()
-            .starts_with(b"refused,19,Syntax\nrefused,19,Syntax\n")
-    );
+    for threads in WAYS {
+        let mut feed = Feed::new(&pending, &lines, 8192);
+        feed.rest = Rest::Repeats;
+        let mut tape = Tape::new(&pending);
+        let done = answer_feed(&rt, feed, &mut tape, threads);
+        assert_eq!(rt; done, Err(Fault::Read));
+        assert_eq!(rt; tape.taken, 18 * 1_048_576);
+        assert!(rt;
+            tape.text()
+                .starts_with(b"refused,19,Syntax\nrefused,19,Syntax\n")
+        );
+    }
 }
 
 /// Any allocation may be refused here: then the run ends with `Memory`, or a record is answered so.
 #[test]
 fn refused_memory_is_told(rt: HostRuntime) {
     let pending = Cell::new(false);
-    let mut tape = Tape::new(&pending);
-    let done = answer_feed(&rt, Feed::new(&pending, SCRIPT, 8192), &mut tape);
-    assert!(rt; done == Ok(()) || done == Err(Fault::Memory));
-    assert!(rt; !pending.get());
-    let text = tape.text();
-    let lines = text.iter().filter(|byte| **byte == b'\n').count();
-    assert!(rt; done == Err(Fault::Memory) || lines >= 8);
-    assert!(rt; text.is_empty() || text.last() == Some(&b'\n'));
+    for threads in WAYS {
+        let mut tape = Tape::new(&pending);
+        let done = answer_feed(&rt, Feed::new(&pending, SCRIPT, 8192), &mut tape, threads);
+        let is_thread = threads && done == Err(Fault::Thread);
+        assert!(rt; done == Ok(()) || done == Err(Fault::Memory) || is_thread);
+        assert!(rt; !pending.get());
+        let text = tape.text();
+        let lines = text.iter().filter(|byte| **byte == b'\n').count();
+        assert!(rt; done.is_err() || lines >= 8);
+        assert!(rt; text.is_empty() || text.last() == Some(&b'\n'));
+    }
 }
 
 #[test]
@@ -641,17 +707,29 @@ fn faults_have_codes_and_words(rt: HostRuntime) {
 
 #[test]
 fn options_are_read(rt: HostRuntime) {
-    let given: [(&[&str], u8, u32); 4] = [
-        (&["hlr"], 1, 524_288),
-        (&["hlr", "--zone", "1"], 1, 1),
-        (&["hlr", "--zone=524288", "--parts", "16"], 16, 524_288),
-        (&["hlr", "--parts=2", "--zone=4"], 2, 4),
+    let given: [(&[&str], u8, u32, bool); 6] = [
+        (&["hlr"], 1, 524_288, false),
+        (&["hlr", "--zone", "1"], 1, 1, false),
+        (
+            &["hlr", "--zone=524288", "--parts", "16"],
+            16,
+            524_288,
+            false,
+        ),
+        (&["hlr", "--parts=2", "--zone=4"], 2, 4, false),
+        (&["hlr", "--threads"], 1, 524_288, true),
+        (&["hlr", "--parts=2", "--threads", "--zone=4"], 2, 4, true),
     ];
-    for (words, parts, width) in given {
+    for (words, parts, width, threads) in given {
         let options = read_options(rt.alloc(), words).ok();
-        assert_eq!(rt; options, Some(Options { parts, width }));
+        let wanted = Options {
+            parts,
+            width,
+            threads,
+        };
+        assert_eq!(rt; options, Some(wanted));
     }
-    let refused: [(&[&str], OptionFault, bool); 8] = [
+    let refused: [(&[&str], OptionFault, bool); 10] = [
         (&["hlr", "--parts", "0"], OptionFault::ValueValidation, true),
         (
             &["hlr", "--parts", "17"],
@@ -666,6 +744,12 @@ fn options_are_read(rt: HostRuntime) {
             true,
         ),
         (&["hlr", "--bogus"], OptionFault::UnknownArgument, true),
+        (
+            &["hlr", "--threads", "--threads"],
+            OptionFault::ArgumentConflict,
+            true,
+        ),
+        (&["hlr", "--threads=yes"], OptionFault::TooManyValues, true),
         (&["hlr", "--help"], OptionFault::DisplayHelp, false),
         (&["hlr", "--version"], OptionFault::DisplayVersion, false),
     ];

@@ -1,8 +1,8 @@
 use Rattle.std.proofs.Common.{◌≡◌, ap, ◌∙◌, codes}
 use Rattle.std.proofs.lemmas.Result.{IfOk-weaker}
 use Rattle.clap.specs.Simple.{app_of, app_of_fields, new_app, with_rule}
-use Rattle.hlr.specs.Options.{parts_rule, program, with_version}
-use Rattle.hlr.proofs.OptionFacts.{program_from, with_parts}
+use Rattle.hlr.specs.Options.{parts_rule, program, with_version, zone_rule}
+use Rattle.hlr.proofs.OptionFacts.{program_from, with_parts, with_zone}
 use Rattle.hlr.proofs.options.program_command.Goals as goal
 
 pub returns : goal.returns
@@ -11,5 +11,7 @@ returns c =
     ap app_of_fields c.after_help.ensures ∙ ap app_of_fields c.about.ensures ∙ ap app_of_fields c.version.ensures ∙ ap with_version c.new.ensures.app in
     let first : app_of c.in_ok-arg.field-0 ≡ with_rule (with_version (new_app (codes "hlr"))) parts_rule =
     c.in_ok-arg.ensures.shape c.parts_arg.ensures.local ∙ with_parts _ _ texts c.parts_arg.ensures.rule in
+    let second : app_of c.in_ok-arg-2.field-0 ≡ with_rule (with_rule (with_version (new_app (codes "hlr"))) parts_rule) zone_rule =
+    c.in_ok-arg-2.ensures.shape c.zone_arg.ensures.local ∙ with_zone _ _ first c.zone_arg.ensures.rule in
     IfOk-weaker _ _ (λ command. app_of command ≡ program)
-    (λ command added. added.shape c.zone_arg.ensures.local ∙ program_from _ _ first c.zone_arg.ensures.rule) c.arg-2.ensures
+    (λ command added. added.shape c.threads_arg.ensures.local ∙ program_from _ _ second c.threads_arg.ensures.rule) c.arg-3.ensures

@@ -1,4 +1,4 @@
-use Rattle.std.proofs.Common.{refl, ◌∙◌}
+use Rattle.std.proofs.Common.{◌∙◌}
 use Rattle.hlr.proofs.SinkFacts.{puts_front}
 use Rattle.hlr.proofs.ReportFacts.{pairs_all, page_step, page_some, page_none, report_started, report_goes_on_by, report_stops_by, report_ends}
 use Rattle.hlr.proofs.reports.write_index.Goals as goal

@@ -19,7 +19,7 @@ pub returns-in-Ok-false-clause-text : goal.returns-in-Ok-false-clause-text
 returns-in-Ok-false-clause-text g c =
     let inv = c.loop-count.invariant in
     if_some _ _ _ (λ bytes so.
-    ends (inner_remaining g.R.Read.remaining) _ bytes c.loop-count.reader c.read_byte_record.new.self _ _ _ _ _ so inv.config _ c.in-Ok-false.field-0-test
+    ends (inner_remaining g.R.Read.remaining) _ bytes c.loop-count.reader c.read_record.new.reader _ _ _ _ _ so inv.config _ c.in-Ok-false.field-0-test
     (c.in-Ok-false.ensures.reads inv.trims inv.ready) (omega arith)) inv.so_far
 
 pub returns-then-is_err-clause-text : goal.returns-then-is_err-clause-text
@@ -27,7 +27,7 @@ returns-then-is_err-clause-text g c =
     let inv = c.loop-count.invariant in
     let failed : is_err c.answer_in_time.result ≡ true = search rules in
     if_some _ _ _ (λ bytes so.
-    breaks (inner_remaining g.R.Read.remaining) _ bytes c.loop-count.reader c.read_byte_record.new.self _ _ _ _ _ _ _ so inv.config _ c.in-Ok-true.field-0-test
+    breaks (inner_remaining g.R.Read.remaining) _ bytes c.loop-count.reader c.read_record.new.reader _ _ _ _ _ _ _ so inv.config _ c.in-Ok-true.field-0-test
     (c.in-Ok-true.ensures.reads inv.trims inv.ready) _ c.answer_in_time.result failed c.answer_in_time.ensures.text (omega arith)) inv.so_far
 
 pub returns-in-Err-clause-text : goal.returns-in-Err-clause-text
@@ -49,7 +49,7 @@ loop-count-preserved g c =
       few = omega arith;
       home = c.answer_in_time.ensures.home;
       so_far = if_some _ _ _ (λ bytes so.
-          goes_on (inner_remaining g.R.Read.remaining) _ bytes c.loop-count.reader c.read_byte_record.new.self _ _ _ _ _ _ _ so inv.config _ c.in-Ok-true.field-0-test
+          goes_on (inner_remaining g.R.Read.remaining) _ bytes c.loop-count.reader c.read_record.new.reader _ _ _ _ _ _ _ so inv.config _ c.in-Ok-true.field-0-test
           (c.in-Ok-true.ensures.reads inv.trims inv.ready) _ c.answer_in_time.result passed c.answer_in_time.ensures.text) inv.so_far;
     }
 

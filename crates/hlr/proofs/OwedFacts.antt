@@ -1,0 +1,442 @@
+-- How the text of a run with threads grows: events are owed, and their answers are written at a settle.
+use Rattle.std.proofs.Common.{◌≡◌, refl, sym, ap, ◌∙◌, subst, ℕ, ◌+◌, ◌≤◌, ◌<◌, List, [], ◌∷◌, ◌++◌, length, Option, Some, None, Bool, true, false, append_assoc, length-append, inl, inr, arith}
+use Rattle.std.specs.Prelude.{◌⊎◌, map, IfSome, Result, Ok, Err, MatchResult}
+use Rattle.std.proofs.lemmas.List.{append-nil}
+use Rattle.std.specs.Io.KnownBytes.{Keeps}
+use Rattle.csv.specs.Reading.{ReadRecord, Reached, default_config, reader_config, reader_state, source_of}
+use Rattle.csv.specs.declared.error.ErrorKind.{ErrorKind}
+use Rattle.csv.specs.declared.error.ErrorKind.TheVariants as error
+use Rattle.csv.specs.declared.parser.State.{State}
+use Rattle.csv.specs.declared.parser.State.TheVariants as st
+use Rattle.csv.specs.declared.reader.Reader.{Reader}
+use Rattle.csv.proofs.ReadFacts.{rows-more, rows-end}
+use Rattle.tatp_rows.specs.declared.refusal.Refusal.{Refusal}
+use Rattle.hlr_owners.specs.Recut.{IsRecut}
+use Rattle.hlr_owners.specs.Seats.{Seating, store_in}
+use Rattle.hlr_owners.specs.Store.{Store}
+use Rattle.hlr_core.specs.Run.{IsRun}
+use Rattle.hlr_core.specs.declared.event.Event.{Event}
+use Rattle.hlr_core.specs.declared.event.Reply.{Reply}
+use Rattle.hlr_workers.specs.Standing.{answers_with, events_in, orders_of, Asked, Cut, Engaged, IsSettled, Stands, Took, TookNext}
+use Rattle.hlr.specs.Command.{Command}
+use Rattle.hlr.specs.Command.{Command as command}
+use Rattle.hlr.specs.Inside.{Answers, AreAnswered, AreBrokenOff, AskFor, HasAnswered, HasCome, HasComeTo, HasComeToEnd, HasTaken, IsAtRest, IsOwed, IsUnderway, kind_of, replies_text, word_of_report}
+use Rattle.hlr.specs.Fault.{read_fault_of}
+use Rattle.hlr.specs.Lines.{reply_line}
+use Rattle.hlr.specs.Records.{command_named, command_of, field, word_named}
+use Rattle.hlr.specs.Run.{Ran, RanFront}
+use Rattle.hlr.specs.Sink.{Puts}
+use Rattle.hlr.specs.Text.{RecordText, RecordsText}
+use Rattle.hlr.specs.declared.fault.Fault.{Fault}
+use Rattle.hlr.specs.declared.fault.Fault.TheVariants as fault
+use Rattle.hlr.specs.declared.records.Kind.TheVariants as kind
+use Rattle.hlr.specs.declared.records.Report.{Report}
+use Rattle.hlr.specs.declared.records.Report.TheVariants as report
+use Rattle.hlr.specs.declared.records.Word.{Word}
+use Rattle.hlr.specs.declared.records.Word.TheVariants as word
+use Rattle.hlr.specs.declared.run.TheConstants.{RECORDS}
+use Rattle.hlr.specs.declared.sink.Stalled.{Stalled}
+use Rattle.hlr.proofs.OrderFacts.{answered_records}
+use Rattle.hlr.proofs.RunFacts.{front_is_whole, if_some, records_more}
+use Rattle.hlr.proofs.SinkFacts.{appends_both, appends_kept, appends_none, front_after, front_all}
+
+-- the events that records ask for, one more
+ask_more : (rows : List (List (List ℕ))) (events : List Event) (fields : List (List ℕ)) (event : Event) → AskFor rows events
+    → command_of fields ≡ Ok (command.Ask event) → AskFor (rows ++ fields ∷ []) (events ++ event ∷ [])
+ask_more [] [] fields event asked is = (is, tt)
+ask_more [] (e ∷ events) fields event asked is = absurd asked
+ask_more (row ∷ rows) [] fields event asked is = absurd asked
+ask_more (row ∷ rows) (e ∷ events) fields event asked is = (asked.0, ask_more rows events fields event asked.1 is)
+
+-- events that were taken, one more
+took_more : (events : List Event) (event : Event) → map Took (events ++ event ∷ []) ≡ map Took events ++ Took event ∷ []
+took_more [] event = refl
+took_more (e ∷ events) event = ap (λ (asked : List Asked). Took e ∷ asked) (took_more events event)
+
+-- as many events as were taken
+events_taken : (events : List Event) → events_in (map Took events) ≡ length events
+events_taken [] = refl
+events_taken (e ∷ events) = let rest = events_taken events in omega arith
+
+-- an engine takes the event that one more record asks for
+owed_more : (rows : List (List (List ℕ))) (before : Store) (a b : Engaged) (fields : List (List ℕ)) (event : Event) → IsOwed rows before a
+    → command_of fields ≡ Ok (command.Ask event) → TookNext (Took event) a b → b.house.spare ≡ a.house.spare → IsOwed (rows ++ fields ∷ []) before b
+owed_more rows before a b fields event owes is took spare = record {
+  events = owes.events ++ event ∷ [];
+  asked = ask_more rows owes.events fields event owes.asked is;
+  stands = rw (took_more owes.events event) (took before (map Took owes.events) owes.stands);
+  sight = owes.sight ∙ rw spare refl;
+}
+
+-- an engine is at rest that was opened over a register
+pub opened_at_rest : (e : Engaged) (h : Seating) → e.house ≡ h → e.replies ≡ [] → Stands e (store_in h) [] → IsAtRest e
+opened_at_rest e h is none stands = record { none = none; stands = subst (λ (h : Seating). Stands e (store_in h) []) (sym is) stands }
+
+-- an engine at rest owes nothing
+owed_none : (e : Engaged) → IsAtRest e → IsOwed [] (store_in e.house) e
+owed_none e rest = record { events = []; asked = tt; stands = rest.stands; sight = refl }
+
+-- the lines of the replies to events answer the records that ask for them
+events_text : (rows : List (List (List ℕ))) (events : List Event) (replies : List (ℕ × Reply)) (before after : Store) → AskFor rows events → length replies ≡ length events
+    → IsRun (orders_of (map Took events)) before (answers_with replies (map Took events)) after → RecordsText rows before (replies_text replies) after
+unfolding RecordsText
+events_text [] [] [] before after asked many run = (refl, run)
+events_text [] [] (one ∷ replies) before after asked many run = absurd (omega arith)
+events_text [] (event ∷ events) replies before after asked many run = absurd asked
+events_text (row ∷ rows) [] replies before after asked many run = absurd asked
+events_text (row ∷ rows) (event ∷ events) [] before after asked many run = absurd run
+events_text (row ∷ rows) (event ∷ events) (one ∷ replies) before after asked many run =
+    let right : RecordText row before (reply_line one.1) run.0 = rw asked.0 (record { reply = one.1; right = run.1; line = refl }) in
+    (reply_line one.1, run.0, replies_text replies, right, events_text rows events replies run.0 after asked.1 (omega arith) run.2, refl)
+
+-- what was owed is answered by the lines of the replies of a settle
+owed_text : (rows : List (List (List ℕ))) (before : Store) (e : Engaged) (replies : List (ℕ × Reply)) (house : Seating) → IsOwed rows before e → IsSettled e replies house
+    → length replies ≡ length e.replies → house.spare ≡ e.house.spare → RecordsText rows before (replies_text replies) (store_in house)
+owed_text rows before e replies house owes settled each spare =
+    let sight : before.sight ≡ house.spare.view.seen = owes.sight ∙ rw spare refl in
+    let count = owes.stands.0 in
+    let taken = events_taken owes.events in
+    events_text rows owes.events replies before (store_in house) owes.asked (omega arith)
+    (subst (λ (sight : List ℕ). IsRun (orders_of (map Took owes.events)) before (answers_with replies (map Took owes.events)) (record (store_in house) { sight = sight })) sight
+    (settled before (map Took owes.events) owes.stands))
+
+-- records answered one after another, and then more
+records_after : (rows more : List (List (List ℕ))) (s m t : Store) (text behind : List ℕ) → RecordsText rows s text m → RecordsText more m behind t
+    → RecordsText (rows ++ more) s (text ++ behind) t
+unfolding RecordsText
+records_after [] more s m t text behind h k = rw h.0 (subst (λ (from : Store). RecordsText more from behind t) h.1 k)
+records_after (row ∷ rows) more s m t text behind h k =
+    (h.0, h.1, h.2 ++ behind, h.3, records_after rows more h.1 m t h.2 behind h.4 k, ap (λ w. w ++ behind) h.5 ∙ append_assoc h.0 h.2 behind)
+
+-- what is owed is written
+module _ (rows : List (List (List ℕ))) (start : Store) (e : Engaged) (replies : List (ℕ × Reply)) (house : Seating) (settled : IsSettled e replies house)
+    (each : length replies ≡ length e.replies) (spare : house.spare ≡ e.house.spare) (old mid new : Option (List ℕ)) (under : IsUnderway rows start e old mid) where
+  whole_text : RecordsText rows start (under.text ++ replies_text replies) (store_in house)
+  whole_text =
+      rw under.all (records_after under.answered under.owed start under.now (store_in house) under.text (replies_text replies) under.answers
+      (owed_text under.owed under.now e replies house under.owes settled each spare))
+
+  pub settled_text : (stalled : Bool) (r : Result (Unit {0}) Stalled) → Puts (replies_text replies) mid new stalled r
+      → MatchResult r (λ done. AreAnswered rows start (store_in house) old new) (λ why. AreBrokenOff rows start old new stalled)
+  settled_text stalled (Ok done) put = record {
+    text = under.text ++ replies_text replies;
+    answers = whole_text;
+    grew = appends_both old mid new under.text (replies_text replies) under.grew put;
+  }
+  settled_text stalled (Err why) put = record {
+    text = under.text ++ replies_text replies;
+    end = store_in house;
+    answers = whole_text;
+    front = front_after old mid new under.text (replies_text replies) under.grew put.0;
+    told = put.1;
+  }
+
+-- records that are answered by an engine which is at rest
+pub underway_at_rest : (rows : List (List (List ℕ))) (start : Store) (e : Engaged) (old new : Option (List ℕ)) → IsAtRest e → AreAnswered rows start (store_in e.house) old new → IsUnderway rows start e old new
+underway_at_rest rows start e old new rest done = record {
+  answered = rows;
+  owed = [];
+  all = sym (append-nil rows);
+  text = done.text;
+  now = store_in e.house;
+  answers = done.answers;
+  grew = done.grew;
+  owes = owed_none e rest;
+}
+
+-- no record is answered yet
+pub underway_none : (e : Engaged) (old : Option (List ℕ)) → IsAtRest e → IsUnderway [] (store_in e.house) e old old
+unfolding RecordsText
+underway_none e old rest = underway_at_rest [] (store_in e.house) e old old rest (record { text = []; answers = (refl, refl); grew = appends_none old })
+
+-- one more record is owed
+pub underway_more : (rows : List (List (List ℕ))) (start : Store) (a b : Engaged) (old new : Option (List ℕ)) (fields : List (List ℕ)) (event : Event) → IsUnderway rows start a old new
+    → command_of fields ≡ Ok (command.Ask event) → TookNext (Took event) a b → b.house.spare ≡ a.house.spare → IsUnderway (rows ++ fields ∷ []) start b old new
+underway_more rows start a b old new fields event under is took spare = record {
+  answered = under.answered;
+  owed = under.owed ++ fields ∷ [];
+  all = ap (λ (all : List (List (List ℕ))). all ++ fields ∷ []) under.all ∙ append_assoc under.answered under.owed (fields ∷ []);
+  text = under.text;
+  now = under.now;
+  answers = under.answers;
+  grew = under.grew;
+  owes = owed_more under.owed under.now a b fields event under.owes is took spare;
+}
+
+-- behind records that are answered, one more is answered
+pub answered_next : (rows : List (List (List ℕ))) (fields : List (List ℕ)) (start before : Store) (e : Engaged) (old mid new : Option (List ℕ)) (stalled : Bool) (r : Result (Unit {0}) Stalled)
+    → AreAnswered rows start before old mid → Answers fields before (store_in e.house) mid new stalled r → IsAtRest e → HasAnswered rows fields start e old new stalled r
+answered_next rows fields start before e old mid new stalled (Ok done) all one rest = underway_at_rest (rows ++ fields ∷ []) start e old new rest (record {
+  text = all.text ++ one.text;
+  answers = records_more rows fields start before (store_in e.house) all.text one.text all.answers one.answer;
+  grew = appends_both old mid new all.text one.text all.grew one.put;
+})
+answered_next rows fields start before e old mid new stalled (Err why) all one rest = inr (record {
+  text = all.text ++ one.text;
+  end = store_in e.house;
+  answers = records_more rows fields start before (store_in e.house) all.text one.text all.answers one.answer;
+  front = front_after old mid new all.text one.text all.grew one.put.0;
+  told = one.put.1;
+})
+
+-- a re-cut by an engine at rest
+pub recut_settled : (bounds : List ℕ) (done : Result ℕ Refusal) (a b : Engaged) → IsAtRest a → TookNext (Cut bounds done) a b → IsSettled b [] b.house
+    → b.house.spare ≡ a.house.spare → IsRecut bounds (store_in a.house) done (store_in b.house)
+recut_settled bounds done a b rest took settled first =
+    let run = settled (store_in a.house) (Cut bounds done ∷ []) (took (store_in a.house) [] rest.stands) in
+    let sight : a.house.spare.view.seen ≡ b.house.spare.view.seen = sym (rw first refl) in
+    let after : run.0 ≡ store_in b.house = sym run.2 ∙ ap (λ (sight : List ℕ). record (store_in b.house) { sight = sight }) sight in
+    subst (λ (s : Store). IsRecut bounds (store_in a.house) done s) after run.1
+
+-- no replies stay none
+pub nothing_more : (before after : List (ℕ × Reply)) → before ≡ [] → length after ≡ length before → after ≡ []
+nothing_more before [] none same = refl
+nothing_more [] (r ∷ after) none same = absurd (omega (arith, same))
+nothing_more (b ∷ before) (r ∷ after) none same = absurd cc
+
+-- records that are answered, and the sink was flushed
+pub answered_kept : (rows : List (List (List ℕ))) (start now : Store) (old mid new : Option (List ℕ)) → AreAnswered rows start now old mid → Keeps mid new → AreAnswered rows start now old new
+answered_kept rows start now old mid new done kept = record { text = done.text; answers = done.answers; grew = appends_kept old mid new done.text done.grew kept }
+
+-- or failed in that
+pub broken_kept : (rows : List (List (List ℕ))) (start now : Store) (old mid new : Option (List ℕ)) (stalled : Bool) → AreAnswered rows start now old mid → Keeps mid new → stalled ≡ true
+    → AreBrokenOff rows start old new stalled
+broken_kept rows start now old mid new stalled done kept told = record {
+  text = done.text;
+  end = now;
+  answers = done.answers;
+  front = front_all old new done.text (appends_kept old mid new done.text done.grew kept);
+  told = told;
+}
+
+-- a run that came to a record and no further, unless the sink failed
+pub come_to : (start : Store) (bytes : List ℕ) (e : Engaged) (old new : Option (List ℕ)) (why : Fault) → (why ≡ fault.Write → ⊥) → HasComeTo start bytes e old new → HasCome start bytes e old new (Err why)
+come_to start bytes e old new fault.Memory unless come = come
+come_to start bytes e old new fault.Field unless come = come
+come_to start bytes e old new fault.Thread unless come = come
+come_to start bytes e old new fault.Read unless come = come
+come_to start bytes e old new fault.Write unless come = absurd (unless refl)
+
+-- a reader's fault is none of the sink
+pub read_is_no_write : (why : Fault) → (why ≡ fault.Memory) ⊎ (why ≡ fault.Read) → why ≡ fault.Write → ⊥
+read_is_no_write why (inl memory) is = let clash : fault.Memory ≡ fault.Write = sym memory ∙ is in cc
+read_is_no_write why (inr read) is = let clash : fault.Read ≡ fault.Write = sym read ∙ is in cc
+
+-- records of some bytes are answered by a text, of which the sink took a front
+broken_front : (rows : List (List (List ℕ))) (start : Store) (bytes : List ℕ) (old new : Option (List ℕ)) (stalled : Bool) (state : State) (left : List ℕ) → AreBrokenOff rows start old new stalled
+    → length rows ≤ RECORDS → Reached default_config st.StartRecord bytes rows state left → RanFront start bytes old new fault.Write
+broken_front rows start bytes old new stalled state left broken few reached = record {
+  answered = answered_records start rows broken.text broken.end few broken.answers;
+  state = state;
+  left = left;
+  are_first = reached;
+  written = broken.front.front;
+  begins = broken.front.begins;
+  whole = tt;
+  grew = broken.front.grew;
+}
+
+-- and what is owed of all records is written, after no fault of the sink
+module _ (start : Store) (bytes : List ℕ) (e : Engaged) (old mid new : Option (List ℕ)) where
+  stopped : (now : Store) (why : Fault) → HasComeTo start bytes e old mid → ((rows : List (List (List ℕ))) → IsUnderway rows start e old mid → AreAnswered rows start now old new)
+      → RanFront start bytes old new why
+  stopped now why come write =
+      let all = write come.rows come.underway in
+      front_is_whole start bytes old new why (answered_records start come.rows all.text now come.few all.answers) come.state come.left come.are_first all.grew
+
+  cut : (stalled : Bool) → HasComeTo start bytes e old mid → ((rows : List (List (List ℕ))) → IsUnderway rows start e old mid → AreBrokenOff rows start old new stalled)
+      → RanFront start bytes old new fault.Write
+  cut stalled come write = broken_front come.rows start bytes old new stalled come.state come.left (write come.rows come.underway) come.few come.are_first
+
+  pub come_whole : (now : Store) (done : Result (Unit {0}) Fault) → (done ≡ Err fault.Write → ⊥) → HasCome start bytes e old mid done
+      → ((rows : List (List (List ℕ))) → IsUnderway rows start e old mid → AreAnswered rows start now old new) → Ran start bytes old new done
+  come_whole now (Ok done) unless come write =
+      let all = write come.rows come.underway in
+      record { answered = answered_records start come.rows all.text now come.few all.answers; are_records = come.are_records; grew = all.grew }
+  come_whole now (Err fault.Memory) unless come write = stopped now fault.Memory come write
+  come_whole now (Err fault.Field) unless come write = stopped now fault.Field come write
+  come_whole now (Err fault.Thread) unless come write = stopped now fault.Thread come write
+  come_whole now (Err fault.Read) unless come write = stopped now fault.Read come write
+  come_whole now (Err fault.Write) unless come write = absurd (unless refl)
+
+  -- or the sink fails in that
+  pub come_broken : (stalled : Bool) (done : Result (Unit {0}) Fault) → (done ≡ Err fault.Write → ⊥) → HasCome start bytes e old mid done
+      → ((rows : List (List (List ℕ))) → IsUnderway rows start e old mid → AreBrokenOff rows start old new stalled) → RanFront start bytes old new fault.Write
+  come_broken stalled (Ok done) unless come write =
+      broken_front come.rows start bytes old new stalled come.are_records.0 come.are_records.1 (write come.rows come.underway) come.few come.are_records.2
+  come_broken stalled (Err fault.Memory) unless come write = cut stalled come write
+  come_broken stalled (Err fault.Field) unless come write = cut stalled come write
+  come_broken stalled (Err fault.Thread) unless come write = cut stalled come write
+  come_broken stalled (Err fault.Read) unless come write = cut stalled come write
+  come_broken stalled (Err fault.Write) unless come write = absurd (unless refl)
+
+-- records are what was read of some bytes
+pub record AreRead (bytes : List ℕ) (source : Option (List ℕ)) (state : State) (rows : List (List (List ℕ))) : Type 0 where
+  pub left : List ℕ
+  pub source_is : source ≡ Some left
+  pub reached : Reached default_config st.StartRecord bytes rows state left
+
+-- so many records were read, of the bytes if they are known, and are answered or owed
+pub record SoFarOwed (start : Store) (known source : Option (List ℕ)) (state : State) (e : Engaged) (old new : Option (List ℕ)) (count : ℕ) : Type 0 where
+  pub rows : List (List (List ℕ))
+  pub many : length rows ≡ count
+  pub underway : IsUnderway rows start e old new
+  pub read : IfSome known (λ bytes. AreRead bytes source state rows)
+
+-- nothing is read yet
+pub owed_started : (e : Engaged) (known : Option (List ℕ)) (at : State) (old : Option (List ℕ)) → IsAtRest e → at ≡ st.StartRecord → SoFarOwed (store_in e.house) known known at e old old 0
+unfolding Reached
+owed_started e known at old rest at_start = record {
+  rows = [];
+  many = refl;
+  underway = underway_none e old rest;
+  read = none known;
+}
+  where
+    none : (known : Option (List ℕ)) → IfSome known (λ bytes. AreRead bytes known at [])
+    none None = tt
+    none (Some bytes) = record { left = bytes; source_is = refl; reached = (sym at_start, refl) }
+
+module _ {R : Type 0} (rem : R → Option (List ℕ)) (a b : Reader R) (fields : List (List ℕ)) (config : reader_config a ≡ default_config) (found : Bool) (taken : ReadRecord rem a b found fields) where
+  -- one record more was read
+  read_more : (bytes : List ℕ) (rows : List (List (List ℕ))) → found ≡ true → AreRead bytes (source_of rem a) (reader_state a) rows
+      → AreRead bytes (source_of rem b) (reader_state b) (rows ++ fields ∷ [])
+  read_more bytes rows there read =
+      let one : ReadRecord rem a b true fields = subst (λ (f : Bool). ReadRecord rem a b f fields) there taken in
+      let more = rows-more rem a b fields default_config st.StartRecord bytes read.left rows config read.source_is read.reached one in
+      record { left = more.0; source_is = more.1; reached = more.2 }
+
+  module _ (start : Store) (known : Option (List ℕ)) (e : Engaged) (old mid new : Option (List ℕ)) (count : ℕ) where
+    -- and is answered or owed
+    pub owed_goes_on : (next : Engaged) (so : SoFarOwed start known (source_of rem a) (reader_state a) e old mid count) → found ≡ true → IsUnderway (so.rows ++ fields ∷ []) start next old new
+        → SoFarOwed start known (source_of rem b) (reader_state b) next old new (count + 1)
+    owed_goes_on next so there under =
+        let many = so.many in
+        record {
+          rows = so.rows ++ fields ∷ [];
+          many = rw length-append (omega arith);
+          underway = under;
+          read = if_some known _ _ (λ bytes read. read_more bytes so.rows there read) so.read;
+        }
+
+    came : {bytes : List ℕ} (next : Engaged) (so : SoFarOwed start known (source_of rem a) (reader_state a) e old mid count) → AreRead bytes (source_of rem a) (reader_state a) so.rows
+        → count < 1048576 → IsUnderway so.rows start next old new → HasComeTo start bytes next old new
+    came next so read below under =
+        let many = so.many in
+        record { rows = so.rows; few = omega arith; state = reader_state a; left = read.left; are_first = read.reached; underway = under }
+
+    -- or that ended the run
+    pub owed_fails : (next : Engaged) (stalled : Bool) (why : Fault) (so : SoFarOwed start known (source_of rem a) (reader_state a) e old mid count) → found ≡ true → count < 1048576
+        → HasTaken so.rows fields start next old new stalled (Err why) → IfSome known (λ bytes. HasCome start bytes next old new (Err why))
+    owed_fails next stalled fault.Memory so there below held = if_some known _ _ (λ bytes read. came next so read below held) so.read
+    owed_fails next stalled fault.Thread so there below held = if_some known _ _ (λ bytes read. came next so read below held) so.read
+    owed_fails next stalled fault.Field so there below held = absurd held
+    owed_fails next stalled fault.Read so there below held = absurd held
+    owed_fails next stalled fault.Write so there below held =
+        let many = so.many in
+        if_some known _ _ (λ bytes read.
+        elim held [
+          | inl before ↦ broken_front so.rows start bytes old new stalled (reader_state a) read.left before (omega arith) read.reached
+          | inr itself ↦
+              let more = read_more bytes so.rows there read in
+              broken_front (so.rows ++ fields ∷ []) start bytes old new stalled (reader_state b) more.left itself (rw length-append (omega arith)) more.reached
+        ]) so.read
+
+    -- the bytes end
+    pub owed_ends : (so : SoFarOwed start known (source_of rem a) (reader_state a) e old mid count) → found ≡ false → count ≤ 1048576 → IfSome known (λ bytes. HasComeToEnd start bytes e old mid)
+    owed_ends so none within =
+        let many = so.many in
+        let last : ReadRecord rem a b false fields = subst (λ (f : Bool). ReadRecord rem a b f fields) none taken in
+        if_some known _ _ (λ bytes read.
+        record {
+          rows = so.rows;
+          few = omega arith;
+          are_records = (reader_state a, read.left, read.reached, rows-end rem a b fields default_config read.left config read.source_is last);
+          underway = so.underway;
+        }) so.read
+
+-- a run stops between two records
+pub owed_stops : (start : Store) (known source : Option (List ℕ)) (state : State) (e : Engaged) (old new : Option (List ℕ)) (count : ℕ) (why : Fault)
+    → SoFarOwed start known source state e old new count → count ≤ 1048576 → (why ≡ fault.Write → ⊥) → IfSome known (λ bytes. HasCome start bytes e old new (Err why))
+owed_stops start known source state e old new count why so within unless =
+    let many = so.many in
+    if_some known _ _ (λ bytes read.
+    come_to start bytes e old new why unless (record { rows = so.rows; few = omega arith; state = state; left = read.left; are_first = read.reached; underway = so.underway })) so.read
+
+-- a record that ended a run was no option out of range, and where the sink failed it told so
+pub taken_no_field : (rows : List (List (List ℕ))) (fields : List (List ℕ)) (start : Store) (e : Engaged) (old new : Option (List ℕ)) (stalled : Bool) (r : Result (Unit {0}) Fault)
+    → HasTaken rows fields start e old new stalled r → r ≡ Err fault.Field → ⊥
+taken_no_field rows fields start e old new stalled r held is = subst (λ (r : Result (Unit {0}) Fault). HasTaken rows fields start e old new stalled r) is held
+
+pub taken_told : (rows : List (List (List ℕ))) (fields : List (List ℕ)) (start : Store) (e : Engaged) (old new : Option (List ℕ)) (stalled : Bool) (r : Result (Unit {0}) Fault)
+    → HasTaken rows fields start e old new stalled r → r ≡ Err fault.Write → stalled ≡ true
+taken_told rows fields start e old new stalled r held is = elim (subst (λ (r : Result (Unit {0}) Fault). HasTaken rows fields start e old new stalled r) is held) [
+  | inl before ↦ before.told
+  | inr itself ↦ itself.told
+]
+
+-- a record that is answered, or in which the sink failed, as a run takes it
+pub answered_taken : (rows : List (List (List ℕ))) (fields : List (List ℕ)) (start : Store) (e : Engaged) (old new : Option (List ℕ)) (stalled : Bool) (done : Result (Unit {0}) Stalled) (r : Result (Unit {0}) Fault)
+    → HasAnswered rows fields start e old new stalled done → MatchResult done (λ unit. r ≡ Ok unit) (λ why. r ≡ Err fault.Write) → HasTaken rows fields start e old new stalled r
+answered_taken rows fields start e old new stalled (Ok done) r held is = rw is held
+answered_taken rows fields start e old new stalled (Err why) r held is = rw is held
+
+-- a record was taken, and then what is owed was handed on
+pub handed_taken : (rows : List (List (List ℕ))) (fields : List (List ℕ)) (start : Store) (e : Engaged) (old new : Option (List ℕ)) (stalled : Bool) (done : Result (Unit {0}) Stalled) (r : Result (Unit {0}) Fault)
+    → MatchResult done (λ unit. AreAnswered (rows ++ fields ∷ []) start (store_in e.house) old new) (λ why. AreBrokenOff (rows ++ fields ∷ []) start old new stalled) → IsAtRest e
+    → MatchResult done (λ unit. r ≡ Ok unit) (λ why. r ≡ Err fault.Write) → HasTaken rows fields start e old new stalled r
+handed_taken rows fields start e old new stalled (Ok done) r held rest is = rw is (underway_at_rest (rows ++ fields ∷ []) start e old new rest held)
+handed_taken rows fields start e old new stalled (Err why) r held rest is = rw is (inr held)
+
+-- the command of a record whose word is known
+pub command_is : (fields : List (List ℕ)) (named : Word) (asked : Result Command Refusal) → Some named ≡ word_named (field fields 0) → command_named (Some named) fields ≡ asked → command_of fields ≡ asked
+unfolding command_of
+command_is fields named asked is asks = rw (← is) asks
+
+-- the word of a report
+pub report_word : (named : Word) (asked : Report) → kind_of named ≡ kind.Report asked → word_of_report asked ≡ named
+report_word word.Gsd asked is = absurd cc
+report_word word.Gnd asked is = absurd cc
+report_word word.Gad asked is = absurd cc
+report_word word.Usd asked is = absurd cc
+report_word word.Ul asked is = absurd cc
+report_word word.Icf asked is = absurd cc
+report_word word.Dcf asked is = absurd cc
+report_word word.Sub asked is = absurd cc
+report_word word.Acc asked is = absurd cc
+report_word word.Fac asked is = absurd cc
+report_word word.Active asked is = absurd cc
+report_word word.Number asked is = absurd cc
+report_word word.Post asked is = absurd cc
+report_word word.Give asked is = absurd cc
+report_word word.Take asked is = absurd cc
+report_word word.Recut asked is = absurd cc
+report_word word.Views asked is = let same : asked ≡ report.Views = cc in rw same refl
+report_word word.Scan asked is = let same : asked ≡ report.Scan = cc in rw same refl
+report_word word.Index asked is = let same : asked ≡ report.Index = cc in rw same refl
+report_word word.Regions asked is = let same : asked ≡ report.Regions = cc in rw same refl
+report_word word.Propose asked is = let same : asked ≡ report.Propose = cc in rw same refl
+
+-- the word of a re-cut
+pub recut_word : (named : Word) → kind_of named ≡ kind.Recut → named ≡ word.Recut
+recut_word word.Gsd is = absurd cc
+recut_word word.Gnd is = absurd cc
+recut_word word.Gad is = absurd cc
+recut_word word.Usd is = absurd cc
+recut_word word.Ul is = absurd cc
+recut_word word.Icf is = absurd cc
+recut_word word.Dcf is = absurd cc
+recut_word word.Sub is = absurd cc
+recut_word word.Acc is = absurd cc
+recut_word word.Fac is = absurd cc
+recut_word word.Active is = absurd cc
+recut_word word.Number is = absurd cc
+recut_word word.Post is = absurd cc
+recut_word word.Give is = absurd cc
+recut_word word.Take is = absurd cc
+recut_word word.Views is = absurd cc
+recut_word word.Scan is = absurd cc
+recut_word word.Index is = absurd cc
+recut_word word.Regions is = absurd cc
+recut_word word.Propose is = absurd cc
+recut_word word.Recut is = refl

@@ -1,0 +1,335 @@
+//! A run with threads: an engine takes the events, and their answers are owed until they are settled.
+ghost use Rattle.std.specs.Prelude.{◌≡◌, ◌≢◌, ◌⊎◌, ◌<◌, [], List, ℕ, Bool, Option, true, Some, Ok, Err, IfSome, OnErr, OnOk, MatchResult, length};
+ghost use Rattle.csv.specs.Reading.{Ready, default_config, reader_config, reader_state, reader_trim, source_of};
+ghost use Rattle.csv.specs.Records.{fields_of};
+ghost use Rattle.csv.specs.declared.parser.State.TheVariants as state;
+ghost use Rattle.csv.specs.declared.reader.Trim.TheVariants as trim;
+ghost use Rattle.hlr_owners.specs.Seats.{store_in};
+ghost use Rattle.hlr_owners.specs.Store.{Store};
+ghost use Rattle.hlr.specs.Command.{Command as command};
+ghost use Rattle.hlr.specs.Inside.{AnswersNext, HasCome, IsAtRest, TakesNext, WritesOwed, replies_text, word_of_report};
+ghost use Rattle.hlr.specs.Lines.{refused_line};
+ghost use Rattle.hlr.specs.Records.{bounds_of, command_of, field, word_named};
+ghost use Rattle.hlr.specs.Run.{Ran};
+ghost use Rattle.hlr.specs.Sink.{Puts};
+ghost use Rattle.hlr.specs.Text.{RecutText};
+ghost use Rattle.hlr.specs.WholeRecords.{inner_remaining};
+ghost use Rattle.hlr.specs.declared.fault.Fault.TheVariants as fault;
+ghost use Rattle.hlr_workers.specs.declared.work.TheConstants.{MOST_PENDING};
+
+use crate::events::event_of;
+use crate::fault::Fault;
+use crate::lines::{Line, build_recut, build_refused, build_reply, empty_line};
+use crate::records::{Kind, Report, Word, field, kind_of, read_bounds, word_of};
+use crate::run::{RECORDS, answer_report, read_record};
+use crate::sink::{Sink, Stalled, put_all};
+use crate::whole_records::WholeRecords;
+use csv::{ByteRecord, Reader};
+use hlr_core::{Event, Reply};
+use hlr_workers::{Engine, Gate, MOST_PENDING};
+use std::io::Read;
+use std::sync::Wait;
+use std::thread::Threads;
+use tatp_rows::Refusal;
+
+/// A gate that holds nobody up.
+#[derive(Drop)]
+pub struct OpenGate;
+
+impl Gate for OpenGate {
+    fn before(&self, _part: u8, _seq: u64) {}
+
+    fn after(&self, _part: u8, _seq: u64) {}
+}
+
+/// Writes the lines of replies, one after another.
+fn write_replies<S: Sink>(
+    replies: &[(u64, Reply)],
+    line: &mut Line,
+    sink: &mut S,
+) -> Result<(), Stalled>
+    ensures { Puts (replies_text replies.now) (S.taken sink.old) (S.taken sink.new) (S.has_stalled sink.new) result }
+{
+    for one in replies {
+        build_reply(line, &one.1);
+        put_all(sink, line.as_slice())?;
+    }
+    Ok(())
+}
+
+/// Settles an engine, and writes the answers that are owed, in order.
+fn write_owed<H: Threads + Wait, S: Sink>(
+    rt: &H,
+    engine: &mut Engine<OpenGate>,
+    line: &mut Line,
+    sink: &mut S,
+) -> Result<(), Stalled>
+    ensures text { WritesOwed engine.old engine.new.house (S.taken sink.old) (S.taken sink.new) (S.has_stalled sink.new) result }
+    ensures told { OnErr result (S.has_stalled sink.new ≡ true) }
+    ensures rest { IsAtRest engine.new }
+{
+    let replies = engine.settle(rt);
+    write_replies(replies.as_slice(), line, sink)
+}
+
+/// Takes an event, whose answer is owed then.
+fn owe_event<H: Threads + Wait + Copy + Send + Sync + 'static>(
+    rt: &H,
+    event: Event,
+    engine: &mut Engine<OpenGate>,
+) -> Result<(), Fault>
+    requires { length engine.old.replies < MOST_PENDING }
+    ensures { (fields : List (List ℕ)) (taken : Option (List ℕ)) (stalled : Bool) → command_of fields ≡ Ok (command.Ask event)
+        → TakesNext fields engine.old engine.new taken taken stalled result }
+{
+    match engine.submit(rt, event) {
+        Ok(_) => Ok(()),
+        Err(Refusal::Thread) => Err(Fault::Thread),
+        Err(_) => Err(Fault::Memory),
+    }
+}
+
+/// Answers a record that is no command by its refusal, once nothing is owed.
+fn refuse<H: Threads + Wait, S: Sink>(
+    rt: &H,
+    why: Refusal,
+    engine: &mut Engine<OpenGate>,
+    line: &mut Line,
+    sink: &mut S,
+) -> Result<(), Stalled>
+    ensures { (fields : List (List ℕ)) → command_of fields ≡ Err why
+        → AnswersNext fields engine.old engine.new (S.taken sink.old) (S.taken sink.new) (S.has_stalled sink.new) result }
+{
+    write_owed(rt, engine, line, sink)?;
+    build_refused(line, why);
+    put_all(sink, line.as_slice())
+}
+
+/// Answers a record whose word is that of a report, once nothing is owed.
+fn report<H: Threads + Wait, S: Sink>(
+    rt: &H,
+    report: Report,
+    row: &ByteRecord,
+    engine: &mut Engine<OpenGate>,
+    line: &mut Line,
+    sink: &mut S,
+) -> Result<(), Stalled>
+    requires named { Some (word_of_report report) ≡ word_named (field (fields_of row.now) 0) }
+    ensures { AnswersNext (fields_of row.now) engine.old engine.new (S.taken sink.old) (S.taken sink.new) (S.has_stalled sink.new) result }
+{
+    write_owed(rt, engine, line, sink)?;
+    answer_report(report, row, engine.register(), line, sink)
+}
+
+/// Has an engine at rest do a re-cut, and builds the answer: by how many bounds it moved, or why it was refused.
+///
+/// It is not inlined: its list of bounds would be filled with zeros in each answer to an event.
+#[inline(never)]
+fn build_recut_by<H: Threads + Wait>(
+    rt: &H,
+    row: &ByteRecord,
+    engine: &mut Engine<OpenGate>,
+    line: &mut Line,
+)
+    requires rest { IsAtRest engine.old }
+    ensures text { RecutText (bounds_of (fields_of row.now)) (store_in engine.old.house) line.new.items (store_in engine.new.house) }
+    ensures rest { IsAtRest engine.new }
+{
+    match read_bounds(row) {
+        Ok(bounds) => {
+            build_recut(line, engine.recut_to(rt, bounds.as_slice()));
+            // For the prover: nothing is pending, so the re-cut led to the register.
+            let _register = engine.register();
+        }
+        Err(why) => build_refused(line, why),
+    }
+}
+
+/// Answers a re-cut, once nothing is owed.
+fn recut<H: Threads + Wait, S: Sink>(
+    rt: &H,
+    row: &ByteRecord,
+    engine: &mut Engine<OpenGate>,
+    line: &mut Line,
+    sink: &mut S,
+) -> Result<(), Stalled>
+    requires named { command_of (fields_of row.now) ≡ Ok command.Recut }
+    ensures { AnswersNext (fields_of row.now) engine.old engine.new (S.taken sink.old) (S.taken sink.new) (S.has_stalled sink.new) result }
+{
+    write_owed(rt, engine, line, sink)?;
+    build_recut_by(rt, row, engine, line);
+    put_all(sink, line.as_slice())
+}
+
+/// The fault that a sink's is.
+fn sink_fault(done: Result<(), Stalled>) -> Result<(), Fault>
+    ensures { MatchResult done (λ unit. result ≡ Ok unit) (λ why. result ≡ Err fault.Write) }
+{
+    match done {
+        Ok(()) => Ok(()),
+        Err(_) => Err(Fault::Write),
+    }
+}
+
+/// Takes a record whose first field is this word.
+fn take_word<H: Threads + Wait + Copy + Send + Sync + 'static, S: Sink>(
+    rt: &H,
+    word: Word,
+    row: &ByteRecord,
+    engine: &mut Engine<OpenGate>,
+    line: &mut Line,
+    sink: &mut S,
+) -> Result<(), Fault>
+    requires named { Some word ≡ word_named (field (fields_of row.now) 0) }
+    requires room { length engine.old.replies < MOST_PENDING }
+    ensures { TakesNext (fields_of row.now) engine.old engine.new (S.taken sink.old) (S.taken sink.new) (S.has_stalled sink.new) result }
+{
+    match kind_of(word) {
+        Kind::Event => match event_of(word, row) {
+            Ok(event) => owe_event(rt, event, engine),
+            Err(why) => sink_fault(refuse(rt, why, engine, line, sink)),
+        },
+        Kind::Report(asked) => sink_fault(report(rt, asked, row, engine, line, sink)),
+        Kind::Recut => sink_fault(recut(rt, row, engine, line, sink)),
+    }
+}
+
+/// Takes a record: the answer to an event is owed then, any other record is answered, once nothing is owed.
+fn take_record<H: Threads + Wait + Copy + Send + Sync + 'static, S: Sink>(
+    rt: &H,
+    row: &ByteRecord,
+    engine: &mut Engine<OpenGate>,
+    line: &mut Line,
+    sink: &mut S,
+) -> Result<(), Fault>
+    requires room { length engine.old.replies < MOST_PENDING }
+    ensures { TakesNext (fields_of row.now) engine.old engine.new (S.taken sink.old) (S.taken sink.new) (S.has_stalled sink.new) result }
+{
+    match word_of(field(row, 0)) {
+        Some(word) => take_word(rt, word, row, engine, line, sink),
+        None => sink_fault(refuse(rt, Refusal::Syntax, engine, line, sink)),
+    }
+}
+
+/// Writes what is owed, and flushes the sink.
+fn hand_on<H: Threads + Wait, S: Sink>(
+    rt: &H,
+    engine: &mut Engine<OpenGate>,
+    line: &mut Line,
+    sink: &mut S,
+) -> Result<(), Stalled>
+    ensures text { WritesOwed engine.old engine.new.house (S.taken sink.old) (S.taken sink.new) (S.has_stalled sink.new) result }
+    ensures rest { IsAtRest engine.new }
+{
+    write_owed(rt, engine, line, sink)?;
+    match sink.flush() {
+        Ok(()) => Ok(()),
+        Err(_) => Err(Stalled),
+    }
+}
+
+/// Takes the record that was read last. What is owed is written, and the sink flushed, before a read that may wait,
+/// where no whole record is left of what was read, and where 4,096 events are pending.
+fn take_in_time<R: Read, H: Threads + Wait + Copy + Send + Sync + 'static, S: Sink>(
+    rt: &H,
+    reader: &Reader<WholeRecords<R>>,
+    row: &ByteRecord,
+    engine: &mut Engine<OpenGate>,
+    line: &mut Line,
+    sink: &mut S,
+) -> Result<(), Fault>
+    requires room { length engine.old.replies < MOST_PENDING }
+    ensures text { TakesNext (fields_of row.now) engine.old engine.new (S.taken sink.old) (S.taken sink.new) (S.has_stalled sink.new) result }
+    ensures room { OnOk result (length engine.new.replies < MOST_PENDING) }
+{
+    take_record(rt, row, engine, line, sink)?;
+    if engine.pending() < MOST_PENDING
+        && reader.get_ref().has_record_from(reader.position().byte())
+    {
+        return Ok(());
+    }
+    sink_fault(hand_on(rt, engine, line, sink))
+}
+
+/// Takes the records of a reader in turn: `Read` where the reader fails or gives more than 1,048,576 records, `Memory`
+/// where it wants memory, or an event does, `Thread` where the start of a thread was refused, `Write` where the sink
+/// fails. Unless the sink failed, answers may be owed then. The row is the memory to read records into.
+fn take_all<R: Read, H: Threads + Wait + Copy + Send + Sync + 'static, S: Sink>(
+    rt: &H,
+    reader: &mut Reader<WholeRecords<R>>,
+    row: &mut ByteRecord,
+    engine: &mut Engine<OpenGate>,
+    line: &mut Line,
+    sink: &mut S,
+) -> Result<(), Fault>
+    requires trims { reader_trim reader.old ≡ trim.None }
+    requires ready { Ready reader.old }
+    requires config { reader_config reader.old ≡ default_config }
+    requires start { reader_state reader.old ≡ state.StartRecord }
+    requires rest { IsAtRest engine.old }
+    ensures text { IfSome (source_of (inner_remaining R.remaining) reader.old)
+        (λ bytes. HasCome (store_in engine.old.house) bytes engine.new (S.taken sink.old) (S.taken sink.new) result) }
+    ensures write { result ≡ Err fault.Write → S.has_stalled sink.new ≡ true }
+    ensures field { result ≢ Err fault.Field }
+{
+    for count in 0..RECORDS + 1 {
+        match read_record(reader, row) {
+            Ok(false) => return Ok(()),
+            Ok(true) => {
+                if count == RECORDS {
+                    return Err(Fault::Read);
+                }
+                take_in_time(rt, reader, row, engine, line, sink)?;
+            }
+            Err(why) => return Err(why),
+        }
+    }
+    Err(Fault::Read)
+}
+
+/// Writes what is owed at the end of a run, unless the sink failed already: `Write` where that fails, and else what the
+/// run came to.
+fn settle_up<H: Threads + Wait, S: Sink>(
+    rt: &H,
+    done: Result<(), Fault>,
+    engine: &mut Engine<OpenGate>,
+    line: &mut Line,
+    sink: &mut S,
+) -> Result<(), Fault>
+    ensures text { (start : Store) (bytes : List ℕ) (old : Option (List ℕ)) → HasCome start bytes engine.old old (S.taken sink.old) done → Ran start bytes old (S.taken sink.new) result }
+    ensures write { result ≡ Err fault.Write → ((done ≡ Err fault.Write) × (sink.new ≡ sink.old)) ⊎ (S.has_stalled sink.new ≡ true) }
+    ensures field { done ≢ Err fault.Field → result ≢ Err fault.Field }
+{
+    match done {
+        Err(Fault::Write) => Err(Fault::Write),
+        _ => match write_owed(rt, engine, line, sink) {
+            Ok(()) => done,
+            Err(_) => Err(Fault::Write),
+        },
+    }
+}
+
+/// Answers all records of a reader by an engine at rest: `Read` where the reader fails or gives more than 1,048,576
+/// records, `Memory` where it wants memory, or an event does, `Thread` where the start of a thread was refused, `Write`
+/// where the sink fails. The row is the memory to read records into.
+pub fn answer_all_by<R: Read, H: Threads + Wait + Copy + Send + Sync + 'static, S: Sink>(
+    rt: &H,
+    reader: &mut Reader<WholeRecords<R>>,
+    row: &mut ByteRecord,
+    engine: &mut Engine<OpenGate>,
+    sink: &mut S,
+) -> Result<(), Fault>
+    requires trims { reader_trim reader.old ≡ trim.None }
+    requires ready { Ready reader.old }
+    requires config { reader_config reader.old ≡ default_config }
+    requires start { reader_state reader.old ≡ state.StartRecord }
+    requires rest { IsAtRest engine.old }
+    ensures text { IfSome (source_of (inner_remaining R.remaining) reader.old)
+        (λ bytes. Ran (store_in engine.old.house) bytes (S.taken sink.old) (S.taken sink.new) result) }
+    ensures write { result ≡ Err fault.Write → S.has_stalled sink.new ≡ true }
+    ensures field { result ≢ Err fault.Field }
+{
+    let mut line = empty_line();
+    let done = take_all(rt, reader, row, engine, &mut line, sink);
+    settle_up(rt, done, engine, &mut line, sink)
+}
