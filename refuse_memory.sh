@@ -1,7 +1,7 @@
 #!/usr/bin/env bash
-# Refuses each allocation in turn, in the built program and in the built tests that are made for it. It is no part of
-# the gate, and is run before a change of what takes memory lands; it needs gcc, and what `rt ci` (or `rt run` in
-# crates/hlr and `rt test` in the others) leaves in crates/*/out.
+# Refuses each allocation in turn, in the built program and in the built tests that are made for it, and there each
+# start of a thread too. It is no part of the gate, and is run before a change of what takes memory lands; it needs gcc,
+# and what `rt ci` (or `rt run` in crates/hlr and `rt test` in the others) leaves in crates/*/out.
 #
 #   ./refuse_memory.sh            both; the last line is 'N failed'
 #   ./refuse_memory.sh program    the program alone
@@ -15,21 +15,29 @@ room=$(mktemp -d)
 trap 'rm -rf "$room"' EXIT
 failed=0
 
-# A malloc that refuses one call, the one of the number REFUSED_CALL, and then makes the file REFUSED_FILE.
+# A malloc, or where REFUSED_KIND is thread a start of threads, that refuses one call, the one of the number
+# REFUSED_CALL, and then makes the file REFUSED_FILE.
 cat > "$room/refuse.c" <<'C'
+#define _GNU_SOURCE
+#include <dlfcn.h>
+#include <errno.h>
 #include <fcntl.h>
+#include <pthread.h>
+#include <stdatomic.h>
 #include <stdlib.h>
+#include <string.h>
 #include <unistd.h>
 
 void *__libc_malloc(size_t size);
 void *__libc_realloc(void *old, size_t size);
 
-static long calls;
+static atomic_long calls;
 
-static int is_refused(void) {
+static int is_refused(const char *kind) {
+    const char *wanted = getenv("REFUSED_KIND");
     const char *call = getenv("REFUSED_CALL");
     const char *file = getenv("REFUSED_FILE");
-    if (!call || !file || ++calls != atol(call)) {
+    if (!wanted || !call || !file || strcmp(kind, wanted) || ++calls != atol(call)) {
         return 0;
     }
     int made = open(file, O_CREAT | O_WRONLY, 0600);
@@ -40,21 +48,26 @@ static int is_refused(void) {
 }
 
 void *malloc(size_t size) {
-    return is_refused() ? NULL : __libc_malloc(size);
+    return is_refused("memory") ? NULL : __libc_malloc(size);
 }
 
 void *realloc(void *old, size_t size) {
-    return is_refused() ? NULL : __libc_realloc(old, size);
+    return is_refused("memory") ? NULL : __libc_realloc(old, size);
+}
+
+int pthread_create(pthread_t *thread, const pthread_attr_t *how, void *(*work)(void *), void *with) {
+    int (*start)(pthread_t *, const pthread_attr_t *, void *(*)(void *), void *) = dlsym(RTLD_NEXT, "pthread_create");
+    return is_refused("thread") ? EAGAIN : start(thread, how, work, with);
 }
 C
-gcc -O2 -shared -fPIC -o "$room/refuse.so" "$room/refuse.c" || exit 1
+gcc -O2 -shared -fPIC -o "$room/refuse.so" "$room/refuse.c" -ldl || exit 1
 
-# refusing N COMMAND ..: runs it with its Nth allocation refused.
+# refusing KIND N COMMAND ..: runs it with its Nth allocation (KIND memory) or start of a thread (KIND thread) refused.
 refusing() {
-  local call=$1
-  shift
+  local kind=$1 call=$2
+  shift 2
   rm -f "$room/refused"
-  REFUSED_CALL=$call REFUSED_FILE=$room/refused LD_PRELOAD=$room/refuse.so "$@"
+  REFUSED_KIND=$kind REFUSED_CALL=$call REFUSED_FILE=$room/refused LD_PRELOAD=$room/refuse.so "$@"
 }
 
 # row S: the record that adds a subscriber.
@@ -165,7 +178,7 @@ program() {
   alike "$room/wanted" "$room/wanted" "$room/script" || wrong 'the answers are not those of the script'
   while true; do
     call=$((call + 1))
-    refusing $call "${hlr[@]}" < "$room/script" > "$room/got" 2> "$room/err"
+    refusing memory $call "${hlr[@]}" < "$room/script" > "$room/got" 2> "$room/err"
     status=$?
     [ -f "$room/refused" ] || break
     if ! alike "$room/got" "$room/wanted" "$room/script" >> "$room/words"; then
@@ -188,21 +201,29 @@ program() {
   sort "$room/words" | uniq -c | sort -rn | awk '{ count = $1; $1 = ""; printf " %s: %d", $0, count } END { print "" }'
 }
 
-# tests_of CRATE TEST ..: each passes whatever allocation is refused.
+# each_call KIND CRATE TEST: the test runs and passes whichever call of the kind is refused; $calls is how many.
+each_call() {
+  calls=0
+  while true; do
+    if ! refusing "$1" $((calls + 1)) "crates/$2/out/$2_tests" "$3" > "$room/got" 2>&1 ||
+      [ "$(tail -n 1 "$room/got")" != 'test result: ok' ]; then
+      wrong "$3 of $2 with call $((calls + 1)) of the kind $1 refused: $(tail -n 1 "$room/got")"
+    fi
+    [ -f "$room/refused" ] || break
+    calls=$((calls + 1))
+  done
+}
+
+# tests_of CRATE TEST ..: each passes whichever allocation, or start of a thread, is refused.
 tests_of() {
-  local crate=$1 name call
+  local crate=$1 name calls allocations
   shift
   for name in "$@"; do
-    call=0
-    while true; do
-      call=$((call + 1))
-      if ! refusing $call "crates/$crate/out/${crate}_tests" "$name" > "$room/got" 2>&1; then
-        wrong "$name of $crate with allocation $call refused: $(tail -n 1 "$room/got")"
-      fi
-      [ -f "$room/refused" ] || break
-    done
-    [ $call -gt 1 ] || wrong "no allocation of $name was refused"
-    echo "$crate $name: $((call - 1)) allocations refused"
+    each_call memory "$crate" "$name"
+    allocations=$calls
+    [ "$allocations" -gt 0 ] || wrong "no allocation of $name was refused"
+    each_call thread "$crate" "$name"
+    echo "$crate $name: $allocations allocations refused, $calls starts of threads refused"
   done
 }
 
@@ -214,6 +235,7 @@ tests() {
   tests_of view_board tests::two_threads tests::words_at_limit
   tests_of hlr_core_tests holding_tests::a_worn_word_ends_a_posting holding_tests::pieces_are_given_and_taken holding_tests::owners_work_in_threads
   tests_of hlr_core_tests tests::runs tests::additions_at_split tests::renamings_at_split plain_tests::few_drawn_events region_tests::gives_of_two_parts region_tests::recut_of_three region_tests::one_part_and_sixteen region_tests::words_that_stand gather_tests::refusals_hand_all_back gather_tests::many_numbers_are_gathered lent_tests::part_is_lent lent_tests::events_go
+  tests_of hlr_workers_tests run_tests::taken_again_after_memory
   tests_of hlr tests::refused_memory_is_told
 }
 

@@ -2,13 +2,14 @@
 # All tests: the gate (every proof, the must-fail edits, the tests), then the built program from outside.
 #
 #   ./test.sh            both; the last line is 'N passed, N failed'
-#   ./test.sh program    the program alone, as it stands at crates/hlr/out/hlr
+#   ./test.sh program    the built programs alone, as they stand in crates/*/out
 #
 # The program's part takes less than a minute. Its scripts are examples/NAME.csv, each with what it must print beside
 # it (NAME.csv.stdout) and its options (NAME.csv.args, a word a line, where it has any), as `rt try --cases` has them.
 set -u
 cd "$(dirname "$0")" || exit 1
 hlr=$PWD/crates/hlr/out/hlr
+engine_tests=$PWD/crates/hlr_workers_tests/out/hlr_workers_tests_tests
 room=$(mktemp -d)
 trap 'rm -rf "$room"' EXIT
 passed=0
@@ -60,15 +61,16 @@ ends() {
   same "$1: standard error" "$room/err" "$room/want"
 }
 
+# examples [OPTION ..]: each script of examples/, with these options beside its own.
 examples() {
   local script words
   for script in examples/*.csv; do
     words=()
     if [ -f "$script.args" ]; then mapfile -t words < "$script.args"; fi
-    hlr_on ${words[@]+"${words[@]}"} < "$script"
-    is "$script: status" "$status" 0
-    same "$script" "$room/out" "$script.stdout"
-    is "$script: standard error" "$(wc -c < "$room/err")" 0
+    hlr_on ${words[@]+"${words[@]}"} "$@" < "$script"
+    is "$script $*: status" "$status" 0
+    same "$script $*" "$room/out" "$script.stdout"
+    is "$script $*: standard error" "$(wc -c < "$room/err")" 0
   done
 }
 
@@ -119,6 +121,7 @@ options() {
   has '--help' "$room/out" 'Usage: hlr [OPTIONS]'
   has '--help' "$room/out" '--parts <N>'
   has '--help' "$room/out" '--zone <W>'
+  has '--help' "$room/out" '--threads'
   is '--help: standard error' "$(wc -c < "$room/err")" 0
   for word in gsd gnd gad usd ul icf dcf sub acc fac active number post give take views scan index regions propose recut; do
     is "--help: the command $word" "$(grep -c "^  $word[, ]" "$room/out")" "$([ "$word" = give ] && echo 2 || echo 1)"
@@ -149,6 +152,8 @@ options() {
   ends '--parts 1' 0 '' ''
   hlr_on --parts 16 --zone 4 < /dev/null
   ends '--parts 16 --zone 4' 0 '' ''
+  hlr_on --threads --parts 16 --zone 4 < /dev/null
+  ends '--threads --parts 16 --zone 4' 0 '' ''
   refused_option --parts=0 "invalid value '0' for '--parts <N>': 0 is not in 1..=16"
   refused_option --parts=17 "invalid value '17' for '--parts <N>': 17 is not in 1..=16"
   refused_option --parts=x "invalid value 'x' for '--parts <N>': invalid digit found in string"
@@ -210,10 +215,10 @@ asks() {
   is "the answer to $1 before the next record" "$answer" "$2"
 }
 
-# A front end that waits for each answer.
+# waiting [OPTION ..]: a front end that waits for each answer.
 waiting() {
   local turn from to ended
-  coproc HLR { "$hlr"; echo "status $?"; }
+  coproc HLR { "$hlr" "$@"; echo "status $?"; }
   exec {from}<&"${HLR[0]}" {to}>&"${HLR[1]}"
   exec {HLR[1]}>&-
   trap '' PIPE
@@ -231,13 +236,20 @@ waiting() {
   done
   exec {to}>&-
   IFS= read -r -t 5 ended <&"$from"
-  is 'the end of the input ends the program' "$ended" 'status 0'
+  is "the end of the input ends the program $*" "$ended" 'status 0'
+  exec {from}<&-
+  wait "$HLR_PID" 2> /dev/null
 }
 
-# asked OPTION .. : how often the program asks for memory, given the script $room/in.
+# test_passed TEST: a test was run that printed $room/out, and passed.
+test_passed() {
+  is "the test $1: its last line" "$(tail -n 1 "$room/out")" 'test result: ok'
+}
+
+# asked PROGRAM [OPTION ..]: how often a program asks for memory, given the script $room/in.
 asked() {
   rm -f "$room/asked"
-  ASKED_FILE=$room/asked LD_PRELOAD=$room/count.so "$hlr" "$@" < "$room/in" > "$room/out"
+  ASKED_FILE=$room/asked LD_PRELOAD=$room/count.so "$@" < "$room/in" > "$room/out"
   wc -c < "$room/asked"
 }
 
@@ -248,17 +260,18 @@ taken() {
     printf 'sub,%d,%015d,0000000000,0000000000,00000000000000000000,1,1\n' "$number" "$number"
   done > "$room/in"
   printf 'give,0,high,%d\n' $((half + 1)) >> "$room/in"
-  before=$(asked)
+  before=$(asked "$hlr")
   echo 'take,1,0' >> "$room/in"
-  after=$(asked)
+  after=$(asked "$hlr")
   tail -n 1 "$room/out" | grep -q '^taken,1,0$' && echo $((after - before))
 }
 
-# What a take asks of memory goes by the heights of the trees that are joined, and not by how many rows they have.
+# What a take asks of memory goes by the heights of the trees that are joined, and not by how many rows they have; and a
+# sight of an engine asks for none.
 memory() {
-  local few
+  local few one
   if ! command -v gcc > /dev/null; then
-    echo 'skipped, since there is no gcc: what a take asks of memory'
+    echo 'skipped, since there is no gcc: what a take asks of memory, and a sight'
     return
   fi
   cat > "$room/count.c" <<'C'
@@ -295,6 +308,158 @@ C
   few=$(taken 200)
   is 'a take of 200 rows asks for memory' "$([ "${few:-0}" -gt 0 ] && echo yes)" yes
   is 'a take of 400 rows asks as often' "$(taken 400)" "$few"
+  : > "$room/in"
+  one=$(asked "$engine_tests" run_tests::one_sight)
+  test_passed one_sight
+  is 'an engine with one sight asks for memory' "$([ "${one:-0}" -gt 0 ] && echo yes)" yes
+  is 'one with a thousand asks as often' "$(asked "$engine_tests" run_tests::thousand_sights)" "$one"
+  test_passed thousand_sights
+}
+
+# started N OPTION ..: runs the program on $room/in with its Nth start of a thread refused, and counts the starts before.
+started() {
+  rm -f "$room/starts"
+  START_REFUSED=$1 STARTS_FILE=$room/starts LD_PRELOAD=$room/start.so "$hlr" "${@:2}" < "$room/in" > "$room/out" 2> "$room/err"
+  status=$?
+  starts=$(cat "$room/starts" 2> /dev/null | wc -c)
+}
+
+# With --threads each part with jobs has a thread; where the start of one is refused, the run ends, once all records
+# before are answered.
+threads() {
+  local options=(--threads --parts 2 --zone 4) turn answers=(2 3 8 9)
+  if ! command -v gcc > /dev/null; then
+    echo 'skipped, since there is no gcc: the threads that are started, and refused'
+    return
+  fi
+  cat > "$room/start.c" <<'C'
+#define _GNU_SOURCE
+#include <dlfcn.h>
+#include <errno.h>
+#include <fcntl.h>
+#include <pthread.h>
+#include <stdlib.h>
+#include <unistd.h>
+
+int pthread_create(pthread_t *thread, const pthread_attr_t *how, void *(*work)(void *), void *with) {
+    static long starts;
+    int (*start)(pthread_t *, const pthread_attr_t *, void *(*)(void *), void *) = dlsym(RTLD_NEXT, "pthread_create");
+    int file = open(getenv("STARTS_FILE"), O_CREAT | O_WRONLY | O_APPEND, 0600);
+    if (++starts == atol(getenv("START_REFUSED"))) {
+        return EAGAIN;
+    }
+    if (file < 0 || write(file, "x", 1) != 1) {
+        abort();
+    }
+    close(file);
+    return start(thread, how, work, with);
+}
+C
+  gcc -O2 -shared -fPIC -o "$room/start.so" "$room/start.c" -ldl || fail 'the start of threads that is refused'
+  {
+    printf 'sub,%d,%015d,0000000000,0000000000,00000000000000000000,1,268435456\n' 7 7 100 100
+    printf 'gsd,7\ngsd,100\nviews\ngsd,7\ngsd,100\n'
+  } > "$room/in"
+  started 0 "${options[@]}"
+  is 'threads that are started' "$starts" 4
+  cp "$room/out" "$room/whole"
+  started 0 --parts 2 --zone 4
+  is 'threads that are started without --threads' "$starts" 0
+  same 'the answers with --threads' "$room/whole" "$room/out"
+  for turn in 1 2 3 4; do
+    started "$turn" "${options[@]}"
+    ends "start $turn refused" 1 "$(head -n "${answers[turn - 1]}" "$room/whole")"$'\n' $'hlr: no thread\n'
+  done
+}
+
+# had TEST: how many pieces and bytes of memory a test of the engine has, at most at once and at its end.
+had() {
+  rm -f "$room/had"
+  HAD_FILE=$room/had LD_PRELOAD=$room/had.so "$engine_tests" "$1" > "$room/out"
+  od -A n -t d8 -w32 "$room/had"
+}
+
+# A thousand engines, one after another over one register, have as much memory as the first one alone.
+engines() {
+  local one
+  if ! command -v gcc > /dev/null; then
+    echo 'skipped, since there is no gcc: the memory that engines have, one after another'
+    return
+  fi
+  cat > "$room/had.c" <<'C'
+#include <fcntl.h>
+#include <malloc.h>
+#include <stdatomic.h>
+#include <stdlib.h>
+#include <sys/mman.h>
+#include <unistd.h>
+
+void *__libc_malloc(size_t size);
+void *__libc_calloc(size_t count, size_t size);
+void *__libc_realloc(void *old, size_t size);
+void __libc_free(void *old);
+
+struct counts {
+    atomic_long most_pieces, most_bytes, pieces, bytes;
+};
+
+static struct counts *counts;
+
+__attribute__((constructor)) static void begin(void) {
+    const char *name = getenv("HAD_FILE");
+    int file = name ? open(name, O_RDWR | O_CREAT, 0600) : -1;
+    if (file < 0 || ftruncate(file, sizeof *counts)) {
+        abort();
+    }
+    counts = mmap(NULL, sizeof *counts, PROT_READ | PROT_WRITE, MAP_SHARED, file, 0);
+    close(file);
+}
+
+static void at_least(atomic_long *most, long now) {
+    long was = atomic_load(most);
+    while (was < now && !atomic_compare_exchange_weak(most, &was, now)) {
+    }
+}
+
+static void *had(void *piece) {
+    if (piece && counts) {
+        at_least(&counts->most_pieces, ++counts->pieces);
+        at_least(&counts->most_bytes, counts->bytes += (long)malloc_usable_size(piece));
+    }
+    return piece;
+}
+
+static void let_go(void *piece) {
+    if (piece && counts) {
+        counts->pieces--;
+        counts->bytes -= (long)malloc_usable_size(piece);
+    }
+}
+
+void *malloc(size_t size) {
+    return had(__libc_malloc(size));
+}
+
+void *calloc(size_t count, size_t size) {
+    return had(__libc_calloc(count, size));
+}
+
+void *realloc(void *old, size_t size) {
+    let_go(old);
+    return had(__libc_realloc(old, size));
+}
+
+void free(void *old) {
+    let_go(old);
+    __libc_free(old);
+}
+C
+  gcc -O2 -shared -fPIC -o "$room/had.so" "$room/had.c" || fail 'the malloc that counts what is had'
+  one=$(had run_tests::one_engine)
+  test_passed one_engine
+  is 'an engine has pieces of memory' "$(echo "$one" | awk '{ print ($1 > 0) }')" 1
+  is 'a thousand engines have as much memory as one' "$(had run_tests::engines_one_after_another)" "$one"
+  test_passed engines_one_after_another
 }
 
 program() {
@@ -306,14 +471,22 @@ program() {
     fail 'there is no program at crates/hlr_example/out/hlr_example: run rt run in crates/hlr_example'
     return
   fi
+  if [ ! -x "$engine_tests" ]; then
+    fail "there is no program at $engine_tests: run rt test in crates/hlr_workers_tests"
+    return
+  fi
   examples
+  examples --threads
   readme
   clients
   options
   streams
   bytes
   memory
+  threads
+  engines
   waiting
+  waiting --threads
 }
 
 gate() {
