@@ -97,8 +97,9 @@ def crates():
     places, picture = {}, Picture(860, 74 * (top + 1))
     for depth in range(top + 1):
         row = [name for name in named if level[name] == depth]
+        half = min(150, 400 // len(row))
         for place, name in enumerate(row):
-            places[name] = (430 + 150 * (2 * place - len(row) + 1), 24 + 74 * (top - depth))
+            places[name] = (430 + half * (2 * place - len(row) + 1), 24 + 74 * (top - depth))
     for name in named:
         direct = [other for other in below[name] if not any(other in below[third] for third in below[name])]
         for other in direct:
