@@ -2,7 +2,8 @@
 # Measures events through an engine beside one thread, from the repository's top: nanoseconds an event by the clock,
 # medians of RUNS runs of EVENTS events, one thread over four parts, and engines of 1, 2 and 3 parts in turn.
 #
-#   bash bench/engine_bench.sh PROGRAM [RUNS [EVENTS]]    PROGRAM is bench/engine_bench.txt, built
+#   bash bench/engine_bench.sh PROGRAM [RUNS [EVENTS]]    PROGRAM is bench/engine_bench.txt, built; SIZES are the
+#                                                         numbers of subscribers
 set -eu
 program=$1 runs=${2:-5} events=${3:-409600}
 
@@ -12,7 +13,7 @@ median() {
 }
 
 for kind in gsd gad ul mix; do
-  for subscribers in 1000 100000 500000; do
+  for subscribers in ${SIZES:-1000 50000 100000 500000}; do
     alone=$(median "$program" alone "$kind" "$subscribers" 4 "$events")
     line="| $subscribers \`$kind\` | $alone |"
     for parts in 1 2 3; do
