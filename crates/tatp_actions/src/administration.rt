@@ -13,6 +13,7 @@ use tatp_rows::{Access, Facility, Number, Refusal, Subscriber, is_between};
 
 impl<R: Rows> Part<R> {
     /// Adds a Subscriber row: `Exists`, `Memory`.
+    #[inline(always)]
     pub(crate) fn add_subscriber(&mut self, row: Subscriber) -> Result<Change, Refusal>
         requires { IsWithin self.old.lo self.old.hi row.s_id }
         ensures { Acts (Action.AddSubscriber row) self.old (done_reply result) (notes_of result) self.new }
@@ -25,6 +26,7 @@ impl<R: Rows> Part<R> {
     }
 
     /// Adds an Access_Info row: `NoSubscriber`, `Exists`, `Memory`.
+    #[inline(always)]
     pub(crate) fn add_access(&mut self, row: Access) -> Result<Change, Refusal>
         requires { IsWithin self.old.lo self.old.hi row.s_id }
         ensures { Acts (Action.AddAccess row) self.old (done_reply result) (notes_of result) self.new }
@@ -40,6 +42,7 @@ impl<R: Rows> Part<R> {
 
     /// Adds a Special_Facility row: `NoSubscriber`, `Exists`, `Memory`. No forwarding can have the new facility, so its
     /// zone alone moves.
+    #[inline(always)]
     pub(crate) fn add_facility(&mut self, row: Facility) -> Result<Change, Refusal>
         requires { IsWithin self.old.lo self.old.hi row.s_id }
         ensures { Acts (Action.AddFacility row) self.old (done_reply result) (notes_of result) self.new }
@@ -54,6 +57,7 @@ impl<R: Rows> Part<R> {
     }
 
     /// Switches a facility on or off: `Field`, `NoFacility`.
+    #[inline(always)]
     pub(crate) fn set_active(
         &mut self,
         s_id: u32,
@@ -81,6 +85,7 @@ impl<R: Rows> Part<R> {
     }
 
     /// Gives a subscriber another number: `NoSubscriber`.
+    #[inline(always)]
     pub(crate) fn set_number(&mut self, s_id: u32, sub_nbr: Number) -> Result<Change, Refusal>
         requires { IsWithin self.old.lo self.old.hi s_id }
         ensures { Acts (Action.SetNumber s_id sub_nbr) self.old (done_reply result) (notes_of result) self.new }

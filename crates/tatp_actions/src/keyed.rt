@@ -76,6 +76,7 @@ impl<R: Rows> Part<R> {
 
     /// Changes the Subscriber row of a subscriber where it lies, into one of the same subscriber: false where there is
     /// none.
+    #[inline(always)]
     pub(crate) fn revise_subscriber<E: Revise<Subscriber>>(
         &mut self,
         s_id: u32,
@@ -95,6 +96,7 @@ impl<R: Rows> Part<R> {
 
     /// Changes the Special_Facility row of a facility where it lies, into one of the same facility: false where there
     /// is none.
+    #[inline(always)]
     pub(crate) fn revise_facility<E: Revise<Facility>>(
         &mut self,
         s_id: u32,

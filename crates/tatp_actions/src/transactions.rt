@@ -131,6 +131,7 @@ impl<R: Rows> Part<R> {
     }
 
     /// UPDATE_SUBSCRIBER_DATA: `Field`, `NoSubscriber`, `NoFacility`.
+    #[inline(always)]
     pub(crate) fn update_subscriber(
         &mut self,
         s_id: u32,
@@ -170,6 +171,7 @@ impl<R: Rows> Part<R> {
     }
 
     /// The body of UPDATE_LOCATION: `NoSubscriber`.
+    #[inline(always)]
     pub(crate) fn update_location(
         &mut self,
         s_id: u32,
@@ -189,6 +191,7 @@ impl<R: Rows> Part<R> {
     }
 
     /// The body of INSERT_CALL_FORWARDING: `NoFacility`, `Exists`, `Memory`.
+    #[inline(always)]
     pub(crate) fn insert_forwarding(&mut self, row: Forwarding) -> Result<Change, Refusal>
         requires { IsWithin self.old.lo self.old.hi row.s_id }
         ensures { Acts (Action.InsertForwarding row) self.old (done_reply result) (notes_of result) self.new }
@@ -204,6 +207,7 @@ impl<R: Rows> Part<R> {
     }
 
     /// The body of DELETE_CALL_FORWARDING: `Field`, `NoForwarding`.
+    #[inline(always)]
     pub(crate) fn delete_forwarding(
         &mut self,
         s_id: u32,
