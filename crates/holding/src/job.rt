@@ -1,8 +1,8 @@
 //! What a holding is asked to do.
 use tatp_actions::Action;
 
-/// A job for a holding: an action on its rows, or a posting of what is pending. No call takes one yet: it is for
-/// whoever hands jobs to owners in threads.
+/// A job for a holding: an action on its rows, or a posting of what is pending. It is what an owner in a thread of its
+/// own is sent.
 #[derive(Clone, Copy, Debug, PartialEq, Eq)]
 pub enum Job {
     /// Does the action.
