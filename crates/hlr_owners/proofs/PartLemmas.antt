@@ -108,6 +108,13 @@ module _ (h : Seating) (are : AreSeated h) (p i : ℕ) (within : i < length h.re
   pub lodged_home : (l : Lodged) → Part l ≡ get_or h.seats i (Part l) → IsPartHome p h → l.home ≡ true
   lodged_home l is home = (rw number_at at (at_ahead (λ (o : Lodged). o.home) h.seats i l true there is)).1 ∙ home
 
+-- who sits where no piece does
+lodged_there : (seats : List Seat) (i : ℕ) → i < length seats → ((b : Box PieceState Global) → Piece b ≡ get_or seats i (Piece b) → ⊥) → (l : Lodged) × (Part l ≡ get_or seats i (Part l))
+lodged_there [] i low none = absurd (omega arith)
+lodged_there (Part l ∷ seats) zero low none = (l, refl)
+lodged_there (Piece b ∷ seats) zero low none = absurd (none b refl)
+lodged_there (s ∷ seats) (suc i) low none = lodged_there seats i (omega arith) none
+
 module _ (h : Seating) (are : AreSeated h) (p i : ℕ) (index : position (is_part p) h.regions ≡ Some i) where
   here : (i < length h.regions) × (is_part p (get_or h.regions i blank) ≡ true) × ((k : ℕ) → k < i → is_part p (get_or h.regions k blank) ≡ false)
   here = position-Some (is_part p) h.regions i blank index
@@ -125,6 +132,10 @@ module _ (h : Seating) (are : AreSeated h) (p i : ℕ) (index : position (is_par
       no : (q : Place) → is_part_place p q ≡ true → IsKind q (Piece b) → ⊥
       no (place.Part q) test kind = kind
       no (place.Piece q) test kind = cc
+
+  -- but a part
+  pub part_lodged : (l : Lodged) × (Part l ≡ get_or h.seats i (Part l))
+  part_lodged = lodged_there h.seats i part_sits_there part_sits
 
   pub part_is_home : (l : Lodged) → Part l ≡ get_or h.seats i (Part l) → IsPartHome p h → l.home ≡ true
   part_is_home = lodged_home h are p i here.0 here.1
