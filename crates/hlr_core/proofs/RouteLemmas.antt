@@ -1,7 +1,6 @@
 -- Where an event goes: what it asks for, and what may be answered to it at once, are the same whatever jobs are done.
-use Rattle.std.proofs.Common.{◌≡◌, ◌∙◌, refl, sym, ap, ℕ, zero, suc, ◌<◌, ◌≤◌, arith, List, [], ◌∷◌, length, get_or, map, Bool, true, false, Option, Some, None, Result, Ok, Err}
-use Rattle.std.specs.Prelude.{Box, position, ◌==◌}
-use Rattle.std.specs.declared.alloc.Global.{Global}
+use Rattle.std.proofs.Common.{◌≡◌, ◌∙◌, refl, sym, ap, ℕ, ◌<◌, ◌≤◌, arith, List, [], ◌∷◌, length, map, Bool, true, false, Option, Some, None, Result, Ok, Err}
+use Rattle.std.specs.Prelude.{position, ◌==◌}
 use Rattle.std.specs.List.{list_any}
 use Rattle.std.proofs.lemmas.List.{length-map}
 use Rattle.std.proofs.lemmas.Option.{slice_get_past, get_or_from_slice_get}
@@ -19,16 +18,15 @@ use Rattle.part_table.specs.declared.region.Place.TheVariants as place
 use Rattle.part_table.specs.declared.region.Region.{Region}
 use Rattle.part_table.proofs.FirstLemmas.{none_passes}
 use Rattle.part_table.proofs.IndexLemmas.{is_part_there}
-use Rattle.holding.specs.Held.{PieceState}
 use Rattle.holding.specs.declared.job.Job.TheVariants as jobs
 use Rattle.hlr_owners.specs.Desks.{AreDesks, slots_in}
 use Rattle.hlr_owners.specs.Lodged.{Lodged}
 use Rattle.hlr_owners.specs.Seats.{Seating, AreSeated, book_in, desks_in, homes_in, store_in}
 use Rattle.hlr_owners.specs.Store.{Store, slots_of}
 use Rattle.hlr_owners.specs.declared.lodging.Seat.{Seat}
-use Rattle.hlr_owners.specs.declared.lodging.Seat.TheVariants.{Part, Piece}
+use Rattle.hlr_owners.specs.declared.lodging.Seat.TheVariants.{Part}
 use Rattle.hlr_owners.proofs.LendLemmas.{desks_later}
-use Rattle.hlr_owners.proofs.PartLemmas.{at_number, count_parts, part_sits, part_sits_there}
+use Rattle.hlr_owners.proofs.PartLemmas.{at_number, count_parts, part_lodged}
 use Rattle.hlr_core.specs.Index.{number_pair}
 use Rattle.hlr_core.specs.Inside.Asked.{IsAsked}
 use Rattle.hlr_core.specs.Inside.Routed.{AsksFor, IsSendable}
@@ -141,16 +139,9 @@ part_index s_id p regions placed = cases (position (is_part p) regions) refl
     cases (Some i) e = (i, e)
     cases None e = let clash : true ≡ false = sym (part_stands s_id p regions placed) ∙ none_passes (is_part p) regions e in absurd cc
 
--- who sits there
-lodged_there : (seats : List Seat) (i : ℕ) → i < length seats → ((b : Box PieceState Global) → Piece b ≡ get_or seats i (Piece b) → ⊥) → (l : Lodged) × (Part l ≡ get_or seats i (Part l))
-lodged_there [] i within never = absurd (omega arith)
-lodged_there (Part l ∷ seats) zero within never = (l, refl)
-lodged_there (Piece b ∷ seats) zero within never = absurd (never b refl)
-lodged_there (s ∷ seats) (suc i) within never = lodged_there seats i (omega arith) never
-
 part_low : (h : Seating) (are : AreSeated h) (p i : ℕ) → position (is_part p) h.regions ≡ Some i → p < length (homes_in h.seats)
 part_low h are p i index =
-    let sits = lodged_there h.seats i (part_sits_there h are p i index) (part_sits h are p i index) in
+    let sits = part_lodged h are p i index in
     (at_number h are p i index (λ (o : Lodged). o.home) sits.0 sits.1 false).0
 
 module _ (event : Event) (h : Seating) (rows : is_on_rows event ≡ true) where
@@ -174,6 +165,7 @@ module _ (event : Event) (h : Seating) (rows : is_on_rows event ≡ true) where
     to_part p are sendable placed = (
       (let there = part_index (s_id_of act) p h.regions placed in part_low h are p there.0 there.1),
       (placed, sendable.0.1),
+      asked,
       λ ks after answer later done.
           step_asked event (store_in (with_seats h ks)) answer (store_in (with_seats h after)) rows
           (rw (asks_later ks later, asked, done.is)
@@ -187,6 +179,7 @@ pub post_to : (h : Seating) (are : AreSeated h) (board : TableId) → AreDesks b
 post_to h are board rules p limit low = (
   (let count = count_parts (λ (o : Lodged). o.home) h.width h.regions h.seats are.each in omega arith),
   tt,
+  refl,
   λ ks after answer later done.
       rw done.is
       (posted_sent (with_seats h ks) (all_seated_later h ks are later) p done.index done.region done.lodged (record done.lodged { holding = done.holding })

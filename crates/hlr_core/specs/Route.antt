@@ -1,13 +1,14 @@
 -- Where an event goes: what is right of it holds whatever jobs the holdings have done since.
-use Rattle.std.specs.Prelude.{◌≡◌, ℕ, ◌<◌, Bool, true, false, List, length}
+use Rattle.std.specs.Prelude.{◌≡◌, ℕ, ◌<◌, Bool, true, false, List, length, Ok}
 use Rattle.holding.specs.declared.job.Job.{Job}
-use Rattle.hlr_owners.specs.Seats.{Seating, homes_in, store_in}
+use Rattle.holding.specs.declared.job.Job.TheVariants as job
+use Rattle.hlr_owners.specs.Seats.{Seating, book_in, homes_in, store_in}
 use Rattle.hlr_owners.specs.declared.lodging.Seat.{Seat}
 use Rattle.hlr_core.specs.Later.{AreLater, with_seats}
 use Rattle.hlr_core.specs.Session.{IsDoneAt, IsJobOf}
-use Rattle.hlr_core.specs.Step.{IsStep}
+use Rattle.hlr_core.specs.Step.{IsStep, action_for}
 use Rattle.hlr_core.specs.declared.event.Event.{Event}
-use Rattle.hlr_core.specs.declared.event.Event.TheVariants.{AddSubscriber, SetNumber, Give, Take}
+use Rattle.hlr_core.specs.declared.event.Event.TheVariants.{AddSubscriber, SetNumber, Post, Give, Take}
 use Rattle.hlr_core.specs.declared.event.Reply.{Reply}
 use Rattle.hlr_core.specs.declared.route.Route.{Route}
 use Rattle.hlr_core.specs.declared.route.Route.TheVariants.{Now, To, Here}
@@ -17,6 +18,11 @@ abbrev pub IsRightNow : Event → Seating → Reply → Type 0
 IsRightNow event h answer =
     (seats : List Seat) → AreLater h.seats seats
     → IsStep event (store_in (with_seats h seats)) answer (store_in (with_seats h seats))
+
+-- the job is the action that the event asks for, or the posting
+abbrev pub IsAskedJob : Event → Seating → ℕ → Job → Type 0
+IsAskedJob event h p (job.Act act) = action_for event (book_in h.seats) ≡ Ok act
+IsAskedJob event h p (job.Post limit) = event ≡ Post p limit
 
 -- whatever the job does to the part's holding, and answers, is a right step of the whole store
 abbrev pub IsRightSent : Event → Seating → ℕ → Job → Type 0
@@ -32,8 +38,8 @@ is_here (Give part side at) = true
 is_here (Take piece part) = true
 is_here _ = false
 
--- a right route: the reply, a job of a part that is there, or the register itself
+-- a right route: the reply, a job of a part that is there, which the event asks for, or the register itself
 abbrev pub IsRouted : Event → Seating → Route → Type 0
 IsRouted event h (Now answer) = IsRightNow event h answer
-IsRouted event h (To p job) = (p < length (homes_in h.seats)) × IsJobOf h.regions p job × IsRightSent event h p job
+IsRouted event h (To p job) = (p < length (homes_in h.seats)) × IsJobOf h.regions p job × IsAskedJob event h p job × IsRightSent event h p job
 IsRouted event h Here = is_here event ≡ true

@@ -355,7 +355,7 @@ impl Register {
         self.seats.recount()
     }
 
-    /// Whether all parts are at home, as the reports, a re-cut and `scatter` want it.
+    /// Whether all parts are at home, as the counts, the proposal and `scatter` want it.
     pub fn all_at_home(&self) -> bool
         ensures { IsTrue result ↔ AllHome self.now.seats }
     {
