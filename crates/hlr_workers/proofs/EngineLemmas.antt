@@ -1,10 +1,10 @@
 -- The moves of an engine: where it stands after each.
-use Rattle.std.proofs.Common.{◌≡◌, ◌∙◌, refl, sym, ap, subst, ℕ, zero, suc, ◌+◌, ◌<◌, ◌≤◌, List, [], ◌∷◌, ◌++◌, length, get_or, set, map, arith, true, false, Bool, Some, None, inl, inr}
-use Rattle.std.specs.Prelude.{Option, Result, Ok, Err, slice_get, slice_set, if◌then◌else◌, ◌-◌, ◌⊎◌}
-use Rattle.std.specs.List.{AllByRecursion, AllZip}
-use Rattle.std.proofs.lemmas.List.{get_or_default, get_or_past, length-append, length-map, length-set, set-get_or, set-set}
+use Rattle.std.proofs.Common.{◌≡◌, ◌∙◌, refl, sym, ap, subst, ℕ, zero, suc, ◌+◌, ◌<◌, ◌≤◌, List, [], ◌∷◌, ◌++◌, length, get_or, set, arith, true, false, Bool, Some, None, inl, inr}
+use Rattle.std.specs.Prelude.{Option, Result, Ok, Err, slice_get, if◌then◌else◌, ◌-◌, ◌⊎◌}
+use Rattle.std.specs.List.{AllByRecursion}
+use Rattle.std.proofs.lemmas.List.{get_or_default, get_or_past, length-set, set-get_or, set-set}
 use Rattle.std.proofs.lemmas.Bool.{cases_lt}
-use Rattle.std.proofs.lemmas.Option.{none-some, same_Some, slice_get_within, slice_get-get_or, slice_get_read, get_or_from_slice_get}
+use Rattle.std.proofs.lemmas.Option.{none-some, same_Some, slice_get_within, slice_get-get_or, slice_get_read}
 use Rattle.std.proofs.lemmas.Bool.Decides.{nat_tests}
 use Rattle.tatp_rows.proofs.OrderedLemmas.{by_test}
 use Rattle.tatp_rows.specs.Rows.{between, is_between}
@@ -12,7 +12,7 @@ use Rattle.tatp_rows.specs.declared.ranges.TheConstants.{LAST_SUBSCRIBER}
 use Rattle.tatp_rows.specs.declared.refusal.Refusal.{Refusal}
 use Rattle.holding.specs.Held.{HoldingState}
 use Rattle.holding.specs.declared.job.Job.{Job}
-use Rattle.view_board.specs.Desks.{Station, with_view}
+use Rattle.view_board.specs.Desks.{with_view}
 use Rattle.view_board.specs.Views.{looked}
 use Rattle.hlr_owners.specs.Lodged.{Lodged}
 use Rattle.hlr_owners.specs.Out.{out_of, outs_in, with_out, with_outs}
@@ -22,18 +22,17 @@ use Rattle.part_table.specs.Regions.{IsConsecutive, place_of}
 use Rattle.part_table.specs.declared.moves.CutMove.{CutMove}
 use Rattle.part_table.specs.declared.region.Region.{Region}
 use Rattle.part_table.specs.declared.region.TheConstants.{END, MOST_PARTS}
-use Rattle.hlr_owners.specs.Recut.{IsHomeToCut, IsHomeToMove, IsRecut}
+use Rattle.hlr_owners.specs.Recut.{IsHomeToCut, IsHomeToMove}
 use Rattle.hlr_owners.specs.Seats.{AllHome, AreSeated, IsLent, IsHomeFor, IsPartHome, Seating, desks_in, holdings_seated, homes_in, of_parts, store_in}
 use Rattle.hlr_owners.specs.Store.{Store}
 use Rattle.hlr_owners.specs.declared.lodging.Seat.{Seat}
 use Rattle.hlr_owners.specs.declared.lodging.Seat.TheVariants.{Part, Piece}
-use Rattle.hlr_owners.proofs.OutLemmas.{own_outs}
 use Rattle.hlr_owners.proofs.OwnerLemmas.{lies_within}
 use Rattle.hlr_owners.proofs.PartLemmas.{ahead, count_parts, set_number}
 use Rattle.hlr_owners.proofs.SightLemmas.{words_looked}
 use Rattle.hlr_core.specs.Beside.{IsRecutBeside, IsStepBeside, beside}
 use Rattle.hlr_core.specs.Home.{IsSameHouse}
-use Rattle.hlr_core.specs.Later.{AreLater, IsBackWith, IsLater, with_seats}
+use Rattle.hlr_core.specs.Later.{AreLater, IsLater, with_seats}
 use Rattle.hlr_core.specs.Run.{IsRun}
 use Rattle.hlr_core.specs.Route.{IsRightNow, IsRightSent}
 use Rattle.hlr_core.specs.Session.{IsJobDone, IsJobOf}
@@ -41,13 +40,13 @@ use Rattle.hlr_core.specs.Step.{IsStep}
 use Rattle.hlr_core.specs.declared.event.Event.{Event}
 use Rattle.hlr_core.specs.declared.event.Reply.{Reply}
 use Rattle.hlr_core.proofs.LaterLemmas.{all_later_after, all_later_self, all_seated_later, put_later}
-use Rattle.hlr_workers.specs.Inside.{AllNumberless, AreIdle, Crewed, InOrder, IsHomeAgain, IsKept, IsOut, IsSentTo, NoneOut, engaged, land}
-use Rattle.hlr_workers.specs.Session.{AreNumberless, IsNumberless, IsSession}
-use Rattle.hlr_workers.specs.Standing.{AreEnds, Asked, Cut, Engaged, IsAsBefore, IsSettled, Stands, Took, TookNext, answers_by, answers_with, orders_of, store_at}
-use Rattle.hlr_workers.proofs.CrewLemmas.{as_homes, home_is, lent_outs, none_each, numberless_of, out_is, out_part}
-use Rattle.hlr_workers.proofs.HouseLemmas.{IsPartAt, ends_later, out_done, out_ends, out_seats, part_at, part_with_number, seat_store}
+use Rattle.hlr_workers.specs.Inside.{AllNumberless, AreIdle, Crewed, IsHomeAgain, IsKept, IsOut, IsSentTo, NoneOut, engaged, land}
+use Rattle.hlr_workers.specs.Session.{AreNumberless}
+use Rattle.hlr_workers.specs.Standing.{AreEnds, Cut, IsAsBefore, IsSettled, Stands, Took, TookNext, answers_by, answers_with, orders_of, store_at}
+use Rattle.hlr_workers.proofs.CrewLemmas.{as_homes, lent_outs, numberless_of, out_part}
+use Rattle.hlr_workers.proofs.HouseLemmas.{IsPartAt, ends_later, out_done, out_ends, out_seats, part_at, seat_store}
 use Rattle.hlr_workers.proofs.SessionLemmas.{numberless_more}
-use Rattle.hlr_workers.proofs.StandingLemmas.{CameHome, came_home, ends_long, get_there, land-length, leads_back, leads_cut, leads_lent, leads_new, leads_sent, leads_settled, leads_told, order_new, order_sent, order_told, set_again}
+use Rattle.hlr_workers.proofs.StandingLemmas.{CameHome, came_home, get_there, land-length, leads_back, leads_cut, leads_lent, leads_new, leads_sent, leads_settled, leads_told, order_new, order_sent, order_told}
 use Rattle.hlr_workers.proofs.UnseenLemmas.{recut_unseen, seen_as, step_unseen}
 
 -- jobs of all parts that give no number, with those of one part changed

@@ -1,28 +1,25 @@
 -- A register with what the holdings that are out have become.
-use Rattle.std.proofs.Common.{◌≡◌, ◌∙◌, refl, sym, ap, subst, ℕ, zero, suc, ◌<◌, ◌≤◌, List, [], ◌∷◌, ◌++◌, length, get_or, set, map, arith, true, false, Bool, Some, None}
-use Rattle.std.specs.Prelude.{Option, Box, position, slice_get, if◌then◌else◌}
-use Rattle.std.specs.declared.alloc.Global.{Global}
-use Rattle.std.specs.List.{AllZip}
+use Rattle.std.proofs.Common.{◌≡◌, ◌∙◌, refl, sym, ap, ℕ, zero, suc, ◌<◌, List, [], ◌∷◌, ◌++◌, length, get_or, set, map, arith, true, false, Bool, Some, None}
+use Rattle.std.specs.Prelude.{Option, position, slice_get, if◌then◌else◌}
 use Rattle.std.proofs.lemmas.List.Quantifiers.{position-Some}
-use Rattle.std.proofs.lemmas.Option.{none-some, same_Some, get_or_from_slice_get, slice_get_read, slice_get-get_or}
+use Rattle.std.proofs.lemmas.Option.{none-some, same_Some}
 use Rattle.tatp_rows.proofs.OrderedLemmas.{by_test}
 use Rattle.tatp_actions.specs.Joined.{book_of}
 use Rattle.part_table.specs.Region.{is_part}
 use Rattle.part_table.proofs.IndexLemmas.{past_parts}
 use Rattle.part_table.proofs.PlaceLemmas.{blank}
-use Rattle.holding.specs.Held.{HoldingState, PieceState}
+use Rattle.holding.specs.Held.{HoldingState}
 use Rattle.holding.specs.declared.job.Job.{Job}
 use Rattle.holding.specs.declared.job.Job.TheVariants.{Act, Post}
 use Rattle.hlr_owners.specs.Desks.{words_of, slots_in}
 use Rattle.hlr_owners.specs.Held.{Owner}
 use Rattle.hlr_owners.specs.Lodged.{Lodged}
-use Rattle.hlr_owners.specs.Out.{out_of, outs_in, with_out, with_outs}
-use Rattle.hlr_owners.specs.Seats.{Seating, AreSeated, IsLaterSeat, desks_in, homes_in, of_parts, of_part, owner_of, owners_in, store_in}
-use Rattle.hlr_owners.specs.Store.{Store}
+use Rattle.hlr_owners.specs.Out.{outs_in, with_out, with_outs}
+use Rattle.hlr_owners.specs.Seats.{Seating, AreSeated, desks_in, homes_in, of_parts, of_part, owner_of, owners_in, store_in}
 use Rattle.hlr_owners.specs.declared.lodging.Seat.{Seat}
 use Rattle.hlr_owners.specs.declared.lodging.Seat.TheVariants.{Part, Piece}
 use Rattle.hlr_owners.proofs.HeldLemmas.{holding_keeps}
-use Rattle.hlr_owners.proofs.PartLemmas.{ahead, count_parts, number_at, part_sits, part_sits_there}
+use Rattle.hlr_owners.proofs.PartLemmas.{ahead, count_parts, number_at, part_lodged, part_sits_there}
 use Rattle.hlr_owners.proofs.SeatLemmas.{owners-set}
 use Rattle.hlr_core.specs.Later.{AreLater, IsLater, with_seats}
 use Rattle.hlr_core.specs.Session.{IsDoneAt, IsJobDone}
@@ -94,14 +91,7 @@ out_seats (Part n ∷ seats) [] (suc i) l m y is low end = absurd (none-some y e
 out_seats (Part n ∷ seats) (k ∷ ends) zero l m y is low end = let two : k ≡ y = same_Some k y end in rw two refl
 out_seats (Part n ∷ seats) (k ∷ ends) (suc i) l m y is low end = ap (λ (rest : List Seat). Part (with_out n k) ∷ rest) (out_seats seats ends i l m y is (omega arith) end)
 
--- the part with a number
-lodged_there : (seats : List Seat) (i : ℕ) → i < length seats → ((b : Box PieceState Global) → Piece b ≡ get_or seats i (Piece b) → ⊥) → (l : Lodged) × (Part l ≡ get_or seats i (Part l))
-lodged_there [] i low none = absurd (omega arith)
-lodged_there (Part l ∷ seats) zero low none = (l, refl)
-lodged_there (Piece b ∷ seats) zero low none = absurd (none b refl)
-lodged_there (s ∷ seats) (suc i) low none = lodged_there seats i (omega arith) none
-
--- where it sits
+-- where the part with a number sits
 pub record IsPartAt (h : Seating) (p i : ℕ) (l : Lodged) : Type 0 where
   pub region : position (is_part p) h.regions ≡ Some i
   pub seat : Part l ≡ get_or h.seats i (Part l)
@@ -112,7 +102,7 @@ module _ (h : Seating) (are : AreSeated h) (p : ℕ) where
   pub part_at : (i : ℕ) → position (is_part p) h.regions ≡ Some i → (l : Lodged) × IsPartAt h p i l
   part_at i index =
       let there = part_sits_there h are p i index in
-      let lodged = lodged_there h.seats i there (part_sits h are p i index) in
+      let lodged = part_lodged h are p i index in
       let here = position-Some (is_part p) h.regions i blank index in
       (lodged.0, record { region = index; seat = lodged.1; there = there; number = number_at h are p i here.0 here.1 })
 

@@ -21,7 +21,7 @@ use Rattle.hlr_core.specs.declared.order.Answer.TheVariants as answer
 use Rattle.hlr_core.specs.declared.order.Order.{Order}
 use Rattle.hlr_core.specs.declared.order.Order.TheVariants as order
 use Rattle.hlr_workers.specs.Session.{IsSession}
-use Rattle.hlr_workers.specs.Standing.{IsSessionBy, IsEnd, AreEnds, numbered, numbered_in, HasKept, Asked, Took, Cut, orders_of, events_in, answers_by, answers_with}
+use Rattle.hlr_workers.specs.Standing.{IsSessionBy, AreEnds, numbered, numbered_in, HasKept, Asked, Took, Cut, orders_of, events_in, answers_by, answers_with}
 use Rattle.hlr_workers.specs.Inside.{InOrder, land}
 
 -- two numbers are the same, or not

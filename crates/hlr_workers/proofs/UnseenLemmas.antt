@@ -1,5 +1,5 @@
 -- A right step is one whatever has been seen of the words.
-use Rattle.std.proofs.Common.{◌≡◌, ap, ℕ, List, true, false, Bool, Some, None, Ok, Err}
+use Rattle.std.proofs.Common.{ap, ℕ, List, true, false, Bool, Some, None, Ok, Err}
 use Rattle.std.specs.Prelude.{Option, Result}
 use Rattle.tatp_rows.specs.declared.refusal.Refusal.{Refusal}
 use Rattle.tatp_actions.specs.Action.{s_id_of}
@@ -10,7 +10,7 @@ use Rattle.hlr_owners.specs.Answered.{is_loose}
 use Rattle.hlr_owners.specs.Posting.{IsPosting}
 use Rattle.hlr_owners.specs.Recut.{IsRecut, IsRecutBy}
 use Rattle.hlr_owners.specs.Store.{Store, slots_of}
-use Rattle.hlr_core.specs.Step.{IsAskedStep, IsOwnedStep, IsPostStep, IsStep, action_for}
+use Rattle.hlr_core.specs.Step.{IsAskedStep, IsOwnedStep, IsStep, action_for}
 use Rattle.hlr_core.specs.declared.event.Event.{Event}
 use Rattle.hlr_core.specs.declared.event.Event.TheVariants.{SubscriberData, NewDestination, AccessData, UpdateSubscriber, UpdateLocation, InsertForwarding, DeleteForwarding}
 use Rattle.hlr_core.specs.declared.event.Event.TheVariants.{AddSubscriber, AddAccess, AddFacility, SetActive, SetNumber, Post, Give, Take}

@@ -1,6 +1,6 @@
 -- What calls inside the crate promise each other. No clause of a public call cites this.
-use Rattle.std.specs.Prelude.{◌≡◌, ◌≤◌, ◌++◌, ℕ, true, List, [], ◌∷◌, length, map, Option, Some, None, position, slice_get, slice_set, slice_index_or, ⊤, ◌⊎◌}
-use Rattle.std.specs.List.{AllByRecursion, AllZip}
+use Rattle.std.specs.Prelude.{◌≡◌, ◌≤◌, ◌++◌, ℕ, true, List, [], ◌∷◌, length, Option, Some, None, position, slice_get, slice_set, slice_index_or, ⊤, ◌⊎◌}
+use Rattle.std.specs.List.{AllByRecursion}
 use Rattle.part_table.specs.Region.{is_part}
 use Rattle.holding.specs.Held.{HoldingState}
 use Rattle.holding.specs.declared.job.Job.{Job}

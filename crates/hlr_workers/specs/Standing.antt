@@ -1,12 +1,13 @@
 -- What an engine stands at: where right sessions of the jobs that are out lead, with the replies that are kept.
-use Rattle.std.specs.Prelude.{◌≡◌, ◌==◌, ◌+◌, ℕ, List, [], ◌∷◌, ◌++◌, length, Option, Some, None, Result, if◌then◌else◌, slice_get, ⊤}
+use Rattle.std.specs.Prelude.{◌≡◌, ◌==◌, ◌+◌, ℕ, true, false, List, [], ◌∷◌, ◌++◌, length, Option, Some, None, Result, if◌then◌else◌, slice_get, slice_index_or, ⊤}
 use Rattle.tatp_rows.specs.declared.refusal.Refusal.{Refusal}
 use Rattle.holding.specs.Held.{HoldingState}
 use Rattle.holding.specs.declared.job.Job.{Job}
 use Rattle.hlr_owners.specs.Out.{outs_in}
-use Rattle.hlr_owners.specs.Seats.{Seating, store_in}
+use Rattle.hlr_owners.specs.Seats.{Seating, homes_in, store_in}
 use Rattle.hlr_owners.specs.Store.{Store}
 use Rattle.hlr_core.specs.Beside.{beside}
+use Rattle.hlr_core.specs.Route.{IsRouted}
 use Rattle.hlr_core.specs.Run.{IsRun}
 use Rattle.hlr_core.specs.Session.{IsJobDone}
 use Rattle.hlr_core.specs.declared.event.Event.{Event}
@@ -15,6 +16,7 @@ use Rattle.hlr_core.specs.declared.order.Answer.{Answer}
 use Rattle.hlr_core.specs.declared.order.Answer.TheVariants as answer
 use Rattle.hlr_core.specs.declared.order.Order.{Order}
 use Rattle.hlr_core.specs.declared.order.Order.TheVariants as order
+use Rattle.hlr_core.specs.declared.route.Route.TheVariants.{To}
 
 -- the numbered jobs of a part done one after another, `reply k` being the reply to the job numbered k
 abbrev pub IsSessionBy : (ℕ → Reply) → HoldingState → List (ℕ × Job) → HoldingState → Type 0
@@ -112,6 +114,10 @@ abbrev pub IsSettled : Engaged → List (ℕ × Reply) → Seating → Type 0
 IsSettled before replies house =
     (start : Store) (asked : List Asked) → Stands before start asked
     → IsRun (orders_of asked) start (answers_with replies asked) (record (store_in house) { sight = start.sight })
+
+-- an event is a job of a part that is at home, and so has no worker
+abbrev pub WantsWorker : Event → Seating → Type 0
+WantsWorker event h = (part : ℕ) × (job : Job) × IsRouted event h (To part job) × (slice_index_or (homes_in h.seats) part false ≡ true)
 
 -- each reply has the number of its place
 abbrev pub AreNumbered : List (ℕ × Reply) → Type 0

@@ -1,11 +1,11 @@
 //! A register with the workers of its parts that are out.
-ghost use Rattle.std.specs.Prelude.{◌≡◌, ◌<◌, ◌⊎◌, [], length, true, None, Some, IsSome, IfSome, IfOk, OnOk, OnErr, option_map, slice_get, slice_set, slice_index_or};
+ghost use Rattle.std.specs.Prelude.{◌≡◌, ◌<◌, ◌⊎◌, [], length, true, false, None, Some, IsSome, IfSome, IfOk, OnOk, OnErr, option_map, slice_get, slice_set, slice_index_or};
 ghost use Rattle.std.specs.List.{AllByRecursion};
 ghost use Rattle.view_board.specs.Desks.{with_view};
 ghost use Rattle.view_board.specs.Views.{looked};
 ghost use Rattle.hlr_owners.specs.Out.{outs_in};
 ghost use Rattle.hlr_owners.specs.Recut.{IsHomeToCut};
-ghost use Rattle.hlr_owners.specs.Seats.{AllHome, AreSeated, store_in};
+ghost use Rattle.hlr_owners.specs.Seats.{AllHome, AreSeated, homes_in, store_in};
 ghost use Rattle.hlr_owners.specs.Sight.{IsSightOf};
 ghost use Rattle.hlr_core.specs.Beside.{IsRecutBeside, IsStepBeside};
 ghost use Rattle.hlr_core.specs.Home.{IsHomeTo, IsSameHouse};
@@ -136,6 +136,7 @@ impl Crew {
         ensures out { OnOk result (IsOut part self.old self.new) }
         ensures refused { OnErr result (self.new ≡ self.old) }
         ensures why { OnErr result ((result ≡ Err Refusal.Memory) ⊎ (result ≡ Err Refusal.Thread)) }
+        ensures home { OnErr result (slice_index_or (homes_in self.old.house.seats) part false ≡ true) }
     {
         // For the prover: each region has its owner beside it.
         let _board = self.register.board();
@@ -168,6 +169,7 @@ impl Crew {
         ensures sent { OnOk result (IsSentTo part (number, job) self.old self.new) }
         ensures refused { OnErr result (self.new ≡ self.old) }
         ensures why { OnErr result ((result ≡ Err Refusal.Memory) ⊎ (result ≡ Err Refusal.Thread)) }
+        ensures home { OnErr result (slice_index_or (homes_in self.old.house.seats) part false ≡ true) }
     {
         match self.call_out(rt, alloc, gate, part) {
             Ok(()) => {}

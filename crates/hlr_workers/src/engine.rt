@@ -11,7 +11,7 @@ ghost use Rattle.hlr_core.specs.Home.{IsHomeTo};
 ghost use Rattle.tatp_rows.specs.declared.ranges.TheConstants.{LAST_SUBSCRIBER};
 ghost use Rattle.hlr_core.specs.Route.{is_here};
 ghost use Rattle.hlr_workers.specs.Inside.{IsKept, NoneOut, engaged, land};
-ghost use Rattle.hlr_workers.specs.Standing.{AreNumbered, Cut, IsAsBefore, IsSettled, Stands, Took, TookNext};
+ghost use Rattle.hlr_workers.specs.Standing.{AreNumbered, Cut, IsAsBefore, IsSettled, Stands, Took, TookNext, WantsWorker};
 ghost use Rattle.hlr_workers.specs.declared.work.TheConstants.{MOST_PENDING};
 
 use crate::crew::Crew;
@@ -56,6 +56,7 @@ fn reserve(replies: &mut Vec<(u64, Reply)>, alloc: Global) -> Result<(), Refusal
     ensures room { OnOk result (MOST_PENDING ≤ vec_capacity replies.new) }
     ensures items { replies.new.items ≡ replies.old.items }
     ensures err { OnErr result (result ≡ Err Refusal.Memory) }
+    ensures first { OnErr result (replies.old.items ≡ []) }
     ensures kept { OnErr result (replies.new ≡ replies.old) }
 {
     if replies.capacity() >= MOST_PENDING {
@@ -229,6 +230,7 @@ fn answer<G: Gate + 'static, R: Threads + Wait + Copy + Send + Sync + 'static>(
     ensures refused { OnErr result (crew.new ≡ crew.old) }
     ensures same { OnErr result (replies.new ≡ replies.old) }
     ensures why { OnErr result ((result ≡ Err Refusal.Memory) ⊎ (result ≡ Err Refusal.Thread)) }
+    ensures wants { OnErr result (WantsWorker event crew.old.house) }
     ensures places { length replies.new.items ≡ length replies.old.items }
     ensures capacity { vec_capacity replies.new ≡ vec_capacity replies.old }
     ensures spare { crew.new.house.spare ≡ crew.old.house.spare }
@@ -310,7 +312,8 @@ impl<G: Gate + 'static> Engine<G> {
     /// settle. What is known at once is answered at once; what a part does alone goes to the part's worker, which is
     /// started for its first job; what gives a number or moves regions is done here, once the part is home that works
     /// on it. `Memory` where a growth was refused, `Thread` where the start of a thread was: then the event isn't
-    /// taken. It may wait.
+    /// taken. The first event after a settle wants memory, and one that starts a worker; no other is refused. It may
+    /// wait.
     pub fn submit<R: Threads + Wait + Copy + Send + Sync + 'static>(
         &mut self,
         rt: &R,
@@ -322,6 +325,8 @@ impl<G: Gate + 'static> Engine<G> {
         ensures took { OnOk result (TookNext (Took event) self.old self.new) }
         ensures refused { OnErr result (self.new ≡ self.old) }
         ensures why { OnErr result ((result ≡ Err Refusal.Memory) ⊎ (result ≡ Err Refusal.Thread)) }
+        ensures memory { result ≡ Err Refusal.Memory → (self.old.replies ≡ []) ⊎ WantsWorker event self.old.house }
+        ensures thread { result ≡ Err Refusal.Thread → WantsWorker event self.old.house }
         ensures spare { self.new.house.spare ≡ self.old.house.spare }
     {
         match reserve(&mut self.replies, self.alloc) {

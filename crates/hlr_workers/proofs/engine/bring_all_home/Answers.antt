@@ -1,4 +1,4 @@
-use Rattle.std.proofs.Common.{◌≡◌, ◌∙◌, ◌<◌, ℕ, ap, length, arith}
+use Rattle.std.proofs.Common.{◌∙◌, ap, length, arith}
 use Rattle.part_table.specs.Regions.{parts_of}
 use Rattle.hlr_owners.specs.Out.{outs_in}
 use Rattle.hlr_owners.specs.Seats.{Seating}

@@ -1,4 +1,4 @@
-use Rattle.std.proofs.Common.{◌≡◌, ◌<◌, ℕ, None, get_or, length, vec_capacity}
+use Rattle.std.proofs.Common.{◌≡◌, ◌<◌, ℕ, None, get_or, length}
 use Rattle.hlr_owners.specs.Out.{outs_in}
 use Rattle.hlr_workers.specs.Inside.{IsKept, engaged}
 use Rattle.hlr_workers.specs.Standing.{IsAsBefore}

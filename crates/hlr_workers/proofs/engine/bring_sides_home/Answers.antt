@@ -1,4 +1,4 @@
-use Rattle.std.proofs.Common.{◌≡◌, ◌∙◌, ◌<◌, ap, arith, get_or, length, set, sym, List, None, Ok}
+use Rattle.std.proofs.Common.{◌≡◌, ◌∙◌, ap, arith, get_or, set, sym, List, None, Ok}
 use Rattle.std.proofs.lemmas.List.{get_or_default}
 use Rattle.part_table.specs.Recut.{recut_answer}
 use Rattle.part_table.specs.declared.moves.CutMove.{CutMove}

@@ -1,4 +1,4 @@
-use Rattle.std.proofs.Common.{◌≡◌, ◌<◌, ℕ, None, get_or, length, vec_capacity}
+use Rattle.std.proofs.Common.{◌≡◌, ◌<◌, ℕ, get_or, length, vec_capacity}
 use Rattle.part_table.specs.declared.moves.CutMove.{CutMove}
 use Rattle.hlr_owners.specs.Out.{outs_in}
 use Rattle.hlr_workers.specs.Inside.{IsKept, NoneOut, engaged}

@@ -1,10 +1,4 @@
-use Rattle.std.proofs.Common.{◌≡◌, ◌∙◌, refl, sym, subst, ◌<◌, length, arith, get_or, None, Some, List}
-use Rattle.std.specs.Prelude.{Option}
-use Rattle.std.specs.List.{AllZip}
-use Rattle.hlr_owners.specs.Out.{outs_in}
-use Rattle.hlr_owners.specs.Seats.{Seating}
-use Rattle.hlr_workers.specs.Finish.{Sent}
-use Rattle.hlr_workers.specs.Inside.{Crewed, HasWorker, jobs_at}
+use Rattle.std.proofs.Common.{◌∙◌, sym}
 use Rattle.hlr_workers.proofs.CrewLemmas.{home_again, home_each, home_still, home_with}
 use Rattle.hlr_workers.proofs.crew.Crew.bring_home.Goals as goal
 

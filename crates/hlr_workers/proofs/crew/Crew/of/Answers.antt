@@ -1,4 +1,4 @@
-use Rattle.std.proofs.Common.{◌≡◌, ◌∙◌, sym, ap, length, arith}
+use Rattle.std.proofs.Common.{◌≡◌, ◌∙◌, ap, length, arith}
 use Rattle.hlr_owners.specs.Out.{outs_in}
 use Rattle.hlr_workers.proofs.CrewLemmas.{as_parts, none_each, none_long, none_sent, outs_home}
 use Rattle.hlr_workers.proofs.crew.Crew.of.Goals as goal
