@@ -1,4 +1,4 @@
--- What the calls that write answers promise each other; no clause of `run_alone` cites this.
+-- What the calls that write answers promise each other; no clause of `run` or `run_alone` cites this.
 use Rattle.std.specs.Prelude.{◌≡◌, ◌++◌, ◌≤◌, ⊤, ◌⊎◌, length, ℕ, Bool, true, List, [], ◌∷◌, map, MatchResult, Option, Result, Ok, Err, codes, ℤ, pos, slice_index, slice_index_or}
 use Rattle.std.specs.List.{flat_map}
 use Rattle.std.specs.Io.KnownBytes.{Appends}

@@ -228,8 +228,8 @@ fn hand_on<H: Threads + Wait, S: Sink>(
     }
 }
 
-/// Takes the record that was read last. What is owed is written, and the sink flushed, before a read that may wait,
-/// where no whole record is left of what was read, and where 4,096 events are pending.
+/// Takes the record that was read last. What is owed is written where 4,096 events are pending, and before a read that
+/// may wait, where no whole record is left of what was read; then the sink is flushed too.
 fn take_in_time<R: Read, H: Threads + Wait + Copy + Send + Sync + 'static, S: Sink>(
     rt: &H,
     reader: &Reader<WholeRecords<R>>,
@@ -243,12 +243,13 @@ fn take_in_time<R: Read, H: Threads + Wait + Copy + Send + Sync + 'static, S: Si
     ensures room { OnOk result (length engine.new.replies < MOST_PENDING) }
 {
     take_record(rt, row, engine, line, sink)?;
-    if engine.pending() < MOST_PENDING
-        && reader.get_ref().has_record_from(reader.position().byte())
-    {
+    if !reader.get_ref().has_record_from(reader.position().byte()) {
+        return sink_fault(hand_on(rt, engine, line, sink));
+    }
+    if engine.pending() < MOST_PENDING {
         return Ok(());
     }
-    sink_fault(hand_on(rt, engine, line, sink))
+    sink_fault(write_owed(rt, engine, line, sink))
 }
 
 /// Takes the records of a reader in turn: `Read` where the reader fails or gives more than 1,048,576 records, `Memory`

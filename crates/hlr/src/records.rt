@@ -102,6 +102,7 @@ pub fn kind_of(word: Word) -> Kind
 }
 
 /// The word that a text is, in lower case exactly.
+#[inline(always)]
 #[tactic(auto, unfolding(crate::specs::Records::word_named))]
 pub fn word_of(text: &[u8]) -> Option<Word>
     ensures { result ≡ word_named text.now }

@@ -193,9 +193,6 @@ fn answer_in_time<R: Read, S: Sink>(
 
 /// Reads the next record into the row, and tells whether there was one: `Memory` where the reader wanted memory, else
 /// `Read` where it failed.
-///
-/// It is not inlined: two loops read records, and what `csv` has for one is too long for both.
-#[inline(never)]
 pub fn read_record<R: Read>(
     reader: &mut Reader<WholeRecords<R>>,
     row: &mut ByteRecord,
@@ -360,10 +357,13 @@ pub fn run_alone<R: Read + Drop, S: Sink>(
 }
 
 /// Answers all records of a reader by an engine at rest, and flushes the sink.
+///
+/// The reader is borrowed, so that the calls of `csv` are compiled for this run and for one without threads each, and
+/// stand in the loop of either.
 fn run_engine<R: Read + Drop, H: Threads + Wait + Copy + Send + Sync + 'static, S: Sink>(
     rt: &H,
     alloc: Global,
-    reader: R,
+    mut reader: R,
     engine: &mut Engine<OpenGate>,
     sink: &mut S,
 ) -> Result<(), Fault>
@@ -374,7 +374,7 @@ fn run_engine<R: Read + Drop, H: Threads + Wait + Copy + Send + Sync + 'static, 
     ensures field { result ≢ Err fault.Field }
     ensures flushed { IsFlushedAfter result (S.is_flushed sink.new) }
 {
-    let Ok(mut records) = records_of(alloc, reader) else {
+    let Ok(mut records) = records_of(alloc, &mut reader) else {
         return finish(sink, Err(Fault::Memory));
     };
     let mut row = ByteRecord::new(alloc);
