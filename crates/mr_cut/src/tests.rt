@@ -7,6 +7,7 @@ ghost use Rattle.mr_node.specs.Rows.{key_limit};
 use super::*;
 use mr_node::Stock;
 use mr_subtree::SubTree;
+use std::alloc::Global;
 use std::process::Abort;
 use std::test::*;
 use tatp_rows::Refusal;
@@ -213,6 +214,43 @@ fn drawn_trees(rt: HostRuntime) -> Result<(), Fail> {
 #[test]
 fn memory_refused(rt: HostRuntime) -> Result<(), Fail> {
     compare_steps(&rt, SubTree::new(rt.alloc())?, 40, 1, (14, 5, 6));
+    Ok(())
+}
+
+// A size that nothing else asks for: where `refuse_memory.sh` refuses all memory, it does so from a piece of it on.
+const SIGNAL: usize = 7_654_321;
+
+// Whether all memory is refused from here on. One refused piece alone doesn't tell.
+fn is_all_refused(alloc: Global) -> bool {
+    Vec::<u8>::with_capacity(alloc, SIGNAL).is_err()
+        && Vec::<u8>::with_capacity(alloc, SIGNAL).is_err()
+}
+
+// Cuts a tree at a key and joins it again, once the blank nodes are there, though all memory may be refused; then more
+// can be had unless it is.
+fn cut_without_memory(rt: &impl Abort, tree: SubTree<Token>, key: u64, mut spare: Stock<Token>) {
+    let (alloc, height) = (tree.alloc(), tree.height());
+    let whole = walked(&tree, start());
+    let mut stock = slice_stock(rt, &tree);
+    let is_refused = is_all_refused(alloc);
+    let cut = slice(tree, key, &mut stock);
+    compare(rt, &cut, key, whole, height);
+    assert!(rt; need_meld(cut.low.height(), cut.high.height()) <= spare.count());
+    let (tree, _steps) = meld(cut.low, cut.high, &mut spare);
+    assert_eq!(rt; walked(&tree, start()), whole);
+    let more = [
+        stock_for_slice::<Token>(alloc, height).is_err(),
+        stock_for_meld::<Token>(alloc, height, 0).is_err(),
+    ];
+    assert_eq!(rt; more, [is_refused; 2]);
+}
+
+// Run with all memory refused once the tree and its blank nodes are there (`refuse_memory.sh`).
+#[test]
+fn all_memory_refused(rt: HostRuntime) -> Result<(), Fail> {
+    let spare = Stock::take(rt.alloc(), 8)?;
+    let tree = filled(&rt, SubTree::new(rt.alloc())?, 3_000);
+    cut_without_memory(&rt, tree, drawn(1_000), spare);
     Ok(())
 }
 

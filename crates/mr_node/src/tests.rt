@@ -3,6 +3,7 @@ ghost use Rattle.std.specs.Prelude.{◌≡◌, ◌+◌, ◌%◌, ◌^◌, ◌<�
 
 use super::*;
 use arrayvec::ArrayVec;
+use std::alloc::Global;
 use std::process::Abort;
 use std::test::*;
 use tatp_rows::Refusal;
@@ -184,14 +185,38 @@ fn fall(rt: &impl Abort, node: &mut Node<u64>, meter: &mut Meter) {
     assert_eq!(rt; (node.height(), node.len(), meter.steps()), (0, 31, 27));
 }
 
-// A stock is filled up to a number; more than memory can hold is refused, and what was there stays.
+// Fills a stock up to a number; after Memory, with no blank node lost, once more. How many it has then.
+fn filled_up(rt: &impl Abort, stock: &mut Stock<u64>, count: usize) -> usize {
+    let before = stock.count();
+    if stock.fill(count).is_err() {
+        let kept = stock.count();
+        assert!(rt; before <= kept && kept < count);
+        assert!(rt; stock.fill(count).is_ok());
+    }
+    stock.count()
+}
+
+// How many blank nodes a stock has that is taken; after Memory, at the second try.
+fn taken(rt: &impl Abort, alloc: Global, count: usize) -> usize {
+    let stock = match Stock::<u64>::take(alloc, count) {
+        Ok(stock) => stock,
+        Err(_) => Stock::take(alloc, count).expect(rt, "memory"),
+    };
+    stock.count()
+}
+
+// More blank nodes than memory can hold are refused, and those that were there stay. Also run with each allocation
+// refused in turn (`refuse_memory.sh`).
 #[test]
 fn blanks(rt: HostRuntime) -> Result<(), Fail> {
     let mut stock = Stock::<u64>::none(rt.alloc());
-    assert_eq!(rt; stock.count(), 0);
-    assert!(rt; stock.fill(3).is_ok());
-    assert!(rt; stock.fill(2).is_ok());
-    assert_eq!(rt; stock.count(), 3);
+    let counts = [
+        stock.count(),
+        filled_up(&rt, &mut stock, 3),
+        filled_up(&rt, &mut stock, 2),
+        taken(&rt, rt.alloc(), 5),
+    ];
+    assert_eq!(rt; counts, [0, 3, 3, 5]);
     assert_eq!(rt; stock.fill(usize::MAX).err(), Some(Refusal::Memory));
     assert_eq!(rt; stock.count(), 3);
     Ok(())

@@ -4,6 +4,7 @@ ghost use Rattle.std.specs.Prelude.{◌<◌};
 ghost use Rattle.mr_node.specs.Rows.{key_limit};
 
 use super::*;
+use std::alloc::Global;
 use std::process::Abort;
 use tatp_rows::Refusal;
 
@@ -145,13 +146,14 @@ fn put(rt: &impl Abort, tree: &mut SubTree<u64>, number: u32)
     requires { number < 940 }
 {
     let key = u64::from(number);
-    let height = tree.height();
+    let before = (tree.height(), walked_sum(tree));
     let back = added(tree, key, number);
     if back.is_some() {
         assert_eq!(rt;
-            (back, tree.len(), tree.height(), found(tree, key)),
-            (Some((Refusal::Memory, number)), key, height, None)
+            (back, tree.len(), found(tree, key)),
+            (Some((Refusal::Memory, number)), key, None)
         );
+        assert_eq!(rt; (tree.height(), walked_sum(tree)), before);
         assert!(rt; added(tree, key, number).is_none());
     }
 }
@@ -183,12 +185,41 @@ fn fall(rt: &impl Abort, tree: &mut SubTree<u64>) {
     assert_eq!(rt; (gone, tree.len(), tree.height()), (true, 0, 0));
 }
 
-// Also run with each allocation refused in turn (`refuse_memory.sh`).
+// A size that nothing else asks for: where `refuse_memory.sh` refuses all memory, it does so from a piece of it on.
+const SIGNAL: usize = 7_654_321;
+
+// Whether all memory is refused from here on. One refused piece alone doesn't tell.
+fn is_all_refused(alloc: Global) -> bool {
+    Vec::<u8>::with_capacity(alloc, SIGNAL).is_err()
+        && Vec::<u8>::with_capacity(alloc, SIGNAL).is_err()
+}
+
+// Rows are replaced and removed; a row that wants nodes goes into a full root unless all memory is refused.
+fn change_without_memory(rt: &impl Abort, tree: &mut SubTree<u64>, full: &mut SubTree<u64>) {
+    let is_refused = is_all_refused(full.alloc());
+    let mut replaced_all = true;
+    for number in 0..940u32 {
+        replaced_all &= replaced(tree, u64::from(number), number) == Ok(number);
+    }
+    assert_eq!(rt; (replaced_all, replaced(tree, 940, 7)), (true, Err(7)));
+    fall(rt, tree);
+    if is_refused {
+        assert_eq!(rt; added(full, 32, 32), Some((Refusal::Memory, 32)));
+    } else {
+        put(rt, full, 32);
+    }
+}
+
+// Also run with each allocation refused in turn, and with all refused once the trees stand (`refuse_memory.sh`).
 #[test]
 fn memory_refused(rt: HostRuntime) {
     let mut tree = SubTree::new(rt.alloc()).expect(&rt, "a tree");
+    let mut full = SubTree::new(rt.alloc()).expect(&rt, "a tree");
     grow(&rt, &mut tree);
-    fall(&rt, &mut tree);
+    for number in 0..32u32 {
+        put(&rt, &mut full, number);
+    }
+    change_without_memory(&rt, &mut tree, &mut full);
 }
 
 // Rows at both ends of the keys, and between them.

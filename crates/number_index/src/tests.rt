@@ -1,5 +1,6 @@
 //! What no clause says: that an index can be had and grows, and what stands where a growth is refused.
 use super::*;
+use std::alloc::Global;
 use std::process::Abort;
 use std::test::Fail;
 use tatp_rows::{Number, Refusal};
@@ -15,7 +16,7 @@ fn add_all(rt: &impl Abort, index: &mut NumberIndex, count: u32) -> Result<(), F
     for s_id in 0..count {
         let own = number(u64::from(s_id).wrapping_mul(10))?;
         if index.add(own, s_id) == Err(Refusal::Memory) {
-            assert_eq!(rt; index.len(), u64::from(s_id));
+            expect_all_pairs(rt, index, u64::from(s_id));
             assert_eq!(rt; index.find(own), None);
             assert_eq!(rt; index.add(own, s_id), Ok(()));
         }
@@ -23,14 +24,17 @@ fn add_all(rt: &impl Abort, index: &mut NumberIndex, count: u32) -> Result<(), F
     Ok(())
 }
 
-/// Gives a number's subscriber another one: refused memory, at the second try, with the index as before.
-fn rename(rt: &impl Abort, index: &mut NumberIndex, from: Number, to: Number) {
-    let (count, owner) = (index.len(), index.find(from));
+/// Asserts that an index has the pairs of so many subscribers and no others.
+fn expect_all_pairs(rt: &impl Abort, index: &NumberIndex, count: u64) {
+    assert_eq!(rt; (index.len(), end_of_pages(index, 0)), (count, Some(count)));
+}
+
+/// Gives a number's subscriber another one, in an index of so many such pairs: refused memory, at the second try, with
+/// the index as before.
+fn rename(rt: &impl Abort, index: &mut NumberIndex, from: Number, to: Number, count: u64) {
     let mut renamed = index.rename(from, to);
     if renamed == Err(Refusal::Memory) {
-        assert_eq!(rt; index.len(), count);
-        assert_eq!(rt; index.find(from), owner);
-        assert_eq!(rt; index.find(to), None);
+        expect_all_pairs(rt, index, count);
         renamed = index.rename(from, to);
     }
     assert_eq!(rt; renamed, Ok(()));
@@ -49,7 +53,7 @@ fn expect_pairs(rt: &impl Abort, index: &mut NumberIndex) -> Result<(), Fail> {
     assert_eq!(rt; index.rename(ten, twenty), Err(Refusal::NumberTaken));
     assert_eq!(rt; index.rename(ten, ten), Ok(()));
     assert_eq!(rt; index.find(ten), Some(1));
-    rename(rt, index, ten, free);
+    rename(rt, index, ten, free, 608);
     assert_eq!(rt; index.find(ten), None);
     assert_eq!(rt; index.find(free), Some(1));
     assert_eq!(rt; index.first_from(10), Some((twenty, 2)));
@@ -59,13 +63,62 @@ fn expect_pairs(rt: &impl Abort, index: &mut NumberIndex) -> Result<(), Fail> {
     Ok(())
 }
 
-// Also run with each allocation refused in turn (`refuse_memory.sh`): the pairs split leaves under a root, a root grows
-// to height 2, and the last leaf is full, so that the new number splits it.
+/// A size that nothing else asks for: where `refuse_memory.sh` refuses all memory, it does so from a piece of it on.
+const SIGNAL: usize = 7_654_321;
+
+/// Whether all memory is refused from here on. One refused piece alone doesn't tell.
+fn is_all_refused(alloc: Global) -> bool {
+    Vec::<u8>::with_capacity(alloc, SIGNAL).is_err()
+        && Vec::<u8>::with_capacity(alloc, SIGNAL).is_err()
+}
+
+/// Asserts that the pairs of such an index are taken out again, from the third on.
+fn expect_removed(rt: &impl Abort, index: &mut NumberIndex) -> Result<(), Fail> {
+    let mut are_right = true;
+    for s_id in 2..608u32 {
+        let own = number(u64::from(s_id).wrapping_mul(10))?;
+        are_right &= index.find(own) == Some(s_id) && index.remove(own) == Some(s_id);
+    }
+    assert_eq!(rt; (are_right, index.len()), (true, 1));
+    Ok(())
+}
+
+/// Asserts that a pair which wants nodes is put into an index of 32 unless all memory is refused.
+fn expect_added(rt: &impl Abort, full: &mut NumberIndex, is_refused: bool) -> Result<(), Fail> {
+    let more = number(320)?;
+    if is_refused {
+        assert_eq!(rt; full.add(more, 32), Err(Refusal::Memory));
+        assert_eq!(rt; full.rename(number(310)?, more), Err(Refusal::Memory));
+        expect_all_pairs(rt, full, 32);
+    } else {
+        add_all(rt, full, 33)?;
+        expect_all_pairs(rt, full, 33);
+    }
+    Ok(())
+}
+
+/// Asserts all this of an index, and of one of 32 pairs.
+fn expect_numbers(
+    rt: &impl Abort,
+    alloc: Global,
+    index: &mut NumberIndex,
+    full: &mut NumberIndex,
+) -> Result<(), Fail> {
+    add_all(rt, full, 32)?;
+    add_all(rt, index, 608)?;
+    expect_pairs(rt, index)?;
+    let is_refused = is_all_refused(alloc);
+    expect_removed(rt, index)?;
+    expect_added(rt, full, is_refused)
+}
+
+// Also run with each allocation refused in turn, and with all refused once the pairs stand (`refuse_memory.sh`): the
+// pairs split leaves under a root, a root grows to height 2, and the last leaf is full, so that the new number splits it.
 #[test]
 fn numbers(rt: HostRuntime) -> Result<(), Fail> {
-    let mut index = NumberIndex::new(rt.alloc())?;
-    let added = add_all(&rt, &mut index, 608).and_then(|_| expect_pairs(&rt, &mut index));
-    added
+    let mut index = NumberIndex::new(rt.alloc()).expect(&rt, "an index");
+    let mut full = NumberIndex::new(rt.alloc()).expect(&rt, "an index");
+    expect_numbers(&rt, rt.alloc(), &mut index, &mut full)
 }
 
 /// Numbers that pages are asked from: of pairs, between two, of the last one of 32 and of 608, behind these, and behind
