@@ -20,16 +20,21 @@ fn opened(alloc: Global, words: &[u64; WORDS]) -> Result<(Board, Desk), Refusal>
     }
 }
 
-// A slot split off; where a growth was refused, at the second try.
+// A slot split off; where a growth was refused, at the second try, with the desk as before.
 fn split_off(board: &Board, desk: &mut Desk, slot: u8) -> Result<Desk, Refusal>
     requires board { desk.old.board ≡ board.now }
     requires own { Owns desk.old.view slot }
     ensures { IfOk result (λ new. (new ≡ with_view desk.old (alone desk.old.view slot)) × (desk.new ≡ with_view desk.old (without desk.old.view slot))) }
 {
-    match board.split(desk, slot) {
-        Err(_) => board.split(desk, slot),
-        new => new,
+    let before = desk.nets();
+    let why = match board.split(desk, slot) {
+        Ok(new) => return Ok(new),
+        Err(why) => why,
+    };
+    if why != Refusal::Memory || !desk.owns(slot) || desk.nets() != before {
+        return Err(Refusal::Field);
     }
+    board.split(desk, slot)
 }
 
 // Raises the word of slot 3 and cell 5, and its minus-word.
@@ -121,18 +126,28 @@ fn seen(board: &Board, first: &mut Desk, other: &mut Desk, none: &mut Desk) -> [
     [before, by_first[0], by_first[311], by_none[0], by_none[311]]
 }
 
-// The first word is at its limit: it can't be raised, and the minus-word beside it can.
-fn raise_at_limit(board: &Board, desk: &mut Desk) -> [bool; 2]
+// The first word is at its limit: it can't be raised, and no word is; the minus-word beside it can.
+fn raise_at_limit(board: &Board, desk: &mut Desk, words: &[u64; WORDS]) -> [bool; 3]
     requires board { desk.old.board ≡ board.now }
     requires own { Owns desk.old.view 0 }
     ensures { (desk.new.board ≡ desk.old.board) × (desk.new.view.owned ≡ desk.old.view.owned) }
 {
     let worn = board.add(desk, 0, 0, 1).err() == Some(Refusal::Worn);
+    let is_same = board.look(desk).words == *words;
     let lowered = board.add(desk, 0, 0, -1).is_ok();
-    [worn, lowered]
+    [worn, is_same, lowered]
 }
 
-// Also run with each allocation refused.
+// A size that nothing else asks for: where `refuse_memory.sh` refuses all memory, it does so from a piece of it on.
+const SIGNAL: usize = 7_654_321;
+
+// Whether all memory is refused from here on. One refused piece alone doesn't tell.
+fn is_all_refused(alloc: Global) -> bool {
+    Vec::<u8>::with_capacity(alloc, SIGNAL).is_err()
+        && Vec::<u8>::with_capacity(alloc, SIGNAL).is_err()
+}
+
+// Also run with each allocation refused in turn, and with all refused once the desks are there.
 #[test]
 fn words_at_limit(rt: HostRuntime) -> Result<(), Fail> {
     let mut words = [0; WORDS];
@@ -140,11 +155,12 @@ fn words_at_limit(rt: HostRuntime) -> Result<(), Fail> {
     assert_eq!(rt; Board::open(rt.alloc(), &words).err(), Some(Refusal::Field));
     words[0] = LIMIT;
     let (board, mut desk) = opened(rt.alloc(), &words).ok().ok_or("no board")?;
-    let raised = raise_at_limit(&board, &mut desk);
     let mut none = split_off(&board, &mut desk, 3).ok().ok_or("no desk")?;
     let mut other = split_off(&board, &mut none, 3)
         .ok()
         .ok_or("no second desk")?;
+    let is_refused = is_all_refused(rt.alloc());
+    let raised = raise_at_limit(&board, &mut desk, &words);
     let owned = [desk.owns(3), none.owns(3), other.owns(3), other.owns(16)];
     let found = seen(&board, &mut desk, &mut other, &mut none);
     let nets = [desk.net(0), none.net(0), other.net(5)];
@@ -152,10 +168,8 @@ fn words_at_limit(rt: HostRuntime) -> Result<(), Fail> {
     let end = ended(board, desk, other);
     words[51] = 1;
     words[311] = 7;
-    assert_eq!(rt;
-        (raised, owned),
-        ([true, true], [false, false, true, false])
-    );
+    assert_eq!(rt; opened(rt.alloc(), &words).is_err(), is_refused);
+    assert_eq!(rt; (raised, owned), ([true; 3], [false, false, true, false]));
     assert_eq!(rt;
         (found, nets, all),
         (
@@ -177,4 +191,108 @@ fn sights_tell_words_by_slot_and_cell(rt: HostRuntime) {
     let sight = Sight { words };
     let told = (sight.words_of(3, 5), sight.published(5), sight.published(6));
     assert_eq!(rt; told, ((7, 2), 9, 0));
+}
+
+// How often two desks try to raise each of their words by 1, of which the first half reach the limit.
+const TURNS: u64 = 200_000;
+
+// How often a plus-word and a minus-word of a slot could be raised by 1.
+fn wear(board: &Board, mut desk: Desk, slot: u8) -> [u64; 2]
+    requires board { desk.board ≡ board.now }
+    requires own { Owns desk.view slot }
+{
+    let mut raised = [0u64; 2];
+    for _ in 0..TURNS {
+        let plus = board.add(&mut desk, slot, 0, 1).is_ok();
+        let minus = board.add(&mut desk, slot, 0, -1).is_ok();
+        raised[0] = raised[0].wrapping_add(u64::from(plus));
+        raised[1] = raised[1].wrapping_add(u64::from(minus));
+    }
+    raised
+}
+
+// The same of slot 0 and of slot 3, in two threads.
+fn both_wear<R: Threads + Sync>(rt: &R, board: &Board, desk: Desk, other: Desk) -> [[u64; 2]; 2]
+    requires ours { (desk.board ≡ board.now) × Owns desk.view 0 }
+    requires theirs { (other.board ≡ board.now) × Owns other.view 3 }
+{
+    let (first, second) = thread::join(
+        rt,
+        || -> [u64; 2]
+            requires { (desk.board ≡ board.now) × Owns desk.view 0 }
+        { wear(board, desk, 0) },
+        || -> [u64; 2]
+            requires { (other.board ≡ board.now) × Owns other.view 3 }
+        { wear(board, other, 3) },
+    );
+    [first, second]
+}
+
+// Whether no word of a sight is below that of the one before it, and none passes the limit.
+fn is_later(before: &Sight, after: &Sight) -> bool {
+    for (old, new) in before.words.iter().zip(after.words.iter()) {
+        if new < old || *new > LIMIT {
+            return false;
+        }
+    }
+    true
+}
+
+// Whether each of many sights is later than the one before.
+fn are_later(board: &Board, mut desk: Desk) -> bool
+    requires { desk.board ≡ board.now }
+{
+    let mut before = board.look(&mut desk);
+    let mut are_later = true;
+    for _ in 0..2_000 {
+        let after = board.look(&mut desk);
+        are_later &= is_later(&before, &after);
+        before = after;
+    }
+    are_later
+}
+
+// Two desks wear their words, and a third one looks, each in a thread.
+fn wear_and_look<R: Threads + Sync>(
+    rt: &R,
+    board: &Board,
+    desk: Desk,
+    other: Desk,
+    none: Desk,
+) -> (bool, [[u64; 2]; 2])
+    requires ours { (desk.board ≡ board.now) × Owns desk.view 0 }
+    requires theirs { (other.board ≡ board.now) × Owns other.view 3 }
+    requires none { none.board ≡ board.now }
+{
+    thread::join(
+        rt,
+        || -> bool
+            requires { none.board ≡ board.now }
+        { are_later(board, none) },
+        || -> [[u64; 2]; 2]
+            requires { ((desk.board ≡ board.now) × Owns desk.view 0) × ((other.board ≡ board.now) × Owns other.view 3) }
+        { both_wear(rt, board, desk, other) },
+    )
+}
+
+// Words half as far from their limits as they are to be raised reach these, and go no further.
+#[test]
+fn words_wear_in_threads(rt: HostRuntime) -> Result<(), Fail> {
+    let mut words = [0; WORDS];
+    let worn = [0usize, 51, 306, 357];
+    for word in worn {
+        words[word] = LIMIT - TURNS / 2;
+    }
+    let (board, mut desk) = opened(rt.alloc(), &words).ok().ok_or("no board")?;
+    let other = split_off(&board, &mut desk, 3).ok().ok_or("no desk")?;
+    let mut none = split_off(&board, &mut desk, 5).ok().ok_or("no desk")?;
+    let last = split_off(&board, &mut none, 5).ok().ok_or("no desk")?;
+    let (are_later, raised) = wear_and_look(&rt, &board, desk, other, last);
+    let sight = board.look(&mut none);
+    for word in worn {
+        words[word] = LIMIT;
+    }
+    assert_eq!(rt; (are_later, raised), (true, [[TURNS / 2; 2]; 2]));
+    assert!(rt; sight.words == words);
+    Ok(())
 }
