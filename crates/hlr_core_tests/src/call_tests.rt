@@ -105,7 +105,7 @@ fn changes_so(register: &mut Register, event: &Event, reply: &Reply) -> Option<b
 }
 
 /// Whether the call for an event answers what a reply says. An event that is not on rows has none, and is applied.
-fn answers_so(register: &mut Register, event: &Event, reply: &Reply) -> bool {
+pub fn answers_so(register: &mut Register, event: &Event, reply: &Reply) -> bool {
     if !register.all_at_home() {
         return false;
     }

@@ -12,7 +12,7 @@ use std::process::Abort;
 use std::test::Fail;
 use std::thread;
 use std::thread::Threads;
-use tatp_actions::{Action, CELLS, Part, RowReply};
+use tatp_actions::{Action, CELLS, Cells, Part, RowReply};
 use tatp_rows::{Number, Refusal, Subscriber};
 use view_board::{Board, Desk, LIMIT, WORDS};
 
@@ -61,7 +61,8 @@ fn row(s_id: u64) -> Result<Subscriber, Refusal> {
     Subscriber::try_new(s_id, number, [0; 10], [0; 10], [0; 10], 1, 268_435_456)
 }
 
-/// Adds a subscriber, at the second try where a growth was refused. `None` where it isn't of the part.
+/// Adds a subscriber, at the second try where a growth was refused, with all as it stood. `None` where it isn't of the
+/// part, or something changed.
 fn add(holding: &mut Holding, number: u64) -> Option<RowReply>
     ensures { holding.new.desk ≡ holding.old.desk }
 {
@@ -70,15 +71,21 @@ fn add(holding: &mut Holding, number: u64) -> Option<RowReply>
     if s_id < holding.lo() || holding.hi() <= s_id {
         return None;
     }
-    match holding.act(Action::AddSubscriber(row)) {
-        RowReply::Refused(Refusal::Memory) => Some(holding.act(Action::AddSubscriber(row))),
-        reply => Some(reply),
+    let before = standing(holding);
+    let reply = holding.act(Action::AddSubscriber(row));
+    if reply != RowReply::Refused(Refusal::Memory) {
+        return Some(reply);
     }
+    if standing(holding) != before {
+        return None;
+    }
+    Some(holding.act(Action::AddSubscriber(row)))
 }
 
-/// What stays where a holding refuses: its range, and what is pending and counted of area 1 and zone 1.
-fn standing(holding: &Holding) -> ([u32; 2], Counts) {
-    ([holding.lo(), holding.hi()], counts(holding))
+/// What stays where a holding refuses: its range, and what is published, counted, and of area 1 and zone 1 pending.
+fn standing(holding: &Holding) -> ([u32; 2], [i128; CELLS as usize], Cells, Counts) {
+    let range = [holding.lo(), holding.hi()];
+    (range, holding.nets(), holding.recount(), counts(holding))
 }
 
 /// Gives a stretch away; after a refusal that left all as it stood, once more.

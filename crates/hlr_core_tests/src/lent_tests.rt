@@ -53,7 +53,7 @@ fn works(holding: &mut Holding, board: &Board, s_id: u32) -> (bool, Result<u8, R
 
 /// What the second part does outside, and then comes home: where the parts are meanwhile, whether the regions are as
 /// before, whether it moved subscriber 100, and what its posting answered. `None` where it isn't at home.
-fn works_outside(
+pub fn works_outside(
     register: &mut Register,
 ) -> Option<([bool; 4], bool, (bool, Result<u8, Refusal>))> {
     if !register.at_home(1) {

@@ -17,6 +17,8 @@ mod plain_regions;
 #[cfg(test)]
 mod plain_tests;
 #[cfg(test)]
+mod refused_tests;
+#[cfg(test)]
 mod region_tests;
 #[cfg(test)]
 mod tests;

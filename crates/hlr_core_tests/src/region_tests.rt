@@ -11,7 +11,7 @@ use part_table::{END, Place, Region, Side};
 use std::alloc::Global;
 use std::process::Abort;
 use std::test::Fail;
-use tatp_actions::{CELLS, RowReply};
+use tatp_actions::{CELLS, Cells, RowReply};
 use tatp_rows::{Number, Refusal, Subscriber};
 use view_board::{LIMIT, Sight, WORDS};
 
@@ -26,7 +26,7 @@ pub fn has_regions(register: &Register, regions: &[Region]) -> bool {
 }
 
 /// Whether these are the bounds that a register proposes.
-fn proposes(register: &Register, bounds: &[u64]) -> bool {
+pub fn proposes(register: &Register, bounds: &[u64]) -> bool {
     if !register.all_at_home() {
         return false;
     }
@@ -468,7 +468,9 @@ fn posts_over(alloc: Global, posting_is: &Posting) -> Result<bool, Refusal> {
 #[test]
 fn words_that_stand(rt: HostRuntime) -> Result<(), Fail> {
     let alloc = rt.alloc();
-    let uneven = refuses_words(alloc, 2, 5, 4) && refuses_words(alloc, 2, 4, 5);
+    let uneven = refuses_words(alloc, 2, 5, 4)
+        && refuses_words(alloc, 2, 4, 5)
+        && refuses_words(alloc, 2, 1, 0);
     let great = refuses_words(alloc, 2, LIMIT + 1, LIMIT + 1) && refuses_words(alloc, 17, 5, 5);
     let level = Posting {
         word: 5,
@@ -492,9 +494,47 @@ fn words_that_stand(rt: HostRuntime) -> Result<(), Fail> {
     Ok(())
 }
 
-/// Where a re-cut of three parts to 90 and 100 was refused memory: what takes the piece that is loose, if one is. None
-/// where the regions are such as it may not leave.
-fn left_over(register: &Register) -> Option<Option<Event>> {
+/// Words at 0 but for the plus- and minus-words of slot 0 at the cells 4 and 20, which can be raised once more.
+fn nearly_worn() -> [u64; WORDS] {
+    let mut words = [0; WORDS];
+    for word in [4usize, 20, 55, 71] {
+        words[word] = LIMIT - 1;
+    }
+    words
+}
+
+/// A posting of a subscriber; then of a second one, whose cells are worn; and then of its move to another area. The
+/// first event that isn't replied to as it should, if there is one, and whether what is posted and what isn't was right
+/// behind the second posting and the third.
+fn wears(register: &mut Register) -> Result<([Option<usize>; 2], [bool; 2]), Refusal> {
+    let worn = [
+        Event::AddSubscriber(row(7, 7, 268_435_456)?),
+        posting(0, 51),
+        Event::AddSubscriber(row(8, 8, 268_435_456)?),
+        posting(0, 51),
+    ];
+    let want = [DONE, Reply::Posted(2), DONE, Reply::Refused(Refusal::Worn)];
+    let first = difference(register, &worn, &want);
+    let both = stands(register, &[(4, 1), (20, 1)], &[(4, 1), (20, 1)]);
+    let moved = [moved(number(8)?, 536_870_912), posting(0, 51)];
+    let want = [DONE, Reply::Refused(Refusal::Worn)];
+    let second = difference(register, &moved, &want);
+    let last = stands(register, &[(4, 1), (5, 1), (20, 1)], &[(20, 1)]);
+    Ok(([first, second], [both, last]))
+}
+
+#[test]
+fn words_wear(rt: HostRuntime) -> Result<(), Fail> {
+    let mut register = Register::open_from(rt.alloc(), 2, 4, &nearly_worn())?;
+    let wears = wears(&mut register);
+    drop(register);
+    assert_eq!(rt; wears, Ok(([None; 2], [true; 2])));
+    Ok(())
+}
+
+/// Where a re-cut of three parts to 90 and 100 was refused memory: what it left, and what takes the piece that is loose,
+/// if one is. None where the regions are such as it may not leave.
+fn left_over(register: &Register) -> Option<(&'static str, Option<Event>)> {
     let untouched = [
         region(Part(0), 1, 41),
         region(Part(1), 41, 85),
@@ -517,53 +557,64 @@ fn left_over(register: &Register) -> Option<Option<Event>> {
         region(Part(1), 90, 100),
         region(Part(2), 100, END),
     ];
-    if has_regions(register, &untouched) || has_regions(register, &upper_moved) {
-        return Some(None);
+    if has_regions(register, &untouched) {
+        return Some(("left untouched", None));
     }
     if has_regions(register, &upper_given) {
-        return Some(Some(taking(1, 1)));
+        return Some(("left the upper piece", Some(taking(1, 1))));
+    }
+    if has_regions(register, &upper_moved) {
+        return Some(("left the upper bound moved", None));
     }
     if has_regions(register, &lower_given) {
-        return Some(Some(taking(1, 0)));
+        return Some(("left the lower piece", Some(taking(1, 0))));
     }
     None
 }
 
-/// Whether a re-cut that was refused memory left no more than it may, and can be taken up again.
-fn goes_on(register: &mut Register) -> bool {
-    let Some(rest) = left_over(register) else {
-        return false;
+/// What a re-cut left that was refused memory, with all but the regions as before, once it was taken up again. None
+/// where it left more than it may, or can't be.
+fn goes_on(register: &mut Register, sub_nbr: Number, before: &Left) -> Option<&'static str> {
+    let Some((what, rest)) = left_over(register) else {
+        return None;
     };
+    if left(register, sub_nbr) != *before {
+        return None;
+    }
     if let Some(event) = rest {
         let taken = ask(register, event);
         if !matches!(taken, Reply::Taken { .. }) {
-            return false;
+            return None;
         }
     }
-    recut(register, &[90, 100]).is_ok()
+    recut(register, &[90, 100]).ok()?;
+    Some(what)
 }
 
 /// What a re-cut leaves of a register.
 type Left = (
     [i64; CELLS as usize],
     [i64; CELLS as usize],
+    Option<Cells>,
     u64,
     Option<u32>,
 );
 
-/// The cells of a register, how many numbers there are, and who has one.
+/// The cells of a register and their counts, how many numbers there are, and who has one.
 fn left(register: &Register, sub_nbr: Number) -> Left {
     let index = register.index();
     (
         published(register),
         unposted(register),
+        recounted(register),
         index.len(),
         index.find(sub_nbr),
     )
 }
 
-/// Whether a re-cut moves the regions alone, though memory may be refused in its middle.
-fn recut_moves_regions(register: &mut Register) -> Result<bool, Refusal> {
+/// What a re-cut left that was refused memory in its middle, or that it wasn't; it moves the regions alone. None where it
+/// doesn't.
+fn recut_moves_regions(register: &mut Register) -> Result<Option<&'static str>, Refusal> {
     let mut are_added = true;
     for s_id in [1u64, 40, 41, 60, 84, 85, 99, 100, 127] {
         let added = Event::AddSubscriber(row(s_id, s_id, 1)?);
@@ -572,8 +623,11 @@ fn recut_moves_regions(register: &mut Register) -> Result<bool, Refusal> {
     are_added = ask(register, posting(1, 2)) == Reply::Posted(2) && are_added;
     let sixty = number(60)?;
     let before = left(register, sixty);
-    let first = recut(register, &[90, 100]);
-    let is_recut = first == Ok(2) || (first == Err(Refusal::Memory) && goes_on(register));
+    let what = match recut(register, &[90, 100]) {
+        Ok(2) => Some("left nothing to do"),
+        Err(Refusal::Memory) => goes_on(register, sixty, &before),
+        _ => None,
+    };
     let there = [
         region(Part(0), 1, 90),
         region(Part(1), 90, 100),
@@ -593,16 +647,21 @@ fn recut_moves_regions(register: &mut Register) -> Result<bool, Refusal> {
     let stays = left(register, sixty) == before && scans(register, &counts);
     let row = Reply::Rows(RowReply::Row(row(60, 60, 1)?));
     let moved = has_regions(register, &there) && replies(register, read(60), row);
-    Ok(are_added && is_recut && stays && moved)
+    Ok(if are_added && stays && moved {
+        what
+    } else {
+        None
+    })
 }
 
-// Also run with each allocation refused in turn (`refuse_memory.sh`).
+// Also run with each allocation refused in turn (`refuse_memory.sh`, which reads the line that tells what was left).
 #[test]
 fn recut_of_three(rt: HostRuntime) -> Result<(), Fail> {
     let mut register = opened(rt.alloc(), 3, 4)?;
     let moves = recut_moves_regions(&mut register);
     drop(register);
-    assert_eq!(rt; moves, Ok(true));
+    let what = moves?.ok_or("a re-cut that is not as it should be")?;
+    let _ = println!(rt; "{what}");
     Ok(())
 }
 

@@ -164,6 +164,7 @@ struct Standing {
     regions: ArrayVec<Region, 32>,
     published: [i64; CELLS as usize],
     unposted: [i64; CELLS as usize],
+    counted: Option<Cells>,
     row: Reply,
     bearer: Option<u32>,
     named: Option<u32>,
@@ -220,8 +221,8 @@ fn subject(register: &Register, event: &Event) -> Option<(u64, Option<Number>)> 
     }
 }
 
-/// What a register shows around an event that may want memory: its regions, its cells, the row of the subscriber and
-/// who has its number, who has the number that the event names, and how many numbers there are.
+/// What a register shows around an event that may want memory: its regions, its cells and their counts, the row of the
+/// subscriber and who has its number, who has the number that the event names, and how many numbers there are.
 fn shown(register: &mut Register, event: &Event) -> Option<Standing> {
     let (s_id, named) = subject(register, event)?;
     let row = ask(register, read(s_id));
@@ -230,6 +231,7 @@ fn shown(register: &mut Register, event: &Event) -> Option<Standing> {
         regions: regions_of(register),
         published: published(register),
         unposted: unposted(register),
+        counted: recounted(register),
         row,
         bearer: bearer(register, own),
         named: bearer(register, named),
