@@ -13,4 +13,6 @@ mod gated_tests;
 #[cfg(test)]
 mod gates;
 #[cfg(test)]
+mod refused_tests;
+#[cfg(test)]
 mod run_tests;

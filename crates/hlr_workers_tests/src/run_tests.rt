@@ -10,7 +10,8 @@ use hlr_workers::Engine;
 use std::alloc::Global;
 use std::process::Abort;
 use std::sync::Wait;
-use std::thread::Threads;
+use std::thread::{self, Threads};
+use std::time::{Clock, Duration};
 use tatp_actions::RowReply;
 use tatp_rows::Refusal;
 
@@ -161,7 +162,7 @@ fn is_taken<R: Threads + Wait + Copy + Send + Sync + 'static>(
 }
 
 /// Whether an engine takes a read of each subscriber, as above.
-fn are_taken<R: Threads + Wait + Copy + Send + Sync + 'static>(
+pub fn are_taken<R: Threads + Wait + Copy + Send + Sync + 'static>(
     rt: &R,
     engine: &mut Engine<Open>,
     s_ids: &[u64],
@@ -224,4 +225,25 @@ fn one_sight(rt: HostRuntime) {
 #[test]
 fn thousand_sights(rt: HostRuntime) {
     expect_sights(&rt, rt.alloc(), 1_000);
+}
+
+/// The replies to three reads, each of which is submitted 20 ms after the one before, when its worker sleeps.
+fn reads_apart<R: Threads + Wait + Clock + Copy + Send + Sync + 'static>(
+    rt: &R,
+    mut engine: Engine<Open>,
+) -> Vec<(u64, Reply)> {
+    for _ in 0..3u32 {
+        let _number = submit(rt, &mut engine, read(7));
+        thread::sleep(rt, Duration::from_millis(20));
+    }
+    closed(rt, engine)
+}
+
+#[test]
+fn sleeping_worker_is_woken(rt: HostRuntime) {
+    let gate = open_gate(&rt, rt.alloc());
+    let register = filled(&rt, rt.alloc(), 1, &[7]);
+    let engine = engine_over(&rt, rt.alloc(), register, &gate);
+    let replies = reads_apart(&rt, engine);
+    assert!(rt; are_rows(&rt, &replies, &[7; 3]));
 }
