@@ -2,14 +2,15 @@
 # A day of traffic in four parts, opened for 10,000 subscribers of whom 6,000 are there: 50,000 transactions of TATP, postings,
 # and then the bounds between the parts go to where the rows are.
 #
-#   examples/clients/day.sh [HLR]     at the repository's top, once crates/hlr/out/hlr is built; it wants python3
+#   examples/clients/day.sh [HLR [OPTION ..]]     at the repository's top, once crates/hlr/out/hlr is built; it wants python3
 set -eu
-hlr=${1:-crates/hlr/out/hlr}
+[ $# -gt 0 ] || set -- crates/hlr/out/hlr
 room=$(mktemp -d)
 trap 'rm -rf "$room"' EXIT
 
 # a zone is a 32nd of the subscribers, rounded up, and all parts post before a proposal
-run() { "$hlr" --parts 4 --zone 313; }
+hlr=("$@" --parts 4 --zone 313)
+run() { "${hlr[@]}"; }
 python3 bench/tatp_load.py 6000 50000 2> /dev/null | grep -v -e views -e scan > "$room/day"
 printf 'post,%d,51\n' 0 1 2 3 >> "$room/day"
 
