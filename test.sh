@@ -4,7 +4,7 @@
 #   ./test.sh            both; the last line is 'N passed, N failed'
 #   ./test.sh program    the built programs alone, as they stand in crates/*/out
 #
-# The program's part takes less than a minute. Its scripts are examples/NAME.csv, each with what it must print beside
+# The program's part takes two minutes at most. Its scripts are examples/NAME.csv, each with what it must print beside
 # it (NAME.csv.stdout) and its options (NAME.csv.args, a word a line, where it has any), as `rt try --cases` has them.
 set -u
 cd "$(dirname "$0")" || exit 1
@@ -88,18 +88,27 @@ readme() {
   done
 }
 
-# The clients of examples/ ask and wait.
+# clients [OPTION ..]: the clients of examples/ ask and wait.
 clients() {
-  local drawn moved='subscriber,7,000000000000007,0000000000,0000000000,00000000000000000000,1,536870912'
-  is 'client.sh' "$(examples/clients/client.sh "$hlr")" $'ok\nok\n'"$moved"
+  local moved='subscriber,7,000000000000007,0000000000,0000000000,00000000000000000000,1,536870912'
+  is "client.sh $*" "$(examples/clients/client.sh "$hlr" "$@")" $'ok\nok\n'"$moved"
   if ! command -v python3 > /dev/null; then
-    echo 'skipped, since there is no python3: client.py and day.sh of examples/clients, and the pictures of docs'
+    echo 'skipped, since there is no python3: client.py and day.sh of examples/clients'
     return
   fi
-  is 'client.py' "$(python3 examples/clients/client.py "$hlr")" $'ok\nok\n'"$moved"$'\nrefused,3,NoSubscriber\ncell,5,0,1\ncell,19,0,1\nviews,2'
-  examples/clients/day.sh "$hlr" > "$room/out"
-  is 'day.sh: its bounds moved' "$(grep -c '^recut,[1-3]$' "$room/out")" 1
-  is 'day.sh: its last line' "$(tail -n 1 "$room/out" | grep -c '^views,')" 1
+  is "client.py $*" "$(python3 examples/clients/client.py "$hlr" "$@")" $'ok\nok\n'"$moved"$'\nrefused,3,NoSubscriber\ncell,5,0,1\ncell,19,0,1\nviews,2'
+  examples/clients/day.sh "$hlr" "$@" > "$room/out"
+  is "day.sh $*: its bounds moved" "$(grep -c '^recut,[1-3]$' "$room/out")" 1
+  is "day.sh $*: its last line" "$(tail -n 1 "$room/out" | grep -c '^views,')" 1
+}
+
+# The pictures of docs are those of its tables.
+pictures() {
+  local drawn
+  if ! command -v python3 > /dev/null; then
+    echo 'skipped, since there is no python3: the pictures of docs'
+    return
+  fi
   mkdir "$room/docs"
   python3 docs/pictures.py "$room/docs"
   for drawn in counts speed crates; do same "docs/$drawn.svg" "docs/$drawn.svg" "$room/docs/$drawn.svg"; done
@@ -169,29 +178,59 @@ Usage: hlr [OPTIONS]"
   ends 'an option that is no text' 2 '' $'hlr: an option is no text\n'
 }
 
+# cut_off LINES STATUS ERR [OPTION ..]: the program on $room/in, whose answers are read no further than so many lines.
+cut_off() {
+  local name="standard output closed after $1 lines, with ${*:4} "
+  ("$hlr" "${@:4}" < "$room/in" 2> "$room/err"; echo $? > "$room/status") | head -n "$1" > "$room/out"
+  status=$(cat "$room/status")
+  head -n "$1" "$room/wanted" > "$room/front"
+  is "$name: status" "$status" "$2"
+  same "$name" "$room/out" "$room/front"
+  is "$name: standard error" "$(cat "$room/err")" "$3"
+}
+
 # What can go wrong with the streams.
 streams() {
-  local most=1048576
-  "$hlr" <<< views > /dev/full 2> "$room/err"
-  is 'a full disk: status' "$?" 1
-  is 'a full disk: standard error' "$(cat "$room/err")" 'hlr: write fault'
-  (yes views | head -n 100000 | "$hlr" 2> "$room/err"; echo "${PIPESTATUS[2]}" > "$room/status") | head -n 1 > "$room/out"
-  status=$(cat "$room/status")
-  ends 'a closed pipe' 1 $'views,0\n' $'hlr: write fault\n'
-  hlr_on < /
-  ends 'a folder as input' 1 '' $'hlr: read fault\n'
-  hlr_on < /dev/null
-  ends 'an empty input' 0 '' ''
-  yes views | head -n "$most" > "$room/most"
+  local most=1048576 subscribers=10000 blocks
+  "$hlr" "$@" <<< views > /dev/full 2> "$room/err"
+  is "a full device $*: status" "$?" 1
+  is "a full device $*: standard error" "$(cat "$room/err")" 'hlr: write fault'
+  hlr_on "$@" < /
+  ends "a folder as input $*" 1 '' $'hlr: read fault\n'
+  hlr_on "$@" < /dev/null
+  ends "an empty input $*" 0 '' ''
+  yes views | head -n "$most" > "$room/in"
   yes views,0 | head -n "$most" > "$room/wanted"
-  hlr_on < "$room/most"
-  is 'the most records: status' "$status" 0
-  same 'the most records' "$room/out" "$room/wanted"
-  echo views >> "$room/most"
-  hlr_on < "$room/most"
-  is 'a record too many: status' "$status" 1
-  same 'a record too many' "$room/out" "$room/wanted"
-  is 'a record too many: standard error' "$(cat "$room/err")" 'hlr: read fault'
+  hlr_on "$@" < "$room/in"
+  is "the most records $*: status" "$status" 0
+  same "the most records $*" "$room/out" "$room/wanted"
+  cut_off 1 1 'hlr: write fault' "$@"
+  hlr_on "$@" < <(yes views)
+  is "records without an end $*: status" "$status" 1
+  same "records without an end $*" "$room/out" "$room/wanted"
+  is "records without an end $*: standard error" "$(cat "$room/err")" 'hlr: read fault'
+  # with threads 4,096 of these are pending again and again, and the last ones at the end
+  yes refused,3,NoSubscriber | head -n "$most" > "$room/wanted"
+  hlr_on "$@" < <(yes gsd,7)
+  is "events without an end $*: status" "$status" 1
+  same "events without an end $*" "$room/out" "$room/wanted"
+  is "events without an end $*: standard error" "$(cat "$room/err")" 'hlr: read fault'
+  # an index of 300 KB, of which a pipe holds 64
+  seq "$subscribers" | awk '{ printf "sub,%d,%015d,0000000000,0000000000,00000000000000000000,1,1\n", $1, $1 }' > "$room/in"
+  echo index >> "$room/in"
+  hlr_on "$@" < "$room/in"
+  is "a long index $*: status" "$status" 0
+  seq "$subscribers" | awk '{ print "ok" } END { for (i = 1; i <= NR; i++) printf "number,%015d,%d\n", i, i; print "index," NR }' > "$room/wanted"
+  same "a long index $*" "$room/out" "$room/wanted"
+  cut_off $((subscribers + 3)) 1 'hlr: write fault' "$@"
+  # a file that takes so many KB: less than a block, one and a half, and four and a half
+  for blocks in 1 96 288; do
+    (trap '' XFSZ; ulimit -f "$blocks"; exec "$hlr" "$@" < "$room/in" > "$room/out" 2> "$room/err")
+    is "a device with $blocks KB $*: status" "$?" 1
+    head -c "$((blocks * 1024))" "$room/wanted" > "$room/front"
+    same "a device with $blocks KB $*" "$room/out" "$room/front"
+    is "a device with $blocks KB $*: standard error" "$(cat "$room/err")" 'hlr: write fault'
+  done
 }
 
 # Bytes that no one wrote with care.
@@ -200,11 +239,23 @@ bytes() {
   ends 'CR LF' 0 $'views,0\nrefused,19,Syntax\nviews,0\n' ''
   hlr_given '\0357\0273\0277views\n'
   ends 'a byte order mark' 0 $'views,0\n' ''
-  (printf 'gsd,' && head -c 4000000 /dev/zero | tr '\0' 7 && printf '\nviews\n') > "$room/in"
-  hlr_on < "$room/in"
-  ends 'a line of 4 MB' 0 $'refused,2,Field\nviews,0\n' ''
   hlr_given '\0377\0376\n\0000\ngsd,7\0377\nviews\n'
   ends 'bytes that are no text' 0 $'refused,19,Syntax\nrefused,19,Syntax\nrefused,2,Field\nviews,0\n' ''
+}
+
+# long_line BYTES KB [OPTION ..]: one line of so many bytes, in so much memory.
+long_line() {
+  (printf 'gsd,' && head -c "$1" /dev/zero | tr '\0' 7 && printf '\nviews\n') |
+    (ulimit -v "$2"; exec "$hlr" "${@:3}" > "$room/out" 2> "$room/err")
+  status=$?
+}
+
+# A line of 64 MB wants three times as much memory, and nothing of it stays behind; with less the run ends.
+long_lines() {
+  long_line 64000000 230000 "$@"
+  ends "a line of 64 MB $*" 0 $'refused,2,Field\nviews,0\n' ''
+  long_line 64000000 150000 "$@"
+  ends "a line of 64 MB in 150 MB of memory $*" 1 '' $'hlr: no memory\n'
 }
 
 # asks RECORD ANSWER: writes the record to the waiting program, and has the answer before it writes on.
@@ -239,6 +290,50 @@ waiting() {
   is "the end of the input ends the program $*" "$ended" 'status 0'
   exec {from}<&-
   wait "$HLR_PID" 2> /dev/null
+}
+
+# A terminal: Ctrl-D ends the input at the beginning of a line, and Ctrl-C the program. Behind half a record the first
+# Ctrl-D hands it on, the next one ends the record, and one more the run, since a terminal goes on after an end.
+terminal() {
+  if ! command -v python3 > /dev/null; then
+    echo 'skipped, since there is no python3: a terminal'
+    return
+  fi
+  python3 - "$hlr" "$@" > "$room/out" <<'PY'
+import os, pty, signal, sys, termios
+
+def session(*typed):
+    """What the program writes, and how it ends, where keys are typed as soon as what stands beside them has come."""
+    child, terminal = pty.fork()
+    if child == 0:
+        os.execv(sys.argv[1], sys.argv[1:])
+    modes = termios.tcgetattr(terminal)
+    modes[1] &= ~termios.OPOST
+    modes[3] &= ~termios.ECHO
+    termios.tcsetattr(terminal, termios.TCSANOW, modes)
+    seen = b""
+    for awaited, keys in typed:
+        while awaited not in seen:
+            seen += os.read(terminal, 4096)
+        os.write(terminal, keys)
+    try:
+        while more := os.read(terminal, 4096):
+            seen += more
+    except OSError:
+        pass
+    return seen.decode(), os.waitstatus_to_exitcode(os.waitpid(child, 0)[1])
+
+signal.alarm(20)
+print(session((b"", b"views\n"), (b"views,0\n", b"\4")))
+print(session((b"", b"views\ngs\4"), (b"views,0\n", b"\4"), (b"Syntax\n", b"\4")))
+print(session((b"", b"views\ngsd,7\ngs"), (b"refused,3,NoSubscriber\n", b"\3")))
+PY
+  cat > "$room/want" <<'TEXT'
+('views,0\n', 0)
+('views,0\nrefused,19,Syntax\n', 0)
+('views,0\nrefused,3,NoSubscriber\n', -2)
+TEXT
+  same "a terminal $*" "$room/out" "$room/want"
 }
 
 # test_passed TEST: a test was run that printed $room/out, and passed.
@@ -316,6 +411,15 @@ C
   test_passed thousand_sights
 }
 
+# both_parts: a script for two parts that both get jobs, twice, is $room/in; its answers without threads are $room/whole.
+both_parts() {
+  {
+    printf 'sub,%d,%015d,0000000000,0000000000,00000000000000000000,1,268435456\n' 7 7 100 100
+    printf 'gsd,7\ngsd,100\nviews\ngsd,7\ngsd,100\n'
+  } > "$room/in"
+  "$hlr" --parts 2 --zone 4 < "$room/in" > "$room/whole"
+}
+
 # started N OPTION ..: runs the program on $room/in with its Nth start of a thread refused, and counts the starts before.
 started() {
   rm -f "$room/starts"
@@ -356,20 +460,46 @@ int pthread_create(pthread_t *thread, const pthread_attr_t *how, void *(*work)(v
 }
 C
   gcc -O2 -shared -fPIC -o "$room/start.so" "$room/start.c" -ldl || fail 'the start of threads that is refused'
-  {
-    printf 'sub,%d,%015d,0000000000,0000000000,00000000000000000000,1,268435456\n' 7 7 100 100
-    printf 'gsd,7\ngsd,100\nviews\ngsd,7\ngsd,100\n'
-  } > "$room/in"
+  both_parts
   started 0 "${options[@]}"
   is 'threads that are started' "$starts" 4
-  cp "$room/out" "$room/whole"
+  same 'the answers with --threads' "$room/out" "$room/whole"
   started 0 --parts 2 --zone 4
   is 'threads that are started without --threads' "$starts" 0
-  same 'the answers with --threads' "$room/whole" "$room/out"
   for turn in 1 2 3 4; do
     started "$turn" "${options[@]}"
     ends "start $turn refused" 1 "$(head -n "${answers[turn - 1]}" "$room/whole")"$'\n' $'hlr: no thread\n'
   done
+}
+
+# limited [OPTION ..]: runs the program on $room/in, in at most $addresses KB of addresses.
+limited() {
+  (ulimit -v "$addresses" && exec "$hlr" --parts 2 --zone 4 "$@") < "$room/in" > "$room/out" 2> "$room/err"
+  status=$?
+}
+
+# enough [OPTION ..]: raises $addresses until the program can answer $room/in. How each run before ended, after whole
+# answers, is a line of $room/ends.
+enough() {
+  : > "$room/ends"
+  for _ in $(seq 400); do
+    limited "$@"
+    [ "$status" != 0 ] || break
+    cmp -s "$room/out" <(head -n "$(wc -l < "$room/out")" "$room/whole") || fail "the answers in $addresses KB of addresses $*"
+    echo "$status, $(cat "$room/err")" >> "$room/ends"
+    addresses=$((addresses + 256))
+  done
+  same "the answers in enough addresses $*" "$room/out" "$room/whole"
+}
+
+# In addresses that suffice without threads, and not for those of two threads, a run with threads ends so, and where the
+# system has no room for a thread it says that.
+limits() {
+  local addresses=1024
+  both_parts
+  enough
+  enough --threads
+  is 'runs with threads in too few addresses' "$(sort -u "$room/ends")" $'1, hlr: no memory\n1, hlr: no thread'
 }
 
 # had TEST: how many pieces and bytes of memory a test of the engine has, at most at once and at its end.
@@ -479,31 +609,41 @@ program() {
   examples --threads
   readme
   clients
+  clients --threads
+  pictures
   options
   streams
+  streams --threads
   bytes
+  long_lines
+  long_lines --threads
+  terminal
+  terminal --threads
   memory
   threads
+  limits
   engines
   waiting
   waiting --threads
+  counted ./refuse_memory.sh
 }
 
-gate() {
+# counted COMMAND ..: a command that ends with 'N passed, M failed', which are added to these.
+counted() {
   local last
-  rt ci | tee "$room/gate"
-  last=$(tail -n 1 "$room/gate")
+  "$@" | tee "$room/counted"
+  last=$(tail -n 1 "$room/counted")
   case $last in
     *' passed, '*' failed')
       passed=$((passed + ${last%% *}))
       last=${last#*passed, }
       failed=$((failed + ${last%% *}))
       ;;
-    *) fail "rt ci ended with '$last'" ;;
+    *) fail "$* ended with '$last'" ;;
   esac
 }
 
-if [ "${1:-all}" = all ]; then gate; fi
+if [ "${1:-all}" = all ]; then counted rt ci; fi
 program
 echo "$passed passed, $failed failed"
 [ "$failed" = 0 ]
