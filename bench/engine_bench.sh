@@ -1,6 +1,6 @@
 #!/usr/bin/env bash
 # Measures events through an engine beside one thread, from the repository's top: nanoseconds an event by the clock,
-# medians of RUNS runs of EVENTS events, one thread over four parts, and engines of 1, 2 and 3 parts in turn.
+# medians of RUNS runs of EVENTS events, one thread over four parts, and engines of 1 to 4 parts in turn.
 #
 #   bash bench/engine_bench.sh PROGRAM [RUNS [EVENTS]]    PROGRAM is bench/engine_bench.txt, built; SIZES are the
 #                                                         numbers of subscribers
@@ -16,7 +16,7 @@ for kind in gsd gad ul mix; do
   for subscribers in ${SIZES:-1000 50000 100000 500000}; do
     alone=$(median "$program" alone "$kind" "$subscribers" 4 "$events")
     line="| $subscribers \`$kind\` | $alone |"
-    for parts in 1 2 3; do
+    for parts in 1 2 3 4; do
       took=$(median "$program" engine "$kind" "$subscribers" "$parts" "$events")
       line="$line $took ($(awk -v a="$alone" -v b="$took" 'BEGIN { printf "%.1f", a / b }')) |"
     done
