@@ -1,21 +1,22 @@
 -- The counts of active forwardings, where another row is put in a facility's place.
-use Rattle.std.proofs.Common.{◌≡◌, ◌≢◌, refl, ◌∙◌, ap, subst, ℕ, ◌+◌, ◌*◌, ◌<◌, arith, Bool, true, false, [], Some, if◌then◌else◌}
-use Rattle.std.specs.Prelude.{pos, ◌+ℤ◌, ◌==◌, ◌&&◌, not, is_some, count_by}
-use Rattle.std.specs.List.{sum_by}
+use Rattle.std.proofs.Common.{◌≡◌, ◌≢◌, refl, ◌∙◌, ap, subst, ℕ, ◌+◌, ◌<◌, arith, Bool, true, false, List, [], ◌∷◌, Some, if◌then◌else◌}
+use Rattle.std.specs.Prelude.{ℤ, pos, ◌+ℤ◌, ◌==◌, ◌&&◌, not, ⊤, count_by}
+use Rattle.std.specs.List.{AllByRecursion, sum_by}
 use Rattle.std.proofs.lemmas.Bool.Decides.{nat_tests}
-use Rattle.std.proofs.lemmas.Int.{ints}
-use Rattle.tatp_rows.proofs.OrderedLemmas.{by_test, sums_agree, sum_by-with_row_at, row_at-with_row_at_same, row_at-with_row_at_other, count_of_key_if}
-use Rattle.tatp_rows.proofs.RowLemmas.{forwarding_ranges}
-use Rattle.tatp_rows.specs.Keys.{key_of, facility_key, forwarding_key}
+use Rattle.tatp_rows.proofs.OrderedLemmas.{by_test, sums_agree, sum_by-with_row_at, row_at-with_row_at_same, row_at-with_row_at_other, count_of_none}
+use Rattle.tatp_rows.specs.Keys.{key_of, facility_key}
 use Rattle.tatp_rows.specs.Ordered.{row_at, with_row_at}
-use Rattle.tatp_rows.specs.Rows.{SpecialFacilityRow, CallForwardingRow, forwarding_in_range}
+use Rattle.tatp_rows.specs.Rows.{SpecialFacilityRow, CallForwardingRow}
 use Rattle.tatp_rows.specs.Zones.{zone_of}
 use Rattle.tatp_actions.specs.Book.{Book, IsBook, facility_at, has_active, forwarding_at, put_facility}
-use Rattle.tatp_actions.specs.Cell.{active_forwardings, in_zone, has_active_facility}
+use Rattle.tatp_actions.specs.Cell.{covers, active_forwardings, in_zone, has_active_facility}
 use Rattle.tatp_actions.specs.Change.{IsChange}
-use Rattle.tatp_actions.specs.Inside.{one_step, switched}
-use Rattle.tatp_actions.proofs.ChangeLemmas.{one, not_moved, switched-low, switched-high}
+use Rattle.tatp_actions.specs.Inside.{AreHours, covering, span_steps, steps, until}
+use Rattle.tatp_actions.specs.declared.change.Spans.{Spans}
+use Rattle.tatp_actions.proofs.ChangeLemmas.{one, moved_by, not_moved}
 use Rattle.tatp_actions.proofs.CellLemmas.{change_by_kinds, area-facilities}
+use Rattle.tatp_actions.proofs.CoverLemmas.{is_of, all_that_cover}
+use Rattle.tatp_actions.proofs.HourLemmas.{hours_moved-low, hours_moved-high}
 use Rattle.tatp_actions.specs.declared.cells.TheConstants.{FIRST_AREA, FIRST_ZONE}
 
 -- tests of a row that count alike on both sides
@@ -36,9 +37,22 @@ elsewhere false true n = refl
 elsewhere false false n = refl
 
 -- counts that move by the same
-as_active : (a b m n : ℕ) (there : Bool) → m ≡ n → a + one ((n == 1) && there) ≡ b + one ((m == 1) && there) → a ≡ b
-as_active a b m n there same counts =
-    let counts' = subst (λ (k : ℕ). a + one ((n == 1) && there) ≡ b + one ((k == 1) && there)) same counts in omega arith
+as_active : (a b m n k : ℕ) → m ≡ n → a + (if n == 1 then k else 0) ≡ b + (if m == 1 then k else 0) → a ≡ b
+as_active a b m n k same counts =
+    let counts' = subst (λ (i : ℕ). a + (if n == 1 then k else 0) ≡ b + (if i == 1 then k else 0)) same counts in omega arith
+
+-- a count under a test that doesn't look at the elements
+count_if : {X : Type 0} (test : Bool) (p : X → Bool) (xs : List X) → count_by (λ x. test && p x) xs ≡ (if test then count_by p xs else 0)
+count_if true p xs = refl
+count_if false p xs = count_of_none xs
+
+all_any : {X : Type 0} (xs : List X) → AllByRecursion (λ (x : X). ⊤) xs
+all_any [] = tt
+all_any (x ∷ xs) = (tt, all_any xs)
+
+-- how many forwardings of a facility cover an hour
+abbrev that_cover : ℕ → ℕ → ℕ → Book → ℕ
+that_cover s t hour book = count_by (λ (row : CallForwardingRow). is_of s t row && covers row hour) book.forwardings
 
 module _ (book : Book) (s t : ℕ) (x y : SpecialFacilityRow) (found : facility_at book s t ≡ Some x) (at : facility_key y ≡ key_of s t 0) where
   -- whether the facility of a row is active then: the row that was put, or the same as before
@@ -53,53 +67,29 @@ module _ (book : Book) (s t : ℕ) (x y : SpecialFacilityRow) (found : facility_
   active_elsewhere row other = ap has_active (row_at-with_row_at_other facility_key (key_of row.s_id row.sf_type 0) (key_of s t 0) y book.facilities at other)
 
   -- what a row counts, before and then
-  counted_row : (start : ℕ) (row : CallForwardingRow) → start < 17 → row.start_time < 17
-      → one (row.start_time == start && has_active_facility (put_facility book s t y) row) + one ((x.is_active == 1) && (forwarding_key row == key_of s t start))
-      ≡ one (row.start_time == start && has_active_facility book row) + one ((y.is_active == 1) && (forwarding_key row == key_of s t start))
-  counted_row start row small small' = by_test (key_of row.s_id row.sf_type 0 == key_of s t 0)
+  counted_row : (hour : ℕ) (row : CallForwardingRow)
+      → one (covers row hour && has_active_facility (put_facility book s t y) row) + one ((x.is_active == 1) && (is_of s t row && covers row hour))
+      ≡ one (covers row hour && has_active_facility book row) + one ((y.is_active == 1) && (is_of s t row && covers row hour))
+  counted_row hour row = by_test (is_of s t row)
       (λ e. let same : key_of row.s_id row.sf_type 0 ≡ key_of s t 0 = grind (arith, nat_tests) in
-      let test : (forwarding_key row == key_of s t start) ≡ (row.start_time == start) = keys row start same in
-      rw (active_here row same, active_before row same, test) (crosswise (row.start_time == start) (x.is_active == 1) (y.is_active == 1)))
+      rw (active_here row same, active_before row same, e) (crosswise (covers row hour) (x.is_active == 1) (y.is_active == 1)))
       (λ e. let other : key_of row.s_id row.sf_type 0 ≢ key_of s t 0 = grind (arith, nat_tests) in
-      let test : (forwarding_key row == key_of s t start) ≡ false = no_key row start other small small' in
-      rw (active_elsewhere row other, test) (elsewhere (x.is_active == 1) (y.is_active == 1) (one (row.start_time == start && has_active_facility book row))))
-    where
-      keys : (row : CallForwardingRow) (start : ℕ) → key_of row.s_id row.sf_type 0 ≡ key_of s t 0 → (forwarding_key row == key_of s t start) ≡ (row.start_time == start)
-      keys row start same = by_test (row.start_time == start)
-          (λ e. let is : row.start_time ≡ start = grind (arith, nat_tests) in let f : (forwarding_key row == key_of s t start) ≡ true = equal (forwarding_key row) (key_of s t start) (omega arith) in rw (e, f) refl)
-          (λ e. let differ : row.start_time ≢ start = grind (arith, nat_tests) in let f : (forwarding_key row == key_of s t start) ≡ false = unequal (forwarding_key row) (key_of s t start) (λ h. omega arith) in rw (e, f) refl)
-        where
-          equal : (a b : ℕ) → a ≡ b → (a == b) ≡ true
-          equal a b same = grind (arith, nat_tests)
+      rw (active_elsewhere row other, e) (elsewhere (x.is_active == 1) (y.is_active == 1) (one (covers row hour && has_active_facility book row))))
 
-          unequal : (a b : ℕ) → a ≢ b → (a == b) ≡ false
-          unequal a b differ = grind (arith, nat_tests)
-
-      no_key : (row : CallForwardingRow) (start : ℕ) → key_of row.s_id row.sf_type 0 ≢ key_of s t 0 → start < 17 → row.start_time < 17 → (forwarding_key row == key_of s t start) ≡ false
-      no_key row start other small small' = unequal (forwarding_key row) (key_of s t start) (λ h. other (omega arith))
-        where
-          unequal : (a b : ℕ) → a ≢ b → (a == b) ≡ false
-          unequal a b differ = grind (arith, nat_tests)
-
-  -- so the counts of a start time differ by its forwarding, where it has one
-  active_put : (start : ℕ) → IsBook book → start < 17
-      → active_forwardings start (put_facility book s t y) + one ((x.is_active == 1) && is_some (forwarding_at book s t start))
-      ≡ active_forwardings start book + one ((y.is_active == 1) && is_some (forwarding_at book s t start))
+  -- so the counts of an hour differ by the facility's forwardings that cover it
+  active_put : (hour : ℕ) → active_forwardings hour (put_facility book s t y) + (if x.is_active == 1 then that_cover s t hour book else 0)
+      ≡ active_forwardings hour book + (if y.is_active == 1 then that_cover s t hour book else 0)
   unfolding active_forwardings
-  active_put start rules small =
-      let agree = sums_agree (λ (row : CallForwardingRow). forwarding_in_range row ≡ true)
-      (λ (row : CallForwardingRow). one (row.start_time == start && has_active_facility (put_facility book s t y) row))
-      (λ (row : CallForwardingRow). one ((x.is_active == 1) && (forwarding_key row == key_of s t start)))
-      (λ (row : CallForwardingRow). one (row.start_time == start && has_active_facility book row))
-      (λ (row : CallForwardingRow). one ((y.is_active == 1) && (forwarding_key row == key_of s t start)))
-      (λ row holds. counted_row start row small (forwarding_ranges row holds).start_time_below) book.forwardings rules.forwardings_in_range in
-      let old = count_of_key_if forwarding_key (x.is_active == 1) (key_of s t start) book.forwardings rules.forwardings_ordered in
-      let new = count_of_key_if forwarding_key (y.is_active == 1) (key_of s t start) book.forwardings rules.forwardings_ordered in
-      subst (λ (n : ℕ). count_by (λ (row : CallForwardingRow). row.start_time == start && has_active_facility (put_facility book s t y) row) book.forwardings + n
-      ≡ count_by (λ (row : CallForwardingRow). row.start_time == start && has_active_facility book row) book.forwardings + one ((y.is_active == 1) && is_some (forwarding_at book s t start))) old
-      (subst (λ (n : ℕ). count_by (λ (row : CallForwardingRow). row.start_time == start && has_active_facility (put_facility book s t y) row) book.forwardings
-      + count_by (λ (row : CallForwardingRow). (x.is_active == 1) && (forwarding_key row == key_of s t start)) book.forwardings
-      ≡ count_by (λ (row : CallForwardingRow). row.start_time == start && has_active_facility book row) book.forwardings + n) new agree)
+  active_put hour =
+      let agree = sums_agree (λ (row : CallForwardingRow). ⊤)
+      (λ (row : CallForwardingRow). one (covers row hour && has_active_facility (put_facility book s t y) row))
+      (λ (row : CallForwardingRow). one ((x.is_active == 1) && (is_of s t row && covers row hour)))
+      (λ (row : CallForwardingRow). one (covers row hour && has_active_facility book row))
+      (λ (row : CallForwardingRow). one ((y.is_active == 1) && (is_of s t row && covers row hour)))
+      (λ row any. counted_row hour row) book.forwardings (all_any book.forwardings) in
+      let old = count_if (x.is_active == 1) (λ (row : CallForwardingRow). is_of s t row && covers row hour) book.forwardings in
+      let new = count_if (y.is_active == 1) (λ (row : CallForwardingRow). is_of s t row && covers row hour) book.forwardings in
+      omega (arith, agree, old, new)
 
   -- the zones stay
   zone_kept : (width z : ℕ) → y.s_id ≡ x.s_id → in_zone width z (put_facility book s t y) ≡ in_zone width z book
@@ -111,26 +101,24 @@ module _ (book : Book) (s t : ℕ) (x y : SpecialFacilityRow) (found : facility_
       omega arith
 
   -- a facility that stays as active as it was: nothing moves
-  pub change_of_put_facility : (width : ℕ) → IsBook book → y.s_id ≡ x.s_id → y.is_active ≡ x.is_active → IsChange width book (put_facility book s t y) []
-  change_of_put_facility width rules same stays =
+  pub change_of_put_facility : (width : ℕ) → y.s_id ≡ x.s_id → y.is_active ≡ x.is_active → IsChange width book (put_facility book s t y) []
+  change_of_put_facility width same stays =
       change_by_kinds width book (put_facility book s t y) []
-      (λ c low. not_moved _ _ (as_active _ _ y.is_active x.is_active (is_some (forwarding_at book s t (8 * c))) stays (active_put (8 * c) rules (omega arith))))
+      (λ c low. not_moved _ _ (as_active _ _ y.is_active x.is_active (that_cover s t c book) stays (active_put c)))
       (λ a below. rw (area-facilities a book (with_row_at facility_key (key_of s t 0) y book.facilities)) (not_moved _ _ refl))
       (λ z. rw (zone_kept width z same) (not_moved _ _ refl))
 
-  -- a facility that is switched: each of its start times moves
-  pub change_of_switch : (width : ℕ) (up at_0 at_8 at_16 : Bool) → IsBook book → y.s_id ≡ x.s_id → (x.is_active == 1) ≡ not up → (y.is_active == 1) ≡ up
-      → at_0 ≡ is_some (forwarding_at book s t 0) → at_8 ≡ is_some (forwarding_at book s t 8) → at_16 ≡ is_some (forwarding_at book s t 16)
-      → IsChange width book (put_facility book s t y) (switched up at_0 at_8 at_16)
-  change_of_switch width up at_0 at_8 at_16 rules same was now is_0 is_8 is_16 =
-      change_by_kinds width book (put_facility book s t y) (switched up at_0 at_8 at_16)
-      (λ c low. rw (switched-low up at_0 at_8 at_16 (λ (start : ℕ). is_some (forwarding_at book s t start)) is_0 is_8 is_16 c low)
-      (moved up (is_some (forwarding_at book s t (8 * c))) _ _ (rw (was, now) at (active_put (8 * c) rules (omega arith)))))
-      (λ a below. rw (area-facilities a book (with_row_at facility_key (key_of s t 0) y book.facilities), switched-high up at_0 at_8 at_16 (FIRST_AREA + a) (omega arith)) (not_moved _ _ refl))
-      (λ z. rw (zone_kept width z same, switched-high up at_0 at_8 at_16 (FIRST_ZONE + z) (omega arith)) (not_moved _ _ refl))
+  -- a facility that is switched: each hour moves by how many of its forwardings cover it
+  pub change_of_switch : (width : ℕ) (up : Bool) (spans : Spans) (notes : List (ℕ × ℤ)) → IsBook book → t < 256 → y.s_id ≡ x.s_id → (x.is_active == 1) ≡ not up → (y.is_active == 1) ≡ up
+      → spans.from_0 ≡ until (forwarding_at book s t 0) → spans.from_8 ≡ until (forwarding_at book s t 8) → spans.from_16 ≡ until (forwarding_at book s t 16)
+      → AreHours (span_steps up spans) FIRST_AREA notes → IsChange width book (put_facility book s t y) notes
+  change_of_switch width up spans notes rules small same was now first second third are =
+      change_by_kinds width book (put_facility book s t y) notes
+      (λ c low. rw (hours_moved-low up spans c notes are low)
+      (moved up (covering spans c) _ _ (rw (was, now, all_that_cover s t c book spans rules small first second third) at (active_put c))))
+      (λ a below. rw (area-facilities a book (with_row_at facility_key (key_of s t 0) y book.facilities), hours_moved-high up spans (FIRST_AREA + a) notes are (omega arith)) (not_moved _ _ refl))
+      (λ z. rw (zone_kept width z same, hours_moved-high up spans (FIRST_ZONE + z) notes are (omega arith)) (not_moved _ _ refl))
     where
-      moved : (up there : Bool) (after before : ℕ) → after + one (not up && there) ≡ before + one (up && there) → pos after ≡ pos before +ℤ (if there then one_step up else pos 0)
-      moved true true after before counts = omega (arith, ints)
-      moved true false after before counts = omega (arith, ints)
-      moved false true after before counts = omega (arith, ints)
-      moved false false after before counts = omega (arith, ints)
+      moved : (up : Bool) (n after before : ℕ) → after + (if not up then n else 0) ≡ before + (if up then n else 0) → pos after ≡ pos before +ℤ steps up n
+      moved true n after before counts = moved_by true after before n (omega arith)
+      moved false n after before counts = moved_by false after before n (omega arith)

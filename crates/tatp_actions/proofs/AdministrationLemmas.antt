@@ -6,16 +6,18 @@ use mathlib.Core.Bool.{beq}
 use Rattle.tatp_rows.proofs.OrderedLemmas.{by_test, each_found, with_row_at_same}
 use Rattle.tatp_rows.proofs.RowLemmas.{both_from, between_is, between_from, number_test, subscriber_ranges, facility_ranges}
 use Rattle.tatp_rows.specs.Keys.{key_of, facility_key}
-use Rattle.tatp_rows.specs.Rows.{SubscriberRow, AccessInfoRow, SpecialFacilityRow, CallForwardingRow, is_between, subscriber_in_range, access_in_range, facility_in_range}
+use Rattle.tatp_rows.specs.Rows.{SubscriberRow, AccessInfoRow, SpecialFacilityRow, is_between, subscriber_in_range, access_in_range, facility_in_range}
 use Rattle.tatp_rows.specs.Zones.{zone_of, area_of}
 use Rattle.tatp_actions.specs.Action.{is_in_range}
 use Rattle.tatp_actions.specs.Book.{Book, IsWithin, subscriber_at, access_at, facility_at, forwarding_at, put_subscriber, put_facility, more_subscribers, more_access, more_facilities}
 use Rattle.tatp_actions.specs.Change.{IsChange}
 use Rattle.tatp_actions.specs.Part.{PartState, IsPart}
-use Rattle.tatp_actions.specs.Inside.{subscriber_added, row_moved, switched, Acts, asked_once, changed_once, changed_to, subscriber_revised, facility_revised}
+use Rattle.tatp_actions.specs.Inside.{subscriber_added, row_moved, AreHours, span_steps, until, Acts, asked_once, changed_once, changed_to, subscriber_revised, facility_revised}
 use Rattle.tatp_actions.specs.Tables.{once_more}
 use Rattle.tatp_actions.specs.declared.action.Action.TheVariants.{AddSubscriber, AddAccess, AddFacility, SetActive, SetNumber}
 use Rattle.tatp_actions.specs.declared.action.RowReply.TheVariants as reply
+use Rattle.tatp_actions.specs.declared.cells.TheConstants.{FIRST_AREA}
+use Rattle.tatp_actions.specs.declared.change.Spans.{Spans}
 use Rattle.tatp_actions.specs.declared.revisions.SwapActive.{SwapActive}
 use Rattle.tatp_actions.proofs.ActsLemmas.{acts_done, no_change, few_1, few_2, few_3, is_subscriber, is_typed_from, none_from, area_below, area_found}
 use Rattle.tatp_actions.proofs.BookLemmas.{facility_found}
@@ -175,24 +177,23 @@ switch_stands before after s t v (Some row) swap rules within kind bit is some s
         (ap (λ (rows : List SpecialFacilityRow). record before.book { facilities = rows }) (with_row_at_same facility_key (key_of s t 0) row before.book.facilities is))
 
 -- a facility that is switched, and then asked for its forwardings
-pub switch_done : (p0 p1 p2 p3 p4 : PartState) (s t v : ℕ) (o : Option SpecialFacilityRow) (o0 o8 o16 : Option CallForwardingRow) (swap : SwapActive) (at_0 at_8 at_16 : Bool) (notes : List (ℕ × ℤ))
+pub switch_done : (p0 p1 p2 p3 p4 : PartState) (s t v : ℕ) (o : Option SpecialFacilityRow) (swap : SwapActive) (spans : Spans) (notes : List (ℕ × ℤ))
     → IsPart p0 → IsWithin p0.lo p0.hi s → is_between 1 4 t ≡ true → t < 256 → v ≤ 1
     → facility_at p0.book s t ≡ o → true ≡ is_some o → IfSome o (λ row. swap ≡ record { is_active = row.is_active == 1 }) → beq swap.is_active (v == 1) ≡ false
     → p1 ≡ changed_to p0 (facility_revised p0.book s t (λ row. record row { is_active = if v == 1 then 1 else 0 })) p1
     → p1.asked ≤ p0.asked + 2
-    → o0 ≡ forwarding_at p1.book s t 0 → p2 ≡ asked_once p1 → o8 ≡ forwarding_at p2.book s t 8 → p3 ≡ asked_once p2 → o16 ≡ forwarding_at p3.book s t 16 → p4 ≡ asked_once p3
-    → at_0 ≡ is_some o0 → at_8 ≡ is_some o8 → at_16 ≡ is_some o16 → notes ≡ switched (v == 1) at_0 at_8 at_16
+    → spans.from_0 ≡ until (forwarding_at p1.book s t 0) → p2 ≡ asked_once p1 → spans.from_8 ≡ until (forwarding_at p2.book s t 8) → p3 ≡ asked_once p2
+    → spans.from_16 ≡ until (forwarding_at p3.book s t 16) → p4 ≡ asked_once p3 → AreHours (span_steps (v == 1) spans) FIRST_AREA notes
     → Acts (SetActive s t v) p0 reply.Done notes p4
-switch_done p0 p1 p2 p3 p4 s t v None o0 o8 o16 swap at_0 at_8 at_16 notes rules within kind small bit is some so differ kept few is0 kept2 is8 kept3 is16 kept4 so0 so8 so16 noted = absurd cc
-switch_done p0 p1 p2 p3 p4 s t v (Some row) o0 o8 o16 swap at_0 at_8 at_16 notes rules within kind small bit is some so differ kept few is0 kept2 is8 kept3 is16 kept4 so0 so8 so16 noted =
+switch_done p0 p1 p2 p3 p4 s t v None swap spans notes rules within kind small bit is some so differ kept few is0 kept2 is8 kept3 is16 kept4 noted = absurd cc
+switch_done p0 p1 p2 p3 p4 s t v (Some row) swap spans notes rules within kind small bit is some so differ kept few is0 kept2 is8 kept3 is16 kept4 noted =
     acts_done (SetActive s t v) p0 p4 notes (put_facility p0.book s t row1) (once_more (once_more (once_more p1.asked)))
     (kept4 ∙ ap asked_once (kept3 ∙ ap asked_once (kept2 ∙ ap asked_once second))) (few_3 p0.asked p1.asked few) (switch_in_range p0 s t v rules within kind bit)
     (rw is refl)
-    (subst (λ (ns : List (ℕ × ℤ)). IsChange p0.width p0.book (put_facility p0.book s t row1) ns) (sym noted)
-    (change_of_switch p0.book s t row row1 is key p0.width (v == 1) at_0 at_8 at_16 rules.rows.rules refl (sym (ap (λ (w : SwapActive). w.is_active) so) ∙ other_by swap.is_active (v == 1) differ) refl
-    (so0 ∙ ap is_some (is0 ∙ ap (λ (p : PartState). forwarding_at p.book s t 0) second))
-    (so8 ∙ ap is_some (is8 ∙ ap (λ (p : PartState). forwarding_at p.book s t 8) (kept2 ∙ ap asked_once second)))
-    (so16 ∙ ap is_some (is16 ∙ ap (λ (p : PartState). forwarding_at p.book s t 16) (kept3 ∙ ap asked_once (kept2 ∙ ap asked_once second))))))
+    (change_of_switch p0.book s t row row1 is key p0.width (v == 1) spans notes rules.rows.rules small refl (sym (ap (λ (w : SwapActive). w.is_active) so) ∙ other_by swap.is_active (v == 1) differ) refl
+    (is0 ∙ ap (λ (p : PartState). until (forwarding_at p.book s t 0)) second)
+    (is8 ∙ ap (λ (p : PartState). until (forwarding_at p.book s t 8)) (kept2 ∙ ap asked_once second))
+    (is16 ∙ ap (λ (p : PartState). until (forwarding_at p.book s t 16)) (kept3 ∙ ap asked_once (kept2 ∙ ap asked_once second))) noted)
   where
     row1 : SpecialFacilityRow
     row1 = record row { is_active = v }

@@ -1,20 +1,20 @@
 -- The counts of the cells after an edit of a table.
-use Rattle.std.proofs.Common.{◌≡◌, ◌≢◌, ℕ, ◌+◌, ◌-◌, ◌*◌, ◌<◌, ◌==◌, ◌&&◌, refl, arith, Bool, true, false, List, [], nat_lt, Some, None, IsSome, subst}
+use Rattle.std.proofs.Common.{◌≡◌, ◌≢◌, ℕ, ◌+◌, ◌-◌, ◌<◌, ◌==◌, ◌&&◌, refl, arith, Bool, true, false, List, [], nat_lt, Some, None, IsSome, subst}
 use Rattle.std.specs.Prelude.{ℤ, pos, ◌+ℤ◌, count_by}
 use Rattle.std.proofs.lemmas.Bool.Decides.{nat_tests}
 use Rattle.std.proofs.lemmas.Int.{ints}
 use Rattle.std.specs.List.{sum_by}
 use Rattle.tatp_rows.proofs.OrderedLemmas.{by_test, each-weaker, sum_by-same, sum_by-with_row_at, sum_by-with_row, sum_by-without_row, row_at-with_row_other}
-use Rattle.tatp_rows.proofs.RowLemmas.{forwarding_ranges}
 use Rattle.tatp_rows.specs.Keys.{key_of, subscriber_key, access_key, facility_key, forwarding_key}
 use Rattle.tatp_rows.specs.Ordered.{row_at, with_row_at, with_row, without_row}
-use Rattle.tatp_rows.specs.Rows.{SubscriberRow, AccessInfoRow, SpecialFacilityRow, CallForwardingRow, forwarding_in_range}
+use Rattle.tatp_rows.specs.Rows.{SubscriberRow, AccessInfoRow, SpecialFacilityRow, CallForwardingRow}
 use Rattle.tatp_rows.specs.Zones.{zone_of, area_of}
 use Rattle.tatp_actions.specs.Book.{Book, IsBook, subscriber_at, facility_at, forwarding_at, put_subscriber, more_access, more_facilities, more_forwardings, without_forwarding}
-use Rattle.tatp_actions.specs.Cell.{active_forwardings, in_area, in_zone, has_active_facility}
+use Rattle.tatp_actions.specs.Cell.{covers, active_forwardings, in_area, in_zone, has_active_facility}
 use Rattle.tatp_actions.specs.Change.{change_at, IsChange}
-use Rattle.tatp_actions.specs.Inside.{area_moved, subscriber_added, row_moved, forwarding_moved}
-use Rattle.tatp_actions.proofs.ChangeLemmas.{Moved, moved_by_one, not_moved, row_moved-low, row_moved-zone, forwarding_moved-low, forwarding_moved-area, forwarding_moved-zone, one, area_moved-low, area_moved-area, area_moved-zone, subscriber_added-low, subscriber_added-area, subscriber_added-zone}
+use Rattle.tatp_actions.specs.Inside.{area_moved, subscriber_added, row_moved, AreForwardingNotes}
+use Rattle.tatp_actions.proofs.HourLemmas.{forwarding_notes-hour, forwarding_notes-area, forwarding_notes-zone}
+use Rattle.tatp_actions.proofs.ChangeLemmas.{Moved, moved_by_one, not_moved, row_moved-low, row_moved-zone, one, area_moved-low, area_moved-area, area_moved-zone, subscriber_added-low, subscriber_added-area, subscriber_added-zone}
 use Rattle.tatp_actions.specs.declared.cells.TheConstants.{FIRST_AREA, FIRST_ZONE}
 
 -- how many of the subscribers are in an area, and in a zone
@@ -25,9 +25,9 @@ abbrev pub zone_count : ℕ → ℕ → List SubscriberRow → ℕ
 zone_count width z rows = count_by (λ (row : SubscriberRow). zone_of width row.s_id == z) rows
 
 -- a book with other subscribers, by its three kinds of cells
-pub active-subscribers : (start : ℕ) (book : Book) (rows : List SubscriberRow) → active_forwardings start (record book { subscribers = rows }) ≡ active_forwardings start book
+pub active-subscribers : (hour : ℕ) (book : Book) (rows : List SubscriberRow) → active_forwardings hour (record book { subscribers = rows }) ≡ active_forwardings hour book
 unfolding active_forwardings
-active-subscribers start book rows = refl
+active-subscribers hour book rows = refl
 
 pub area-subscribers : (a : ℕ) (book : Book) (rows : List SubscriberRow) → in_area a (record book { subscribers = rows }) ≡ area_count a rows
 unfolding in_area
@@ -50,7 +50,7 @@ pub change_of_subscribers : (width : ℕ) (book : Book) (rows : List SubscriberR
 change_of_subscribers width book rows notes low areas zones c within =
     by_test (nat_lt c FIRST_AREA)
     (λ e. let small : c < FIRST_AREA = grind (arith, nat_tests) in
-    rw (e, active-subscribers (8 * c) book rows, low c small) (omega (arith, ints)))
+    rw (e, active-subscribers c book rows, low c small) (omega (arith, ints)))
     (λ e. by_test (nat_lt c FIRST_ZONE)
     (λ f. let is : FIRST_AREA + (c - FIRST_AREA) ≡ c = grind (arith, nat_tests) in
     let small : c - FIRST_AREA < 16 = grind (arith, nat_tests) in
@@ -86,7 +86,7 @@ change_of_addition width book row small =
 
 -- notes that are right for the three kinds of cells are the exact change
 pub change_by_kinds : (width : ℕ) (before after : Book) (notes : List (ℕ × ℤ))
-    → ((c : ℕ) → c < FIRST_AREA → pos (active_forwardings (8 * c) after) ≡ pos (active_forwardings (8 * c) before) +ℤ change_at notes c)
+    → ((c : ℕ) → c < FIRST_AREA → pos (active_forwardings c after) ≡ pos (active_forwardings c before) +ℤ change_at notes c)
     → ((a : ℕ) → a < 16 → pos (in_area a after) ≡ pos (in_area a before) +ℤ change_at notes (FIRST_AREA + a))
     → ((z : ℕ) → pos (in_zone width z after) ≡ pos (in_zone width z before) +ℤ change_at notes (FIRST_ZONE + z))
     → IsChange width before after notes
@@ -103,9 +103,9 @@ change_by_kinds width before after notes low areas zones c within =
     rw (e, f) here))
 
 -- a book with other rows in one of the other tables
-active-access : (start : ℕ) (book : Book) (rows : List AccessInfoRow) → active_forwardings start (record book { access = rows }) ≡ active_forwardings start book
+active-access : (hour : ℕ) (book : Book) (rows : List AccessInfoRow) → active_forwardings hour (record book { access = rows }) ≡ active_forwardings hour book
 unfolding active_forwardings
-active-access start book rows = refl
+active-access hour book rows = refl
 
 area-access : (a : ℕ) (book : Book) (rows : List AccessInfoRow) → in_area a (record book { access = rows }) ≡ in_area a book
 unfolding in_area
@@ -129,11 +129,11 @@ unfolding in_zone
 zone_moved-facilities true width z book rows n moved = omega arith
 zone_moved-facilities false width z book rows n moved = omega arith
 
-active_moved-forwardings : (up : Bool) (start : ℕ) (book : Book) (rows : List CallForwardingRow) (n : ℕ)
-    → Moved up (count_by (λ (row : CallForwardingRow). row.start_time == start && has_active_facility book row) rows) (count_by (λ (row : CallForwardingRow). row.start_time == start && has_active_facility book row) book.forwardings) n
-    → Moved up (active_forwardings start (record book { forwardings = rows })) (active_forwardings start book) n
+active_moved-forwardings : (up : Bool) (hour : ℕ) (book : Book) (rows : List CallForwardingRow) (n : ℕ)
+    → Moved up (count_by (λ (row : CallForwardingRow). covers row hour && has_active_facility book row) rows) (count_by (λ (row : CallForwardingRow). covers row hour && has_active_facility book row) book.forwardings) n
+    → Moved up (active_forwardings hour (record book { forwardings = rows })) (active_forwardings hour book) n
 unfolding active_forwardings
-active_moved-forwardings up start book rows n moved = moved
+active_moved-forwardings up hour book rows n moved = moved
 
 area-forwardings : (a : ℕ) (book : Book) (rows : List CallForwardingRow) → in_area a (record book { forwardings = rows }) ≡ in_area a book
 unfolding in_area
@@ -150,17 +150,17 @@ zone_moved-forwardings false width z book rows n moved = omega arith
 pub change_of_access : (width : ℕ) (book : Book) (row : AccessInfoRow) → IsChange width book (more_access book row) (row_moved true (zone_of width row.s_id))
 change_of_access width book row =
     change_by_kinds width book (more_access book row) (row_moved true (zone_of width row.s_id))
-    (λ c low. rw (active-access (8 * c) book (with_row access_key row book.access), row_moved-low true (zone_of width row.s_id) c (omega arith)) (not_moved _ _ refl))
+    (λ c low. rw (active-access c book (with_row access_key row book.access), row_moved-low true (zone_of width row.s_id) c (omega arith)) (not_moved _ _ refl))
     (λ a below. rw (area-access a book (with_row access_key row book.access), row_moved-low true (zone_of width row.s_id) (FIRST_AREA + a) (omega arith)) (not_moved _ _ refl))
     (λ z. rw (row_moved-zone true (zone_of width row.s_id) z) (moved_by_one true (zone_of width row.s_id == z) _ _
     (zone_moved-access true width z book (with_row access_key row book.access) _ (sum_by-with_row access_key (λ (x : AccessInfoRow). one (zone_of width x.s_id == z)) row book.access))))
 
 -- no forwarding has a facility that is new
-active-more_facilities : (start : ℕ) (book : Book) (row : SpecialFacilityRow) → IsBook book → facility_at book row.s_id row.sf_type ≡ None
-    → active_forwardings start (more_facilities book row) ≡ active_forwardings start book
+active-more_facilities : (hour : ℕ) (book : Book) (row : SpecialFacilityRow) → IsBook book → facility_at book row.s_id row.sf_type ≡ None
+    → active_forwardings hour (more_facilities book row) ≡ active_forwardings hour book
 unfolding active_forwardings
-active-more_facilities start book row rules absent =
-    sum_by-same (λ (r : CallForwardingRow). one (r.start_time == start && has_active_facility (more_facilities book row) r)) (λ (r : CallForwardingRow). one (r.start_time == start && has_active_facility book r)) book.forwardings
+active-more_facilities hour book row rules absent =
+    sum_by-same (λ (r : CallForwardingRow). one (covers r hour && has_active_facility (more_facilities book row) r)) (λ (r : CallForwardingRow). one (covers r hour && has_active_facility book r)) book.forwardings
     (each-weaker {P = λ (r : CallForwardingRow). IsSome (facility_at book r.s_id r.sf_type)}
     (λ r some. rw (row_at-with_row_other facility_key (key_of r.s_id r.sf_type 0) (facility_key row) row book.facilities refl (other (key_of r.s_id r.sf_type 0) some)) refl)
     book.forwardings rules.forwardings_have_facility)
@@ -175,35 +175,33 @@ pub change_of_facility : (width : ℕ) (book : Book) (row : SpecialFacilityRow) 
     → IsChange width book (more_facilities book row) (row_moved true (zone_of width row.s_id))
 change_of_facility width book row rules absent =
     change_by_kinds width book (more_facilities book row) (row_moved true (zone_of width row.s_id))
-    (λ c low. rw (active-more_facilities (8 * c) book row rules absent, row_moved-low true (zone_of width row.s_id) c (omega arith)) (not_moved _ _ refl))
+    (λ c low. rw (active-more_facilities c book row rules absent, row_moved-low true (zone_of width row.s_id) c (omega arith)) (not_moved _ _ refl))
     (λ a below. rw (area-facilities a book (with_row facility_key row book.facilities), row_moved-low true (zone_of width row.s_id) (FIRST_AREA + a) (omega arith)) (not_moved _ _ refl))
     (λ z. rw (row_moved-zone true (zone_of width row.s_id) z) (moved_by_one true (zone_of width row.s_id == z) _ _
     (zone_moved-facilities true width z book (with_row facility_key row book.facilities) _ (sum_by-with_row facility_key (λ (x : SpecialFacilityRow). one (zone_of width x.s_id == z)) row book.facilities))))
 
 -- a forwarding comes or goes: the exact change
-change_of_forwardings : (up : Bool) (width : ℕ) (book : Book) (rows : List CallForwardingRow) (row : CallForwardingRow) (active : Bool)
+change_of_forwardings : (up : Bool) (width : ℕ) (book : Book) (rows : List CallForwardingRow) (row : CallForwardingRow) (active : Bool) (notes : List (ℕ × ℤ))
     → ((f : CallForwardingRow → ℕ) → Moved up (sum_by f rows) (sum_by f book.forwardings) (f row))
-    → active ≡ has_active_facility book row → forwarding_in_range row ≡ true
-    → IsChange width book (record book { forwardings = rows }) (forwarding_moved up active row.start_time (zone_of width row.s_id))
-change_of_forwardings up width book rows row active moved is in_range =
-    let ranges = forwarding_ranges row in_range in
-    let small : row.start_time < 24 = let below = ranges.start_time_below in omega arith in
-    change_by_kinds width book (record book { forwardings = rows }) (forwarding_moved up active row.start_time (zone_of width row.s_id))
-    (λ c low. rw (forwarding_moved-low up active row.start_time (zone_of width row.s_id) c ranges.start_time_is low, is)
-    (moved_by_one up (row.start_time == 8 * c && has_active_facility book row) _ _ (active_moved-forwardings up (8 * c) book rows _ (moved (λ (x : CallForwardingRow). one (x.start_time == 8 * c && has_active_facility book x))))))
-    (λ a below. rw (area-forwardings a book rows, forwarding_moved-area up active row.start_time (zone_of width row.s_id) a small below) (not_moved _ _ refl))
-    (λ z. rw (forwarding_moved-zone up active row.start_time (zone_of width row.s_id) z small)
+    → active ≡ has_active_facility book row → AreForwardingNotes up active row (zone_of width row.s_id) notes
+    → IsChange width book (record book { forwardings = rows }) notes
+change_of_forwardings up width book rows row active notes moved is are =
+    change_by_kinds width book (record book { forwardings = rows }) notes
+    (λ c low. rw (forwarding_notes-hour up active row (zone_of width row.s_id) c notes are low, is)
+    (moved_by_one up (covers row c && has_active_facility book row) _ _ (active_moved-forwardings up c book rows _ (moved (λ (x : CallForwardingRow). one (covers x c && has_active_facility book x))))))
+    (λ a below. rw (area-forwardings a book rows, forwarding_notes-area up active row (zone_of width row.s_id) a notes are below) (not_moved _ _ refl))
+    (λ z. rw (forwarding_notes-zone up active row (zone_of width row.s_id) z notes are)
     (moved_by_one up (zone_of width row.s_id == z) _ _ (zone_moved-forwardings up width z book rows _ (moved (λ (x : CallForwardingRow). one (zone_of width x.s_id == z))))))
 
-pub change_of_insertion : (width : ℕ) (book : Book) (row : CallForwardingRow) (active : Bool) → active ≡ has_active_facility book row → forwarding_in_range row ≡ true
-    → IsChange width book (more_forwardings book row) (forwarding_moved true active row.start_time (zone_of width row.s_id))
-change_of_insertion width book row active is in_range =
-    change_of_forwardings true width book (with_row forwarding_key row book.forwardings) row active (λ f. sum_by-with_row forwarding_key f row book.forwardings) is in_range
+pub change_of_insertion : (width : ℕ) (book : Book) (row : CallForwardingRow) (active : Bool) (notes : List (ℕ × ℤ)) → active ≡ has_active_facility book row
+    → AreForwardingNotes true active row (zone_of width row.s_id) notes → IsChange width book (more_forwardings book row) notes
+change_of_insertion width book row active notes is are =
+    change_of_forwardings true width book (with_row forwarding_key row book.forwardings) row active notes (λ f. sum_by-with_row forwarding_key f row book.forwardings) is are
 
-pub change_of_deletion : (width : ℕ) (book : Book) (s t u : ℕ) (row : CallForwardingRow) (active : Bool) → forwarding_at book s t u ≡ Some row → active ≡ has_active_facility book row → forwarding_in_range row ≡ true
-    → IsChange width book (without_forwarding book s t u) (forwarding_moved false active row.start_time (zone_of width row.s_id))
-change_of_deletion width book s t u row active found is in_range =
-    change_of_forwardings false width book (without_row forwarding_key (key_of s t u) book.forwardings) row active (λ f. sum_by-without_row forwarding_key f (key_of s t u) row book.forwardings found) is in_range
+pub change_of_deletion : (width : ℕ) (book : Book) (s t u : ℕ) (row : CallForwardingRow) (active : Bool) (notes : List (ℕ × ℤ)) → forwarding_at book s t u ≡ Some row → active ≡ has_active_facility book row
+    → AreForwardingNotes false active row (zone_of width row.s_id) notes → IsChange width book (without_forwarding book s t u) notes
+change_of_deletion width book s t u row active notes found is are =
+    change_of_forwardings false width book (without_row forwarding_key (key_of s t u) book.forwardings) row active notes (λ f. sum_by-without_row forwarding_key f (key_of s t u) row book.forwardings found) is are
 
 -- a subscriber that stays in its area: nothing moves
 pub change_of_put_subscriber : (width : ℕ) (book : Book) (s_id : ℕ) (row new : SubscriberRow) → subscriber_at book s_id ≡ Some row → new.s_id ≡ row.s_id → new.vlr_location ≡ row.vlr_location

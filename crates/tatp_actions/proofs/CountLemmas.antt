@@ -10,7 +10,7 @@ use Rattle.tatp_rows.specs.Ordered.{IsOrderedBy}
 use Rattle.tatp_rows.specs.Rows.{SubscriberRow, AccessInfoRow, SpecialFacilityRow, CallForwardingRow, subscriber_in_range, access_in_range, facility_in_range, forwarding_in_range}
 use Rattle.tatp_rows.specs.Zones.{zone_of, area_of}
 use Rattle.tatp_actions.specs.Book.{Book, IsBook, IsRowsOf}
-use Rattle.tatp_actions.specs.Cell.{cell, active_forwardings, in_area, in_zone, has_active_facility}
+use Rattle.tatp_actions.specs.Cell.{cell, covers, active_forwardings, in_area, in_zone, has_active_facility}
 use Rattle.tatp_actions.specs.declared.cells.TheConstants.{FIRST_AREA, FIRST_ZONE}
 use Rattle.tatp_rows.specs.declared.ranges.TheConstants.{LAST_SUBSCRIBER}
 use Rattle.part_table.specs.declared.bounds.TheConstants.{GREATEST_WEIGHT}
@@ -77,10 +77,10 @@ few_forwardings book rules =
     book.forwardings rules.forwardings_in_range rules.forwardings_ordered
 
 -- the counts of each kind
-few_active : (start : ℕ) (book : Book) → IsBook book → active_forwardings start book ≤ GREATEST_WEIGHT
+few_active : (hour : ℕ) (book : Book) → IsBook book → active_forwardings hour book ≤ GREATEST_WEIGHT
 unfolding active_forwardings
-few_active start book rules =
-    omega (arith, few_forwardings book rules, count_by-le-length (λ (row : CallForwardingRow). row.start_time == start && has_active_facility book row) book.forwardings)
+few_active hour book rules =
+    omega (arith, few_forwardings book rules, count_by-le-length (λ (row : CallForwardingRow). covers row hour && has_active_facility book row) book.forwardings)
 
 few_in_area : (area : ℕ) (book : Book) → IsBook book → in_area area book ≤ GREATEST_WEIGHT
 unfolding in_area
@@ -99,7 +99,7 @@ few_in_zone width zone book rules =
 -- no count of a cell passes the greatest weight
 pub few_in_weight : (width c : ℕ) (book : Book) → IsBook book → cell width c book ≤ GREATEST_WEIGHT
 few_in_weight width c book rules = by_test (nat_lt c FIRST_AREA)
-    (λ e. rw e (few_active (8 * c) book rules))
+    (λ e. rw e (few_active c book rules))
     (λ e. by_test (nat_lt c FIRST_ZONE)
     (λ f. rw (e, f) (few_in_area (c - FIRST_AREA) book rules))
     (λ f. rw (e, f) (few_in_zone width (c - FIRST_ZONE) book rules)))

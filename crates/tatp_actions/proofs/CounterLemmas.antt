@@ -1,6 +1,6 @@
 -- How a walk over rows counts them in a cell.
-use Rattle.std.proofs.Common.{◌≡◌, ◌≢◌, refl, sym, ◌∙◌, ap, subst, ℕ, ◌+◌, ◌-◌, ◌*◌, ◌/◌, ◌<◌, ◌≤◌, ◌==◌, ◌&&◌, arith, true, false, Bool, List, [], ◌∷◌, length, get_or, nat_lt, Bor, MutBor, if◌then◌else◌}
-use Rattle.std.specs.Prelude.{◌⊎◌, ⊤}
+use Rattle.std.proofs.Common.{◌≡◌, ◌≢◌, refl, sym, ◌∙◌, ap, subst, ℕ, zero, suc, ◌+◌, ◌-◌, ◌<◌, ◌≤◌, ◌==◌, ◌&&◌, arith, true, false, Bool, List, [], ◌∷◌, length, get_or, nat_le, nat_lt, Bor, MutBor, if◌then◌else◌}
+use Rattle.std.specs.Prelude.{⊤}
 use Rattle.std.specs.List.{sum_by}
 use Rattle.std.proofs.lemmas.List.{get_or-set_same, get_or-set_other, length-set}
 use Rattle.std.proofs.lemmas.List.Sums.{sum_by-cons}
@@ -10,7 +10,8 @@ use Rattle.tatp_rows.specs.Rows.{SubscriberRow, SpecialFacilityRow, CallForwardi
 use Rattle.tatp_rows.specs.Zones.{zone_of, area_of}
 use Rattle.tatp_rows.proofs.OrderedLemmas.{by_test}
 use Rattle.tatp_rows.proofs.RowLemmas.{forwarding_ranges}
-use Rattle.tatp_actions.specs.Recount.{Tallied, one_more_in, with_row_of, with_subscriber, with_forwarding}
+use Rattle.tatp_actions.specs.Cell.{covers}
+use Rattle.tatp_actions.specs.Recount.{Tallied, one_more_in, one_more_from, with_row_of, with_subscriber, with_forwarding}
 use Rattle.tatp_actions.specs.declared.cells.TheConstants.{FIRST_AREA, FIRST_ZONE}
 
 -- what a row of a subscriber counts in a cell by its zone
@@ -25,7 +26,7 @@ subscriber_in width c row =
 
 -- what a Call_Forwarding row counts in a cell
 abbrev pub forwarding_in : ℕ → ℕ → Bool → CallForwardingRow → ℕ
-forwarding_in width c active row = if nat_lt c FIRST_AREA then (if row.start_time == 8 * c && active then 1 else 0) else zone_in width c row.s_id
+forwarding_in width c active row = if nat_lt c FIRST_AREA then (if covers row c && active then 1 else 0) else zone_in width c row.s_id
 
 -- one more in a cell keeps how many cells there are, and counts in that cell alone
 pub one_more-length : (i : ℕ) (counts : List ℕ) → length (one_more_in i counts) ≡ length counts
@@ -162,44 +163,83 @@ subscriber_counter width c = record {
   little = λ row. subscriber_in-le width c row;
 }
 
--- a Call_Forwarding row
-start_slot : (n : ℕ) → (n ≡ 0) ⊎ ((n ≡ 8) ⊎ (n ≡ 16)) → (n ≡ 8 * (n / 8)) × (n / 8 < FIRST_AREA)
-start_slot n is = (omega arith, omega arith)
+-- one more in each of some hours: in those alone, and one each
+one_more-other : (i c : ℕ) (counts : List ℕ) → c ≢ i → get_or (one_more_in i counts) c 0 ≡ get_or counts c 0
+one_more-other i c counts other = by_test (nat_lt (get_or counts i 0) 18446744073709551615)
+    (λ e. rw e (get_or-set_other counts i c (get_or counts i 0 + 1) 0 other))
+    (λ e. rw e refl)
 
-in_start_cell : (start q c n : ℕ) → start ≡ 8 * q → q < FIRST_AREA → (if c == q then 1 else 0) + (if nat_lt c FIRST_ZONE then 0 else n) ≡ (if nat_lt c FIRST_AREA then (if start == 8 * c then 1 else 0) else (if nat_lt c FIRST_ZONE then 0 else n))
-in_start_cell start q c n is small = grind (arith, nat_tests)
+one_more_from-length : (hour n : ℕ) (counts : List ℕ) → length (one_more_from hour n counts) ≡ length counts
+one_more_from-length hour zero counts = refl
+one_more_from-length hour (suc n) counts = one_more_from-length (hour + 1) n (one_more_in hour counts) ∙ one_more-length hour counts
+
+one_more_from-before : (hour n c : ℕ) (counts : List ℕ) → c < hour → get_or (one_more_from hour n counts) c 0 ≡ get_or counts c 0
+one_more_from-before hour zero c counts before = refl
+one_more_from-before hour (suc n) c counts before =
+    one_more_from-before (hour + 1) n c (one_more_in hour counts) (omega arith) ∙ one_more-other hour c counts (λ h. omega arith)
+
+one_more_from-at : (hour n c : ℕ) (counts : List ℕ) → c < length counts → get_or counts c 0 < 18446744073709551615
+    → get_or (one_more_from hour n counts) c 0 ≡ get_or counts c 0 + (if nat_le hour c && nat_lt c (hour + n) then 1 else 0)
+one_more_from-at hour zero c counts within room =
+    let e : (nat_le hour c && nat_lt c (hour + 0)) ≡ false = grind (arith, nat_tests) in rw e (plus_zero (get_or counts c 0))
+one_more_from-at hour (suc n) c counts within room = by_test (c == hour)
+    (λ e. let here : c ≡ hour = grind (arith, nat_tests) in
+    let f : (nat_le hour c && nat_lt c (hour + suc n)) ≡ true = grind (arith, nat_tests) in
+    let rest = one_more_from-before (hour + 1) n c (one_more_in hour counts) (omega arith) in
+    let first = one_more-at hour c counts within room in
+    rw f (rest ∙ (rw e at first)))
+    (λ e. let other : c ≢ hour = grind (arith, nat_tests) in
+    let first = one_more-other hour c counts other in
+    let rest = one_more_from-at (hour + 1) n c (one_more_in hour counts) (rw one_more-length within) (rw first room) in
+    let f : (nat_le (hour + 1) c && nat_lt c (hour + 1 + n)) ≡ (nat_le hour c && nat_lt c (hour + suc n)) = grind (arith, nat_tests) in
+    rest ∙ rw (first, f) refl)
+
+-- where a walk over hours stands: it goes on, and it ends
+pub hours_go_on : (hour to : ℕ) (counts : List ℕ) → hour < to → one_more_from hour (to - hour) counts ≡ one_more_from (hour + 1) (to - (hour + 1)) (one_more_in hour counts)
+hours_go_on hour to counts before = let e : to - hour ≡ suc (to - (hour + 1)) = omega arith in rw e refl
+
+pub hours_end : (hour to : ℕ) (counts : List ℕ) → to ≤ hour → one_more_from hour (to - hour) counts ≡ counts
+hours_end hour to counts behind = let e : to - hour ≡ 0 = omega arith in rw e refl
+
+-- a Call_Forwarding row
+in_hours : (from to c : ℕ) → ◌≡◌ {A = ℕ} (if nat_le from c && nat_lt c (from + (to - from)) then 1 else 0) (if nat_le from c && nat_lt c to then 1 else 0)
+in_hours from to c = grind (arith, nat_tests)
+
+in_hour_cell : (from to c n : ℕ) → to ≤ FIRST_AREA → (if nat_le from c && nat_lt c to then 1 else 0) + (if nat_lt c FIRST_ZONE then 0 else n) ≡ (if nat_lt c FIRST_AREA then (if nat_le from c && nat_lt c to then 1 else 0) else (if nat_lt c FIRST_ZONE then 0 else n))
+in_hour_cell from to c n small = grind (arith, nat_tests)
 
 and-true : (b : Bool) → (b && true) ≡ b
 and-true true = refl
 and-true false = refl
 
-no_start_cell : (t : Bool) (c n : ℕ) → (if nat_lt c FIRST_ZONE then 0 else n) ≡ (if nat_lt c FIRST_AREA then (if t && false then 1 else 0) else (if nat_lt c FIRST_ZONE then 0 else n))
-no_start_cell true c n = grind (arith, nat_tests)
-no_start_cell false c n = grind (arith, nat_tests)
+no_hour_cell : (t : Bool) (c n : ℕ) → (if nat_lt c FIRST_ZONE then 0 else n) ≡ (if nat_lt c FIRST_AREA then (if t && false then 1 else 0) else (if nat_lt c FIRST_ZONE then 0 else n))
+no_hour_cell true c n = grind (arith, nat_tests)
+no_hour_cell false c n = grind (arith, nat_tests)
 
 forwarding-at : (width c : ℕ) (active : Bool) (row : CallForwardingRow) (counts : List ℕ) → forwarding_in_range row ≡ true → c < length counts → get_or counts c 0 + 2 < 18446744073709551616
     → get_or (with_forwarding width active row counts) c 0 ≡ get_or counts c 0 + forwarding_in width c active row
 forwarding-at width c true row counts holds within room =
-    let q = row.start_time / 8 in
+    let span = row.end_time - row.start_time in
     let n : ℕ = if zone_of width row.s_id == c - FIRST_ZONE then 1 else 0 in
-    let slot = start_slot row.start_time (forwarding_ranges row holds).start_time_is in
-    let first = one_more-at q c counts within (omega arith) in
-    let len = one_more-length q counts in
-    let tick = tick-le (c == q) in
-    let second = row_of-at width row.s_id c (one_more_in q counts) (omega arith) (omega arith) in
-    let both = in_start_cell row.start_time q c n slot.0 slot.1 in
-    rw (and-true (row.start_time == 8 * c)) (omega arith)
+    let end : row.end_time ≤ FIRST_AREA = let below = (forwarding_ranges row holds).end_time_below in omega arith in
+    let first = one_more_from-at row.start_time span c counts within (omega arith) in
+    let hours = in_hours row.start_time row.end_time c in
+    let len = one_more_from-length row.start_time span counts in
+    let tick = tick-le (nat_le row.start_time c && nat_lt c (row.start_time + span)) in
+    let second = row_of-at width row.s_id c (one_more_from row.start_time span counts) (omega arith) (omega arith) in
+    let both = in_hour_cell row.start_time row.end_time c n end in
+    rw (and-true (covers row c)) (omega arith)
 forwarding-at width c false row counts holds within room =
     row_of-at width row.s_id c counts within (omega arith)
-    ∙ ap (λ n. get_or counts c 0 + n) (no_start_cell (row.start_time == 8 * c) c (if zone_of width row.s_id == c - FIRST_ZONE then 1 else 0))
+    ∙ ap (λ n. get_or counts c 0 + n) (no_hour_cell (covers row c) c (if zone_of width row.s_id == c - FIRST_ZONE then 1 else 0))
 
 forwarding_in-le : (width c : ℕ) (active : Bool) (row : CallForwardingRow) → forwarding_in width c active row ≤ 1
 forwarding_in-le width c active row = by_test (nat_lt c FIRST_AREA)
-    (λ e. rw e (tick-le (row.start_time == 8 * c && active)))
+    (λ e. rw e (tick-le (covers row c && active)))
     (λ e. rw e (zone_in-le width c row.s_id))
 
 forwarding-length : (width : ℕ) (active : Bool) (row : CallForwardingRow) (counts : List ℕ) → length (with_forwarding width active row counts) ≡ length counts
-forwarding-length width true row counts = row_of-length width row.s_id (one_more_in (row.start_time / 8) counts) ∙ one_more-length (row.start_time / 8) counts
+forwarding-length width true row counts = row_of-length width row.s_id (one_more_from row.start_time (row.end_time - row.start_time) counts) ∙ one_more_from-length row.start_time (row.end_time - row.start_time) counts
 forwarding-length width false row counts = row_of-length width row.s_id counts
 
 pub forwarding_counter : (width c : ℕ) (active : CallForwardingRow → Bool) → IsCounter c (λ (row : CallForwardingRow). forwarding_in_range row ≡ true) (λ row. forwarding_in width c (active row) row) (λ row. with_forwarding width (active row) row)

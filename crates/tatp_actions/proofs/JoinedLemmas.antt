@@ -9,7 +9,7 @@ use Rattle.tatp_rows.specs.Keys.{subscriber_key, access_key, facility_key, forwa
 use Rattle.tatp_rows.specs.Rows.{SubscriberRow, AccessInfoRow, SpecialFacilityRow, CallForwardingRow, subscriber_in_range, access_in_range, facility_in_range, forwarding_in_range}
 use Rattle.tatp_rows.specs.Zones.{zone_of, area_of}
 use Rattle.tatp_actions.specs.Book.{Book, IsBook, IsRowsOf, IsWithin, subscriber_at, facility_at}
-use Rattle.tatp_actions.specs.Cell.{cell, active_forwardings, in_area, in_zone, has_active_facility}
+use Rattle.tatp_actions.specs.Cell.{cell, covers, active_forwardings, in_area, in_zone, has_active_facility}
 use Rattle.tatp_actions.specs.Joined.{join_books}
 use Rattle.tatp_actions.proofs.LocalLemmas.{Apart, apart, subscriber-low, subscriber-high, facility-low, facility-high}
 use Rattle.tatp_actions.specs.declared.cells.TheConstants.{FIRST_AREA, FIRST_ZONE}
@@ -18,9 +18,9 @@ use Rattle.tatp_actions.specs.declared.cells.TheConstants.{FIRST_AREA, FIRST_ZON
 wider : (lo hi lo' hi' s : ℕ) → lo' ≤ lo → hi ≤ hi' → IsWithin lo hi s → IsWithin lo' hi' s
 wider lo hi lo' hi' s down up within = let from = within.0 in let below = within.1 in (omega arith, omega arith)
 
--- whether a forwarding counts as active from a start time, 1 or 0
+-- whether a forwarding counts as active in an hour, 1 or 0
 abbrev counts : Book → ℕ → CallForwardingRow → ℕ
-counts book start row = if row.start_time == start && has_active_facility book row then 1 else 0
+counts book hour row = if covers row hour && has_active_facility book row then 1 else 0
 
 -- the rows of two ranges that meet keep the rules of a book together
 module _ (lo n hi : ℕ) (low high : Book) (of_low : IsRowsOf lo n low) (of_high : IsRowsOf n hi high) where
@@ -70,17 +70,17 @@ module _ (lo n hi : ℕ) (low high : Book) (of_low : IsRowsOf lo n low) (of_high
   }
 
   -- and the counts add up
-  active_joined : (start : ℕ) → active_forwardings start (join_books low high) ≡ active_forwardings start low + active_forwardings start high
+  active_joined : (hour : ℕ) → active_forwardings hour (join_books low high) ≡ active_forwardings hour low + active_forwardings hour high
   unfolding active_forwardings
-  active_joined start =
-      let both = sum_by-append (counts (join_books low high) start) low.forwardings high.forwardings in
-      let of_lows = sum_by-same (counts (join_books low high) start) (counts low start) low.forwardings
+  active_joined hour =
+      let both = sum_by-append (counts (join_books low high) hour) low.forwardings high.forwardings in
+      let of_lows = sum_by-same (counts (join_books low high) hour) (counts low hour) low.forwardings
       (each_from_two {P = λ (row : CallForwardingRow). IsWithin lo n row.s_id} {Q = λ (row : CallForwardingRow). forwarding_in_range row ≡ true}
       (λ row within holds. let kind = (forwarding_type row holds).below in rw (facility-low n low high row.s_id row.sf_type parts within.1 (omega arith)) refl) low.forwardings of_low.forwardings of_low.rules.forwardings_in_range) in
-      let of_highs = sum_by-same (counts (join_books low high) start) (counts high start) high.forwardings
+      let of_highs = sum_by-same (counts (join_books low high) hour) (counts high hour) high.forwardings
       (each-weaker {P = λ (row : CallForwardingRow). IsWithin n hi row.s_id}
       (λ row within. rw (facility-high n low high row.s_id row.sf_type parts within.0) refl) high.forwardings of_high.forwardings) in
-      both ∙ ap (λ (c : ℕ). c + sum_by (counts (join_books low high) start) high.forwardings) of_lows ∙ ap (λ (c : ℕ). sum_by (counts low start) low.forwardings + c) of_highs
+      both ∙ ap (λ (c : ℕ). c + sum_by (counts (join_books low high) hour) high.forwardings) of_lows ∙ ap (λ (c : ℕ). sum_by (counts low hour) low.forwardings + c) of_highs
 
   area_joined : (area : ℕ) → in_area area (join_books low high) ≡ in_area area low + in_area area high
   unfolding in_area
@@ -97,7 +97,7 @@ module _ (lo n hi : ℕ) (low high : Book) (of_low : IsRowsOf lo n low) (of_high
 
   pub cell_joined : (width c : ℕ) → cell width c (join_books low high) ≡ cell width c low + cell width c high
   cell_joined width c = by_test (nat_lt c FIRST_AREA)
-      (λ e. rw e (active_joined (8 * c)))
+      (λ e. rw e (active_joined c))
       (λ e. by_test (nat_lt c FIRST_ZONE)
       (λ f. rw (e, f) (area_joined (c - FIRST_AREA)))
       (λ f. rw (e, f) (zone_joined width (c - FIRST_ZONE))))

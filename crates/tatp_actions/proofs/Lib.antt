@@ -2,6 +2,7 @@ pub mod StoredLemmas
 pub mod KeyedLemmas
 pub mod RevisedLemmas
 pub mod ActsLemmas
+pub mod CoverLemmas
 pub mod ActiveLemmas
 pub mod AdministrationLemmas
 pub mod TransactionLemmas
@@ -9,6 +10,7 @@ pub mod DestinationLemmas
 pub mod BookLemmas
 pub mod CellLemmas
 pub mod ChangeLemmas
+pub mod HourLemmas
 pub mod TableLemmas
 pub mod CounterLemmas
 pub mod RecountLemmas

@@ -1,5 +1,5 @@
 -- What a walk over all rows of a part counts.
-use Rattle.std.proofs.Common.{◌≡◌, refl, sym, ◌∙◌, ap, ℕ, ◌+◌, ◌-◌, ◌*◌, ◌<◌, ◌==◌, ◌&&◌, arith, true, false, Bool, List, [], ◌∷◌, length, get_or, replicate, nat_lt, Bor, MutBor, if◌then◌else◌}
+use Rattle.std.proofs.Common.{◌≡◌, refl, sym, ◌∙◌, ap, ℕ, ◌+◌, ◌-◌, ◌<◌, ◌==◌, ◌&&◌, arith, true, false, Bool, List, [], ◌∷◌, length, get_or, replicate, nat_lt, Bor, MutBor, if◌then◌else◌}
 use Rattle.std.specs.Prelude.{count_by}
 use Rattle.std.specs.List.{sum_by}
 use Rattle.std.specs.Option.{option_map_or}
@@ -13,7 +13,7 @@ use Rattle.tatp_rows.specs.Zones.{zone_of, area_of}
 use Rattle.tatp_rows.proofs.MapLemmas.{row_at-pairs}
 use Rattle.tatp_rows.proofs.OrderedLemmas.{by_test}
 use Rattle.tatp_actions.specs.Book.{IsRowsOf}
-use Rattle.tatp_actions.specs.Cell.{cell, active_forwardings, in_area, in_zone, has_active_facility}
+use Rattle.tatp_actions.specs.Cell.{cell, covers, active_forwardings, in_area, in_zone, has_active_facility}
 use Rattle.tatp_actions.specs.Recount.{Tallied, with_row_of, with_subscriber, is_active_in, with_forwarding}
 use Rattle.tatp_actions.specs.Tables.{Tables, AreKeyed, stored_book, values_of}
 use Rattle.tatp_actions.proofs.CountLemmas.{few_subscribers, few_access, few_facilities, few_forwardings}
@@ -36,27 +36,27 @@ count_of_values {Y} p (pair ∷ pairs) =
 active_stored : (tables : Tables) → AreKeyed tables → (row : CallForwardingRow) → is_active_in tables.facilities row ≡ has_active_facility (stored_book tables) row
 active_stored tables keyed row = ap (λ facility. option_map_or (λ f. f.is_active == 1) facility false) (sym (row_at-pairs facility_key (key_of row.s_id row.sf_type 0) tables.facilities keyed.facilities))
 
-active_sum : (tables : Tables) → AreKeyed tables → (start : ℕ) (pairs : List (ℕ × CallForwardingRow))
-    → sum_by (λ (pair : ℕ × CallForwardingRow). if pair.1.start_time == start && is_active_in tables.facilities pair.1 then 1 else 0) pairs
-    ≡ count_by (λ (row : CallForwardingRow). row.start_time == start && has_active_facility (stored_book tables) row) (values_of pairs)
-active_sum tables keyed start [] = refl
-active_sum tables keyed start (pair ∷ pairs) =
-    sum_by-cons (λ (p : ℕ × CallForwardingRow). if p.1.start_time == start && is_active_in tables.facilities p.1 then 1 else 0) pair pairs
-    ∙ ap (λ active. (if pair.1.start_time == start && active then 1 else 0) + sum_by (λ (p : ℕ × CallForwardingRow). if p.1.start_time == start && is_active_in tables.facilities p.1 then 1 else 0) pairs) (active_stored tables keyed pair.1)
-    ∙ ap (λ n. (if pair.1.start_time == start && has_active_facility (stored_book tables) pair.1 then 1 else 0) + n) (active_sum tables keyed start pairs)
-    ∙ sym (sum_by-cons (λ (row : CallForwardingRow). if row.start_time == start && has_active_facility (stored_book tables) row then 1 else 0) pair.1 (values_of pairs))
+active_sum : (tables : Tables) → AreKeyed tables → (hour : ℕ) (pairs : List (ℕ × CallForwardingRow))
+    → sum_by (λ (pair : ℕ × CallForwardingRow). if covers pair.1 hour && is_active_in tables.facilities pair.1 then 1 else 0) pairs
+    ≡ count_by (λ (row : CallForwardingRow). covers row hour && has_active_facility (stored_book tables) row) (values_of pairs)
+active_sum tables keyed hour [] = refl
+active_sum tables keyed hour (pair ∷ pairs) =
+    sum_by-cons (λ (p : ℕ × CallForwardingRow). if covers p.1 hour && is_active_in tables.facilities p.1 then 1 else 0) pair pairs
+    ∙ ap (λ active. (if covers pair.1 hour && active then 1 else 0) + sum_by (λ (p : ℕ × CallForwardingRow). if covers p.1 hour && is_active_in tables.facilities p.1 then 1 else 0) pairs) (active_stored tables keyed pair.1)
+    ∙ ap (λ n. (if covers pair.1 hour && has_active_facility (stored_book tables) pair.1 then 1 else 0) + n) (active_sum tables keyed hour pairs)
+    ∙ sym (sum_by-cons (λ (row : CallForwardingRow). if covers row hour && has_active_facility (stored_book tables) row then 1 else 0) pair.1 (values_of pairs))
 
 -- what the sums over the four tables are, for each kind of cell
-started : (tables : Tables) → AreKeyed tables → (start : ℕ)
+hourly : (tables : Tables) → AreKeyed tables → (hour : ℕ)
     → sum_by (λ (pair : ℕ × SubscriberRow). 0) tables.subscribers + sum_by (λ (pair : ℕ × AccessInfoRow). 0) tables.access + sum_by (λ (pair : ℕ × SpecialFacilityRow). 0) tables.facilities
-    + sum_by (λ (pair : ℕ × CallForwardingRow). if pair.1.start_time == start && is_active_in tables.facilities pair.1 then 1 else 0) tables.forwardings
-    ≡ active_forwardings start (stored_book tables)
+    + sum_by (λ (pair : ℕ × CallForwardingRow). if covers pair.1 hour && is_active_in tables.facilities pair.1 then 1 else 0) tables.forwardings
+    ≡ active_forwardings hour (stored_book tables)
 unfolding active_forwardings
-started tables keyed start =
+hourly tables keyed hour =
     let s = sum-zero tables.subscribers in
     let a = sum-zero tables.access in
     let f = sum-zero tables.facilities in
-    let c = active_sum tables keyed start tables.forwardings in
+    let c = active_sum tables keyed hour tables.forwardings in
     omega arith
 
 placed : (tables : Tables) (area : ℕ)
@@ -89,7 +89,7 @@ cell_of_sums : (width c : ℕ) (tables : Tables) → AreKeyed tables
     + sum_by (λ (pair : ℕ × SpecialFacilityRow). zone_in width c pair.1.s_id) tables.facilities + sum_by (λ (pair : ℕ × CallForwardingRow). forwarding_in width c (is_active_in tables.facilities pair.1) pair.1) tables.forwardings
     ≡ cell width c (stored_book tables)
 cell_of_sums width c tables keyed = by_test (nat_lt c FIRST_AREA)
-    (λ e. let f : nat_lt c FIRST_ZONE ≡ true = grind (arith, nat_tests) in simp (e, f) (started tables keyed (8 * c)))
+    (λ e. let f : nat_lt c FIRST_ZONE ≡ true = grind (arith, nat_tests) in simp (e, f) (hourly tables keyed c))
     (λ e. by_test (nat_lt c FIRST_ZONE)
     (λ f. simp (e, f) (placed tables (c - FIRST_AREA)))
     (λ f. simp (e, f) (zoned tables width (c - FIRST_ZONE))))

@@ -13,7 +13,7 @@ use Rattle.tatp_actions.specs.Action.{effect}
 use Rattle.tatp_actions.specs.Book.{Book, IsWithin, subscriber_at, facility_at, has_active, forwarding_at, put_subscriber, put_facility, more_forwardings, without_forwarding}
 use Rattle.tatp_actions.specs.Change.{IsChange}
 use Rattle.tatp_actions.specs.Part.{PartState, IsPart}
-use Rattle.tatp_actions.specs.Inside.{area_moved, forwarding_moved, Acts, asked_once, changed_once, changed_to, subscriber_revised, facility_revised}
+use Rattle.tatp_actions.specs.Inside.{area_moved, AreForwardingNotes, Acts, asked_once, changed_once, changed_to, subscriber_revised, facility_revised}
 use Rattle.tatp_actions.specs.Tables.{once_more}
 use Rattle.tatp_actions.specs.declared.action.Action.TheVariants.{UpdateSubscriber, UpdateLocation, InsertForwarding, DeleteForwarding}
 use Rattle.tatp_actions.specs.declared.action.RowReply.TheVariants as reply
@@ -85,23 +85,22 @@ subscriber_updated p0 p1 p2 s t b bit d (Some facility) rules within kind small 
         (both_from _ _ (is_typed_from p0 s t rules within kind) (both_from _ _ (between_from 0 1 b (omega arith) low) (between_from 0 255 d (omega arith) (omega arith))))
         (rw (who, is) refl)
         (change_twice p0.width p0.book (put_facility p0.book s t facility1) (put_subscriber (put_facility p0.book s t facility1) s row1)
-        (change_of_put_facility p0.book s t facility facility1 is key p0.width rules.rows.rules refl refl)
+        (change_of_put_facility p0.book s t facility facility1 is key p0.width refl refl)
         (change_of_put_subscriber p0.width (put_facility p0.book s t facility1) s row row1 who refl refl (area_found p0.book s row rules.rows.rules who)))
 
 -- InsertForwarding
-pub forwarding_inserted : (before found after : PartState) (s t u zone : ℕ) (active : Bool) (row : CallForwardingRow) (facility : SpecialFacilityRow) (notes : List (ℕ × ℤ))
-    → s ≡ row.s_id → t ≡ row.sf_type → u ≡ row.start_time → forwarding_in_range row ≡ true
+pub forwarding_inserted : (before found after : PartState) (s t zone : ℕ) (active : Bool) (row : CallForwardingRow) (facility : SpecialFacilityRow) (notes : List (ℕ × ℤ))
+    → s ≡ row.s_id → t ≡ row.sf_type → forwarding_in_range row ≡ true
     → found ≡ asked_once before → Some facility ≡ facility_at before.book s t
     → (is_some (forwarding_at found.book row.s_id row.sf_type row.start_time) ≡ false)
     × (after.book ≡ more_forwardings found.book row) → after ≡ changed_once found after.book after.heights
-    → active ≡ (facility.is_active == 1) → zone ≡ zone_of after.width s → notes ≡ forwarding_moved true active u zone
+    → active ≡ (facility.is_active == 1) → zone ≡ zone_of after.width s → AreForwardingNotes true active row zone notes
     → Acts (InsertForwarding row) before reply.Done notes after
-forwarding_inserted before found after s t u zone active row facility notes own own' own'' in_range kept is added changed switched zoned noted =
+forwarding_inserted before found after s t zone active row facility notes own own' in_range kept is added changed switched zoned noted =
     acts_done (InsertForwarding row) before after notes (more_forwardings before.book row) (once_more (once_more before.asked))
     settled (few_2 before.asked) in_range
     (rw (here, none_from (forwarding_at before.book row.s_id row.sf_type row.start_time) added'.0) refl)
-    (subst (λ (ns : List (ℕ × ℤ)). IsChange before.width before.book (more_forwardings before.book row) ns) (sym noted_so)
-    (change_of_insertion before.width before.book row active (switched ∙ ap has_active (sym here)) in_range))
+    (change_of_insertion before.width before.book row active notes (switched ∙ ap has_active (sym here)) (subst (λ (z : ℕ). AreForwardingNotes true active row z notes) zoned_so noted))
   where
     here : facility_at before.book row.s_id row.sf_type ≡ Some facility
     here = sym (is ∙ ap (λ (n : ℕ). facility_at before.book n t) own ∙ ap (λ (n : ℕ). facility_at before.book row.s_id n) own')
@@ -117,9 +116,8 @@ forwarding_inserted before found after s t u zone active row facility notes own 
     settled = changed ∙ ap (λ (p : PartState). changed_once p after.book after.heights) kept
         ∙ ap (λ (b : Book). changed_once (asked_once before) b after.heights) added'.1
 
-    noted_so : notes ≡ forwarding_moved true active row.start_time (zone_of before.width row.s_id)
-    noted_so = noted ∙ ap (λ (n : ℕ). forwarding_moved true active n zone) own''
-        ∙ ap (λ (z : ℕ). forwarding_moved true active row.start_time z) (zoned ∙ ap (λ (n : ℕ). zone_of after.width n) own ∙ ap (λ (p : PartState). zone_of p.width row.s_id) settled)
+    zoned_so : zone ≡ zone_of before.width row.s_id
+    zoned_so = zoned ∙ ap (λ (n : ℕ). zone_of after.width n) own ∙ ap (λ (p : PartState). zone_of p.width row.s_id) settled
 
 pub insertion_refused : (before found after : PartState) (s t : ℕ) (row : CallForwardingRow) (facility : SpecialFacilityRow) (why : Refusal)
     → s ≡ row.s_id → t ≡ row.sf_type → forwarding_in_range row ≡ true → found ≡ asked_once before → Some facility ≡ facility_at before.book s t
@@ -151,15 +149,14 @@ pub forwarding_deleted : (before removed after : PartState) (s t u zone : ℕ) (
     → Some row ≡ forwarding_at before.book s t u
     → removed ≡ changed_once before (without_forwarding before.book s t u) removed.heights
     → active ≡ has_active (facility_at removed.book s t) → after ≡ asked_once removed
-    → zone ≡ zone_of after.width s → notes ≡ forwarding_moved false active u zone
+    → zone ≡ zone_of after.width s → AreForwardingNotes false active row zone notes
     → Acts (DeleteForwarding s t u) before reply.Done notes after
 forwarding_deleted before removed after s t u zone active row notes rules within kind start small small' is kept switched asked zoned noted =
     acts_done (DeleteForwarding s t u) before after notes (without_forwarding before.book s t u) (once_more (once_more before.asked))
     settled (few_2 before.asked)
     (both_from _ _ (is_typed_from before s t rules within kind) start)
     (rw (← is) refl)
-    (subst (λ (ns : List (ℕ × ℤ)). IsChange before.width before.book (without_forwarding before.book s t u) ns) (sym noted_so)
-    (change_of_deletion before.width before.book s t u row active (sym is) active_so in_range))
+    (change_of_deletion before.width before.book s t u row active notes (sym is) active_so (subst (λ (z : ℕ). AreForwardingNotes false active row z notes) zoned_so noted))
   where
     settled : after ≡ record before {
       book = without_forwarding before.book s t u;
@@ -168,9 +165,6 @@ forwarding_deleted before removed after s t u zone active row notes rules within
     }
     settled = asked ∙ ap asked_once kept
 
-    in_range : forwarding_in_range row ≡ true
-    in_range = each_found forwarding_key (λ (r : CallForwardingRow). forwarding_in_range r ≡ true) (key_of s t u) before.book.forwardings row rules.rows.rules.forwardings_in_range (sym is)
-
     parts : (row.s_id ≡ s) × (row.sf_type ≡ t) × (row.start_time ≡ u)
     parts = forwarding_found before.book s t u row rules.rows.rules small small' (sym is)
 
@@ -178,9 +172,8 @@ forwarding_deleted before removed after s t u zone active row notes rules within
     active_so = switched ∙ ap (λ (p : PartState). has_active (facility_at p.book s t)) kept
         ∙ ap (λ (n : ℕ). has_active (facility_at before.book n t)) (sym parts.0) ∙ ap (λ (n : ℕ). has_active (facility_at before.book row.s_id n)) (sym parts.1)
 
-    noted_so : notes ≡ forwarding_moved false active row.start_time (zone_of before.width row.s_id)
-    noted_so = noted ∙ ap (λ (n : ℕ). forwarding_moved false active n zone) (sym parts.2)
-        ∙ ap (λ (z : ℕ). forwarding_moved false active row.start_time z) (zoned ∙ ap (λ (n : ℕ). zone_of after.width n) (sym parts.0) ∙ ap (λ (p : PartState). zone_of p.width row.s_id) settled)
+    zoned_so : zone ≡ zone_of before.width row.s_id
+    zoned_so = zoned ∙ ap (λ (n : ℕ). zone_of after.width n) (sym parts.0) ∙ ap (λ (p : PartState). zone_of p.width row.s_id) settled
 
 pub no_forwarding : (before removed : PartState) (s t u : ℕ) → IsPart before → IsWithin before.lo before.hi s → is_between 1 4 t ≡ true → is_start_time u ≡ true
     → None ≡ forwarding_at before.book s t u

@@ -1,12 +1,18 @@
 -- The change of an action: by how much each cell rises or falls.
-use Rattle.std.specs.Prelude.{◌≡◌, ℕ, ◌<◌, ◌==◌, List, [], ◌∷◌, ℤ, pos, negsuc, ◌+ℤ◌, ◌≤ℤ◌, if◌then◌else◌}
+use Rattle.std.specs.Prelude.{◌≡◌, ◌≢◌, ℕ, ◌<◌, ◌==◌, ⊤, List, [], ◌∷◌, ℤ, pos, negsuc, ◌+ℤ◌, ◌≤ℤ◌, if◌then◌else◌}
+use Rattle.std.specs.List.{AllByRecursion}
 use Rattle.tatp_actions.specs.Book.{Book}
 use Rattle.tatp_actions.specs.Cell.{cell}
 use Rattle.tatp_actions.specs.declared.cells.TheConstants.{CELLS}
 
--- a note names a cell, and its amount is at most 8 in size
+-- a note names a cell, and its amount is not 0 and at most 8 in size
 abbrev pub IsNote : ℕ × ℤ → Type 0
-IsNote note = (note.0 < CELLS) × (negsuc 7 ≤ℤ note.1) × (note.1 ≤ℤ pos 8)
+IsNote note = (note.0 < CELLS) × (negsuc 7 ≤ℤ note.1) × (note.1 ≤ℤ pos 8) × (note.1 ≢ pos 0)
+
+-- no cell is noted twice
+abbrev pub NoteEachOnce : List (ℕ × ℤ) → Type 0
+NoteEachOnce [] = ⊤
+NoteEachOnce (note ∷ notes) = AllByRecursion (λ other. other.0 ≢ note.0) notes × NoteEachOnce notes
 
 -- by how much the notes move a cell in all
 abbrev pub change_at : List (ℕ × ℤ) → ℕ → ℤ

@@ -1,12 +1,14 @@
 -- What calls inside the crate promise: no clause of a public call cites these.
-use Rattle.std.specs.Prelude.{◌≡◌, ℕ, ◌+◌, ◌/◌, ◌≤◌, ◌==◌, Bool, true, false, List, [], ◌∷◌, ◌++◌, Option, Some, None, option_map, ℤ, pos, negsuc, Result, Ok, Err, if◌then◌else◌}
-use Rattle.std.specs.Option.{unwrap_or}
+use Rattle.std.specs.Prelude.{◌≡◌, ℕ, ◌+◌, ◌<◌, ◌≤◌, ◌==◌, ◌&&◌, nat_le, nat_lt, Bool, true, false, List, [], ◌∷◌, length, Option, Some, None, option_map, ℤ, pos, negsuc, neg_ℤ, ◌+ℤ◌, Result, Ok, Err, if◌then◌else◌}
+use Rattle.std.specs.List.{AllByRecursion}
+use Rattle.std.specs.Option.{option_map_or, unwrap_or}
 use Rattle.tatp_rows.specs.Rows.{SubscriberRow, SpecialFacilityRow, CallForwardingRow, subscriber_in_range, facility_in_range}
 use Rattle.tatp_rows.specs.declared.refusal.Refusal.{Refusal}
 use Rattle.tatp_rows.specs.declared.refusal.Refusal.TheVariants as refusal
 use Rattle.tatp_actions.specs.Action.{IsOutcome, takes_call}
 use Rattle.tatp_actions.specs.Book.{Book, subscriber_at, facility_at, put_subscriber, put_facility}
-use Rattle.tatp_actions.specs.Change.{IsChange}
+use Rattle.tatp_actions.specs.Cell.{covers}
+use Rattle.tatp_actions.specs.Change.{change_at, IsChange}
 use Rattle.tatp_actions.specs.Heights.{Heights}
 use Rattle.tatp_actions.specs.Part.{PartState}
 use Rattle.tatp_actions.specs.Tables.{once_more}
@@ -14,6 +16,7 @@ use Rattle.tatp_actions.specs.declared.action.Action.{Action}
 use Rattle.tatp_actions.specs.declared.action.RowReply.{RowReply}
 use Rattle.tatp_actions.specs.declared.action.RowReply.TheVariants as reply
 use Rattle.tatp_actions.specs.declared.cells.TheConstants.{FIRST_AREA, FIRST_ZONE}
+use Rattle.tatp_actions.specs.declared.change.Spans.{Spans}
 
 -- the number of a forwarding that was found, where it takes the call
 abbrev pub destination : ℕ → ℕ → ℕ → ℕ → Option CallForwardingRow → Option ℕ
@@ -62,26 +65,48 @@ area_moved from to = if from == to then [] else (FIRST_AREA + from, negsuc 0) �
 abbrev pub subscriber_added : ℕ → ℕ → List (ℕ × ℤ)
 subscriber_added area zone = (FIRST_AREA + area, pos 1) ∷ (FIRST_ZONE + zone, pos 1) ∷ []
 
--- one up, or one down
-abbrev pub one_step : Bool → ℤ
-one_step up = if up then pos 1 else negsuc 0
-
--- a note where a test holds
-abbrev pub note_if : Bool → ℕ × ℤ → List (ℕ × ℤ)
-note_if test note = if test then note ∷ [] else []
+-- so many up, or down
+abbrev pub steps : Bool → ℕ → ℤ
+steps up n = if up then pos n else neg_ℤ (pos n)
 
 -- the notes of a row of another table that comes into its zone, or leaves it
 abbrev pub row_moved : Bool → ℕ → List (ℕ × ℤ)
-row_moved up zone = (FIRST_ZONE + zone, one_step up) ∷ []
+row_moved up zone = (FIRST_ZONE + zone, steps up 1) ∷ []
 
--- the notes of a forwarding that comes or goes: at its start time where its facility is active, and in its zone
-abbrev pub forwarding_moved : Bool → Bool → ℕ → ℕ → List (ℕ × ℤ)
-forwarding_moved up active start_time zone = note_if active (start_time / 8, one_step up) ++ row_moved up zone
+-- an hour lies in a span, its end left out, 1 or 0
+abbrev pub in_span : ℕ → ℕ → ℕ → ℕ
+in_span from to hour = if nat_le from hour && nat_lt hour to then 1 else 0
 
--- the notes of a facility that is switched on or off, by whether it has a forwarding from 0, from 8 and from 16
-abbrev pub switched : Bool → Bool → Bool → Bool → List (ℕ × ℤ)
-switched up at_0 at_8 at_16 =
-    (note_if at_0 (0, one_step up) ++ note_if at_8 (1, one_step up)) ++ note_if at_16 (2, one_step up)
+-- how many of a facility's forwardings from 0, from 8 and from 16 cover an hour, by until when they run
+abbrev pub covering : Spans → ℕ → ℕ
+covering spans hour = in_span 0 spans.from_0 hour + in_span 8 spans.from_8 hour + in_span 16 spans.from_16 hour
+
+-- they end by the last hour
+abbrev pub AreSpans : Spans → Type 0
+AreSpans spans = (spans.from_0 ≤ FIRST_AREA) × (spans.from_8 ≤ FIRST_AREA) × (spans.from_16 ≤ FIRST_AREA)
+
+-- until when a forwarding that was found runs: 0 where there is none
+abbrev pub until : Option CallForwardingRow → ℕ
+until found = option_map_or (λ row. row.end_time) found 0
+
+-- by how much an hour moves where a facility's forwardings come or go: by how many of them cover it
+abbrev pub span_steps : Bool → Spans → ℕ → ℤ
+span_steps up spans hour = steps up (covering spans hour)
+
+-- and where one forwarding does, whose facility is active or not
+abbrev pub row_steps : Bool → Bool → CallForwardingRow → ℕ → ℤ
+row_steps up active row hour = if covers row hour && active then steps up 1 else pos 0
+
+-- notes of the hours in front of one, each of which moves by its amount
+pub record AreHours (amount : ℕ → ℤ) (hour : ℕ) (notes : List (ℕ × ℤ)) : Type 0 where
+  pub few : length notes ≤ hour
+  pub below : AllByRecursion (λ note. note.0 < hour) notes
+  pub moved : (c : ℕ) → change_at notes c ≡ (if nat_lt c hour then amount c else pos 0)
+
+-- notes of a forwarding that comes or goes: of the hours, and of its zone
+abbrev pub AreForwardingNotes : Bool → Bool → CallForwardingRow → ℕ → List (ℕ × ℤ) → Type 0
+AreForwardingNotes up active row zone notes =
+    (c : ℕ) → change_at notes c ≡ (if nat_lt c FIRST_AREA then row_steps up active row c else pos 0) +ℤ change_at (row_moved up zone) c
 
 -- the notes of a change; a refusal has none
 abbrev pub notes_of : Result (List (ℕ × ℤ)) Refusal → List (ℕ × ℤ)

@@ -1,5 +1,5 @@
 -- What each row counts in the cells: no clause of a public call cites these.
-use Rattle.std.specs.Prelude.{ℕ, ◌+◌, ◌-◌, ◌/◌, ◌^◌, ◌==◌, nat_lt, Bool, false, List, if◌then◌else◌, slice_index, slice_set}
+use Rattle.std.specs.Prelude.{ℕ, zero, suc, ◌+◌, ◌-◌, ◌^◌, ◌==◌, nat_lt, Bool, false, List, if◌then◌else◌, slice_index, slice_set}
 use Rattle.std.specs.Option.{option_map_or}
 use Rattle.mr_node.specs.Rows.{value_at}
 use Rattle.tatp_rows.specs.Keys.{key_of}
@@ -33,7 +33,13 @@ is_active_at key facilities = option_map_or (λ facility. facility.is_active == 
 abbrev pub is_active_in : List (ℕ × SpecialFacilityRow) → CallForwardingRow → Bool
 is_active_in facilities row = is_active_at (key_of row.s_id row.sf_type 0) facilities
 
--- the counts with one more Call_Forwarding row, in the cell of its zone and, where it is active, in that of its start
--- time
+-- the counts with one more in each of so many hours, from one on
+abbrev pub one_more_from : ℕ → ℕ → List ℕ → List ℕ
+one_more_from hour zero counts = counts
+one_more_from hour (suc n) counts = one_more_from (hour + 1) n (one_more_in hour counts)
+
+-- the counts with one more Call_Forwarding row, in the cell of its zone and, where it is active, in each hour that it
+-- covers
 abbrev pub with_forwarding : ℕ → Bool → CallForwardingRow → List ℕ → List ℕ
-with_forwarding width active row counts = with_row_of width row.s_id (if active then one_more_in (row.start_time / 8) counts else counts)
+with_forwarding width active row counts =
+    with_row_of width row.s_id (if active then one_more_from row.start_time (row.end_time - row.start_time) counts else counts)

@@ -1,11 +1,12 @@
 //! The administrative actions on a part.
-ghost use Rattle.std.specs.Prelude.{◌≡◌};
-ghost use Rattle.tatp_actions.specs.Book.{IsWithin};
+ghost use Rattle.std.specs.Prelude.{◌≡◌, ◌≤◌};
+ghost use Rattle.tatp_actions.specs.Book.{IsWithin, forwarding_at};
 ghost use Rattle.tatp_actions.specs.Action.{done_reply};
-ghost use Rattle.tatp_actions.specs.Inside.{Acts, notes_of};
+ghost use Rattle.tatp_actions.specs.Inside.{Acts, notes_of, asked_once, until};
 ghost use Rattle.tatp_actions.specs.declared.action.Action.{Action};
+ghost use Rattle.tatp_actions.specs.declared.cells.TheConstants.{FIRST_AREA};
 
-use crate::change::Change;
+use crate::change::{Change, Spans};
 use crate::part::Part;
 use crate::revisions::{SetSubNbr, SwapActive};
 use crate::rows::Rows;
@@ -78,10 +79,29 @@ impl<R: Rows> Part<R> {
         if swap.is_active == up {
             return Ok(Change::none());
         }
-        let at_0 = self.forwarding(s_id, sf_type, 0).is_some();
-        let at_8 = self.forwarding(s_id, sf_type, 8).is_some();
-        let at_16 = self.forwarding(s_id, sf_type, 16).is_some();
-        Ok(Change::switched(up, at_0, at_8, at_16))
+        let from_0 = self.forwarding_until(s_id, sf_type, 0);
+        let from_8 = self.forwarding_until(s_id, sf_type, 8);
+        let from_16 = self.forwarding_until(s_id, sf_type, 16);
+        let spans = Spans {
+            from_0,
+            from_8,
+            from_16,
+        };
+        Ok(Change::hours_moved(up, &spans))
+    }
+
+    /// Until when the facility's forwarding from an hour runs: 0 where there is none.
+    fn forwarding_until(&mut self, s_id: u32, sf_type: u8, from: u8) -> u8
+        ensures value { result ≡ until (forwarding_at self.old.book s_id sf_type from) }
+        ensures end { result ≤ FIRST_AREA }
+        ensures kept { self.new ≡ asked_once self.old }
+    {
+        let Some(row) = self.forwarding(s_id, sf_type, from) else {
+            return 0;
+        };
+        // For the prover: a row is in range, as its reader says.
+        let _s_id = row.s_id();
+        row.end_time()
     }
 
     /// Gives a subscriber another number: `NoSubscriber`.

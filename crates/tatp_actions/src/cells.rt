@@ -3,22 +3,22 @@ ghost use Rattle.std.specs.Prelude.{◌≡◌, ℕ, ◌<◌, ◌+◌, ◌≤◌,
 
 use std::marker::Model;
 
-/// How many cells there are: active forwardings by start time 0, 8 and 16, subscribers by 16 areas, and
-/// rows by 32 zones.
-pub const CELLS: u8 = 51;
+/// How many cells there are: active forwardings by 24 hours, subscribers by 16 areas, and rows by 32 zones. Hour h has
+/// cell h.
+pub const CELLS: u8 = 72;
 
 // Definitions name these constants, so their numbers are proved here.
-const _: () = prove!(CELLS == 51);
+const _: () = prove!(CELLS == 72);
 
 /// The cell of area 0; area a has cell `FIRST_AREA + a`.
-pub const FIRST_AREA: u8 = 3;
+pub const FIRST_AREA: u8 = 24;
 
-const _: () = prove!(FIRST_AREA == 3);
+const _: () = prove!(FIRST_AREA == 24);
 
 /// The cell of zone 0; zone z has cell `FIRST_ZONE + z`.
-pub const FIRST_ZONE: u8 = 19;
+pub const FIRST_ZONE: u8 = 40;
 
-const _: () = prove!(FIRST_ZONE == 19);
+const _: () = prove!(FIRST_ZONE == 40);
 
 /// A count for each cell.
 #[derive(Clone, Copy, Debug, PartialEq, Eq)]

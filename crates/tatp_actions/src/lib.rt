@@ -1,5 +1,5 @@
-//! A part of the store: the rows of a range of subscribers, the actions on them, and by how much each action
-//! moves each of the 51 cells.
+//! A part of the store: the rows of a range of subscribers, the actions on them, and by how much each action moves each
+//! cell.
 //!
 //! The seven transactions are those of the TATP benchmark (its description, section 3). A part belongs to one
 //! owner, as a sub-tree does in physiological partitioning (PLP), and so needs no latch.

@@ -1,10 +1,10 @@
 //! What a part holds, counted anew from its rows, and its first subscriber from one on.
-ghost use Rattle.std.specs.Prelude.{◌≡◌, ℕ, ◌<◌, true, slice_index, replicate, option_copied};
+ghost use Rattle.std.specs.Prelude.{◌≡◌, ℕ, ◌-◌, ◌<◌, ◌≤◌, true, slice_index, replicate, option_copied};
 ghost use Rattle.tatp_rows.specs.Rows.{forwarding_in_range};
 ghost use Rattle.tatp_rows.specs.Zones.{area_of};
 ghost use Rattle.tatp_actions.specs.Book.{first_subscriber};
 ghost use Rattle.tatp_actions.specs.Cell.{cell};
-ghost use Rattle.tatp_actions.specs.Recount.{one_more_in, with_row_of, with_subscriber, is_active_at, is_active_in, with_forwarding};
+ghost use Rattle.tatp_actions.specs.Recount.{one_more_in, one_more_from, with_row_of, with_subscriber, is_active_at, is_active_in, with_forwarding};
 
 use crate::cells::{CELLS, Cells, FIRST_AREA, FIRST_ZONE};
 use crate::part::Part;
@@ -47,6 +47,16 @@ fn count_with_room(cells: &mut Cells, cell: u8)
 {
     if cells.get(cell) < u64::MAX {
         cells.count_one(cell);
+    }
+}
+
+/// Counts one more in each hour from one on up to another.
+fn count_hours(cells: &mut Cells, from: u8, to: u8)
+    requires { to ≤ FIRST_AREA }
+    ensures { cells.new ≡ one_more_from from (to - from) cells.old }
+{
+    for hour in from..to {
+        count_with_room(cells, hour);
     }
 }
 
@@ -114,7 +124,7 @@ impl<'a> Tally<'a> {
             self.is_active = is_active(self.facilities, facility);
         }
         if self.is_active {
-            count_with_room(&mut self.cells, row.start_time() / 8);
+            count_hours(&mut self.cells, row.start_time(), row.end_time());
         }
         self.count_row(row.s_id());
     }

@@ -10,7 +10,10 @@ use crate::revisions::{SetDataA, SwapLocation};
 use makers::{access, facility, fill, forwarding, subscriber};
 use mr_subtree::SubTree;
 use std::process::Abort;
-use steps::{ANSWERS, Answer, Ask, FULL, MOVES, ROWS, action_of, reply_of};
+use steps::{
+    ANSWERS, Answer, Ask, FULL, HOURS, LAST_AREA, LAST_ZONE, MOVES, ROWS, action_of, notes_of,
+    reply_of,
+};
 use tatp_rows::{Access, Back, Facility, Forwarding, Refusal, Subscriber};
 
 /// What an action answers and notes, and how often it asks the rows.
@@ -45,8 +48,8 @@ fn expect<R: Rows>(
 fn expect_each<R: Rows>(rt: &impl Abort, part: &mut Part<R>, s_id: u32, steps: &[(Ask, Answer)]) {
     for (ask, answer) in steps {
         let action = action_of(rt, s_id, ask);
-        let (reply, notes) = reply_of(rt, s_id, answer);
-        expect(rt, part, &action, reply, notes);
+        let (reply, notes) = (reply_of(rt, s_id, answer), notes_of(answer));
+        expect(rt, part, &action, reply, notes.as_slice());
     }
 }
 
@@ -76,7 +79,7 @@ pub(crate) fn expect_all_added(rt: &impl Abort, part: &mut Part, count: u8, widt
     for before in 0..count {
         let zone = before.checked_div(width).unwrap_or(0);
         let row = subscriber(rt, u64::from(before) + 1, 1);
-        let notes = [(3, 1), (FIRST_ZONE.wrapping_add(zone), 1)];
+        let notes = [(FIRST_AREA, 1), (FIRST_ZONE.wrapping_add(zone), 1)];
         expect_added(rt, part, row, &notes);
     }
 }
@@ -123,11 +126,11 @@ fn expect_counts(
         None,
     ];
     let mut counts = [0; CELLS as usize];
-    counts[3] = 1;
-    counts[4] = 1;
-    counts[18] = 1;
-    counts[19] = 2;
-    counts[50] = 1;
+    counts[usize::from(FIRST_AREA)] = 1;
+    counts[usize::from(FIRST_AREA) + 1] = 1;
+    counts[usize::from(LAST_AREA)] = 1;
+    counts[usize::from(FIRST_ZONE)] = 2;
+    counts[usize::from(LAST_ZONE)] = 1;
     assert_eq!(rt; (counts_of(&part.recount()), found), (counts, wanted));
 }
 
@@ -148,9 +151,14 @@ fn actions(rt: HostRuntime) {
     let last = subscriber(&rt, 16_777_216, 4_294_967_295);
     let mut part = Part::new(rt.alloc(), 1, 16_777_217, 524_288).expect(&rt, "a part");
     expect_empty(&rt, &part);
-    expect_added(&rt, &mut part, first, &[(3, 1), (19, 1)]);
-    expect_added(&rt, &mut part, last, &[(18, 1), (50, 1)]);
-    expect_added(&rt, &mut part, second, &[(4, 1), (19, 1)]);
+    expect_added(&rt, &mut part, first, &[(FIRST_AREA, 1), (FIRST_ZONE, 1)]);
+    expect_added(&rt, &mut part, last, &[(LAST_AREA, 1), (LAST_ZONE, 1)]);
+    expect_added(
+        &rt,
+        &mut part,
+        second,
+        &[(FIRST_AREA + 1, 1), (FIRST_ZONE, 1)],
+    );
     expect_counts(&rt, &part, first, second, last);
     expect_each(&rt, &mut part, 1, &MOVES);
     drop(part);
@@ -159,7 +167,7 @@ fn actions(rt: HostRuntime) {
 /// Asserts that a hundred subscribers are added, of which 32 fit the root of their tree, and more want nodes.
 fn expect_hundred(rt: &impl Abort, part: &mut Part) {
     expect_all_added(rt, part, 100, 10);
-    assert_eq!(rt; part.recount().get(3), 100);
+    assert_eq!(rt; part.recount().get(FIRST_AREA), 100);
 }
 
 // Also run with each allocation refused in turn (`refuse_memory.sh`).
@@ -179,7 +187,10 @@ fn other_rows(rt: HostRuntime) {
         &rt,
         &mut part,
         1,
-        &[(Ask::AddRow, Answer::Done(&[(3, 1), (19, 1)]))],
+        &[(
+            Ask::AddRow,
+            Answer::Done(&[(FIRST_AREA, 1), (FIRST_ZONE, 1)]),
+        )],
     );
     expect_each(&rt, &mut part, 2, &FULL);
     expect_each(&rt, &mut part, 1, &MOVES);
@@ -208,6 +219,13 @@ fn answers_of_trees(rt: HostRuntime) {
     let mut part = Part::new(rt.alloc(), 1, 10, 4).expect(&rt, "a part");
     expect_each(&rt, &mut part, 7, &ROWS);
     expect_answers(&rt, &mut part);
+    drop(part);
+}
+
+#[test]
+fn hours_of_forwardings(rt: HostRuntime) {
+    let mut part = Part::new(rt.alloc(), 1, 10, 4).expect(&rt, "a part");
+    expect_each(&rt, &mut part, 7, &HOURS);
     drop(part);
 }
 
@@ -292,9 +310,9 @@ fn rows_by_their_bound(rt: HostRuntime) {
     assert_eq!(rt; kept, [true; 4]);
 }
 
-/// The counts of the first two start times and of zone 1.
+/// The counts of the hours 7 and 8 and of zone 1.
 fn counts_seen(cells: &Cells) -> (u64, u64, u64) {
-    (cells.get(0), cells.get(1), cells.get(20))
+    (cells.get(7), cells.get(8), cells.get(FIRST_ZONE + 1))
 }
 
 /// How a forwarding of subscriber 7 counts by zones of 4, once and twice.
@@ -335,9 +353,9 @@ fn counted_rows(rt: HostRuntime) {
     let seen = counted(&mut facilities, &access, facility, &forwarding);
     drop(facilities);
     let mut one = Cells::zero();
-    one.count_one(19);
+    one.count_one(FIRST_ZONE);
     assert_eq!(rt;
-        (seen, one.get(19), Change::none().notes().len()),
+        (seen, one.get(FIRST_ZONE), Change::none().notes().len()),
         (
             [
                 [(0, 0, 1), (0, 0, 2)],

@@ -202,7 +202,7 @@ impl<R: Rows> Part<R> {
         };
         self.more_forwardings(row)?;
         let zone = self.zone_of(s_id);
-        let change = Change::forwarding_moved(true, facility.is_active(), row.start_time(), zone);
+        let change = Change::forwarding_moved(true, facility.is_active(), &row, zone);
         Ok(change)
     }
 
@@ -220,12 +220,12 @@ impl<R: Rows> Part<R> {
         if !is_between(sf_type, 1, 4) || !is_start_time(u64::from(start_time)) {
             return Err(Refusal::Field);
         }
-        let Some(_row) = self.remove_forwarding(s_id, sf_type, start_time) else {
+        let Some(row) = self.remove_forwarding(s_id, sf_type, start_time) else {
             return Err(Refusal::NoForwarding);
         };
         let active = self.has_active(s_id, sf_type);
         let zone = self.zone_of(s_id);
-        let change = Change::forwarding_moved(false, active, start_time, zone);
+        let change = Change::forwarding_moved(false, active, &row, zone);
         Ok(change)
     }
 }

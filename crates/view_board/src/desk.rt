@@ -36,7 +36,7 @@ impl Desk {
         slot < SLOTS && self.owned[usize::from(slot)]
     }
 
-    /// What the desk has published of a cell below 51: the sum over its slots of their plus-words less their
+    /// What the desk has published of a cell below `CELLS`: the sum over its slots of their plus-words less their
     /// minus-words.
     #[inline(always)]
     pub fn net(&self, cell: u8) -> i128

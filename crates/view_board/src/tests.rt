@@ -10,6 +10,11 @@ use std::thread;
 use std::thread::Threads;
 use tatp_rows::Refusal;
 
+// The plus-word and the minus-word of slot 3 and cell 5.
+const PLUS: usize = 3 * SLOT_WORDS + 5;
+
+const MINUS: usize = PLUS + CELLS as usize;
+
 // A board of these words; where a growth was refused, from the second try.
 fn opened(alloc: Global, words: &[u64; WORDS]) -> Result<(Board, Desk), Refusal>
     ensures { IfOk result (λ opened. (opened.1.board ≡ opened.0) × (opened.1.view ≡ first_view words.now)) }
@@ -103,9 +108,9 @@ fn two_threads(rt: HostRuntime) -> Result<(), Fail> {
     let mut wanted = [0; WORDS];
     wanted[0] = 1;
     assert!(rt; posted && sight.words[0] == 1);
-    assert!(rt; [0, 4].contains(&sight.words[311]) && [0, 6].contains(&sight.words[362]));
-    wanted[311] = 4;
-    wanted[362] = 6;
+    assert!(rt; [0, 4].contains(&sight.words[PLUS]) && [0, 6].contains(&sight.words[MINUS]));
+    wanted[PLUS] = 4;
+    wanted[MINUS] = 6;
     assert!(rt; words == wanted);
     Ok(())
 }
@@ -119,11 +124,17 @@ fn seen(board: &Board, first: &mut Desk, other: &mut Desk, none: &mut Desk) -> [
     ensures other { (other.new.board ≡ board.now) × (other.new.view.owned ≡ other.old.view.owned) }
     ensures none { (none.new.board ≡ board.now) × (none.new.view.owned ≡ none.old.view.owned) }
 {
-    let before = board.look(none).words[311];
+    let before = board.look(none).words[PLUS];
     let _ = board.add(other, 3, 5, 7);
     let by_first = board.look(first).words;
     let by_none = board.look(none).words;
-    [before, by_first[0], by_first[311], by_none[0], by_none[311]]
+    [
+        before,
+        by_first[0],
+        by_first[PLUS],
+        by_none[0],
+        by_none[PLUS],
+    ]
 }
 
 // The first word is at its limit: it can't be raised, and no word is; the minus-word beside it can.
@@ -166,8 +177,8 @@ fn words_at_limit(rt: HostRuntime) -> Result<(), Fail> {
     let nets = [desk.net(0), none.net(0), other.net(5)];
     let all = [desk.nets()[0], none.nets()[0], other.nets()[5]];
     let end = ended(board, desk, other);
-    words[51] = 1;
-    words[311] = 7;
+    words[usize::from(CELLS)] = 1;
+    words[PLUS] = 7;
     assert_eq!(rt; opened(rt.alloc(), &words).is_err(), is_refused);
     assert_eq!(rt; (raised, owned), ([true; 3], [false, false, true, false]));
     assert_eq!(rt;
@@ -186,8 +197,8 @@ fn words_at_limit(rt: HostRuntime) -> Result<(), Fail> {
 fn sights_tell_words_by_slot_and_cell(rt: HostRuntime) {
     let mut words = [0; WORDS];
     words[5] = 4;
-    words[311] = 7;
-    words[362] = 2;
+    words[PLUS] = 7;
+    words[MINUS] = 2;
     let sight = Sight { words };
     let told = (sight.words_of(3, 5), sight.published(5), sight.published(6));
     assert_eq!(rt; told, ((7, 2), 9, 0));
@@ -275,12 +286,19 @@ fn wear_and_look<R: Threads + Sync>(
     )
 }
 
+// The words of the first cell in slots 0 and 3.
+const WORN: [usize; 4] = [
+    0,
+    CELLS as usize,
+    3 * SLOT_WORDS,
+    3 * SLOT_WORDS + CELLS as usize,
+];
+
 // Words half as far from their limits as they are to be raised reach these, and go no further.
 #[test]
 fn words_wear_in_threads(rt: HostRuntime) -> Result<(), Fail> {
     let mut words = [0; WORDS];
-    let worn = [0usize, 51, 306, 357];
-    for word in worn {
+    for word in WORN {
         words[word] = LIMIT - TURNS / 2;
     }
     let (board, mut desk) = opened(rt.alloc(), &words).ok().ok_or("no board")?;
@@ -289,7 +307,7 @@ fn words_wear_in_threads(rt: HostRuntime) -> Result<(), Fail> {
     let last = split_off(&board, &mut none, 5).ok().ok_or("no desk")?;
     let (are_later, raised) = wear_and_look(&rt, &board, desk, other, last);
     let sight = board.look(&mut none);
-    for word in worn {
+    for word in WORN {
         words[word] = LIMIT;
     }
     assert_eq!(rt; (are_later, raised), (true, [[TURNS / 2; 2]; 2]));

@@ -10,7 +10,7 @@ use crate::desk::net_over;
 pub const SLOTS: u8 = 16;
 
 /// How many cells a slot has words for.
-pub const CELLS: u8 = 51;
+pub const CELLS: u8 = 72;
 
 /// How many words a slot has: a plus-word and a minus-word for each cell.
 pub const SLOT_WORDS: usize = 2 * CELLS as usize;
@@ -21,14 +21,14 @@ pub const WORDS: usize = SLOTS as usize * SLOT_WORDS;
 /// The greatest value of a word.
 pub const LIMIT: u64 = 9_223_372_036_854_775_807;
 
-// The numbers that the definitions mean: 16 slots of 51 cells, two words for each, and 2^63 - 1 as the greatest value.
+// The numbers that the definitions mean: 16 slots of 72 cells, two words for each, and 2^63 - 1 as the greatest value.
 const _: () = prove!(SLOTS == 16);
 
-const _: () = prove!(CELLS == 51);
+const _: () = prove!(CELLS == 72);
 
-const _: () = prove!(SLOT_WORDS == 102);
+const _: () = prove!(SLOT_WORDS == 144);
 
-const _: () = prove!(WORDS == 1_632);
+const _: () = prove!(WORDS == 2_304);
 
 const _: () = prove!(LIMIT == (1 << 63) - 1);
 
@@ -41,7 +41,7 @@ pub struct Sight {
 }
 
 impl Sight {
-    /// The plus-word and the minus-word of a slot below 16 and a cell below 51: how much was added to the cell there,
+    /// The plus-word and the minus-word of a slot below `SLOTS` and a cell below `CELLS`: how much was added to the cell there,
     /// and how much was taken off it.
     pub fn words_of(&self, slot: u8, cell: u8) -> (u64, u64)
         requires slot { slot < SLOTS }
@@ -54,7 +54,7 @@ impl Sight {
         (self.words[plus], self.words[minus])
     }
 
-    /// What is published of a cell below 51: what a desk that has all slots would have published by these words.
+    /// What is published of a cell below `CELLS`: what a desk that has all slots would have published by these words.
     pub fn published(&self, cell: u8) -> i128
         requires { cell < CELLS }
         ensures { result ≡ net_of (first_view self.now.words) cell }

@@ -8,6 +8,7 @@ use Rattle.std.proofs.lemmas.Bool.Decides.{nat_tests}
 use Rattle.tatp_rows.proofs.OrderedLemmas.{by_test}
 use Rattle.tatp_actions.specs.Change.{change_at, IsNote}
 use Rattle.tatp_actions.specs.declared.cells.TheConstants.{CELLS}
+use Rattle.tatp_actions.specs.declared.change.TheConstants.{NOTES}
 use Rattle.view_delta.specs.Pending.{pending_at, NotesFit}
 
 -- the notes of a change, and one more
@@ -111,11 +112,11 @@ notes_small (note ∷ notes) c each =
     (λ e. rw e (omega (arith, ints), omega (arith, ints)))
 
 -- the notes of a change fit where the deltas are far from the limits
-pub notes_fit : (pending : List ℤ) (notes : List (ℕ × ℤ)) → AllByRecursion IsNote notes → length notes ≤ 8
+pub notes_fit : (pending : List ℤ) (notes : List (ℕ × ℤ)) → AllByRecursion IsNote notes → length notes ≤ NOTES
     → ((c : ℕ) → c < CELLS → (neg_ℤ (pos (2 ^ 60)) ≤ℤ pending_at pending c) × (pending_at pending c ≤ℤ pos (2 ^ 60))) → NotesFit pending notes
 notes_fit pending notes each few small i c within below =
     let bounds = notes_small (take i notes) c (each_note notes i each) in
-    let taken : length (take i notes) ≤ 8 = omega (arith, length-take {A = ℕ × ℤ}) in
+    let taken : length (take i notes) ≤ NOTES = omega (arith, length-take {A = ℕ × ℤ}) in
     let low = bounds.0 in
     let high = bounds.1 in
     let from = (small c below).0 in

@@ -4,8 +4,11 @@ ghost use Rattle.std.specs.Prelude.{◌≡◌, ℕ, ◌<◌, ◌≤◌, slice_in
 use super::*;
 use std::process::Abort;
 use std::test::Fail;
-use tatp_actions::{Action, Part};
+use tatp_actions::{Action, FIRST_AREA, FIRST_ZONE, Part};
 use tatp_rows::{Number, Subscriber};
+
+// The cell of zone 1.
+const ZONE: u8 = FIRST_ZONE + 1;
 
 // The counts of one row in a cell.
 fn counts_of(cell: u8) -> Cells
@@ -19,20 +22,20 @@ fn counts_of(cell: u8) -> Cells
 
 #[test]
 fn counts_go_in_and_out(rt: HostRuntime) {
-    let counts = counts_of(20);
+    let counts = counts_of(ZONE);
     let mut pending = Pending::zero();
     assert!(rt; pending.is_zero());
     pending.add(&counts);
     assert!(rt; !pending.is_zero());
-    assert_eq!(rt; pending.get(20), 1);
-    assert_eq!(rt; pending.next_nonzero(0), Some(20));
-    assert_eq!(rt; pending.next_nonzero(20), Some(20));
-    assert_eq!(rt; pending.next_nonzero(21), None);
+    assert_eq!(rt; pending.get(ZONE), 1);
+    assert_eq!(rt; pending.next_nonzero(0), Some(ZONE));
+    assert_eq!(rt; pending.next_nonzero(ZONE), Some(ZONE));
+    assert_eq!(rt; pending.next_nonzero(ZONE + 1), None);
     pending.subtract(&counts);
     pending.subtract(&counts);
-    assert_eq!(rt; pending.get(20), -1);
-    assert_eq!(rt; pending.deltas()[20], -1);
-    pending.clear(20);
+    assert_eq!(rt; pending.get(ZONE), -1);
+    assert_eq!(rt; pending.deltas()[usize::from(ZONE)], -1);
+    pending.clear(ZONE);
     assert!(rt; pending.is_zero());
 }
 
@@ -44,8 +47,8 @@ fn expect_added(rt: &impl Abort, part: &mut Part, row: Subscriber) {
     let _notes = change.notes();
     let mut pending = Pending::zero();
     pending.note(&change);
-    assert_eq!(rt; (pending.get(4), pending.get(20)), (1, 1));
-    assert_eq!(rt; pending.next_nonzero(5), Some(20));
+    assert_eq!(rt; (pending.get(FIRST_AREA + 1), pending.get(ZONE)), (1, 1));
+    assert_eq!(rt; pending.next_nonzero(FIRST_AREA + 2), Some(ZONE));
 }
 
 #[test]

@@ -81,11 +81,12 @@ fn transaction(rt: &impl Abort, s_id: u32, mut seed: u64) -> Action {
     }
 }
 
-/// A forwarding that is inserted for a subscriber, drawn by a seed: it ends after each hour at which one may start.
+/// A forwarding that is inserted for a subscriber, drawn by a seed: it may end before it starts, and most often covers
+/// the hour 16.
 fn drawn_insertion(rt: &impl Abort, s_id: u32, mut seed: u64) -> Action {
     let sf_type = below(&mut seed, 4) + 1;
     let start_time = below(&mut seed, 3) * 8;
-    let end_time = 24 - below(&mut seed, 16);
+    let end_time = 24 - below(&mut seed, 10);
     let row = forwarding(rt, u64::from(s_id), sf_type, start_time, end_time);
     Action::InsertForwarding(row)
 }

@@ -1,16 +1,28 @@
 //! How often each kind of reply came, and by how much each cell moved.
 use crate::tests::counts_of;
-use crate::{Action, CELLS, Part, RowReply};
+use crate::{Action, CELLS, FIRST_AREA, Part, RowReply};
 use std::process::Abort;
 use tatp_rows::Refusal;
 
-/// A kind of reply: a row, so many numbers, done with so many notes (below zero where the first is), or refused.
+/// A kind of reply: a row, so many numbers, done, or refused; of what is done, how far the first note goes that goes
+/// farthest, and whether an hour is noted.
 #[derive(Clone, Copy, PartialEq, Eq)]
 enum Kind {
     Read,
     Numbers(usize),
-    Done(i64),
+    Done(i8, bool),
     Refused(Refusal),
+}
+
+/// How far the first note goes that goes farthest: 0 where there is none.
+fn farthest(notes: &[(u8, i8)]) -> i8 {
+    let mut far = 0i8;
+    for (_, amount) in notes {
+        if far.unsigned_abs() < amount.unsigned_abs() {
+            far = *amount;
+        }
+    }
+    far
 }
 
 /// The kind of a reply with these notes.
@@ -19,10 +31,10 @@ fn kind_of(reply: &RowReply, notes: &[(u8, i8)]) -> Kind {
         RowReply::Row(_) | RowReply::AccessRow { .. } => Kind::Read,
         RowReply::Numbers(numbers) => Kind::Numbers(numbers.len()),
         RowReply::Refused(why) => Kind::Refused(*why),
-        RowReply::Done => match notes.first() {
-            Some((_, amount)) if *amount < 0 => Kind::Done(-(notes.len() as i64)),
-            _ => Kind::Done(notes.len() as i64),
-        },
+        RowReply::Done => {
+            let hours = matches!(notes.first(), Some((cell, _)) if *cell < FIRST_AREA);
+            Kind::Done(farthest(notes), hours)
+        }
     }
 }
 
@@ -56,40 +68,40 @@ const KINDS: [(&str, Kind); 45] = [
     ("AccessData", Kind::Read),
     ("AccessData", Kind::Refused(Refusal::Field)),
     ("AccessData", Kind::Refused(Refusal::NoAccess)),
-    ("UpdateSubscriber", Kind::Done(0)),
+    ("UpdateSubscriber", Kind::Done(0, false)),
     ("UpdateSubscriber", Kind::Refused(Refusal::Field)),
     ("UpdateSubscriber", Kind::Refused(Refusal::NoSubscriber)),
     ("UpdateSubscriber", Kind::Refused(Refusal::NoFacility)),
-    ("UpdateLocation", Kind::Done(0)),
-    ("UpdateLocation", Kind::Done(-2)),
+    ("UpdateLocation", Kind::Done(0, false)),
+    ("UpdateLocation", Kind::Done(-1, false)),
     ("UpdateLocation", Kind::Refused(Refusal::Field)),
     ("UpdateLocation", Kind::Refused(Refusal::NoSubscriber)),
-    ("InsertForwarding", Kind::Done(1)),
-    ("InsertForwarding", Kind::Done(2)),
+    ("InsertForwarding", Kind::Done(1, false)),
+    ("InsertForwarding", Kind::Done(1, true)),
     ("InsertForwarding", Kind::Refused(Refusal::NoFacility)),
     ("InsertForwarding", Kind::Refused(Refusal::Exists)),
-    ("DeleteForwarding", Kind::Done(-1)),
-    ("DeleteForwarding", Kind::Done(-2)),
+    ("DeleteForwarding", Kind::Done(-1, false)),
+    ("DeleteForwarding", Kind::Done(-1, true)),
     ("DeleteForwarding", Kind::Refused(Refusal::Field)),
     ("DeleteForwarding", Kind::Refused(Refusal::NoForwarding)),
-    ("AddSubscriber", Kind::Done(2)),
+    ("AddSubscriber", Kind::Done(1, false)),
     ("AddSubscriber", Kind::Refused(Refusal::Exists)),
-    ("AddAccess", Kind::Done(1)),
+    ("AddAccess", Kind::Done(1, false)),
     ("AddAccess", Kind::Refused(Refusal::NoSubscriber)),
     ("AddAccess", Kind::Refused(Refusal::Exists)),
-    ("AddFacility", Kind::Done(1)),
+    ("AddFacility", Kind::Done(1, false)),
     ("AddFacility", Kind::Refused(Refusal::NoSubscriber)),
     ("AddFacility", Kind::Refused(Refusal::Exists)),
-    ("SetActive", Kind::Done(0)),
-    ("SetActive", Kind::Done(1)),
-    ("SetActive", Kind::Done(2)),
-    ("SetActive", Kind::Done(3)),
-    ("SetActive", Kind::Done(-1)),
-    ("SetActive", Kind::Done(-2)),
-    ("SetActive", Kind::Done(-3)),
+    ("SetActive", Kind::Done(0, false)),
+    ("SetActive", Kind::Done(1, true)),
+    ("SetActive", Kind::Done(2, true)),
+    ("SetActive", Kind::Done(3, true)),
+    ("SetActive", Kind::Done(-1, true)),
+    ("SetActive", Kind::Done(-2, true)),
+    ("SetActive", Kind::Done(-3, true)),
     ("SetActive", Kind::Refused(Refusal::Field)),
     ("SetActive", Kind::Refused(Refusal::NoFacility)),
-    ("SetNumber", Kind::Done(0)),
+    ("SetNumber", Kind::Done(0, false)),
     ("SetNumber", Kind::Refused(Refusal::NoSubscriber)),
 ];
 

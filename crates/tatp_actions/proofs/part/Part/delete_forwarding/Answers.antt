@@ -9,6 +9,6 @@ returns-in_default g c =
 
 pub returns : goal.returns
 returns g c =
-    forwarding_deleted _ _ _ _ _ _ _ _ c.in-Some._row _ c.remove_forwarding.ensures.rules c.requires (sym c.if-not-is_between.ensures) (sym (rw c.from.ensures at c.if-not-is_start_time.ensures))
+    forwarding_deleted _ _ _ _ _ _ _ _ c.in-Some.row _ c.remove_forwarding.ensures.rules c.requires (sym c.if-not-is_between.ensures) (sym (rw c.from.ensures at c.if-not-is_start_time.ensures))
     c.ranges.sf_type.fits c.ranges.start_time.fits c.in-Some.ensures.found c.remove_forwarding.ensures.kept c.has_active-active.ensures.value c.has_active-active.ensures.kept
     c.zone_of-zone.ensures.value c.forwarding_moved-change.ensures

@@ -14,5 +14,5 @@ returns-in_err-more_forwardings g c =
 
 pub returns : goal.returns
 returns g c =
-    forwarding_inserted _ _ _ _ _ _ _ _ c.args.row c.in-Some.facility _ c.s_id-s_id.ensures.value c.sf_type.ensures c.start_time.ensures c.s_id-s_id.ensures.in_range c.facility.ensures.kept
+    forwarding_inserted _ _ _ _ _ _ _ c.args.row c.in-Some.facility _ c.s_id-s_id.ensures.value c.sf_type.ensures c.s_id-s_id.ensures.in_range c.facility.ensures.kept
     c.in-Some.ensures.found c.in_ok-more_forwardings.ensures.added c.in_ok-more_forwardings.ensures.kept c.is_active.ensures c.zone_of-zone.ensures.value c.forwarding_moved-change.ensures
