@@ -10,7 +10,7 @@ use Rattle.tatp_actions.specs.Book.{empty_book}
 use Rattle.tatp_actions.specs.Cell.{cell, active_forwardings, in_area, in_zone}
 use Rattle.tatp_actions.specs.Part.{PartState, IsPart}
 use Rattle.tatp_actions.proofs.CountLemmas.{few_cells}
-use Rattle.tatp_actions.specs.declared.cells.TheConstants.{CELLS}
+use Rattle.tatp_actions.specs.declared.cells.TheConstants.{CELLS, FIRST_AREA, FIRST_ZONE}
 use Rattle.view_board.specs.Desks.{Station}
 use Rattle.view_board.specs.Nets.{net_of, NetMoves}
 use Rattle.view_board.specs.Views.{IsWide, posted}
@@ -20,9 +20,9 @@ use Rattle.view_delta.specs.Pending.{pending_at}
 use Rattle.holding.specs.Held.{HoldingState, IsHolding, IsLeastSlot, HasSmallNets, count_of}
 
 -- an empty book has no count
-empty_active : (start : ℕ) → active_forwardings start empty_book ≡ 0
+empty_active : (hour : ℕ) → active_forwardings hour empty_book ≡ 0
 unfolding active_forwardings
-empty_active start = refl
+empty_active hour = refl
 
 empty_area : (a : ℕ) → in_area a empty_book ≡ 0
 unfolding in_area
@@ -34,8 +34,8 @@ empty_zone width z = refl
 
 pub empty_cell : (width c : ℕ) → cell width c empty_book ≡ 0
 empty_cell width c =
-    by_test (nat_lt c 3) (λ e. rw e (empty_active (8 * c)))
-    (λ e. by_test (nat_lt c 19) (λ f. rw (e, f) (empty_area (c - 3))) (λ f. rw (e, f) (empty_zone width (c - 19))))
+    by_test (nat_lt c FIRST_AREA) (λ e. rw e (empty_active c))
+    (λ e. by_test (nat_lt c FIRST_ZONE) (λ f. rw (e, f) (empty_area (c - FIRST_AREA))) (λ f. rw (e, f) (empty_zone width (c - FIRST_ZONE))))
 
 -- a part counts few rows
 pub few : (part : PartState) → IsPart part → (c : ℕ) → count_of part c ≤ 2 ^ 40

@@ -137,7 +137,7 @@ impl<R: Rows> Holding<R> {
     }
 
     /// Posts what is pending to the words of the desk's least slot, cells ascending, each whole and in one step, until
-    /// `limit` are posted or none is left; tells how many were, 0..=51, and so in how many steps the desk raised words.
+    /// `limit` are posted or none is left; tells how many were, at most `CELLS`, and so in how many steps the desk raised words.
     /// `Worn` stops it at a cell whose word would pass its limit: the cells before stay posted, and that cell stays
     /// pending.
     pub fn post(&mut self, board: &Board, limit: u64) -> Result<u8, Refusal>
@@ -213,7 +213,7 @@ impl Holding {
         self.part.width()
     }
 
-    /// What is pending of a cell below 51.
+    /// What is pending of a cell below `CELLS`.
     pub fn pending(&self, cell: u8) -> i64
         requires { cell < CELLS }
         ensures value { result ≡ pending_at self.now.pending cell }
@@ -230,7 +230,7 @@ impl Holding {
         self.desk.owns(slot)
     }
 
-    /// What the desk has published of a cell below 51.
+    /// What the desk has published of a cell below `CELLS`.
     #[inline(always)]
     pub fn net(&self, cell: u8) -> i128
         requires { cell < CELLS }

@@ -77,7 +77,7 @@ impl Piece {
         self.part.width()
     }
 
-    /// What is pending of a cell below 51: its count.
+    /// What is pending of a cell below `CELLS`: its count.
     pub fn pending(&self, cell: u8) -> i64
         requires { cell < CELLS }
         ensures value { result ≡ pending_at self.now.pending cell }
