@@ -127,7 +127,7 @@ pub enum Event {
 pub enum Reply {
     /// What the rows answered, and no refusal.
     Rows(RowReply),
-    /// How many cells were posted, 0..=51.
+    /// How many cells were posted, at most `CELLS` of `tatp_actions`.
     Posted(u8),
     /// A part gave a piece away.
     Given {

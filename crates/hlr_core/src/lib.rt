@@ -1,4 +1,4 @@
-//! The register: all rows, the 51 standing counts as the board has them, and what is not posted yet.
+//! The register: all rows, the standing count of each cell as the board has them, and what is not posted yet.
 //!
 //! Each action moves the counts by a small change that its owner keeps as pending, and a posting raises words of
 //! the board by what is pending. So after each event every cell as published plus its delta not yet posted is
@@ -30,6 +30,6 @@ pub use hlr_owners::{Frame, Scattered};
 pub use holding::{Holding, Job, Piece};
 pub use number_index::{NumberIndex, Page};
 pub use part_table::{Bounds, Place, Region, Regions, Side};
-pub use tatp_actions::{Action, CELLS, Cells, RowReply};
+pub use tatp_actions::{Action, CELLS, Cells, FIRST_AREA, FIRST_ZONE, RowReply};
 pub use tatp_rows::{Access, Back, Facility, Forwarding, Letters, Number, Refusal, Subscriber};
 pub use view_board::{Board, Desk, LIMIT, Sight, WORDS};

@@ -5,6 +5,7 @@ ghost use Rattle.view_board.specs.Views.{first_view, without, alone, Owns};
 ghost use Rattle.view_board.specs.Desks.{with_view};
 ghost use Rattle.holding.specs.Held.{HasSmallNets};
 
+use crate::tests::ALL_CELLS;
 use holding::{Holding, Piece};
 use part_table::Side;
 use std::alloc::Global;
@@ -12,9 +13,14 @@ use std::process::Abort;
 use std::test::Fail;
 use std::thread;
 use std::thread::Threads;
-use tatp_actions::{Action, CELLS, Cells, Part, RowReply};
+use tatp_actions::{Action, CELLS, Cells, FIRST_AREA, FIRST_ZONE, Part, RowReply};
 use tatp_rows::{Number, Refusal, Subscriber};
 use view_board::{Board, Desk, LIMIT, WORDS};
+
+/// The cells of area 1 and of zone 1.
+const AREA: u8 = FIRST_AREA + 1;
+
+const ZONE: u8 = FIRST_ZONE + 1;
 
 /// What is published and what is pending of the cells of area 1 and zone 1, and their counts.
 type Counts = ([i128; 2], [i64; 2], [u64; 2]);
@@ -125,9 +131,9 @@ fn take(holding: &mut Holding, piece: Box<Piece>) -> Option<(Refusal, Box<Piece>
 fn counts(holding: &Holding) -> Counts {
     let all = holding.recount();
     (
-        [holding.net(4), holding.nets()[20]],
-        [holding.pending(4), holding.pending(20)],
-        [all.get(4), all.get(20)],
+        [holding.net(AREA), holding.nets()[usize::from(ZONE)]],
+        [holding.pending(AREA), holding.pending(ZONE)],
+        [all.get(AREA), all.get(ZONE)],
     )
 }
 
@@ -142,16 +148,16 @@ fn adds_and_posts(
     let first = counts(holding);
     let one = holding.post(board, 1);
     let second = counts(holding);
-    let all = holding.post(board, 51);
+    let all = holding.post(board, ALL_CELLS);
     (added, [one, all], [first, second, counts(holding)])
 }
 
 #[test]
 fn a_worn_word_ends_a_posting(rt: HostRuntime) -> Result<(), Fail> {
     let mut words = [0; WORDS];
-    words[4] = 5;
-    words[20] = LIMIT;
-    words[51 + 20] = LIMIT;
+    words[usize::from(AREA)] = 5;
+    words[usize::from(ZONE)] = LIMIT;
+    words[usize::from(CELLS + ZONE)] = LIMIT;
     let (board, desk) = board_of(rt.alloc(), &words)?;
     let mut holding = opened(&rt, rt.alloc(), 1, 65, desk);
     let begun = counts(&holding);
@@ -188,7 +194,7 @@ fn shown(piece: &Piece) -> ([u32; 3], (i64, u64), Option<u32>) {
     };
     (
         [piece.lo(), piece.hi(), piece.width()],
-        (piece.pending(4), piece.recount().get(4)),
+        (piece.pending(AREA), piece.recount().get(AREA)),
         first,
     )
 }
@@ -289,9 +295,17 @@ fn look(board: &Board, desk: &mut Desk) -> Watched
     requires { desk.old.board ≡ board.now }
     ensures { desk.new.board ≡ board.now }
 {
-    let words = board.look(desk).words;
+    let sight = board.look(desk);
+    let (area_up, area_down) = sight.words_of(1, AREA);
+    let (zone_up, zone_down) = sight.words_of(1, ZONE);
     [
-        words[106], words[157], words[122], words[173], words[4], words[20], words[35],
+        area_up,
+        area_down,
+        zone_up,
+        zone_down,
+        sight.words_of(0, AREA).0,
+        sight.words_of(0, ZONE).0,
+        sight.words_of(0, FIRST_ZONE + 16).0,
     ]
 }
 
@@ -366,7 +380,7 @@ fn works(board: &Board, mut holding: Holding, piece: Option<Box<Piece>>, shift: 
 {
     let is_taken = begins(&mut holding, piece);
     let is_added = add(&mut holding, shift.adds) == Some(RowReply::Done);
-    let posted = holding.post(board, 51);
+    let posted = holding.post(board, ALL_CELLS);
     let given = gives(&mut holding, shift.at);
     ((holding, is_taken && is_added, posted), given)
 }
@@ -377,7 +391,7 @@ fn posts_and_looks(board: &Board, mut holding: Holding, mut desk: Desk) -> Besid
     ensures { (result.0.desk.board ≡ board.now) × (result.2.board ≡ board.now) }
 {
     let first = look(board, &mut desk);
-    let posted = holding.post(board, 51);
+    let posted = holding.post(board, ALL_CELLS);
     let second = look(board, &mut desk);
     (holding, posted, desk, [first, second])
 }
@@ -472,7 +486,7 @@ fn owners_work_in_threads(rt: HostRuntime) -> Result<(), Fail> {
         high.owns(0),
         high.owns(16),
     ];
-    let begun = (add(&mut low, 8), low.post(&board, 51));
+    let begun = (add(&mut low, 8), low.post(&board, ALL_CELLS));
     let (are_done, posted, homes, sights, are_right) = piece_goes_over(
         &rt, &board, low, high, last,
     );

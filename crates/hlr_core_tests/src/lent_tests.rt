@@ -5,16 +5,16 @@ ghost use Rattle.hlr_owners.specs.declared.lodging.Seat.TheVariants as seat;
 
 use crate::region_tests::{giving, has_regions, region, sees, taking};
 use crate::tests::{
-    DONE, FIELD, MOVING, NO_NUMBER, NO_PART, access_row, facility_row, moved, number, opened,
-    posting, read, replies, row, stands,
+    ALL_CELLS, AREA_1, DONE, FIELD, MOVING, NO_NUMBER, NO_PART, access_row, facility_row, moved,
+    number, opened, posting, read, replies, row, stands,
 };
 use hlr_core::{Event, Register, Reply, Route};
 use holding::{Holding, Job};
 use part_table::{END, Place, Side};
 use std::process::Abort;
-use tatp_actions::{Action, RowReply};
+use tatp_actions::{Action, FIRST_ZONE, RowReply};
 use tatp_rows::Refusal;
-use view_board::Board;
+use view_board::{Board, SLOT_WORDS};
 
 /// Whether each of two parts is at home, whether a third is, and whether all are.
 fn homes(register: &Register) -> [bool; 4] {
@@ -48,7 +48,7 @@ fn works(holding: &mut Holding, board: &Board, s_id: u32) -> (bool, Result<u8, R
         vlr_location: 268_435_456,
     };
     let is_moved = holding.act(moving) == RowReply::Done;
-    (is_moved, holding.post(board, 51))
+    (is_moved, holding.post(board, ALL_CELLS))
 }
 
 /// What the second part does outside, and then comes home: where the parts are meanwhile, whether the regions are as
@@ -88,8 +88,12 @@ fn expect_lent(rt: &impl Abort, register: &mut Register) {
     let outside = works_outside(register);
     let are_home = homes(register);
     let row = Reply::Rows(RowReply::Row(moved));
-    let shows = replies(register, read(100), row) && stands(register, &[(4, 1), (43, 1)], &[]);
-    let lent = first_is_lent(register, &[(106, 1), (145, 1)]);
+    let zone = FIRST_ZONE + 24;
+    let shows = replies(register, read(100), row)
+        && stands(register, &[(AREA_1, 1), (zone, 1)], &[]);
+    let area_word = SLOT_WORDS + usize::from(AREA_1);
+    let zone_word = SLOT_WORDS + usize::from(zone);
+    let lent = first_is_lent(register, &[(area_word, 1), (zone_word, 1)]);
     assert_eq!(rt;
         (is_added, outside, are_home, shows, lent),
         (
@@ -120,7 +124,10 @@ fn works_beside(register: &mut Register) -> Option<([Route; 2], [Reply; 3])> {
     if !register.at_home(0) {
         return None;
     }
-    let posted = register.apply(Event::Post { part: 0, limit: 51 });
+    let posted = register.apply(Event::Post {
+        part: 0,
+        limit: ALL_CELLS,
+    });
     let given = register.apply(Event::Give {
         part: 0,
         side: Side::High,

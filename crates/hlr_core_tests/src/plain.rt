@@ -8,7 +8,7 @@ use crate::tests::{
 use arrayvec::ArrayVec;
 use hlr_core::{Event, Register, Reply};
 use number_index::NumberIndex;
-use tatp_actions::{CELLS, Cells, RowReply};
+use tatp_actions::{CELLS, Cells, FIRST_AREA, FIRST_ZONE, RowReply};
 use tatp_rows::{Access, Facility, Forwarding, Number, Refusal, Subscriber};
 
 /// A plain register of the subscribers 1, 1 + stride, 1 + 2 * stride and so on, and of the numbers below 50.
@@ -71,6 +71,15 @@ fn put<T: Copy + Drop>(table: &mut [Option<T>], place: usize, row: T) -> Reply {
 fn count_one(cells: &mut [i64; CELLS as usize], cell: u32) {
     if let Some(count) = cells.get_mut(cell as usize) {
         *count = count.wrapping_add(1);
+    }
+}
+
+/// Counts one more in each hour that a forwarding covers.
+fn count_hours(cells: &mut [i64; CELLS as usize], row: &Forwarding) {
+    for hour in 0..FIRST_AREA {
+        if row.start_time() <= hour && hour < row.end_time() {
+            count_one(cells, u32::from(hour));
+        }
     }
 }
 
@@ -152,7 +161,7 @@ impl Plain {
 
     /// The cell of the zone of a subscriber.
     fn zone(&self, s_id: u32) -> u32 {
-        19 + (s_id.wrapping_sub(1) / self.width.max(1)).min(31)
+        u32::from(FIRST_ZONE) + (s_id.wrapping_sub(1) / self.width.max(1)).min(31)
     }
 
     /// Whether a facility is there and active.
@@ -183,7 +192,8 @@ impl Plain {
         let mut cells = [0i64; CELLS as usize];
         for row in self.subscribers.iter().flatten() {
             if lo <= row.s_id() && row.s_id() < hi {
-                count_one(&mut cells, 3 + row.vlr_location() / 268_435_456);
+                let area = row.vlr_location() / 268_435_456;
+                count_one(&mut cells, u32::from(FIRST_AREA) + area);
                 count_one(&mut cells, self.zone(row.s_id()));
             }
         }
@@ -207,7 +217,7 @@ impl Plain {
             if lo <= row.s_id() && row.s_id() < hi {
                 count_one(cells, self.zone(row.s_id()));
                 if self.is_active(u64::from(row.s_id()), u64::from(row.sf_type())) {
-                    count_one(cells, u32::from(row.start_time() / 8));
+                    count_hours(cells, row);
                 }
             }
         }

@@ -9,7 +9,7 @@ use part_table::{Place, Side};
 use std::alloc::Global;
 use std::process::Abort;
 use std::test::Fail;
-use tatp_actions::RowReply;
+use tatp_actions::{CELLS, RowReply};
 use tatp_rows::{Number, Refusal};
 
 /// Events that are drawn by numbers that look random (xorshift), on the subscribers of a plain register. In each second
@@ -185,7 +185,7 @@ impl Draws {
     fn posting(&mut self, plain: &Plain) -> Event {
         Event::Post {
             part: self.below(plain.regions().parts().wrapping_add(1)),
-            limit: self.next() % 60,
+            limit: self.below(u64::from(CELLS) + 9),
         }
     }
 

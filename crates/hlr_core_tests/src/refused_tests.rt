@@ -6,7 +6,7 @@ use crate::plain::Plain;
 use crate::plain_tests::Draws;
 use crate::region_tests::{giving, has_regions, proposes, region, scans, sees};
 use crate::tests::{
-    DONE, MEMORY, ask, moved, number, opened, posting, read, recut, replies, row, stands,
+    AREA_1, DONE, MEMORY, ask, moved, number, opened, posting, read, recut, replies, row, stands,
 };
 use hlr_core::{Event, Register, Reply, Route};
 use holding::Job;
@@ -14,7 +14,7 @@ use part_table::{END, Place};
 use std::alloc::Global;
 use std::process::Abort;
 use std::test::Fail;
-use tatp_actions::{Action, RowReply};
+use tatp_actions::{Action, FIRST_AREA, FIRST_ZONE, RowReply};
 use tatp_rows::Refusal;
 
 /// A size that nothing else asks for: where `refuse_memory.sh` refuses all memory, it does so from a piece of it on.
@@ -127,11 +127,22 @@ fn is_shown(register: &mut Register) -> bool {
         region(Place::Part(1), 65, END),
     ];
     let to = Route::To(0, Job::Act(Action::SubscriberData { s_id: 3 }));
+    let zone_of_100 = FIRST_ZONE + 24;
     has_regions(register, &regions)
-        && stands(register, &[(3, 1), (19, 1)], &[(3, 1), (43, 1)])
-        && scans(register, &[(3, 2), (19, 1), (43, 1)])
+        && stands(
+            register,
+            &[(FIRST_AREA, 1), (FIRST_ZONE, 1)],
+            &[(FIRST_AREA, 1), (zone_of_100, 1)],
+        )
+        && scans(
+            register,
+            &[(FIRST_AREA, 2), (FIRST_ZONE, 1), (zone_of_100, 1)],
+        )
         && proposes(register, &[5])
-        && sees(register, &[(3, 1), (19, 1)])
+        && sees(
+            register,
+            &[(usize::from(FIRST_AREA), 1), (usize::from(FIRST_ZONE), 1)],
+        )
         && register.index().len() == 2
         && register.route(&read(3)) == to
 }
@@ -141,7 +152,16 @@ fn is_shown(register: &mut Register) -> bool {
 fn expect_calls(rt: &impl Abort, register: &mut Register, is_refused: bool) {
     let shown = is_shown(register);
     let outside = works_outside(register);
-    let kept = stands(register, &[(3, 1), (4, 1), (19, 1), (43, 1)], &[]);
+    let kept = stands(
+        register,
+        &[
+            (FIRST_AREA, 1),
+            (AREA_1, 1),
+            (FIRST_ZONE, 1),
+            (FIRST_ZONE + 24, 1),
+        ],
+        &[],
+    );
     let given = Reply::Given {
         piece: 1,
         lo: 5,

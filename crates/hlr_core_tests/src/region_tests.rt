@@ -1,8 +1,9 @@
 //! Registers of several parts: worked examples of gives, takes, proposals and re-cuts.
 use crate::tests::{
-    DONE, FIELD, MANY_PIECES, MOVING, NO_FACILITY, NO_PART, NO_PIECE, NO_SUBSCRIBER, NOT_ADJACENT,
-    OUT_OF_RANGE, ask, difference, facility_row, moved, number, opened, posting, published, ran,
-    read, recounted, recut, replies, row, stands, unposted,
+    AREA_1, DONE, FIELD, LAST_AREA, LAST_ZONE, MANY_PIECES, MOVING, NO_FACILITY, NO_PART, NO_PIECE,
+    NO_SUBSCRIBER, NOT_ADJACENT, OUT_OF_RANGE, ZONE_1, ask, difference, facility_row, moved,
+    number, opened, posting, published, ran, read, recounted, recut, replies, row, stands,
+    stands_by_hour, unposted,
 };
 use arrayvec::ArrayVec;
 use hlr_core::{Answer, Event, Order, Register, Reply};
@@ -11,7 +12,7 @@ use part_table::{END, Place, Region, Side};
 use std::alloc::Global;
 use std::process::Abort;
 use std::test::Fail;
-use tatp_actions::{CELLS, Cells, RowReply};
+use tatp_actions::{CELLS, Cells, FIRST_AREA, FIRST_ZONE, RowReply};
 use tatp_rows::{Number, Refusal, Subscriber};
 use view_board::{LIMIT, Sight, WORDS};
 
@@ -125,7 +126,7 @@ pub fn example_is_filled(register: &mut Register) -> Result<Option<usize>, Refus
         DONE,
         DONE,
         DONE,
-        Reply::Posted(4),
+        Reply::Posted(25),
         DONE,
         NO_FACILITY,
         DONE,
@@ -149,11 +150,11 @@ fn stretch_is_moved(register: &mut Register, seven: Number) -> Moved {
     };
     let want = [given, MOVING, MOVING, NO_SUBSCRIBER];
     let differs = difference(register, &events, &want);
-    let published = [(0, 1), (1, 1), (2, 1), (18, 1), (20, 5)];
-    let loose = stands(register, &published, &[(0, -1), (1, -1), (20, 2)]);
+    let published = [(LAST_AREA, 1), (ZONE_1, 5)];
+    let loose = stands_by_hour(register, (1, &published), (-1, &[(ZONE_1, 2)]));
     let posted = ask(register, posting(0, 51));
-    let counts = [(2, 1), (18, 1), (20, 7)];
-    let counted = stands(register, &[], &counts) && scans(register, &[(2, 1), (18, 1), (20, 7)]);
+    let counts = [(LAST_AREA, 1), (ZONE_1, 7)];
+    let counted = stands(register, &[], &counts) && scans(register, &[(LAST_AREA, 1), (ZONE_1, 7)]);
     let taken = ask(register, taking(1, 1));
     let there = [region(Part(0), 1, 5), region(Part(1), 5, END)];
     let is_right = loose && counted && has_regions(register, &there);
@@ -166,15 +167,15 @@ fn stretch_is_handed_back(
     row: Subscriber,
 ) -> (Moved, Result<u8, Refusal>) {
     let row = Reply::Rows(RowReply::Row(row));
-    let counts = [(2, 1), (18, 1), (20, 7)];
+    let counts = [(LAST_AREA, 1), (ZONE_1, 7)];
     let first = [read(7), posting(1, 51)];
-    let taken = difference(register, &first, &[row, Reply::Posted(3)]);
+    let taken = difference(register, &first, &[row, Reply::Posted(2)]);
     let proposed = stands(register, &counts, &[]) && proposes(register, &[9]);
     let moves = recut(register, &[9]);
     let moved = stands(register, &counts, &[]);
     let giver = ask(register, posting(0, 51));
-    let twice = [(2, 2), (18, 2), (20, 14)];
-    let doubled = stands(register, &twice, &[(2, -1), (18, -1), (20, -7)]);
+    let twice = [(LAST_AREA, 2), (ZONE_1, 14)];
+    let doubled = stands(register, &twice, &[(LAST_AREA, -1), (ZONE_1, -7)]);
     let taker = ask(register, posting(1, 51));
     let is_right = proposed && moved && doubled && stands(register, &counts, &[]);
     ((taken, [giver, taker], is_right), moves)
@@ -190,14 +191,14 @@ fn expect_example(rt: &impl Abort, register: &mut Register) -> Result<(), Refusa
     let moved = stretch_is_moved(register, seven);
     let back = stretch_is_handed_back(register, row);
     let taking = Reply::Taken { piece: 1, part: 1 };
-    let three = [Reply::Posted(3), Reply::Posted(3)];
+    let two = [Reply::Posted(2), Reply::Posted(2)];
     assert_eq!(rt;
         (opens, filled, moved, back),
         (
             true,
             None,
-            (None, [Reply::Posted(5), taking], true),
-            ((None, three, true), Ok(1)),
+            (None, [Reply::Posted(26), taking], true),
+            ((None, two, true), Ok(1)),
         )
     );
     Ok(())
@@ -391,11 +392,18 @@ fn numbers_of_parts(rt: HostRuntime) -> Result<(), Fail> {
     Ok(())
 }
 
-/// Words at 0 but for the plus-word and the minus-word of slot 0 and cell 20.
+/// The plus-words of area 1 and of zone 1 in slot 0, and the minus-word of zone 1.
+const AREA_WORD: usize = AREA_1 as usize;
+
+const ZONE_WORD: usize = ZONE_1 as usize;
+
+const ZONE_MINUS: usize = ZONE_WORD + CELLS as usize;
+
+/// Words at 0 but for the plus-word and the minus-word of slot 0 and zone 1.
 fn words_with(plus: u64, minus: u64) -> [u64; WORDS] {
     let mut words = [0; WORDS];
-    words[20] = plus;
-    words[71] = minus;
+    words[ZONE_WORD] = plus;
+    words[ZONE_MINUS] = minus;
     words
 }
 
@@ -435,16 +443,21 @@ struct Posting {
 
 /// Whether the words and cells are those after a posting.
 fn is_posted(register: &mut Register, posting_is: &Posting) -> bool {
-    let words = [(4, 1), (20, posting_is.raised), (71, posting_is.word)];
-    let published = [(4, 1), (20, posting_is.published)];
-    sees(register, &words) && stands(register, &published, &[(20, posting_is.unposted)])
+    let words = [
+        (AREA_WORD, 1),
+        (ZONE_WORD, posting_is.raised),
+        (ZONE_MINUS, posting_is.word),
+    ];
+    let published = [(AREA_1, 1), (ZONE_1, posting_is.published)];
+    sees(register, &words) && stands(register, &published, &[(ZONE_1, posting_is.unposted)])
 }
 
 /// Whether the counts of a subscriber are posted so, and seen, and the same posting changes nothing more.
 fn posts(register: &mut Register, posting_is: &Posting) -> Result<bool, Refusal> {
     let word = posting_is.word;
     let added = Event::AddSubscriber(row(7, 7, 268_435_456)?);
-    let is_added = replies(register, added, DONE) && sees(register, &[(20, word), (71, word)]);
+    let is_added = replies(register, added, DONE)
+        && sees(register, &[(ZONE_WORD, word), (ZONE_MINUS, word)]);
     let first = ask(register, posting(0, 51)) == posting_is.reply;
     let is_first = first && is_posted(register, posting_is);
     let again = ask(register, posting(0, 51)) == posting_is.again;
@@ -494,10 +507,15 @@ fn words_that_stand(rt: HostRuntime) -> Result<(), Fail> {
     Ok(())
 }
 
-/// Words at 0 but for the plus- and minus-words of slot 0 at the cells 4 and 20, which can be raised once more.
+/// Words at 0 but for the plus- and minus-words of slot 0 of area 1 and of zone 1, which can be raised once more.
 fn nearly_worn() -> [u64; WORDS] {
     let mut words = [0; WORDS];
-    for word in [4usize, 20, 55, 71] {
+    for word in [
+        AREA_WORD,
+        AREA_WORD + usize::from(CELLS),
+        ZONE_WORD,
+        ZONE_MINUS,
+    ] {
         words[word] = LIMIT - 1;
     }
     words
@@ -515,11 +533,19 @@ fn wears(register: &mut Register) -> Result<([Option<usize>; 2], [bool; 2]), Ref
     ];
     let want = [DONE, Reply::Posted(2), DONE, Reply::Refused(Refusal::Worn)];
     let first = difference(register, &worn, &want);
-    let both = stands(register, &[(4, 1), (20, 1)], &[(4, 1), (20, 1)]);
+    let both = stands(
+        register,
+        &[(AREA_1, 1), (ZONE_1, 1)],
+        &[(AREA_1, 1), (ZONE_1, 1)],
+    );
     let moved = [moved(number(8)?, 536_870_912), posting(0, 51)];
     let want = [DONE, Reply::Refused(Refusal::Worn)];
     let second = difference(register, &moved, &want);
-    let last = stands(register, &[(4, 1), (5, 1), (20, 1)], &[(20, 1)]);
+    let last = stands(
+        register,
+        &[(AREA_1, 1), (AREA_1 + 1, 1), (ZONE_1, 1)],
+        &[(ZONE_1, 1)],
+    );
     Ok(([first, second], [both, last]))
 }
 
@@ -634,15 +660,15 @@ fn recut_moves_regions(register: &mut Register) -> Result<Option<&'static str>, 
         region(Part(2), 100, END),
     ];
     let counts = [
-        (3, 9),
-        (19, 1),
-        (28, 1),
-        (29, 1),
-        (33, 1),
-        (39, 1),
-        (40, 1),
-        (43, 2),
-        (50, 1),
+        (FIRST_AREA, 9),
+        (FIRST_ZONE, 1),
+        (FIRST_ZONE + 9, 1),
+        (FIRST_ZONE + 10, 1),
+        (FIRST_ZONE + 14, 1),
+        (FIRST_ZONE + 20, 1),
+        (FIRST_ZONE + 21, 1),
+        (FIRST_ZONE + 24, 2),
+        (LAST_ZONE, 1),
     ];
     let stays = left(register, sixty) == before && scans(register, &counts);
     let row = Reply::Rows(RowReply::Row(row(60, 60, 1)?));

@@ -6,7 +6,7 @@ use part_table::{Place, Region};
 use std::alloc::Global;
 use std::process::Abort;
 use std::test::Fail;
-use tatp_actions::{CELLS, Cells, RowReply};
+use tatp_actions::{CELLS, Cells, FIRST_AREA, FIRST_ZONE, RowReply};
 use tatp_rows::{Access, Facility, Letters, Number, Refusal, Subscriber};
 
 pub const DONE: Reply = Reply::Rows(RowReply::Done);
@@ -42,6 +42,18 @@ pub const OUT_OF_RANGE: Reply = Reply::Refused(Refusal::OutOfRange);
 pub const NOT_ADJACENT: Reply = Reply::Refused(Refusal::NotAdjacent);
 
 pub const MANY_PIECES: Reply = Reply::Refused(Refusal::ManyPieces);
+
+/// The limit of a posting of all cells.
+pub const ALL_CELLS: u64 = CELLS as u64;
+
+/// The cells of area 1 and of the last area, and of zone 1 and the last zone.
+pub const AREA_1: u8 = FIRST_AREA + 1;
+
+pub const LAST_AREA: u8 = FIRST_ZONE - 1;
+
+pub const ZONE_1: u8 = FIRST_ZONE + 1;
+
+pub const LAST_ZONE: u8 = CELLS - 1;
 
 /// What `ask` replies where a part is away; no register does, and no test wants it.
 pub const AWAY: Reply = Reply::Refused(Refusal::Thread);
@@ -142,10 +154,11 @@ pub fn facility_row(s_id: u64, sf_type: u64, is_active: u64) -> Result<Facility,
     Facility::try_new(s_id, sf_type, is_active, 0, 0, five)
 }
 
-/// The counts of all cells, of which these aren't 0.
-fn counts(some: &[(u8, i64)]) -> [i64; CELLS as usize] {
+/// The counts of all cells: so many of each hour, and of the other cells these aren't 0.
+fn counts(hour: i64, others: &[(u8, i64)]) -> [i64; CELLS as usize] {
     let mut cells = [0; CELLS as usize];
-    for (cell, count) in some {
+    cells[..usize::from(FIRST_AREA)].fill(hour);
+    for (cell, count) in others {
         if let Some(place) = cells.get_mut(usize::from(*cell)) {
             *place = *count;
         }
@@ -155,7 +168,17 @@ fn counts(some: &[(u8, i64)]) -> [i64; CELLS as usize] {
 
 /// Whether these are the cells as published, and these what is not posted yet.
 pub fn stands(register: &Register, posted: &[(u8, i64)], pending: &[(u8, i64)]) -> bool {
-    published(register) == counts(posted) && unposted(register) == counts(pending)
+    stands_by_hour(register, (0, posted), (0, pending))
+}
+
+/// The same where so many are published, or not posted yet, of each hour.
+pub fn stands_by_hour(
+    register: &Register,
+    posted: (i64, &[(u8, i64)]),
+    pending: (i64, &[(u8, i64)]),
+) -> bool {
+    published(register) == counts(posted.0, posted.1)
+        && unposted(register) == counts(pending.0, pending.1)
 }
 
 /// What a register shows of its regions, of a subscriber and of numbers.
@@ -285,9 +308,17 @@ pub fn difference(register: &mut Register, events: &[Event], want: &[Reply]) -> 
 /// Whether a register shows what the list of events left, where its first event added the row or the second did.
 fn has_run(register: &Register, second_added: bool) -> bool {
     if second_added {
-        stands(register, &[(3, 2), (19, 1)], &[(20, 1)])
+        stands(
+            register,
+            &[(FIRST_AREA, 2), (FIRST_ZONE, 1)],
+            &[(ZONE_1, 1)],
+        )
     } else {
-        stands(register, &[(3, 1), (18, 1)], &[(19, 1), (20, 1)])
+        stands(
+            register,
+            &[(FIRST_AREA, 1), (LAST_AREA, 1)],
+            &[(FIRST_ZONE, 1), (ZONE_1, 1)],
+        )
     }
 }
 
@@ -296,7 +327,7 @@ fn has_run(register: &Register, second_added: bool) -> bool {
 fn run_of(register: &mut Register, orders: &[Order]) -> Option<Result<Vec<Answer>, Refusal>> {
     match ran(register, orders) {
         Err(Refusal::Memory) => {
-            if stands(register, &[], &[(3, 1), (19, 1)])
+            if stands(register, &[], &[(FIRST_AREA, 1), (FIRST_ZONE, 1)])
                 && ask(register, read(7)) == NO_SUBSCRIBER
             {
                 return Some(ran(register, orders));

@@ -6,7 +6,8 @@ ghost use Rattle.std.specs.Prelude.{◌≡◌, IfOk};
 ghost use Rattle.hlr_owners.specs.Seats.{AllHome};
 
 use hlr_core::{
-    Action, Board, Event, Frame, Holding, Number, Refusal, Register, Scattered, Subscriber,
+    Action, Board, CELLS, Event, FIRST_AREA, Frame, Holding, Number, Refusal, Register, Scattered,
+    Subscriber,
 };
 use std::alloc::Global;
 use std::process::ExitCode;
@@ -17,7 +18,7 @@ const LOW: u32 = 7;
 
 const HIGH: u32 = 70;
 
-/// A location in area 1, whose subscribers are cell 4.
+/// A location in area 1.
 const LOCATION: u32 = 268_435_456;
 
 /// A subscriber in area 0, whose number is its s_id.
@@ -59,7 +60,7 @@ fn work(board: &Board, mut holding: Box<Holding>, s_id: u32) -> Worked
             vlr_location: LOCATION,
         });
     }
-    let posted = holding.post(board, 51);
+    let posted = holding.post(board, u64::from(CELLS));
     (holding, posted)
 }
 
@@ -132,7 +133,8 @@ fn show<R: Print>(rt: &R, register: &Register)
 {
     let published = register.published();
     let unposted = register.unposted();
-    for cell in 3..5 {
+    let first = usize::from(FIRST_AREA);
+    for cell in first..first + 2 {
         let _ = println!(rt;
             "cell {cell}: {} published, {} not posted",
             published[cell], unposted[cell]
@@ -144,7 +146,10 @@ fn show<R: Print>(rt: &R, register: &Register)
 fn run<R: AllocGlobal + Print + Threads + Sync>(rt: &R) -> Result<(), Refusal> {
     let mut register = opened(rt.alloc())?;
     show(rt, &register);
-    let _reply = register.apply(Event::Post { part: 0, limit: 51 });
+    let _reply = register.apply(Event::Post {
+        part: 0,
+        limit: u64::from(CELLS),
+    });
     show(rt, &register);
     let register = owners_work(rt, register)?;
     show(rt, &register);

@@ -4,6 +4,7 @@ use arrayvec::ArrayVec;
 use hlr_core::Event;
 use part_table::{Place, Region, Regions, Side};
 use std::process::Abort;
+use tatp_actions::CELLS;
 use tatp_rows::Number;
 
 /// How many subscribers there may be.
@@ -239,7 +240,7 @@ impl Draws {
     fn posting(&mut self, regions: &Regions) -> Event {
         Event::Post {
             part: self.below(u64::from(regions.parts()).wrapping_add(1)),
-            limit: self.below(60),
+            limit: self.below(u64::from(CELLS) + 9),
         }
     }
 

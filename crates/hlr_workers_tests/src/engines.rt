@@ -7,7 +7,7 @@ use std::alloc::Global;
 use std::process::Abort;
 use std::sync::{Arc, Wait};
 use std::thread::Threads;
-use tatp_actions::{CELLS, Cells, RowReply};
+use tatp_actions::{CELLS, Cells, FIRST_AREA, FIRST_ZONE, RowReply};
 use tatp_rows::{Access, Facility, Letters, Number, Refusal, Subscriber};
 
 pub const DONE: Reply = Reply::Rows(RowReply::Done);
@@ -210,7 +210,8 @@ pub fn submit<G: Gate + 'static, R: Threads + Wait + Copy + Send + Sync + 'stati
 /// Whether a sight has the posting of subscriber 7 in the words of the first part.
 pub fn has_posting<G: Gate + 'static>(engine: &mut Engine<G>) -> bool {
     let words = engine.sight().words;
-    words.get(4) == Some(&1) && words.get(20) == Some(&1)
+    let (area, zone) = (usize::from(FIRST_AREA) + 1, usize::from(FIRST_ZONE) + 1);
+    words[area] == 1 && words[zone] == 1
 }
 
 /// The replies of an engine that is closed; its register is let go.

@@ -11,7 +11,7 @@ use std::alloc::Global;
 use std::process::Abort;
 use std::sync::{Arc, Wait};
 use std::thread::Threads;
-use tatp_actions::RowReply;
+use tatp_actions::{CELLS, RowReply};
 use tatp_rows::Refusal;
 
 /// Asserts that the workers of these subscribers, one of each part, wait for each other before they read, and that each
@@ -211,7 +211,14 @@ fn posted_between<R: Threads + Wait + Copy + Send + Sync + 'static>(
     engine: &mut Engine<Doors>,
     gate: &Doors,
 ) -> ([bool; 2], Vec<(u64, Reply)>) {
-    let _posted = submit(rt, engine, Event::Post { part: 0, limit: 51 });
+    let _posted = submit(
+        rt,
+        engine,
+        Event::Post {
+            part: 0,
+            limit: u64::from(CELLS),
+        },
+    );
     gate.meet(1);
     let is_before = has_posting(engine);
     gate.open(1);

@@ -15,7 +15,7 @@ use std::process::Abort;
 use std::sync::Wait;
 use std::test::Fail;
 use std::thread::Threads;
-use tatp_actions::{CELLS, Cells};
+use tatp_actions::{CELLS, Cells, FIRST_AREA, FIRST_ZONE};
 use tatp_rows::Refusal;
 
 /// A size that nothing else asks for: where `refuse_memory.sh` refuses all memory, it does so from a piece of it on.
@@ -277,16 +277,24 @@ fn recut_of_three(rt: HostRuntime) -> Result<(), Fail> {
     Ok(())
 }
 
-/// Words at 0 but for the plus- and minus-words of slot 0 at the cells 4 and 20, which can be raised once more.
+/// The cells of areas 1 and 2 and of zone 1.
+const AREA_1: usize = FIRST_AREA as usize + 1;
+
+const AREA_2: usize = FIRST_AREA as usize + 2;
+
+const ZONE_1: usize = FIRST_ZONE as usize + 1;
+
+/// Words at 0 but for the plus- and minus-words of slot 0 of area 1 and of zone 1, which can be raised once more.
 fn nearly_worn() -> [u64; WORDS] {
     let mut words = [0; WORDS];
-    for word in [4usize, 20, 55, 71] {
-        words[word] = LIMIT - 1;
+    for cell in [AREA_1, ZONE_1] {
+        words[cell] = LIMIT - 1;
+        words[cell + usize::from(CELLS)] = LIMIT - 1;
     }
     words
 }
 
-/// A posting of all that the first part has pending.
+/// A posting of up to 51 cells of the first part, which has fewer pending.
 fn posting() -> Event {
     Event::Post { part: 0, limit: 51 }
 }
@@ -307,10 +315,10 @@ fn events_that_wear(rt: &impl Abort) -> [Event; 6] {
     ]
 }
 
-/// The cells 4, 5 and 20 of a register: published, and not posted.
+/// Those cells of a register: published, and not posted.
 fn cells_of(register: &Register) -> [[i64; 3]; 2] {
     let (posted, pending) = (published(register), unposted(register));
-    [posted, pending].map(|cells| [cells[4], cells[5], cells[20]])
+    [posted, pending].map(|cells| [cells[AREA_1], cells[AREA_2], cells[ZONE_1]])
 }
 
 #[test]

@@ -12,7 +12,7 @@ use std::process::Abort;
 use std::sync::Wait;
 use std::thread::{self, Threads};
 use std::time::{Clock, Duration};
-use tatp_actions::RowReply;
+use tatp_actions::{CELLS, RowReply};
 use tatp_rows::Refusal;
 
 /// How many engines there are over one register, one after another.
@@ -82,7 +82,10 @@ fn changes_all<R: Threads + Wait + Abort + Copy + Send + Sync + 'static>(
             sub_nbr: fifty,
             vlr_location,
         },
-        Event::Post { part: 1, limit: 51 },
+        Event::Post {
+            part: 1,
+            limit: u64::from(CELLS),
+        },
         Event::SetNumber {
             s_id: 90,
             sub_nbr: given,
@@ -191,7 +194,14 @@ fn sights_with_posting<R: Threads + Wait + Copy + Send + Sync + 'static>(
     engine: &mut Engine<Open>,
     sights: u64,
 ) -> u64 {
-    let _posted = submit(rt, engine, Event::Post { part: 0, limit: 51 });
+    let _posted = submit(
+        rt,
+        engine,
+        Event::Post {
+            part: 0,
+            limit: u64::from(CELLS),
+        },
+    );
     let _replies = read_all(rt, engine, &[100]);
     for s_id in [7, 100] {
         let _number = submit(rt, engine, read(s_id));

@@ -1,6 +1,7 @@
 use Rattle.std.proofs.Common.{◌≡◌, ◌+◌, ◌<◌, ◌∙◌, arith, rules, get_or, pos, length, length-set, w64}
 use Rattle.std.specs.Int.RustNames.{FitsSigned}
 use Rattle.std.proofs.lemmas.Int.{to_z-of_z}
+use Rattle.tatp_actions.specs.declared.cells.TheConstants.{FIRST_ZONE}
 use Rattle.hlr_core.specs.Weights.{weight}
 use Rattle.hlr_core.proofs.WeightLemmas.{weights_more, all_weights, weights_small}
 use Rattle.hlr_core.proofs.weights.zone_weights.Goals as goal
@@ -8,7 +9,7 @@ use Rattle.hlr_core.proofs.weights.zone_weights.Goals as goal
 pub loop-zone-preserved : goal.loop-zone-preserved
 loop-zone-preserved c =
     let fits : FitsSigned w64 (get_or c.args.published.now c.from.result (pos 0)) = search rules in
-    let is : c.weight_of.result ≡ weight (get_or c.args.published.now (19 + c.loop-zone.zone) (pos 0)) =
+    let is : c.weight_of.result ≡ weight (get_or c.args.published.now (FIRST_ZONE + c.loop-zone.zone) (pos 0)) =
     rw (to_z-of_z w64 (get_or c.args.published.now c.from.result (pos 0)) fits, c.from.ensures) at c.weight_of.ensures in
     let within : c.loop-zone.zone < length c.loop-zone.weights = omega (arith, c.loop-zone.invariant.wide) in
     record {
