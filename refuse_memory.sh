@@ -128,7 +128,7 @@ script() {
     printf 'icf,%015d,2,8,16,%015d\nnumber,%d,%015d\n' "$s" "$s" "$s" "$((s + 1000))"
   done | twice
   printf 'gsd,7\nul,000000000001007,5\ngsd,7\ngad,7,1\nusd,7,2,1,9\ngnd,7,2,8,9\nactive,7,2,0\ngnd,7,2,8,9\n'
-  printf 'dcf,000000000001007,2,8\nviews\npost,0,51\npost,1,20\n'
+  printf 'dcf,000000000001007,2,8\nviews\npost,0,72\npost,1,20\n'
   reports
   printf 'give,0,high,100\ngive,2,low,400\n' | twice
   printf 'gsd,100\nul,000000000000100,5\nicf,000000000000101,1,0,8,000000000000101\nnumber,102,000000000009102\n'
@@ -137,7 +137,7 @@ script() {
   printf 'take,1,1\ntake,2,1\n' | twice
   reports
   cut 50 500
-  printf 'post,2,51\n'
+  printf 'post,2,72\n'
   cut 300 301
   cut 2 16777216
   cut 2 3
@@ -257,11 +257,11 @@ short_script() {
   for s in $(seq 33 40); do row "$s"; done | twice
   for s in $(seq 1 36); do printf 'acc,%d,1,3,4,ABC,ABCDE\nfac,%d,2,1,0,0,ABCDE\n' "$s" "$s"; done | twice
   for s in $(seq 1 40); do printf 'icf,%015d,2,8,16,%015d\n' "$s" "$s"; done | twice
-  printf 'gsd,7\nul,000000000001007,5\npost,0,51\nviews\n'
+  printf 'gsd,7\nul,000000000001007,5\npost,0,72\nviews\n'
   printf 'give,0,high,20\n' | twice
   printf 'gsd,7\ngad,20,1\ngnd,7,2,8,9\n'
   printf 'take,1,1\n' | twice
-  printf 'gsd,20\nusd,20,2,1,9\npost,1,51\n'
+  printf 'gsd,20\nusd,20,2,1,9\npost,1,72\n'
   reports
   cut 12 300
   reports

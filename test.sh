@@ -96,7 +96,7 @@ clients() {
     echo 'skipped, since there is no python3: client.py and day.sh of examples/clients'
     return
   fi
-  is "client.py $*" "$(python3 examples/clients/client.py "$hlr" "$@")" $'ok\nok\n'"$moved"$'\nrefused,3,NoSubscriber\ncell,5,0,1\ncell,19,0,1\nviews,2'
+  is "client.py $*" "$(python3 examples/clients/client.py "$hlr" "$@")" $'ok\nok\n'"$moved"$'\nrefused,3,NoSubscriber\ncell,26,0,1\ncell,40,0,1\nviews,2'
   examples/clients/day.sh "$hlr" "$@" > "$room/out"
   is "day.sh $*: its bounds moved" "$(grep -c '^recut,[1-3]$' "$room/out")" 1
   is "day.sh $*: its last line" "$(tail -n 1 "$room/out" | grep -c '^views,')" 1
@@ -141,7 +141,7 @@ options() {
     '16 ManyPieces' '17 Worn' '18 Thread' '19 Syntax' '20 Read' '21 Write'; do
     is "--help: the refusal $word" "$(grep -cwF -e "$word" "$room/out")" 1
   done
-  has '--help' "$room/out" 'cell 3 + V / 268435456'
+  has '--help' "$room/out" 'cell 24 + V / 268435456'
   has '--help' "$room/out" 'give --zone the greatest S divided by 32, rounded up'
   has '--help' "$room/out" "The status is 0, or 1 after 'hlr: no memory'"
   # the example that it ends with does what it says

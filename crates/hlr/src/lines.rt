@@ -10,11 +10,14 @@ use hlr_core::Reply;
 use itoa::write_digits;
 use part_table::{Bounds, Place, Region};
 use std::marker::Model;
-use tatp_actions::RowReply;
+use tatp_actions::{CELLS, RowReply};
 use tatp_rows::{Letters, Number, Refusal, Subscriber};
 
-/// How many bytes a line has room for: all lines of a report of the cells fit.
-pub const LINE_ROOM: usize = 4096;
+/// The most bytes that the line of a cell, of a pair or of a region takes.
+const SHORT_LINE: usize = 70;
+
+/// How many bytes a line has room for: those of the lines of all cells.
+pub const LINE_ROOM: usize = SHORT_LINE * CELLS as usize;
 
 /// A line while it is built, or several that go out together. It is built from its last byte to its first, so that each
 /// number's digits are written where they stay: what is put stands in front of what is there. It takes no memory: its
@@ -274,9 +277,9 @@ pub fn build_total(line: &mut Line, word: &[u8], count: u64)
 /// Puts the line of a cell in front: its published and its unposted count.
 #[tactic(auto, unfolding(crate::specs::Lines::cell_line))]
 pub fn put_cell(line: &mut Line, cell: u64, published: i64, unposted: i64)
-    requires { length line.old.items + 70 ≤ LINE_ROOM }
+    requires { length line.old.items + SHORT_LINE ≤ LINE_ROOM }
     ensures bytes { line.new.items ≡ cell_line cell published unposted ++ line.old.items }
-    ensures len { length line.new.items ≤ length line.old.items + 70 }
+    ensures len { length line.new.items ≤ length line.old.items + SHORT_LINE }
 {
     line.put_byte(b'\n');
     line.put_signed(unposted);
@@ -290,9 +293,9 @@ pub fn put_cell(line: &mut Line, cell: u64, published: i64, unposted: i64)
 /// Puts the line of a cell counted over the rows in front.
 #[tactic(auto, unfolding(crate::specs::Lines::counted_line))]
 pub fn put_counted(line: &mut Line, cell: u64, count: u64)
-    requires { length line.old.items + 70 ≤ LINE_ROOM }
+    requires { length line.old.items + SHORT_LINE ≤ LINE_ROOM }
     ensures bytes { line.new.items ≡ counted_line cell count ++ line.old.items }
-    ensures len { length line.new.items ≤ length line.old.items + 70 }
+    ensures len { length line.new.items ≤ length line.old.items + SHORT_LINE }
 {
     line.put_byte(b'\n');
     line.put_decimal(count);
@@ -304,9 +307,9 @@ pub fn put_counted(line: &mut Line, cell: u64, count: u64)
 /// Puts the line of a number and the subscriber who has it in front.
 #[tactic(auto, unfolding(crate::specs::Lines::number_line))]
 pub fn put_pair(line: &mut Line, number: u64, s_id: u32)
-    requires { length line.old.items + 70 ≤ LINE_ROOM }
+    requires { length line.old.items + SHORT_LINE ≤ LINE_ROOM }
     ensures bytes { line.new.items ≡ number_line (number, s_id) ++ line.old.items }
-    ensures len { length line.new.items ≤ length line.old.items + 70 }
+    ensures len { length line.new.items ≤ length line.old.items + SHORT_LINE }
 {
     line.put_byte(b'\n');
     line.put_decimal(u64::from(s_id));

@@ -37,8 +37,8 @@ the program waits for more input.
   give,P,high,S                  the part P gives its subscribers from S on away, as a loose piece: piece,K,FROM,TO
   give,P,low,S                   the same with those below S
   take,K,P                       the part P takes the loose piece K beside it: taken,K,P
-  views                          shows the counts that aren't 0: cell,C,PUBLISHED,UNPOSTED lines, then views,LINES
-  scan                           counts the rows anew: cell,C,COUNT lines, then scan,LINES
+  views                          shows the counts that aren't 0: cell,CELL,PUBLISHED,UNPOSTED lines, then views,LINES
+  scan                           counts the rows anew: cell,CELL,COUNT lines, then scan,LINES
   index                          shows all numbers: number,N,S lines, then index,LINES
   regions                        shows all ranges: part,P,FROM,TO and piece,K,FROM,TO lines, then regions,LINES
   propose                        shows bounds that give each part about its share of the published rows: bounds,S,..
@@ -56,9 +56,9 @@ Any other record, or one that can't be done, is answered refused,CODE,NAME, by w
 
 18 Thread, 20 Read and 21 Write are no answers. A blank line has none.
 
-The cells C are 51 counts: 0, 1 and 2 of the forwardings from the hours 0, 8 and 16 whose facility is on; 3 to 18 of the
-subscribers by area, cell 3 + V / 268435456; 19 to 50 of the rows of all kinds by zone, cell 19 + (S - 1) / W where
---zone gives W, and 50 for all zones behind it too.
+Each CELL is a count: 0 to 23 of the forwardings by hour whose facility is on, those with T <= CELL < U; 24 to 39 of
+the subscribers by area, cell 24 + V / 268435456; 40 to 71 of the rows of all kinds by zone, cell 40 + (S - 1) / W where
+--zone gives W, and 71 for all zones behind it too.
 
 The subscribers are shared among parts, numbered from 0: each part has those from a number FROM on and below a number
 TO, and publishes their counts. What a part gives away is a loose piece until a part beside it takes it; till then

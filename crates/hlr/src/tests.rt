@@ -17,6 +17,7 @@ use std::io::{self, ErrorKind, Read, Write};
 use std::process::Abort;
 use std::sync::Wait;
 use std::thread::Threads;
+use tatp_actions::CELLS;
 use tatp_rows::Refusal;
 
 /// A run without threads, and one with.
@@ -202,25 +203,25 @@ views
 
 /// The answers to the script.
 const ANSWERS: &[u8] = b"ok
-cell,4,0,1
-cell,20,0,1
+cell,25,0,1
+cell,41,0,1
 views,2
 posted,1
-cell,4,1,0
-cell,20,0,1
+cell,25,1,0
+cell,41,0,1
 views,2
 posted,1
 ok
-cell,4,1,-1
-cell,18,0,1
-cell,20,1,0
+cell,25,1,-1
+cell,39,0,1
+cell,41,1,0
 views,3
-cell,18,1
-cell,20,1
+cell,39,1
+cell,41,1
 scan,2
 posted,2
-cell,18,1,0
-cell,20,1,0
+cell,39,1,0
+cell,41,1,0
 views,2
 ok
 ok
@@ -231,25 +232,88 @@ numbers,000000000000200,000000000000300
 cell,0,0,1
 cell,1,0,1
 cell,2,0,1
-cell,18,1,0
-cell,20,1,4
-views,5
+cell,3,0,1
+cell,4,0,1
+cell,5,0,1
+cell,6,0,1
+cell,7,0,1
+cell,8,0,1
+cell,9,0,1
+cell,10,0,1
+cell,11,0,1
+cell,12,0,1
+cell,13,0,1
+cell,14,0,1
+cell,15,0,1
+cell,16,0,1
+cell,17,0,1
+cell,18,0,1
+cell,19,0,1
+cell,20,0,1
+cell,21,0,1
+cell,22,0,1
+cell,23,0,1
+cell,39,1,0
+cell,41,1,4
+views,26
 refused,8,NoDestination
-posted,4
+posted,25
 ok
 cell,0,1,-1
 cell,1,1,-1
 cell,2,1,-1
-cell,18,1,0
-cell,20,5,0
-views,5
+cell,3,1,-1
+cell,4,1,-1
+cell,5,1,-1
+cell,6,1,-1
+cell,7,1,-1
+cell,8,1,-1
+cell,9,1,-1
+cell,10,1,-1
+cell,11,1,-1
+cell,12,1,-1
+cell,13,1,-1
+cell,14,1,-1
+cell,15,1,-1
+cell,16,1,-1
+cell,17,1,-1
+cell,18,1,-1
+cell,19,1,-1
+cell,20,1,-1
+cell,21,1,-1
+cell,22,1,-1
+cell,23,1,-1
+cell,39,1,0
+cell,41,5,0
+views,26
 ok
 cell,0,1,-1
 cell,1,1,-1
 cell,2,1,-1
-cell,18,1,0
-cell,20,5,0
-views,5
+cell,3,1,-1
+cell,4,1,-1
+cell,5,1,-1
+cell,6,1,-1
+cell,7,1,-1
+cell,8,1,-1
+cell,9,1,-1
+cell,10,1,-1
+cell,11,1,-1
+cell,12,1,-1
+cell,13,1,-1
+cell,14,1,-1
+cell,15,1,-1
+cell,16,1,-1
+cell,17,1,-1
+cell,18,1,-1
+cell,19,1,-1
+cell,20,1,-1
+cell,21,1,-1
+cell,22,1,-1
+cell,23,1,-1
+cell,39,1,0
+cell,41,5,0
+views,26
 refused,8,NoDestination
 refused,6,NoFacility
 subscriber,7,000000000000007,0000000000,0000000000,00000000000000000000,1,4294967295
@@ -263,16 +327,37 @@ numbers,000000000000400
 refused,8,NoDestination
 cell,0,1,-1
 cell,1,1,-1
-cell,2,1,0
-cell,18,1,0
-cell,20,5,2
-views,5
+cell,2,1,-1
+cell,3,1,-1
+cell,4,1,-1
+cell,5,1,-1
+cell,6,1,-1
+cell,7,1,-1
+cell,8,1,-1
+cell,9,1,-1
+cell,10,1,-1
+cell,11,1,-1
+cell,12,1,-1
+cell,13,1,-1
+cell,14,1,-1
+cell,15,1,-1
+cell,16,1,-1
+cell,17,1,-1
+cell,18,1,-1
+cell,19,1,-1
+cell,20,1,-1
+cell,21,1,-1
+cell,22,1,-1
+cell,23,1,-1
+cell,39,1,0
+cell,41,5,2
+views,26
 ";
 
 /// Where the answer to each record of the script ends.
 const ENDS: [usize; 36] = [
-    0, 3, 34, 43, 74, 83, 86, 130, 157, 166, 198, 201, 204, 207, 210, 266, 306, 371, 395, 404, 407,
-    475, 478, 546, 570, 591, 676, 679, 764, 781, 800, 803, 806, 830, 854, 921,
+    0, 3, 35, 44, 76, 85, 88, 133, 160, 169, 201, 204, 207, 210, 213, 269, 309, 620, 644, 654, 657,
+    992, 995, 1330, 1354, 1375, 1460, 1463, 1548, 1565, 1584, 1587, 1590, 1614, 1638, 1973,
 ];
 
 /// Texts with their answers, and how often the sink is flushed where the text comes in one piece: at the end of the
@@ -506,13 +591,13 @@ ok
 subscriber,7,000000000000007,1000000000,0000000000,00000000000000000000,1,268435456
 ok
 ok
-cell,4,1
-cell,20,4
+cell,25,1
+cell,41,4
 scan,2
 number,000000000000009,7
 index,1
-cell,4,0,1
-cell,20,0,4
+cell,25,0,1
+cell,41,0,4
 views,2
 ";
 
@@ -561,8 +646,8 @@ regions,3
 taken,1,1
 bounds,9
 recut,1
-cell,4,1,0
-cell,20,1,0
+cell,25,1,0
+cell,41,1,0
 views,2
 part,0,1,9
 part,1,9,16777217
@@ -648,10 +733,10 @@ fn a_failed_flush_is_a_fault_of_the_writer(rt: HostRuntime) {
     let text = &SCRIPT[..92];
     for threads in WAYS {
         for (flush_limit, rest, wanted) in [
-            (0, Rest::Ends, 34),
-            (1, Rest::Ends, 43),
-            (2, Rest::Ends, 43),
-            (2, Rest::Fails, 43),
+            (0, Rest::Ends, 35),
+            (1, Rest::Ends, 44),
+            (2, Rest::Ends, 44),
+            (2, Rest::Fails, 44),
         ] {
             let mut tape = Tape::new(&pending);
             tape.flush_limit = flush_limit;
@@ -729,14 +814,14 @@ fn refused_memory_is_told(rt: HostRuntime) {
 #[test]
 fn lines_and_fields_are_as_told(rt: HostRuntime) {
     let mut line = empty_line();
-    put_cell(&mut line, 50, i64::MIN, -1);
-    put_counted(&mut line, 50, u64::MAX);
+    put_cell(&mut line, 71, i64::MIN, -1);
+    put_counted(&mut line, 71, u64::MAX);
     assert_eq!(rt;
         line.as_slice(),
-        b"cell,50,18446744073709551615\ncell,50,-9223372036854775808,-1\n".as_slice()
+        b"cell,71,18446744073709551615\ncell,71,-9223372036854775808,-1\n".as_slice()
     );
-    build_total(&mut line, b"views,", 51);
-    assert_eq!(rt; line.as_slice(), b"views,51\n".as_slice());
+    build_total(&mut line, b"views,", 72);
+    assert_eq!(rt; line.as_slice(), b"views,72\n".as_slice());
     build_reply(&mut line, &Reply::Refused(Refusal::Worn));
     assert_eq!(rt; line.as_slice(), b"refused,17,Worn\n".as_slice());
     build_recut(&mut line, Ok(15));
@@ -798,16 +883,16 @@ fn pieces_and_reports_are_put(rt: HostRuntime) {
     let mut sink = Out::new(&mut tape);
     assert_eq!(rt; sink.put(b"ab"), Ok(2));
     assert_eq!(rt; put_all(&mut sink, b"cd"), Ok(()));
-    let mut published = [0i64; 51];
-    published[50] = -3;
+    let mut published = [0i64; CELLS as usize];
+    published[usize::from(CELLS) - 1] = -3;
     let mut line = empty_line();
     let counts = Counts::Standing {
         published: &published,
-        unposted: &[0; 51],
+        unposted: &[0; CELLS as usize],
     };
     assert_eq!(rt; write_cells(&counts, &mut line, &mut sink), Ok(()));
     assert_eq!(rt; sink.flush(), Ok(()));
-    assert_eq!(rt; tape.text(), b"abcdcell,50,-3,0\nviews,1\n".as_slice());
+    assert_eq!(rt; tape.text(), b"abcdcell,71,-3,0\nviews,1\n".as_slice());
     let mut tape = Tape::new(&pending);
     tape.interrupts = 1;
     tape.room = 0;
