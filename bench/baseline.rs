@@ -94,14 +94,18 @@ struct Store {
     piece: Option<Box<Store>>,
 }
 
+const CELLS: usize = 72;
+const FIRST_AREA: usize = 24;
+const FIRST_ZONE: usize = 40;
+
 impl Store {
     fn new(width: u32) -> Store {
         Store { width, subs: BTreeMap::new(), accs: BTreeMap::new(), facs: BTreeMap::new(),
-                fwds: BTreeMap::new(), index: HashMap::new(), count: vec![0; 51], published: vec![0; 51], piece: None }
+                fwds: BTreeMap::new(), index: HashMap::new(), count: vec![0; CELLS], published: vec![0; CELLS], piece: None }
     }
-    fn zone(&self, s: u32) -> usize { 19 + ((s - 1) / self.width).min(31) as usize }
-    fn area(&self, vlr: u32) -> usize { 3 + (vlr >> 28) as usize }
-    fn forward(&mut self, start: u8, by: i64) { self.count[start as usize / 8] += by; }
+    fn zone(&self, s: u32) -> usize { FIRST_ZONE + ((s - 1) / self.width).min(31) as usize }
+    fn area(&self, vlr: u32) -> usize { FIRST_AREA + (vlr >> 28) as usize }
+    fn forward(&mut self, start: u8, end: u8, by: i64) { for hour in start..end { self.count[hour as usize] += by; } }
     fn of(&self, n: u64) -> R<u32> { self.index.get(&n).copied().ok_or(No::Nbr) }
 
     fn answer(&mut self, f: &[&[u8]], out: &mut impl Write) -> R<()> {
@@ -174,16 +178,16 @@ impl Store {
                 self.fwds.insert((s, t, u), Fwd { end: e, numberx: x });
                 let z = self.zone(s);
                 self.count[z] += 1;
-                if active { self.forward(u, 1); }
+                if active { self.forward(u, e, 1); }
             }
             b"dcf" => {
                 is(3)?;
                 let (n, t, u) = (nbr(f[1])?, typ(f[2])?, start(f[3])?);
                 let s = self.of(n)?;
-                self.fwds.remove(&(s, t, u)).ok_or(No::Fwd)?;
+                let gone = self.fwds.remove(&(s, t, u)).ok_or(No::Fwd)?;
                 let z = self.zone(s);
                 self.count[z] -= 1;
-                if self.facs[&(s, t)].active { self.forward(u, -1); }
+                if self.facs[&(s, t)].active { self.forward(u, gone.end, -1); }
             }
             b"sub" => {
                 is(7)?;
@@ -223,8 +227,8 @@ impl Store {
                 let x = self.facs.get_mut(&(s, t)).ok_or(No::Fac)?;
                 if x.active != v {
                     x.active = v;
-                    let all: Vec<u8> = self.fwds.range((s, t, 0)..=(s, t, 16)).map(|(k, _)| k.2).collect();
-                    for u in all { self.forward(u, if v { 1 } else { -1 }); }
+                    let all: Vec<(u8, u8)> = self.fwds.range((s, t, 0)..=(s, t, 16)).map(|(k, x)| (k.2, x.end)).collect();
+                    for (u, e) in all { self.forward(u, e, if v { 1 } else { -1 }); }
                 }
             }
             b"number" => {

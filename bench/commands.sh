@@ -42,8 +42,8 @@ input() {
     found | ends | quoted) awk -v n="$2" 'BEGIN { srand(7); while (n--) printf "gsd,%d\n", 1 + int(rand() * 1000) }' | written "$1" ;;
     refused) awk -v n="$2" 'BEGIN { srand(7); while (n--) printf "gsd,%d\n", 1 + int(rand() * 16777216) }' ;;
     moved) awk -v n="$2" 'BEGIN { srand(7); while (n--) printf "ul,%015d,%.0f\n", 1 + int(rand() * 1000), 1 + int(rand() * 4294967295) }' ;;
-    posted) awk -v n="$2" 'BEGIN { srand(7); for (; n > 0; n -= 2) printf "ul,%015d,%.0f\npost,0,51\n", 1 + int(rand() * 1000), 1 + int(rand() * 4294967295) }' ;;
-    idle) awk -v n="$2" 'BEGIN { while (n--) print "post,0,51" }' ;;
+    posted) awk -v n="$2" 'BEGIN { srand(7); for (; n > 0; n -= 2) printf "ul,%015d,%.0f\npost,0,72\n", 1 + int(rand() * 1000), 1 + int(rand() * 4294967295) }' ;;
+    idle) awk -v n="$2" 'BEGIN { while (n--) print "post,0,72" }' ;;
     views) awk -v n="$2" 'BEGIN { while (n--) print "views" }' ;;
   esac
 }

@@ -47,11 +47,14 @@ static const char *TEXT[STATEMENTS] = {
   "DELETE FROM forwarding WHERE s = ? AND t = ? AND u = ?",
   "UPDATE facility SET active = ?3 WHERE s = ?1 AND t = ?2",
   "UPDATE subscriber SET nbr = ?2 WHERE s = ?1",
-  "SELECT u / 8, count(*) FROM forwarding NATURAL JOIN (SELECT s, t FROM facility WHERE active = 1) GROUP BY u",
-  "SELECT 3 + (vlr >> 28), count(*) FROM subscriber GROUP BY 1",
-  "SELECT 19 + min(31, (s - 1) / ?), count(*) FROM (SELECT s FROM subscriber UNION ALL SELECT s FROM access"
+  "SELECT c, count(*) FROM (WITH RECURSIVE hours(c) AS (VALUES (0) UNION ALL SELECT c + 1 FROM hours WHERE c < 23) SELECT c FROM hours),"
+  " forwarding NATURAL JOIN (SELECT s, t FROM facility WHERE active = 1) WHERE u <= c AND c < e GROUP BY c",
+  "SELECT 24 + (vlr >> 28), count(*) FROM subscriber GROUP BY 1",
+  "SELECT 40 + min(31, (s - 1) / ?), count(*) FROM (SELECT s FROM subscriber UNION ALL SELECT s FROM access"
   " UNION ALL SELECT s FROM facility UNION ALL SELECT s FROM forwarding) GROUP BY 1",
 };
+
+enum { CELLS = 72 };
 
 static sqlite3_stmt *prepared[STATEMENTS];
 
@@ -102,14 +105,14 @@ static const char *destinations(char **f) {
 
 /* Each cell that counts some rows; of views with nothing published. */
 static void count(const char *name, long long width) {
-  long long cells[51] = {0};
+  long long cells[CELLS] = {0};
   int listed = 0;
   for (enum statement which = CALLS; which <= ZONES; which++) {
     sqlite3_reset(prepared[which]);
     if (which == ZONES) sqlite3_bind_int64(prepared[which], 1, width);
     while (sqlite3_step(prepared[which]) == SQLITE_ROW) cells[number(which, 0)] = number(which, 1);
   }
-  for (int cell = 0; cell < 51; cell++)
+  for (int cell = 0; cell < CELLS; cell++)
     if (cells[cell]) listed++, printf(*name == 'v' ? "cell,%d,0,%lld\n" : "cell,%d,%lld\n", cell, cells[cell]);
   printf("%s,%d\n", name, listed);
 }
