@@ -41,10 +41,10 @@ class Picture:
 def counts():
     """Owners with their rows and deltas, the words that they raise, and what a reader adds up."""
     picture = Picture(820, 330)
-    picture.box(20, 30, 230, 92, ["part 0", "the rows of its subscribers", "deltas not posted: cell 5, +1"])
+    picture.box(20, 30, 230, 92, ["part 0", "the rows of its subscribers", "deltas not posted: cell 26, +1"])
     picture.box(20, 218, 230, 92, ["part 1", "the rows of its subscribers", "deltas not posted: none"])
     picture.box(20, 134, 230, 72, ["piece 1, from part 0", "its rows, with their own count;", "its subscribers get Moving"], "#fff3e0")
-    picture.box(350, 70, 180, 190, ["the board", "slot 0: words of part 0", "slot 1: words of part 1", "", "a plus-word and a minus-", "word for each of 51 cells;", "a word only rises, and", "its slot's owner alone", "raises it"])
+    picture.box(350, 70, 180, 190, ["the board", "slot 0: words of part 0", "slot 1: words of part 1", "", "a plus-word and a minus-", "word for each of 72 cells;", "a word only rises, and", "its slot's owner alone", "raises it"])
     picture.box(620, 90, 180, 130, ["views", "for each cell: what is", "published (plus less minus,", "over all slots) and the", "deltas not posted:", "together the count now"])
     picture.arrow(250, 76, 350, 110, "post")
     picture.arrow(250, 262, 350, 220, "post")
