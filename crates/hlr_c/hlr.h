@@ -1,0 +1,240 @@
+/*
+ * hlr.h: the register as a library for C, libhlr_c.a.
+ *
+ *     hlr handle = HLR_CLOSED;
+ *     if (hlr_open(1, 524288, &handle) == HLR_DONE) { ... hlr_close(&handle); }
+ *
+ * Each call answers a code: HLR_DONE, or why it was refused. A refusal changes nothing, but for two that say so
+ * (hlr_post, hlr_recut). What a call writes by reference it writes where it answers HLR_DONE, and else it leaves that
+ * as it was. Refusals are listed in their order: of several that apply, the first one is answered. Each call first
+ * answers HLR_NOT_OPEN where the handle isn't open, so that isn't said again.
+ *
+ * All numbers are checked, whatever is handed in; they are 64 bits wide, so that nothing is cut off on the way. Letters
+ * are ASCII codes, and have no 0 behind them.
+ *
+ * What C owes, since no prover sees it:
+ *   - A handle is filled with zeros (HLR_CLOSED) before its first call. From then on only these calls write to it, and
+ *     it isn't copied: two copies of an open handle would have one register. A handle that was never filled may be
+ *     anything, and then so may the calls.
+ *   - An open handle is closed once, or its memory is never given back.
+ *   - One call at a time works on a handle. It may go from thread to thread, where a lock, a thread's start or join, or
+ *     an atomic step in one order for all (memory_order_seq_cst) stands between two calls.
+ *   - Pointers aren't null, point to what their type says, and the things that one call is passed don't overlap.
+ *   - malloc, realloc and free are those of one allocator, and align a block to each power of two up to 16 that divides
+ *     its size. No call is made from a signal handler, or in the forked child of a process with threads.
+ *
+ * Link libhlr_c.a and then liblibc_c.a of the kit, which has what the library asks of malloc and free.
+ */
+#ifndef HLR_H
+#define HLR_H
+
+#include <stdint.h>
+
+#ifdef __cplusplus
+extern "C" {
+#endif
+
+/* A handle with a register, or a closed one. Its fields are the library's own. */
+typedef struct {
+    uint64_t mark;
+    void *address;
+} hlr;
+
+#define HLR_CLOSED {0, 0}
+
+/* The codes. */
+enum {
+    HLR_DONE = 0,
+    HLR_MEMORY = 1,         /* no memory was left */
+    HLR_FIELD = 2,          /* a number or a letter is out of its range */
+    HLR_NO_SUBSCRIBER = 3,  /* no subscriber row has this s_id */
+    HLR_NO_NUMBER = 4,      /* no subscriber has this number */
+    HLR_NO_ACCESS = 5,      /* no access row has this key, or there is no such subscriber */
+    HLR_NO_FACILITY = 6,    /* no facility row has this key, or (hlr_set_active) there is no such subscriber */
+    HLR_NO_FORWARDING = 7,  /* no forwarding has this key */
+    HLR_NO_DESTINATION = 8, /* the facility isn't there or isn't active, or no forwarding of it takes the call */
+    HLR_EXISTS = 9,         /* a row with this key is there */
+    HLR_NUMBER_TAKEN = 10,  /* another subscriber has the number */
+    HLR_MOVING = 11,        /* the subscriber lies in a loose piece; of hlr_recut: a piece is loose */
+    HLR_NO_PART = 12,       /* there is no such part */
+    HLR_NO_PIECE = 13,      /* there is no such loose piece */
+    HLR_OUT_OF_RANGE = 14,  /* at isn't strictly inside the part's range */
+    HLR_NOT_ADJACENT = 15,  /* the piece doesn't touch the part */
+    HLR_MANY_PIECES = 16,   /* sixteen pieces are loose */
+    HLR_WORN = 17,          /* a word of the board is at its limit, 2^63 - 1 */
+    HLR_NOT_OPEN = 254,     /* the handle has no register */
+    HLR_STILL_OPEN = 255    /* the handle of hlr_open has a register */
+};
+
+/*
+ * Ranges: s_id 1..=16777216; sub_nbr and numberx below 10^15; ai_type and sf_type 1..=4; start_time 0, 8 or 16;
+ * end_time 1..=24; locations 1..=4294967295.
+ */
+
+/* A Subscriber row. */
+typedef struct {
+    uint64_t s_id;
+    uint64_t sub_nbr;
+    uint8_t bits[10];  /* bit_1 to bit_10, each 0 or 1 */
+    uint8_t hexes[10]; /* hex_1 to hex_10, each 0..=15 */
+    uint8_t bytes[10]; /* byte2_1 to byte2_10 */
+    uint64_t msc_location;
+    uint64_t vlr_location;
+} hlr_subscriber;
+
+/* An Access_Info row. */
+typedef struct {
+    uint64_t s_id;
+    uint64_t ai_type;
+    uint64_t data1;   /* 0..=255 */
+    uint64_t data2;   /* 0..=255 */
+    uint8_t data3[3]; /* letters A to Z */
+    uint8_t data4[5]; /* letters A to Z */
+} hlr_access;
+
+/* A Special_Facility row. */
+typedef struct {
+    uint64_t s_id;
+    uint64_t sf_type;
+    uint64_t is_active;   /* 0 or 1 */
+    uint64_t error_cntrl; /* 0..=255 */
+    uint64_t data_a;      /* 0..=255 */
+    uint8_t data_b[5];    /* letters A to Z */
+} hlr_facility;
+
+/* Numbers that calls are forwarded to. */
+typedef struct {
+    uint64_t count;      /* 1..=3 */
+    uint64_t numbers[3]; /* 0 in the places behind them */
+} hlr_numbers;
+
+/* A range of subscribers, and who has it. */
+typedef struct {
+    uint64_t lo;       /* the first subscriber */
+    uint64_t hi;       /* the number behind the last one, at most 16777217 */
+    uint64_t is_piece; /* 0 of a part, 1 of a loose piece */
+    uint64_t number;   /* of the part, from 0 on, or of the piece, 1..=16 */
+} hlr_region;
+
+/* Regions, in order. */
+typedef struct {
+    uint64_t count; /* 1..=32 */
+    hlr_region regions[32];
+} hlr_region_list;
+
+/* Bounds between parts, in order: the first subscriber of each part but the first. */
+typedef struct {
+    uint64_t count; /* 0..=15 */
+    uint64_t bounds[15];
+} hlr_bounds;
+
+/* How many cells there are: forwardings of active facilities by hour 0..=23, subscribers by area 24..=39, rows of all
+ * tables by zone 40..=71. */
+#define HLR_CELLS 72
+
+/*
+ * Opens an empty register in a closed handle. parts, 1..=16, share its subscribers, which lie in 32 zones of width
+ * subscribers each, 1..=524288; the last zone has all that are left.
+ * HLR_STILL_OPEN, HLR_FIELD, HLR_MEMORY; after the last two the handle is closed.
+ */
+uint8_t hlr_open(uint64_t parts, uint64_t width, hlr *handle);
+
+/* Closes a handle, and gives back all memory of its register. HLR_NOT_OPEN. */
+uint8_t hlr_close(hlr *handle);
+
+/* GET_SUBSCRIBER_DATA: reads a row. HLR_FIELD, HLR_MOVING, HLR_NO_SUBSCRIBER. */
+uint8_t hlr_subscriber_data(hlr *handle, uint64_t s_id, hlr_subscriber *row);
+
+/*
+ * GET_NEW_DESTINATION: the numbers that an active facility forwards to, of its forwardings that start by start_time and
+ * end after end_time, by their start. HLR_FIELD, HLR_MOVING, HLR_NO_DESTINATION.
+ */
+uint8_t hlr_new_destination(hlr *handle, uint64_t s_id, uint64_t sf_type, uint64_t start_time, uint64_t end_time,
+                            hlr_numbers *numbers);
+
+/* GET_ACCESS_DATA: reads a row. HLR_FIELD, HLR_MOVING, HLR_NO_ACCESS. */
+uint8_t hlr_access_data(hlr *handle, uint64_t s_id, uint64_t ai_type, hlr_access *row);
+
+/*
+ * UPDATE_SUBSCRIBER_DATA: sets bit_1, 0 or 1, of the subscriber and data_a, 0..=255, of the facility, or neither.
+ * HLR_FIELD, HLR_MOVING, HLR_NO_SUBSCRIBER, HLR_NO_FACILITY.
+ */
+uint8_t hlr_update_subscriber(hlr *handle, uint64_t s_id, uint64_t sf_type, uint64_t bit_1, uint64_t data_a);
+
+/* UPDATE_LOCATION: moves the subscriber with a number. HLR_FIELD, HLR_NO_NUMBER, HLR_MOVING. */
+uint8_t hlr_update_location(hlr *handle, uint64_t sub_nbr, uint64_t vlr_location);
+
+/*
+ * INSERT_CALL_FORWARDING: adds a forwarding of the subscriber with a number, to the number numberx.
+ * HLR_FIELD, HLR_NO_NUMBER, HLR_MOVING, HLR_NO_FACILITY, HLR_EXISTS, HLR_MEMORY.
+ */
+uint8_t hlr_insert_forwarding(hlr *handle, uint64_t sub_nbr, uint64_t sf_type, uint64_t start_time, uint64_t end_time,
+                              uint64_t numberx);
+
+/* DELETE_CALL_FORWARDING: takes one away. HLR_FIELD, HLR_NO_NUMBER, HLR_MOVING, HLR_NO_FORWARDING. */
+uint8_t hlr_delete_forwarding(hlr *handle, uint64_t sub_nbr, uint64_t sf_type, uint64_t start_time);
+
+/* Adds a row. HLR_FIELD, HLR_MOVING, HLR_EXISTS, HLR_NUMBER_TAKEN, HLR_MEMORY. */
+uint8_t hlr_add_subscriber(hlr *handle, const hlr_subscriber *row);
+
+/* Adds a row. HLR_FIELD, HLR_MOVING, HLR_NO_SUBSCRIBER, HLR_EXISTS, HLR_MEMORY. */
+uint8_t hlr_add_access(hlr *handle, const hlr_access *row);
+
+/* Adds a row. HLR_FIELD, HLR_MOVING, HLR_NO_SUBSCRIBER, HLR_EXISTS, HLR_MEMORY. */
+uint8_t hlr_add_facility(hlr *handle, const hlr_facility *row);
+
+/*
+ * Switches a facility on or off (is_active 1 or 0), and with it all its forwardings.
+ * HLR_FIELD, HLR_MOVING, HLR_NO_FACILITY.
+ */
+uint8_t hlr_set_active(hlr *handle, uint64_t s_id, uint64_t sf_type, uint64_t is_active);
+
+/*
+ * Gives a subscriber another number; nothing changes where it is the one that stands.
+ * HLR_FIELD, HLR_MOVING, HLR_NO_SUBSCRIBER, HLR_NUMBER_TAKEN, HLR_MEMORY.
+ */
+uint8_t hlr_set_number(hlr *handle, uint64_t s_id, uint64_t sub_nbr);
+
+/*
+ * Posts the first limit cells of a part that aren't posted, in ascending order, and tells how many were.
+ * HLR_NO_PART; HLR_WORN, after which the cells that were posted before stand.
+ */
+uint8_t hlr_post(hlr *handle, uint64_t part, uint64_t limit, uint64_t *posted);
+
+/* Each cell as published, and what isn't posted of it yet: they add up to the count over the rows now. No row is read. */
+uint8_t hlr_views(hlr *handle, int64_t published[HLR_CELLS], int64_t unposted[HLR_CELLS]);
+
+/* Each cell, counted anew by a walk over all rows. */
+uint8_t hlr_scan(hlr *handle, uint64_t counts[HLR_CELLS]);
+
+/*
+ * A part gives away its subscribers below at (side 0) or from at on (side 1), as a loose piece with the least free
+ * number; while it is loose, its subscribers are answered HLR_MOVING. Tells the piece.
+ * HLR_FIELD, HLR_NO_PART, HLR_OUT_OF_RANGE, HLR_MANY_PIECES, HLR_MEMORY.
+ */
+uint8_t hlr_give(hlr *handle, uint64_t part, uint64_t side, uint64_t at, hlr_region *piece);
+
+/* A part takes a loose piece that touches it. HLR_NO_PIECE, HLR_NO_PART, HLR_NOT_ADJACENT, HLR_MEMORY. */
+uint8_t hlr_take(hlr *handle, uint64_t piece, uint64_t part);
+
+/* All regions, in order. */
+uint8_t hlr_regions(hlr *handle, hlr_region_list *regions);
+
+/*
+ * The bounds between zones that would give each part about its share of the rows, as they are published: post every
+ * part first.
+ */
+uint8_t hlr_propose(hlr *handle, hlr_bounds *bounds);
+
+/*
+ * Moves the bounds between parts to these, and tells how many were moved. HLR_FIELD where they aren't strictly rising
+ * ones in 2..=16777216, one less than there are parts; HLR_MOVING; HLR_MEMORY, after which the moves that were done
+ * stand, and the piece of the next one may be loose.
+ */
+uint8_t hlr_recut(hlr *handle, const hlr_bounds *bounds, uint64_t *moved);
+
+#ifdef __cplusplus
+}
+#endif
+
+#endif

@@ -1,0 +1,3 @@
+pub mod CrossingLemmas
+pub mod KeptSteps
+pub mod RegisterCrossing

@@ -1,0 +1,61 @@
+-- A register may go to another thread.
+use denote.Param.Send.{IsSend, sendable}
+use denote.Struct.Field.{u32-field}
+use Rattle.std.proofs.Crossing.{Arc-send, Box-send, Vec-send, crosses, send as heap_send}
+use Rattle.std.specs.contracts.alloc.Global as Heap
+use Rattle.std.specs.contracts.boxed.Box as Box
+use Rattle.std.specs.contracts.impls.GlobalAllocator.TheImpl as heap
+use Rattle.std.specs.contracts.sync.Arc as Arc
+use Rattle.std.specs.contracts.vec.Vec as Vec
+use Rattle.tatp_actions.specs.contracts.trees.Trees as Trees
+use Rattle.tatp_actions.specs.contracts.trees.TreesRows.TheImpl.{ghosts}
+use Rattle.mr_subtree.proofs.CrossingLemmas.{tree_send}
+use Rattle.part_table.proofs.regions.Regions.TheSendSync.{the_send as regions_send}
+use Rattle.view_board.proofs.desk.Desk.TheSendSync.{the_send as desk_send}
+use Rattle.view_board.proofs.board.Board.TheSendSync.{the_send as board_send, the_sync as board_sync}
+use Rattle.view_board.specs.contracts.board.Board as Board
+use Rattle.holding.proofs.CrossingLemmas.{holding_send, piece_send}
+use Rattle.holding.specs.contracts.holding.Holding as Holding
+use Rattle.holding.specs.contracts.piece.Piece as Piece
+use Rattle.number_index.specs.contracts.index.NumberIndex as NumberIndex
+use Rattle.hlr_owners.specs.contracts.lodging.Lodging as Lodging
+use Rattle.hlr_owners.specs.contracts.lodging.Seat as Seat
+use Rattle.hlr_owners.specs.contracts.prepared.Rooms as Rooms
+use Rattle.hlr_owners.specs.contracts.seats.Seats as Seats
+use Rattle.hlr_core.specs.contracts.register.Register as Register
+
+boxed_holding_send : IsSend (Box.the_row (Holding.the_row Trees.the_row ghosts) Heap.the_row heap.ghosts)
+boxed_holding_send = Box-send (Holding.the_row Trees.the_row ghosts) holding_send
+
+boxed_piece_send : IsSend (Box.the_row Piece.the_row Heap.the_row heap.ghosts)
+boxed_piece_send = Box-send Piece.the_row piece_send
+
+lodging_send : IsSend Lodging.the_row
+lodging_send = let holding = boxed_holding_send in search (sendable, crosses) depth 20
+
+seat_send : IsSend Seat.the_row
+seat_send = let lodging = lodging_send in let piece = boxed_piece_send in search sendable depth 20
+
+board_shared_send : IsSend (Arc.the_row Board.the_row Heap.the_row heap.ghosts)
+board_shared_send = Arc-send Board.the_row board_send board_sync
+
+listed_send : IsSend (Vec.the_row Seat.the_row Heap.the_row heap.ghosts)
+listed_send = Vec-send Seat.the_row seat_send
+
+rooms_send : IsSend Rooms.the_row
+rooms_send =
+    let holdings = Vec-send (Box.the_row (Holding.the_row Trees.the_row ghosts) Heap.the_row heap.ghosts) boxed_holding_send in
+    let pieces = Vec-send (Box.the_row Piece.the_row Heap.the_row heap.ghosts) boxed_piece_send in
+    search sendable depth 20
+
+seats_send : IsSend Seats.the_row
+seats_send =
+    let regions = regions_send in let seats = listed_send in let rooms = rooms_send in let board = board_shared_send in
+    let spare = desk_send in search sendable depth 20
+
+index_send : IsSend NumberIndex.the_row
+index_send = let tree = tree_send u32-field.row (search sendable) in search sendable depth 20
+
+pub register_send : IsSend Register.the_row
+register_send =
+    let seats = seats_send in let index = index_send in let alloc = heap_send in search sendable depth 20

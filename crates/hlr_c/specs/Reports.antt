@@ -1,0 +1,41 @@
+-- What the reports tell C. They change nothing.
+use Rattle.std.specs.Prelude.{◌≡◌, ℕ, ◌<◌, List, length, map, take, ℤ, pos, slice_index_or}
+use Rattle.tatp_actions.specs.Cell.{cell}
+use Rattle.tatp_actions.specs.declared.cells.TheConstants.{CELLS}
+use Rattle.part_table.specs.Proposal.{proposal}
+use Rattle.hlr_owners.specs.Seats.{Seating, book_in, store_in}
+use Rattle.hlr_owners.specs.Store.{parts_in, published, unpublished}
+use Rattle.hlr_core.specs.Weights.{published_weights}
+use Rattle.hlr_c.specs.declared.codes.TheConstants.{DONE}
+use Rattle.hlr_c.specs.declared.rows.HlrBounds.{HlrBounds}
+use Rattle.hlr_c.specs.declared.rows.HlrRegions.{HlrRegions}
+use Rattle.hlr_c.specs.Rows.{region_for_c}
+
+-- a report leaves the register, and its code is 0
+pub record IsReport {X : Type 0} (Tells : X → Type 0) (before : Seating) (answer : ℕ × X) (after : Seating) : Type 0 where
+  pub same : after ≡ before
+  pub code : answer.0 ≡ DONE
+  pub told : Tells answer.1
+
+-- each cell as published, and what isn't published of it
+pub record AreViews (register : Seating) (views : List ℤ × List ℤ) : Type 0 where
+  pub published : (c : ℕ) → c < CELLS → slice_index_or views.0 c (pos 0) ≡ published (store_in register) c
+  pub unposted : (c : ℕ) → c < CELLS → slice_index_or views.1 c (pos 0) ≡ unpublished (store_in register) c
+
+-- each cell counted over the rows
+abbrev pub AreCounts : Seating → List ℕ → Type 0
+AreCounts register counts = (c : ℕ) → c < CELLS → slice_index_or counts c 0 ≡ cell register.width c (book_in register.seats)
+
+-- so many of the first regions as there are
+abbrev pub AreListed : Seating → HlrRegions → Type 0
+AreListed register list =
+    (list.count ≡ length register.regions) × (take list.count list.regions ≡ map region_for_c register.regions)
+
+-- the bounds that are proposed
+abbrev pub proposal_for : Seating → List ℕ
+proposal_for register = proposal (published_weights (store_in register)) (parts_in (store_in register)) register.width
+
+-- so many of the first bounds as are proposed
+abbrev pub AreProposed : Seating → HlrBounds → Type 0
+AreProposed register bounds =
+    (bounds.count ≡ length (proposal_for register)) × (take bounds.count bounds.bounds ≡ proposal_for register)

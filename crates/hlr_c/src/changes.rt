@@ -1,0 +1,317 @@
+//! The calls that change rows.
+ghost use Rattle.std.specs.Prelude.{◌≡◌, Ok};
+ghost use Rattle.tatp_rows.specs.Rows.{access_of, facility_of, subscriber_of};
+ghost use Rattle.hlr_owners.specs.Seats.{AllHome};
+ghost use Rattle.hlr_core.specs.Step.{edited_reply};
+ghost use Rattle.hlr_core.specs.declared.event.Event.TheVariants as event;
+ghost use Rattle.hlr_c.specs.Asked.{access_asked, byte_of, deletion_asked, facility_asked, insertion_asked, location_asked, number_asked, subscriber_asked};
+ghost use Rattle.hlr_c.specs.Call.{IsAnswer, IsCall, IsReply};
+ghost use Rattle.hlr_c.specs.Told.{code_told};
+ghost use Rattle.hlr_c.specs.declared.codes.TheConstants.{NOT_OPEN};
+
+use crate::codes::{NOT_OPEN, code_of_change};
+use crate::handle::Hlr;
+use crate::rows::{HlrAccess, HlrFacility, HlrSubscriber};
+use hlr_core::{Access, Facility, Letters, Number, Refusal, Register, Subscriber};
+use std::alloc::Global;
+
+/// A byte; what is above 255 is `Field`.
+fn byte(value: u64) -> Result<u8, Refusal>
+    ensures { result ≡ byte_of value }
+{
+    u8::try_from(value).map_err(|_| Refusal::Field)
+}
+
+/// The row that C hands in, checked.
+fn subscriber_of(row: &HlrSubscriber) -> Result<Subscriber, Refusal>
+    ensures { result ≡ subscriber_of row.now }
+{
+    let sub_nbr = Number::try_new(row.sub_nbr)?;
+    Subscriber::try_new(
+        row.s_id,
+        sub_nbr,
+        row.bits,
+        row.hexes,
+        row.bytes,
+        row.msc_location,
+        row.vlr_location,
+    )
+}
+
+fn access_of(row: &HlrAccess) -> Result<Access, Refusal>
+    ensures { result ≡ access_of row.now }
+{
+    let data1 = byte(row.data1)?;
+    let data2 = byte(row.data2)?;
+    let data3 = Letters::<3>::try_new(row.data3)?;
+    let data4 = Letters::<5>::try_new(row.data4)?;
+    Access::try_new(row.s_id, row.ai_type, data1, data2, data3, data4)
+}
+
+fn facility_of(row: &HlrFacility) -> Result<Facility, Refusal>
+    ensures { result ≡ facility_of row.now }
+{
+    let error_cntrl = byte(row.error_cntrl)?;
+    let data_a = byte(row.data_a)?;
+    let data_b = Letters::<5>::try_new(row.data_b)?;
+    Facility::try_new(
+        row.s_id,
+        row.sf_type,
+        row.is_active,
+        error_cntrl,
+        data_a,
+        data_b,
+    )
+}
+
+fn update_location(register: &mut Register, sub_nbr: u64, vlr_location: u64) -> Result<(), Refusal>
+    requires { AllHome register.old.seats }
+    ensures reply { IsReply (location_asked sub_nbr vlr_location) register.old (edited_reply result) register.new }
+    ensures home { AllHome register.new.seats }
+{
+    let sub_nbr = Number::try_new(sub_nbr)?;
+    register.update_location(sub_nbr, vlr_location)
+}
+
+fn insert_forwarding(
+    register: &mut Register,
+    sub_nbr: u64,
+    sf_type: u64,
+    start_time: u64,
+    end_time: u64,
+    numberx: u64,
+) -> Result<(), Refusal>
+    requires { AllHome register.old.seats }
+    ensures reply { IsReply (insertion_asked sub_nbr sf_type start_time end_time numberx) register.old (edited_reply result) register.new }
+    ensures home { AllHome register.new.seats }
+{
+    let sub_nbr = Number::try_new(sub_nbr)?;
+    let numberx = Number::try_new(numberx)?;
+    register.insert_forwarding(sub_nbr, sf_type, start_time, end_time, numberx)
+}
+
+fn delete_forwarding(
+    register: &mut Register,
+    sub_nbr: u64,
+    sf_type: u64,
+    start_time: u64,
+) -> Result<(), Refusal>
+    requires { AllHome register.old.seats }
+    ensures reply { IsReply (deletion_asked sub_nbr sf_type start_time) register.old (edited_reply result) register.new }
+    ensures home { AllHome register.new.seats }
+{
+    let sub_nbr = Number::try_new(sub_nbr)?;
+    register.delete_forwarding(sub_nbr, sf_type, start_time)
+}
+
+fn add_subscriber(register: &mut Register, row: &HlrSubscriber) -> Result<(), Refusal>
+    requires { AllHome register.old.seats }
+    ensures reply { IsReply (subscriber_asked row.now) register.old (edited_reply result) register.new }
+    ensures home { AllHome register.new.seats }
+{
+    let row = subscriber_of(row)?;
+    register.add_subscriber(row)
+}
+
+fn add_access(register: &mut Register, row: &HlrAccess) -> Result<(), Refusal>
+    requires { AllHome register.old.seats }
+    ensures reply { IsReply (access_asked row.now) register.old (edited_reply result) register.new }
+    ensures home { AllHome register.new.seats }
+{
+    let row = access_of(row)?;
+    register.add_access(row)
+}
+
+fn add_facility(register: &mut Register, row: &HlrFacility) -> Result<(), Refusal>
+    requires { AllHome register.old.seats }
+    ensures reply { IsReply (facility_asked row.now) register.old (edited_reply result) register.new }
+    ensures home { AllHome register.new.seats }
+{
+    let row = facility_of(row)?;
+    register.add_facility(row)
+}
+
+fn set_number(register: &mut Register, s_id: u64, sub_nbr: u64) -> Result<(), Refusal>
+    requires { AllHome register.old.seats }
+    ensures reply { IsReply (number_asked s_id sub_nbr) register.old (edited_reply result) register.new }
+    ensures home { AllHome register.new.seats }
+{
+    let sub_nbr = Number::try_new(sub_nbr)?;
+    register.set_number(s_id, sub_nbr)
+}
+
+/// UPDATE_SUBSCRIBER_DATA (TATP, section 3.4): sets bit_1 of the subscriber and data_a of the facility, or neither.
+/// `NOT_OPEN`, `Field` where s_id isn't in 1..=16,777,216, sf_type in 1..=4, bit_1 in 0..=1 or data_a in 0..=255,
+/// `Moving`, `NoSubscriber`, `NoFacility`.
+#[unsafe(no_mangle)]
+pub extern "C" fn hlr_update_subscriber(
+    alloc: Global,
+    handle: &mut Hlr,
+    s_id: u64,
+    sf_type: u64,
+    bit_1: u64,
+    data_a: u64,
+) -> u8
+    ensures { IsCall NOT_OPEN (IsAnswer (Ok (event.UpdateSubscriber s_id sf_type bit_1 data_a)) code_told)
+        handle.old.kept.register result handle.new.kept.register }
+{
+    let Some(mut register) = handle.take(alloc) else {
+        return NOT_OPEN;
+    };
+    let done = register.update_subscriber(s_id, sf_type, bit_1, data_a);
+    handle.put(register);
+    code_of_change(done)
+}
+
+/// UPDATE_LOCATION (TATP, section 3.5): moves the subscriber with a number. `NOT_OPEN`, `Field` where sub_nbr isn't
+/// below 10^15 or vlr_location isn't in 1..=4,294,967,295, `NoNumber`, `Moving`.
+#[unsafe(no_mangle)]
+pub extern "C" fn hlr_update_location(
+    alloc: Global,
+    handle: &mut Hlr,
+    sub_nbr: u64,
+    vlr_location: u64,
+) -> u8
+    ensures { IsCall NOT_OPEN (IsAnswer (location_asked sub_nbr vlr_location) code_told)
+        handle.old.kept.register result handle.new.kept.register }
+{
+    let Some(mut register) = handle.take(alloc) else {
+        return NOT_OPEN;
+    };
+    let done = update_location(&mut register, sub_nbr, vlr_location);
+    handle.put(register);
+    code_of_change(done)
+}
+
+/// INSERT_CALL_FORWARDING (TATP, section 3.6): adds a forwarding to a number. `NOT_OPEN`, `Field` where a number isn't
+/// below 10^15, sf_type isn't in 1..=4, start_time isn't 0, 8 or 16 or end_time isn't in 1..=24, `NoNumber`, `Moving`,
+/// `NoFacility`, `Exists`, `Memory`.
+#[unsafe(no_mangle)]
+pub extern "C" fn hlr_insert_forwarding(
+    alloc: Global,
+    handle: &mut Hlr,
+    sub_nbr: u64,
+    sf_type: u64,
+    start_time: u64,
+    end_time: u64,
+    numberx: u64,
+) -> u8
+    ensures { IsCall NOT_OPEN (IsAnswer (insertion_asked sub_nbr sf_type start_time end_time numberx) code_told)
+        handle.old.kept.register result handle.new.kept.register }
+{
+    let Some(mut register) = handle.take(alloc) else {
+        return NOT_OPEN;
+    };
+    let done = insert_forwarding(
+        &mut register,
+        sub_nbr,
+        sf_type,
+        start_time,
+        end_time,
+        numberx,
+    );
+    handle.put(register);
+    code_of_change(done)
+}
+
+/// DELETE_CALL_FORWARDING (TATP, section 3.7): takes a forwarding away. `NOT_OPEN`, `Field` where sub_nbr isn't below
+/// 10^15, sf_type isn't in 1..=4 or start_time isn't 0, 8 or 16, `NoNumber`, `Moving`, `NoForwarding`.
+#[unsafe(no_mangle)]
+pub extern "C" fn hlr_delete_forwarding(
+    alloc: Global,
+    handle: &mut Hlr,
+    sub_nbr: u64,
+    sf_type: u64,
+    start_time: u64,
+) -> u8
+    ensures { IsCall NOT_OPEN (IsAnswer (deletion_asked sub_nbr sf_type start_time) code_told)
+        handle.old.kept.register result handle.new.kept.register }
+{
+    let Some(mut register) = handle.take(alloc) else {
+        return NOT_OPEN;
+    };
+    let done = delete_forwarding(&mut register, sub_nbr, sf_type, start_time);
+    handle.put(register);
+    code_of_change(done)
+}
+
+/// Adds a Subscriber row. `NOT_OPEN`, `Field` where a field is out of its range, `Moving`, `Exists`, `NumberTaken`,
+/// `Memory`.
+#[unsafe(no_mangle)]
+pub extern "C" fn hlr_add_subscriber(alloc: Global, handle: &mut Hlr, row: &HlrSubscriber) -> u8
+    ensures { IsCall NOT_OPEN (IsAnswer (subscriber_asked row.now) code_told)
+        handle.old.kept.register result handle.new.kept.register }
+{
+    let Some(mut register) = handle.take(alloc) else {
+        return NOT_OPEN;
+    };
+    let done = add_subscriber(&mut register, row);
+    handle.put(register);
+    code_of_change(done)
+}
+
+/// Adds an Access_Info row. `NOT_OPEN`, `Field` where a field is out of its range, `Moving`, `NoSubscriber`, `Exists`,
+/// `Memory`.
+#[unsafe(no_mangle)]
+pub extern "C" fn hlr_add_access(alloc: Global, handle: &mut Hlr, row: &HlrAccess) -> u8
+    ensures { IsCall NOT_OPEN (IsAnswer (access_asked row.now) code_told)
+        handle.old.kept.register result handle.new.kept.register }
+{
+    let Some(mut register) = handle.take(alloc) else {
+        return NOT_OPEN;
+    };
+    let done = add_access(&mut register, row);
+    handle.put(register);
+    code_of_change(done)
+}
+
+/// Adds a Special_Facility row. `NOT_OPEN`, `Field` where a field is out of its range, `Moving`, `NoSubscriber`,
+/// `Exists`, `Memory`.
+#[unsafe(no_mangle)]
+pub extern "C" fn hlr_add_facility(alloc: Global, handle: &mut Hlr, row: &HlrFacility) -> u8
+    ensures { IsCall NOT_OPEN (IsAnswer (facility_asked row.now) code_told)
+        handle.old.kept.register result handle.new.kept.register }
+{
+    let Some(mut register) = handle.take(alloc) else {
+        return NOT_OPEN;
+    };
+    let done = add_facility(&mut register, row);
+    handle.put(register);
+    code_of_change(done)
+}
+
+/// Switches a facility on or off, and with it all its forwardings. `NOT_OPEN`, `Field` where s_id isn't in
+/// 1..=16,777,216, sf_type in 1..=4 or is_active in 0..=1, `Moving`, `NoFacility`.
+#[unsafe(no_mangle)]
+pub extern "C" fn hlr_set_active(
+    alloc: Global,
+    handle: &mut Hlr,
+    s_id: u64,
+    sf_type: u64,
+    is_active: u64,
+) -> u8
+    ensures { IsCall NOT_OPEN (IsAnswer (Ok (event.SetActive s_id sf_type is_active)) code_told)
+        handle.old.kept.register result handle.new.kept.register }
+{
+    let Some(mut register) = handle.take(alloc) else {
+        return NOT_OPEN;
+    };
+    let done = register.set_active(s_id, sf_type, is_active);
+    handle.put(register);
+    code_of_change(done)
+}
+
+/// Gives a subscriber another number; nothing changes where it is the one that stands. `NOT_OPEN`, `Field` where s_id
+/// isn't in 1..=16,777,216 or sub_nbr isn't below 10^15, `Moving`, `NoSubscriber`, `NumberTaken`, `Memory`.
+#[unsafe(no_mangle)]
+pub extern "C" fn hlr_set_number(alloc: Global, handle: &mut Hlr, s_id: u64, sub_nbr: u64) -> u8
+    ensures { IsCall NOT_OPEN (IsAnswer (number_asked s_id sub_nbr) code_told)
+        handle.old.kept.register result handle.new.kept.register }
+{
+    let Some(mut register) = handle.take(alloc) else {
+        return NOT_OPEN;
+    };
+    let done = set_number(&mut register, s_id, sub_nbr);
+    handle.put(register);
+    code_of_change(done)
+}

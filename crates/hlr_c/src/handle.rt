@@ -1,0 +1,74 @@
+//! The handle of a register, as C has it.
+ghost use Rattle.std.specs.Prelude.{◌≡◌, ◌≢◌, ◌↔◌, Option, None, Some, IfSome, IsTrue, MatchOption};
+ghost use Rattle.std.proofs.Props.{props};
+ghost use Rattle.hlr_owners.specs.Seats.{AllHome, Seating};
+ghost use Rattle.hlr_c.specs.declared.handle.TheConstants.{OPEN};
+
+use crate::kept::Kept;
+use c_handle::BoxParts;
+use hlr_core::Register;
+use std::alloc::Global;
+use std::mem;
+
+/// What the mark of an open handle is; any other mark is that of a closed one.
+pub const OPEN: u64 = 1;
+
+// Definitions name this constant, so its number is proved here.
+const _: () = prove!(OPEN == 1);
+
+/// A handle, as C has it: it is open and has a register whose parts are all at home, or it is closed. One that C fills
+/// with zeros is closed.
+#[repr(C)]
+pub struct Hlr {
+    /// Whether it is open: `OPEN`.
+    pub mark: u64,
+    /// The register, where it is open.
+    pub kept: Kept,
+    ghost marked: { mark ≡ OPEN ↔ kept.register ≢ None },
+    ghost home: { IfSome kept.register (λ register. AllHome register.seats) } by { Prim.hlevel props },
+}
+
+impl Hlr {
+    /// A closed handle.
+    pub fn closed() -> Hlr
+        ensures { result.kept.register ≡ None }
+    {
+        Hlr {
+            mark: 0,
+            kept: Kept::none(),
+        }
+    }
+
+    /// Whether it is open.
+    pub fn is_open(&self) -> bool
+        ensures { IsTrue result ↔ (self.now.kept.register ≢ None) }
+    {
+        self.mark == OPEN
+    }
+
+    /// Takes the register out, if the handle is open; it is closed then.
+    pub(crate) fn take(&mut self, alloc: Global) -> Option<Box<Register>>
+        ensures taken { MatchOption result (self.old.kept.register ≡ None) (λ register. (self.old.kept.register ≡ Some register.value) × AllHome register.value.seats) }
+        ensures closed { self.new.kept.register ≡ None }
+    {
+        if !self.is_open() {
+            return None;
+        }
+        let Hlr { mark: _, kept } = mem::replace(self, Hlr::closed());
+        Some(kept.unseal(alloc).into_box())
+    }
+
+    /// Puts a register into a closed handle, which is open then.
+    pub(crate) fn put(&mut self, register: Box<Register>)
+        requires closed { self.old.kept.register ≡ None }
+        requires home { AllHome register.value.seats }
+        ensures { self.new.kept.register ≡ Some register.value }
+    {
+        let open = Hlr {
+            mark: OPEN,
+            kept: Kept::seal(BoxParts::of(register)),
+        };
+        let Hlr { mark: _, kept } = mem::replace(self, open);
+        kept.let_go();
+    }
+}

@@ -1,0 +1,68 @@
+//! The address of a register, with no type, as a handle keeps it.
+ghost use Rattle.std.specs.Prelude.{◌≡◌, ◌≢◌, Option, None, Some};
+ghost use Rattle.hlr_owners.specs.Seats.{Seating};
+ghost use Rattle.hlr_core.specs.contracts.register.Register.{the_row};
+ghost use Rattle.hlr_c.specs.Held.{held};
+
+use c_handle::BoxParts;
+use hlr_core::Register;
+use std::alloc::Global;
+use std::marker::Model;
+use std::ptr;
+
+/// The address of a register, with no type, so that C may have it; or of none. It owns what lies there.
+///
+/// It isn't let go of by itself (it has no `Drop`), so that no register is lost: `let_go` is for one of none.
+#[repr(C)]
+pub struct Kept {
+    address: *mut u8,
+    /// The register that lies there, if one does.
+    pub ghost register: { Option Seating },
+}
+
+impl Model for Kept {
+    ghost also_owns = { λ kept. held the_row kept.address kept.register };
+}
+
+/// What lies at the address owns nothing of the thread that made it.
+unsafe impl Send for Kept {}
+
+impl Kept {
+    /// No register.
+    pub(crate) fn none() -> Kept
+        ensures { result.register ≡ None }
+    {
+        Kept {
+            address: ptr::null_mut(),
+        }
+    }
+
+    /// Lets go of the address of none.
+    pub(crate) fn let_go(self)
+        requires { self.register ≡ None }
+    {
+        let Kept { address: _ } = self;
+    }
+
+    /// Takes the type from the address of a register.
+    pub(crate) fn seal(parts: BoxParts<Register, Global>) -> Kept
+        ensures { result.register ≡ Some parts.value }
+    {
+        let BoxParts { address, alloc: _ } = parts;
+        Kept {
+            address: address as *mut u8,
+        }
+    }
+
+    /// Gives the address of a register its type again.
+    pub(crate) fn unseal(self, alloc: Global) -> BoxParts<Register, Global>
+        requires { self.register ≢ None }
+        ensures { self.register ≡ Some result.value }
+    {
+        let Kept { address } = self;
+        BoxParts {
+            address: address as *mut Register,
+            alloc,
+        }
+    }
+}

@@ -1,0 +1,160 @@
+//! The calls that post and that move bounds between parts.
+ghost use Rattle.std.specs.Prelude.{◌≡◌, Ok};
+ghost use Rattle.hlr_owners.specs.Seats.{AllHome};
+ghost use Rattle.hlr_core.specs.declared.event.Event.TheVariants as event;
+ghost use Rattle.hlr_c.specs.Asked.{bounds_in, give_asked, side_of};
+ghost use Rattle.hlr_c.specs.Call.{IsAnswer, IsCall, IsRecutAnswer, IsRecutReply, IsReply};
+ghost use Rattle.hlr_c.specs.Told.{code_told, given_told, posted_told, recut_told};
+ghost use Rattle.hlr_c.specs.declared.codes.TheConstants.{NOT_OPEN};
+
+use crate::codes::{DONE, NOT_OPEN, code_of_reply};
+use crate::handle::Hlr;
+use crate::lists::bounds_in;
+use crate::rows::{HlrBounds, HlrRegion};
+use hlr_core::{Event, Refusal, Register, Reply, Side};
+use std::alloc::Global;
+
+/// The side of a number: 0 is the low one, 1 the high one, and all else is `Field`.
+fn side_of(side: u64) -> Result<Side, Refusal>
+    ensures { result ≡ side_of side }
+{
+    match side {
+        0 => Ok(Side::Low),
+        1 => Ok(Side::High),
+        _ => Err(Refusal::Field),
+    }
+}
+
+fn tell_posted(reply: &Reply, posted: &mut u64) -> u8
+    ensures { (result, posted.new) ≡ posted_told posted.old reply.now }
+{
+    if let Reply::Posted(count) = reply {
+        *posted = u64::from(*count);
+    }
+    code_of_reply(reply)
+}
+
+fn tell_given(reply: &Reply, given: &mut HlrRegion) -> u8
+    ensures { (result, given.new) ≡ given_told given.old reply.now }
+{
+    if let Reply::Given { piece, lo, hi } = reply {
+        *given = HlrRegion {
+            lo: u64::from(*lo),
+            hi: u64::from(*hi),
+            is_piece: 1,
+            number: u64::from(*piece),
+        };
+    }
+    code_of_reply(reply)
+}
+
+fn tell_recut(done: Result<u8, Refusal>, moved: &mut u64) -> u8
+    ensures { (result, moved.new) ≡ recut_told moved.old done }
+{
+    match done {
+        Ok(count) => {
+            *moved = u64::from(count);
+            DONE
+        }
+        Err(why) => why.code(),
+    }
+}
+
+fn give(register: &mut Register, part: u64, side: u64, at: u64) -> Reply
+    requires { AllHome register.old.seats }
+    ensures reply { IsReply (give_asked part side at) register.old result register.new }
+    ensures home { AllHome register.new.seats }
+{
+    match side_of(side) {
+        Ok(side) => register.apply(Event::Give { part, side, at }),
+        Err(why) => Reply::Refused(why),
+    }
+}
+
+fn recut(register: &mut Register, bounds: &HlrBounds) -> Result<u8, Refusal>
+    requires { AllHome register.old.seats }
+    ensures recut { IsRecutReply (bounds_in bounds.now) register.old result register.new }
+    ensures home { AllHome register.new.seats }
+{
+    let bounds = bounds_in(bounds)?;
+    register.recut_to(bounds)
+}
+
+/// Posts the first `limit` cells of a part that aren't posted, in ascending order, and tells how many were. `NOT_OPEN`,
+/// `NoPart`, `Worn`, after which the cells that were posted before stand.
+#[unsafe(no_mangle)]
+pub extern "C" fn hlr_post(
+    alloc: Global,
+    handle: &mut Hlr,
+    part: u64,
+    limit: u64,
+    posted: &mut u64,
+) -> u8
+    ensures { IsCall (NOT_OPEN, posted.old) (IsAnswer (Ok (event.Post part limit)) (posted_told posted.old))
+        handle.old.kept.register (result, posted.new) handle.new.kept.register }
+{
+    let Some(mut register) = handle.take(alloc) else {
+        return NOT_OPEN;
+    };
+    let reply = register.post(part, limit);
+    handle.put(register);
+    tell_posted(&reply, posted)
+}
+
+/// A part gives the stretch on one side of `at` away (`side` 0: below it, 1: from it on), which becomes a loose piece,
+/// and tells it. `NOT_OPEN`, `Field` where side isn't 0 or 1, `NoPart`, `OutOfRange`, `ManyPieces`, `Memory`.
+#[unsafe(no_mangle)]
+pub extern "C" fn hlr_give(
+    alloc: Global,
+    handle: &mut Hlr,
+    part: u64,
+    side: u64,
+    at: u64,
+    given: &mut HlrRegion,
+) -> u8
+    ensures { IsCall (NOT_OPEN, given.old) (IsAnswer (give_asked part side at) (given_told given.old))
+        handle.old.kept.register (result, given.new) handle.new.kept.register }
+{
+    let Some(mut register) = handle.take(alloc) else {
+        return NOT_OPEN;
+    };
+    let reply = give(&mut register, part, side, at);
+    handle.put(register);
+    tell_given(&reply, given)
+}
+
+/// A part takes a loose piece that touches it. `NOT_OPEN`, `NoPiece`, `NoPart`, `NotAdjacent`, `Memory`.
+#[unsafe(no_mangle)]
+pub extern "C" fn hlr_take(alloc: Global, handle: &mut Hlr, piece: u64, part: u64) -> u8
+    ensures { IsCall NOT_OPEN (IsAnswer (Ok (event.Take piece part)) code_told)
+        handle.old.kept.register result handle.new.kept.register }
+{
+    let Some(mut register) = handle.take(alloc) else {
+        return NOT_OPEN;
+    };
+    let reply = register.apply(Event::Take { piece, part });
+    handle.put(register);
+    code_of_reply(&reply)
+}
+
+/// Moves the bounds between parts to these, the first subscriber of each part but the first, and tells how many were
+/// moved. `NOT_OPEN`, `Field` where the bounds aren't strictly rising ones in 2..=16,777,216, one less than there are
+/// parts, `Moving` where a piece is loose, `Memory`, after which the moves that were done stand, and the piece of the
+/// move that was refused may be loose.
+#[unsafe(no_mangle)]
+pub extern "C" fn hlr_recut(
+    alloc: Global,
+    handle: &mut Hlr,
+    bounds: &HlrBounds,
+    moved: &mut u64,
+) -> u8
+    ensures { IsCall (NOT_OPEN, moved.old) (IsRecutAnswer (bounds_in bounds.now) (recut_told moved.old))
+        handle.old.kept.register (result, moved.new) handle.new.kept.register }
+{
+    let Some(mut register) = handle.take(alloc) else {
+        return NOT_OPEN;
+    };
+    let done = recut(&mut register, bounds);
+    handle.put(register);
+    tell_recut(done, moved)
+}

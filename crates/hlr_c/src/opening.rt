@@ -1,0 +1,56 @@
+//! Opening and closing.
+ghost use Rattle.std.specs.Prelude.{◌≡◌, ◌⊎◌, IfOk, IfErr};
+ghost use Rattle.tatp_rows.specs.declared.refusal.Refusal.TheVariants as refusal;
+ghost use Rattle.hlr_owners.specs.Seats.{AllHome, store_in};
+ghost use Rattle.hlr_owners.specs.Store.{HasOpening, opening};
+ghost use Rattle.hlr_c.specs.Opened.{IsClosing, IsOpening};
+
+use crate::codes::{DONE, NOT_OPEN, STILL_OPEN};
+use crate::handle::Hlr;
+use hlr_core::{Refusal, Register};
+use std::alloc::Global;
+
+/// An empty register in a box. `Field` where parts isn't in 1..=16 or the width isn't in 1..=524,288; `Memory`.
+fn open_boxed(alloc: Global, parts: u64, width: u64) -> Result<Box<Register>, Refusal>
+    ensures ok { IfOk result (λ register. HasOpening parts width × (store_in register.value ≡ opening parts width)) }
+    ensures home { IfOk result (λ register. AllHome register.value.seats) }
+    ensures err { IfErr result (λ why. ((why ≡ refusal.Field) × ¬ (HasOpening parts width)) ⊎ ((why ≡ refusal.Memory) × HasOpening parts width)) }
+{
+    let (Ok(parts), Ok(width)) = (u8::try_from(parts), u32::try_from(width)) else {
+        return Err(Refusal::Field);
+    };
+    let register = Register::open(alloc, parts, width)?;
+    Ok(Box::new(alloc, register)?)
+}
+
+/// Opens an empty register in a closed handle: `parts` parts, 1..=16, share its subscribers, in zones of `width`,
+/// 1..=524,288. `STILL_OPEN` where the handle has a register, then `Field`, `Memory`; each leaves the handle as it was.
+#[unsafe(no_mangle)]
+pub extern "C" fn hlr_open(alloc: Global, parts: u64, width: u64, handle: &mut Hlr) -> u8
+    ensures { IsOpening parts width handle.old.kept.register result handle.new.kept.register }
+{
+    if handle.is_open() {
+        return STILL_OPEN;
+    }
+    match open_boxed(alloc, parts, width) {
+        Ok(register) => {
+            handle.put(register);
+            DONE
+        }
+        Err(why) => why.code(),
+    }
+}
+
+/// Closes a handle, and gives back all memory of its register. `NOT_OPEN` where it has none.
+#[unsafe(no_mangle)]
+pub extern "C" fn hlr_close(alloc: Global, handle: &mut Hlr) -> u8
+    ensures { IsClosing handle.old.kept.register result handle.new.kept.register }
+{
+    match handle.take(alloc) {
+        None => NOT_OPEN,
+        Some(register) => {
+            drop(register);
+            DONE
+        }
+    }
+}

@@ -1,0 +1,183 @@
+//! The three transactions that read.
+ghost use Rattle.std.specs.Prelude.{◌≡◌, Ok, slice_index_or};
+ghost use Rattle.hlr_owners.specs.Seats.{AllHome};
+ghost use Rattle.hlr_core.specs.declared.event.Event.TheVariants as event;
+ghost use Rattle.hlr_c.specs.Call.{IsAnswer, IsCall};
+ghost use Rattle.hlr_c.specs.Rows.{numbers_for_c};
+ghost use Rattle.hlr_c.specs.Told.{access_told, numbers_told, subscriber_told};
+ghost use Rattle.hlr_c.specs.declared.codes.TheConstants.{NOT_OPEN};
+
+use crate::codes::{DONE, NOT_OPEN};
+use crate::handle::Hlr;
+use crate::rows::{HlrAccess, HlrNumbers, HlrSubscriber};
+use hlr_core::{Access, ArrayVec, Number, Register, Subscriber};
+use std::alloc::Global;
+
+/// A row, as C has it.
+fn subscriber_for_c(row: &Subscriber) -> HlrSubscriber
+    ensures { result ≡ row.now }
+{
+    HlrSubscriber {
+        s_id: u64::from(row.s_id()),
+        sub_nbr: row.sub_nbr().value(),
+        bits: row.bits(),
+        hexes: row.hexes(),
+        bytes: row.bytes(),
+        msc_location: u64::from(row.msc_location()),
+        vlr_location: u64::from(row.vlr_location()),
+    }
+}
+
+/// The number at a place; 0 behind the last one.
+fn number_at(numbers: &[Number], place: usize) -> u64
+    ensures { result ≡ slice_index_or numbers.now place 0 }
+{
+    if place < numbers.len() {
+        numbers[place].value()
+    } else {
+        0
+    }
+}
+
+/// Numbers, as C has them.
+fn numbers_for_c(numbers: &ArrayVec<Number, 3>) -> HlrNumbers
+    ensures { result ≡ numbers_for_c numbers.now.items }
+{
+    let list = numbers.as_slice();
+    HlrNumbers {
+        count: list.len() as u64,
+        numbers: [number_at(list, 0), number_at(list, 1), number_at(list, 2)],
+    }
+}
+
+/// What was read of an access, as C has it.
+fn write_access(found: &Access, s_id: u64, ai_type: u64, row: &mut HlrAccess)
+    ensures { row.new ≡ record {
+      s_id = s_id;
+      ai_type = ai_type;
+      data1 = found.now.data1;
+      data2 = found.now.data2;
+      data3 = found.now.data3;
+      data4 = found.now.data4;
+    } }
+{
+    *row = HlrAccess {
+        s_id,
+        ai_type,
+        data1: u64::from(found.data1()),
+        data2: u64::from(found.data2()),
+        data3: found.data3().bytes(),
+        data4: found.data4().bytes(),
+    };
+}
+
+fn read_subscriber(register: &Register, s_id: u64, row: &mut HlrSubscriber) -> u8
+    requires { AllHome register.now.seats }
+    ensures { IsAnswer (Ok (event.SubscriberData s_id)) (subscriber_told row.old) register.now (result, row.new) register.now }
+{
+    match register.lend_subscriber(s_id) {
+        Ok(found) => {
+            *row = subscriber_for_c(found);
+            DONE
+        }
+        Err(why) => why.code(),
+    }
+}
+
+fn read_access(register: &Register, s_id: u64, ai_type: u64, row: &mut HlrAccess) -> u8
+    requires { AllHome register.now.seats }
+    ensures { IsAnswer (Ok (event.AccessData s_id ai_type)) (access_told s_id ai_type row.old) register.now (result, row.new) register.now }
+{
+    match register.lend_access(s_id, ai_type) {
+        Ok(found) => {
+            write_access(found, s_id, ai_type, row);
+            DONE
+        }
+        Err(why) => why.code(),
+    }
+}
+
+fn read_destinations(
+    register: &Register,
+    s_id: u64,
+    sf_type: u64,
+    start_time: u64,
+    end_time: u64,
+    numbers: &mut HlrNumbers,
+) -> u8
+    requires { AllHome register.now.seats }
+    ensures { IsAnswer (Ok (event.NewDestination s_id sf_type start_time end_time)) (numbers_told numbers.old) register.now (result, numbers.new) register.now }
+{
+    match register.destinations(s_id, sf_type, start_time, end_time) {
+        Ok(found) => {
+            *numbers = numbers_for_c(&found);
+            DONE
+        }
+        Err(why) => why.code(),
+    }
+}
+
+/// GET_SUBSCRIBER_DATA (TATP, section 3.1): the row of a subscriber. `NOT_OPEN`, `Field` where s_id isn't in
+/// 1..=16,777,216, `Moving`, `NoSubscriber`.
+#[unsafe(no_mangle)]
+pub extern "C" fn hlr_subscriber_data(
+    alloc: Global,
+    handle: &mut Hlr,
+    s_id: u64,
+    row: &mut HlrSubscriber,
+) -> u8
+    ensures { IsCall (NOT_OPEN, row.old) (IsAnswer (Ok (event.SubscriberData s_id)) (subscriber_told row.old))
+        handle.old.kept.register (result, row.new) handle.new.kept.register }
+{
+    let Some(register) = handle.take(alloc) else {
+        return NOT_OPEN;
+    };
+    let code = read_subscriber(&register, s_id, row);
+    handle.put(register);
+    code
+}
+
+/// GET_ACCESS_DATA (TATP, section 3.3): the row of an access. `NOT_OPEN`, `Field` where s_id isn't in 1..=16,777,216 or
+/// ai_type isn't in 1..=4, `Moving`, `NoAccess`.
+#[unsafe(no_mangle)]
+pub extern "C" fn hlr_access_data(
+    alloc: Global,
+    handle: &mut Hlr,
+    s_id: u64,
+    ai_type: u64,
+    row: &mut HlrAccess,
+) -> u8
+    ensures { IsCall (NOT_OPEN, row.old) (IsAnswer (Ok (event.AccessData s_id ai_type)) (access_told s_id ai_type row.old))
+        handle.old.kept.register (result, row.new) handle.new.kept.register }
+{
+    let Some(register) = handle.take(alloc) else {
+        return NOT_OPEN;
+    };
+    let code = read_access(&register, s_id, ai_type, row);
+    handle.put(register);
+    code
+}
+
+/// GET_NEW_DESTINATION (TATP, section 3.2): the numbers that an active facility forwards to, of its forwardings that
+/// start by start_time and end after end_time. `NOT_OPEN`, `Field` where s_id isn't in 1..=16,777,216, sf_type isn't in
+/// 1..=4, start_time isn't 0, 8 or 16 or end_time isn't in 1..=24, `Moving`, `NoDestination`.
+#[unsafe(no_mangle)]
+pub extern "C" fn hlr_new_destination(
+    alloc: Global,
+    handle: &mut Hlr,
+    s_id: u64,
+    sf_type: u64,
+    start_time: u64,
+    end_time: u64,
+    numbers: &mut HlrNumbers,
+) -> u8
+    ensures { IsCall (NOT_OPEN, numbers.old) (IsAnswer (Ok (event.NewDestination s_id sf_type start_time end_time)) (numbers_told numbers.old))
+        handle.old.kept.register (result, numbers.new) handle.new.kept.register }
+{
+    let Some(register) = handle.take(alloc) else {
+        return NOT_OPEN;
+    };
+    let code = read_destinations(&register, s_id, sf_type, start_time, end_time, numbers);
+    handle.put(register);
+    code
+}

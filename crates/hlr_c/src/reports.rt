@@ -1,0 +1,123 @@
+//! The reports.
+ghost use Rattle.std.specs.Prelude.{◌≡◌, ◌<◌, ◌≤◌, ℕ, length, slice_index, slice_index_or};
+ghost use Rattle.hlr_owners.specs.Seats.{AllHome};
+ghost use Rattle.tatp_actions.specs.declared.cells.TheConstants.{CELLS};
+ghost use Rattle.hlr_c.specs.Call.{IsCall};
+ghost use Rattle.hlr_c.specs.Reports.{AreCounts, AreListed, AreProposed, AreViews, IsReport};
+ghost use Rattle.hlr_c.specs.declared.codes.TheConstants.{NOT_OPEN};
+
+use crate::codes::{DONE, NOT_OPEN};
+use crate::handle::Hlr;
+use crate::lists::{bounds_for_c, regions_for_c};
+use crate::rows::{HlrBounds, HlrRegions};
+use hlr_core::{CELLS, Cells, Register};
+use std::alloc::Global;
+
+/// The counts of all cells.
+fn counts_of(cells: &Cells) -> [u64; CELLS as usize]
+    ensures { (c : ℕ) → c < CELLS → slice_index_or result c 0 ≡ slice_index cells.now c }
+{
+    let mut counts = [0; CELLS as usize];
+    for cell in 0..CELLS {
+        counts[usize::from(cell)] = cells.get(cell);
+    }
+    counts
+}
+
+fn write_views(
+    register: &Register,
+    published: &mut [i64; CELLS as usize],
+    unposted: &mut [i64; CELLS as usize],
+)
+    requires { AllHome register.now.seats }
+    ensures { AreViews register.now (published.new, unposted.new) }
+{
+    *published = register.published();
+    *unposted = register.unposted();
+}
+
+fn write_counts(register: &Register, counts: &mut [u64; CELLS as usize])
+    requires { AllHome register.now.seats }
+    ensures { AreCounts register.now counts.new }
+{
+    *counts = counts_of(&register.recount());
+}
+
+fn write_regions(register: &Register, regions: &mut HlrRegions)
+    ensures { AreListed register.now regions.new }
+{
+    *regions = regions_for_c(register.regions().list());
+}
+
+fn write_proposal(register: &Register, bounds: &mut HlrBounds)
+    requires { AllHome register.now.seats }
+    ensures { AreProposed register.now bounds.new }
+{
+    *bounds = bounds_for_c(register.propose().list());
+}
+
+/// Each cell as published, and what is not posted yet of it, which add up to the count over the rows now. `NOT_OPEN`.
+#[unsafe(no_mangle)]
+pub extern "C" fn hlr_views(
+    alloc: Global,
+    handle: &mut Hlr,
+    published: &mut [i64; CELLS as usize],
+    unposted: &mut [i64; CELLS as usize],
+) -> u8
+    ensures { IsCall (NOT_OPEN, (published.old, unposted.old)) (λ before. IsReport (AreViews before) before)
+        handle.old.kept.register (result, (published.new, unposted.new)) handle.new.kept.register }
+{
+    let Some(register) = handle.take(alloc) else {
+        return NOT_OPEN;
+    };
+    write_views(&register, published, unposted);
+    handle.put(register);
+    DONE
+}
+
+/// Each cell, counted anew by a walk over all rows. `NOT_OPEN`.
+#[unsafe(no_mangle)]
+pub extern "C" fn hlr_scan(
+    alloc: Global,
+    handle: &mut Hlr,
+    counts: &mut [u64; CELLS as usize],
+) -> u8
+    ensures { IsCall (NOT_OPEN, counts.old) (λ before. IsReport (AreCounts before) before)
+        handle.old.kept.register (result, counts.new) handle.new.kept.register }
+{
+    let Some(register) = handle.take(alloc) else {
+        return NOT_OPEN;
+    };
+    write_counts(&register, counts);
+    handle.put(register);
+    DONE
+}
+
+/// All regions in order, each of a part or of a loose piece. `NOT_OPEN`.
+#[unsafe(no_mangle)]
+pub extern "C" fn hlr_regions(alloc: Global, handle: &mut Hlr, regions: &mut HlrRegions) -> u8
+    ensures { IsCall (NOT_OPEN, regions.old) (λ before. IsReport (AreListed before) before)
+        handle.old.kept.register (result, regions.new) handle.new.kept.register }
+{
+    let Some(register) = handle.take(alloc) else {
+        return NOT_OPEN;
+    };
+    write_regions(&register, regions);
+    handle.put(register);
+    DONE
+}
+
+/// The bounds between zones that would give each part about its share of the rows, by what is published of the zones.
+/// `NOT_OPEN`.
+#[unsafe(no_mangle)]
+pub extern "C" fn hlr_propose(alloc: Global, handle: &mut Hlr, bounds: &mut HlrBounds) -> u8
+    ensures { IsCall (NOT_OPEN, bounds.old) (λ before. IsReport (AreProposed before) before)
+        handle.old.kept.register (result, bounds.new) handle.new.kept.register }
+{
+    let Some(register) = handle.take(alloc) else {
+        return NOT_OPEN;
+    };
+    write_proposal(&register, bounds);
+    handle.put(register);
+    DONE
+}
