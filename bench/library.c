@@ -1,0 +1,107 @@
+/* Calls a second of a library with the calls of hlr.h, over so many subscribers: library SUBSCRIBERS CALLS. Each line is
+ * a call, how often it was made, and how often a second. Subscribers and fields are drawn by numbers that look random. */
+#define _POSIX_C_SOURCE 200809L
+#include "hlr.h"
+#include <inttypes.h>
+#include <stdio.h>
+#include <stdlib.h>
+#include <time.h>
+
+static hlr handle = HLR_CLOSED;
+static uint64_t seed = 88172645463325252u, subscribers, others, sum;
+
+static uint64_t drawn(void) {
+    seed ^= seed << 13;
+    seed ^= seed >> 7;
+    seed ^= seed << 17;
+    return seed >> 16;
+}
+
+static double now(void) {
+    struct timespec time;
+    clock_gettime(CLOCK_MONOTONIC, &time);
+    return time.tv_sec + time.tv_nsec / 1e9;
+}
+
+/* a number of a subscriber, which tells nothing of the order of the s_ids */
+static uint64_t number(uint64_t s_id) { return s_id * 2654435761u % 1000000007u; }
+
+/* each subscriber once, in an order that looks random: the step has no divisor in common with their number */
+static uint64_t place(uint64_t turn) { return turn * 7919 % subscribers + 1; }
+
+static uint8_t add_subscriber(uint64_t turn) {
+    uint64_t s_id = place(turn);
+    hlr_subscriber row = {.s_id = s_id, .sub_nbr = number(s_id), .msc_location = 1, .vlr_location = drawn() % 4294967295u + 1};
+    return hlr_add_subscriber(&handle, &row);
+}
+static uint8_t add_access(uint64_t turn) {
+    hlr_access row = {.s_id = place(turn), .ai_type = 1, .data3 = {'A', 'B', 'C'}, .data4 = {'A', 'B', 'C', 'D', 'E'}};
+    return hlr_add_access(&handle, &row);
+}
+static uint8_t add_facility(uint64_t turn) {
+    hlr_facility row = {.s_id = place(turn), .sf_type = 1, .is_active = 1, .data_b = {'A', 'B', 'C', 'D', 'E'}};
+    return hlr_add_facility(&handle, &row);
+}
+static uint8_t insert_forwarding(uint64_t turn) { return hlr_insert_forwarding(&handle, number(place(turn)), 1, 8, 16, 100); }
+static uint8_t delete_forwarding(uint64_t turn) { return hlr_delete_forwarding(&handle, number(place(turn)), 1, 8); }
+static uint8_t subscriber_data(uint64_t turn) {
+    hlr_subscriber row;
+    uint8_t code = hlr_subscriber_data(&handle, drawn() % subscribers + 1, &row);
+    sum += row.vlr_location + turn;
+    return code;
+}
+static uint8_t access_data(uint64_t turn) {
+    hlr_access row;
+    uint8_t code = hlr_access_data(&handle, drawn() % subscribers + 1, 1, &row);
+    sum += row.data3[0] + turn;
+    return code;
+}
+static uint8_t new_destination(uint64_t turn) {
+    hlr_numbers numbers;
+    uint8_t code = hlr_new_destination(&handle, drawn() % subscribers + 1, 1, 8, 12, &numbers);
+    sum += numbers.numbers[0] + turn;
+    return code;
+}
+static uint8_t update_subscriber(uint64_t turn) { return hlr_update_subscriber(&handle, drawn() % subscribers + 1, 1, turn & 1, turn & 255); }
+static uint8_t update_location(uint64_t turn) { return hlr_update_location(&handle, number(drawn() % subscribers + 1), (turn * 2654435761u & 4294967295u) | 1); }
+static uint8_t set_active(uint64_t turn) { return hlr_set_active(&handle, drawn() % subscribers + 1, 1, turn & 1); }
+static uint8_t set_number(uint64_t turn) {
+    uint64_t s_id = turn / 2 % subscribers + 1;
+    return hlr_set_number(&handle, s_id, turn & 1 ? number(s_id) : 999000000000000u);
+}
+static uint8_t views(uint64_t turn) {
+    int64_t published[HLR_CELLS], unposted[HLR_CELLS];
+    uint8_t code = hlr_views(&handle, published, unposted);
+    sum += published[turn % HLR_CELLS] + unposted[turn % HLR_CELLS];
+    return code;
+}
+
+static void timed(const char *name, uint8_t (*call)(uint64_t), uint64_t calls) {
+    double begun = now();
+    for (uint64_t turn = 0; turn < calls; turn++) others += call(turn) != HLR_DONE;
+    printf("%s %" PRIu64 " %.0f\n", name, calls, calls / (now() - begun));
+}
+
+int main(int argc, char **argv) {
+    if (argc < 3) return 2;
+    uint64_t calls = strtoull(argv[2], 0, 10), posted;
+    subscribers = strtoull(argv[1], 0, 10);
+    if (hlr_open(1, (subscribers + 31) / 32, &handle)) return 1;
+    timed("add_subscriber", add_subscriber, subscribers);
+    timed("add_access", add_access, subscribers);
+    timed("add_facility", add_facility, subscribers);
+    timed("insert_forwarding", insert_forwarding, subscribers);
+    timed("subscriber_data", subscriber_data, calls);
+    timed("access_data", access_data, calls);
+    timed("new_destination", new_destination, calls);
+    timed("update_subscriber", update_subscriber, calls);
+    timed("update_location", update_location, calls);
+    timed("set_number", set_number, calls / 2 * 2);
+    timed("set_active", set_active, calls);
+    timed("delete_forwarding", delete_forwarding, subscribers);
+    hlr_post(&handle, 0, HLR_CELLS, &posted);
+    timed("views", views, calls / 4);
+    hlr_close(&handle);
+    fprintf(stderr, "%" PRIu64 " calls were refused (%" PRIu64 ")\n", others, sum);
+    return others != 0;
+}
