@@ -1,11 +1,11 @@
 #!/usr/bin/env bash
-# Refuses each allocation in turn, in the built program, without threads and with, and in the built tests that are made
-# for it, and there each start of a thread too; in other tests all that is asked for from some point on. It is a part of
-# `test.sh`, and can be run alone; it needs gcc, and what `rt ci` (or `rt run` in crates/hlr and `rt test` in the others)
-# leaves in crates/*/out.
+# Refuses each allocation in turn, in the built program, without threads and with, in a client of the library for C, and
+# in the built tests that are made for it, and there each start of a thread too; in other tests all that is asked for from
+# some point on. It is a part of `test.sh`, and can be run alone; it needs gcc, and what `rt ci` (or `rt run` in crates/hlr
+# and `rt test` in the others) and crates/hlr_c/archive.sh behind it (or `rt lib` in crates/hlr_c) leave in crates/*/out.
 #
 #   ./refuse_memory.sh            all; the last line is 'N passed, N failed'
-#   ./refuse_memory.sh program    the program alone
+#   ./refuse_memory.sh program    the program and the library alone
 #
 # The program runs a script in which each record that may want memory stands twice. With an allocation refused it answers
 # all as it does with memory, but for one such record that is refused,1,Memory and done where it stands again; or it ends
@@ -436,10 +436,39 @@ tests() {
   none_asked view_delta
 }
 
+# A day in C by the library: whichever allocation is refused, it ends with 'day: no memory' behind a front of its lines;
+# or it tells all of them, where it is the C library's own buffer.
+library() {
+  local archive=crates/hlr_c/out/libhlr_c.a call=0 ended=0 status
+  if [ ! -f "$archive" ]; then
+    wrong "there is no library at $archive: run crates/hlr_c/archive.sh behind rt ci, or rt lib in crates/hlr_c"
+    return
+  fi
+  gcc -std=c11 -O2 -Icrates/hlr_c examples/library/day.c "$archive" "$(dirname "$(rt doc)")/c/liblibc_c.a" -o "$room/day" || exit 1
+  begin
+  while true; do
+    call=$((call + 1))
+    refusing memory $call "$room/day" > "$room/got" 2> "$room/err"
+    status=$?
+    [ -f "$room/refused" ] || break
+    cmp -s "$room/got" <(head -n "$(wc -l < "$room/got")" examples/library/day.stdout) || wrong "the answers of the library with allocation $call refused"
+    if [ $status = 0 ]; then
+      cmp -s "$room/got" examples/library/day.stdout || wrong "answers of the library are missing with allocation $call refused"
+    else
+      ended=$((ended + 1))
+      [ "$status $(cat "$room/err")" = '1 day: no memory' ] || wrong "status $status of the library, '$(cat "$room/err")', with allocation $call refused"
+    fi
+  done
+  [ $ended -gt 0 ] || wrong 'no day of the library was ended'
+  right
+  echo "the library: $((call - 1)) allocations refused, $ended times the day ended"
+}
+
 all_refused
 program_alone
 program_threaded
 starts_refused
+library
 if [ "${1:-all}" = all ]; then tests; fi
 echo "$passed passed, $failed failed"
 [ "$failed" = 0 ]

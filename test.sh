@@ -2,7 +2,7 @@
 # All tests: the gate (every proof, the must-fail edits, the tests), then the built program from outside.
 #
 #   ./test.sh            both; the last line is 'N passed, N failed'
-#   ./test.sh program    the built programs alone, as they stand in crates/*/out
+#   ./test.sh program    the built programs and the library alone, as they stand in crates/*/out
 #
 # The program's part takes two minutes at most. Its scripts are examples/NAME.csv, each with what it must print beside
 # it (NAME.csv.stdout) and its options (NAME.csv.args, a word a line, where it has any), as `rt try --cases` has them.
@@ -306,6 +306,8 @@ def session(*typed):
     """What the program writes, and how it ends, where keys are typed as soon as what stands beside them has come."""
     child, terminal = pty.fork()
     if child == 0:
+        # A shell ignores it in what it starts in the background.
+        signal.signal(signal.SIGINT, signal.SIG_DFL)
         os.execv(sys.argv[1], sys.argv[1:])
     modes = termios.tcgetattr(terminal)
     modes[1] &= ~termios.OPOST
@@ -592,6 +594,84 @@ C
   test_passed engines_one_after_another
 }
 
+# The library for C: a day in C, also under valgrind, and one in Python.
+library() {
+  local archive=crates/hlr_c/out/libhlr_c.a kit
+  if [ ! -f "$archive" ]; then
+    fail "there is no library at $archive: run crates/hlr_c/archive.sh behind rt ci, or rt lib in crates/hlr_c"
+    return
+  fi
+  if ! command -v gcc > /dev/null; then
+    echo 'skipped, since there is no gcc: the library for C'
+    return
+  fi
+  kit=$(dirname "$(rt doc)")/c/liblibc_c.a
+  gcc -std=c11 -O2 -Wall -Wextra -Werror -Icrates/hlr_c examples/library/day.c "$archive" "$kit" -o "$room/day" || fail 'day.c is compiled'
+  "$room/day" > "$room/out" 2> "$room/err"
+  ends_as_day 'a day in C' $?
+  if command -v valgrind > /dev/null; then
+    valgrind -q --leak-check=full --error-exitcode=9 "$room/day" > "$room/out" 2> "$room/err"
+    ends_as_day 'a day in C under valgrind' $?
+  else
+    echo 'skipped, since there is no valgrind: a day in C under it'
+  fi
+  handed_over "$archive" "$kit"
+  if ! command -v python3 > /dev/null; then
+    echo 'skipped, since there is no python3: day.py of examples/library'
+    return
+  fi
+  gcc -shared -Wl,--whole-archive "$archive" -Wl,--no-whole-archive "$kit" -Wl,-z,defs -o "$room/libhlr.so" || fail 'libhlr.so is made'
+  is 'a day in Python' "$(python3 examples/library/day.py "$room/libhlr.so")" \
+    $'hlr_open 0\nhlr_add_subscriber 0\nhlr_update_location 0\nhlr_subscriber_data 0\n7 7 1 536870912\nhlr_add_access 0\nhlr_access_data 0\n255 4 ABC VWXYZ\nhlr_subscriber_data 3\nhlr_close 0\nhlr_close 254'
+}
+
+# handed_over ARCHIVE ARCHIVE: a handle goes from thread to thread, and is closed in another one than it was opened in.
+handed_over() {
+  cat > "$room/handed.c" <<'C'
+#include "hlr.h"
+#include <pthread.h>
+#include <stdio.h>
+
+static hlr handle = HLR_CLOSED;
+
+static void *add(void *first) {
+    for (uint64_t s_id = *(uint64_t *)first; s_id < *(uint64_t *)first + 500; s_id++) {
+        hlr_subscriber row = {.s_id = s_id, .sub_nbr = s_id, .msc_location = 1, .vlr_location = 1};
+        if (hlr_add_subscriber(&handle, &row)) return NULL;
+    }
+    return first;
+}
+
+static void *count(void *none) {
+    uint64_t counts[HLR_CELLS];
+    printf("%d", hlr_scan(&handle, counts));
+    printf(" %d %d", (int)counts[24], (int)counts[40]);
+    printf(" %d", hlr_close(&handle));
+    printf(" %d\n", hlr_close(&handle));
+    return none;
+}
+
+int main(void) {
+    uint64_t firsts[] = {1, 501};
+    pthread_t thread;
+    void *told;
+    if (hlr_open(4, 524288, &handle)) return 1;
+    for (int turn = 0; turn < 2; turn++)
+        if (pthread_create(&thread, NULL, add, &firsts[turn]) || pthread_join(thread, &told) || told != &firsts[turn]) return 1;
+    return pthread_create(&thread, NULL, count, NULL) || pthread_join(thread, &told);
+}
+C
+  gcc -std=c11 -O2 -Wall -Wextra -Werror -pthread -Icrates/hlr_c "$room/handed.c" "$1" "$2" -o "$room/handed" || fail 'a handle that is handed over is compiled'
+  is 'a handle that is handed over' "$("$room/handed"; echo "$?")" $'0 1000 1000 0 254\n0'
+}
+
+# ends_as_day NAME STATUS: day.c ended so, with its answers and no complaint.
+ends_as_day() {
+  is "$1: status" "$2" 0
+  same "$1: standard output" "$room/out" examples/library/day.stdout
+  is "$1: standard error" "$(cat "$room/err")" ''
+}
+
 program() {
   if [ ! -x "$hlr" ]; then
     fail "there is no program at $hlr: run rt run in crates/hlr"
@@ -625,6 +705,7 @@ program() {
   engines
   waiting
   waiting --threads
+  library
   counted ./refuse_memory.sh
 }
 
@@ -643,7 +724,10 @@ counted() {
   esac
 }
 
-if [ "${1:-all}" = all ]; then counted rt ci; fi
+if [ "${1:-all}" = all ]; then
+  counted rt ci
+  crates/hlr_c/archive.sh > "$room/out" || fail 'crates/hlr_c/archive.sh'
+fi
 program
 echo "$passed passed, $failed failed"
 [ "$failed" = 0 ]
