@@ -1,7 +1,7 @@
 -- The numbers and names of the refusals, as replies write them.
 use Rattle.std.specs.Prelude.{ℕ, List, codes}
 use Rattle.tatp_rows.specs.declared.refusal.Refusal.{Refusal}
-use Rattle.tatp_rows.specs.declared.refusal.Refusal.TheVariants.{Memory, Field, NoSubscriber, NoNumber, NoAccess, NoFacility, NoForwarding, NoDestination, Exists, NumberTaken, Moving, NoPart, NoPiece, OutOfRange, NotAdjacent, ManyPieces, Worn, Thread, Syntax, Read, Write}
+use Rattle.tatp_rows.specs.declared.refusal.Refusal.TheVariants.{Memory, Field, NoSubscriber, NoNumber, NoAccess, NoFacility, NoForwarding, NoDestination, Exists, NumberTaken, Moving, NoPart, NoPiece, OutOfRange, NotAdjacent, ManyPieces, Worn, Thread, Syntax, Read, Write, ManyParts}
 
 -- the number of a refusal
 abbrev pub code_of : Refusal → ℕ
@@ -26,6 +26,7 @@ code_of Thread = 18
 code_of Syntax = 19
 code_of Read = 20
 code_of Write = 21
+code_of ManyParts = 22
 
 -- the name of a refusal
 abbrev pub name_of : Refusal → List ℕ
@@ -50,3 +51,4 @@ name_of Thread = codes "Thread"
 name_of Syntax = codes "Syntax"
 name_of Read = codes "Read"
 name_of Write = codes "Write"
+name_of ManyParts = codes "ManyParts"

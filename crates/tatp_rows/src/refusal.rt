@@ -49,10 +49,12 @@ pub enum Refusal {
     Read,
     /// The writer failed.
     Write,
+    /// Sixteen parts are there.
+    ManyParts,
 }
 
 impl Refusal {
-    /// The number of the refusal in the replies, 1..=21.
+    /// The number of the refusal in the replies, 1..=22.
     pub fn code(self) -> u8
         ensures { result ≡ code_of self }
     {
@@ -78,6 +80,7 @@ impl Refusal {
             Refusal::Syntax => 19,
             Refusal::Read => 20,
             Refusal::Write => 21,
+            Refusal::ManyParts => 22,
         }
     }
 
@@ -107,6 +110,7 @@ impl Refusal {
             Refusal::Syntax => "Syntax",
             Refusal::Read => "Read",
             Refusal::Write => "Write",
+            Refusal::ManyParts => "ManyParts",
         }
     }
 }

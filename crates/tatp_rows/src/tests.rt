@@ -287,8 +287,12 @@ fn reason_of(refused: Result<(), Back<u32>>) -> Result<(), Refusal> {
 #[test]
 fn refusals(rt: HostRuntime) -> Result<(), Fail> {
     assert_eq!(rt;
-        (Refusal::Memory.code(), Refusal::NoDestination.name()),
-        (1, "NoDestination")
+        (
+            Refusal::Memory.code(),
+            Refusal::ManyParts.code(),
+            Refusal::NoDestination.name()
+        ),
+        (1, 22, "NoDestination")
     );
     let back = Back {
         why: Refusal::Exists,
