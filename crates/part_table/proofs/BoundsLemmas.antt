@@ -1,8 +1,9 @@
 -- Bounds that rise, and the regions of parts alone between them.
 use Rattle.std.proofs.Common.{◌≡◌, refl, sym, ap, ℕ, zero, suc, ◌+◌, ◌<◌, ◌≤◌, List, [], ◌∷◌, ◌++◌, true, length, map, arith}
-use Rattle.std.specs.Prelude.{◌&&◌, nat_lt, nat_le}
+use Rattle.std.specs.Prelude.{◌&&◌, Bool, Some, find, nat_lt, nat_le}
 use Rattle.std.specs.List.{range_with_len}
 use Rattle.std.proofs.lemmas.Bool.Decides.{nat_tests}
+use Rattle.tatp_rows.proofs.OrderedLemmas.{by_test}
 use Rattle.tatp_rows.proofs.RowLemmas.{both, both_from}
 use Rattle.tatp_rows.specs.declared.ranges.TheConstants.{LAST_SUBSCRIBER}
 use Rattle.part_table.specs.Bounds.{are_rising, parts_between}
@@ -84,6 +85,15 @@ within from (region ∷ regions) consecutive =
     let some = consecutive.1 in
     let more = within region.hi regions consecutive.2 in
     omega arith
+
+pub found_within : (test : Region → Bool) (from : ℕ) (regions : List Region) (one : Region) → IsConsecutive from regions → find test regions ≡ Some one → one.hi ≤ END
+found_within test from [] one consecutive found = absurd cc
+found_within test from (region ∷ regions) one consecutive found =
+    by_test (test region)
+    (λ e. let here : Some region ≡ Some one = rw e at found in
+    let same : region ≡ one = cc in
+    rw (← same) (within region.hi regions consecutive.2))
+    (λ e. found_within test region.hi regions one consecutive.2 (rw e at found))
 
 -- the bounds between regions rise
 pub rising-bounds_of : (from : ℕ) (region : Region) (regions : List Region) → IsConsecutive from (region ∷ regions) → are_rising from (bounds_of (region ∷ regions)) ≡ true

@@ -1,6 +1,6 @@
 -- Regions by their index: each part, each piece and each s_id has one.
 use Rattle.std.proofs.Common.{◌≡◌, ◌≢◌, ◌∙◌, refl, sym, ap, ℕ, zero, suc, ◌+◌, ◌<◌, ◌≤◌, List, [], ◌∷◌, Bool, true, false, length, get_or, arith, inl, inr}
-use Rattle.std.specs.Prelude.{Some, None, ◌==◌, position}
+use Rattle.std.specs.Prelude.{Option, Some, None, ◌==◌, position}
 use Rattle.std.specs.List.{IsDistinct, list_any, range_with_len}
 use Rattle.std.proofs.lemmas.Bool.{cases_lt}
 use Rattle.std.proofs.lemmas.Bool.Decides.{nat_tests}
@@ -67,6 +67,18 @@ part_has s_id p i regions are index holds =
     let distinct : IsDistinct ◌==◌ (parts_of regions) = rw are.in_order (range_distinct 0 (length (parts_of regions))) in
     let same = one_part p regions i home.0 distinct part.0 home.1 part.1 (is_part_there p (get_or regions home.0 blank) home.3) in
     rw same home.2
+
+-- and where a part's region stands is where it is found
+part_found_at : (p : ℕ) (regions : List Region) (i : ℕ) (found : Option ℕ) → AreRegions regions → i < length regions → is_part p (get_or regions i blank) ≡ true → position (is_part p) regions ≡ found → found ≡ Some i
+part_found_at p regions i None are within is found =
+    let clash : false ≡ true = sym (none_passes (is_part p) regions found) ∙ list_any_at (is_part p) regions i blank within is in absurd cc
+part_found_at p regions i (Some j) are within is found =
+    let there = position-Some (is_part p) regions j blank found in
+    let distinct : IsDistinct ◌==◌ (parts_of regions) = rw are.in_order (range_distinct 0 (length (parts_of regions))) in
+    ap Some (one_part p regions j i distinct there.0 within there.1 is)
+
+pub part_found : (p : ℕ) (regions : List Region) (i : ℕ) → AreRegions regions → i < length regions → is_part p (get_or regions i blank) ≡ true → position (is_part p) regions ≡ Some i
+part_found p regions i are within is = part_found_at p regions i (position (is_part p) regions) are within is refl
 
 -- a number in a range is among its numbers
 among_range : (a n q : ℕ) → a ≤ q → q < a + n → list_any (λ m. m == q) (range_with_len a n) ≡ true

@@ -17,3 +17,10 @@ pub mod AnswerLemmas
 pub mod IndexLemmas
 pub mod GivingLemmas
 pub mod PairLemmas
+pub mod BehindLemmas
+pub mod RangeLemmas
+pub mod RenumberLemmas
+pub mod SplitLemmas
+pub mod DivideLemmas
+pub mod DissolveLemmas
+pub mod DissolvingLemmas

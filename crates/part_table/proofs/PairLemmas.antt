@@ -66,7 +66,7 @@ second_is Low i = refl
 second_is High i = refl
 
 -- neighbours touch
-meet_at : (from : ℕ) (regions : List Region) (i : ℕ) → IsConsecutive from regions → i + 1 < length regions
+pub meet_at : (from : ℕ) (regions : List Region) (i : ℕ) → IsConsecutive from regions → i + 1 < length regions
     → ((get_or regions i blank).lo < (get_or regions i blank).hi) × ((get_or regions i blank).hi ≡ (get_or regions (i + 1) blank).lo) × ((get_or regions (i + 1) blank).lo < (get_or regions (i + 1) blank).hi)
 meet_at from [] i consecutive lt = absurd (omega arith)
 meet_at from (region ∷ []) i consecutive lt = absurd (omega arith)

@@ -1,4 +1,6 @@
 pub mod Bounds
+pub mod Dissolve
+pub mod Divide
 pub mod Give
 pub mod Least
 pub mod Numbered

@@ -1,8 +1,8 @@
 //! Who holds which s_ids: regions of parts and of loose pieces, and the bounds between them.
 //!
-//! A part gives a stretch of its range away, which becomes a loose piece, and a neighbouring part takes it. A proposal
-//! says where bounds between zones would give each part about its share of the rows, and a re-cut which bounds have to
-//! move. No call takes memory.
+//! A part gives a stretch of its range away, which becomes a loose piece, and a neighbouring part takes it. A part is
+//! divided in two, or dissolved into the part in front of it. A proposal says where bounds between zones would give
+//! each part about its share of the rows, and a re-cut which bounds have to move. No call takes memory.
 #![tactic(auto)]
 
 mod bounds;
@@ -11,6 +11,7 @@ mod finding;
 mod joining;
 mod moves;
 mod numbering;
+mod parting;
 mod recut;
 mod region;
 mod regions;

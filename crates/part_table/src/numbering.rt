@@ -1,8 +1,13 @@
-//! The numbers that parts and loose pieces are given in their order.
-ghost use Rattle.std.specs.Prelude.{◌≡◌, ◌<◌};
+//! The numbers that parts and loose pieces are given in their order, and those that rise and fall.
+ghost use Rattle.std.specs.Prelude.{◌≡◌, ◌<◌, ◌≤◌, ◌++◌, drop, take};
+ghost use Rattle.std.specs.List.{AllByRecursion};
+ghost use Rattle.part_table.specs.Dissolve.{lowered, place_lowered};
+ghost use Rattle.part_table.specs.Divide.{place_raised, raised};
 ghost use Rattle.part_table.specs.Numbered.{place_numbered, part_after, piece_after};
+ghost use Rattle.part_table.specs.Region.{part_number};
+ghost use Rattle.part_table.specs.Regions.{parts_of};
 
-use crate::region::Place;
+use crate::region::{Place, Region};
 
 /// The number of the next part, and of the next loose piece.
 #[derive(Drop)]
@@ -30,5 +35,47 @@ impl Next {
                 Place::Piece(self.piece - 1)
             }
         }
+    }
+}
+
+/// The place with a number that is one more, where it is a part's.
+pub(crate) fn raised(place: Place) -> Place
+    requires { AllByRecursion (λ p. p < 255) (part_number place) }
+    ensures { result ≡ place_raised place }
+{
+    match place {
+        Place::Part(number) => Place::Part(number + 1),
+        Place::Piece(number) => Place::Piece(number),
+    }
+}
+
+/// The place with a number that is one less, where it is a part's.
+fn lowered(place: Place) -> Place
+    requires { AllByRecursion (λ p. 1 ≤ p) (part_number place) }
+    ensures { result ≡ place_lowered place }
+{
+    match place {
+        Place::Part(number) => Place::Part(number - 1),
+        Place::Piece(number) => Place::Piece(number),
+    }
+}
+
+/// Raises the parts' numbers by one from an index on.
+pub(crate) fn raise_from(regions: &mut [Region], from: usize)
+    requires { AllByRecursion (λ p. p < 255) (parts_of (drop from regions.old)) }
+    ensures { regions.new ≡ take from regions.old ++ raised (drop from regions.old) }
+{
+    for i in from..regions.len() {
+        regions[i].place = raised(regions[i].place);
+    }
+}
+
+/// Lowers the parts' numbers by one from an index on.
+pub(crate) fn lower_from(regions: &mut [Region], from: usize)
+    requires { AllByRecursion (λ p. 1 ≤ p) (parts_of (drop from regions.old)) }
+    ensures { regions.new ≡ take from regions.old ++ lowered (drop from regions.old) }
+{
+    for i in from..regions.len() {
+        regions[i].place = lowered(regions[i].place);
     }
 }

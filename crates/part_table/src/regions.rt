@@ -23,7 +23,7 @@ use tatp_rows::{GREATEST_WIDTH, Refusal};
 /// loose pieces, each with a number of 1..=16 of its own.
 #[derive(Debug, Drop)]
 pub struct Regions {
-    list: ArrayVec<Region, 32>,
+    pub(crate) list: ArrayVec<Region, 32>,
 }
 
 impl Model for Regions {

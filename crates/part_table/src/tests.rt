@@ -1,4 +1,5 @@
-//! What no clause says: worked examples of openings, gives, takes, proposals and re-cuts, beside a plain model.
+//! What no clause says: worked examples of openings, gives, takes, divides, dissolves, proposals and re-cuts, beside a
+//! plain model.
 use super::*;
 use std::process::Abort;
 use tatp_rows::Refusal;
@@ -29,17 +30,19 @@ fn opened(rt: &impl Abort, parts: u8) -> Regions {
     Regions::opening(parts, 4).expect(rt, "regions")
 }
 
-// What a give answers.
+// What a give, a divide or a dissolve answers.
 type Given = Result<(u8, u32, u32), Refusal>;
 
-// A give or a take, and what it answers.
+// A give, a take, a divide or a dissolve, and what it answers.
 #[derive(Clone, Copy)]
 enum Ask {
     Give(u64, Side, u64, Given),
     Take(u64, u64, Result<Side, Refusal>),
+    Divide(u64, u64, Given),
+    Dissolve(u64, Given),
 }
 
-use Ask::{Give, Take};
+use Ask::{Dissolve, Divide, Give, Take};
 
 // Compares what a give answers, asked first and then done.
 fn expect_give(rt: &impl Abort, regions: &mut Regions, p: u64, side: Side, at: u64, wanted: Given) {
@@ -59,12 +62,26 @@ fn expect_take(
     assert_eq!(rt; [asked, regions.take(n, q)], [wanted; 2]);
 }
 
-// Compares the answers of gives and takes, one after another.
+// Compares what a divide answers, asked first and then done.
+fn expect_divide(rt: &impl Abort, regions: &mut Regions, p: u64, at: u64, wanted: Given) {
+    let asked = regions.dividing(p, at).map(|told| told.1);
+    assert_eq!(rt; [asked, regions.divide(p, at)], [wanted; 2]);
+}
+
+// Compares what a dissolve answers, asked first and then done.
+fn expect_dissolve(rt: &impl Abort, regions: &mut Regions, p: u64, wanted: Given) {
+    let asked = regions.dissolving(p).map(|told| told.1);
+    assert_eq!(rt; [asked, regions.dissolve(p)], [wanted; 2]);
+}
+
+// Compares the answers of gives, takes, divides and dissolves, one after another.
 fn expect_each(rt: &impl Abort, regions: &mut Regions, asks: &[Ask]) {
     for ask in asks {
         match *ask {
             Give(p, side, at, wanted) => expect_give(rt, regions, p, side, at, wanted),
             Take(n, q, wanted) => expect_take(rt, regions, n, q, wanted),
+            Divide(p, at, wanted) => expect_divide(rt, regions, p, at, wanted),
+            Dissolve(p, wanted) => expect_dissolve(rt, regions, p, wanted),
         }
     }
 }
@@ -230,6 +247,64 @@ fn sixteen_pieces_are_the_most(rt: HostRuntime) {
         Give(0, Side::High, 49, Ok((16, 49, 50))),
     ];
     expect_each(&rt, &mut regions, &asks);
+}
+
+// Divides of two parts, with a loose piece that keeps its number.
+const DIVIDES: [Ask; 4] = [
+    Divide(0, 5, Ok((1, 5, 65))),
+    Divide(2, 100, Ok((3, 100, END))),
+    Give(2, Side::High, 90, Ok((1, 90, 100))),
+    Divide(1, 64, Ok((2, 64, 65))),
+];
+
+// Dissolves of what they leave.
+const DISSOLVES: [Ask; 7] = [
+    Dissolve(4, Err(Refusal::NotAdjacent)),
+    Dissolve(0, Err(Refusal::NotAdjacent)),
+    Dissolve(5, Err(Refusal::NoPart)),
+    Dissolve(1, Ok((0, 1, 64))),
+    Take(1, 2, Ok(Side::High)),
+    Dissolve(3, Ok((2, 65, END))),
+    Dissolve(1, Ok((0, 1, 65))),
+];
+
+#[test]
+fn parts_come_and_go(rt: HostRuntime) {
+    let mut regions = opened(&rt, 2);
+    expect_each(&rt, &mut regions, &DIVIDES);
+    let six = [
+        part(0, 1, 5),
+        part(1, 5, 64),
+        part(2, 64, 65),
+        part(3, 65, 90),
+        piece(1, 90, 100),
+        part(4, 100, END),
+    ];
+    expect_list(&rt, &regions, &six);
+    expect_each(&rt, &mut regions, &DISSOLVES);
+    expect_list(&rt, &regions, opened(&rt, 2).list());
+}
+
+// A number behind 32 bits is out of range too.
+const FAR: u64 = 4_294_967_296 + 121;
+
+// Divides of sixteen parts, of which the last begins at 121.
+const OF_SIXTEEN: [Ask; 8] = [
+    Divide(16, 1, Err(Refusal::NoPart)),
+    Divide(15, 121, Err(Refusal::OutOfRange)),
+    Divide(15, END as u64, Err(Refusal::OutOfRange)),
+    Divide(15, FAR, Err(Refusal::OutOfRange)),
+    Divide(15, 122, Err(Refusal::ManyParts)),
+    Dissolve(15, Ok((14, 113, END))),
+    Divide(14, 121, Ok((15, 121, END))),
+    Dissolve(FAR, Err(Refusal::NoPart)),
+];
+
+#[test]
+fn sixteen_parts_are_the_most(rt: HostRuntime) {
+    let mut regions = opened(&rt, 16);
+    expect_each(&rt, &mut regions, &OF_SIXTEEN);
+    expect_list(&rt, &regions, opened(&rt, 16).list());
 }
 
 // Compares a proposal at width 4 with bounds.
