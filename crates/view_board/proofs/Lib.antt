@@ -1,10 +1,13 @@
+pub mod BackLemmas
 pub mod CloseLemmas
 pub mod EndLemmas
 pub mod FillLemmas
 pub mod JoinLemmas
+pub mod LevelLemmas
 pub mod ListLemmas
 pub mod LookLemmas
 pub mod NetLemmas
+pub mod OwnLemmas
 pub mod PostedLemmas
 pub mod RuleLemmas
 pub mod SplitLemmas

@@ -15,20 +15,20 @@ use Rattle.view_board.proofs.ListLemmas.{at_end}
 use Rattle.view_board.proofs.RuleLemmas.{AreFit, HaveOneOwner, fit_after, one_owner_after}
 
 -- the desk that gives a slot up doesn't own it, and owns no other one than before
-gone : (v : View) (slot : ℕ) → Owns (without v slot) slot → ⊥
+pub gone : (v : View) (slot : ℕ) → Owns (without v slot) slot → ⊥
 gone v slot own = elim (cases_lt slot (length v.owned)) [
   | inl within ↦ false≢true (sym (get_or-set_same v.owned slot false false within) ∙ own)
   | inr past ↦ false≢true (sym (get_or_past (set v.owned slot false) slot false (rw length-set past)) ∙ own)
 ]
 
-was_owned : (v : View) (slot s : ℕ) → Owns (without v slot) s → Owns v s
+pub was_owned : (v : View) (slot s : ℕ) → Owns (without v slot) s → Owns v s
 was_owned v slot s own = elim (cases_eq s slot) [
   | inl same ↦ absurd (gone v slot (subst (Owns (without v slot)) same own))
   | inr other ↦ sym (get_or-set_other v.owned slot s false false other) ∙ own
 ]
 
 -- the new desk owns the slot alone
-only_slot : (v : View) (slot s : ℕ) → Owns (alone v slot) s → s ≡ slot
+pub only_slot : (v : View) (slot s : ℕ) → Owns (alone v slot) s → s ≡ slot
 only_slot v slot s own = elim (cases_eq s slot) [
   | inl same ↦ same
   | inr other ↦ absurd (false≢true (sym (get_or-set_other (replicate SLOTS false) slot s true false other ∙ blank_at SLOTS s false) ∙ own))

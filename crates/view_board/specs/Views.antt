@@ -3,7 +3,7 @@
 use Rattle.std.specs.Prelude.{◌≡◌, ℕ, ◌+◌, ◌/◌, ◌<◌, ◌≤◌, max, Bool, true, false, ◌&&◌, ◌||◌, not, if◌then◌else◌, List, [], ◌∷◌, length, replicate, slice_index, slice_index_or, slice_set, ℤ}
 use Rattle.view_board.specs.declared.rule.View.{View}
 use Rattle.view_board.specs.declared.words.TheConstants.{SLOTS, SLOT_WORDS, WORDS, LIMIT}
-use Rattle.view_board.specs.Words.{raised_by, raises_of, each_word, each_slot}
+use Rattle.view_board.specs.Words.{raised_by, raises_of, each_word, each_slot, leveled, uneven_cells}
 
 -- whether the slot is the desk's
 abbrev pub owned_at : View → ℕ → Bool
@@ -11,6 +11,14 @@ owned_at v slot = slice_index_or v.owned slot false
 
 abbrev pub Owns : View → ℕ → Type 0
 Owns v slot = owned_at v slot ≡ true
+
+-- the slot is the least of those that are the desk's
+abbrev pub IsLeastSlot : View → ℕ → Type 0
+IsLeastSlot v slot = Owns v slot × ((other : ℕ) → other < slot → Owns v other → ⊥)
+
+-- the slot is the desk's, and no other one is
+abbrev pub OwnsAlone : View → ℕ → Type 0
+OwnsAlone v slot = Owns v slot × ((other : ℕ) → Owns v other → other ≡ slot)
 
 -- the slot of the word is the desk's
 abbrev pub OwnsWord : View → ℕ → Type 0
@@ -38,6 +46,10 @@ raised v w size = record v { numbers = slice_set v.numbers w (slice_index v.numb
 abbrev pub posted : View → ℕ → ℕ → ℤ → View
 posted v slot cell amount =
     record v { numbers = raised_by v.numbers slot cell amount; raises = v.raises + raises_of amount }
+
+-- what a slot has published is taken back, in one step for each cell whose two words differ
+abbrev pub taken_back : View → ℕ → View
+taken_back v slot = record v { numbers = leveled slot v.numbers; raises = v.raises + uneven_cells slot v.numbers }
 
 -- a word was looked at
 abbrev pub saw : View → ℕ → ℕ → View

@@ -1,5 +1,5 @@
 -- The words of the board: 16 slots, each with a plus-word and a minus-word for each cell.
-use Rattle.std.specs.Prelude.{ℕ, zero, suc, ◌+◌, ◌*◌, ◌<◌, ◌≤◌, nat_lt, List, map, Bool, slice_index, slice_set, ℤ, pos, negsuc, ◌-ℤ◌}
+use Rattle.std.specs.Prelude.{ℕ, zero, suc, ◌+◌, ◌-◌, ◌*◌, ◌/◌, ◌%◌, ◌<◌, ◌≤◌, ◌==◌, max, not, nat_lt, List, map, count_by, Bool, if◌then◌else◌, slice_index, slice_set, ℤ, pos, negsuc, ◌-ℤ◌}
 use Rattle.std.specs.Int.RustNames.{unsigned_abs}
 use Rattle.std.specs.List.{range_with_len}
 use Rattle.view_board.specs.declared.words.TheConstants.{SLOTS, CELLS, SLOT_WORDS, WORDS, LIMIT}
@@ -49,3 +49,17 @@ AreSmall words = (w : ℕ) → slice_index words w ≤ LIMIT
 -- some word passes the limit
 abbrev pub HasGreat : List ℕ → Type 0
 HasGreat words = (w : ℕ) × (LIMIT < slice_index words w)
+
+-- the other word of a word's cell in the same slot: the minus-word of a plus-word, and the other way round
+abbrev pub twin_of : ℕ → ℕ
+twin_of w = if nat_lt (w % SLOT_WORDS) CELLS then w + CELLS else w - CELLS
+
+-- the words where in a slot the lower of each cell's two words is raised to the higher
+abbrev pub leveled : ℕ → List ℕ → List ℕ
+leveled slot words =
+    each_word (λ w. if w / SLOT_WORDS == slot then max (slice_index words w) (slice_index words (twin_of w)) else slice_index words w)
+
+-- in how many cells of a slot the two words differ
+unfoldable pub uneven_cells : ℕ → List ℕ → ℕ
+uneven_cells slot words =
+    count_by (λ c. not (slice_index words (plus_word slot c) == slice_index words (minus_word slot c))) (range_with_len 0 CELLS)

@@ -1,11 +1,12 @@
 //! The board, and what desks do on it.
-ghost use Rattle.std.specs.Prelude.{◌≡◌, ℕ, ◌<◌, ◌≤◌, ◌↔◌, ◌⊎◌, OnOk, OnErr, IfOk, IfErr, IsErr, IsTrue, slice_index};
-ghost use Rattle.view_board.specs.Words.{AreSmall, HasGreat, is_worn};
-ghost use Rattle.view_board.specs.Views.{Owns, OwnsAll, first_view, posted, looked, IsRightSight, without, alone, both, AreApart};
+ghost use Rattle.std.specs.Prelude.{◌≡◌, ℕ, ◌<◌, ◌≤◌, ◌↔◌, ◌⊎◌, OnOk, OnErr, IfOk, IfErr, IsErr, IsTrue, true, slice_index, pos};
+ghost use Rattle.view_board.specs.Words.{AreSmall, HasGreat, is_worn, plus_word, minus_word, slot_net};
+ghost use Rattle.view_board.specs.Views.{Owns, OwnsAll, first_view, posted, taken_back, looked, IsRightSight, without, alone, both, AreApart};
 ghost use Rattle.view_board.specs.Nets.{NetMoves, NetAdds};
 ghost use Rattle.view_board.specs.Desks.{with_view};
+ghost use Rattle.view_board.specs.Inside.{wanting};
 
-use crate::desk::{Desk, take_numbers, take_slots};
+use crate::desk::{Desk, take_numbers, take_slots, wanting};
 use crate::rule::{Checks, Cut, Looks, OwnWords, Raises, SlotChoice, Together, View};
 use crate::words::{CELLS, LIMIT, SLOTS, Sight, WORDS, word_of};
 use atomic_table::Table;
@@ -89,6 +90,36 @@ impl Board {
         }
     }
 
+    /// Takes back what an own slot has published: the lower of each cell's two words is raised to the higher, in one
+    /// step, and a cell whose words are equal takes none. Then the slot has a net of 0 in each cell; no word can wear.
+    pub fn take_back(&self, desk: &mut Desk, slot: u8)
+        requires board { desk.old.board ≡ self.now }
+        requires own { Owns desk.old.view slot }
+        ensures back { desk.new ≡ with_view desk.old (taken_back desk.old.view slot) }
+        ensures level { (c : ℕ) → c < CELLS → slot_net desk.new.view.numbers c slot ≡ pos 0 }
+    {
+        // Tells the prover that no number of the desk passes the limit.
+        self.table.shared.load::<Checks>(&mut desk.seat, 0);
+        for cell in 0..CELLS {
+            self.level(desk, slot, cell);
+        }
+    }
+
+    /// Raises the lower of the two words of a cell to the higher.
+    fn level(&self, desk: &mut Desk, slot: u8, cell: u8)
+        requires board { desk.old.board ≡ self.now }
+        requires own { Owns desk.old.view slot }
+        requires cell { cell < CELLS }
+        requires plus { slice_index desk.old.view.numbers (plus_word slot cell) ≤ LIMIT }
+        requires minus { slice_index desk.old.view.numbers (minus_word slot cell) ≤ LIMIT }
+        ensures { desk.new ≡ with_view desk.old (posted desk.old.view slot cell (wanting desk.old.view.numbers slot cell)) }
+    {
+        let amount = wanting(&desk.numbers, slot, cell);
+        let Ok(()) = self.add(desk, slot, cell, amount) else {
+            unreachable!()
+        };
+    }
+
     /// Looks at all words, one after another, while others may raise theirs: own words are exact, each other one is at
     /// least what the desk has seen of it, and none passes `LIMIT`. Then the sight is what the desk has seen.
     pub fn look(&self, desk: &mut Desk) -> Sight
@@ -110,6 +141,7 @@ impl Board {
         requires own { Owns desk.old.view slot }
         ensures ok { IfOk result (λ new. (new ≡ with_view desk.old (alone desk.old.view slot)) × (desk.new ≡ with_view desk.old (without desk.old.view slot))) }
         ensures net { IfOk result (λ new. NetAdds desk.old.view new.view desk.new.view) }
+        ensures once { desk.old.view.was_apart ≡ true }
         ensures err { OnErr result ((desk.new ≡ desk.old) × (result ≡ Err Refusal.Memory)) }
     {
         self.cut::<Brand>(desk, slot)
@@ -122,6 +154,7 @@ impl Board {
         requires own { Owns desk.old.view slot }
         ensures ok { IfOk result (λ new. (new ≡ with_view desk.old (alone desk.old.view slot)) × (desk.new ≡ with_view desk.old (without desk.old.view slot))) }
         ensures net { IfOk result (λ new. NetAdds desk.old.view new.view desk.new.view) }
+        ensures once { desk.old.view.was_apart ≡ true }
         ensures err { OnErr result ((desk.new ≡ desk.old) × (result ≡ Err Refusal.Memory)) }
     {
         let Ok(numbers) = Box::new(self.alloc, *desk.numbers) else {

@@ -1,12 +1,12 @@
 //! A desk: the right to raise the words of its slots, and what it knows of the board.
-ghost use Rattle.std.specs.Prelude.{◌≡◌, ℕ, ◌+◌, ◌<◌, ◌≤◌, ◌↔◌, ◌^◌, List, Bool, true, false, IsTrue, if◌then◌else◌, ℤ, pos, neg_ℤ, ◌+ℤ◌, ◌≤ℤ◌, slice_index_or};
-ghost use Rattle.view_board.specs.Views.{owned_at, Owns, IsWide, slots_of_both, numbers_of_both};
-ghost use Rattle.view_board.specs.Words.{slot_net};
+ghost use Rattle.std.specs.Prelude.{◌≡◌, ℕ, ◌+◌, ◌<◌, ◌≤◌, ◌↔◌, ◌^◌, List, Bool, true, false, IsTrue, IfSome, None, if◌then◌else◌, ℤ, pos, neg_ℤ, ◌+ℤ◌, ◌≤ℤ◌, slice_index, slice_index_or};
+ghost use Rattle.view_board.specs.Views.{owned_at, Owns, IsLeastSlot, IsWide, slots_of_both, numbers_of_both};
+ghost use Rattle.view_board.specs.Words.{plus_word, minus_word, slot_net};
 ghost use Rattle.view_board.specs.Nets.{net_of, net_from};
-ghost use Rattle.view_board.specs.Inside.{AreWithin};
+ghost use Rattle.view_board.specs.Inside.{AreWithin, wanting};
 
 use crate::rule::View;
-use crate::words::{CELLS, SLOT_WORDS, SLOTS, WORDS};
+use crate::words::{CELLS, LIMIT, SLOT_WORDS, SLOTS, WORDS};
 use atomic_table::Seat;
 use std::marker::Model;
 
@@ -36,6 +36,21 @@ impl Desk {
         slot < SLOTS && self.owned[usize::from(slot)]
     }
 
+    /// The least slot of the desk, or `None` where it owns none.
+    pub fn least_slot(&self) -> Option<u8>
+        ensures least { IfSome result (λ slot. (slot < SLOTS) × IsLeastSlot self.now.view slot) }
+        ensures none { result ≡ None → (slot : ℕ) → Owns self.now.view slot → ⊥ }
+    {
+        // Opens the desk for the prover: its rules are known as the walk begins.
+        let _ = &self.owned;
+        for slot in 0..SLOTS {
+            if self.owns(slot) {
+                return Some(slot);
+            }
+        }
+        None
+    }
+
     /// What the desk has published of a cell below `CELLS`: the sum over its slots of their plus-words less their
     /// minus-words.
     #[inline(always)]
@@ -61,6 +76,17 @@ impl Desk {
             self.add_nets(slot, &mut nets);
         }
         nets
+    }
+
+    /// Adds the net of an own slot in each cell to a sum: no net is past 2^40, and no sum past 2^60, either way.
+    #[inline(always)]
+    pub fn add_slot_nets(&self, slot: u8, sums: &mut [i64; CELLS as usize])
+        requires own { Owns self.now.view slot }
+        requires small { (c : ℕ) → c < CELLS → (neg_ℤ (pos (2 ^ 40)) ≤ℤ slot_net self.now.view.numbers c slot) × (slot_net self.now.view.numbers c slot ≤ℤ pos (2 ^ 40)) }
+        requires sums { (c : ℕ) → c < CELLS → (neg_ℤ (pos (2 ^ 60)) ≤ℤ slice_index_or sums.old c (pos 0)) × (slice_index_or sums.old c (pos 0) ≤ℤ pos (2 ^ 60)) }
+        ensures { (c : ℕ) → c < CELLS → slice_index_or sums.new c (pos 0) ≡ slice_index_or sums.old c (pos 0) +ℤ slot_net self.now.view.numbers c slot }
+    {
+        add_small_nets(&self.numbers, slot, sums);
     }
 
     /// Adds the nets of a slot to a sum for each cell, where the slot is the desk's.
@@ -122,6 +148,19 @@ fn net_in(numbers: &[u64; WORDS], slot: u8, cell: u8) -> i128
     i128::from(numbers[plus]) - i128::from(numbers[minus])
 }
 
+/// The amount that levels the two words of a cell: the lower one is raised by it.
+pub(crate) fn wanting(numbers: &[u64; WORDS], slot: u8, cell: u8) -> i64
+    requires slot { slot < SLOTS }
+    requires cell { cell < CELLS }
+    requires plus { slice_index numbers.now (plus_word slot cell) ≤ LIMIT }
+    requires minus { slice_index numbers.now (minus_word slot cell) ≤ LIMIT }
+    ensures { result ≡ wanting numbers.now slot cell }
+{
+    let plus = usize::from(slot) * SLOT_WORDS + usize::from(cell);
+    let minus = plus + usize::from(CELLS);
+    numbers[minus] as i64 - numbers[plus] as i64
+}
+
 /// True only where no cell of a slot has a net, since all its words are 0. It looks at all of them, which is faster
 /// than to stop at the first that isn't.
 #[inline(always)]
@@ -152,6 +191,19 @@ fn add_slot(numbers: &[u64; WORDS], slot: u8, sums: &mut [i128; CELLS as usize])
     }
     for cell in 0..CELLS {
         sums[usize::from(cell)] += net_in(numbers, slot, cell);
+    }
+}
+
+/// Adds the net of a slot in each cell to a sum, where all are small.
+#[inline(always)]
+fn add_small_nets(numbers: &[u64; WORDS], slot: u8, sums: &mut [i64; CELLS as usize])
+    requires slot { slot < SLOTS }
+    requires small { (c : ℕ) → c < CELLS → (neg_ℤ (pos (2 ^ 40)) ≤ℤ slot_net numbers.now c slot) × (slot_net numbers.now c slot ≤ℤ pos (2 ^ 40)) }
+    requires sums { (c : ℕ) → c < CELLS → (neg_ℤ (pos (2 ^ 60)) ≤ℤ slice_index_or sums.old c (pos 0)) × (slice_index_or sums.old c (pos 0) ≤ℤ pos (2 ^ 60)) }
+    ensures { (c : ℕ) → c < CELLS → slice_index_or sums.new c (pos 0) ≡ slice_index_or sums.old c (pos 0) +ℤ slot_net numbers.now c slot }
+{
+    for cell in 0..CELLS {
+        sums[usize::from(cell)] += net_in(numbers, slot, cell) as i64;
     }
 }
 

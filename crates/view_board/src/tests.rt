@@ -193,6 +193,42 @@ fn words_at_limit(rt: HostRuntime) -> Result<(), Fail> {
     Ok(())
 }
 
+// The plus-words of slot 3 from cell 5 on, its minus-words there, and the greater of the two: raised, lowered, both
+// alike, and at the limit either way.
+const PLUSES: [u64; 5] = [9, 2, 8, LIMIT, 0];
+
+const MINUSES: [u64; 5] = [4, 7, 8, 0, LIMIT];
+
+const GREATER: [u64; 5] = [9, 7, 8, LIMIT, LIMIT];
+
+// Also with a word of another slot, which stays, and a second time, when nothing is left to take back.
+#[test]
+fn slot_is_taken_back(rt: HostRuntime) -> Result<(), Fail> {
+    let mut words = [0; WORDS];
+    words[0] = 6;
+    let mut wanted = words;
+    for cell in 0..5usize {
+        words[PLUS + cell] = PLUSES[cell];
+        words[MINUS + cell] = MINUSES[cell];
+        wanted[PLUS + cell] = GREATER[cell];
+        wanted[MINUS + cell] = GREATER[cell];
+    }
+    let (board, mut desk) = opened(rt.alloc(), &words).ok().ok_or("no board")?;
+    let mut other = split_off(&board, &mut desk, 3).ok().ok_or("no desk")?;
+    let published = other.nets();
+    board.take_back(&mut other, 3);
+    let first = board.look(&mut desk);
+    board.take_back(&mut other, 3);
+    let second = board.look(&mut desk);
+    assert_eq!(rt;
+        (published[5], published[6], published[8]),
+        (5, -5, i128::from(LIMIT))
+    );
+    assert_eq!(rt; (other.nets(), desk.net(0)), ([0; CELLS as usize], 6));
+    assert!(rt; first.words == wanted && second.words == wanted);
+    Ok(())
+}
+
 #[test]
 fn sights_tell_words_by_slot_and_cell(rt: HostRuntime) {
     let mut words = [0; WORDS];

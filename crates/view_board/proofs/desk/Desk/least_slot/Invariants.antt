@@ -1,0 +1,6 @@
+use Rattle.std.proofs.Common.{ℕ, ◌<◌}
+use Rattle.view_board.specs.Views.{Owns}
+use Rattle.view_board.proofs.desk.Desk.least_slot.Given as goal
+
+abbrev pub invariant-loop-slot : goal.invariant-loop-slot
+invariant-loop-slot l = (other : ℕ) → other < l.slot → Owns l.self.view other → ⊥
