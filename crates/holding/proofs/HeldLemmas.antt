@@ -1,5 +1,5 @@
 -- The local law, from the opening of a holding through its actions and postings.
-use Rattle.std.proofs.Common.{◌≡◌, ℕ, ◌+◌, ◌-◌, ◌*◌, ◌^◌, ◌<◌, ◌≤◌, ◌==◌, refl, arith, List, length, set, get_or, ◌∙◌, inl, inr, nat_lt, true, false}
+use Rattle.std.proofs.Common.{◌≡◌, ℕ, ◌+◌, ◌-◌, ◌^◌, ◌<◌, ◌≤◌, ◌==◌, refl, arith, List, length, set, get_or, ◌∙◌, inl, inr, nat_lt, true, false}
 use Rattle.std.specs.Prelude.{ℤ, pos, neg_ℤ, ◌-ℤ◌, ◌≤ℤ◌}
 use Rattle.std.proofs.lemmas.Bool.{cases_lt}
 use Rattle.std.proofs.lemmas.Bool.Decides.{nat_tests}
@@ -13,11 +13,12 @@ use Rattle.tatp_actions.proofs.CountLemmas.{few_cells}
 use Rattle.tatp_actions.specs.declared.cells.TheConstants.{CELLS, FIRST_AREA, FIRST_ZONE}
 use Rattle.view_board.specs.Desks.{Station}
 use Rattle.view_board.specs.Nets.{net_of, NetMoves}
-use Rattle.view_board.specs.Views.{IsWide, posted}
-use Rattle.view_board.specs.Words.{word_of}
+use Rattle.view_board.specs.Views.{IsLeastSlot, IsWide, OwnsAlone, posted}
+use Rattle.view_board.specs.Words.{slot_net, word_of}
+use Rattle.view_board.proofs.OwnLemmas.{net_alone}
 use Rattle.view_board.specs.declared.rule.View.{View}
 use Rattle.view_delta.specs.Pending.{pending_at}
-use Rattle.holding.specs.Held.{HoldingState, IsHolding, IsLeastSlot, HasSmallNets, count_of}
+use Rattle.holding.specs.Held.{HoldingState, IsHolding, HasSmallNets, count_of}
 
 -- an empty book has no count
 empty_active : (hour : ℕ) → active_forwardings hour empty_book ≡ 0
@@ -107,3 +108,9 @@ pub one_told : (amount : ℕ → ℤ) (deltas : List ℤ) (n at : ℕ) (value : 
 one_told amount deltas n at value wide below there is told c within = rw there (by_test (c == n)
     (λ e. let same : c ≡ n = grind (arith, nat_tests) in rw same (get_or-set_same deltas n value (pos 0) (omega arith) ∙ is))
     (λ e. let apart : c ≡ n → ⊥ = grind (arith, nat_tests) in get_or-set_other deltas n c value (pos 0) apart ∙ told c (grind (arith, nat_tests))))
+
+-- the net of a desk with one slot is that of the slot that postings raise
+pub own_net : (holding : HoldingState) → IsHolding holding → (slot : ℕ) × OwnsAlone holding.desk.view slot → (c : ℕ) → net_of holding.desk.view c ≡ slot_net holding.desk.view.numbers c holding.slot
+own_net holding is alone c =
+    let same : holding.slot ≡ alone.0 = alone.1.1 holding.slot is.slot.0 in
+    rw same (net_alone holding.desk.view c alone.0 alone.1)

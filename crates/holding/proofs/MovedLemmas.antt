@@ -1,6 +1,6 @@
 -- A part that is cut in two, and two that become one: their counts add up, and the local law is kept.
 use Rattle.std.proofs.Common.{◌≡◌, ℕ, ◌+◌, ◌<◌, ◌==◌, refl, arith, List, get_or, map, ◌∙◌, ap, inl, inr, false}
-use Rattle.std.specs.Prelude.{ℤ, pos, ◌+ℤ◌, ◌-ℤ◌, Box}
+use Rattle.std.specs.Prelude.{ℤ, pos, ◌-ℤ◌, Box}
 use Rattle.std.specs.Box.{with_value}
 use Rattle.std.specs.declared.alloc.Global.{Global}
 use Rattle.std.proofs.Math.ListN.{get_or-map}
@@ -20,6 +20,7 @@ use Rattle.tatp_actions.proofs.JoinedLemmas.{cell_joined}
 use Rattle.view_board.specs.Desks.{Station}
 use Rattle.view_delta.specs.Pending.{pending_at, SumsFit, DifferencesFit}
 use Rattle.holding.specs.Held.{HoldingState, IsHolding, IsPiece, count_of}
+use Rattle.holding.specs.Inside.{IsPendingWith}
 use Rattle.holding.proofs.HeldLemmas.{few, pending_small}
 
 -- the counts of a part's rows
@@ -93,15 +94,14 @@ joined part other whole rules rules' touch same is c = by_test (part.hi == other
     meets_low (inl first) e = absurd (grind (arith, nat_tests))
     meets_low (inr second) e = second
 
--- a holding with the rows and the counts of a piece keeps its rules
-pub grown : (part other whole : PartState) (pending pending' : List ℤ) (counts : List ℕ) (desk : Station) (slot : ℕ) → IsHolding (record { part = part; pending = pending; desk = desk; slot = slot })
-    → IsPart whole → AreCountsOf other counts → ((c : ℕ) → count_of whole c ≡ count_of part c + count_of other c)
-    → ((c : ℕ) → c < CELLS → pending_at pending' c ≡ pending_at pending c +ℤ pos (get_or counts c 0))
+-- a holding with the rows and the counts of another part keeps its rules
+pub grown : (part other whole : PartState) (pending pending' : List ℤ) (desk : Station) (slot : ℕ) → IsHolding (record { part = part; pending = pending; desk = desk; slot = slot })
+    → IsPart whole → ((c : ℕ) → count_of whole c ≡ count_of part c + count_of other c) → IsPendingWith other pending pending'
     → IsHolding (record { part = whole; pending = pending'; desk = desk; slot = slot })
-grown part other whole pending pending' counts desk slot is rules are both more = record {
+grown part other whole pending pending' desk slot is rules both more = record {
   rules = rules;
   slot = is.slot;
-  law = λ c below. (let law = is.law c below in let count = are c below in let sum = both c in let now = more c below in omega (arith, ints));
+  law = λ c below. (let law = is.law c below in let sum = both c in let now = more c below in omega (arith, ints));
   small = is.small;
   wide = is.wide;
 }

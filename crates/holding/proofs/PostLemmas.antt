@@ -1,5 +1,5 @@
 -- A posting, cell by cell.
-use Rattle.std.proofs.Common.{◌≡◌, ℕ, ◌+◌, ◌-◌, ◌<◌, ◌≤◌, refl, arith, zero, suc, true, false, not, List, ◌∷◌, take, set, sym, subst, ◌∙◌, Some, None, Result, Ok, Err}
+use Rattle.std.proofs.Common.{◌≡◌, ℕ, ◌+◌, ◌-◌, ◌<◌, ◌≤◌, refl, arith, zero, suc, true, false, not, List, ◌∷◌, take, set, sym, subst, ◌∙◌, Some, None, Ok, Err}
 use Rattle.std.specs.Prelude.{ℤ, pos, negsuc, ◌+ℤ◌}
 use Rattle.std.specs.List.{range_with_len, filter}
 use Rattle.std.proofs.Math.Seq.{take-nil}

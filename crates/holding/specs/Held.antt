@@ -5,7 +5,7 @@ use Rattle.tatp_actions.specs.Part.{PartState, IsPart}
 use Rattle.tatp_actions.specs.declared.cells.TheConstants.{CELLS}
 use Rattle.view_board.specs.Desks.{Station}
 use Rattle.view_board.specs.Nets.{net_of}
-use Rattle.view_board.specs.Views.{Owns, IsWide}
+use Rattle.view_board.specs.Views.{IsLeastSlot, IsWide}
 use Rattle.view_board.specs.declared.rule.View.{View}
 use Rattle.view_delta.specs.Pending.{pending_at}
 
@@ -28,10 +28,6 @@ count_of part c = cell part.width c part.book
 -- what is published of each cell is at most 2^40 in size
 abbrev pub HasSmallNets : View → Type 0
 HasSmallNets view = (c : ℕ) → c < CELLS → (neg_ℤ (pos (2 ^ 40)) ≤ℤ net_of view c) × (net_of view c ≤ℤ pos (2 ^ 40))
-
--- the slot is the least of those that are owned
-abbrev pub IsLeastSlot : View → ℕ → Type 0
-IsLeastSlot view slot = Owns view slot × ((other : ℕ) → other < slot → Owns view other → ⊥)
 
 -- the rules of a holding
 pub record IsHolding (holding : HoldingState) : Type 0 where

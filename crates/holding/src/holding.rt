@@ -1,13 +1,13 @@
 //! A part with what its owner has posted and what it has not.
-ghost use Rattle.std.specs.Prelude.{◌≡◌, ℕ, ◌<◌, ◌≤◌, ◌+◌, ◌^◌, ◌↔◌, option_copied, IfOk, IsTrue, slice_index, slice_index_or, ℤ, pos, neg_ℤ, ◌-ℤ◌, ◌≤ℤ◌};
+ghost use Rattle.std.specs.Prelude.{◌≡◌, ℕ, ◌<◌, ◌≤◌, ◌+◌, ◌^◌, ◌↔◌, option_copied, IfOk, IsTrue, slice_index, slice_index_or, ℤ, pos, neg_ℤ, ◌+ℤ◌, ◌-ℤ◌, ◌≤ℤ◌};
 ghost use Rattle.tatp_actions.specs.Action.{s_id_of, done_reply, IsOutcome};
 ghost use Rattle.tatp_actions.specs.Book.{IsWithin, first_subscriber};
 ghost use Rattle.tatp_actions.specs.declared.cells.TheConstants.{CELLS};
 ghost use Rattle.view_board.specs.Nets.{net_of};
-ghost use Rattle.view_board.specs.Views.{Owns, IsWide};
+ghost use Rattle.view_board.specs.Views.{Owns, OwnsAlone, IsLeastSlot, IsWide};
 ghost use Rattle.view_board.specs.declared.words.TheConstants.{SLOTS};
 ghost use Rattle.view_delta.specs.Pending.{pending_at};
-ghost use Rattle.holding.specs.Held.{IsHolding, HasSmallNets, IsLeastSlot, count_of};
+ghost use Rattle.holding.specs.Held.{IsHolding, HasSmallNets, count_of};
 ghost use Rattle.holding.specs.Inside.{IsCellPosted};
 ghost use Rattle.holding.specs.Post.{post};
 
@@ -15,14 +15,14 @@ use std::alloc::Global;
 use std::marker::Model;
 use tatp_actions::{Action, CELLS, Cells, Edit, Part, RowReply, Rows, Trees};
 use tatp_rows::{Refusal, Subscriber};
-use view_board::{Board, Desk, SLOTS};
+use view_board::{Board, Desk};
 use view_delta::Pending;
 
 /// A part with what is pending of each cell, and the desk of its owner. What the desk has published of a cell and what
 /// is pending of it are together the count over the part's rows.
 ///
-/// The desk never comes out. So a holding that is dropped takes its slot along, and since a register is made of desks
-/// that have each slot once, none can be made of the others then.
+/// The desk comes out as the holding is dissolved, and else never. So a holding that is dropped takes its slot along, and
+/// since a register is made of desks that have each slot once, none can be made of the others then.
 #[derive(Drop)]
 pub struct Holding<R: Rows = Trees> {
     pub(crate) part: Part<R>,
@@ -30,7 +30,7 @@ pub struct Holding<R: Rows = Trees> {
     pub(crate) desk: Desk,
     // The least slot of the desk, whose words a posting raises.
     pub(crate) slot: u8,
-    // For the calls that give parts away and take them.
+    // For the calls that give parts away and take them, divide and dissolve.
     pub(crate) alloc: Global,
 }
 
@@ -45,16 +45,15 @@ impl<R: Rows> Model for Holding<R> {
 }
 
 /// The least slot of a desk that owns one.
-fn least_slot(desk: &Desk) -> u8
-    requires some { (slot : ℕ) × (slot < SLOTS) × Owns desk.now.view slot }
-    ensures { IsLeastSlot desk.now.view result }
+pub(crate) fn least_slot(desk: &Desk) -> u8
+    requires { (slot : ℕ) × Owns desk.now.view slot }
+    ensures below { result < SLOTS }
+    ensures least { IsLeastSlot desk.now.view result }
 {
-    for slot in 0..SLOTS {
-        if desk.owns(slot) {
-            return slot;
-        }
+    match desk.least_slot() {
+        Some(slot) => slot,
+        None => unreachable!(),
     }
-    unreachable!()
 }
 
 /// A count less what is published of it.
@@ -246,6 +245,17 @@ impl Holding {
         ensures rules { IsHolding self.now }
     {
         self.desk.nets()
+    }
+
+    /// Adds what the desk, which owns one slot, has published of each cell to a sum; no sum is past 2^60, either way.
+    #[inline(always)]
+    pub fn add_nets(&self, sums: &mut [i64; CELLS as usize])
+        requires alone { (slot : ℕ) × OwnsAlone self.now.desk.view slot }
+        requires sums { (c : ℕ) → c < CELLS → (neg_ℤ (pos (2 ^ 60)) ≤ℤ slice_index_or sums.old c (pos 0)) × (slice_index_or sums.old c (pos 0) ≤ℤ pos (2 ^ 60)) }
+        ensures added { (c : ℕ) → c < CELLS → slice_index_or sums.new c (pos 0) ≡ slice_index_or sums.old c (pos 0) +ℤ net_of self.now.desk.view c }
+        ensures rules { IsHolding self.now }
+    {
+        self.desk.add_slot_nets(self.slot, sums);
     }
 
     /// The count of each cell, taken by a walk over all rows.

@@ -2,13 +2,15 @@
 //!
 //! An owner keeps the rows of a range, what is pending of each cell, and a desk: the words of the board that it alone
 //! raises. What its desk has published and what is pending are together the count over its own rows, at every moment at
-//! which a call returns; so owners may work in threads of their own, and an action or a posting counts no rows anew.
+//! which a call returns; so owners may work in threads of their own, and an action or a posting counts no rows anew. A
+//! holding can be divided in two, and dissolved into the one in front.
 #![tactic(auto)]
 
 mod holding;
 mod job;
 mod lending;
 mod moving;
+mod parting;
 mod piece;
 
 pub use holding::Holding;

@@ -1,7 +1,8 @@
 //! Pieces that a holding gives away and takes.
-ghost use Rattle.std.specs.Prelude.{◌≡◌, ◌⊎◌, ◌↔◌, IsTrue, IfOk, IfErr, OnOk, OnErr};
+ghost use Rattle.std.specs.Prelude.{◌≡◌, ◌⊎◌, ◌↔◌, IsTrue, Err, IfOk, IfErr, OnOk, OnErr};
 ghost use Rattle.tatp_actions.specs.Cut.{Touch};
 ghost use Rattle.holding.specs.Held.{IsHolding, IsPiece};
+ghost use Rattle.holding.specs.Inside.{IsPendingWith, TakesPart};
 ghost use Rattle.holding.specs.Moved.{IsInside, IsGiven, IsTaken};
 
 use crate::holding::Holding;
@@ -10,9 +11,10 @@ use part_table::Side;
 use std::mem;
 use tatp_actions::Part;
 use tatp_rows::{Back, Refusal};
+use view_delta::Pending;
 
 /// Whether a subscriber is strictly inside the range of a part.
-fn is_inside(part: &Part, at: u32) -> bool
+pub(crate) fn is_inside(part: &Part, at: u32) -> bool
     ensures { IsTrue result ↔ IsInside at part.now }
 {
     part.lo() < at && at < part.hi()
@@ -44,21 +46,35 @@ impl Holding {
         }
         // All memory is had before anything changes: the piece's box, and what the cut takes.
         let mut piece = Box::new(self.alloc, Piece::blank(self.alloc))?;
-        let part = match self.part.slice(at, side) {
-            Ok(part) => part,
+        match self.cut_off(side, at) {
+            Ok(given) => {
+                drop(mem::replace(&mut *piece, given));
+                Ok(piece)
+            }
             Err(why) => {
                 drop(piece);
-                return Err(why);
+                Err(why)
             }
-        };
+        }
+    }
+
+    /// Cuts the stretch on one side of a subscriber strictly inside the range off as a piece, whose rows are counted
+    /// once. `Memory` where a growth was refused: then nothing is changed.
+    pub(crate) fn cut_off(&mut self, side: Side, at: u32) -> Result<Piece, Refusal>
+        requires { IsInside at self.old.part }
+        ensures given { IfOk result (λ piece. IsGiven side at self.old piece self.new) }
+        ensures refused { OnErr result ((result ≡ Err Refusal.Memory) × (self.new ≡ self.old)) }
+        ensures piece { IfOk result IsPiece }
+        ensures before { IsHolding self.old }
+        ensures after { IsHolding self.new }
+    {
+        let part = self.part.slice(at, side)?;
         let counts = part.recount();
         self.pending.subtract(&counts);
-        let given = Piece {
+        Ok(Piece {
             part,
             pending: counts,
-        };
-        drop(mem::replace(&mut *piece, given));
-        Ok(piece)
+        })
     }
 
     /// Takes a loose piece of the same width of zones. No row is counted.
@@ -82,7 +98,9 @@ impl Holding {
         }
         // An empty piece takes no memory.
         let Piece { part, pending } = mem::replace(&mut *piece, Piece::blank(self.alloc));
-        if let Err(back) = self.part.meld(part) {
+        let mut grown = self.pending;
+        grown.add(&pending);
+        if let Err(back) = self.take_in(part, grown) {
             let kept = Piece {
                 part: back.item,
                 pending,
@@ -93,8 +111,25 @@ impl Holding {
                 item: piece,
             });
         }
-        self.pending.add(&pending);
         drop(piece);
+        Ok(())
+    }
+
+    /// Takes in a part that touches this one, with what is pending then: the counts of its rows too. `Memory` where a
+    /// growth was refused: then nothing is changed, and the part is handed back as it came.
+    pub(crate) fn take_in(&mut self, part: Part, pending: Pending) -> Result<(), Back<Part>>
+        requires touch { Touch self.old.part part }
+        requires width { self.old.part.width ≡ part.width }
+        requires pending { IsPendingWith part self.old.pending pending }
+        ensures taken { OnOk result (TakesPart self.old part self.new) }
+        ensures refused { IfErr result (λ back. (back ≡ record { why = Refusal.Memory; item = part }) × (self.new ≡ self.old)) }
+        ensures before { IsHolding self.old }
+        ensures after { IsHolding self.new }
+    {
+        if let Err(back) = self.part.meld(part) {
+            return Err(back);
+        }
+        self.pending = pending;
         Ok(())
     }
 }

@@ -1,7 +1,6 @@
 use Rattle.std.proofs.Common.{◌≡◌, ◌+ℤ◌, arith, pos, subst, sym}
 use Rattle.std.proofs.lemmas.Int.{ints}
 use Rattle.tatp_actions.specs.Cell.{cell}
-use Rattle.tatp_actions.specs.Inside.{Acts}
 use Rattle.view_board.specs.Nets.{net_of}
 use Rattle.view_delta.specs.Pending.{pending_at}
 use Rattle.view_delta.proofs.NoteLemmas.{notes_fit}

@@ -1,0 +1,17 @@
+use Rattle.std.proofs.Common.{◌≡◌}
+use Rattle.tatp_actions.specs.Cut.{Touch}
+use Rattle.tatp_actions.specs.Part.{PartState}
+use Rattle.holding.proofs.MovedLemmas.{grown, joined}
+use Rattle.holding.proofs.moving.Holding.take_in.Goals as goal
+
+pub invariant_of-self-2 : goal.invariant_of-self-2
+invariant_of-self-2 c =
+    let part : PartState = c.self.inside.part in
+    let touch : Touch part c.args.part = rw (← c.self.view_is) at c.requires.touch in
+    let same : part.width ≡ c.args.part.width = rw (← c.self.view_is) at c.requires.width in
+    let more = rw (← c.self.view_is) at c.requires.pending in
+    grown part c.args.part _ _ _ _ _ c.self.invariant c.in_default.ensures.after
+    (joined part c.args.part _ c.self.invariant.rules c.in_default.ensures.other touch same c.in_default.ensures.melded) more
+
+pub returns-clause-after : goal.returns-clause-after
+returns-clause-after c = invariant_of-self-2 c

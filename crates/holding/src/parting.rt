@@ -1,0 +1,203 @@
+//! Holdings that are divided in two, and dissolved into the one in front.
+ghost use Rattle.std.specs.Prelude.{◌≡◌, ◌⊎◌, ℕ, ◌<◌, ◌≤◌, ◌^◌, Err, IfOk, IfErr, OnOk, OnErr, ℤ, pos, neg_ℤ, ◌+ℤ◌, ◌≤ℤ◌};
+ghost use Rattle.tatp_actions.specs.declared.cells.TheConstants.{CELLS};
+ghost use Rattle.view_board.specs.Desks.{with_view};
+ghost use Rattle.view_board.specs.Nets.{net_of};
+ghost use Rattle.view_board.specs.Views.{IsWide, OwnsAlone, taken_back};
+ghost use Rattle.view_delta.specs.Pending.{pending_at};
+ghost use Rattle.holding.specs.Held.{IsHolding};
+ghost use Rattle.holding.specs.Inside.{IsPendingWith, TakesPart};
+ghost use Rattle.holding.specs.Moved.{IsBlankDesk, IsInside, IsMerged, IsParted};
+
+use crate::holding::{Holding, least_slot};
+use crate::moving::is_inside;
+use crate::piece::Piece;
+use part_table::Side;
+use std::alloc::Global;
+use std::mem;
+use tatp_actions::CELLS;
+use tatp_rows::{Back, Refusal};
+use view_board::{Board, Desk};
+use view_delta::Pending;
+
+/// A delta with a count, of which so much is published and so much pending.
+fn raised(delta: i64, net: i128, pending: i64) -> i64
+    requires delta { (neg_ℤ (pos (2 ^ 60)) ≤ℤ delta) × (delta ≤ℤ pos (2 ^ 60)) }
+    requires net { (neg_ℤ (pos (2 ^ 60)) ≤ℤ net) × (net ≤ℤ pos (2 ^ 60)) }
+    requires pending { (neg_ℤ (pos (2 ^ 60)) ≤ℤ pending) × (pending ≤ℤ pos (2 ^ 60)) }
+    ensures { result ≡ delta +ℤ (net +ℤ pending) }
+{
+    (i128::from(delta) + net + i128::from(pending)) as i64
+}
+
+/// Takes back all that a desk with one slot has published: its net is 0 in each cell then.
+#[tactic(auto, using(view_board::proofs::BackLemmas::none_back))]
+fn withdraw(board: &Board, desk: &mut Desk, slot: u8)
+    requires board { desk.old.board ≡ board.now }
+    requires wide { IsWide desk.old.view }
+    requires alone { OwnsAlone desk.old.view slot }
+    ensures back { desk.new ≡ with_view desk.old (taken_back desk.old.view slot) }
+    ensures idle { (c : ℕ) → c < CELLS → net_of desk.new.view c ≡ pos 0 }
+{
+    board.take_back(desk, slot);
+}
+
+impl Holding {
+    /// Divides the part at a subscriber: it keeps all below, and a new holding with this desk has the subscriber and
+    /// all above. The new part's rows are counted once, and nothing of them is published yet. The desk owns one slot,
+    /// and has published a net of 0 of each cell.
+    ///
+    /// `OutOfRange` where the subscriber is not strictly inside the range, `Memory` where a growth was refused: then
+    /// nothing is changed, and the desk is handed back as it came.
+    pub fn divide(&mut self, at: u32, desk: Desk) -> Result<Box<Holding>, Back<Desk>>
+        requires { IsBlankDesk desk.view }
+        ensures parted { IfOk result (λ new. IsParted at self.old desk new.value self.new) }
+        ensures new { IfOk result (λ new. IsHolding new.value) }
+        ensures refused { IfErr result (λ back. (back.item ≡ desk) × (self.new ≡ self.old)) }
+        ensures why { IfErr result (λ back. ((back.why ≡ Refusal.OutOfRange) × (IsInside at self.old.part → ⊥)) ⊎ ((back.why ≡ Refusal.Memory) × IsInside at self.old.part)) }
+        ensures before { IsHolding self.old }
+        ensures after { IsHolding self.new }
+    {
+        if !is_inside(&self.part, at) {
+            return Err(Back {
+                why: Refusal::OutOfRange,
+                item: desk,
+            });
+        }
+        // All memory is had before anything changes: the new holding's box, and what the cut takes.
+        let mut new = match Box::new(self.alloc, Holding::blank(self.alloc, desk)) {
+            Ok(new) => new,
+            Err(refused) => {
+                return Err(Back {
+                    why: Refusal::Memory,
+                    item: refused.value.into_desk(),
+                });
+            }
+        };
+        match self.cut_off(Side::High, at) {
+            Ok(piece) => {
+                new.fill(piece);
+                Ok(new)
+            }
+            Err(why) => Err(Back {
+                why,
+                item: Box::into_inner(new).into_desk(),
+            }),
+        }
+    }
+
+    /// Takes the rows of the holding behind it, of the same width of zones, which is dissolved: of each cell that its
+    /// desk has published the lower word is raised to the higher, in one step, and the desk is handed out, with a net
+    /// of 0 in each cell. Its one slot is free then. No row is counted.
+    ///
+    /// `NotAdjacent` where the other range doesn't begin where this one ends, `Memory` where a growth was refused: then
+    /// nothing is changed, and the holding is handed back as it came.
+    pub fn dissolve(
+        &mut self,
+        board: &Board,
+        mut other: Box<Holding>,
+    ) -> Result<Desk, Back<Box<Holding>>>
+        requires width { self.old.part.width ≡ other.value.part.width }
+        requires board { other.value.desk.board ≡ board.now }
+        requires alone { (slot : ℕ) × OwnsAlone other.value.desk.view slot }
+        ensures merged { IfOk result (λ desk. IsMerged self.old other.value desk self.new) }
+        ensures refused { IfErr result (λ back. (back.item ≡ other) × (self.new ≡ self.old)) }
+        ensures why { IfErr result (λ back. ((back.why ≡ Refusal.NotAdjacent) × (self.old.part.hi ≡ other.value.part.lo → ⊥)) ⊎ ((back.why ≡ Refusal.Memory) × (self.old.part.hi ≡ other.value.part.lo))) }
+        ensures other { IsHolding other.value }
+        ensures before { IsHolding self.old }
+        ensures after { IsHolding self.new }
+    {
+        if self.hi() != other.lo() {
+            return Err(Back {
+                why: Refusal::NotAdjacent,
+                item: other,
+            });
+        }
+        if let Err(why) = self.absorb(board, &mut other) {
+            return Err(Back { why, item: other });
+        }
+        Ok(Box::into_inner(other).into_desk())
+    }
+
+    /// A holding with no row, of which nothing is published and nothing pending.
+    fn blank(alloc: Global, desk: Desk) -> Self
+        requires { IsBlankDesk desk.view }
+        ensures desk { result.desk ≡ desk }
+        ensures none { (c : ℕ) → c < CELLS → pending_at result.pending c ≡ pos 0 }
+        ensures rules { IsHolding result }
+    {
+        // Opens the desk for the prover: its slot is one of the board's.
+        let _slot = least_slot(&desk);
+        let Piece { part, pending: _ } = Piece::blank(alloc);
+        Holding::of(alloc, part, desk)
+    }
+
+    /// Puts the rows of a piece into a holding that has none, of which nothing is published and nothing pending.
+    fn fill(&mut self, piece: Piece)
+        requires idle { (c : ℕ) → c < CELLS → net_of self.old.desk.view c ≡ pos 0 }
+        requires none { (c : ℕ) → c < CELLS → pending_at self.old.pending c ≡ pos 0 }
+        ensures part { self.new.part ≡ piece.part }
+        ensures pending { (c : ℕ) → c < CELLS → pending_at self.new.pending c ≡ pending_at piece.pending c }
+        ensures desk { self.new.desk ≡ self.old.desk }
+        ensures after { IsHolding self.new }
+    {
+        let Piece { part, pending } = piece;
+        drop(mem::replace(&mut self.part, part));
+        self.pending.add(&pending);
+    }
+
+    /// The desk; the rows are let go.
+    fn into_desk(self) -> Desk
+        ensures { result ≡ self.desk }
+    {
+        let Holding { part, desk, .. } = self;
+        drop(part);
+        desk
+    }
+
+    /// Takes the rows of the holding behind it. That one's desk takes back all that it has published, and no row is
+    /// left there. `Memory` where a growth was refused: then nothing is changed.
+    fn absorb(&mut self, board: &Board, other: &mut Holding) -> Result<(), Refusal>
+        requires width { self.old.part.width ≡ other.old.part.width }
+        requires board { other.old.desk.board ≡ board.now }
+        requires alone { (slot : ℕ) × OwnsAlone other.old.desk.view slot }
+        requires meets { self.old.part.hi ≡ other.old.part.lo }
+        ensures taken { OnOk result (TakesPart self.old other.old.part self.new) }
+        ensures back { OnOk result (other.new.desk ≡ with_view other.old.desk (taken_back other.old.desk.view other.old.slot)) }
+        ensures idle { OnOk result ((c : ℕ) → c < CELLS → net_of other.new.desk.view c ≡ pos 0) }
+        ensures refused { OnErr result ((result ≡ Err Refusal.Memory) × (self.new ≡ self.old) × (other.new ≡ other.old)) }
+        ensures other { IsHolding other.old }
+        ensures before { IsHolding self.old }
+        ensures after { IsHolding self.new }
+    {
+        let pending = self.pending_with(other);
+        let Piece {
+            part: empty,
+            pending: _,
+        } = Piece::blank(self.alloc);
+        let part = mem::replace(&mut other.part, empty);
+        if let Err(back) = self.take_in(part, pending) {
+            drop(mem::replace(&mut other.part, back.item));
+            return Err(back.why);
+        }
+        withdraw(board, &mut other.desk, other.slot);
+        other.pending = Pending::zero();
+        Ok(())
+    }
+
+    /// What is pending with the counts of another holding too: what that one has published, and what is pending there.
+    fn pending_with(&self, other: &Holding) -> Pending
+        ensures { IsPendingWith other.now.part self.now.pending result }
+    {
+        let nets = other.nets();
+        let mut deltas = [0; CELLS as usize];
+        for cell in 0..CELLS {
+            deltas[usize::from(cell)] = raised(
+                self.pending(cell),
+                nets[usize::from(cell)],
+                other.pending(cell),
+            );
+        }
+        Pending::of(deltas)
+    }
+}
