@@ -11,17 +11,20 @@ use Rattle.tatp_rows.proofs.OrderedLemmas.{by_test}
 use Rattle.tatp_actions.specs.declared.cells.TheConstants.{CELLS}
 use Rattle.view_board.specs.Desks.{Station, with_view}
 use Rattle.view_board.specs.Nets.{net_of, net_from}
-use Rattle.view_board.specs.Views.{owned_at, Owns, IsWide, posted}
+use Rattle.view_board.specs.Views.{owned_at, IsLeastSlot, Owns, IsWide, posted}
 use Rattle.view_board.specs.Words.{plus_word, minus_word, word_of, raised_by, slot_net}
 use Rattle.view_board.specs.declared.rule.View.{View}
 use Rattle.view_board.specs.declared.words.TheConstants.{SLOTS, SLOT_WORDS, WORDS}
 use Rattle.view_board.proofs.ListLemmas.{each_word_at, length-each_word}
 use Rattle.view_board.proofs.NetLemmas.{net_from-next, net_from-end, word_within}
-use Rattle.holding.specs.Held.{IsLeastSlot}
-use Rattle.hlr_owners.specs.Desks.{own_number, owns_one, words_of, slots_in}
+use Rattle.hlr_owners.specs.Desks.{own_number, owns_one, words_of, slots_in, HasOneSlot}
 use Rattle.hlr_owners.specs.Post.{least_slot}
 use Rattle.hlr_owners.specs.Words.{net, all_slots}
 use Rattle.hlr_owners.proofs.IntSumLemmas.{sum_ints, sums_added, sums_none}
+
+-- a desk with the flags of one that has one slot
+pub same_one : (before after : Station) → after.view.owned ≡ before.view.owned → HasOneSlot before → HasOneSlot after
+same_one before after owned one = rw owned one
 
 -- a word, read
 pub words_at : (desks : List Station) (w : ℕ) → w < WORDS → get_or (words_of desks) w 0 ≡ sum_by (own_number w) desks
@@ -69,7 +72,7 @@ unfolding all_slots
 nets_of_desks desks c below wide = nets_from desks 0 SLOTS c refl below wide
 
 -- where no desk has a slot, none has a number at its words
-none_owns : (desks : List Station) (slot w : ℕ) → w / SLOT_WORDS ≡ slot → sum_by (owns_one slot) desks ≡ 0 → sum_by (own_number w) desks ≡ 0
+pub none_owns : (desks : List Station) (slot w : ℕ) → w / SLOT_WORDS ≡ slot → sum_by (owns_one slot) desks ≡ 0 → sum_by (own_number w) desks ≡ 0
 none_owns [] slot w of_slot none = refl
 none_owns (d ∷ desks) slot w of_slot none =
     let sum = rw (sum_by-cons (owns_one slot) d desks) at none in
@@ -78,14 +81,14 @@ none_owns (d ∷ desks) slot w of_slot none =
     (λ e. let less = rw e at sum in let rest = none_owns desks slot w of_slot (omega arith) in let here : own_number w d ≡ 0 = rw (of_slot, e) refl in let all = sum_by-cons (own_number w) d desks in omega arith)
 
 -- one that has a slot counts
-one_owns : (desks : List Station) (p slot : ℕ) (desk : Station) → p < length desks → desk ≡ get_or desks p desk → Owns desk.view slot → 1 ≤ sum_by (owns_one slot) desks
+pub one_owns : (desks : List Station) (p slot : ℕ) (desk : Station) → p < length desks → desk ≡ get_or desks p desk → Owns desk.view slot → 1 ≤ sum_by (owns_one slot) desks
 one_owns desks p slot desk within is own =
     let least = get_or-le-sum_by (owns_one slot) desks p desk within in
     let one : owns_one slot (get_or desks p desk) ≡ 1 = rw (← is, own) refl in
     omega arith
 
 -- a word of a slot that one desk alone has is that desk's number
-sole_number : (desks : List Station) (p slot w : ℕ) (desk : Station) → p < length desks → desk ≡ get_or desks p desk → Owns desk.view slot → sum_by (owns_one slot) desks ≡ 1 → w / SLOT_WORDS ≡ slot
+pub sole_number : (desks : List Station) (p slot w : ℕ) (desk : Station) → p < length desks → desk ≡ get_or desks p desk → Owns desk.view slot → sum_by (owns_one slot) desks ≡ 1 → w / SLOT_WORDS ≡ slot
     → sum_by (own_number w) desks ≡ get_or desk.view.numbers w 0
 sole_number [] p slot w desk within is own once of_slot = absurd (omega arith)
 sole_number (d ∷ desks) zero slot w desk within is own once of_slot =

@@ -108,7 +108,7 @@ abbrev pub HasRows : Book → Region → Owner → Type 0
 HasRows book region owner = rows_between region.lo region.hi book ≡ owner.part.book
 
 -- the halves of an owner have the rows of the halves of its region
-two_rows : (region : Region) (at : ℕ) (owner low high : Owner) (book : Book) → HasRows book region owner → owner.part.lo ≡ region.lo → owner.part.hi ≡ region.hi → AreHalves at owner low high
+pub two_rows : (region : Region) (at : ℕ) (owner low high : Owner) (book : Book) → HasRows book region owner → owner.part.lo ≡ region.lo → owner.part.hi ≡ region.hi → AreHalves at owner low high
     → (rows_between region.lo at book ≡ low.part.book) × (rows_between at region.hi book ≡ high.part.book)
 two_rows region at owner low high book has from to two =
     let low_range = two.low_rules.range in
@@ -132,7 +132,7 @@ halves_rows region n Low at owner given kept book has from to two = let both = t
 halves_rows region n High at owner given kept book has from to two = let both = two_rows region at owner kept given book has from to two in (both.0, both.1)
 
 -- a part that took a piece has the rows of the region of both
-two_regions : (width : ℕ) (first second : Region) (at : ℕ) (low high whole : Owner) (book : Book) → IsRowsOf 1 END book → IsOwner width first low → IsOwner width second high
+pub two_regions : (width : ℕ) (first second : Region) (at : ℕ) (low high whole : Owner) (book : Book) → IsRowsOf 1 END book → IsOwner width first low → IsOwner width second high
     → HasRows book first low → HasRows book second high → AreHalves at whole low high → rows_between first.lo second.hi book ≡ whole.part.book
 two_regions width first second at low high whole book rows is_low is_high of_first of_second both =
     let from = is_low.from in

@@ -1,5 +1,5 @@
 -- Who is at home: all parts, the part with a number, and whoever has an s_id.
-use Rattle.std.proofs.Common.{◌≡◌, refl, ℕ, zero, suc, ◌<◌, List, [], ◌∷◌, Bool, true, length, get_or, arith, Some, None, ◌-◌, Result, Ok, Err}
+use Rattle.std.proofs.Common.{◌≡◌, refl, ℕ, zero, suc, ◌<◌, List, [], ◌∷◌, Bool, true, length, get_or, drop, arith, Some, None, ◌-◌, Result, Ok, Err}
 use Rattle.std.specs.Prelude.{Option, position, IfOk}
 use Rattle.std.specs.List.{AllByRecursion}
 use Rattle.std.proofs.lemmas.List.{get_or_past}
@@ -17,7 +17,7 @@ use Rattle.part_table.proofs.PlaceLemmas.{blank, place_at}
 use Rattle.hlr_owners.specs.Inside.{AreHome}
 use Rattle.hlr_owners.specs.Lodged.{Lodged}
 use Rattle.hlr_owners.specs.Recut.{IsHomeToCut, IsHomeToMove}
-use Rattle.hlr_owners.specs.Seats.{is_home, homes_in, IsKind, Seating, AreSeated, IsPartHome, IsPlaceHome, IsHomeFor, AllHome}
+use Rattle.hlr_owners.specs.Seats.{is_home, homes_in, IsKind, Seating, AreSeated, IsPartHome, IsPlaceHome, IsHomeFor, IsHomeFrom, AllHome}
 use Rattle.hlr_owners.specs.declared.lodging.Seat.{Seat}
 use Rattle.hlr_owners.specs.declared.lodging.Seat.TheVariants.{Part, Piece}
 use Rattle.hlr_owners.proofs.PartLemmas.{lodged_home}
@@ -28,6 +28,25 @@ trues_at : (homes : List Bool) (p : ℕ) → AllByRecursion (λ (home : Bool). h
 trues_at [] p all = get_or_past [] p true (omega arith)
 trues_at (home ∷ homes) zero all = all.0
 trues_at (home ∷ homes) (suc p) all = trues_at homes p all.1
+
+-- so it is with those from one on
+trues_from : (homes : List Bool) (p : ℕ) → AllByRecursion (λ (home : Bool). home ≡ true) (drop p homes) → get_or homes p true ≡ true
+trues_from [] p all = get_or_past [] p true (omega arith)
+trues_from (home ∷ homes) zero all = all.0
+trues_from (home ∷ homes) (suc p) all = trues_from homes p all
+
+trues_behind : (homes : List Bool) (p : ℕ) → AllByRecursion (λ (home : Bool). home ≡ true) (drop p homes) → AllByRecursion (λ (home : Bool). home ≡ true) (drop (suc p) homes)
+trues_behind [] zero all = tt
+trues_behind [] (suc p) all = tt
+trues_behind (home ∷ homes) zero all = all.1
+trues_behind (home ∷ homes) (suc p) all = trues_behind homes p all
+
+-- with all parts from one on at home that one is, and so are all behind it
+pub first_home : (p : ℕ) (h : Seating) → IsHomeFrom p h → IsPartHome p h
+first_home p h all = trues_from (homes_in h.seats) p all
+
+pub later_home : (p : ℕ) (h : Seating) → IsHomeFrom p h → IsHomeFrom (suc p) h
+later_home p h all = trues_behind (homes_in h.seats) p all
 
 -- with all parts at home each is, and whoever has an s_id
 pub part_home_of_all : (p : ℕ) (h : Seating) → AllHome h.seats → IsPartHome p h

@@ -1,5 +1,5 @@
 -- Lists edited at an index.
-use Rattle.std.proofs.Common.{◌≡◌, ◌∙◌, refl, ap, ℕ, zero, suc, ◌+◌, ◌<◌, List, [], ◌∷◌, length, get_or, set, arith}
+use Rattle.std.proofs.Common.{◌≡◌, ◌∙◌, refl, ap, ℕ, zero, suc, ◌+◌, ◌<◌, List, [], ◌∷◌, length, get_or, set, map, arith}
 use Rattle.std.specs.Prelude.{insert, remove}
 use Rattle.part_table.specs.Give.{piece_index}
 use Rattle.part_table.specs.declared.region.Side.{Side}
@@ -54,3 +54,16 @@ both_edited High xs i x within = high xs i within
     high [] i within = absurd (omega arith)
     high (y ∷ xs) zero within = refl
     high (y ∷ xs) (suc i) within = let more : suc i + 1 ≡ suc (i + 1) = omega arith in rw more (ap (λ rest. y ∷ rest) (high xs i (omega arith)))
+
+-- what is made of each element of a list with one put in, and with one taken out
+pub map-insert : {X Y : Type 0} (f : X → Y) (xs : List X) (i : ℕ) (x : X) → map f (insert xs i x) ≡ insert (map f xs) i (f x)
+map-insert f [] zero x = refl
+map-insert f [] (suc i) x = refl
+map-insert f (y ∷ xs) zero x = refl
+map-insert f (y ∷ xs) (suc i) x = ap (λ rest. f y ∷ rest) (map-insert f xs i x)
+
+pub map-remove : {X Y : Type 0} (f : X → Y) (xs : List X) (i : ℕ) → map f (remove xs i) ≡ remove (map f xs) i
+map-remove f [] zero = refl
+map-remove f [] (suc i) = refl
+map-remove f (y ∷ xs) zero = refl
+map-remove f (y ∷ xs) (suc i) = ap (λ rest. f y ∷ rest) (map-remove f xs i)

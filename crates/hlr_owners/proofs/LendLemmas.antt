@@ -17,7 +17,8 @@ use Rattle.part_table.proofs.PlaceLemmas.{blank}
 use Rattle.holding.specs.Held.{HoldingState, PieceState, IsHolding}
 use Rattle.hlr_owners.specs.Held.{of_holding}
 use Rattle.view_board.specs.Desks.{Station}
-use Rattle.hlr_owners.specs.Desks.{AreDesks, IsOfBoard, owns_one}
+use Rattle.hlr_owners.specs.Desks.{AreDesks, HasOneSlot, IsOfBoard, owns_one}
+use Rattle.hlr_owners.proofs.DeskLemmas.{same_one}
 use Rattle.hlr_owners.proofs.PostLemmas.{desks_posted}
 use Rattle.hlr_owners.specs.Lodged.{Lodged}
 use Rattle.hlr_owners.specs.Seats.{owner_of, owners_in, IsSeat, Seating, AreSeated, IsSameOwner, IsLaterSeat, IsBackFor, IsLent, desks_in}
@@ -73,6 +74,15 @@ later_owned slot (Part l ∷ seats) (Piece b ∷ ks) later = absurd later.0
 later_owned slot (Piece a ∷ seats) (Part m ∷ ks) later = absurd later.0
 later_owned slot (Piece a ∷ seats) (Piece b ∷ ks) later = later_owned slot seats ks later.1
 
+later_alone : (seats ks : List Seat) → AllZip IsLaterSeat seats ks → AllByRecursion HasOneSlot (desks_in seats) → AllByRecursion HasOneSlot (desks_in ks)
+later_alone [] [] later each = tt
+later_alone [] (k ∷ ks) later each = absurd later
+later_alone (s ∷ seats) [] later each = absurd later
+later_alone (Part l ∷ seats) (Part m ∷ ks) later each = (same_one l.holding.desk m.holding.desk later.0.0.owned each.0, later_alone seats ks later.1 each.1)
+later_alone (Part l ∷ seats) (Piece b ∷ ks) later each = absurd later.0
+later_alone (Piece a ∷ seats) (Part m ∷ ks) later each = absurd later.0
+later_alone (Piece a ∷ seats) (Piece b ∷ ks) later each = later_alone seats ks later.1 each
+
 pub desks_later : (board : TableId) (spare : Station) (seats ks : List Seat) → AllZip IsLaterSeat seats ks → AreDesks board spare (desks_in seats) → AreDesks board spare (desks_in ks)
 desks_later board spare seats ks later are = record {
   of_board = (are.of_board.0, later_of_board board seats ks later are.of_board.1);
@@ -83,6 +93,7 @@ desks_later board spare seats ks later are = record {
         let other = sum_by-cons (owns_one slot) spare (desks_in seats) in
         let same = later_owned slot seats ks later in
         omega arith);
+    alone = later_alone seats ks later are.shares.alone;
     idle = are.shares.idle;
   };
 }

@@ -5,7 +5,10 @@ pub mod ApartRegionsLemmas
 pub mod ApartStoreLemmas
 pub mod BesideLemmas
 pub mod DeskLemmas
+pub mod DissolveLemmas
+pub mod DivideLemmas
 pub mod EditLemmas
+pub mod FreeSlotLemmas
 pub mod GiveTakeLemmas
 pub mod HalvesLemmas
 pub mod HeldLemmas
@@ -22,9 +25,11 @@ pub mod OwnerCountLemmas
 pub mod OwnerLemmas
 pub mod OwnerPostLemmas
 pub mod PartLemmas
+pub mod PartedDeskLemmas
 pub mod PartedLemmas
 pub mod PostLemmas
 pub mod PostedLemmas
+pub mod PutLemmas
 pub mod ReadLemmas
 pub mod RecutLemmas
 pub mod RefusedLemmas
@@ -34,4 +39,5 @@ pub mod SightLemmas
 pub mod StretchLemmas
 pub mod SumLemmas
 pub mod TakeLemmas
+pub mod TwoPartsLemmas
 pub mod ZipLemmas

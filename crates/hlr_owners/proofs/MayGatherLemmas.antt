@@ -11,9 +11,10 @@ use Rattle.view_board.specs.Desks.{Station, with_view}
 use Rattle.view_board.specs.Views.{first_view, looked}
 use Rattle.view_board.specs.declared.words.TheConstants.{WORDS}
 use Rattle.holding.specs.Held.{HoldingState}
-use Rattle.hlr_owners.specs.Desks.{desk_of, owns_one, AreOpening}
+use Rattle.hlr_owners.specs.Desks.{desk_of, owns_one, AreOpening, HasOneSlot}
 use Rattle.hlr_owners.specs.Gather.{MayGather}
 use Rattle.hlr_owners.specs.Boxed.{map_boxed, unboxed}
+use Rattle.hlr_owners.proofs.DeskLemmas.{same_one}
 use Rattle.hlr_owners.proofs.PartedLemmas.{map_twice}
 use Rattle.hlr_owners.proofs.ShareLemmas.{none_shared, first_of_board, shared_desks}
 
@@ -52,7 +53,7 @@ new_board board spare words same first opening wide =
 
 -- with what the spare desk saw
 pub looked_may : (board : TableId) (spare : Station) (holdings : List HoldingState) (words : List ℕ) → MayGather board spare holdings → MayGather board (with_view spare (looked spare.view words)) holdings
-looked_may board spare holdings words may = record { same = may.same; shares = record { once = may.shares.once; idle = may.shares.idle } }
+looked_may board spare holdings words may = record { same = may.same; shares = record { once = may.shares.once; alone = may.shares.alone; idle = may.shares.idle } }
 
 -- two holdings at the end of a list
 module _ (rest : List (Box HoldingState Global)) (first second : Box HoldingState Global) where
@@ -67,34 +68,39 @@ module _ (rest : List (Box HoldingState Global)) (first second : Box HoldingStat
       let before = sum_by_push (owns_one slot) (map_boxed desk_of rest) first.value.desk in
       rw desks_of_two (omega arith)
 
-  of_board : (board : TableId) → AllByRecursion (λ (desk : Station). desk.board ≡ board) (map_boxed desk_of rest) → first.value.desk.board ≡ board → second.value.desk.board ≡ board
-      → AllByRecursion (λ (desk : Station). desk.board ≡ board) (map desk_of (unboxed ((rest ++ first ∷ []) ++ second ∷ [])))
-  of_board board others one other =
-      rw desks_of_two (each_back (λ (desk : Station). desk.board ≡ board) (map_boxed desk_of rest ++ first.value.desk ∷ []) second.value.desk (each_back (λ (desk : Station). desk.board ≡ board) (map_boxed desk_of rest) first.value.desk others one) other)
+  -- what holds of each of their desks and of each in front of them
+  each_with_two : (P : Station → Type 0) → AllByRecursion P (map_boxed desk_of rest) → P first.value.desk → P second.value.desk → AllByRecursion P (map desk_of (unboxed ((rest ++ first ∷ []) ++ second ∷ [])))
+  each_with_two P others one other = rw desks_of_two (each_back P (map_boxed desk_of rest ++ first.value.desk ∷ []) second.value.desk (each_back P (map_boxed desk_of rest) first.value.desk others one) other)
+
+  each_of_two : (P : Station → Type 0) → AllByRecursion P (map desk_of (unboxed ((rest ++ first ∷ []) ++ second ∷ []))) → AllByRecursion P (map_boxed desk_of rest) × P first.value.desk × P second.value.desk
+  each_of_two P each =
+      let last = each_front P (map_boxed desk_of rest ++ first.value.desk ∷ []) second.value.desk (rw desks_of_two at each) in
+      let before = each_front P (map_boxed desk_of rest) first.value.desk last.0 in
+      (before.0, before.1, last.1)
 
 -- they are taken out
 module _ (board : TableId) (spare : Station) (all some rest : List (Box HoldingState Global)) (first second : Box HoldingState Global) (are : all ≡ some ++ second ∷ []) (were : some ≡ rest ++ first ∷ []) (may : MayGather board spare (unboxed all)) where
   may_two : MayGather board spare (unboxed ((rest ++ first ∷ []) ++ second ∷ []))
   may_two = rw (are, were) at may
 
-  front : AllByRecursion (λ (desk : Station). desk.board ≡ board) (map_boxed desk_of rest ++ first.value.desk ∷ []) × (second.value.desk.board ≡ board)
-  front = each_front (λ (desk : Station). desk.board ≡ board) (map_boxed desk_of rest ++ first.value.desk ∷ []) second.value.desk (rw (desks_of_two rest first second) at may_two.same.1)
+  boards : AllByRecursion (λ (desk : Station). desk.board ≡ board) (map_boxed desk_of rest) × (first.value.desk.board ≡ board) × (second.value.desk.board ≡ board)
+  boards = each_of_two rest first second (λ (desk : Station). desk.board ≡ board) may_two.same.1
 
-  others : AllByRecursion (λ (desk : Station). desk.board ≡ board) (map_boxed desk_of rest) × (first.value.desk.board ≡ board)
-  others = each_front (λ (desk : Station). desk.board ≡ board) (map_boxed desk_of rest) first.value.desk front.0
+  ones : AllByRecursion HasOneSlot (map_boxed desk_of rest) × HasOneSlot first.value.desk × HasOneSlot second.value.desk
+  ones = each_of_two rest first second HasOneSlot may_two.shares.alone
 
   -- their desks are of the board
   pub first_board : first.value.desk.board ≡ board
-  first_board = others.1
+  first_board = boards.1
 
   pub second_board : second.value.desk.board ≡ board
-  second_board = front.1
+  second_board = boards.2
 
   -- and put back, as they were or the other way round, over desks of the same slots
   module _ (first' second' : Box HoldingState Global) (same_first : IsSameDesk first.value.desk first'.value.desk) (same_second : IsSameDesk second.value.desk second'.value.desk) where
     pub two_back : MayGather board spare (unboxed ((rest ++ first' ∷ []) ++ second' ∷ []))
     two_back = record {
-      same = (may.same.0, of_board rest first' second' board others.0 (same_first.board ∙ first_board) (same_second.board ∙ second_board));
+      same = (may.same.0, each_with_two rest first' second' (λ (desk : Station). desk.board ≡ board) boards.0 (same_first.board ∙ first_board) (same_second.board ∙ second_board));
       shares = record {
         once = λ slot within. (
             let was = owned_by_two rest first second spare slot in
@@ -103,13 +109,14 @@ module _ (board : TableId) (spare : Station) (all some rest : List (Box HoldingS
             let one = same_owns slot first.value.desk first'.value.desk same_first in
             let other = same_owns slot second.value.desk second'.value.desk same_second in
             omega arith);
+        alone = each_with_two rest first' second' HasOneSlot ones.0 (same_one first.value.desk first'.value.desk same_first.owned ones.1) (same_one second.value.desk second'.value.desk same_second.owned ones.2);
         idle = may.shares.idle;
       };
     }
 
     pub two_turned : MayGather board spare (unboxed ((rest ++ second' ∷ []) ++ first' ∷ []))
     two_turned = record {
-      same = (may.same.0, of_board rest second' first' board others.0 (same_second.board ∙ second_board) (same_first.board ∙ first_board));
+      same = (may.same.0, each_with_two rest second' first' (λ (desk : Station). desk.board ≡ board) boards.0 (same_second.board ∙ second_board) (same_first.board ∙ first_board));
       shares = record {
         once = λ slot within. (
             let was = owned_by_two rest first second spare slot in
@@ -118,6 +125,7 @@ module _ (board : TableId) (spare : Station) (all some rest : List (Box HoldingS
             let one = same_owns slot first.value.desk first'.value.desk same_first in
             let other = same_owns slot second.value.desk second'.value.desk same_second in
             omega arith);
+        alone = each_with_two rest second' first' HasOneSlot ones.0 (same_one second.value.desk second'.value.desk same_second.owned ones.2) (same_one first.value.desk first'.value.desk same_first.owned ones.1);
         idle = may.shares.idle;
       };
     }

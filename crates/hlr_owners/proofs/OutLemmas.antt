@@ -14,7 +14,7 @@ use Rattle.hlr_owners.specs.declared.lodging.Seat.TheVariants.{Part, Piece}
 use Rattle.hlr_owners.proofs.LendLemmas.{later_self}
 
 -- a part at home is as it was, and one that is out has the other holding
-home_kept : (l : Lodged) (k : HoldingState) → l.home ≡ true → with_out l k ≡ l
+pub home_kept : (l : Lodged) (k : HoldingState) → l.home ≡ true → with_out l k ≡ l
 home_kept l k home = ap (λ (b : Bool). record l { holding = if b then l.holding else k }) home
 
 out_kept : (l : Lodged) (k : HoldingState) → l.home ≡ false → k ≡ l.holding → with_out l k ≡ l

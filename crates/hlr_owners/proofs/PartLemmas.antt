@@ -122,6 +122,9 @@ module _ (h : Seating) (are : AreSeated h) (p i : ℕ) (index : position (is_par
   pub part_sits_there : i < length h.seats
   part_sits_there = there h are p i here.0 here.1
 
+  pub part_number_at : ahead h.seats i ≡ p
+  part_number_at = number_at h are p i here.0 here.1
+
   pub part_seat : (s : Seat) → s ≡ get_or h.seats i s → IsSeat h.width (get_or h.regions i blank) s
   part_seat s is = rw is (zip_at (IsSeat h.width) h.regions h.seats i blank s are.each here.0)
 

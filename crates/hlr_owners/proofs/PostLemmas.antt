@@ -10,19 +10,18 @@ use Rattle.tatp_rows.proofs.OrderedLemmas.{by_test}
 use Rattle.tatp_rows.proofs.PlaceLemmas.{each_at}
 use Rattle.tatp_actions.specs.declared.cells.TheConstants.{CELLS}
 use Rattle.view_board.specs.Desks.{Station, with_view}
-use Rattle.view_board.specs.Views.{IsWide, posted}
+use Rattle.view_board.specs.Views.{IsLeastSlot, IsWide, posted}
 use Rattle.view_board.specs.Words.{is_worn}
 use Rattle.view_board.specs.declared.rule.View.{View}
 use Rattle.view_board.specs.declared.words.TheConstants.{SLOTS}
 use Rattle.holding.proofs.HeldLemmas.{wide_posted}
-use Rattle.holding.specs.Held.{IsLeastSlot}
 use Rattle.holding.specs.Post as own
 use Rattle.view_delta.specs.Pending.{is_zero}
 use Rattle.holding.specs.Post.{all_cells, due, post_cells}
-use Rattle.hlr_owners.specs.Desks.{owns_one, words_of, slots_in, IsOfBoard, AreDesks}
+use Rattle.hlr_owners.specs.Desks.{owns_one, words_of, slots_in, HasOneSlot, IsOfBoard, AreDesks}
 use Rattle.hlr_owners.specs.Post.{raise_cells, post}
 use Rattle.hlr_owners.specs.Words.{net}
-use Rattle.hlr_owners.proofs.DeskLemmas.{words_with, words_posted, word_here, net_of_slots, least_of_slots}
+use Rattle.hlr_owners.proofs.DeskLemmas.{same_one, words_with, words_posted, word_here, net_of_slots, least_of_slots}
 use Rattle.hlr_owners.proofs.IndexedLemmas.{set_same}
 
 -- cells of which each has the same gap in two ways
@@ -116,12 +115,16 @@ desks_posted board spare desks p before after within is rules same owned wide = 
         let now = sum_by-cons (owns_one slot) spare (set desks p after) in
         let all = rules.shares.once slot below in
         omega arith);
+    alone = each_set HasOneSlot desks p after rules.shares.alone (same_one before after owned one);
     idle = rules.shares.idle;
   };
 }
   where
     of : IsOfBoard board before
     of = rw is (each_at (IsOfBoard board) desks p before rules.of_board.1 within)
+
+    one : HasOneSlot before
+    one = rw is (each_at HasOneSlot desks p before rules.shares.alone within)
 
 -- and each desk has its slots
 pub slots_posted : (desks : List Station) (p : ℕ) (before after : Station) → before ≡ get_or desks p before → after.view.owned ≡ before.view.owned → map slots_in (set desks p after) ≡ map slots_in desks

@@ -5,7 +5,7 @@ use Rattle.std.specs.declared.alloc.Global.{Global}
 use Rattle.tatp_rows.specs.declared.refusal.Refusal.{Refusal}
 use Rattle.tatp_rows.specs.declared.refusal.Refusal.TheVariants as refusal
 use Rattle.tatp_actions.specs.declared.action.RowReply.TheVariants as row_reply
-use Rattle.std.specs.List.{AllZip}
+use Rattle.std.specs.List.{AllByRecursion, AllZip}
 use Rattle.std.proofs.lemmas.List.{map-set}
 use Rattle.std.proofs.lemmas.List.Quantifiers.{position-Some}
 use Rattle.std.proofs.lemmas.Slice.Zip.{AllZip-long}
@@ -130,6 +130,14 @@ owners-set seats i s = map-set owner_of seats i s
 -- an owner at its index
 pub owner_is : (seats : List Seat) (i : ℕ) (s : Seat) → s ≡ get_or seats i s → owner_of s ≡ get_or (owners_in seats) i (owner_of s)
 owner_is seats i s is = ap owner_of is ∙ sym (get_or-map owner_of seats i s)
+
+-- what holds of each part's holding holds of the one who has a seat
+pub each_of_part : {X : Type 0} (P : X → Type 0) (f : Lodged → X) (seats : List Seat) (i : ℕ) (s : Seat) → AllByRecursion P (of_parts f seats) → i < length seats → s ≡ get_or seats i s → AllByRecursion P (of_part f s)
+each_of_part P f [] i s each within is = absurd (omega arith)
+each_of_part P f (Part l ∷ seats) zero s each within is = rw is (each.0, tt)
+each_of_part P f (Part l ∷ seats) (suc i) s each within is = each_of_part P f seats i s each.1 (omega arith) is
+each_of_part P f (Piece b ∷ seats) zero s each within is = rw is tt
+each_of_part P f (Piece b ∷ seats) (suc i) s each within is = each_of_part P f seats i s each (omega arith) is
 
 pub part_kind : (p : Place) (l m : Lodged) → IsKind p (Part l) → IsKind p (Part m)
 part_kind (place.Part p) l m kind = tt

@@ -16,17 +16,19 @@ use Rattle.view_board.specs.Views.{owned_at, Owns, IsWide, first_view, alone, wi
 use Rattle.view_board.specs.Words.{slot_net, plus_word, minus_word}
 use Rattle.view_board.specs.declared.rule.View.{View}
 use Rattle.view_board.specs.declared.words.TheConstants.{SLOTS, SLOT_WORDS, WORDS}
-use Rattle.view_board.proofs.ListLemmas.{length-each_word}
+use Rattle.view_board.proofs.ListLemmas.{length-each_word, set_within}
 use Rattle.holding.specs.Held.{HasSmallNets}
-use Rattle.hlr_owners.specs.Desks.{owns_one, own_number, words_of, slots_in, IsOfBoard, AreDesks, AreLevel, AreOpening}
+use Rattle.hlr_owners.specs.Desks.{owns_one, own_number, words_of, slots_in, HasOneSlot, IsOfBoard, AreDesks, AreLevel, AreOpening}
 use Rattle.hlr_owners.specs.Words.{all_slots, blank_words}
 use Rattle.hlr_owners.proofs.DeskLemmas.{words_at}
+use Rattle.view_board.proofs.OwnLemmas.{owns_alone}
 
 -- the first slots are desks' own, one each, the spare desk has the others and has seen the words, and all desks have
 -- their numbers
 pub record AreShared (words : List ℕ) (spare : Station) (desks : List Station) : Type 0 where
   pub left : (slot : ℕ) → length desks ≤ slot → slot < SLOTS → Owns spare.view slot
   pub once : (slot : ℕ) → slot < SLOTS → sum_by (owns_one slot) (spare ∷ desks) ≡ 1
+  pub alone : AllByRecursion HasOneSlot desks
   pub numbers : AllByRecursion (λ d. d.view.numbers ≡ words) (spare ∷ desks)
   pub slots : map slots_in desks ≡ map (λ p. p ∷ []) (range_with_len 0 (length desks))
   pub seen : spare.view.seen ≡ words
@@ -36,6 +38,7 @@ pub none_shared : (words : List ℕ) (spare : Station) (desks : List Station) �
 none_shared words spare desks first none = rw none (record {
   left = λ slot from below. own slot below;
   once = λ slot below. rw (sum_by-cons (owns_one slot) spare [], own slot below) refl;
+  alone = tt;
   numbers = (ap (λ (v : View). v.numbers) first, tt);
   slots = refl;
   seen = ap (λ (v : View). v.seen) first;
@@ -66,11 +69,20 @@ only_from test a (suc n) slot from to is others = elim (cases_eq a slot) [
     none_from b zero behind = refl
     none_from b (suc m) behind = rw (others b (omega arith)) (none_from (b + 1) m (omega arith))
 
-alone_slots : (desk : Station) (slot : ℕ) → slot < SLOTS → slots_in (with_view desk (alone desk.view slot)) ≡ slot ∷ []
+-- so it lists that one
+pub alone_slots : (desk : Station) (slot : ℕ) → slot < SLOTS → slots_in (with_view desk (alone desk.view slot)) ≡ slot ∷ []
 unfolding all_slots
 alone_slots desk slot below = only_from (owned_at (alone desk.view slot)) 0 SLOTS slot (omega arith) below (alone_at desk.view slot below) (λ other differ. alone_else desk.view slot other differ)
 
--- each of two
+-- each slot of a desk is either of the two that it is split into
+pub split_once : (desk : Station) (slot other : ℕ) → slot < SLOTS → IsWide desk.view → Owns desk.view slot
+    → owns_one other (with_view desk (without desk.view slot)) + owns_one other (with_view desk (alone desk.view slot)) ≡ owns_one other desk
+split_once desk slot other below wide own = elim (cases_eq other slot) [
+  | inl same ↦ (let left = get_or-set_same desk.view.owned slot false false (rw wide.slots below) in rw (same, left, alone_at desk.view slot below, own) refl)
+  | inr differ ↦ rw (get_or-set_other desk.view.owned slot other false false differ, alone_else desk.view slot other differ) (omega arith)
+]
+
+-- each of a list and one behind it
 each_push : {X : Type 0} (P : X → Type 0) (xs : List X) (x : X) → AllByRecursion P xs → P x → AllByRecursion P (xs ++ x ∷ [])
 each_push P [] x each here = (here, tt)
 each_push P (first ∷ xs) x each here = (each.0, each_push P xs x each.1 here)
@@ -104,8 +116,9 @@ module _ (words : List ℕ) (spare : Station) (desks : List Station) (slot : ℕ
         let head = sum_by-cons (owns_one other) spare desks in
         let now = sum_by-cons (owns_one other) (with_view spare (without spare.view slot)) (desks ++ with_view spare (alone spare.view slot) ∷ []) in
         let push = sum_by_push (owns_one other) desks (with_view spare (alone spare.view slot)) in
-        let moved = one_moved other in
+        let moved = split_once spare slot other below wide (so_far.left slot (omega arith) below) in
         omega arith);
+    alone = each_push HasOneSlot desks (with_view spare (alone spare.view slot)) so_far.alone (slot, owns_alone spare.view slot below);
     numbers = (so_far.numbers.0, each_push (λ (d : Station). d.view.numbers ≡ words) desks (with_view spare (alone spare.view slot)) so_far.numbers.1 so_far.numbers.0);
     slots = map-append slots_in desks (with_view spare (alone spare.view slot) ∷ []) ∙ rw (so_far.slots, alone_slots spare slot below, long, next) (numbered_more (length desks));
     seen = so_far.seen;
@@ -114,17 +127,7 @@ module _ (words : List ℕ) (spare : Station) (desks : List Station) (slot : ℕ
       long : length (desks ++ with_view spare (alone spare.view slot) ∷ []) ≡ length desks + 1
       long = length-append desks (with_view spare (alone spare.view slot) ∷ [])
 
-      one_moved : (other : ℕ) → owns_one other (with_view spare (without spare.view slot)) + owns_one other (with_view spare (alone spare.view slot)) ≡ owns_one other spare
-      one_moved other = elim (cases_eq other slot) [
-        | inl same ↦ (
-            let own = so_far.left slot (omega arith) below in
-            let gone = get_or-set_same spare.view.owned slot false false (rw wide.slots below) in
-            rw (same, gone, alone_at spare.view slot below, own) refl
-            )
-        | inr differ ↦ rw (get_or-set_other spare.view.owned slot other false false differ, alone_else spare.view slot other differ) (omega arith)
-      ]
-
--- a desk over level words has published nothing
+-- a desk over level words has published nothing, in all and in each slot
 net_level : (words : List ℕ) (c : ℕ) (flags : List Bool) (start : ℕ) → AreLevel words → c < CELLS → start + length flags ≤ SLOTS → net_from flags start words c ≡ pos 0
 unfolding net_from
 net_level words c [] start level below within = refl
@@ -134,8 +137,11 @@ net_level words c (flag ∷ flags) start level below within =
     let none : slot_net words c start ≡ pos 0 = omega (arith, ints) in
     rw (rest, none) (by_test flag (λ e. rw e refl) (λ e. rw e refl))
 
-level_idle : (words : List ℕ) (v : View) → AreLevel words → IsWide v → v.numbers ≡ words → (c : ℕ) → c < CELLS → net_of v c ≡ pos 0
-level_idle words v level wide same c below = rw same (net_level words c v.owned 0 level below (omega (arith, wide.slots)))
+level_idle : (words : List ℕ) (v : View) → AreLevel words → IsWide v → v.numbers ≡ words → (slot : ℕ) → Owns v slot → (c : ℕ) → c < CELLS → slot_net v.numbers c slot ≡ pos 0
+level_idle words v level wide same slot own c below =
+    let within = set_within v.owned slot own in
+    let here = level slot (omega (arith, wide.slots)) c below in
+    rw same (omega (arith, ints))
 
 pub level_small : (words : List ℕ) (v : View) (slot : ℕ) → AreLevel words → IsWide v → v.numbers ≡ words → HasSmallNets (alone v slot)
 level_small words v slot level wide same c below =
@@ -165,7 +171,7 @@ shared_words words spare desks shared wide =
 -- so they keep the rules of desks
 pub shared_desks : (words : List ℕ) (board : TableId) (spare : Station) (desks : List Station) → AreLevel words → AllByRecursion (IsOfBoard board) (spare ∷ desks) → AreShared words spare desks → AreDesks board spare desks
 shared_desks words board spare desks level each shared =
-    record { of_board = each; shares = record { once = shared.once; idle = λ c below. level_idle words spare.view level each.0.wide shared.numbers.0 c below } }
+    record { of_board = each; shares = record { once = shared.once; alone = shared.alone; idle = level_idle words spare.view level each.0.wide shared.numbers.0 } }
 
 -- words that are all 0 are blank, and a register may open with them
 pub zeros_are : replicate {A = ℕ} WORDS 0 ≡ blank_words

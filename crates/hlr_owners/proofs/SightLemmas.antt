@@ -1,5 +1,5 @@
 -- What the spare desk sees is a right sight of the store.
-use Rattle.std.proofs.Common.{◌≡◌, ◌∙◌, refl, sym, ap, ℕ, zero, suc, ◌+◌, ◌/◌, ◌<◌, ◌≤◌, ◌==◌, ◌&&◌, arith, List, [], ◌∷◌, get_or, map, true, false, inl, inr}
+use Rattle.std.proofs.Common.{◌≡◌, ◌∙◌, refl, sym, ap, ℕ, zero, suc, ◌+◌, ◌/◌, ◌<◌, ◌≤◌, ◌==◌, arith, List, [], ◌∷◌, get_or, map, true, false, inl, inr}
 use Rattle.std.specs.Prelude.{sum_by}
 use Rattle.std.specs.List.{AllByRecursion, list_any, range_with_len}
 use Rattle.std.proofs.lemmas.Bool.{cases_eq}
@@ -24,20 +24,19 @@ in_range a (suc n) slot from to = elim (cases_eq a slot) [
   | inr other ↦ let here : (a == slot) ≡ false = grind (arith, nat_tests, other) in rw here (in_range (a + 1) n slot (omega arith) (omega arith))
 ]
 
--- a slot that isn't among those of a desk isn't the desk's
-not_owned : (desk : Station) (slot : ℕ) → slot < SLOTS → list_any (λ own. own == slot) (slots_in desk) ≡ false → owned_at desk.view slot ≡ false
+-- a slot is among those of a desk where it is the desk's
+pub is_listed : (desk : Station) (slot : ℕ) → slot < SLOTS → list_any (λ own. own == slot) (slots_in desk) ≡ owned_at desk.view slot
 unfolding all_slots
-not_owned desk slot below none =
+is_listed desk slot below =
     let kept = any-filter_same (λ own. own == slot) (owned_at desk.view) (owned_at desk.view slot) (λ k is. let same : k ≡ slot = grind (arith, nat_tests, is) in ap (owned_at desk.view) same) all_slots in
-    by_test (owned_at desk.view slot)
-    (λ e. absurd (let some = in_range 0 SLOTS slot (omega arith) (omega arith) in let all : (owned_at desk.view slot && list_any (λ own. own == slot) all_slots) ≡ true = rw (e, some) refl in cc))
-    (λ e. e)
+    let some = in_range 0 SLOTS slot (omega arith) (omega arith) in
+    kept ∙ rw some (by_test (owned_at desk.view slot) (λ e. rw e refl) (λ e. rw e refl))
 
 module _ (slot : ℕ) (below : slot < SLOTS) where
   -- no desk of a list has a slot that is in none of their lists
   none_owned : (desks : List Station) → AllByRecursion (λ slots. list_any (λ own. own == slot) slots ≡ false) (map slots_in desks) → AllByRecursion (λ (d : Station). owned_at d.view slot ≡ false) desks
   none_owned [] each = tt
-  none_owned (desk ∷ desks) each = (not_owned desk slot below each.0, none_owned desks each.1)
+  none_owned (desk ∷ desks) each = (sym (is_listed desk slot below) ∙ each.0, none_owned desks each.1)
 
   -- so no desk counts for it
   owned_by_none : (desks : List Station) → AllByRecursion (λ (d : Station). owned_at d.view slot ≡ false) desks → sum_by (owns_one slot) desks ≡ 0
@@ -76,6 +75,7 @@ module _ (board : TableId) (spare : Station) (desks : List Station) (are : AreDe
     of_board = (record { same = are.of_board.0.same; wide = record { slots = are.of_board.0.wide.slots; numbers = are.of_board.0.wide.numbers; seen = right.wide } }, are.of_board.1);
     shares = record {
       once = λ slot below. sum_by-cons (owns_one slot) (with_view spare (looked spare.view words)) desks ∙ sym (sum_by-cons (owns_one slot) spare desks) ∙ are.shares.once slot below;
+      alone = are.shares.alone;
       idle = are.shares.idle;
     };
   }

@@ -24,6 +24,7 @@ use Rattle.hlr_owners.specs.Desks.{AreDesks, IsOfBoard}
 use Rattle.hlr_owners.specs.Held.{Owner, AreOwners, pending_in}
 use Rattle.hlr_owners.specs.Store.{published, unpublished}
 use Rattle.hlr_owners.proofs.DeskLemmas.{nets_of_desks}
+use Rattle.view_board.proofs.OwnLemmas.{net_none}
 use Rattle.hlr_owners.proofs.HeldLemmas.{IsAtMost, owner_most, pending_fits, nobody_net}
 use Rattle.hlr_owners.proofs.IntSumLemmas.{sum_ints, sum_more}
 use Rattle.hlr_owners.proofs.OwnerCountLemmas.{sum_small, cells_added, owners_counted}
@@ -174,7 +175,7 @@ module _ (h : Seating) (are : AreSeated h) where
         let wide = each-weaker {P = IsOfBoard board} {Q = λ (d : Station). IsWide d.view} (λ d is. is.wide) (h.spare ∷ desks_in h.seats) rules.of_board in
         let all = nets_of_desks (h.spare ∷ desks_in h.seats) c below wide in
         let same = nets_same h.seats in
-        let idle = rules.shares.idle c below in
+        let idle = net_none h.spare.view c (λ slot own. rules.shares.idle slot own c below) in
         omega (arith, ints)
       where
         nets_same : (seats : List Seat) → sum_ints (λ (d : Station). net_of d.view c) (desks_in seats) ≡ sum_ints (λ (owner : Owner). net_of owner.view c) (owners_in seats)

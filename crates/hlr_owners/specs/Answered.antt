@@ -29,7 +29,7 @@ IsAnswered false act before answer after = IsOutcome act before answer after
 IsAnswered true act before answer after =
     (answer ≡ row_reply.Refused (if is_in_range act then refusal.Moving else refusal.Field)) × (after ≡ before)
 
--- what a give or a take may answer: what the regions say, or Memory where they refuse nothing
+-- what a give, a take, a divide or a dissolve may answer: what the regions say, or Memory where they refuse nothing
 abbrev pub MayAnswer : {A : Type 0} → Result A Refusal → Result A Refusal → Type 0
 MayAnswer (Ok done) answer = (answer ≡ Ok done) ⊎ (answer ≡ Err refusal.Memory)
 MayAnswer (Err why) answer = answer ≡ Err why

@@ -4,9 +4,8 @@ use Rattle.std.specs.List.{AllByRecursion, filter}
 use Rattle.atomic_table.specs.Seated.{TableId}
 use Rattle.tatp_actions.specs.declared.cells.TheConstants.{CELLS}
 use Rattle.view_board.specs.Desks.{Station}
-use Rattle.view_board.specs.Nets.{net_of}
-use Rattle.view_board.specs.Views.{owned_at, IsWide}
-use Rattle.view_board.specs.Words.{each_word, plus_word, minus_word, AreSmall}
+use Rattle.view_board.specs.Views.{owned_at, Owns, OwnsAlone, IsWide}
+use Rattle.view_board.specs.Words.{each_word, plus_word, minus_word, slot_net, AreSmall}
 use Rattle.view_board.specs.declared.words.TheConstants.{SLOTS, SLOT_WORDS}
 use Rattle.holding.specs.Held.{HoldingState}
 use Rattle.hlr_owners.specs.Words.{all_slots}
@@ -36,10 +35,15 @@ pub record IsOfBoard (board : TableId) (desk : Station) : Type 0 where
   pub same : desk.board ≡ board
   pub wide : IsWide desk.view
 
--- each slot is of one of the desks, and what no part has published has a net of 0
+-- the desk of a part has one slot
+abbrev pub HasOneSlot : Station → Type 0
+HasOneSlot desk = (slot : ℕ) × OwnsAlone desk.view slot
+
+-- each slot is of one of the desks: each part has one slot, and each of the others has a net of 0 in each cell
 pub record ShareSlots (spare : Station) (desks : List Station) : Type 0 where
   pub once : (slot : ℕ) → slot < SLOTS → sum_by (owns_one slot) (spare ∷ desks) ≡ 1
-  pub idle : (c : ℕ) → c < CELLS → net_of spare.view c ≡ pos 0
+  pub alone : AllByRecursion HasOneSlot desks
+  pub idle : (slot : ℕ) → Owns spare.view slot → (c : ℕ) → c < CELLS → slot_net spare.view.numbers c slot ≡ pos 0
 
 -- the rules of all desks: they are the board's, and share its slots
 pub record AreDesks (board : TableId) (spare : Station) (desks : List Station) : Type 0 where

@@ -9,7 +9,8 @@ use Rattle.part_table.specs.declared.region.Region.{Region}
 use Rattle.holding.specs.Held.{HoldingState, IsHolding}
 use Rattle.hlr_owners.specs.Beside.{IsMovedBeside}
 use Rattle.hlr_owners.specs.Out.{outs_in}
-use Rattle.hlr_owners.specs.Seats.{Seating, homes_in, is_home}
+use Rattle.view_board.specs.Desks.{Station}
+use Rattle.hlr_owners.specs.Seats.{Seating, homes_in, is_home, of_part}
 use Rattle.hlr_owners.specs.Store.{Store}
 use Rattle.hlr_owners.specs.declared.lodging.Seat.{Seat}
 
@@ -43,3 +44,7 @@ pub record IsMovedAlone (before after : Seating) : Type 0 where
   pub outs : outs_in after.seats ≡ outs_in before.seats
   pub same : after ≡ record before { regions = after.regions; seats = after.seats }
   pub beside : IsMovedBeside before after
+
+-- the desk of a part, and none of a piece
+abbrev pub desk_at : Seat → List Station
+desk_at seat = of_part (λ lodged. lodged.holding.desk) seat

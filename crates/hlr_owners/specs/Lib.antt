@@ -8,6 +8,7 @@ pub mod Held
 pub mod Inside
 pub mod Lodged
 pub mod Out
+pub mod Parted
 pub mod Post
 pub mod Posting
 pub mod Read

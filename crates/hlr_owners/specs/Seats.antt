@@ -1,5 +1,5 @@
 -- Seats, one beside each region: the owners who sit there, their rows as one book, and their desks.
-use Rattle.std.specs.Prelude.{◌≡◌, ℕ, Bool, true, false, List, [], ◌∷◌, map, ⊤, ◌-◌, ℤ, ◌++◌, Option, Some, None, position, slice_get, slice_set, slice_index_or}
+use Rattle.std.specs.Prelude.{◌≡◌, ℕ, Bool, true, false, List, [], ◌∷◌, map, ⊤, ◌-◌, ℤ, ◌++◌, Option, Some, None, drop, position, slice_get, slice_set, slice_index_or}
 use Rattle.std.specs.List.{AllZip, AllByRecursion}
 use Rattle.tatp_actions.specs.Book.{Book}
 use Rattle.tatp_actions.specs.Joined.{book_of}
@@ -114,6 +114,10 @@ IsPlaceHome None h = ⊤
 -- whoever has a subscriber is at home
 abbrev pub IsHomeFor : ℕ → Seating → Type 0
 IsHomeFor s_id h = IsPlaceHome (place_of s_id h.regions) h
+
+-- all parts from one on are at home
+abbrev pub IsHomeFrom : ℕ → Seating → Type 0
+IsHomeFrom part h = AllByRecursion (λ (home : Bool). home ≡ true) (drop part (homes_in h.seats))
 
 -- all parts are at home
 abbrev pub AllHome : List Seat → Type 0

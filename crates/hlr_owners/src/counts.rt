@@ -5,28 +5,18 @@ ghost use Rattle.tatp_actions.specs.declared.cells.TheConstants.{CELLS};
 ghost use Rattle.view_board.specs.Nets.{net_of};
 ghost use Rattle.view_delta.specs.Pending.{pending_at};
 ghost use Rattle.holding.specs.Held.{count_of};
-ghost use Rattle.hlr_owners.specs.Inside.{AreSummable};
+ghost use Rattle.std.specs.List.{AllByRecursion};
+ghost use Rattle.hlr_owners.specs.Desks.{HasOneSlot};
+ghost use Rattle.hlr_owners.specs.Inside.{AreSummable, desk_at};
 ghost use Rattle.hlr_owners.specs.Store.{published, unpublished};
 ghost use Rattle.hlr_owners.specs.Seats.{AllHome, is_home, owner_of, book_in, store_in, unposted};
 
 use crate::lodging::Seat;
 use crate::seats::Seats;
-use holding::Holding;
+use holding::{Holding, Piece};
 use tatp_actions::{CELLS, Cells};
 
 impl Seat {
-    /// What is pending of a cell.
-    fn pending(&self, cell: u8) -> i64
-        requires cell { cell < CELLS }
-        requires home { is_home self.now ≡ true }
-        ensures { result ≡ pending_at (owner_of self.now).pending cell }
-    {
-        match self {
-            Seat::Part(lodging) => lodging.holding().pending(cell),
-            Seat::Piece(piece) => piece.pending(cell),
-        }
-    }
-
     /// The count of each cell, taken by a walk over the rows.
     fn recount(&self) -> Cells
         requires { is_home self.now ≡ true }
@@ -39,28 +29,38 @@ impl Seat {
     }
 }
 
-/// Adds what a holding's desk has published of each cell to a sum. Neither is past 2^60, either way.
-fn add_nets(sums: &mut [i64; CELLS as usize], holding: &Holding)
-    requires sums { AreSummable (pending_at sums.old) }
-    requires nets { AreSummable (net_of holding.now.desk.view) }
-    ensures { (c : ℕ) → c < CELLS → pending_at sums.new c ≡ pending_at sums.old c +ℤ net_of holding.now.desk.view c }
-{
-    let nets = holding.nets();
-    for cell in 0..CELLS {
-        sums[usize::from(cell)] += nets[usize::from(cell)] as i64;
-    }
-}
-
 /// Adds what a seat's owner has published of each cell to a sum: of a loose piece nobody has published anything.
 fn add_published(sums: &mut [i64; CELLS as usize], seat: &Seat)
     requires home { is_home seat.now ≡ true }
+    requires alone { AllByRecursion HasOneSlot (desk_at seat.now) }
     requires sums { AreSummable (pending_at sums.old) }
-    requires nets { AreSummable (net_of (owner_of seat.now).view) }
     ensures { (c : ℕ) → c < CELLS → pending_at sums.new c ≡ pending_at sums.old c +ℤ net_of (owner_of seat.now).view c }
 {
     match seat {
-        Seat::Part(lodging) => add_nets(sums, lodging.holding()),
+        Seat::Part(lodging) => lodging.holding().add_nets(sums),
         Seat::Piece(_) => {}
+    }
+}
+
+/// Adds what is pending of each cell in a holding to a sum. Neither is past 2^60, either way.
+fn add_pending_of(sums: &mut [i64; CELLS as usize], holding: &Holding)
+    requires sums { AreSummable (pending_at sums.old) }
+    requires pending { AreSummable (pending_at holding.now.pending) }
+    ensures { (c : ℕ) → c < CELLS → pending_at sums.new c ≡ pending_at sums.old c +ℤ pending_at holding.now.pending c }
+{
+    for cell in 0..CELLS {
+        sums[usize::from(cell)] += holding.pending(cell);
+    }
+}
+
+/// The same of a loose piece.
+fn add_counts_of(sums: &mut [i64; CELLS as usize], piece: &Piece)
+    requires sums { AreSummable (pending_at sums.old) }
+    requires pending { AreSummable (pending_at piece.now.pending) }
+    ensures { (c : ℕ) → c < CELLS → pending_at sums.new c ≡ pending_at sums.old c +ℤ pending_at piece.now.pending c }
+{
+    for cell in 0..CELLS {
+        sums[usize::from(cell)] += piece.pending(cell);
     }
 }
 
@@ -71,8 +71,9 @@ fn add_pending(sums: &mut [i64; CELLS as usize], seat: &Seat)
     requires pending { AreSummable (pending_at (owner_of seat.now).pending) }
     ensures { (c : ℕ) → c < CELLS → pending_at sums.new c ≡ pending_at sums.old c +ℤ pending_at (owner_of seat.now).pending c }
 {
-    for cell in 0..CELLS {
-        sums[usize::from(cell)] += seat.pending(cell);
+    match seat {
+        Seat::Part(lodging) => add_pending_of(sums, lodging.holding()),
+        Seat::Piece(piece) => add_counts_of(sums, piece),
     }
 }
 

@@ -9,6 +9,7 @@ mod lodging;
 mod moving;
 mod opening;
 mod owner;
+mod parting;
 mod posting;
 mod prepared;
 mod recut;

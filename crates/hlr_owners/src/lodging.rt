@@ -1,10 +1,11 @@
 //! Who sits beside a region: a part's holding, at home or lent, or a loose piece.
-ghost use Rattle.std.specs.Prelude.{◌≡◌, ◌⊎◌, true, false, IfOk, IfErr, OnOk, OnErr};
+ghost use Rattle.std.specs.Prelude.{◌≡◌, ◌⊎◌, ℕ, true, false, IfOk, IfErr, OnOk, OnErr};
 ghost use Rattle.tatp_actions.specs.Action.{s_id_of, done_reply, IsOutcome};
 ghost use Rattle.tatp_actions.specs.Book.{IsWithin};
 ghost use Rattle.tatp_actions.specs.Cut.{Touch};
 ghost use Rattle.holding.specs.Held.{IsHolding, IsPiece, count_of};
-ghost use Rattle.holding.specs.Moved.{IsInside, IsGiven, IsTaken};
+ghost use Rattle.holding.specs.Moved.{IsBlankDesk, IsInside, IsGiven, IsMerged, IsParted, IsTaken};
+ghost use Rattle.view_board.specs.Views.{OwnsAlone};
 ghost use Rattle.holding.specs.Post.{post};
 
 use holding::{Holding, Piece};
@@ -13,7 +14,7 @@ use std::marker::Model;
 use std::snapshot::Snapshot;
 use tatp_actions::Edit;
 use tatp_rows::{Back, Refusal};
-use view_board::Board;
+use view_board::{Board, Desk};
 
 /// A part's holding, at home or lent; of one that is lent, how it was then.
 #[derive(Drop)]
@@ -158,6 +159,46 @@ impl Lodging {
     {
         match &mut self.holding {
             Some(holding) => holding.take(piece),
+            None => unreachable!(),
+        }
+    }
+
+    /// Divides the part, of which a new holding with this desk has what is from a subscriber on.
+    pub fn divide(&mut self, at: u32, desk: Desk) -> Result<Box<Holding>, Back<Desk>>
+        requires home { self.old.home ≡ true }
+        requires desk { IsBlankDesk desk.view }
+        ensures parted { IfOk result (λ new. IsParted at self.old.holding desk new.value self.new.holding) }
+        ensures new { IfOk result (λ new. IsHolding new.value) }
+        ensures refused { IfErr result (λ back. (back.item ≡ desk) × (self.new ≡ self.old)) }
+        ensures why { IfErr result (λ back. ((back.why ≡ Refusal.OutOfRange) × (IsInside at self.old.holding.part → ⊥)) ⊎ ((back.why ≡ Refusal.Memory) × IsInside at self.old.holding.part)) }
+        ensures after { IsHolding self.new.holding }
+        ensures home { self.new.home ≡ true }
+    {
+        match &mut self.holding {
+            Some(holding) => holding.divide(at, desk),
+            None => unreachable!(),
+        }
+    }
+
+    /// Takes the rows of the holding behind it, which is dissolved, and hands its desk out.
+    pub fn dissolve(
+        &mut self,
+        board: &Board,
+        other: Box<Holding>,
+    ) -> Result<Desk, Back<Box<Holding>>>
+        requires home { self.old.home ≡ true }
+        requires width { self.old.holding.part.width ≡ other.value.part.width }
+        requires board { other.value.desk.board ≡ board.now }
+        requires alone { (slot : ℕ) × OwnsAlone other.value.desk.view slot }
+        ensures merged { IfOk result (λ desk. IsMerged self.old.holding other.value desk self.new.holding) }
+        ensures refused { IfErr result (λ back. (back.item ≡ other) × (self.new ≡ self.old)) }
+        ensures why { IfErr result (λ back. ((back.why ≡ Refusal.NotAdjacent) × (self.old.holding.part.hi ≡ other.value.part.lo → ⊥)) ⊎ ((back.why ≡ Refusal.Memory) × (self.old.holding.part.hi ≡ other.value.part.lo))) }
+        ensures other { IsHolding other.value }
+        ensures after { IsHolding self.new.holding }
+        ensures home { self.new.home ≡ true }
+    {
+        match &mut self.holding {
+            Some(holding) => holding.dissolve(board, other),
             None => unreachable!(),
         }
     }

@@ -4,8 +4,9 @@ use Rattle.std.proofs.lemmas.Int.{ints}
 use Rattle.tatp_rows.proofs.BlankLemmas.{blank_at}
 use Rattle.tatp_actions.specs.declared.cells.TheConstants.{CELLS}
 use Rattle.hlr_owners.proofs.HomeLemmas.{home_at}
-use Rattle.hlr_owners.proofs.SeatLemmas.{owner_is}
-use Rattle.hlr_owners.proofs.SumLemmas.{nets, few_owners, countable, owner_within, one_countable, none_added, added_small, one_added, added_published}
+use Rattle.hlr_owners.specs.Desks.{HasOneSlot}
+use Rattle.hlr_owners.proofs.SeatLemmas.{each_of_part, owner_is}
+use Rattle.hlr_owners.proofs.SumLemmas.{nets, few_owners, countable, owner_within, none_added, added_small, one_added, added_published}
 use Rattle.hlr_owners.proofs.seats.Seats.published.Goals as goal
 
 pub loop-seat-init : goal.loop-seat-init
@@ -18,11 +19,10 @@ add_published-requires-clause-sums c = λ k below.
     let small = added_small nets _ _ _ _ _ _ (λ owner is. is.published) each few (rw c.deref-seat-items.ensures.value at c.loop-seat.invariant) k below in
     (omega (arith, ints), omega (arith, ints))
 
-pub add_published-requires-clause-nets : goal.add_published-requires-clause-nets
-add_published-requires-clause-nets c = λ k below.
-    let own = one_countable _ c.self.invariant.0 _ _ (rw c.deref-seat-items.ensures.value at c.loop-seat-test.true) (rw c.deref-seat-items.ensures.value at c.seat-item.is) in
-    let small = own.published k below in
-    (omega (arith, ints), omega (arith, ints))
+pub add_published-requires-clause-alone : goal.add_published-requires-clause-alone
+add_published-requires-clause-alone c =
+    each_of_part HasOneSlot (λ l. l.holding.desk) c.self.inside.seats.items c.loop-seat.seat-index c.seat-item.result c.self.invariant.1.shares.alone
+    (rw c.deref-seat-items.ensures.value at c.loop-seat-test.true) (rw c.deref-seat-items.ensures.value at c.seat-item.is)
 
 pub add_published-requires-clause-home : goal.add_published-requires-clause-home
 add_published-requires-clause-home c =

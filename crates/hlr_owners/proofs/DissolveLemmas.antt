@@ -1,0 +1,245 @@
+-- A dissolve among all seats: the part's seat goes, and that of the part in front stands for both.
+use Rattle.std.proofs.Common.{◌≡◌, ◌∙◌, refl, sym, ap, ℕ, suc, ◌+◌, ◌-◌, ◌<◌, ◌≤◌, List, ◌∷◌, length, get_or, set, map, true, arith, Some}
+use Rattle.std.specs.Prelude.{Ok, position, insert, remove, option_map, slice_get, Box}
+use Rattle.std.specs.declared.alloc.Global.{Global}
+use Rattle.std.specs.List.{AllZip}
+use Rattle.std.proofs.lemmas.Option.{slice_get-map}
+use Rattle.std.proofs.lemmas.Slice.Zip.{AllZip-long}
+use Rattle.atomic_table.specs.Seated.{TableId}
+use Rattle.tatp_rows.proofs.PlaceLemmas.{each_at}
+use Rattle.part_table.specs.Dissolve.{dissolved, dissolve_answer}
+use Rattle.part_table.specs.Region.{is_part}
+use Rattle.part_table.specs.declared.region.Region.{Region}
+use Rattle.part_table.specs.declared.region.Side.TheVariants.{High}
+use Rattle.part_table.proofs.PlaceLemmas.{blank}
+use Rattle.part_table.proofs.BehindLemmas.{anew_from, zip_anew}
+use Rattle.part_table.proofs.DissolveLemmas.{IsDissolve, dissolve_from_answer, dissolved_edit, part_behind_front, front_index, ranges_meet, regions-dissolved, both_ranges}
+use Rattle.part_table.proofs.RenumberLemmas.{region_lowered}
+use Rattle.view_board.specs.Desks.{Station, with_view}
+use Rattle.view_board.specs.Views.{IsLeastSlot, both, taken_back}
+use Rattle.holding.specs.Held.{HoldingState, PieceState, IsHolding}
+use Rattle.holding.specs.Moved.{IsMerged}
+use Rattle.hlr_owners.specs.Desks.{AreDesks, HasOneSlot, IsOfBoard, slots_in, words_of}
+use Rattle.hlr_owners.specs.Lodged.{Lodged}
+use Rattle.hlr_owners.specs.Out.{out_of, with_outs}
+use Rattle.hlr_owners.specs.Parted.{words_back, IsDissolved, IsDissolvedBeside, IsWithout}
+use Rattle.hlr_owners.specs.Store.{slots_of}
+use Rattle.hlr_owners.specs.Seats.{owner_of, owners_in, book_in, desks_in, of_parts, store_in, IsSeat, IsHomeFrom, Seating, AreSeated}
+use Rattle.hlr_owners.specs.declared.lodging.Seat.{Seat}
+use Rattle.hlr_owners.specs.declared.lodging.Seat.TheVariants.{Part, Piece}
+use Rattle.hlr_owners.proofs.HalvesLemmas.{HasRows}
+use Rattle.hlr_owners.proofs.HomeLemmas.{first_home, later_home}
+use Rattle.hlr_owners.proofs.IndexedLemmas.{set_same, put_back, other_left, both_edited, map-remove}
+use Rattle.hlr_owners.proofs.LendLemmas.{lodged_is, seated_later, desks_later}
+use Rattle.hlr_owners.proofs.OutLemmas.{none_out, outs-at, outs-set}
+use Rattle.hlr_owners.proofs.OwnerLemmas.{book_stays}
+use Rattle.hlr_owners.proofs.PartLemmas.{ahead, at_number, get_number, part_number_at, part_seat, part_sits, part_sits_there, part_is_home}
+use Rattle.hlr_owners.proofs.PartedDeskLemmas.{desks_dissolved, words_dissolved, seen_grows}
+use Rattle.hlr_owners.proofs.PutLemmas.{parts-remove_part, outs-remove_part, AreHomeFrom}
+use Rattle.hlr_owners.proofs.SeatLemmas.{part_kind, parts-kept, seated_rows, each_rows, rows_at, zip_owners}
+use Rattle.hlr_owners.proofs.TwoPartsLemmas.{lowered_seat, merged_owned, merged_rows}
+use Rattle.hlr_owners.proofs.ZipLemmas.{zip_set, zip_remove}
+
+-- the spare desk with the one that a holding leaves
+abbrev spare_with : Station → HoldingState → Station
+spare_with spare gone = with_view spare (both spare.view (taken_back gone.desk.view gone.slot))
+
+module _ (h : Seating) (are : AreSeated h) (p : ℕ) (told : ℕ × ℕ × ℕ) (answer : dissolve_answer p h.regions ≡ Ok told) (i : ℕ) (index : position (is_part p) h.regions ≡ Some i) where
+  dissolving : IsDissolve p h.regions told
+  dissolving = dissolve_from_answer p h.regions told answer
+
+  behind : 0 < i
+  behind = part_behind_front p h.regions told dissolving are.are i index
+
+  front_at : position (is_part (p - 1)) h.regions ≡ Some (i - 1)
+  front_at = front_index p h.regions told dissolving are.are i index
+
+  within : i < length h.seats
+  within = part_sits_there h are p i index
+
+  -- with the part's seat gone, the part in front stands where it stood
+  stays : (s : Seat) → s ≡ get_or (remove h.seats i) (i - 1) s → s ≡ get_or h.seats (i - 1) s
+  stays s stood =
+      let next : i ≡ i - 1 + 1 = omega (arith, behind) in
+      stood ∙ (ap (λ k. get_or (remove h.seats k) (i - 1) s) next ∙ other_left High h.seats (i - 1) s (omega (arith, behind, within)))
+
+  pub dissolved_is_part : (b : Box PieceState Global) → Piece b ≡ get_or h.seats i (Piece b) → ⊥
+  dissolved_is_part b is = part_sits h are p i index b is
+
+  pub dissolver_is_part : (b : Box PieceState Global) → Piece b ≡ get_or (remove h.seats i) (i - 1) (Piece b) → ⊥
+  dissolver_is_part b stood = part_sits h are (p - 1) (i - 1) front_at b (stays (Piece b) stood)
+
+  module _ (l : Lodged) (is : Part l ≡ get_or h.seats i (Part l)) (k : Lodged) (stood : Part k ≡ get_or (remove h.seats i) (i - 1) (Part k)) where
+    abbrev part : Region
+    part = get_or h.regions i blank
+
+    abbrev front : Region
+    front = get_or h.regions (i - 1) blank
+
+    seat : IsSeat h.width part (Part l)
+    seat = part_seat h are p i index (Part l) is
+
+    front_seat : IsSeat h.width front (Part k)
+    front_seat = part_seat h are (p - 1) (i - 1) front_at (Part k) (stays (Part k) stood)
+
+    meets : front.hi ≡ part.lo
+    meets = ranges_meet p h.regions told dissolving are.are i index
+
+    pub dissolver_width : k.holding.part.width ≡ l.holding.part.width
+    dissolver_width = front_seat.owner.zones ∙ sym seat.owner.zones
+
+    pub dissolver_meets : k.holding.part.hi ≡ l.holding.part.lo
+    dissolver_meets = front_seat.owner.to ∙ meets ∙ sym seat.owner.from
+
+    home_behind : IsHomeFrom (p - 1) h → IsHomeFrom p h
+    home_behind home =
+        let later = dissolving.later in
+        let next : suc (p - 1) ≡ p = omega arith in
+        rw next at (later_home (p - 1) h home)
+
+    pub dissolver_home : IsHomeFrom (p - 1) h → k.home ≡ true
+    dissolver_home home = part_is_home h are (p - 1) (i - 1) front_at k (stays (Part k) stood) (first_home (p - 1) h home)
+
+    pub dissolved_home : IsHomeFrom (p - 1) h → l.home ≡ true
+    dissolved_home home = part_is_home h are p i index l is (first_home p h (home_behind home))
+
+    -- a refusal leaves all seats
+    pub part_again : (m n : Lodged) → m ≡ k → n.holding ≡ l.holding → n.home ≡ true → IsHomeFrom (p - 1) h → insert (set (remove h.seats i) (i - 1) (Part m)) i (Part n) ≡ h.seats
+    part_again m n same one back home =
+        let again : Part n ≡ Part l = lodged_is n l.holding one back ∙ sym (lodged_is l l.holding refl (dissolved_home home)) in
+        rw (same, again, set_same (remove h.seats i) (i - 1) (Part k) stood) (put_back h.seats i (Part l) within is)
+
+    -- the seats without the part's, with another holding of the part in front
+    module _ (m : Lodged) where
+      abbrev seats_without : List Seat
+      seats_without = set (remove h.seats i) (i - 1) (Part m)
+
+      without_is : seats_without ≡ remove (set h.seats (i - 1) (Part m)) i
+      without_is =
+          let next : i - 1 + 1 ≡ i = omega (arith, behind) in
+          rw next at (both_edited High h.seats (i - 1) (Part m) (omega (arith, behind, within)))
+
+      -- what the parts have: the part's goes, where that of the one in front is as it was
+      parts_without : {X : Type 0} (f : Lodged → X) → f m ≡ f k → of_parts f seats_without ≡ remove (of_parts f h.seats) p
+      parts_without f same =
+          parts-kept f (remove h.seats i) (i - 1) k m same stood
+          ∙ (parts-remove_part f h.seats i l within is ∙ ap (remove (of_parts f h.seats)) (part_number_at h are p i index))
+
+      -- who is at home and who is out
+      house_without : (gone : HoldingState) → slice_get (desks_in h.seats) p ≡ Some gone.desk → IsLeastSlot gone.desk.view gone.slot
+          → ((w : ℕ) → get_or h.spare.view.seen w 0 ≤ get_or (spare_with h.spare gone).view.seen w 0) → k.home ≡ true → m.home ≡ true
+          → IsWithout p h (record { regions = dissolved p h.regions; seats = seats_without; spare = spare_with h.spare gone; width = h.width })
+      house_without gone there least seen was still = record {
+        homes = parts_without (λ (o : Lodged). o.home) (still ∙ sym was);
+        outs = parts_without out_of (none_out k m was still);
+        gone = gone.desk;
+        there = there;
+        slot = gone.slot;
+        least = least;
+        spare = refl;
+        seen = seen;
+        width = refl;
+      }
+
+      -- and with what those that are out have become
+      outs_without : (ks : List HoldingState) → IsHomeFrom (p - 1) h → m.home ≡ true → with_outs seats_without ks ≡ set (remove (with_outs h.seats ks) i) (i - 1) (Part m)
+      outs_without ks home still =
+          let from : AreHomeFrom (ahead h.seats i) h.seats = rw (part_number_at h are p i index) (home_behind home) in
+          outs-set (remove h.seats i) ks (i - 1) k m stood still ∙ ap (λ (seats : List Seat). set seats (i - 1) (Part m)) (outs-remove_part h.seats ks i l within is from)
+
+    -- a part that was dissolved
+    module _ (m : Lodged) (desk : Station) (merged : IsMerged k.holding l.holding desk m.holding) (kept : IsHolding m.holding) where
+      -- what holds of both together and of all others, whatever their numbers, holds of all
+      edit_zip : (P : Region → Seat → Type 0) → ((r : Region) (s : Seat) → P r s → P (region_lowered r) s) → AllZip P h.regions h.seats → P (both_ranges front part) (Part m) → AllZip P (dissolved p h.regions) (seats_without m)
+      edit_zip P lowers each one = rw (without_is m, dissolved_edit p h.regions i behind index)
+          (zip_remove P (set (anew_from region_lowered (i + 1) h.regions) (i - 1) (both_ranges front part)) (set h.seats (i - 1) (Part m)) i
+          (zip_set P (anew_from region_lowered (i + 1) h.regions) h.seats (i - 1) (both_ranges front part) (Part m) (zip_anew region_lowered P lowers (i + 1) h.regions h.seats each) one))
+
+      seats_dissolved : (spare : Station) → AreSeated (record { regions = dissolved p h.regions; seats = seats_without m; spare = spare; width = h.width })
+      seats_dissolved spare = record {
+        are = regions-dissolved p h.regions told dissolving are.are i index;
+        each = edit_zip (IsSeat h.width) (lowered_seat h.width) are.each
+            (record { kind = part_kind front.place k m front_seat.kind; owner = merged_owned h.width front part k.holding l.holding desk m.holding front_seat.owner seat.owner meets merged kept });
+        zones = are.zones;
+      }
+
+      book_dissolved : book_in (seats_without m) ≡ book_in h.seats
+      book_dissolved =
+          let long = AllZip-long (IsSeat h.width) h.regions h.seats are.each in
+          let there : i < length h.regions = omega (arith, within) in
+          let before : i - 1 < length h.regions = omega (arith, within) in
+          book_stays (dissolved p h.regions) (owners_in (seats_without m)) (book_in h.seats) (seated_rows h are) (regions-dissolved p h.regions told dissolving are.are i index).consecutive
+          (zip_owners (HasRows (book_in h.seats)) (dissolved p h.regions) (seats_without m)
+          (edit_zip (λ (r : Region) (s : Seat). HasRows (book_in h.seats) r (owner_of s)) (λ r s has. has) (each_rows h are)
+          (merged_rows h.width front part k.holding l.holding desk m.holding front_seat.owner seat.owner meets merged (book_in h.seats) (seated_rows h are)
+          (rows_at h are (i - 1) (Part k) (stays (Part k) stood) before) (rows_at h are i (Part l) is there))))
+
+      -- its slot is free
+      module _ (board : TableId) (rules : AreDesks board h.spare (desks_in h.seats)) (lawful : IsHolding l.holding) where
+        desk_at : slice_get (desks_in h.seats) p ≡ Some l.holding.desk
+        desk_at = get_number h are p i index (λ (o : Lodged). o.holding.desk) l is
+
+        desks_without : desks_in (seats_without m) ≡ remove (desks_in h.seats) p
+        desks_without = parts_without m (λ (o : Lodged). o.holding.desk) merged.taken.desk
+
+        left_desks : AreDesks board (spare_with h.spare l.holding) (desks_in (seats_without m))
+        left_desks = rw desks_without (desks_dissolved board h.spare (desks_in h.seats) rules p l.holding.desk desk_at l.holding.slot lawful.slot)
+
+        left_words : words_of (spare_with h.spare l.holding ∷ desks_in (seats_without m)) ≡ words_back (slots_of (store_in h) p) (words_of (h.spare ∷ desks_in h.seats))
+        left_words =
+            let slots : slots_of (store_in h) p ≡ Some (slots_in l.holding.desk) = slice_get-map slots_in (desks_in h.seats) p ∙ ap (option_map slots_in) desk_at in
+            rw (slots, desks_without) (words_dissolved board h.spare (desks_in h.seats) rules p l.holding.desk desk_at l.holding.slot lawful.slot)
+
+        left_slots : map slots_in (desks_in (seats_without m)) ≡ remove (map slots_in (desks_in h.seats)) p
+        left_slots = ap (map slots_in) desks_without ∙ map-remove slots_in (desks_in h.seats) p
+
+        store_dissolved : IsDissolved p (Ok told) (store_in h) (store_in (record { regions = dissolved p h.regions; seats = seats_without m; spare = spare_with h.spare l.holding; width = h.width }))
+        store_dissolved = (
+          rw (book_dissolved, left_words, left_slots) refl,
+          seen_grows board h.spare (desks_in h.seats) rules p l.holding.desk desk_at l.holding.slot lawful.slot,
+        )
+
+-- what a dissolve leaves
+pub record LeavesDissolved (board : TableId) (p : ℕ) (told : ℕ × ℕ × ℕ) (before after : Seating) : Type 0 where
+  pub seated : AreSeated after
+  pub desks : AreDesks board after.spare (desks_in after.seats)
+  pub store : IsDissolved p (Ok told) (store_in before) (store_in after)
+  pub house : IsWithout p before after
+  pub beside : IsDissolvedBeside p (Ok told) before after
+
+module _ (h : Seating) (are : AreSeated h) (p : ℕ) (told : ℕ × ℕ × ℕ) (answer : dissolve_answer p h.regions ≡ Ok told) (i : ℕ) (index : position (is_part p) h.regions ≡ Some i) (l : Lodged) (is : Part l ≡ get_or h.seats i (Part l))
+    (board : TableId) (rules : AreDesks board h.spare (desks_in h.seats)) where
+  -- the part's desk is of the board, and has one slot
+  desk_here : (p < length (desks_in h.seats)) × (l.holding.desk ≡ get_or (desks_in h.seats) p l.holding.desk)
+  desk_here = at_number h are p i index (λ (o : Lodged). o.holding.desk) l is l.holding.desk
+
+  pub dissolved_board : l.holding.desk.board ≡ board
+  dissolved_board =
+      let of_board : IsOfBoard board l.holding.desk = rw desk_here.1 (each_at (IsOfBoard board) (desks_in h.seats) p l.holding.desk rules.of_board.1 desk_here.0) in
+      of_board.same
+
+  pub dissolved_slot : HasOneSlot l.holding.desk
+  dissolved_slot = rw desk_here.1 (each_at HasOneSlot (desks_in h.seats) p l.holding.desk rules.shares.alone desk_here.0)
+
+  -- it is so whatever those that are out have become, where nobody from the part in front on is
+  pub all_dissolved : (k : Lodged) → Part k ≡ get_or (remove h.seats i) (i - 1) (Part k) → (m : Lodged) (desk : Station) → IsMerged k.holding l.holding desk m.holding → IsHolding m.holding → IsHolding l.holding
+      → IsHomeFrom (p - 1) h → m.home ≡ true → (spare : Station) → spare ≡ with_view h.spare (both h.spare.view desk.view)
+      → LeavesDissolved board p told h (record { regions = dissolved p h.regions; seats = set (remove h.seats i) (i - 1) (Part m); spare = spare; width = h.width })
+  all_dissolved k stood m desk merged kept lawful home still spare joined =
+      let now : spare ≡ spare_with h.spare l.holding = joined ∙ ap (λ (d : Station). with_view h.spare (both h.spare.view d.view)) merged.back in
+      let was = dissolver_home h are p told answer i index l is k stood home in
+      let desk_there : slice_get (desks_in h.seats) p ≡ Some l.holding.desk = get_number h are p i index (λ (o : Lodged). o.holding.desk) l is in
+      let here = dissolved_home h are p told answer i index l is k stood home in
+      let back = home_behind h are p told answer i index l is k stood home in
+      rw now (record {
+        seated = seats_dissolved h are p told answer i index l is k stood m desk merged kept (spare_with h.spare l.holding);
+        desks = left_desks h are p told answer i index l is k stood m desk merged kept board rules lawful;
+        store = store_dissolved h are p told answer i index l is k stood m desk merged kept board rules lawful;
+        house = house_without h are p told answer i index l is k stood m l.holding desk_there lawful.slot
+            (seen_grows board h.spare (desks_in h.seats) rules p l.holding.desk desk_there l.holding.slot lawful.slot) was still;
+        beside = λ ks become.
+            let left = outs-remove_part h.seats ks i l (within h are p told answer i index) is (rw (part_number_at h are p i index) back) in
+            rw (outs_without h are p told answer i index l is k stood m ks home still)
+            (store_dissolved (record h { seats = with_outs h.seats ks }) (seated_later h (with_outs h.seats ks) are become) p told answer i index l (outs-at h.seats ks i (Part l) is here)
+            k (rw left at (outs-at (remove h.seats i) ks (i - 1) (Part k) stood was)) m desk merged kept board (desks_later board h.spare h.seats (with_outs h.seats ks) become rules) lawful);
+      })

@@ -1,7 +1,0 @@
-use Rattle.view_delta.specs.Pending.{pending_at}
-use Rattle.view_delta.proofs.SumLemmas.{AreMovedTo}
-use Rattle.hlr_owners.specs.Seats.{owner_of}
-use Rattle.hlr_owners.proofs.counts.add_pending.Given as goal
-
-abbrev pub invariant-loop-cell : goal.invariant-loop-cell
-invariant-loop-cell l = AreMovedTo (λ c. pending_at ((owner_of l.seat).pending) c) l.initial.sums l.sums l.cell

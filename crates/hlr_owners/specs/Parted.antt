@@ -1,0 +1,85 @@
+-- Parts that come and go: what a divide and a dissolve make of a store, and of who is at home.
+use Rattle.std.specs.Prelude.{◌≡◌, ◌==◌, ◌≤◌, ◌+◌, not, ℕ, true, List, [], ◌∷◌, insert, remove, slice_get, slice_index, Option, Some, None, Result, Ok, Err}
+use Rattle.std.specs.List.{list_any}
+use Rattle.tatp_rows.specs.declared.refusal.Refusal.{Refusal}
+use Rattle.part_table.specs.Dissolve.{dissolved}
+use Rattle.part_table.specs.Divide.{divided}
+use Rattle.part_table.specs.Least.{least}
+use Rattle.view_board.specs.Desks.{Station, with_view}
+use Rattle.view_board.specs.Views.{IsLeastSlot, both, taken_back, without}
+use Rattle.view_board.specs.Words.{leveled}
+use Rattle.view_board.specs.declared.words.TheConstants.{SLOTS}
+use Rattle.holding.specs.Held.{HoldingState}
+use Rattle.hlr_owners.specs.Beside.{MayBecome, store_with}
+use Rattle.hlr_owners.specs.Out.{outs_in}
+use Rattle.hlr_owners.specs.Post.{least_slot}
+use Rattle.hlr_owners.specs.Seats.{Seating, desks_in, homes_in}
+use Rattle.hlr_owners.specs.Store.{Store, slots_of}
+
+-- the least slot that no part has
+abbrev pub free_slot : List (List ℕ) → ℕ
+free_slot slots = least (λ slot. not (list_any (λ own. list_any (λ s. s == slot) own) slots)) 0 SLOTS
+
+-- what a divide leaves: the regions with that of the part cut in two, and the new part has the least slot that no part
+-- had; a refusal leaves all
+abbrev pub IsDivided : ℕ → ℕ → Result (ℕ × ℕ × ℕ) Refusal → Store → Store → Type 0
+IsDivided part at (Err why) before after = after ≡ before
+IsDivided part at (Ok new) before after =
+    after ≡ record before { regions = divided part at before.regions; slots = insert before.slots (part + 1) (free_slot before.slots ∷ []) }
+
+-- the words where what a part has published is taken back, if there is such a part: in its slot the lower of each
+-- cell's two words is raised to the higher
+abbrev pub words_back : Option (List ℕ) → List ℕ → List ℕ
+words_back None words = words
+words_back (Some slots) words = leveled (least_slot slots) words
+
+-- what a dissolve leaves: the regions with that of the part joined to the one in front, and the words without what the
+-- part had published, whose slot is no part's then; of each word at least as much was seen. A refusal leaves all
+abbrev pub IsDissolved : ℕ → Result (ℕ × ℕ × ℕ) Refusal → Store → Store → Type 0
+IsDissolved part (Err why) before after = after ≡ before
+IsDissolved part (Ok front) before after =
+    (after ≡ record before {
+      regions = dissolved part before.regions;
+      words = words_back (slots_of before part) before.words;
+      slots = remove before.slots part;
+      sight = after.sight;
+    }) × ((w : ℕ) → slice_index before.sight w ≤ slice_index after.sight w)
+
+-- who is at home and who is out, with a new part behind one; the desk of the free slots gave up its least one
+pub record IsWithNew (part : ℕ) (before after : Seating) : Type 0 where
+  pub homes : homes_in after.seats ≡ insert (homes_in before.seats) (part + 1) true
+  pub outs : outs_in after.seats ≡ insert (outs_in before.seats) (part + 1) None
+  pub slot : ℕ
+  pub least : IsLeastSlot before.spare.view slot
+  pub spare : after.spare ≡ with_view before.spare (without before.spare.view slot)
+  pub width : after.width ≡ before.width
+
+-- and without a part; the desk of the free slots took in the part's, which had taken back what it had published
+pub record IsWithout (part : ℕ) (before after : Seating) : Type 0 where
+  pub homes : homes_in after.seats ≡ remove (homes_in before.seats) part
+  pub outs : outs_in after.seats ≡ remove (outs_in before.seats) part
+  pub gone : Station
+  pub there : slice_get (desks_in before.seats) part ≡ Some gone
+  pub slot : ℕ
+  pub least : IsLeastSlot gone.view slot
+  pub spare : after.spare ≡ with_view before.spare (both before.spare.view (taken_back gone.view slot))
+  pub seen : (w : ℕ) → slice_index before.spare.view.seen w ≤ slice_index after.spare.view.seen w
+  pub width : after.width ≡ before.width
+
+-- the house after a divide, and after a dissolve: a refusal leaves it
+abbrev pub IsHouseDivided : ℕ → Result (ℕ × ℕ × ℕ) Refusal → Seating → Seating → Type 0
+IsHouseDivided part (Err why) before after = after ≡ before
+IsHouseDivided part (Ok new) before after = IsWithNew part before after
+
+abbrev pub IsHouseDissolved : ℕ → Result (ℕ × ℕ × ℕ) Refusal → Seating → Seating → Type 0
+IsHouseDissolved part (Err why) before after = after ≡ before
+IsHouseDissolved part (Ok front) before after = IsWithout part before after
+
+-- the same of the stores, whatever the holdings that are out have become
+abbrev pub IsDividedBeside : ℕ → ℕ → Result (ℕ × ℕ × ℕ) Refusal → Seating → Seating → Type 0
+IsDividedBeside part at done before after =
+    (holdings : List HoldingState) → MayBecome before.seats holdings → IsDivided part at done (store_with before holdings) (store_with after holdings)
+
+abbrev pub IsDissolvedBeside : ℕ → Result (ℕ × ℕ × ℕ) Refusal → Seating → Seating → Type 0
+IsDissolvedBeside part done before after =
+    (holdings : List HoldingState) → MayBecome before.seats holdings → IsDissolved part done (store_with before holdings) (store_with after holdings)

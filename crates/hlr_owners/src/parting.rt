@@ -1,0 +1,76 @@
+//! Parts that are divided in two, and dissolved into the one in front.
+ghost use Rattle.std.specs.Prelude.{◌-◌};
+ghost use Rattle.part_table.specs.Dissolve.{dissolve_answer};
+ghost use Rattle.part_table.specs.Divide.{divide_answer};
+ghost use Rattle.hlr_owners.specs.Answered.{MayAnswer};
+ghost use Rattle.hlr_owners.specs.Parted.{IsDissolved, IsDissolvedBeside, IsDivided, IsDividedBeside, IsHouseDissolved, IsHouseDivided};
+ghost use Rattle.hlr_owners.specs.Seats.{IsHomeFrom, store_in};
+
+use crate::lodging::{Lodging, Seat};
+use crate::room::insert_reserved;
+use crate::seats::Seats;
+use tatp_rows::Refusal;
+
+impl Seats {
+    /// Divides a part at a subscriber: it keeps what is below, a new part with the next number has the rest and the
+    /// least free slot, and later parts' numbers rise by one. The answer is the new part's number, and where it begins
+    /// and ends. `NoPart`, `OutOfRange`, `ManyParts`, `Memory`; a refusal changes nothing. The part and all behind it
+    /// are at home.
+    pub fn divide(&mut self, part: u64, at: u64) -> Result<(u8, u32, u32), Refusal>
+        requires home { IsHomeFrom part self.old }
+        ensures answer { MayAnswer (divide_answer part at self.old.regions) result }
+        ensures after { IsDivided part at result (store_in self.old) (store_in self.new) }
+        ensures house { IsHouseDivided part result self.old self.new }
+        ensures beside { IsDividedBeside part at result self.old self.new }
+    {
+        let (i, told) = self.regions.dividing(part, at)?;
+        let Some(slot) = self.spare.least_slot() else {
+            unreachable!()
+        };
+        let desk = self.board.split(&mut self.spare, slot)?;
+        let parted = match &mut self.seats[i] {
+            Seat::Part(lodging) => lodging.divide(at as u32, desk),
+            Seat::Piece(_) => unreachable!(),
+        };
+        let holding = match parted {
+            Ok(holding) => holding,
+            Err(back) => {
+                self.board.join(&mut self.spare, back.item);
+                return Err(back.why);
+            }
+        };
+        insert_reserved(&mut self.seats, i + 1, Seat::Part(Lodging::of(holding)));
+        self.regions.divide_at(i, at);
+        Ok(told)
+    }
+
+    /// Dissolves a part: the part in front has its rows, what it has published is taken back, its slot is free, and
+    /// later parts' numbers fall by one. The answer is the number of the part in front, and where it begins and ends
+    /// now. `NoPart`, `NotAdjacent`, `Memory`; a refusal changes nothing. The part in front and all behind it are at
+    /// home.
+    pub fn dissolve(&mut self, part: u64) -> Result<(u8, u32, u32), Refusal>
+        requires home { IsHomeFrom (part - 1) self.old }
+        ensures answer { MayAnswer (dissolve_answer part self.old.regions) result }
+        ensures after { IsDissolved part result (store_in self.old) (store_in self.new) }
+        ensures house { IsHouseDissolved part result self.old self.new }
+        ensures beside { IsDissolvedBeside part result self.old self.new }
+    {
+        let (i, told) = self.regions.dissolving(part)?;
+        let Seat::Part(mut lodging) = self.seats.remove(i) else {
+            unreachable!()
+        };
+        let merged = match &mut self.seats[i - 1] {
+            Seat::Part(front) => front.dissolve(&self.board, lodging.lend()),
+            Seat::Piece(_) => unreachable!(),
+        };
+        match merged {
+            Ok(desk) => self.board.join(&mut self.spare, desk),
+            Err(back) => {
+                insert_reserved(&mut self.seats, i, Seat::Part(Lodging::of(back.item)));
+                return Err(back.why);
+            }
+        }
+        self.regions.dissolve_at(i);
+        Ok(told)
+    }
+}
