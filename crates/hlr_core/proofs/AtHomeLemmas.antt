@@ -19,12 +19,13 @@ use Rattle.hlr_core.specs.Run.{IsOrderStep, IsRun}
 use Rattle.hlr_core.specs.Step.{IsStep, IsAskedStep, IsOwnedStep, IsPostStep, action_for, whole_effect, takes_number}
 use Rattle.hlr_core.specs.Step.{given_number, is_done, reply_of}
 use Rattle.hlr_owners.specs.Answered.{is_loose, is_loose_place}
+use Rattle.hlr_owners.specs.Parted.{IsDissolved, IsDivided}
 use Rattle.hlr_owners.specs.Store.{Store, slots_of}
 use Rattle.hlr_core.specs.declared.event.Event.{Event}
 use Rattle.hlr_core.specs.declared.event.Event.TheVariants.{SubscriberData, NewDestination, AccessData, UpdateSubscriber}
 use Rattle.hlr_core.specs.declared.event.Event.TheVariants.{UpdateLocation, InsertForwarding, DeleteForwarding}
 use Rattle.hlr_core.specs.declared.event.Event.TheVariants.{AddSubscriber, AddAccess, AddFacility, SetActive, SetNumber}
-use Rattle.hlr_core.specs.declared.event.Event.TheVariants.{Post, Give, Take}
+use Rattle.hlr_core.specs.declared.event.Event.TheVariants.{Post, Give, Take, Divide, Dissolve}
 use Rattle.hlr_core.specs.declared.event.Reply.{Reply}
 use Rattle.hlr_core.specs.declared.order.Answer.{Answer}
 use Rattle.hlr_core.specs.declared.order.Answer.TheVariants as answer
@@ -72,6 +73,8 @@ row_event (SetNumber s_id sub_nbr) on =
 row_event (Post part limit) on = absurd cc
 row_event (Give part side at) on = absurd cc
 row_event (Take piece part) on = absurd cc
+row_event (Divide part at) on = absurd cc
+row_event (Dissolve part) on = absurd cc
 
 -- where no piece is loose, neither the first region nor any other is one
 first_home : (p : Place) (pieces : List ℕ) → piece_number p ++ pieces ≡ [] → is_loose_place (Some p) ≡ false
@@ -150,12 +153,25 @@ post_stays : (slots : Option (List ℕ)) (part limit : ℕ) (before after : Stor
 post_stays None part limit before after reply step = ap (λ (s : Store). s.book) step.1.1
 post_stays (Some slots) part limit before after reply step = ap (λ (s : Store). s.book) step.1.1
 
+-- so does a part that comes or goes
+divided_stays : (part at : ℕ) (done : Result (ℕ × ℕ × ℕ) Refusal) (before after : Store)
+    → IsDivided part at done before after → after.book ≡ before.book
+divided_stays part at (Err why) before after is = ap (λ (s : Store). s.book) is
+divided_stays part at (Ok new) before after is = ap (λ (s : Store). s.book) is
+
+dissolved_stays : (part : ℕ) (done : Result (ℕ × ℕ × ℕ) Refusal) (before after : Store)
+    → IsDissolved part done before after → after.book ≡ before.book
+dissolved_stays part (Err why) before after is = ap (λ (s : Store). s.book) is
+dissolved_stays part (Ok front) before after is = ap (λ (s : Store). s.book) is.0
+
 other_stays : (event : Event) (before after : Store) (reply : Reply) → is_on_rows event ≡ false
     → IsStep event before reply after → after.book ≡ before.book
 other_stays (Post part limit) before after reply off step =
     post_stays (slots_of before part) part limit before after reply step
 other_stays (Give part side at) before after reply off step = ap (λ (s : Store). s.book) step.3
 other_stays (Take piece part) before after reply off step = ap (λ (s : Store). s.book) step.3
+other_stays (Divide part at) before after reply off step = divided_stays part at step.0 before after step.3
+other_stays (Dissolve part) before after reply off step = dissolved_stays part step.0 before after step.3
 other_stays _ before after reply off step = absurd cc
 
 -- one step, that is kept or left out

@@ -10,6 +10,8 @@ use Rattle.tatp_actions.specs.Book.{subscriber_at}
 use Rattle.tatp_actions.specs.declared.action.Action.{Action}
 use Rattle.tatp_actions.specs.declared.action.Action.TheVariants as action
 use Rattle.tatp_actions.specs.declared.action.RowReply.{RowReply}
+use Rattle.part_table.specs.Dissolve.{dissolve_answer}
+use Rattle.part_table.specs.Divide.{divide_answer}
 use Rattle.part_table.specs.Give.{give_answer, after_give}
 use Rattle.part_table.specs.Recut.{recut_answer}
 use Rattle.part_table.specs.Take.{take_answer, after_take}
@@ -20,6 +22,7 @@ use Rattle.holding.specs.Held.{HoldingState}
 use Rattle.hlr_owners.specs.Answered.{MayAnswer, is_loose}
 use Rattle.hlr_owners.specs.Beside.{IsAnsweredBeside, IsMovedBeside}
 use Rattle.hlr_owners.specs.Out.{outs_in, with_outs}
+use Rattle.hlr_owners.specs.Parted.{IsDissolvedBeside, IsDividedBeside}
 use Rattle.hlr_owners.specs.Recut.{IsRecut, IsRecutBy}
 use Rattle.hlr_owners.specs.Seats.{Seating, AreSeated, book_in, holdings_seated, store_in}
 use Rattle.hlr_owners.specs.Store.{Store}
@@ -30,9 +33,9 @@ use Rattle.hlr_core.specs.Beside.{beside, IsStepBeside, IsRecutBeside}
 use Rattle.hlr_core.specs.Index.{IsRegister}
 use Rattle.hlr_core.specs.Inside.Asked.{IsRowStep}
 use Rattle.hlr_core.specs.Later.{IsLater, AreLater}
-use Rattle.hlr_core.specs.Step.{IsStep, given_reply, taken_reply, reply_of}
+use Rattle.hlr_core.specs.Step.{IsStep, dissolved_reply, divided_reply, given_reply, taken_reply, reply_of}
 use Rattle.hlr_core.specs.declared.event.Event.{Event}
-use Rattle.hlr_core.specs.declared.event.Event.TheVariants.{Give, Take}
+use Rattle.hlr_core.specs.declared.event.Event.TheVariants.{Give, Take, Divide, Dissolve}
 use Rattle.hlr_core.specs.declared.event.Reply.{Reply}
 use Rattle.hlr_core.specs.declared.event.Reply.TheVariants as reply
 use Rattle.hlr_core.proofs.LaterLemmas.{all_later_self, each_seat, number_later, registered_later}
@@ -132,3 +135,11 @@ module _ (before after : Seating) (moves : IsMovedBeside before after) where
       cases (Ok moves) (Err why) done b a same moved =
           let regions : a.regions ≡ after.regions = ap (λ (s : Store). s.regions) moved in
           (done.0, moved ∙ ap (λ (r : List Region). record b { regions = r }) (sym regions), rw (same, regions) done.2)
+
+-- a part comes or goes
+module _ (before after : Seating) (part : ℕ) (done : Result (ℕ × ℕ × ℕ) Refusal) (answer : Reply) where
+  pub divided_beside : (at : ℕ) → MayAnswer (divide_answer part at before.regions) done → answer ≡ divided_reply done → IsDividedBeside part at done before after → IsStepBeside (Divide part at) before answer after
+  divided_beside at may is moves = λ ks later. (done, may, is, moves ks (each_seat before.seats (with_outs before.seats ks) later))
+
+  pub dissolved_beside : MayAnswer (dissolve_answer part before.regions) done → answer ≡ dissolved_reply done → IsDissolvedBeside part done before after → IsStepBeside (Dissolve part) before answer after
+  dissolved_beside may is moves = λ ks later. (done, may, is, moves ks (each_seat before.seats (with_outs before.seats ks) later))

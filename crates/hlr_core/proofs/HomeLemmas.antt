@@ -1,20 +1,25 @@
 -- Whoever an event needs is at home where all are, and where the one is whom its action needs.
-use Rattle.std.proofs.Common.{◌≡◌, ◌∙◌, refl, sym, ap, ℕ, Bool, Option, Some, None, Result, Ok, Err}
-use Rattle.std.specs.Prelude.{IfOk, IfSome, option_map}
+use Rattle.std.proofs.Common.{◌≡◌, ◌∙◌, arith, refl, sym, ap, ℕ, zero, suc, ◌+◌, ◌-◌, List, [], ◌∷◌, drop, Bool, true, inl, inr, Option, Some, None, Result, Ok, Err}
+use Rattle.std.specs.Prelude.{◌⊎◌, IfOk, IfSome, insert, option_map, remove}
+use Rattle.std.specs.List.{AllByRecursion}
 use Rattle.tatp_rows.specs.declared.refusal.Refusal.{Refusal}
 use Rattle.tatp_actions.specs.Action.{s_id_of}
 use Rattle.tatp_actions.specs.declared.action.Action.{Action}
+use Rattle.view_board.specs.Desks.{Station}
 use Rattle.hlr_owners.specs.Out.{outs_in}
-use Rattle.hlr_owners.specs.Seats.{AllHome, IsHomeFor, Seating, book_in, homes_in}
+use Rattle.hlr_owners.specs.Parted.{IsWithNew, IsWithout}
+use Rattle.hlr_owners.specs.Seats.{AllHome, IsHomeFor, IsHomeFrom, Seating, book_in, homes_in}
 use Rattle.hlr_owners.proofs.HomeLemmas.{home_of_all, part_home_of_all}
-use Rattle.hlr_core.specs.Home.{IsBearerHome, IsHomeTo, IsSameHouse}
+use Rattle.hlr_core.specs.Home.{IsBearerHome, IsHomeTo, IsHouseAfter, IsLaterDesk, IsSameHouse}
 use Rattle.hlr_core.specs.Inside.Asked.{IsAsked, action_asked}
 use Rattle.hlr_core.specs.Numbers.{bearer_id}
 use Rattle.hlr_core.specs.declared.event.Event.{Event}
 use Rattle.hlr_core.specs.declared.event.Event.TheVariants.{SubscriberData, NewDestination, AccessData, UpdateSubscriber}
 use Rattle.hlr_core.specs.declared.event.Event.TheVariants.{UpdateLocation, InsertForwarding, DeleteForwarding}
 use Rattle.hlr_core.specs.declared.event.Event.TheVariants.{AddSubscriber, AddAccess, AddFacility, SetActive, SetNumber}
-use Rattle.hlr_core.specs.declared.event.Event.TheVariants.{Post, Give, Take}
+use Rattle.hlr_core.specs.declared.event.Event.TheVariants.{Post, Give, Take, Divide, Dissolve}
+use Rattle.hlr_core.specs.declared.event.Reply.{Reply}
+use Rattle.hlr_core.specs.declared.event.Reply.TheVariants as reply
 
 bearer_home : (sub_nbr : ℕ) (h : Seating) → AllHome h.seats → IsBearerHome sub_nbr h
 bearer_home sub_nbr h all = cases (bearer_id (book_in h.seats).subscribers sub_nbr)
@@ -22,6 +27,28 @@ bearer_home sub_nbr h all = cases (bearer_id (book_in h.seats).subscribers sub_n
     cases : (o : Option ℕ) → IfSome o (λ s_id. IsHomeFor s_id h)
     cases None = tt
     cases (Some s_id) = home_of_all s_id h all
+
+-- what each element keeps, each from one on keeps
+all_from : {X : Type 0} (P : X → Type 0) (i : ℕ) (xs : List X) → AllByRecursion P xs → AllByRecursion P (drop i xs)
+all_from P zero xs all = all
+all_from P (suc i) [] all = tt
+all_from P (suc i) (x ∷ xs) all = all_from P i xs all.1
+
+-- and so with one element more that keeps it, or with one fewer
+all_with : {X : Type 0} (P : X → Type 0) (i : ℕ) (x : X) (xs : List X) → P x → AllByRecursion P xs → AllByRecursion P (insert xs i x)
+all_with P zero x xs new all = (new, all)
+all_with P (suc i) x [] new all = (new, tt)
+all_with P (suc i) x (y ∷ xs) new all = (all.0, all_with P i x xs new all.1)
+
+all_without : {X : Type 0} (P : X → Type 0) (i : ℕ) (xs : List X) → AllByRecursion P xs → AllByRecursion P (remove xs i)
+all_without P zero [] all = tt
+all_without P (suc i) [] all = tt
+all_without P zero (x ∷ xs) all = all.1
+all_without P (suc i) (x ∷ xs) all = (all.0, all_without P i xs all.1)
+
+-- where all are at home, so are all from one on
+pub home_from_all : (part : ℕ) (h : Seating) → AllHome h.seats → IsHomeFrom part h
+home_from_all part h all = all_from (λ (home : Bool). home ≡ true) part (homes_in h.seats) all
 
 -- where all are at home, the one is whom an event needs
 pub home_to_all : (event : Event) (h : Seating) → AllHome h.seats → IsHomeTo event h
@@ -40,6 +67,8 @@ home_to_all (SetNumber s_id sub_nbr) h all = home_of_all s_id h all
 home_to_all (Post part limit) h all = part_home_of_all part h all
 home_to_all (Give part side at) h all = part_home_of_all part h all
 home_to_all (Take piece part) h all = part_home_of_all part h all
+home_to_all (Divide part at) h all = home_from_all part h all
+home_to_all (Dissolve part) h all = home_from_all (part - 1) h all
 
 -- an edit that was asked for is of the subscriber who was named
 pub home_of_asked : {E : Type 0} (action : E → Action) (fits : Bool) (act : Action) (h : Seating) (asked : Result E Refusal)
@@ -64,10 +93,95 @@ house_kept h = record { homes = refl; outs = refl; spare = refl }
 pub house_edited : (before after : Seating) → homes_in after.seats ≡ homes_in before.seats → outs_in after.seats ≡ outs_in before.seats → after ≡ record before { seats = after.seats } → IsSameHouse before after
 house_edited before after homes outs same = record { homes = homes; outs = outs; spare = ap (λ (h : Seating). h.spare) same }
 
--- the same parts are at home after two that changed nothing of it
-pub house_more : (a b c : Seating) → IsSameHouse a b → IsSameHouse b c → IsSameHouse a c
-house_more a b c one two = record { homes = two.homes ∙ one.homes; outs = two.outs ∙ one.outs; spare = two.spare ∙ one.spare }
-
--- so all are at home where all were
+-- all are at home where all were, if the same parts are at home
 pub still_home : (before after : Seating) → IsSameHouse before after → AllHome before.seats → AllHome after.seats
 still_home before after same all = rw (same.homes) all
+
+-- and all are at home with a new part, and without one
+pub home_with_new : (part : ℕ) (before after : Seating) → IsWithNew part before after → AllHome before.seats → AllHome after.seats
+home_with_new part before after new all = rw (new.homes) (all_with (λ (home : Bool). home ≡ true) (part + 1) true (homes_in before.seats) refl all)
+
+pub home_without : (part : ℕ) (before after : Seating) → IsWithout part before after → AllHome before.seats → AllHome after.seats
+home_without part before after gone all = rw (gone.homes) (all_without (λ (home : Bool). home ≡ true) part (homes_in before.seats) all)
+
+-- nobody came or went, or a part came or went
+abbrev pub HasMoved : Seating → Seating → Type 0
+HasMoved before after = IsSameHouse before after ⊎ ((part : ℕ) × (IsWithNew part before after ⊎ IsWithout part before after))
+
+-- one of these is so after a divide, and after a dissolve, whatever is answered
+divided_moves : (part at : ℕ) (answer : Reply) (before after : Seating) → IsHouseAfter (Divide part at) answer before after → HasMoved before after
+divided_moves part at (reply.Rows rows) before after house = inl house
+divided_moves part at (reply.Posted count) before after house = inl house
+divided_moves part at (reply.Given piece lo hi) before after house = inl house
+divided_moves part at (reply.Taken piece q) before after house = inl house
+divided_moves part at (reply.Divided new lo hi) before after house = inr (part, inl house)
+divided_moves part at (reply.Dissolved front lo hi) before after house = inl house
+divided_moves part at (reply.Refused why) before after house = inl house
+
+dissolved_moves : (part : ℕ) (answer : Reply) (before after : Seating) → IsHouseAfter (Dissolve part) answer before after → HasMoved before after
+dissolved_moves part (reply.Rows rows) before after house = inl house
+dissolved_moves part (reply.Posted count) before after house = inl house
+dissolved_moves part (reply.Given piece lo hi) before after house = inl house
+dissolved_moves part (reply.Taken piece q) before after house = inl house
+dissolved_moves part (reply.Divided new lo hi) before after house = inl house
+dissolved_moves part (reply.Dissolved front lo hi) before after house = inr (part, inr house)
+dissolved_moves part (reply.Refused why) before after house = inl house
+
+-- so it is after each event
+pub house_moves : (event : Event) (answer : Reply) (before after : Seating) → IsHouseAfter event answer before after → HasMoved before after
+house_moves (SubscriberData s_id) answer before after house = inl house
+house_moves (NewDestination s_id sf_type start_time end_time) answer before after house = inl house
+house_moves (AccessData s_id ai_type) answer before after house = inl house
+house_moves (UpdateSubscriber s_id sf_type bit_1 data_a) answer before after house = inl house
+house_moves (UpdateLocation sub_nbr vlr_location) answer before after house = inl house
+house_moves (InsertForwarding sub_nbr sf_type start_time end_time numberx) answer before after house = inl house
+house_moves (DeleteForwarding sub_nbr sf_type start_time) answer before after house = inl house
+house_moves (AddSubscriber row) answer before after house = inl house
+house_moves (AddAccess row) answer before after house = inl house
+house_moves (AddFacility row) answer before after house = inl house
+house_moves (SetActive s_id sf_type is_active) answer before after house = inl house
+house_moves (SetNumber s_id sub_nbr) answer before after house = inl house
+house_moves (Post part limit) answer before after house = inl house
+house_moves (Give part side at) answer before after house = inl house
+house_moves (Take piece part) answer before after house = inl house
+house_moves (Divide part at) answer before after house = divided_moves part at answer before after house
+house_moves (Dissolve part) answer before after house = dissolved_moves part answer before after house
+
+-- all are at home after an event where all were
+pub home_after : (event : Event) (answer : Reply) (before after : Seating) → IsHouseAfter event answer before after → AllHome before.seats → AllHome after.seats
+home_after event answer before after house all = elim (house_moves event answer before after house) [
+  | inl same ↦ still_home before after same all
+  | inr moved ↦ elim moved.1 [
+    | inl new ↦ home_with_new moved.0 before after new all
+    | inr gone ↦ home_without moved.0 before after gone all
+  ]
+]
+
+-- the desk of the free slots is a later one where it stays, gives a slot up or takes one in
+pub desk_same : (before after : Station) → after ≡ before → IsLaterDesk before after
+desk_same before after same = rw same (record { board = refl; seen = λ w. omega arith })
+
+pub desk_kept : (before after : Seating) → IsSameHouse before after → IsLaterDesk before.spare after.spare
+desk_kept before after same = desk_same before.spare after.spare same.spare
+
+desk_with_new : (part : ℕ) (before after : Seating) → IsWithNew part before after → IsLaterDesk before.spare after.spare
+desk_with_new part before after new = rw (new.spare) (record { board = refl; seen = λ w. omega arith })
+
+desk_without : (part : ℕ) (before after : Seating) → IsWithout part before after → IsLaterDesk before.spare after.spare
+desk_without part before after gone = record { board = ap (λ (d : Station). d.board) gone.spare; seen = gone.seen }
+
+pub desk_after : (event : Event) (answer : Reply) (before after : Seating) → IsHouseAfter event answer before after → IsLaterDesk before.spare after.spare
+desk_after event answer before after house = elim (house_moves event answer before after house) [
+  | inl same ↦ desk_kept before after same
+  | inr moved ↦ (elim moved.1 [
+    | inl new ↦ desk_with_new moved.0 before after new
+    | inr gone ↦ desk_without moved.0 before after gone
+  ])
+]
+
+-- one after another
+pub desk_later : (a b c : Station) → IsLaterDesk a b → IsLaterDesk b c → IsLaterDesk a c
+desk_later a b c one two = record {
+  board = two.board ∙ one.board;
+  seen = λ w. let first = one.seen w in let second = two.seen w in omega (arith, first, second);
+}

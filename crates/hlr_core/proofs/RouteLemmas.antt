@@ -39,7 +39,7 @@ use Rattle.hlr_core.specs.declared.event.Event.{Event}
 use Rattle.hlr_core.specs.declared.event.Event.TheVariants.{SubscriberData, NewDestination, AccessData, UpdateSubscriber}
 use Rattle.hlr_core.specs.declared.event.Event.TheVariants.{UpdateLocation, InsertForwarding, DeleteForwarding}
 use Rattle.hlr_core.specs.declared.event.Event.TheVariants.{AddSubscriber, AddAccess, AddFacility, SetActive, SetNumber}
-use Rattle.hlr_core.specs.declared.event.Event.TheVariants.{Post, Give, Take}
+use Rattle.hlr_core.specs.declared.event.Event.TheVariants.{Post, Give, Take, Divide, Dissolve}
 use Rattle.hlr_core.specs.declared.event.Reply.{Reply}
 use Rattle.hlr_core.specs.declared.event.Reply.TheVariants as reply
 use Rattle.hlr_core.specs.declared.route.Route.TheVariants.{Now, To}
@@ -83,6 +83,8 @@ step_asked (SetNumber s_id sub_nbr) before answer after rows step = step
 step_asked (Post part limit) before answer after rows step = absurd cc
 step_asked (Give part side at) before answer after rows step = absurd cc
 step_asked (Take piece part) before answer after rows step = absurd cc
+step_asked (Divide part at) before answer after rows step = absurd cc
+step_asked (Dissolve part) before answer after rows step = absurd cc
 
 -- the subscriber with a number is of the pairs alone
 bearer_same : (rows others : List SubscriberRow) (n : ℕ) → map number_pair others ≡ map number_pair rows → bearer_id others n ≡ bearer_id rows n
@@ -116,6 +118,8 @@ asked_same (SetNumber s_id sub_nbr) book other same = refl
 asked_same (Post part limit) book other same = refl
 asked_same (Give part side at) book other same = refl
 asked_same (Take piece part) book other same = refl
+asked_same (Divide part at) book other same = refl
+asked_same (Dissolve part) book other same = refl
 
 -- the part of a place is there
 part_stands : (s_id p : ℕ) (regions : List Region) → place_of s_id regions ≡ Some (place.Part p) → list_any (is_part p) regions ≡ true

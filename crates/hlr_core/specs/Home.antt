@@ -1,16 +1,21 @@
 -- The parts on which an event works are at home.
-use Rattle.std.specs.Prelude.{◌≡◌, ℕ, IfSome}
+use Rattle.std.specs.Prelude.{◌≡◌, ◌-◌, ◌≤◌, ℕ, IfSome, slice_index}
+use Rattle.view_board.specs.Desks.{Station}
 use Rattle.hlr_owners.specs.Out.{outs_in}
-use Rattle.hlr_owners.specs.Seats.{Seating, IsHomeFor, IsPartHome, book_in, homes_in}
+use Rattle.hlr_owners.specs.Parted.{IsWithNew, IsWithout}
+use Rattle.hlr_owners.specs.Seats.{Seating, IsHomeFor, IsHomeFrom, IsPartHome, book_in, homes_in}
 use Rattle.hlr_core.specs.Numbers.{bearer_id}
 use Rattle.hlr_core.specs.declared.event.Event.{Event}
-use Rattle.hlr_core.specs.declared.event.Event.TheVariants.{SubscriberData, NewDestination, AccessData, UpdateSubscriber, UpdateLocation, InsertForwarding, DeleteForwarding, AddSubscriber, AddAccess, AddFacility, SetActive, SetNumber, Post, Give, Take}
+use Rattle.hlr_core.specs.declared.event.Event.TheVariants.{SubscriberData, NewDestination, AccessData, UpdateSubscriber, UpdateLocation, InsertForwarding, DeleteForwarding, AddSubscriber, AddAccess, AddFacility, SetActive, SetNumber, Post, Give, Take, Divide, Dissolve}
+use Rattle.hlr_core.specs.declared.event.Reply.{Reply}
+use Rattle.hlr_core.specs.declared.event.Reply.TheVariants.{Divided, Dissolved}
 
 -- whoever has the subscriber with a number is at home, if there is such a subscriber
 abbrev pub IsBearerHome : ℕ → Seating → Type 0
 IsBearerHome sub_nbr h = IfSome (bearer_id (book_in h.seats).subscribers sub_nbr) (λ s_id. IsHomeFor s_id h)
 
--- the owner of the rows on which an event works is at home, or the part that posts, gives or takes
+-- the owner of the rows on which an event works is at home, or the part that posts, gives or takes; or the part that is
+-- divided, or stands in front of one that is dissolved, and all behind it, whose numbers change
 abbrev pub IsHomeTo : Event → Seating → Type 0
 IsHomeTo (SubscriberData s_id) h = IsHomeFor s_id h
 IsHomeTo (NewDestination s_id sf_type start_time end_time) h = IsHomeFor s_id h
@@ -27,10 +32,23 @@ IsHomeTo (SetNumber s_id sub_nbr) h = IsHomeFor s_id h
 IsHomeTo (Post part limit) h = IsPartHome part h
 IsHomeTo (Give part side at) h = IsPartHome part h
 IsHomeTo (Take piece part) h = IsPartHome part h
+IsHomeTo (Divide part at) h = IsHomeFrom part h
+IsHomeTo (Dissolve part) h = IsHomeFrom (part - 1) h
 
--- what no event and no re-cut changes: which parts are at home, the holdings that are out, and the desk of the slots
--- that no part has
+-- the same parts are at home, the same holdings are out, and the desk of the slots that no part has is as it was
 pub record IsSameHouse (before after : Seating) : Type 0 where
   pub homes : homes_in after.seats ≡ homes_in before.seats
   pub outs : outs_in after.seats ≡ outs_in before.seats
   pub spare : after.spare ≡ before.spare
+
+-- a desk of the same board, which has seen at least as much of each word
+pub record IsLaterDesk (before after : Station) : Type 0 where
+  pub board : after.board ≡ before.board
+  pub seen : (w : ℕ) → slice_index before.view.seen w ≤ slice_index after.view.seen w
+
+-- what an event leaves of that: a part that was divided has a new one behind it, which is at home, and one that was
+-- dissolved is gone; nothing else changes any of it
+abbrev pub IsHouseAfter : Event → Reply → Seating → Seating → Type 0
+IsHouseAfter (Divide part at) (Divided new lo hi) before after = IsWithNew part before after
+IsHouseAfter (Dissolve part) (Dissolved front lo hi) before after = IsWithout part before after
+IsHouseAfter event answer before after = IsSameHouse before after

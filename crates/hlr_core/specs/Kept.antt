@@ -1,5 +1,5 @@
--- Gives, takes and re-cuts change no reply but Moving: what is left of a run without them, postings, and what was
--- answered Moving or Memory.
+-- Gives, takes and re-cuts, and parts that come and go, change no reply but Moving: what is left of a run without them,
+-- postings, and what was answered Moving or Memory.
 use Rattle.std.specs.Prelude.{◌≡◌, Bool, true, false, ◌&&◌, List, [], ◌∷◌, if◌then◌else◌}
 use Rattle.tatp_rows.specs.declared.refusal.Refusal.{Refusal}
 use Rattle.tatp_rows.specs.declared.refusal.Refusal.TheVariants as refusal
@@ -8,7 +8,7 @@ use Rattle.part_table.specs.Regions.{pieces_of}
 use Rattle.hlr_core.specs.Run.{IsRun}
 use Rattle.hlr_owners.specs.Store.{Store}
 use Rattle.hlr_core.specs.declared.event.Event.{Event}
-use Rattle.hlr_core.specs.declared.event.Event.TheVariants.{Post, Give, Take}
+use Rattle.hlr_core.specs.declared.event.Event.TheVariants.{Post, Give, Take, Divide, Dissolve}
 use Rattle.hlr_core.specs.declared.event.Reply.{Reply}
 use Rattle.hlr_core.specs.declared.event.Reply.TheVariants as reply
 use Rattle.hlr_core.specs.declared.order.Answer.{Answer}
@@ -21,6 +21,8 @@ abbrev pub is_on_rows : Event → Bool
 is_on_rows (Post part limit) = false
 is_on_rows (Give part side at) = false
 is_on_rows (Take piece part) = false
+is_on_rows (Divide part at) = false
+is_on_rows (Dissolve part) = false
 is_on_rows _ = true
 
 -- a refusal that speaks of where rows lie or of memory, and not of rows

@@ -8,7 +8,7 @@ use Rattle.hlr_core.specs.Later.{AreLater, with_seats}
 use Rattle.hlr_core.specs.Session.{IsDoneAt, IsJobOf}
 use Rattle.hlr_core.specs.Step.{IsStep, action_for}
 use Rattle.hlr_core.specs.declared.event.Event.{Event}
-use Rattle.hlr_core.specs.declared.event.Event.TheVariants.{AddSubscriber, SetNumber, Post, Give, Take}
+use Rattle.hlr_core.specs.declared.event.Event.TheVariants.{AddSubscriber, SetNumber, Post, Give, Take, Divide, Dissolve}
 use Rattle.hlr_core.specs.declared.event.Reply.{Reply}
 use Rattle.hlr_core.specs.declared.route.Route.{Route}
 use Rattle.hlr_core.specs.declared.route.Route.TheVariants.{Now, To, Here}
@@ -30,12 +30,14 @@ IsRightSent event h p job =
     (seats after : List Seat) (answer : Reply) → AreLater h.seats seats → IsDoneAt h.regions p job seats answer after
     → IsStep event (store_in (with_seats h seats)) answer (store_in (with_seats h after))
 
--- the event gives a number, or moves regions
+-- the event gives a number, moves regions, or has a part come or go
 abbrev pub is_here : Event → Bool
 is_here (AddSubscriber row) = true
 is_here (SetNumber s_id sub_nbr) = true
 is_here (Give part side at) = true
 is_here (Take piece part) = true
+is_here (Divide part at) = true
+is_here (Dissolve part) = true
 is_here _ = false
 
 -- a right route: the reply, a job of a part that is there, which the event asks for, or the register itself

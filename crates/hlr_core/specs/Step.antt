@@ -4,6 +4,8 @@ use Rattle.tatp_rows.specs.Rows.{SubscriberRow, is_between, is_start_time}
 use Rattle.tatp_rows.specs.declared.ranges.TheConstants.{LAST_SUBSCRIBER}
 use Rattle.tatp_rows.specs.declared.refusal.Refusal.{Refusal}
 use Rattle.tatp_rows.specs.declared.refusal.Refusal.TheVariants as refusal
+use Rattle.part_table.specs.Dissolve.{dissolve_answer}
+use Rattle.part_table.specs.Divide.{divide_answer}
 use Rattle.part_table.specs.Give.{give_answer, after_give}
 use Rattle.part_table.specs.Take.{take_answer, after_take}
 use Rattle.part_table.specs.declared.region.Side.{Side}
@@ -14,11 +16,12 @@ use Rattle.tatp_actions.specs.declared.action.Action.TheVariants as action
 use Rattle.tatp_actions.specs.declared.action.RowReply.{RowReply}
 use Rattle.tatp_actions.specs.declared.action.RowReply.TheVariants as row_reply
 use Rattle.hlr_owners.specs.Answered.{is_loose, MayAnswer}
+use Rattle.hlr_owners.specs.Parted.{IsDissolved, IsDivided}
 use Rattle.hlr_owners.specs.Posting.{IsPosting}
 use Rattle.hlr_owners.specs.Store.{Store, slots_of}
 use Rattle.hlr_core.specs.Numbers.{bearer_of, bearer_id}
 use Rattle.hlr_core.specs.declared.event.Event.{Event}
-use Rattle.hlr_core.specs.declared.event.Event.TheVariants.{SubscriberData, NewDestination, AccessData, UpdateSubscriber, UpdateLocation, InsertForwarding, DeleteForwarding, AddSubscriber, AddAccess, AddFacility, SetActive, SetNumber, Post, Give, Take}
+use Rattle.hlr_core.specs.declared.event.Event.TheVariants.{SubscriberData, NewDestination, AccessData, UpdateSubscriber, UpdateLocation, InsertForwarding, DeleteForwarding, AddSubscriber, AddAccess, AddFacility, SetActive, SetNumber, Post, Give, Take, Divide, Dissolve}
 use Rattle.hlr_core.specs.declared.event.Reply.{Reply}
 use Rattle.hlr_core.specs.declared.event.Reply.TheVariants as reply
 
@@ -163,9 +166,32 @@ IsTakeStep piece part before answer after =
     × MayAnswer (take_answer piece part before.regions) done × (answer ≡ taken_reply piece part done)
     × (after ≡ record before { regions = after_take piece part done before.regions })
 
+-- the reply of a divide, and of a dissolve
+abbrev pub divided_reply : Result (ℕ × ℕ × ℕ) Refusal → Reply
+divided_reply (Ok part) = reply.Divided part.0 part.1 part.2
+divided_reply (Err why) = reply.Refused why
+
+abbrev pub dissolved_reply : Result (ℕ × ℕ × ℕ) Refusal → Reply
+dissolved_reply (Ok part) = reply.Dissolved part.0 part.1 part.2
+dissolved_reply (Err why) = reply.Refused why
+
+-- a right step of a divide: it moves the regions, and gives the new part a slot
+abbrev pub IsDivideStep : ℕ → ℕ → Store → Reply → Store → Type 0
+IsDivideStep part at before answer after =
+    (done : Result (ℕ × ℕ × ℕ) Refusal)
+    × MayAnswer (divide_answer part at before.regions) done × (answer ≡ divided_reply done) × IsDivided part at done before after
+
+-- a right step of a dissolve: it moves the regions, takes back what the part has published, and frees its slot
+abbrev pub IsDissolveStep : ℕ → Store → Reply → Store → Type 0
+IsDissolveStep part before answer after =
+    (done : Result (ℕ × ℕ × ℕ) Refusal)
+    × MayAnswer (dissolve_answer part before.regions) done × (answer ≡ dissolved_reply done) × IsDissolved part done before after
+
 -- from one store, an event may have this reply and lead to that store
 abbrev pub IsStep : Event → Store → Reply → Store → Type 0
 IsStep (Post part limit) before answer after = IsPostStep (slots_of before part) part limit before answer after
 IsStep (Give part side at) before answer after = IsGiveStep part side at before answer after
 IsStep (Take piece part) before answer after = IsTakeStep piece part before answer after
+IsStep (Divide part at) before answer after = IsDivideStep part at before answer after
+IsStep (Dissolve part) before answer after = IsDissolveStep part before answer after
 IsStep event before answer after = IsAskedStep (action_for event before.book) before answer after

@@ -6,8 +6,9 @@ use part_table::Side;
 use tatp_actions::RowReply;
 use tatp_rows::{Access, Facility, Number, Refusal, Subscriber};
 
-/// An event: a transaction, an administrative command, a posting, a give or a take. Plain numbers are checked when the
-/// event is applied. `Moving` comes where the subscriber lies in a loose piece, before the rows are asked.
+/// An event: a transaction, an administrative command, a posting, a give or a take, or a part that comes or goes. Plain
+/// numbers are checked when the event is applied. `Moving` comes where the subscriber lies in a loose piece, before the
+/// rows are asked.
 #[derive(Clone, Copy, Debug, PartialEq, Eq)]
 pub enum Event {
     /// GET_SUBSCRIBER_DATA (TATP, section 3.1): `Field`, `Moving`, `NoSubscriber`.
@@ -120,6 +121,20 @@ pub enum Event {
         /// The part, from 0 on.
         part: u64,
     },
+    /// Divides a part at a subscriber: it keeps what is below, a new part with the next number has the rest, and later
+    /// parts' numbers rise by one: `NoPart`, `OutOfRange`, `ManyParts`, `Memory`.
+    Divide {
+        /// The part, from 0 on.
+        part: u64,
+        /// The first subscriber of the new part, strictly inside the part.
+        at: u64,
+    },
+    /// Dissolves a part: the part in front has its rows, what it has published is taken back, and later parts' numbers
+    /// fall by one: `NoPart`, `NotAdjacent` where it is the first part or a loose piece lies between, `Memory`.
+    Dissolve {
+        /// The part, from 0 on.
+        part: u64,
+    },
 }
 
 /// A register's reply to an event.
@@ -144,6 +159,24 @@ pub enum Reply {
         piece: u8,
         /// The part, 0..=15.
         part: u8,
+    },
+    /// A part was divided.
+    Divided {
+        /// The new part, 1..=15.
+        part: u8,
+        /// The first subscriber of the new part.
+        lo: u32,
+        /// The number behind its last subscriber.
+        hi: u32,
+    },
+    /// A part was dissolved.
+    Dissolved {
+        /// The part in front, which has its rows now, 0..=14.
+        part: u8,
+        /// The first subscriber of the part in front.
+        lo: u32,
+        /// The number behind its last subscriber.
+        hi: u32,
     },
     /// The event was refused.
     Refused(Refusal),

@@ -4,6 +4,8 @@
 //! the board by what is pending. So after each event every cell as published plus its delta not yet posted is
 //! that cell counted over the rows now, and nothing is scanned to answer either.
 //!
+//! A part can be divided and dissolved while the register runs, with 1 to 16 parts at any time.
+//!
 //! A register can be taken apart (`Register::scatter`), so that its owners work in threads of their own, and made anew
 //! of what comes home (`Register::gather`).
 #![tactic(auto)]

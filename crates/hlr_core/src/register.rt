@@ -1,5 +1,5 @@
 //! The register: all rows under one roof, no number twice, and every cell as published with what is not posted yet.
-ghost use Rattle.std.specs.Prelude.{◌≡◌, ℕ, [], vec_len, vec_capacity, ◌<◌, ◌↔◌, ◌⊎◌, true, None, IsTrue, IfOk, IfErr, OnErr, MatchResult, slice_index, slice_index_or, ◌+◌, ℤ, pos, ◌+ℤ◌};
+ghost use Rattle.std.specs.Prelude.{◌≡◌, ℕ, [], vec_len, vec_capacity, ◌<◌, ◌↔◌, ◌⊎◌, true, None, IsTrue, IfOk, IfErr, OnErr, MatchResult, slice_index, slice_index_or, ◌+◌, ◌-◌, ℤ, pos, ◌+ℤ◌};
 ghost use Rattle.view_board.specs.Desks.{with_view};
 ghost use Rattle.view_board.specs.Views.{looked};
 ghost use Rattle.tatp_actions.specs.Cell.{cell};
@@ -13,11 +13,11 @@ ghost use Rattle.hlr_owners.specs.Recut.{IsHomeToCut, IsRecut};
 ghost use Rattle.hlr_core.specs.Route.{is_here};
 ghost use Rattle.hlr_core.specs.Run.{IsOrderStep, IsRun};
 ghost use Rattle.hlr_core.specs.Gather.{IsRefusedWhole};
-ghost use Rattle.hlr_core.specs.Home.{IsHomeTo, IsSameHouse};
+ghost use Rattle.hlr_core.specs.Home.{IsHomeTo, IsHouseAfter, IsLaterDesk, IsSameHouse};
 ghost use Rattle.hlr_core.specs.Inside.Noted.{IsIndexed};
 ghost use Rattle.hlr_core.specs.Weights.{published_weights, counted_weights};
 ghost use Rattle.hlr_owners.specs.Scattered.{holdings_in, pieces_in, pending_together, MayBeGathered, IsSurveyed, misfit_of, store_from, store_by, AreOfRegions};
-ghost use Rattle.hlr_owners.specs.Seats.{AllHome, IsPartHome, book_in, holdings_seated, store_in, unposted};
+ghost use Rattle.hlr_owners.specs.Seats.{AllHome, IsHomeFrom, IsPartHome, book_in, holdings_seated, store_in, unposted};
 ghost use Rattle.hlr_core.specs.Step.{IsStep, edited_reply};
 ghost use Rattle.part_table.specs.Numbered.{numbered};
 ghost use Rattle.part_table.specs.Proposal.{proposal};
@@ -171,8 +171,8 @@ impl Register {
 
     /// Makes a register of parts, loose pieces and a frame, whatever was done to them: the regions are their ranges,
     /// numbered in key order, and the index is that of their rows. No row is counted. All desks, the frame's too, are
-    /// to be the frame's board's and to have each slot once, and what the frame's desk has published of each cell is to
-    /// be 0.
+    /// to be the frame's board's and to have each slot once, each holding's one, and each slot of the frame's desk is to
+    /// have published a net of 0 of each cell.
     ///
     /// `NoPart` where there is no holding or more than 16, `ManyPieces` where there are more than 16 pieces, `Field`
     /// where a width of zones isn't the frame's, `NotAdjacent` where the ranges leave a gap or overlap, `NumberTaken`
@@ -202,11 +202,12 @@ impl Register {
     }
 
     /// Applies an event, and replies to it. A refusal changes nothing; after `Worn` the cells posted before stand. An
-    /// event that gives a number or moves regions is right whatever jobs have done to the holdings that are out.
+    /// event that gives a number, moves regions, or has a part come or go is right whatever jobs have done to the
+    /// holdings that are out.
     pub fn apply(&mut self, event: Event) -> Reply
         requires { IsHomeTo event self.old }
         ensures step { IsStep event (store_in self.old) result (store_in self.new) }
-        ensures house { IsSameHouse self.old self.new }
+        ensures house { IsHouseAfter event result self.old self.new }
         ensures beside { is_here event ≡ true → IsStepBeside event self.old result self.new }
     {
         match event {
@@ -221,6 +222,8 @@ impl Register {
             Event::Post { part, limit } => self.post(part, limit),
             Event::Give { part, side, at } => self.give(part, side, at),
             Event::Take { piece, part } => self.take(piece, part),
+            Event::Divide { part, at } => self.divide(part, at),
+            Event::Dissolve { part } => self.dissolve(part),
             Event::UpdateSubscriber { .. }
             | Event::UpdateLocation { .. }
             | Event::InsertForwarding { .. }
@@ -278,22 +281,25 @@ impl Register {
             | Event::AccessData { .. }
             | Event::Post { .. }
             | Event::Give { .. }
-            | Event::Take { .. } => unreachable!(),
+            | Event::Take { .. }
+            | Event::Divide { .. }
+            | Event::Dissolve { .. } => unreachable!(),
         }
     }
 
     /// Carries orders out one after another, each an event or a re-cut, and gives their answers in order. `Memory`
     /// where the list of answers could not be reserved: then no order was carried out.
     ///
-    /// Gives, takes and re-cuts change no reply but `Moving`: begun where no piece is loose, the list without them,
-    /// without postings and without what was answered `Moving` or `Memory` has the same answers, and leaves the same
-    /// rows.
+    /// Gives, takes and re-cuts, and parts that come and go, change no reply but `Moving`: begun where no piece is
+    /// loose, the list without them, without postings and without what was answered `Moving` or `Memory` has the same
+    /// answers, and leaves the same rows.
     pub fn apply_all(&mut self, orders: &[Order]) -> Result<Vec<Answer>, Refusal>
         requires { AllHome self.old.seats }
         ensures ok { IfOk result (λ answers. IsRun orders.now (store_in self.old) answers.items (store_in self.new)) }
         ensures kept { IfOk result (λ answers. IsSameAtHome orders.now (book_in self.old.seats) answers.items (book_in self.new.seats)) }
         ensures err { OnErr result ((result ≡ Err Refusal.Memory) × (self.new ≡ self.old)) }
-        ensures house { IsSameHouse self.old self.new }
+        ensures home { AllHome self.new.seats }
+        ensures spare { IsLaterDesk self.old.spare self.new.spare }
     {
         // The borrow checker of the kit can push a reply only in a body that names each type inside it.
         let _inside: Option<RowReply> = None;
@@ -309,7 +315,8 @@ impl Register {
     fn carry_out(&mut self, order: &Order) -> Answer
         requires { AllHome self.old.seats }
         ensures step { IsOrderStep order.now (store_in self.old) result (store_in self.new) }
-        ensures house { IsSameHouse self.old self.new }
+        ensures home { AllHome self.new.seats }
+        ensures spare { IsLaterDesk self.old.spare self.new.spare }
     {
         match order {
             Order::Event(event) => Answer::Reply(self.apply(*event)),
@@ -440,6 +447,30 @@ impl Register {
                 piece: piece as u8,
                 part: part as u8,
             },
+            Err(why) => Reply::Refused(why),
+        }
+    }
+
+    fn divide(&mut self, part: u64, at: u64) -> Reply
+        requires { IsHomeFrom part self.old }
+        ensures step { IsStep (Event.Divide part at) (store_in self.old) result (store_in self.new) }
+        ensures house { IsHouseAfter (Event.Divide part at) result self.old self.new }
+        ensures beside { IsStepBeside (Event.Divide part at) self.old result self.new }
+    {
+        match self.seats.divide(part, at) {
+            Ok((part, lo, hi)) => Reply::Divided { part, lo, hi },
+            Err(why) => Reply::Refused(why),
+        }
+    }
+
+    fn dissolve(&mut self, part: u64) -> Reply
+        requires { IsHomeFrom (part - 1) self.old }
+        ensures step { IsStep (Event.Dissolve part) (store_in self.old) result (store_in self.new) }
+        ensures house { IsHouseAfter (Event.Dissolve part) result self.old self.new }
+        ensures beside { IsStepBeside (Event.Dissolve part) self.old result self.new }
+    {
+        match self.seats.dissolve(part) {
+            Ok((part, lo, hi)) => Reply::Dissolved { part, lo, hi },
             Err(why) => Reply::Refused(why),
         }
     }

@@ -29,7 +29,7 @@ pub enum Route {
     Now(Reply),
     /// To the holding of a part, as this job.
     To(u8, Job),
-    /// To the register itself: it gives a number, or moves regions.
+    /// To the register itself: it gives a number, moves regions, or has a part come or go.
     Here,
 }
 
@@ -99,7 +99,9 @@ impl Register {
             Event::AddSubscriber(_)
             | Event::SetNumber { .. }
             | Event::Give { .. }
-            | Event::Take { .. } => Route::Here,
+            | Event::Take { .. }
+            | Event::Divide { .. }
+            | Event::Dissolve { .. } => Route::Here,
             Event::SubscriberData { .. }
             | Event::NewDestination { .. }
             | Event::AccessData { .. }
@@ -206,7 +208,9 @@ impl Register {
             | Event::SetNumber { .. }
             | Event::Post { .. }
             | Event::Give { .. }
-            | Event::Take { .. } => unreachable!(),
+            | Event::Take { .. }
+            | Event::Divide { .. }
+            | Event::Dissolve { .. } => unreachable!(),
         }
     }
 }

@@ -20,6 +20,8 @@ ChangesRows (event.AccessData s_id ai_type) = ⊥
 ChangesRows (event.Post part limit) = ⊥
 ChangesRows (event.Give part side at) = ⊥
 ChangesRows (event.Take piece part) = ⊥
+ChangesRows (event.Divide part at) = ⊥
+ChangesRows (event.Dissolve part) = ⊥
 ChangesRows change = ⊤
 
 -- an action on the rows of one of all subscribers, that gives no number

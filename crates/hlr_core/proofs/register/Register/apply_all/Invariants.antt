@@ -1,13 +1,14 @@
 use Rattle.std.proofs.Common.{◌≡◌, take, length, vec_len, vec_capacity}
-use Rattle.hlr_owners.specs.Seats.{store_in}
-use Rattle.hlr_core.specs.Home.{IsSameHouse}
+use Rattle.hlr_owners.specs.Seats.{AllHome, store_in}
+use Rattle.hlr_core.specs.Home.{IsLaterDesk}
 use Rattle.hlr_core.specs.Run.{IsRun}
 use Rattle.hlr_core.proofs.register.Register.apply_all.Given as goal
 
 abbrev pub invariant-loop-order : goal.invariant-loop-order
 invariant-loop-order l = record {
   run : IsRun (take l.order-index l.orders) (store_in l.initial.self) l.answers.items (store_in l.self);
-  house : IsSameHouse l.initial.self l.self;
+  home : AllHome l.self.seats;
+  spare : IsLaterDesk l.initial.self.spare l.self.spare;
   so_far : vec_len l.answers ≡ l.order-index;
   room : vec_capacity l.answers ≡ length l.orders;
 }
