@@ -18,12 +18,12 @@ use tatp_rows::{Number, Refusal, Subscriber};
 use view_board::{Board, Desk, LIMIT, WORDS};
 
 /// The cells of area 1 and of zone 1.
-const AREA: u8 = FIRST_AREA + 1;
+pub const AREA: u8 = FIRST_AREA + 1;
 
-const ZONE: u8 = FIRST_ZONE + 1;
+pub const ZONE: u8 = FIRST_ZONE + 1;
 
 /// What is published and what is pending of the cells of area 1 and zone 1, and their counts.
-type Counts = ([i128; 2], [i64; 2], [u64; 2]);
+pub type Counts = ([i128; 2], [i64; 2], [u64; 2]);
 
 /// Whether what a desk has published of each cell is small.
 fn has_small_nets(desk: &Desk) -> bool
@@ -39,7 +39,7 @@ fn has_small_nets(desk: &Desk) -> bool
 }
 
 /// A board of these words; where a growth was refused, at the second try.
-fn board_of(alloc: Global, words: &[u64; WORDS]) -> Result<(Board, Desk), Refusal>
+pub fn board_of(alloc: Global, words: &[u64; WORDS]) -> Result<(Board, Desk), Refusal>
     ensures { IfOk result (λ opened. (opened.1.board ≡ opened.0) × (opened.1.view ≡ first_view words.now)) }
 {
     match Board::open(alloc, words) {
@@ -49,7 +49,7 @@ fn board_of(alloc: Global, words: &[u64; WORDS]) -> Result<(Board, Desk), Refusa
 }
 
 /// A holding of a range, in zones of 4, over a desk that owns one of the first slots.
-fn opened(rt: &impl Abort, alloc: Global, lo: u32, hi: u32, desk: Desk) -> Holding
+pub fn opened(rt: &impl Abort, alloc: Global, lo: u32, hi: u32, desk: Desk) -> Holding
     ensures { result.desk ≡ desk }
 {
     assert!(rt; 1 <= lo && lo < hi && hi <= 16_777_217);
@@ -69,7 +69,7 @@ fn row(s_id: u64) -> Result<Subscriber, Refusal> {
 
 /// Adds a subscriber, at the second try where a growth was refused, with all as it stood. `None` where it isn't of the
 /// part, or something changed.
-fn add(holding: &mut Holding, number: u64) -> Option<RowReply>
+pub fn add(holding: &mut Holding, number: u64) -> Option<RowReply>
     ensures { holding.new.desk ≡ holding.old.desk }
 {
     let row = row(number).ok()?;
@@ -89,7 +89,7 @@ fn add(holding: &mut Holding, number: u64) -> Option<RowReply>
 }
 
 /// What stays where a holding refuses: its range, and what is published, counted, and of area 1 and zone 1 pending.
-fn standing(holding: &Holding) -> ([u32; 2], [i128; CELLS as usize], Cells, Counts) {
+pub fn standing(holding: &Holding) -> ([u32; 2], [i128; CELLS as usize], Cells, Counts) {
     let range = [holding.lo(), holding.hi()];
     (range, holding.nets(), holding.recount(), counts(holding))
 }
@@ -128,7 +128,7 @@ fn take(holding: &mut Holding, piece: Box<Piece>) -> Option<(Refusal, Box<Piece>
 }
 
 /// What is published, what is pending and what is counted of area 1 and zone 1.
-fn counts(holding: &Holding) -> Counts {
+pub fn counts(holding: &Holding) -> Counts {
     let all = holding.recount();
     (
         [holding.net(AREA), holding.nets()[usize::from(ZONE)]],
@@ -265,7 +265,7 @@ fn pieces_are_given_and_taken(rt: HostRuntime) -> Result<(), Fail> {
 }
 
 /// A slot split off; where a growth was refused, at the second try.
-fn split_off(board: &Board, desk: &mut Desk, slot: u8) -> Result<Desk, Refusal>
+pub fn split_off(board: &Board, desk: &mut Desk, slot: u8) -> Result<Desk, Refusal>
     requires board { desk.old.board ≡ board.now }
     requires own { Owns desk.old.view slot }
     ensures { IfOk result (λ new. (new ≡ with_view desk.old (alone desk.old.view slot)) × (desk.new ≡ with_view desk.old (without desk.old.view slot))) }

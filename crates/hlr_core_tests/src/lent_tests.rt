@@ -3,6 +3,7 @@ ghost use Rattle.std.specs.Prelude.{◌≡◌, Some, false};
 ghost use Rattle.hlr_core.specs.Later.{IsBackWith};
 ghost use Rattle.hlr_owners.specs.declared.lodging.Seat.TheVariants as seat;
 
+use crate::parting_tests::{dissolving, dividing};
 use crate::region_tests::{giving, has_regions, region, sees, taking};
 use crate::tests::{
     ALL_CELLS, AREA_1, DONE, FIELD, MOVING, NO_NUMBER, NO_PART, access_row, facility_row, moved,
@@ -204,7 +205,8 @@ fn expect_routes(rt: &impl Abort, register: &Register) {
     assert_eq!(rt; routes, want);
 }
 
-/// Asserts where events go there that add rows, switch a facility, give numbers, or move regions.
+/// Asserts where events go there that add rows, switch a facility, give numbers, move regions, or have a part come or
+/// go.
 fn expect_more_routes(rt: &impl Abort, register: &Register) {
     let (access, facility) = (
         access_row(3, 1, 7).expect(rt, "a row"),
@@ -223,6 +225,8 @@ fn expect_more_routes(rt: &impl Abort, register: &Register) {
         register.route(&Event::SetNumber { s_id, sub_nbr }),
         register.route(&giving(1, 100)),
         register.route(&taking(1, 0)),
+        register.route(&dividing(1, 100)),
+        register.route(&dissolving(7)),
     ];
     let switching = Action::SetActive {
         s_id: 3,
@@ -233,6 +237,8 @@ fn expect_more_routes(rt: &impl Abort, register: &Register) {
         Route::To(0, Job::Act(Action::AddAccess(access))),
         Route::To(0, Job::Act(Action::AddFacility(facility))),
         Route::To(0, Job::Act(switching)),
+        Route::Here,
+        Route::Here,
         Route::Here,
         Route::Here,
         Route::Here,

@@ -7,11 +7,17 @@ mod call_tests;
 #[cfg(test)]
 mod gather_tests;
 #[cfg(test)]
+mod holding_parting_tests;
+#[cfg(test)]
 mod holding_tests;
 #[cfg(test)]
 mod lent_tests;
 #[cfg(test)]
+mod parting_tests;
+#[cfg(test)]
 mod plain;
+#[cfg(test)]
+mod plain_board;
 #[cfg(test)]
 mod plain_regions;
 #[cfg(test)]

@@ -1,5 +1,6 @@
 //! A plain register of forty subscribers, for tests: all rows in arrays, a map of numbers beside them, counts that are
-//! taken anew each time, and the regions by a plain list.
+//! taken anew each time, the regions by a plain list, and a plain board.
+use crate::plain_board::PlainBoard;
 use crate::plain_regions::PlainRegions;
 use crate::tests::{
     DONE, EXISTS, FIELD, MEMORY, MOVING, NO_ACCESS, NO_DESTINATION, NO_FACILITY, NO_FORWARDING,
@@ -22,7 +23,7 @@ pub struct Plain {
     forwardings: [Option<Forwarding>; 480],
     bearers: [Option<u32>; 50],
     regions: PlainRegions,
-    posted: [[i64; CELLS as usize]; 16],
+    board: PlainBoard,
 }
 
 /// Whether a value is in a range.
@@ -109,7 +110,7 @@ impl Plain {
             forwardings: [None; 480],
             bearers: [None; 50],
             regions: PlainRegions::opening(parts, width),
-            posted: [[0; CELLS as usize]; 16],
+            board: PlainBoard::opening(parts),
         }
     }
 
@@ -223,15 +224,9 @@ impl Plain {
         }
     }
 
-    /// The cells as published by all parts.
-    fn published(&self) -> [i64; CELLS as usize] {
-        let mut sums = [0i64; CELLS as usize];
-        for cells in &self.posted {
-            for (sum, cell) in sums.iter_mut().zip(cells.iter()) {
-                *sum = sum.wrapping_add(*cell);
-            }
-        }
-        sums
+    /// The cells as a part has published them.
+    pub fn published_by(&self, part: u64) -> [i64; CELLS as usize] {
+        self.board.published_by(part)
     }
 
     /// The regions.
@@ -486,17 +481,33 @@ impl Plain {
             return NO_PART;
         };
         let counted = self.counted(lo, hi);
-        let Some(cells) = self.posted.get_mut(part as usize) else {
-            return NO_PART;
-        };
+        let published = self.board.published_by(part);
         let mut posted = 0u8;
-        for (count, cell) in counted.iter().zip(cells.iter_mut()) {
-            if *count != *cell && u64::from(posted) < limit {
-                *cell = *count;
+        for (cell, (count, net)) in counted.iter().zip(published.iter()).enumerate() {
+            if *count != *net && u64::from(posted) < limit {
+                self.board.post(part, cell, count.wrapping_sub(*net));
                 posted = posted.wrapping_add(1);
             }
         }
         Reply::Posted(posted)
+    }
+
+    /// Divides a part, and gives the new one a slot.
+    fn divide(&mut self, part: u64, at: u64) -> Reply {
+        let reply = self.regions.divide(part, at);
+        if matches!(reply, Reply::Divided { .. }) {
+            self.board.divide(part);
+        }
+        reply
+    }
+
+    /// Dissolves a part, and takes back what it has posted.
+    fn dissolve(&mut self, part: u64) -> Reply {
+        let reply = self.regions.dissolve(part);
+        if matches!(reply, Reply::Dissolved { .. }) {
+            self.board.dissolve(part);
+        }
+        reply
     }
 
     /// Applies an event, and replies to it.
@@ -544,6 +555,8 @@ impl Plain {
             Event::Post { part, limit } => self.post(part, limit),
             Event::Give { part, side, at } => self.regions.give(part, side, at),
             Event::Take { piece, part } => self.regions.take(piece, part),
+            Event::Divide { part, at } => self.divide(part, at),
+            Event::Dissolve { part } => self.dissolve(part),
         }
     }
 
@@ -562,11 +575,11 @@ impl Plain {
         index.len() == pairs
     }
 
-    /// Whether a register has these cells, published, posted or not and counted over the rows, these numbers and these
-    /// regions.
-    pub fn agrees(&self, register: &Register) -> bool {
+    /// Whether a register has these cells, published, posted or not and counted over the rows, these words, these
+    /// numbers and these regions.
+    pub fn agrees(&self, register: &mut Register) -> bool {
         let counted = self.counted(1, 16_777_217);
-        let cells = self.published();
+        let cells = self.board.published();
         let mut rest = counted;
         for (count, cell) in rest.iter_mut().zip(cells.iter()) {
             *count = count.wrapping_sub(*cell);
@@ -574,6 +587,8 @@ impl Plain {
         published(register) == cells
             && unposted(register) == rest
             && are_counts(recounted(register), &counted)
+            && self.board.is_level()
+            && self.board.is_seen(&register.look())
             && self.has_pairs_of(register.index())
             && self.regions.list() == register.regions().list()
     }

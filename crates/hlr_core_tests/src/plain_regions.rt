@@ -1,5 +1,5 @@
-//! Plain regions, for tests: a list that each give and take makes anew.
-use crate::tests::{MANY_PIECES, NO_PART, NO_PIECE, NOT_ADJACENT, OUT_OF_RANGE};
+//! Plain regions, for tests: a list that each event on them makes anew.
+use crate::tests::{MANY_PARTS, MANY_PIECES, NO_PART, NO_PIECE, NOT_ADJACENT, OUT_OF_RANGE};
 use arrayvec::ArrayVec;
 use hlr_core::Reply;
 use part_table::{Place, Region, Side};
@@ -181,6 +181,75 @@ impl PlainRegions {
         }
         self.list = list;
         Reply::Taken { piece, part }
+    }
+
+    /// Numbers the parts in their order.
+    fn number_parts(&mut self) {
+        let mut number = 0u8;
+        for region in self.list.iter_mut() {
+            if let Place::Part(part) = &mut region.place {
+                *part = number;
+                number = number.wrapping_add(1);
+            }
+        }
+    }
+
+    /// Cuts the region of a part in two, of which the second is that of a new part.
+    pub fn divide(&mut self, part: u64, at: u64) -> Reply {
+        let Some((lo, hi)) = self.range_of(part) else {
+            return NO_PART;
+        };
+        if at <= u64::from(lo) || u64::from(hi) <= at {
+            return OUT_OF_RANGE;
+        }
+        if self.parts() == 16 {
+            return MANY_PARTS;
+        }
+        let bound = at as u32;
+        let mut list = ArrayVec::new();
+        for region in self.list() {
+            if region.lo == lo {
+                append(&mut list, lo, bound, region.place);
+                append(&mut list, bound, hi, region.place);
+            } else {
+                append(&mut list, region.lo, region.hi, region.place);
+            }
+        }
+        self.list = list;
+        self.number_parts();
+        Reply::Divided {
+            part: part.min(15) as u8 + 1,
+            lo: bound,
+            hi,
+        }
+    }
+
+    /// Makes one region of that of a part and that of the part in front of it.
+    pub fn dissolve(&mut self, part: u64) -> Reply {
+        let Some((_, hi)) = self.range_of(part) else {
+            return NO_PART;
+        };
+        let Some((lo, front_hi)) = self.range_of(part.wrapping_sub(1)) else {
+            return NOT_ADJACENT;
+        };
+        if self.range_of(part) != Some((front_hi, hi)) {
+            return NOT_ADJACENT;
+        }
+        let mut list = ArrayVec::new();
+        for region in self.list() {
+            if region.lo == lo {
+                append(&mut list, lo, hi, region.place);
+            } else if region.lo != front_hi {
+                append(&mut list, region.lo, region.hi, region.place);
+            }
+        }
+        self.list = list;
+        self.number_parts();
+        Reply::Dissolved {
+            part: (part.min(15) as u8).wrapping_sub(1),
+            lo,
+            hi,
+        }
     }
 
     /// Moves the bounds between parts to these, and tells how many moved.

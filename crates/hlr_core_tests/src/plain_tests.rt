@@ -42,7 +42,7 @@ impl Draws {
     }
 
     /// One of so many numbers from 0 on.
-    fn below(&mut self, count: u64) -> u64 {
+    pub fn below(&mut self, count: u64) -> u64 {
         self.next() % count.max(1)
     }
 
@@ -182,7 +182,7 @@ impl Draws {
     }
 
     /// A posting, now and then to a part that is not there.
-    fn posting(&mut self, plain: &Plain) -> Event {
+    pub fn posting(&mut self, plain: &Plain) -> Event {
         Event::Post {
             part: self.below(plain.regions().parts().wrapping_add(1)),
             limit: self.below(u64::from(CELLS) + 9),
@@ -239,6 +239,35 @@ impl Draws {
         taking
     }
 
+    /// A divide of a part, mostly among the forty subscribers, now and then at one of its ends, or of no part.
+    pub fn dividing(&mut self, plain: &Plain) -> Event {
+        let part = self.below(plain.regions().parts().wrapping_add(1));
+        let (lo, hi) = plain.regions().range_of(part).unwrap_or((1, 1));
+        let (lo, hi) = (u64::from(lo), u64::from(hi).min(self.last()));
+        let count = hi.saturating_sub(lo).wrapping_add(1);
+        Event::Divide {
+            part,
+            at: lo.wrapping_add(self.below(count)),
+        }
+    }
+
+    /// A dissolve of a part, now and then of the first one, or of no part.
+    fn dissolving(&mut self, plain: &Plain) -> Event {
+        Event::Dissolve {
+            part: self.below(plain.regions().parts().wrapping_add(1)),
+        }
+    }
+
+    /// A part that comes or goes: in each first stretch of 2,048 draws more of them come, in each second one more go.
+    fn parting(&mut self, plain: &Plain) -> Event {
+        let more_come = self.drawn % 4096 < 2048;
+        if more_come == (self.next() % 8 != 0) {
+            self.dividing(plain)
+        } else {
+            self.dissolving(plain)
+        }
+    }
+
     /// Bounds for as many parts as there are, now and then such as don't fit.
     fn bounds(&mut self, plain: &Plain) -> ArrayVec<u64, 16> {
         let mut bounds = ArrayVec::new();
@@ -257,7 +286,7 @@ impl Draws {
     }
 
     /// An event on rows.
-    fn row_event(&mut self) -> Result<Event, Refusal> {
+    pub fn row_event(&mut self) -> Result<Event, Refusal> {
         match self.next() % 15 {
             0..=3 => Ok(self.read()),
             4..=6 => self.addition(),
@@ -275,13 +304,14 @@ impl Draws {
             0 | 1 => Ok(self.posting(plain)),
             2..=4 if gives => Ok(self.giving(plain)),
             2..=4 => Ok(self.taking(plain)),
+            5 | 6 => Ok(self.parting(plain)),
             _ => self.row_event(),
         }
     }
 }
 
 /// Each kind of event with each kind of reply that it has.
-const KINDS: [(&str, &str); 71] = [
+const KINDS: [(&str, &str); 78] = [
     ("SubscriberData", "Field"),
     ("SubscriberData", "Moving"),
     ("SubscriberData", "NoSubscriber"),
@@ -350,6 +380,13 @@ const KINDS: [(&str, &str); 71] = [
     ("Take", "NoPart"),
     ("Take", "NotAdjacent"),
     ("Take", "Taken"),
+    ("Divide", "NoPart"),
+    ("Divide", "OutOfRange"),
+    ("Divide", "ManyParts"),
+    ("Divide", "Divided"),
+    ("Dissolve", "NoPart"),
+    ("Dissolve", "NotAdjacent"),
+    ("Dissolve", "Dissolved"),
     ("recut", "Field"),
     ("recut", "Moving"),
     ("recut", "Ok"),
@@ -390,6 +427,8 @@ fn event_kind(plain: &Plain, event: &Event) -> &'static str {
         Event::Post { .. } => "Post",
         Event::Give { .. } => "Give",
         Event::Take { .. } => "Take",
+        Event::Divide { .. } => "Divide",
+        Event::Dissolve { .. } => "Dissolve",
     }
 }
 
@@ -399,6 +438,8 @@ fn reply_kind(reply: &Reply) -> &'static str {
         Reply::Posted(_) => "Posted",
         Reply::Given { .. } => "Given",
         Reply::Taken { .. } => "Taken",
+        Reply::Divided { .. } => "Divided",
+        Reply::Dissolved { .. } => "Dissolved",
         Reply::Refused(why) => why.name(),
         Reply::Rows(RowReply::Done) => "Done",
         Reply::Rows(RowReply::Row(_)) => "Row",
@@ -441,7 +482,7 @@ impl Tally {
     }
 }
 
-/// A register of several parts, one of a single part that is given the events on rows alone, and the plain one.
+/// A register whose parts come and go, one of a single part that is given the events on rows alone, and the plain one.
 #[derive(Drop)]
 struct Trio {
     register: Register,
@@ -453,7 +494,11 @@ struct Trio {
 fn is_on_rows(event: &Event) -> bool {
     !matches!(
         event,
-        Event::Post { .. } | Event::Give { .. } | Event::Take { .. }
+        Event::Post { .. }
+            | Event::Give { .. }
+            | Event::Take { .. }
+            | Event::Divide { .. }
+            | Event::Dissolve { .. }
     )
 }
 
@@ -487,12 +532,13 @@ impl Trio {
         };
         tally.note("recut", kind)
             && recut(&mut self.register, bounds) == want
-            && self.plain.agrees(&self.register)
+            && self.plain.agrees(&mut self.register)
     }
 
     /// Whether the register agrees with the plain one, and its counts with those of the single part.
-    fn agrees(&self) -> bool {
-        self.plain.agrees(&self.register) && recounted(&self.register) == recounted(&self.undivided)
+    fn agrees(&mut self) -> bool {
+        self.plain.agrees(&mut self.register)
+            && recounted(&self.register) == recounted(&self.undivided)
     }
 
     /// Applies drawn events, and a re-cut now and then; tells the first step at which they differ, if there is one.

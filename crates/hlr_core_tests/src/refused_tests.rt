@@ -2,6 +2,7 @@
 use crate::call_tests::answers_so;
 use crate::gather_tests::{apart, gathered};
 use crate::lent_tests::works_outside;
+use crate::parting_tests::{are_added, dissolved, dissolving, divided, dividing};
 use crate::plain::Plain;
 use crate::plain_tests::Draws;
 use crate::region_tests::{giving, has_regions, proposes, region, scans, sees};
@@ -224,4 +225,29 @@ fn calls_without_memory(rt: HostRuntime) {
     let is_refused = is_all_refused(rt.alloc());
     expect_calls(&rt, &mut register, is_refused);
     expect_apart(&rt, rt.alloc(), register, is_refused);
+}
+
+/// Asserts that in a register with many rows in two parts none comes or goes where all memory is refused, when all
+/// stays as it was, and else that both do.
+fn expect_parts(rt: &impl Abort, register: &mut Register, is_refused: bool) {
+    let (come, gone) = if is_refused {
+        (MEMORY, MEMORY)
+    } else {
+        (divided(1, 20, 60), dissolved(0, 1, 60))
+    };
+    let comes = replies(register, dividing(0, 20), come);
+    let goes = replies(register, dissolving(1), gone);
+    assert_eq!(rt; (comes, goes), (true, true));
+}
+
+// Run with all memory refused once the register is filled (`refuse_memory.sh`).
+#[test]
+fn parts_without_memory(rt: HostRuntime) {
+    let mut register = opened(rt.alloc(), 1, 4).expect(&rt, "a register");
+    let are_added = are_added(&rt, &mut register, 100);
+    let comes = replies(&mut register, dividing(0, 60), divided(1, 60, END));
+    let is_refused = is_all_refused(rt.alloc());
+    expect_parts(&rt, &mut register, is_refused);
+    drop(register);
+    assert_eq!(rt; (are_added, comes), (true, true));
 }

@@ -8,6 +8,7 @@ use std::process::Abort;
 use std::test::Fail;
 use tatp_actions::{CELLS, Cells, FIRST_AREA, FIRST_ZONE, RowReply};
 use tatp_rows::{Access, Facility, Letters, Number, Refusal, Subscriber};
+use view_board::WORDS;
 
 pub const DONE: Reply = Reply::Rows(RowReply::Done);
 
@@ -42,6 +43,8 @@ pub const OUT_OF_RANGE: Reply = Reply::Refused(Refusal::OutOfRange);
 pub const NOT_ADJACENT: Reply = Reply::Refused(Refusal::NotAdjacent);
 
 pub const MANY_PIECES: Reply = Reply::Refused(Refusal::ManyPieces);
+
+pub const MANY_PARTS: Reply = Reply::Refused(Refusal::ManyParts);
 
 /// The limit of a posting of all cells.
 pub const ALL_CELLS: u64 = CELLS as u64;
@@ -181,10 +184,11 @@ pub fn stands_by_hour(
         && unposted(register) == counts(pending.0, pending.1)
 }
 
-/// What a register shows of its regions, of a subscriber and of numbers.
+/// What a register shows of its regions, of its words, of a subscriber and of numbers.
 #[derive(PartialEq, Drop)]
 struct Standing {
     regions: ArrayVec<Region, 32>,
+    words: [u64; WORDS],
     published: [i64; CELLS as usize],
     unposted: [i64; CELLS as usize],
     counted: Option<Cells>,
@@ -227,7 +231,19 @@ fn first_of_piece(register: &Register, piece: u64) -> Option<u64> {
     None
 }
 
-/// The subscriber of an event that may want memory, or of a piece the first one, and the number that it names.
+/// The first subscriber of a part.
+fn first_of_part(register: &Register, part: u64) -> Option<u64> {
+    let regions = register.regions();
+    for region in regions.list() {
+        if matches!(region.place, Place::Part(p) if u64::from(p) == part) {
+            return Some(u64::from(region.lo));
+        }
+    }
+    None
+}
+
+/// The subscriber of an event that may want memory, or of a piece or a part the first one, and the number that it
+/// names.
 fn subject(register: &Register, event: &Event) -> Option<(u64, Option<Number>)> {
     match *event {
         Event::AddSubscriber(row) => Some((u64::from(row.s_id()), Some(row.sub_nbr()))),
@@ -240,18 +256,30 @@ fn subject(register: &Register, event: &Event) -> Option<(u64, Option<Number>)> 
         Event::SetNumber { s_id, sub_nbr } => Some((s_id, Some(sub_nbr))),
         Event::Give { at, .. } => Some((at, None)),
         Event::Take { piece, .. } => Some((first_of_piece(register, piece)?, None)),
+        Event::Divide { at, .. } => Some((at, None)),
+        Event::Dissolve { part } => Some((first_of_part(register, part)?, None)),
         _ => None,
     }
 }
 
-/// What a register shows around an event that may want memory: its regions, its cells and their counts, the row of the
-/// subscriber and who has its number, who has the number that the event names, and how many numbers there are.
+/// The words of a register, where an event has a part come or go; else they aren't looked at.
+fn words_around(register: &mut Register, event: &Event) -> [u64; WORDS] {
+    match event {
+        Event::Divide { .. } | Event::Dissolve { .. } => register.look().words,
+        _ => [0; WORDS],
+    }
+}
+
+/// What a register shows around an event that may want memory: its regions, its words, its cells and their counts, the
+/// row of the subscriber and who has its number, who has the number that the event names, and how many numbers there
+/// are.
 fn shown(register: &mut Register, event: &Event) -> Option<Standing> {
     let (s_id, named) = subject(register, event)?;
     let row = ask(register, read(s_id));
     let own = number_read(&row);
     Some(Standing {
         regions: regions_of(register),
+        words: words_around(register, event),
         published: published(register),
         unposted: unposted(register),
         counted: recounted(register),
