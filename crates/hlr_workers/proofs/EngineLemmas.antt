@@ -1,5 +1,5 @@
 -- The moves of an engine: where it stands after each.
-use Rattle.std.proofs.Common.{◌≡◌, ◌∙◌, refl, sym, ap, subst, ℕ, zero, suc, ◌+◌, ◌<◌, ◌≤◌, List, [], ◌∷◌, ◌++◌, length, get_or, set, arith, true, false, Bool, Some, None, inl, inr}
+use Rattle.std.proofs.Common.{◌≡◌, ◌∙◌, refl, sym, ap, subst, ℕ, zero, suc, ◌+◌, ◌<◌, ◌≤◌, List, [], ◌∷◌, ◌++◌, length, get_or, set, drop, arith, true, false, Bool, Some, None, inl, inr}
 use Rattle.std.specs.Prelude.{Option, Result, Ok, Err, slice_get, if◌then◌else◌, ◌-◌, ◌⊎◌}
 use Rattle.std.specs.List.{AllByRecursion}
 use Rattle.std.proofs.lemmas.List.{get_or_default, get_or_past, length-set, set-get_or, set-set}
@@ -40,13 +40,15 @@ use Rattle.hlr_core.specs.Step.{IsStep}
 use Rattle.hlr_core.specs.declared.event.Event.{Event}
 use Rattle.hlr_core.specs.declared.event.Reply.{Reply}
 use Rattle.hlr_core.proofs.LaterLemmas.{all_later_after, all_later_self, all_seated_later, put_later}
-use Rattle.hlr_workers.specs.Inside.{AllNumberless, AreIdle, Crewed, IsHomeAgain, IsKept, IsOut, IsSentTo, NoneOut, engaged, land}
+use Rattle.hlr_workers.specs.Inside.{AllNumberless, AreIdle, Crewed, IsBehind, IsHomeAgain, IsKept, IsOut, IsParted, IsSentTo, NoneOut, Parting, engaged, land, parted, parting_of}
+use Rattle.hlr_workers.specs.Relay.{nothing}
 use Rattle.hlr_workers.specs.Session.{AreNumberless}
 use Rattle.hlr_workers.specs.Standing.{AreEnds, Cut, IsAsBefore, IsSettled, Stands, Took, TookNext, answers_by, answers_with, orders_of, store_at}
 use Rattle.hlr_workers.proofs.CrewLemmas.{as_homes, lent_outs, numberless_of, out_part}
-use Rattle.hlr_workers.proofs.HouseLemmas.{IsPartAt, ends_later, out_done, out_ends, out_seats, part_at, seat_store}
+use Rattle.hlr_workers.proofs.HouseLemmas.{IsPartAt, ends_later, out_done, out_ends, out_seats, part_at, seat_store, with_outs_same}
+use Rattle.hlr_workers.proofs.PartingLemmas.{all_parted, ends_alike, ends_parted, numbered_parted, order_parted, parted_long, undone}
 use Rattle.hlr_workers.proofs.SessionLemmas.{numberless_more}
-use Rattle.hlr_workers.proofs.StandingLemmas.{CameHome, came_home, get_there, land-length, leads_back, leads_cut, leads_lent, leads_new, leads_sent, leads_settled, leads_told, order_new, order_sent, order_told}
+use Rattle.hlr_workers.proofs.StandingLemmas.{CameHome, came_home, ends_long, get_there, land-length, leads_back, leads_cut, leads_lent, leads_new, leads_sent, leads_settled, leads_told, order_new, order_sent, order_told}
 use Rattle.hlr_workers.proofs.UnseenLemmas.{recut_unseen, seen_as, step_unseen}
 
 -- jobs of all parts that give no number, with those of one part changed
@@ -83,7 +85,8 @@ module _ (h : Seating) (are : AreSeated h) (p i : ℕ) (l : Lodged) (at : IsPart
 module _ (crew : Crewed) (replies : List (ℕ × Reply)) (kept : IsKept crew replies) where
   pub now_took : (event : Event) (r : Reply) → IsRightNow event crew.house r → TookNext (Took event) (engaged crew replies) (engaged crew (replies ++ (length replies, r) ∷ []))
   now_took event r right = λ start asked stands.
-      leads_told (outs_in crew.house.seats) crew.jobs replies kept.order (store_at start crew.house) (store_at start crew.house) start asked event r
+      leads_told (outs_in crew.house.seats) crew.jobs replies kept.order (store_at start crew.house) (store_at start crew.house) start asked
+      (outs_in crew.house.seats) crew.jobs (λ ends. ends) (λ k. refl) (λ reply ends are. are) event r
       (λ reply ends are.
       let later = ends_later reply crew.house.seats crew.jobs ends kept.none are in
       step_unseen start.sight event (store_in (beside crew.house ends)) r (store_in (beside crew.house ends)) (right (with_outs crew.house.seats ends) later)) stands
@@ -91,16 +94,8 @@ module _ (crew : Crewed) (replies : List (ℕ × Reply)) (kept : IsKept crew rep
   pub now_kept : (r : Reply) → IsKept crew (replies ++ (length replies, r) ∷ [])
   now_kept r = record { paired = kept.paired; none = kept.none; order = order_told (outs_in crew.house.seats) crew.jobs replies kept.order r }
 
-  -- the register itself did an event, or moved bounds
+  -- the register itself moved bounds
   module _ (after : Crewed) (house : IsSameHouse crew.house after.house) (jobs : after.jobs ≡ crew.jobs) where
-    pub here_took : (event : Event) (r : Reply) → IsStepBeside event crew.house r after.house → TookNext (Took event) (engaged crew replies) (engaged after (replies ++ (length replies, r) ∷ []))
-    here_took event r right = λ start asked stands.
-        rw (jobs, house.outs)
-        (leads_told (outs_in crew.house.seats) crew.jobs replies kept.order (store_at start crew.house) (store_at start after.house) start asked event r
-        (λ reply ends are.
-        let later = ends_later reply crew.house.seats crew.jobs ends kept.none are in
-        step_unseen start.sight event (store_in (beside crew.house ends)) r (store_in (beside after.house ends)) (right ends later)) stands)
-
     pub cut_took : (bounds : List ℕ) (done : Result ℕ Refusal) → IsRecutBeside bounds crew.house done after.house → TookNext (Cut bounds done) (engaged crew replies) (engaged after replies)
     cut_took bounds done right = λ start asked stands.
         rw (jobs, house.outs)
@@ -114,6 +109,38 @@ module _ (crew : Crewed) (replies : List (ℕ × Reply)) (kept : IsKept crew rep
       paired = rw (jobs, house.outs) kept.paired;
       none = rw jobs kept.none;
       order = rw jobs kept.order;
+    }
+
+  -- the register itself did an event
+  module _ (after : Crewed) (told : Parting) (is : IsParted told crew after) where
+    pub here_took : (event : Event) (r : Reply) → IsStepBeside event crew.house r after.house → TookNext (Took event) (engaged crew replies) (engaged after (replies ++ (length replies, r) ∷ []))
+    here_took event r right = λ start asked stands.
+        rw (is.jobs, is.outs)
+        (leads_told (outs_in crew.house.seats) crew.jobs replies kept.order (store_at start crew.house) (store_at start after.house) start asked
+        (parted told None (outs_in crew.house.seats)) (parted told [] crew.jobs) back (λ k. numbered_parted k told crew.jobs idle) ends_back event r
+        (λ reply ends are.
+        let later = ends_later reply crew.house.seats crew.jobs (back ends) kept.none (ends_back reply ends are) in
+        let long = ends_long reply (parted told None (outs_in crew.house.seats)) (parted told [] crew.jobs) ends are in
+        step_unseen start.sight event (store_in (beside crew.house (back ends))) r (store_in (beside after.house ends))
+        (subst (λ (seats : List Seat). IsStep event (store_in (beside crew.house (back ends))) r (store_in (with_seats after.house seats))) (same ends long) (right (back ends) later))) stands)
+      where
+        idle : (q : ℕ) → IsBehind told q → get_or crew.jobs q [] ≡ []
+        idle q behind = is.idle q (is.home q behind)
+
+        back : List HoldingState → List HoldingState
+        back ends = parted (undone told) nothing ends
+
+        ends_back : (reply : ℕ → Reply) (ends : List HoldingState) → AreEnds reply (parted told None (outs_in crew.house.seats)) (parted told [] crew.jobs) ends → AreEnds reply (outs_in crew.house.seats) crew.jobs (back ends)
+        ends_back reply ends are = ends_parted reply told (outs_in crew.house.seats) crew.jobs ends kept.paired is.place is.home are
+
+        same : (ends : List HoldingState) → length ends ≡ length (parted told None (outs_in crew.house.seats)) → with_outs after.house.seats (back ends) ≡ with_outs after.house.seats ends
+        same ends long = with_outs_same after.house.seats (back ends) ends (rw (is.outs) (ends_alike told (outs_in crew.house.seats) ends is.place long is.home))
+
+    pub here_kept : (r : Reply) → IsKept after (replies ++ (length replies, r) ∷ [])
+    here_kept r = record {
+      paired = rw (is.jobs, is.outs) (parted_long told [] None crew.jobs (outs_in crew.house.seats) kept.paired);
+      none = rw (is.jobs) (all_parted AreNumberless told [] crew.jobs tt kept.none);
+      order = rw (is.jobs) (order_parted told crew.jobs (replies ++ (length replies, r) ∷ []) (λ q behind. is.idle q (is.home q behind)) (order_told (outs_in crew.house.seats) crew.jobs replies kept.order r));
     }
 
 -- seats that differ in whether a part is at home
@@ -328,6 +355,18 @@ part_home (Piece b ∷ seats) p none = part_home seats p none
 part_home (Part l ∷ seats) zero none = at_home l none
 part_home (Part l ∷ seats) (suc p) none = part_home seats p none
 
+-- so are all from one on
+homes_all : (seats : List Seat) → ((q : ℕ) → get_or (outs_in seats) q None ≡ None) → AllByRecursion (λ (home : Bool). home ≡ true) (homes_in seats)
+homes_all [] none = tt
+homes_all (Piece b ∷ seats) none = homes_all seats none
+homes_all (Part l ∷ seats) none = (at_home l (none 0), homes_all seats (λ q. none (suc q)))
+
+pub homes_from : (seats : List Seat) (first : ℕ) → ((q : ℕ) → first ≤ q → get_or (outs_in seats) q None ≡ None) → AllByRecursion (λ (home : Bool). home ≡ true) (drop first (homes_in seats))
+homes_from seats zero none = homes_all seats (λ q. none q (omega arith))
+homes_from [] (suc first) none = tt
+homes_from (Piece b ∷ seats) (suc first) none = homes_from seats (suc first) none
+homes_from (Part l ∷ seats) (suc first) none = homes_from seats first (λ q from. none (suc q) (omega arith))
+
 -- what came home, or was at home
 pub still_none : (outs : List (Option HoldingState)) (p : ℕ) → get_or outs p None ≡ None → set outs p None ≡ outs
 still_none outs p none = ap (λ (o : Option HoldingState). set outs p o) (sym none) ∙ set-get_or outs p None
@@ -452,10 +491,17 @@ nobody_home h are s_id out = rw (nowhere 1 s_id h.regions are.are.consecutive si
 pub house_more : (a b d : Seating) → b ≡ record a { seats = b.seats } → d ≡ record b { seats = d.seats } → d ≡ record a { seats = d.seats }
 house_more a b d one two = two ∙ ap (λ (h : Seating). record h { seats = d.seats }) one
 
-pub none_next : (outs : List (Option HoldingState)) (p : ℕ) → ((q : ℕ) → q < p → get_or outs q None ≡ None) → (q : ℕ) → q < p + 1 → get_or (set outs p None) q None ≡ None
-none_next outs p each q low = elim (cases_lt q p) [
-  | inl below ↦ none_set outs p q (each q below)
-  | inr from ↦ let same : q ≡ p = omega arith in rw same (none_put outs p)
+pub none_next : (outs : List (Option HoldingState)) (first p : ℕ) → ((q : ℕ) → first ≤ q → q < p → get_or outs q None ≡ None) → (q : ℕ) → first ≤ q → q < p + 1 → get_or (set outs p None) q None ≡ None
+none_next outs first p each q from low = elim (cases_lt q p) [
+  | inl below ↦ none_set outs p q (each q from below)
+  | inr above ↦ let same : q ≡ p = omega arith in rw same (none_put outs p)
+]
+
+-- all from one on came home
+pub none_from : (outs : List (Option HoldingState)) (first p : ℕ) → length outs ≤ p → ((q : ℕ) → first ≤ q → q < p → get_or outs q None ≡ None) → (q : ℕ) → first ≤ q → get_or outs q None ≡ None
+none_from outs first p past each q from = elim (cases_lt q p) [
+  | inl below ↦ each q from below
+  | inr above ↦ get_or_past outs q None (omega arith)
 ]
 
 pub sides_next : (outs : List (Option HoldingState)) (moves : List CutMove) (k : ℕ) (move : CutMove) → k < length moves → move ≡ get_or moves k move
@@ -469,14 +515,14 @@ sides_next outs moves k move there is each i d low = elim (cases_lt i k) [
       rw one (sides_put outs move)
 ]
 
--- the register itself did an event, after a part came home
+-- the register itself did an event, after the parts came home that work on it
 pub here_after : (crew : Crewed) (replies : List (ℕ × Reply)) (mid : Crewed) (landed : List (ℕ × Reply)) → IsKept mid landed → IsAsBefore (engaged crew replies) (engaged mid landed)
-    → length landed ≡ length replies → (after : Crewed) → IsSameHouse mid.house after.house → after.jobs ≡ mid.jobs → (event : Event) (r : Reply) → IsStepBeside event mid.house r after.house
-    → IsKept after (landed ++ (length replies, r) ∷ []) × TookNext (Took event) (engaged crew replies) (engaged after (landed ++ (length replies, r) ∷ []))
-here_after crew replies mid landed kept stands places now house jobs event r step =
+    → length landed ≡ length replies → (now : Crewed) (r : Reply) → IsParted (parting_of r) mid now → (event : Event) → IsStepBeside event mid.house r now.house
+    → IsKept now (landed ++ (length replies, r) ∷ []) × TookNext (Took event) (engaged crew replies) (engaged now (landed ++ (length replies, r) ∷ []))
+here_after crew replies mid landed kept stands places now r is event step =
     subst (λ (n : ℕ). IsKept now (landed ++ (n, r) ∷ []) × TookNext (Took event) (engaged crew replies) (engaged now (landed ++ (n, r) ∷ []))) places (
-      house_kept mid (landed ++ (length landed, r) ∷ []) (now_kept mid landed kept r) now house jobs,
-      λ start asked stood. here_took mid landed kept now house jobs event r step start asked (stands start asked stood),
+      here_kept mid landed kept now (parting_of r) is r,
+      λ start asked stood. here_took mid landed kept now (parting_of r) is event r step start asked (stands start asked stood),
     )
 
 pub not_between : (s_id : ℕ) (why : Refusal) → Err why ≡ between 1 LAST_SUBSCRIBER s_id → is_between 1 LAST_SUBSCRIBER s_id ≡ false

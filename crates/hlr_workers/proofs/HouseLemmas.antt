@@ -1,6 +1,6 @@
 -- A register with what the holdings that are out have become.
-use Rattle.std.proofs.Common.{◌≡◌, ◌∙◌, refl, sym, ap, ℕ, zero, suc, ◌<◌, List, [], ◌∷◌, ◌++◌, length, get_or, set, map, arith, true, false, Bool, Some, None}
-use Rattle.std.specs.Prelude.{Option, position, slice_get, if◌then◌else◌}
+use Rattle.std.proofs.Common.{◌≡◌, ◌∙◌, refl, sym, ap, ℕ, zero, suc, ◌<◌, List, [], ◌∷◌, ◌++◌, length, get_or, set, map, arith, true, false, Bool, Some, None, inl, inr}
+use Rattle.std.specs.Prelude.{Option, position, slice_get, if◌then◌else◌, ◌⊎◌}
 use Rattle.std.proofs.lemmas.List.Quantifiers.{position-Some}
 use Rattle.std.proofs.lemmas.Option.{none-some, same_Some}
 use Rattle.tatp_rows.proofs.OrderedLemmas.{by_test}
@@ -14,7 +14,7 @@ use Rattle.holding.specs.declared.job.Job.TheVariants.{Act, Post}
 use Rattle.hlr_owners.specs.Desks.{words_of, slots_in}
 use Rattle.hlr_owners.specs.Held.{Owner}
 use Rattle.hlr_owners.specs.Lodged.{Lodged}
-use Rattle.hlr_owners.specs.Out.{outs_in, with_out, with_outs}
+use Rattle.hlr_owners.specs.Out.{out_of, outs_in, with_out, with_outs}
 use Rattle.hlr_owners.specs.Seats.{Seating, AreSeated, desks_in, homes_in, of_parts, of_part, owner_of, owners_in, store_in}
 use Rattle.hlr_owners.specs.declared.lodging.Seat.{Seat}
 use Rattle.hlr_owners.specs.declared.lodging.Seat.TheVariants.{Part, Piece}
@@ -90,6 +90,34 @@ out_seats (Part n ∷ seats) [] zero l m y is low end = absurd (none-some y end)
 out_seats (Part n ∷ seats) [] (suc i) l m y is low end = absurd (none-some y end)
 out_seats (Part n ∷ seats) (k ∷ ends) zero l m y is low end = let two : k ≡ y = same_Some k y end in rw two refl
 out_seats (Part n ∷ seats) (k ∷ ends) (suc i) l m y is low end = ap (λ (rest : List Seat). Part (with_out n k) ∷ rest) (out_seats seats ends i l m y is (omega arith) end)
+
+-- a part at home stays as it is, whatever stands in its place
+out_still : (l : Lodged) (y : HoldingState) → out_of l ≡ None → with_out l y ≡ l
+out_still l y none =
+    by_test l.home
+    (λ e. ap (λ (b : Bool). record l { holding = if b then l.holding else y }) e)
+    (λ e. absurd (none-some l.holding (sym none ∙ ap (λ (b : Bool). if b then None else Some l.holding) e)))
+
+-- holdings that are the same where a part is out
+pub with_outs_same : (seats : List Seat) (a b : List HoldingState) → ((q : ℕ) → (get_or (outs_in seats) q None ≡ None) ⊎ (slice_get a q ≡ slice_get b q)) → with_outs seats a ≡ with_outs seats b
+with_outs_same [] a b each = refl
+with_outs_same (Piece c ∷ seats) a b each = ap (λ (rest : List Seat). Piece c ∷ rest) (with_outs_same seats a b each)
+with_outs_same (Part l ∷ seats) [] [] each = refl
+with_outs_same (Part l ∷ seats) [] (y ∷ b) each = elim (each 0) [
+  | inl none ↦ λ i. Part (sym (out_still l y none) i) ∷ with_outs_same seats [] b (λ q. each (suc q)) i
+  | inr same ↦ absurd (none-some y same)
+]
+with_outs_same (Part l ∷ seats) (x ∷ a) [] each = elim (each 0) [
+  | inl none ↦ λ i. Part (out_still l x none i) ∷ with_outs_same seats a [] (λ q. each (suc q)) i
+  | inr same ↦ absurd (none-some x (sym same))
+]
+with_outs_same (Part l ∷ seats) (x ∷ a) (y ∷ b) each = λ i. Part (first i) ∷ with_outs_same seats a b (λ q. each (suc q)) i
+  where
+    first : with_out l x ≡ with_out l y
+    first = elim (each 0) [
+      | inl none ↦ out_still l x none ∙ sym (out_still l y none)
+      | inr same ↦ ap (with_out l) (same_Some x y same)
+    ]
 
 -- where the part with a number sits
 pub record IsPartAt (h : Seating) (p i : ℕ) (l : Lodged) : Type 0 where

@@ -3,6 +3,8 @@ pub mod CrewLemmas
 pub mod CrossingLemmas
 pub mod EngineLemmas
 pub mod HouseLemmas
+pub mod PartedLemmas
+pub mod PartingLemmas
 pub mod RelayLemmas
 pub mod SessionLemmas
 pub mod ShapeLemmas

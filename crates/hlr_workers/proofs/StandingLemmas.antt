@@ -230,10 +230,6 @@ Leads f outs jobs replies before asked =
     (events_in asked ≡ length replies)
     × ((reply : ℕ → Reply) (ends : List HoldingState) → HasKept reply jobs replies → AreEnds reply outs jobs ends → IsRun (orders_of asked) before (answers_by reply 0 asked) (f ends))
 
--- what is kept is kept with one place more
-kept_front : (reply : ℕ → Reply) (jobs : List (List (ℕ × Job))) (replies : List (ℕ × Reply)) (place : ℕ × Reply) → HasKept reply jobs (replies ++ place ∷ []) → HasKept reply jobs replies
-kept_front reply jobs replies place kept k one is none = kept k one (get_front replies (place ∷ []) k one is) none
-
 module _ (outs : List (Option HoldingState)) (jobs : List (List (ℕ × Job))) (replies : List (ℕ × Reply)) (order : InOrder jobs replies) where
   -- a place more
   pub places_more : (reply : Reply) (k : ℕ) (place : ℕ × Reply) → slice_get (replies ++ (length replies, reply) ∷ []) k ≡ Some place → place.0 ≡ k
@@ -242,15 +238,20 @@ module _ (outs : List (Option HoldingState)) (jobs : List (List (ℕ × Job))) (
     | inr last ↦ ap (λ (one : ℕ × Reply). one.0) last.1 ∙ sym last.0
   ]
 
-  -- an event was answered at once, and the store is that of `g`
+  -- the store is that of `g` now
   module _ (f g : List HoldingState → Store) (before : Store) (asked : List Asked) where
-    pub leads_told : (event : Event) (r : Reply) → ((reply : ℕ → Reply) (ends : List HoldingState) → AreEnds reply outs jobs ends → IsStep event (f ends) r (g ends))
-        → Leads f outs jobs replies before asked → Leads g outs jobs (replies ++ (length replies, r) ∷ []) before (asked ++ Took event ∷ [])
-    leads_told event r law leads = (
+    -- an event was answered at once; parts may have come or gone, and `back` makes ends as they were of ends as they are
+    pub leads_told : (outs_now : List (Option HoldingState)) (jobs_now : List (List (ℕ × Job))) (back : List HoldingState → List HoldingState) → ((k : ℕ) → numbered_in k jobs_now ≡ numbered_in k jobs)
+        → ((reply : ℕ → Reply) (ends : List HoldingState) → AreEnds reply outs_now jobs_now ends → AreEnds reply outs jobs (back ends)) → (event : Event) (r : Reply)
+        → ((reply : ℕ → Reply) (ends : List HoldingState) → AreEnds reply outs_now jobs_now ends → IsStep event (f (back ends)) r (g ends))
+        → Leads f outs jobs replies before asked → Leads g outs_now jobs_now (replies ++ (length replies, r) ∷ []) before (asked ++ Took event ∷ [])
+    leads_told outs_now jobs_now back numbers ends_back event r law leads = (
       (let long = length-append replies ((length replies, r) ∷ []) in let was = leads.0 in events_more asked (Took event ∷ []) ∙ omega arith),
       λ reply ends kept are.
-          let is : reply (events_in asked) ≡ r = ap reply leads.0 ∙ kept (length replies) (length replies, r) (get_last replies (length replies, r)) (order.below (length replies) (omega arith)) in
-          run_took reply asked before (f ends) (g ends) event (leads.1 reply ends (kept_front reply jobs replies (length replies, r) kept) are) (rw is (law reply ends are)),
+          let is : reply (events_in asked) ≡ r =
+          ap reply leads.0 ∙ kept (length replies) (length replies, r) (get_last replies (length replies, r)) (numbers (length replies) ∙ order.below (length replies) (omega arith)) in
+          let had : HasKept reply jobs replies = λ k one there none. kept k one (get_front replies ((length replies, r) ∷ []) k one there) (numbers k ∙ none) in
+          run_took reply asked before (f (back ends)) (g ends) event (leads.1 reply (back ends) had (ends_back reply ends are)) (rw is (law reply ends are)),
     )
 
     -- a re-cut was made

@@ -1,13 +1,15 @@
 -- What calls inside the crate promise each other. No clause of a public call cites this.
-use Rattle.std.specs.Prelude.{◌≡◌, ◌≤◌, ◌++◌, ℕ, true, List, [], ◌∷◌, length, Option, Some, None, position, slice_get, slice_set, slice_index_or, ⊤, ◌⊎◌}
+use Rattle.std.specs.Prelude.{◌≡◌, ◌<◌, ◌≤◌, ◌+◌, ◌++◌, ℕ, true, List, [], ◌∷◌, length, Option, Some, None, insert, position, remove, slice_get, slice_set, slice_index_or, ⊤, ◌⊎◌}
 use Rattle.std.specs.List.{AllByRecursion}
 use Rattle.part_table.specs.Region.{is_part}
+use Rattle.part_table.specs.declared.region.TheConstants.{MOST_PARTS}
 use Rattle.holding.specs.Held.{HoldingState}
 use Rattle.holding.specs.declared.job.Job.{Job}
 use Rattle.hlr_owners.specs.Out.{outs_in}
 use Rattle.hlr_owners.specs.Seats.{Seating, IsLent}
 use Rattle.hlr_owners.specs.declared.lodging.Seat.TheVariants.{Part}
 use Rattle.hlr_core.specs.declared.event.Reply.{Reply}
+use Rattle.hlr_core.specs.declared.event.Reply.TheVariants.{Divided, Dissolved}
 use Rattle.hlr_workers.specs.Finish.{Sent}
 use Rattle.hlr_workers.specs.Session.{AreNumberless, IsSession}
 use Rattle.hlr_workers.specs.Standing.{AreNumbered, Engaged, numbered_in}
@@ -95,3 +97,45 @@ pub record IsKept (crew : Crewed) (replies : List (ℕ × Reply)) : Type 0 where
 -- nobody is out
 abbrev pub NoneOut : Crewed → Type 0
 NoneOut crew = AllByRecursion (λ (out : Option HoldingState). out ≡ None) (outs_in crew.house.seats)
+
+-- nobody from a part on is out
+abbrev pub NoneOutFrom : ℕ → Crewed → Type 0
+NoneOutFrom first crew = (q : ℕ) → first ≤ q → slice_index_or (outs_in crew.house.seats) q None ≡ None
+
+-- what a reply tells of parts that came or went: a new part has this number, or the part that had it is gone
+pub data Parting : Type 0 where
+  Same : Parting
+  New : ℕ → Parting
+  Gone : ℕ → Parting
+
+-- any other reply tells of none
+abbrev pub parting_of : Reply → Parting
+parting_of (Divided part lo hi) = New part
+parting_of (Dissolved front lo hi) = Gone (front + 1)
+parting_of _ = Same
+
+-- a list with something for each part, after that
+abbrev pub parted : {A : Type 0} → Parting → A → List A → List A
+parted Same blank each = each
+parted (New part) blank each = insert each part blank
+parted (Gone part) blank each = remove each part
+
+-- among so many parts there is a place for it
+abbrev pub IsPlace : Parting → ℕ → Type 0
+IsPlace Same parts = ⊤
+IsPlace (New part) parts = (part ≤ parts) × (parts < MOST_PARTS)
+IsPlace (Gone part) parts = part < parts
+
+-- the parts whose numbers change with it, and the one that goes
+abbrev pub IsBehind : Parting → ℕ → Type 0
+IsBehind Same q = ⊥
+IsBehind (New part) q = part ≤ q
+IsBehind (Gone part) q = part ≤ q
+
+-- a crew after it: a new part is at home, as the one that is gone was, and all the parts behind it were
+pub record IsParted (told : Parting) (before after : Crewed) : Type 0 where
+  pub outs : outs_in after.house.seats ≡ parted told None (outs_in before.house.seats)
+  pub jobs : after.jobs ≡ parted told [] before.jobs
+  pub place : IsPlace told (length (outs_in before.house.seats))
+  pub home : (q : ℕ) → IsBehind told q → slice_index_or (outs_in before.house.seats) q None ≡ None
+  pub idle : AreIdle before

@@ -1,5 +1,5 @@
 -- What an engine stands at: where right sessions of the jobs that are out lead, with the replies that are kept.
-use Rattle.std.specs.Prelude.{◌≡◌, ◌==◌, ◌+◌, ℕ, true, false, List, [], ◌∷◌, ◌++◌, length, Option, Some, None, Result, if◌then◌else◌, slice_get, slice_index_or, ⊤}
+use Rattle.std.specs.Prelude.{◌≡◌, ◌==◌, ◌+◌, ℕ, Bool, true, false, List, [], ◌∷◌, ◌++◌, length, Option, Some, None, Result, if◌then◌else◌, slice_get, slice_index_or, ⊤}
 use Rattle.tatp_rows.specs.declared.refusal.Refusal.{Refusal}
 use Rattle.holding.specs.Held.{HoldingState}
 use Rattle.holding.specs.declared.job.Job.{Job}
@@ -11,6 +11,7 @@ use Rattle.hlr_core.specs.Route.{IsRouted}
 use Rattle.hlr_core.specs.Run.{IsRun}
 use Rattle.hlr_core.specs.Session.{IsJobDone}
 use Rattle.hlr_core.specs.declared.event.Event.{Event}
+use Rattle.hlr_core.specs.declared.event.Event.TheVariants.{Divide, Dissolve}
 use Rattle.hlr_core.specs.declared.event.Reply.{Reply}
 use Rattle.hlr_core.specs.declared.order.Answer.{Answer}
 use Rattle.hlr_core.specs.declared.order.Answer.TheVariants as answer
@@ -118,6 +119,12 @@ IsSettled before replies house =
 -- an event is a job of a part that is at home, and so has no worker
 abbrev pub WantsWorker : Event → Seating → Type 0
 WantsWorker event h = (part : ℕ) × (job : Job) × IsRouted event h (To part job) × (slice_index_or (homes_in h.seats) part false ≡ true)
+
+-- an event has a part come or go
+abbrev pub changes_parts : Event → Bool
+changes_parts (Divide part at) = true
+changes_parts (Dissolve part) = true
+changes_parts _ = false
 
 -- each reply has the number of its place
 abbrev pub AreNumbered : List (ℕ × Reply) → Type 0

@@ -8,10 +8,11 @@ ghost use Rattle.hlr_owners.specs.Recut.{IsHomeToCut};
 ghost use Rattle.hlr_owners.specs.Seats.{AllHome, AreSeated, homes_in, store_in};
 ghost use Rattle.hlr_owners.specs.Sight.{IsSightOf};
 ghost use Rattle.hlr_core.specs.Beside.{IsRecutBeside, IsStepBeside};
-ghost use Rattle.hlr_core.specs.Home.{IsHomeTo, IsSameHouse};
+ghost use Rattle.hlr_core.specs.Home.{IsHomeTo, IsLaterDesk, IsSameHouse};
 ghost use Rattle.hlr_core.specs.Route.{is_here};
 ghost use Rattle.hlr_core.specs.Session.{IsJobOf, IsWithinJob};
-ghost use Rattle.hlr_workers.specs.Inside.{AreIdle, IsHomeAgain, IsOut, IsSentTo, is_sent_more};
+ghost use Rattle.hlr_workers.specs.Inside.{AreIdle, IsHomeAgain, IsOut, IsParted, IsPlace, IsSentTo, is_sent_more, parted, parting_of};
+ghost use Rattle.hlr_workers.specs.Standing.{changes_parts};
 ghost use Rattle.hlr_workers.specs.declared.work.TheConstants.{MOST_PENDING};
 
 use crate::gate::Gate;
@@ -81,6 +82,20 @@ fn send_to<R: Wait>(
     match &mut workers.as_mut_slice()[usize::from(part)] {
         Some(worker) => worker.send(rt, number, job),
         None => unreachable!(),
+    }
+}
+
+/// Makes a place for the worker of a part that has come, and takes away that of one that has gone.
+fn part_workers(workers: &mut ArrayVec<Option<Worker>, 16>, reply: &Reply)
+    requires { IsPlace (parting_of reply.now) (length workers.old.items) }
+    ensures { workers.new.items ≡ parted (parting_of reply.now) None workers.old.items }
+{
+    match *reply {
+        Reply::Divided { part, .. } => workers.insert(usize::from(part), None),
+        Reply::Dissolved { part, .. } => {
+            workers.remove(usize::from(part) + 1);
+        }
+        _ => {}
     }
 }
 
@@ -197,15 +212,21 @@ impl Crew {
         Some(answers)
     }
 
-    /// Has the register do an event that gives a number or moves regions; the parts that it works on are at home.
+    /// Has the register do an event that gives a number, moves regions, or has a part come or go; the parts that it
+    /// works on are at home. The workers stay with their parts.
     pub(crate) fn apply(&mut self, event: Event) -> Reply
         requires here { is_here event ≡ true }
         requires home { IsHomeTo event self.old.house }
         ensures step { IsStepBeside event self.old.house result self.new.house }
-        ensures house { IsSameHouse self.old.house self.new.house }
-        ensures jobs { self.new.jobs ≡ self.old.jobs }
+        ensures parted { IsParted (parting_of result) self.old self.new }
+        ensures spare { changes_parts event ≡ false → self.new.house.spare ≡ self.old.house.spare }
+        ensures desk { IsLaterDesk self.old.house.spare self.new.house.spare }
     {
-        self.register.apply(event)
+        // For the prover: each region has its owner beside it.
+        let _board = self.register.board();
+        let reply = self.register.apply(event);
+        part_workers(&mut self.workers, &reply);
+        reply
     }
 
     /// Has the register move the bounds between parts; the parts on both sides of each are at home.

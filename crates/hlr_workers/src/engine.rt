@@ -1,5 +1,5 @@
 //! The engine: a register whose parts have workers in threads of their own.
-ghost use Rattle.std.specs.Prelude.{◌≡◌, ◌<◌, ◌≤◌, ◌⊎◌, ◌+◌, ◌++◌, [], ◌∷◌, length, true, Some, None, IfOk, IfSome, OnOk, OnErr, slice_set, vec_capacity};
+ghost use Rattle.std.specs.Prelude.{◌≡◌, ◌<◌, ◌≤◌, ◌⊎◌, ◌+◌, ◌++◌, [], ◌∷◌, length, true, false, Some, None, IfOk, IfSome, OnOk, OnErr, slice_set, vec_capacity};
 ghost use Rattle.std.specs.List.{AllByRecursion};
 ghost use Rattle.view_board.specs.Desks.{with_view};
 ghost use Rattle.view_board.specs.Views.{looked};
@@ -7,11 +7,11 @@ ghost use Rattle.hlr_owners.specs.Out.{outs_in};
 ghost use Rattle.hlr_owners.specs.Recut.{IsHomeToCut};
 ghost use Rattle.hlr_owners.specs.Seats.{AllHome, AreSeated, IsHomeFor, IsPartHome, Seating, store_in};
 ghost use Rattle.hlr_owners.specs.Sight.{IsSightOf};
-ghost use Rattle.hlr_core.specs.Home.{IsHomeTo};
+ghost use Rattle.hlr_core.specs.Home.{IsHomeTo, IsLaterDesk};
 ghost use Rattle.tatp_rows.specs.declared.ranges.TheConstants.{LAST_SUBSCRIBER};
 ghost use Rattle.hlr_core.specs.Route.{is_here};
-ghost use Rattle.hlr_workers.specs.Inside.{IsKept, NoneOut, engaged, land};
-ghost use Rattle.hlr_workers.specs.Standing.{AreNumbered, Cut, IsAsBefore, IsSettled, Stands, Took, TookNext, WantsWorker};
+ghost use Rattle.hlr_workers.specs.Inside.{IsKept, NoneOut, NoneOutFrom, engaged, land};
+ghost use Rattle.hlr_workers.specs.Standing.{AreNumbered, Cut, IsAsBefore, IsSettled, Stands, Took, TookNext, WantsWorker, changes_parts};
 ghost use Rattle.hlr_workers.specs.declared.work.TheConstants.{MOST_PENDING};
 
 use crate::crew::Crew;
@@ -104,6 +104,29 @@ fn bring_home<R: Threads + Wait>(rt: &R, crew: &mut Crew, replies: &mut Vec<(u64
     }
 }
 
+/// Brings all parts from one on home.
+fn bring_home_from<R: Threads + Wait>(
+    rt: &R,
+    crew: &mut Crew,
+    replies: &mut Vec<(u64, Reply)>,
+    first: u64,
+)
+    requires { IsKept crew.old replies.old.items }
+    ensures kept { IsKept crew.new replies.new.items }
+    ensures stands { IsAsBefore (engaged crew.old replies.old.items) (engaged crew.new replies.new.items) }
+    ensures home { NoneOutFrom first crew.new }
+    ensures places { length replies.new.items ≡ length replies.old.items }
+    ensures capacity { vec_capacity replies.new ≡ vec_capacity replies.old }
+    ensures house { crew.new.house ≡ record crew.old.house { seats = crew.new.house.seats } }
+{
+    // For the prover: each region has its owner beside it.
+    let _register = crew.register();
+    let parts = u64::from(crew.register().regions().parts());
+    for part in first..parts {
+        bring_home(rt, crew, replies, part as u8);
+    }
+}
+
 /// Brings all parts home.
 fn bring_all_home<R: Threads + Wait>(rt: &R, crew: &mut Crew, replies: &mut Vec<(u64, Reply)>)
     requires { IsKept crew.old replies.old.items }
@@ -114,11 +137,7 @@ fn bring_all_home<R: Threads + Wait>(rt: &R, crew: &mut Crew, replies: &mut Vec<
     ensures places { length replies.new.items ≡ length replies.old.items }
     ensures house { crew.new.house ≡ record crew.old.house { seats = crew.new.house.seats } }
 {
-    // For the prover: each region has its owner beside it.
-    let _register = crew.register();
-    for part in 0..crew.register().regions().parts() {
-        bring_home(rt, crew, replies, part);
-    }
+    bring_home_from(rt, crew, replies, 0);
     // For the prover: a part that isn't out has no jobs.
     let _register = crew.register();
 }
@@ -157,7 +176,8 @@ fn owner_if_any(register: &Register, s_id: u64) -> Option<u8>
 
 /// The part that works on an event that gives a number or moves regions, if one does.
 fn part_of(register: &Register, event: &Event) -> Option<u8>
-    requires { is_here event.now ≡ true }
+    requires here { is_here event.now ≡ true }
+    requires one { changes_parts event.now ≡ false }
     ensures { (h : Seating) → AreSeated h → h.regions ≡ register.now.regions → IfSome result (λ part. IsPartHome part h) → IsHomeTo event.now h }
 {
     match *event {
@@ -177,6 +197,7 @@ fn bring_worker_home<R: Threads + Wait>(
     event: &Event,
 )
     requires here { is_here event.now ≡ true }
+    requires one { changes_parts event.now ≡ false }
     requires kept { IsKept crew.old replies.old.items }
     ensures kept { IsKept crew.new replies.new.items }
     ensures stands { IsAsBefore (engaged crew.old replies.old.items) (engaged crew.new replies.new.items) }
@@ -193,8 +214,32 @@ fn bring_worker_home<R: Threads + Wait>(
     let _register = crew.register();
 }
 
-/// Has the register itself do an event, which gives a number or moves regions: the part that works on it comes home
-/// first, the others go on.
+/// Brings the parts home that work on an event which the register does itself: the part that is divided, or stands in
+/// front of one that is dissolved, comes home with all behind it, whose numbers change.
+fn bring_workers_home<R: Threads + Wait>(
+    rt: &R,
+    crew: &mut Crew,
+    replies: &mut Vec<(u64, Reply)>,
+    event: &Event,
+)
+    requires here { is_here event.now ≡ true }
+    requires kept { IsKept crew.old replies.old.items }
+    ensures kept { IsKept crew.new replies.new.items }
+    ensures stands { IsAsBefore (engaged crew.old replies.old.items) (engaged crew.new replies.new.items) }
+    ensures home { IsHomeTo event.now crew.new.house }
+    ensures places { length replies.new.items ≡ length replies.old.items }
+    ensures capacity { vec_capacity replies.new ≡ vec_capacity replies.old }
+    ensures house { crew.new.house ≡ record crew.old.house { seats = crew.new.house.seats } }
+{
+    match *event {
+        Event::Divide { part, .. } => bring_home_from(rt, crew, replies, part),
+        Event::Dissolve { part } => bring_home_from(rt, crew, replies, part.saturating_sub(1)),
+        _ => bring_worker_home(rt, crew, replies, event),
+    }
+}
+
+/// Has the register itself do an event, which gives a number, moves regions, or has a part come or go: the parts that
+/// work on it come home first, the others go on.
 fn answer_here<R: Threads + Wait>(
     rt: &R,
     crew: &mut Crew,
@@ -207,9 +252,10 @@ fn answer_here<R: Threads + Wait>(
     ensures took { TookNext (Took event) (engaged crew.old replies.old.items) (engaged crew.new (replies.new.items ++ (length replies.old.items, result) ∷ [])) }
     ensures places { length replies.new.items ≡ length replies.old.items }
     ensures capacity { vec_capacity replies.new ≡ vec_capacity replies.old }
-    ensures spare { crew.new.house.spare ≡ crew.old.house.spare }
+    ensures spare { changes_parts event ≡ false → crew.new.house.spare ≡ crew.old.house.spare }
+    ensures desk { IsLaterDesk crew.old.house.spare crew.new.house.spare }
 {
-    bring_worker_home(rt, crew, replies, &event);
+    bring_workers_home(rt, crew, replies, &event);
     crew.apply(event)
 }
 
@@ -233,7 +279,8 @@ fn answer<G: Gate + 'static, R: Threads + Wait + Copy + Send + Sync + 'static>(
     ensures wants { OnErr result (WantsWorker event crew.old.house) }
     ensures places { length replies.new.items ≡ length replies.old.items }
     ensures capacity { vec_capacity replies.new ≡ vec_capacity replies.old }
-    ensures spare { crew.new.house.spare ≡ crew.old.house.spare }
+    ensures spare { changes_parts event ≡ false → crew.new.house.spare ≡ crew.old.house.spare }
+    ensures desk { IsLaterDesk crew.old.house.spare crew.new.house.spare }
 {
     match crew.register().route(&event) {
         Route::Now(reply) => Ok(reply),
@@ -311,9 +358,9 @@ impl<G: Gate + 'static> Engine<G> {
     /// Takes an event, where fewer than `MOST_PENDING` are pending: the answer is its number, counted from 0 after each
     /// settle. What is known at once is answered at once; what a part does alone goes to the part's worker, which is
     /// started for its first job; what gives a number or moves regions is done here, once the part is home that works
-    /// on it. `Memory` where a growth was refused, `Thread` where the start of a thread was: then the event isn't
-    /// taken. The first event after a settle wants memory, and one that starts a worker; no other is refused. It may
-    /// wait.
+    /// on it, and what has a part come or go, once all parts are home whose rows or numbers change with it. `Memory`
+    /// where a growth was refused, `Thread` where the start of a thread was: then the event isn't taken. The first
+    /// event after a settle wants memory, and one that starts a worker; no other is refused. It may wait.
     pub fn submit<R: Threads + Wait + Copy + Send + Sync + 'static>(
         &mut self,
         rt: &R,
@@ -327,7 +374,8 @@ impl<G: Gate + 'static> Engine<G> {
         ensures why { OnErr result ((result ≡ Err Refusal.Memory) ⊎ (result ≡ Err Refusal.Thread)) }
         ensures memory { result ≡ Err Refusal.Memory → (self.old.replies ≡ []) ⊎ WantsWorker event self.old.house }
         ensures thread { result ≡ Err Refusal.Thread → WantsWorker event self.old.house }
-        ensures spare { self.new.house.spare ≡ self.old.house.spare }
+        ensures spare { changes_parts event ≡ false → self.new.house.spare ≡ self.old.house.spare }
+        ensures desk { IsLaterDesk self.old.house.spare self.new.house.spare }
     {
         match reserve(&mut self.replies, self.alloc) {
             Ok(()) => {}

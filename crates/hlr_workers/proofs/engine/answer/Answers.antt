@@ -1,7 +1,8 @@
-use Rattle.std.proofs.Common.{◌≡◌, ◌∙◌, ℕ, arith, length, subst}
+use Rattle.std.proofs.Common.{◌≡◌, ◌∙◌, refl, ℕ, arith, length, subst}
 use Rattle.hlr_owners.specs.Seats.{Seating}
 use Rattle.hlr_core.specs.Route.{IsRightNow, IsRouted}
 use Rattle.hlr_core.specs.declared.route.Route.TheVariants.{To}
+use Rattle.hlr_core.proofs.HomeLemmas.{desk_same}
 use Rattle.hlr_workers.specs.Inside.{IsSentTo}
 use Rattle.hlr_workers.proofs.EngineLemmas.{few_jobs, now_kept, now_took, part_there, sent_after}
 use Rattle.hlr_workers.proofs.engine.answer.Goals as goal
@@ -38,3 +39,14 @@ returns-in-Ok-clause-took g c =
     let number : c.len-number.result ≡ length c.args.replies.now.items = c.len-number.ensures ∙ c.args.replies.now.ok.0 in
     let sent = subst (λ (n : ℕ). IsSentTo c.in-To.part (n, c.in-To.job) c.args.crew.now c.send.new.self) number c.in-Ok.ensures.sent in
     (sent_after c.args.crew.now c.args.replies.now.items c.requires.kept c.register.ensures.seated c.in-To.part c.args.event c.in-To.job to.1 to.3 c.blank.result c.send.new.self sent).1
+
+pub returns-in-Now-clause-desk : goal.returns-in-Now-clause-desk
+returns-in-Now-clause-desk g c = desk_same c.args.crew.now.house.spare c.args.crew.now.house.spare refl
+
+pub returns-in-Ok-clause-desk : goal.returns-in-Ok-clause-desk
+returns-in-Ok-clause-desk g c =
+    let to : IsRouted c.args.event c.args.crew.now.house (To c.in-To.part c.in-To.job) = subst (λ (h : Seating). IsRouted c.args.event h (To c.in-To.part c.in-To.job)) c.register.ensures.value c.in-To.ensures in
+    let number : c.len-number.result ≡ length c.args.replies.now.items = c.len-number.ensures ∙ c.args.replies.now.ok.0 in
+    let sent = subst (λ (n : ℕ). IsSentTo c.in-To.part (n, c.in-To.job) c.args.crew.now c.send.new.self) number c.in-Ok.ensures.sent in
+    desk_same c.args.crew.now.house.spare c.send.new.self.house.spare
+    (sent_after c.args.crew.now c.args.replies.now.items c.requires.kept c.register.ensures.seated c.in-To.part c.args.event c.in-To.job to.1 to.3 c.blank.result c.send.new.self sent).2
