@@ -19,20 +19,64 @@ const SCRIPTS: u64 = 67;
 /// How many re-cuts that move a bound they have at least, where there are several parts.
 const RECUTS: u64 = 5 * SCRIPTS;
 
+/// How many parts come and how many go in them at least, and how many of both are refused.
+const PARTINGS: u64 = 2 * SCRIPTS;
+
 /// How many steps a script has.
 const STEPS: u64 = 300;
 
 /// How many events there are whose replies don't depend on when they are settled.
 const EVENTS: u64 = 10_000;
 
-/// A register of one thread, its replies that are still to come from the engine, what the engine saw last, and how many
-/// re-cuts moved a bound.
+/// How many re-cuts moved a bound, how many parts came and how many went, and how many of both were refused.
+#[derive(Clone, Copy, Default)]
+struct Counts {
+    moved: u64,
+    came: u64,
+    went: u64,
+    refused: u64,
+}
+
+impl Counts {
+    /// Counts an event that was replied to so.
+    fn note(&mut self, event: &Event, reply: &Reply) {
+        match (event, reply) {
+            (Event::Divide { .. }, Reply::Divided { .. }) => self.came = self.came.wrapping_add(1),
+            (Event::Dissolve { .. }, Reply::Dissolved { .. }) => {
+                self.went = self.went.wrapping_add(1);
+            }
+            (Event::Divide { .. } | Event::Dissolve { .. }, _) => {
+                self.refused = self.refused.wrapping_add(1);
+            }
+            _ => {}
+        }
+    }
+
+    /// Adds others.
+    fn add(&mut self, others: Counts) {
+        self.moved = self.moved.wrapping_add(others.moved);
+        self.came = self.came.wrapping_add(others.came);
+        self.went = self.went.wrapping_add(others.went);
+        self.refused = self.refused.wrapping_add(others.refused);
+    }
+
+    /// Whether bounds moved, and parts came, went and were refused, as often as in all scripts.
+    fn are_enough(&self) -> bool {
+        self.moved >= RECUTS
+            && self.came >= PARTINGS
+            && self.went >= PARTINGS
+            && self.refused >= PARTINGS
+    }
+}
+
+/// A register of one thread, its replies that are still to come from the engine, what the engine saw last, and how
+/// often its regions changed.
 #[derive(Drop)]
 struct Double {
     register: Register,
     due: Vec<Reply>,
     seen: [u64; WORDS],
-    moved: u64,
+    counts: Counts,
 }
 
 /// Whether each word is at least what it was, and at most another one.
@@ -121,7 +165,7 @@ impl Double {
             register: peopled(rt, alloc, parts),
             due: Vec::new(alloc),
             seen: [0; WORDS],
-            moved: 0,
+            counts: Counts::default(),
         }
     }
 
@@ -134,6 +178,7 @@ impl Double {
     ) -> bool {
         let number = self.due.len();
         let reply = ask(&mut self.register, *event);
+        self.counts.note(event, &reply);
         self.due.push(reply).expect(rt, "room for a reply");
         let is_taken = engine.pending() == number
             && submit(rt, engine, *event) == Ok(number as u64);
@@ -172,7 +217,7 @@ impl Double {
     ) -> bool {
         let want = recut(&mut self.register, bounds);
         if let Ok(count) = want {
-            self.moved = self.moved.wrapping_add(u64::from(count > 0));
+            self.counts.moved = self.counts.moved.wrapping_add(u64::from(count > 0));
         }
         engine.recut_to(rt, bounds) == want
     }
@@ -244,50 +289,50 @@ fn ends_alike<R: Threads + Wait>(rt: &R, engine: Engine<Open>, mut double: Doubl
     are_right
 }
 
-/// Whether a drawn script of so many parts is answered alike, and how many of its re-cuts moved a bound.
+/// Whether a drawn script of so many parts is answered alike, and how often its regions changed.
 fn script_is_alike<R: Threads + Wait + Abort + Copy + Send + Sync + 'static>(
     rt: &R,
     alloc: Global,
     seed: u64,
     parts: u8,
-) -> (bool, u64) {
+) -> (bool, Counts) {
     let (mut engine, mut double) = begun(rt, alloc, parts);
     let alike = double.steps_alike(rt, &mut engine, &mut Draws::new(seed));
-    let moved = double.moved;
-    (ends_alike(rt, engine, double) && alike == STEPS, moved)
+    let counts = double.counts;
+    (ends_alike(rt, engine, double) && alike == STEPS, counts)
 }
 
-/// How many drawn scripts of so many parts are answered alike, and how many of their re-cuts moved a bound.
+/// How many drawn scripts that begin with so many parts are answered alike, and whether their regions changed often
+/// enough.
 fn scripts_alike<R: Threads + Wait + Abort + Copy + Send + Sync + 'static>(
     rt: &R,
     alloc: Global,
     parts: u8,
-) -> (u64, u64) {
-    let (mut alike, mut moved) = (0u64, 0u64);
+) -> (u64, bool) {
+    let mut alike = 0u64;
+    let mut counts = Counts::default();
     for script in 0..SCRIPTS {
         let seed = script.wrapping_mul(16).wrapping_add(u64::from(parts));
-        let (is_alike, recuts) = script_is_alike(rt, alloc, seed, parts);
+        let (is_alike, more) = script_is_alike(rt, alloc, seed, parts);
         alike = alike.wrapping_add(u64::from(is_alike));
-        moved = moved.wrapping_add(recuts);
+        counts.add(more);
     }
-    (alike, moved)
+    (alike, counts.are_enough())
 }
 
 #[test]
 fn drawn_scripts_of_one_part(rt: HostRuntime) {
-    assert_eq!(rt; scripts_alike(&rt, rt.alloc(), 1), (SCRIPTS, 0));
+    assert_eq!(rt; scripts_alike(&rt, rt.alloc(), 1), (SCRIPTS, true));
 }
 
 #[test]
 fn drawn_scripts_of_three_parts(rt: HostRuntime) {
-    let (alike, moved) = scripts_alike(&rt, rt.alloc(), 3);
-    assert_eq!(rt; (alike, moved >= RECUTS), (SCRIPTS, true));
+    assert_eq!(rt; scripts_alike(&rt, rt.alloc(), 3), (SCRIPTS, true));
 }
 
 #[test]
 fn drawn_scripts_of_sixteen_parts(rt: HostRuntime) {
-    let (alike, moved) = scripts_alike(&rt, rt.alloc(), 16);
-    assert_eq!(rt; (alike, moved >= RECUTS), (SCRIPTS, true));
+    assert_eq!(rt; scripts_alike(&rt, rt.alloc(), 16), (SCRIPTS, true));
 }
 
 /// Whether many drawn events are answered alike, with a settle after so many each.

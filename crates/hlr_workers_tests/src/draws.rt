@@ -13,6 +13,9 @@ pub const SUBSCRIBERS: u64 = 24;
 /// How far they are apart.
 const STRIDE: u64 = 5;
 
+/// A number a little behind the last of them.
+const LAST: u64 = 130;
+
 /// How many numbers there are that they may have.
 pub const NUMBERS: u64 = 30;
 
@@ -42,6 +45,16 @@ fn part_at(list: &[Region], at: usize) -> Option<u64> {
         Place::Part(part) => Some(u64::from(part)),
         Place::Piece(_) => None,
     }
+}
+
+/// Where a part begins and ends, if there is such a part.
+fn range_of(list: &[Region], part: u64) -> (u64, u64) {
+    for region in list {
+        if matches!(region.place, Place::Part(p) if u64::from(p) == part) {
+            return (u64::from(region.lo), u64::from(region.hi));
+        }
+    }
+    (1, 1)
 }
 
 /// A take of the loose piece that is at a place, by a part that touches it, if there are both: of two parts by the one
@@ -216,7 +229,7 @@ impl Draws {
         Event::Give {
             part,
             side: Side::High,
-            at: u64::from(region.hi.min(130)).wrapping_sub(count),
+            at: u64::from(region.hi).min(LAST).wrapping_sub(count),
         }
     }
 
@@ -236,6 +249,22 @@ impl Draws {
         }
     }
 
+    /// A divide of a part among the subscribers, or a dissolve: the more parts there are, the more often one goes; now
+    /// and then of a part that can't be, or that is not there.
+    fn parting(&mut self, regions: &Regions) -> Event {
+        let parts = u64::from(regions.parts());
+        let part = self.below(parts.wrapping_add(1));
+        if self.below(24) < parts.wrapping_add(4) {
+            return Event::Dissolve { part };
+        }
+        let (lo, hi) = range_of(regions.list(), part);
+        let count = hi.min(LAST).saturating_sub(lo);
+        Event::Divide {
+            part,
+            at: lo.wrapping_add(self.below(count)).wrapping_add(1),
+        }
+    }
+
     /// A posting, now and then to a part that is not there.
     fn posting(&mut self, regions: &Regions) -> Event {
         Event::Post {
@@ -252,11 +281,12 @@ impl Draws {
             return take;
         }
         match self.below(32) {
-            0..=7 => self.read(),
-            8..=14 => self.addition(rt),
-            15..=20 => self.forwarding(rt),
-            21..=26 => self.update(rt),
-            27 | 28 => self.moving(regions),
+            0..=6 => self.read(),
+            7..=13 => self.addition(rt),
+            14..=19 => self.forwarding(rt),
+            20..=25 => self.update(rt),
+            26 | 27 => self.moving(regions),
+            28 | 29 => self.parting(regions),
             _ => self.posting(regions),
         }
     }

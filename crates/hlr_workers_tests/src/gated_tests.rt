@@ -6,7 +6,7 @@ use crate::engines::{
 use crate::gates::{Doors, Hold, Meeting, Turns};
 use hlr_core::{Event, Reply};
 use hlr_workers::{Engine, Gate};
-use part_table::Side;
+use part_table::{END, Side};
 use std::alloc::Global;
 use std::process::Abort;
 use std::sync::{Arc, Wait};
@@ -149,6 +149,113 @@ fn register_leaves_others_at_work(rt: HostRuntime) {
     assert_eq!(rt; (are_right, gate.gave_up()), (true, false));
 }
 
+/// Asserts the replies to events that an engine of three parts, with subscribers 1, 50, 70, 90 and 100, takes while the
+/// worker of a part is held up, and that this one is let go before it gives up.
+fn expect_beside<R: Threads + Wait + Abort + Copy + Send + Sync + 'static>(
+    rt: &R,
+    alloc: Global,
+    held: u8,
+    events: &[Event],
+    wanted: &[Reply],
+) {
+    let gate = Arc::new(alloc, Hold::of(held)).expect(rt, "a gate");
+    let register = filled(rt, alloc, 3, &[1, 50, 70, 90, 100]);
+    let mut engine = engine_over(rt, alloc, register, &gate);
+    let replies = done_beside(rt, &mut engine, &gate, events);
+    let (register, _none) = engine.close(rt);
+    drop(register);
+    let are_right = are_replies(&replies, wanted);
+    assert_eq!(rt; (are_right, gate.gave_up()), (true, false));
+}
+
+/// The replies where the last of three parts is divided, and the new part is dissolved.
+fn last_part_replies(rt: &impl Abort) -> [Reply; 8] {
+    [
+        row_reply(rt, 1),
+        row_reply(rt, 50),
+        row_reply(rt, 90),
+        Reply::Divided {
+            part: 3,
+            lo: 95,
+            hi: END,
+        },
+        row_reply(rt, 90),
+        row_reply(rt, 100),
+        Reply::Dissolved {
+            part: 2,
+            lo: 85,
+            hi: END,
+        },
+        row_reply(rt, 100),
+    ]
+}
+
+// The first part is held up, and then the second one.
+#[test]
+fn last_part_alone_comes_home(rt: HostRuntime) {
+    let events = [
+        read(1),
+        read(50),
+        read(90),
+        Event::Divide { part: 2, at: 95 },
+        read(90),
+        read(100),
+        Event::Dissolve { part: 3 },
+        read(100),
+    ];
+    let wanted = last_part_replies(&rt);
+    expect_beside(&rt, rt.alloc(), 0, &events, &wanted);
+    expect_beside(&rt, rt.alloc(), 1, &events, &wanted);
+}
+
+/// The replies where the second of three parts is divided, and the new part and then the last one are dissolved.
+fn parts_behind_replies(rt: &impl Abort) -> [Reply; 11] {
+    [
+        row_reply(rt, 1),
+        row_reply(rt, 50),
+        row_reply(rt, 90),
+        Reply::Divided {
+            part: 2,
+            lo: 60,
+            hi: 85,
+        },
+        row_reply(rt, 70),
+        row_reply(rt, 90),
+        Reply::Dissolved {
+            part: 1,
+            lo: 41,
+            hi: 85,
+        },
+        row_reply(rt, 70),
+        Reply::Dissolved {
+            part: 1,
+            lo: 41,
+            hi: END,
+        },
+        Reply::Refused(Refusal::NoPart),
+        row_reply(rt, 90),
+    ]
+}
+
+// The first part is held up, while those behind it come home, whose numbers change.
+#[test]
+fn part_in_front_goes_on(rt: HostRuntime) {
+    let events = [
+        read(1),
+        read(50),
+        read(90),
+        Event::Divide { part: 1, at: 60 },
+        read(70),
+        read(90),
+        Event::Dissolve { part: 2 },
+        read(70),
+        Event::Dissolve { part: 2 },
+        Event::Dissolve { part: 2 },
+        read(90),
+    ];
+    expect_beside(&rt, rt.alloc(), 0, &events, &parts_behind_replies(&rt));
+}
+
 /// Whether the posting of subscriber 7 is seen in one of a million looks.
 fn sees_posting<G: Gate + 'static>(engine: &mut Engine<G>) -> bool {
     for _ in 0..1_000_000u32 {
@@ -203,6 +310,40 @@ fn gate_is_called_round_each_job(rt: HostRuntime) {
     drop(register);
     let found = (are_rows(&rt, &replies, &s_ids), gate.counts());
     assert_eq!(rt; found, (true, ([200; 3], 0)));
+}
+
+/// What an engine of two parts replies to reads, between which a part comes in front of the second one, and goes.
+fn read_between<R: Threads + Wait + Copy + Send + Sync + 'static>(
+    rt: &R,
+    engine: &mut Engine<Turns>,
+) -> Vec<(u64, Reply)> {
+    let events = [
+        read(1),
+        read(100),
+        Event::Divide { part: 0, at: 33 },
+        read(40),
+        read(100),
+        Event::Dissolve { part: 1 },
+        read(40),
+        read(100),
+    ];
+    for event in &events {
+        let _number = submit(rt, engine, *event);
+    }
+    engine.settle(rt)
+}
+
+// The gate is told the number that the part of a worker has, which is another one once a part has come in front of it.
+#[test]
+fn gate_is_told_new_numbers(rt: HostRuntime) {
+    let gate = Arc::new(rt.alloc(), Turns::new()).expect(&rt, "a gate");
+    let register = filled(&rt, rt.alloc(), 2, &[1, 40, 100]);
+    let mut engine = engine_over(&rt, rt.alloc(), register, &gate);
+    let replies = read_between(&rt, &mut engine);
+    let (register, _none) = engine.close(&rt);
+    drop(register);
+    let (counts, _out_of_turn) = gate.counts();
+    assert_eq!(rt; (replies.len(), counts), (8, [4, 6, 2]));
 }
 
 /// Whether a posting is seen while its worker stands before it, and while it stands behind it; and the reply to it.

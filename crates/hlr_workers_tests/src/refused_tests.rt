@@ -7,6 +7,7 @@ use crate::engines::{
 };
 use crate::gates::Open;
 use crate::run_tests::are_taken;
+use arrayvec::ArrayVec;
 use hlr_core::{Event, LIMIT, Region, Register, Reply, WORDS};
 use hlr_workers::Engine;
 use part_table::{END, Place};
@@ -275,6 +276,109 @@ fn recut_of_three(rt: HostRuntime) -> Result<(), Fail> {
     let what = what.ok_or("a re-cut that is not as it should be")?;
     let _ = println!(rt; "{what}");
     Ok(())
+}
+
+/// What stands where a part can't come or go: what a re-cut may not change, the regions, and the words.
+type Whole = (Left, ArrayVec<Region, 32>, [u64; WORDS]);
+
+/// The same of an engine.
+fn whole<R: Threads + Wait + Abort + Copy + Send + Sync + 'static>(
+    rt: &R,
+    engine: &mut Engine<Open>,
+) -> Whole
+    requires { engine.old.replies ≡ [] }
+    ensures { engine.new.replies ≡ [] }
+{
+    let words = engine.sight().words;
+    let register = engine.register();
+    let mut regions = ArrayVec::new();
+    for region in register.regions().list() {
+        let _full = regions.try_push(*region);
+    }
+    (left(rt, register), regions, words)
+}
+
+/// Whether an engine with a read of each part out replies so to an event by which a part comes or goes; where memory
+/// was refused for that, whether all is as before, and it replies so at the second try.
+fn is_parted<R: Threads + Wait + Abort + Copy + Send + Sync + 'static>(
+    rt: &R,
+    engine: &mut Engine<Open>,
+    event: Event,
+    reply: &Reply,
+) -> bool
+    requires { engine.old.replies ≡ [] }
+    ensures { engine.new.replies ≡ [] }
+{
+    let before = whole(rt, engine);
+    let s_ids = [1, 60, 99];
+    let are_taken = are_taken(rt, engine, &s_ids);
+    let number = submit(rt, engine, event);
+    let mut replies = engine.settle(rt);
+    let answer = replies.pop();
+    let is_right = are_taken && number == Ok(3) && are_rows(rt, &replies, &s_ids);
+    if !matches!(answer, Some((3, Reply::Refused(Refusal::Memory)))) {
+        return is_right && matches!(&answer, Some((3, given)) if *given == *reply);
+    }
+    let is_same = whole(rt, engine) == before;
+    let _number = submit(rt, engine, event);
+    let replies = engine.settle(rt);
+    is_right && is_same && are_given(&replies, reply)
+}
+
+/// Whether a reply is given alone.
+fn are_given(replies: &[(u64, Reply)], reply: &Reply) -> bool {
+    replies.len() == 1 && matches!(replies.first(), Some((0, given)) if *given == *reply)
+}
+
+/// Whether an engine over that register divides its second part, and then dissolves the new one and the one in front.
+fn comes_and_goes<R: Threads + Wait + Abort + Copy + Send + Sync + 'static>(
+    rt: &R,
+    engine: &mut Engine<Open>,
+) -> bool {
+    let divided = Reply::Divided {
+        part: 2,
+        lo: 60,
+        hi: 85,
+    };
+    let first = Reply::Dissolved {
+        part: 1,
+        lo: 41,
+        hi: 85,
+    };
+    let second = Reply::Dissolved {
+        part: 0,
+        lo: 1,
+        hi: 85,
+    };
+    let _none = engine.settle(rt);
+    is_parted(rt, engine, Event::Divide { part: 1, at: 60 }, &divided)
+        && is_parted(rt, engine, Event::Dissolve { part: 2 }, &first)
+        && is_parted(rt, engine, Event::Dissolve { part: 1 }, &second)
+}
+
+/// How much of the cells a register has published and has not posted yet, together.
+fn together(register: &Register) -> [i64; CELLS as usize] {
+    let mut cells = published(register);
+    for (cell, pending) in cells.iter_mut().zip(unposted(register).iter()) {
+        *cell = cell.wrapping_add(*pending);
+    }
+    cells
+}
+
+// Also run with each allocation refused in turn, and each start of a thread (`refuse_memory.sh`).
+#[test]
+fn part_comes_and_goes(rt: HostRuntime) {
+    let gate = open_gate(&rt, rt.alloc());
+    let register = three_posted(&rt, rt.alloc());
+    let before = together(&register);
+    let mut engine = engine_over(&rt, rt.alloc(), register, &gate);
+    let comes_and_goes = comes_and_goes(&rt, &mut engine);
+    let (register, _none) = engine.close(&rt);
+    let is_right = has_regions(&register, &[part(0, 1, 85), part(1, 85, END)])
+        && published(&register) == [0; CELLS as usize]
+        && unposted(&register) == before;
+    drop(register);
+    assert_eq!(rt; (comes_and_goes, is_right), (true, true));
 }
 
 /// The cells of areas 1 and 2 and of zone 1.
