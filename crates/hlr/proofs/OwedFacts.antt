@@ -4,12 +4,11 @@ use Rattle.std.specs.Prelude.{◌⊎◌, map, IfSome, Result, Ok, Err, MatchResu
 use Rattle.std.proofs.lemmas.List.{append-nil}
 use Rattle.std.specs.Io.KnownBytes.{Keeps}
 use Rattle.csv.specs.Reading.{ReadRecord, Reached, default_config, reader_config, reader_state, source_of}
-use Rattle.csv.specs.declared.error.ErrorKind.{ErrorKind}
-use Rattle.csv.specs.declared.error.ErrorKind.TheVariants as error
 use Rattle.csv.specs.declared.parser.State.{State}
 use Rattle.csv.specs.declared.parser.State.TheVariants as st
 use Rattle.csv.specs.declared.reader.Reader.{Reader}
 use Rattle.csv.proofs.ReadFacts.{rows-more, rows-end}
+use Rattle.arrayvec.specs.ArrayVec.{ArrayVec}
 use Rattle.tatp_rows.specs.declared.refusal.Refusal.{Refusal}
 use Rattle.hlr_owners.specs.Recut.{IsRecut}
 use Rattle.hlr_owners.specs.Seats.{Seating, store_in}
@@ -18,15 +17,15 @@ use Rattle.hlr_core.specs.Run.{IsRun}
 use Rattle.hlr_core.specs.declared.event.Event.{Event}
 use Rattle.hlr_core.specs.declared.event.Reply.{Reply}
 use Rattle.hlr_workers.specs.Standing.{answers_with, events_in, orders_of, Asked, Cut, Engaged, IsSettled, Stands, Took, TookNext}
+use Rattle.hlr_workers.proofs.UnseenLemmas.{recut_unseen, seen_as, stands_unseen, step_unseen}
 use Rattle.hlr.specs.Command.{Command}
 use Rattle.hlr.specs.Command.{Command as command}
-use Rattle.hlr.specs.Inside.{Answers, AreAnswered, AreBrokenOff, AskFor, HasAnswered, HasCome, HasComeTo, HasComeToEnd, HasTaken, IsAtRest, IsOwed, IsUnderway, kind_of, replies_text, word_of_report}
-use Rattle.hlr.specs.Fault.{read_fault_of}
+use Rattle.hlr.specs.Inside.{Answers, AreAnswered, AreBrokenOff, AskFor, HasAnswered, HasCome, HasComeTo, HasComeToEnd, HasTaken, IsAtRest, IsOwed, IsUnderway, kind_of, replies_text, with_sight, word_of_report}
 use Rattle.hlr.specs.Lines.{reply_line}
-use Rattle.hlr.specs.Records.{command_named, command_of, field, word_named}
+use Rattle.hlr.specs.Records.{bounds_of, command_named, command_of, field, word_named}
 use Rattle.hlr.specs.Run.{Ran, RanFront}
 use Rattle.hlr.specs.Sink.{Puts}
-use Rattle.hlr.specs.Text.{RecordText, RecordsText}
+use Rattle.hlr.specs.Text.{CommandText, RecordText, RecordsText, RecutText}
 use Rattle.hlr.specs.declared.fault.Fault.{Fault}
 use Rattle.hlr.specs.declared.fault.Fault.TheVariants as fault
 use Rattle.hlr.specs.declared.records.Kind.TheVariants as kind
@@ -60,21 +59,20 @@ events_taken (e ∷ events) = let rest = events_taken events in omega arith
 
 -- an engine takes the event that one more record asks for
 owed_more : (rows : List (List (List ℕ))) (before : Store) (a b : Engaged) (fields : List (List ℕ)) (event : Event) → IsOwed rows before a
-    → command_of fields ≡ Ok (command.Ask event) → TookNext (Took event) a b → b.house.spare ≡ a.house.spare → IsOwed (rows ++ fields ∷ []) before b
-owed_more rows before a b fields event owes is took spare = record {
+    → command_of fields ≡ Ok (command.Ask event) → TookNext (Took event) a b → IsOwed (rows ++ fields ∷ []) before b
+owed_more rows before a b fields event owes is took = record {
   events = owes.events ++ event ∷ [];
   asked = ask_more rows owes.events fields event owes.asked is;
   stands = rw (took_more owes.events event) (took before (map Took owes.events) owes.stands);
-  sight = owes.sight ∙ rw spare refl;
 }
 
 -- an engine is at rest that was opened over a register
 pub opened_at_rest : (e : Engaged) (h : Seating) → e.house ≡ h → e.replies ≡ [] → Stands e (store_in h) [] → IsAtRest e
 opened_at_rest e h is none stands = record { none = none; stands = subst (λ (h : Seating). Stands e (store_in h) []) (sym is) stands }
 
--- an engine at rest owes nothing
-owed_none : (e : Engaged) → IsAtRest e → IsOwed [] (store_in e.house) e
-owed_none e rest = record { events = []; asked = tt; stands = rest.stands; sight = refl }
+-- an engine at rest owes nothing, whatever was seen of the words
+owed_none : (sight : List ℕ) (e : Engaged) → IsAtRest e → IsOwed [] (with_sight sight e.house) e
+owed_none sight e rest = record { events = []; asked = tt; stands = stands_unseen sight e (store_in e.house) [] rest.stands }
 
 -- the lines of the replies to events answer the records that ask for them
 events_text : (rows : List (List (List ℕ))) (events : List Event) (replies : List (ℕ × Reply)) (before after : Store) → AskFor rows events → length replies ≡ length events
@@ -91,14 +89,11 @@ events_text (row ∷ rows) (event ∷ events) (one ∷ replies) before after ask
 
 -- what was owed is answered by the lines of the replies of a settle
 owed_text : (rows : List (List (List ℕ))) (before : Store) (e : Engaged) (replies : List (ℕ × Reply)) (house : Seating) → IsOwed rows before e → IsSettled e replies house
-    → length replies ≡ length e.replies → house.spare ≡ e.house.spare → RecordsText rows before (replies_text replies) (store_in house)
-owed_text rows before e replies house owes settled each spare =
-    let sight : before.sight ≡ house.spare.view.seen = owes.sight ∙ rw spare refl in
+    → length replies ≡ length e.replies → RecordsText rows before (replies_text replies) (with_sight before.sight house)
+owed_text rows before e replies house owes settled each =
     let count = owes.stands.0 in
     let taken = events_taken owes.events in
-    events_text rows owes.events replies before (store_in house) owes.asked (omega arith)
-    (subst (λ (sight : List ℕ). IsRun (orders_of (map Took owes.events)) before (answers_with replies (map Took owes.events)) (record (store_in house) { sight = sight })) sight
-    (settled before (map Took owes.events) owes.stands))
+    events_text rows owes.events replies before (with_sight before.sight house) owes.asked (omega arith) (settled before (map Took owes.events) owes.stands)
 
 -- records answered one after another, and then more
 records_after : (rows more : List (List (List ℕ))) (s m t : Store) (text behind : List ℕ) → RecordsText rows s text m → RecordsText more m behind t
@@ -110,49 +105,51 @@ records_after (row ∷ rows) more s m t text behind h k =
 
 -- what is owed is written
 module _ (rows : List (List (List ℕ))) (start : Store) (e : Engaged) (replies : List (ℕ × Reply)) (house : Seating) (settled : IsSettled e replies house)
-    (each : length replies ≡ length e.replies) (spare : house.spare ≡ e.house.spare) (old mid new : Option (List ℕ)) (under : IsUnderway rows start e old mid) where
-  whole_text : RecordsText rows start (under.text ++ replies_text replies) (store_in house)
+    (each : length replies ≡ length e.replies) (old mid new : Option (List ℕ)) (under : IsUnderway rows start e old mid) where
+  whole_text : RecordsText rows start (under.text ++ replies_text replies) (with_sight under.now.sight house)
   whole_text =
-      rw under.all (records_after under.answered under.owed start under.now (store_in house) under.text (replies_text replies) under.answers
-      (owed_text under.owed under.now e replies house under.owes settled each spare))
+      rw under.all (records_after under.answered under.owed start under.now (with_sight under.now.sight house) under.text (replies_text replies) under.answers
+      (owed_text under.owed under.now e replies house under.owes settled each))
 
   pub settled_text : (stalled : Bool) (r : Result (Unit {0}) Stalled) → Puts (replies_text replies) mid new stalled r
-      → MatchResult r (λ done. AreAnswered rows start (store_in house) old new) (λ why. AreBrokenOff rows start old new stalled)
+      → MatchResult r (λ done. AreAnswered rows start house old new) (λ why. AreBrokenOff rows start old new stalled)
   settled_text stalled (Ok done) put = record {
     text = under.text ++ replies_text replies;
+    sight = under.now.sight;
     answers = whole_text;
     grew = appends_both old mid new under.text (replies_text replies) under.grew put;
   }
   settled_text stalled (Err why) put = record {
     text = under.text ++ replies_text replies;
-    end = store_in house;
+    end = with_sight under.now.sight house;
     answers = whole_text;
     front = front_after old mid new under.text (replies_text replies) under.grew put.0;
     told = put.1;
   }
 
 -- records that are answered by an engine which is at rest
-pub underway_at_rest : (rows : List (List (List ℕ))) (start : Store) (e : Engaged) (old new : Option (List ℕ)) → IsAtRest e → AreAnswered rows start (store_in e.house) old new → IsUnderway rows start e old new
+pub underway_at_rest : (rows : List (List (List ℕ))) (start : Store) (e : Engaged) (old new : Option (List ℕ)) → IsAtRest e → AreAnswered rows start e.house old new → IsUnderway rows start e old new
 underway_at_rest rows start e old new rest done = record {
   answered = rows;
   owed = [];
   all = sym (append-nil rows);
   text = done.text;
-  now = store_in e.house;
+  now = with_sight done.sight e.house;
   answers = done.answers;
   grew = done.grew;
-  owes = owed_none e rest;
+  owes = owed_none done.sight e rest;
 }
 
 -- no record is answered yet
 pub underway_none : (e : Engaged) (old : Option (List ℕ)) → IsAtRest e → IsUnderway [] (store_in e.house) e old old
 unfolding RecordsText
-underway_none e old rest = underway_at_rest [] (store_in e.house) e old old rest (record { text = []; answers = (refl, refl); grew = appends_none old })
+underway_none e old rest =
+    underway_at_rest [] (store_in e.house) e old old rest (record { text = []; sight = e.house.spare.view.seen; answers = (refl, refl); grew = appends_none old })
 
 -- one more record is owed
 pub underway_more : (rows : List (List (List ℕ))) (start : Store) (a b : Engaged) (old new : Option (List ℕ)) (fields : List (List ℕ)) (event : Event) → IsUnderway rows start a old new
-    → command_of fields ≡ Ok (command.Ask event) → TookNext (Took event) a b → b.house.spare ≡ a.house.spare → IsUnderway (rows ++ fields ∷ []) start b old new
-underway_more rows start a b old new fields event under is took spare = record {
+    → command_of fields ≡ Ok (command.Ask event) → TookNext (Took event) a b → IsUnderway (rows ++ fields ∷ []) start b old new
+underway_more rows start a b old new fields event under is took = record {
   answered = under.answered;
   owed = under.owed ++ fields ∷ [];
   all = ap (λ (all : List (List (List ℕ))). all ++ fields ∷ []) under.all ∙ append_assoc under.answered under.owed (fields ∷ []);
@@ -160,21 +157,50 @@ underway_more rows start a b old new fields event under is took spare = record {
   now = under.now;
   answers = under.answers;
   grew = under.grew;
-  owes = owed_more under.owed under.now a b fields event under.owes is took spare;
+  owes = owed_more under.owed under.now a b fields event under.owes is took;
 }
 
--- behind records that are answered, one more is answered
-pub answered_next : (rows : List (List (List ℕ))) (fields : List (List ℕ)) (start before : Store) (e : Engaged) (old mid new : Option (List ℕ)) (stalled : Bool) (r : Result (Unit {0}) Stalled)
-    → AreAnswered rows start before old mid → Answers fields before (store_in e.house) mid new stalled r → IsAtRest e → HasAnswered rows fields start e old new stalled r
+-- no text tells what was seen of the words
+recut_text_unseen : (w : List ℕ) (bounds : Result (ArrayVec ℕ) Refusal) (before : Store) (text : List ℕ) (after : Store) → RecutText bounds before text after
+    → RecutText bounds (seen_as w before) text (seen_as w after)
+recut_text_unseen w (Ok bounds) before text after told =
+    record { answer = told.answer; right = recut_unseen w bounds.items before told.answer after told.right; line = told.line }
+recut_text_unseen w (Err why) before text after told = (told.0, ap (seen_as w) told.1)
+
+text_unseen : (w : List ℕ) (fields : List (List ℕ)) (asked : Result Command Refusal) (before : Store) (text : List ℕ) (after : Store) → CommandText fields asked before text after
+    → CommandText fields asked (seen_as w before) text (seen_as w after)
+text_unseen w fields (Ok (command.Ask event)) before text after told =
+    record { reply = told.reply; right = step_unseen w event before told.reply after told.right; line = told.line }
+text_unseen w fields (Ok command.Views) before text after told = (told.0, ap (seen_as w) told.1)
+text_unseen w fields (Ok command.Scan) before text after told = (told.0, ap (seen_as w) told.1)
+text_unseen w fields (Ok command.Index) before text after told = (told.0, ap (seen_as w) told.1)
+text_unseen w fields (Ok command.Regions) before text after told = (told.0, ap (seen_as w) told.1)
+text_unseen w fields (Ok command.Propose) before text after told = (told.0, ap (seen_as w) told.1)
+text_unseen w fields (Ok command.Recut) before text after told = recut_text_unseen w (bounds_of fields) before text after told
+text_unseen w fields (Err why) before text after told = (told.0, ap (seen_as w) told.1)
+
+-- the text of records that are answered, and of one more behind them
+module _ (rows : List (List (List ℕ))) (fields : List (List ℕ)) (start : Store) (before : Seating) (e : Engaged) (old mid new : Option (List ℕ)) (stalled : Bool)
+    (r : Result (Unit {0}) Stalled) (all : AreAnswered rows start before old mid) (one : Answers fields (store_in before) (store_in e.house) mid new stalled r) where
+  next_text : RecordsText (rows ++ fields ∷ []) start (all.text ++ one.text) (with_sight all.sight e.house)
+  next_text =
+      records_more rows fields start (with_sight all.sight before) (with_sight all.sight e.house) all.text one.text all.answers
+      (text_unseen all.sight fields (command_of fields) (store_in before) one.text (store_in e.house) one.answer)
+
+-- so that one is answered too
+pub answered_next : (rows : List (List (List ℕ))) (fields : List (List ℕ)) (start : Store) (before : Seating) (e : Engaged) (old mid new : Option (List ℕ)) (stalled : Bool)
+    (r : Result (Unit {0}) Stalled) → AreAnswered rows start before old mid → Answers fields (store_in before) (store_in e.house) mid new stalled r → IsAtRest e
+    → HasAnswered rows fields start e old new stalled r
 answered_next rows fields start before e old mid new stalled (Ok done) all one rest = underway_at_rest (rows ++ fields ∷ []) start e old new rest (record {
   text = all.text ++ one.text;
-  answers = records_more rows fields start before (store_in e.house) all.text one.text all.answers one.answer;
+  sight = all.sight;
+  answers = next_text rows fields start before e old mid new stalled (Ok done) all one;
   grew = appends_both old mid new all.text one.text all.grew one.put;
 })
 answered_next rows fields start before e old mid new stalled (Err why) all one rest = inr (record {
   text = all.text ++ one.text;
-  end = store_in e.house;
-  answers = records_more rows fields start before (store_in e.house) all.text one.text all.answers one.answer;
+  end = with_sight all.sight e.house;
+  answers = next_text rows fields start before e old mid new stalled (Err why) all one;
   front = front_after old mid new all.text one.text all.grew one.put.0;
   told = one.put.1;
 })
@@ -195,15 +221,17 @@ nothing_more [] (r ∷ after) none same = absurd (omega (arith, same))
 nothing_more (b ∷ before) (r ∷ after) none same = absurd cc
 
 -- records that are answered, and the sink was flushed
-pub answered_kept : (rows : List (List (List ℕ))) (start now : Store) (old mid new : Option (List ℕ)) → AreAnswered rows start now old mid → Keeps mid new → AreAnswered rows start now old new
-answered_kept rows start now old mid new done kept = record { text = done.text; answers = done.answers; grew = appends_kept old mid new done.text done.grew kept }
+pub answered_kept : (rows : List (List (List ℕ))) (start : Store) (house : Seating) (old mid new : Option (List ℕ)) → AreAnswered rows start house old mid → Keeps mid new
+    → AreAnswered rows start house old new
+answered_kept rows start house old mid new done kept =
+    record { text = done.text; sight = done.sight; answers = done.answers; grew = appends_kept old mid new done.text done.grew kept }
 
 -- or failed in that
-pub broken_kept : (rows : List (List (List ℕ))) (start now : Store) (old mid new : Option (List ℕ)) (stalled : Bool) → AreAnswered rows start now old mid → Keeps mid new → stalled ≡ true
-    → AreBrokenOff rows start old new stalled
-broken_kept rows start now old mid new stalled done kept told = record {
+pub broken_kept : (rows : List (List (List ℕ))) (start : Store) (house : Seating) (old mid new : Option (List ℕ)) (stalled : Bool) → AreAnswered rows start house old mid
+    → Keeps mid new → stalled ≡ true → AreBrokenOff rows start old new stalled
+broken_kept rows start house old mid new stalled done kept told = record {
   text = done.text;
-  end = now;
+  end = with_sight done.sight house;
   answers = done.answers;
   front = front_all old new done.text (appends_kept old mid new done.text done.grew kept);
   told = told;
@@ -238,26 +266,26 @@ broken_front rows start bytes old new stalled state left broken few reached = re
 
 -- and what is owed of all records is written, after no fault of the sink
 module _ (start : Store) (bytes : List ℕ) (e : Engaged) (old mid new : Option (List ℕ)) where
-  stopped : (now : Store) (why : Fault) → HasComeTo start bytes e old mid → ((rows : List (List (List ℕ))) → IsUnderway rows start e old mid → AreAnswered rows start now old new)
+  stopped : (house : Seating) (why : Fault) → HasComeTo start bytes e old mid → ((rows : List (List (List ℕ))) → IsUnderway rows start e old mid → AreAnswered rows start house old new)
       → RanFront start bytes old new why
-  stopped now why come write =
+  stopped house why come write =
       let all = write come.rows come.underway in
-      front_is_whole start bytes old new why (answered_records start come.rows all.text now come.few all.answers) come.state come.left come.are_first all.grew
+      front_is_whole start bytes old new why (answered_records start come.rows all.text (with_sight all.sight house) come.few all.answers) come.state come.left come.are_first all.grew
 
   cut : (stalled : Bool) → HasComeTo start bytes e old mid → ((rows : List (List (List ℕ))) → IsUnderway rows start e old mid → AreBrokenOff rows start old new stalled)
       → RanFront start bytes old new fault.Write
   cut stalled come write = broken_front come.rows start bytes old new stalled come.state come.left (write come.rows come.underway) come.few come.are_first
 
-  pub come_whole : (now : Store) (done : Result (Unit {0}) Fault) → (done ≡ Err fault.Write → ⊥) → HasCome start bytes e old mid done
-      → ((rows : List (List (List ℕ))) → IsUnderway rows start e old mid → AreAnswered rows start now old new) → Ran start bytes old new done
-  come_whole now (Ok done) unless come write =
+  pub come_whole : (house : Seating) (done : Result (Unit {0}) Fault) → (done ≡ Err fault.Write → ⊥) → HasCome start bytes e old mid done
+      → ((rows : List (List (List ℕ))) → IsUnderway rows start e old mid → AreAnswered rows start house old new) → Ran start bytes old new done
+  come_whole house (Ok done) unless come write =
       let all = write come.rows come.underway in
-      record { answered = answered_records start come.rows all.text now come.few all.answers; are_records = come.are_records; grew = all.grew }
-  come_whole now (Err fault.Memory) unless come write = stopped now fault.Memory come write
-  come_whole now (Err fault.Field) unless come write = stopped now fault.Field come write
-  come_whole now (Err fault.Thread) unless come write = stopped now fault.Thread come write
-  come_whole now (Err fault.Read) unless come write = stopped now fault.Read come write
-  come_whole now (Err fault.Write) unless come write = absurd (unless refl)
+      record { answered = answered_records start come.rows all.text (with_sight all.sight house) come.few all.answers; are_records = come.are_records; grew = all.grew }
+  come_whole house (Err fault.Memory) unless come write = stopped house fault.Memory come write
+  come_whole house (Err fault.Field) unless come write = stopped house fault.Field come write
+  come_whole house (Err fault.Thread) unless come write = stopped house fault.Thread come write
+  come_whole house (Err fault.Read) unless come write = stopped house fault.Read come write
+  come_whole house (Err fault.Write) unless come write = absurd (unless refl)
 
   -- or the sink fails in that
   pub come_broken : (stalled : Bool) (done : Result (Unit {0}) Fault) → (done ≡ Err fault.Write → ⊥) → HasCome start bytes e old mid done
@@ -383,7 +411,7 @@ answered_taken rows fields start e old new stalled (Err why) r held is = rw is h
 
 -- a record was taken, and then what is owed was handed on
 pub handed_taken : (rows : List (List (List ℕ))) (fields : List (List ℕ)) (start : Store) (e : Engaged) (old new : Option (List ℕ)) (stalled : Bool) (done : Result (Unit {0}) Stalled) (r : Result (Unit {0}) Fault)
-    → MatchResult done (λ unit. AreAnswered (rows ++ fields ∷ []) start (store_in e.house) old new) (λ why. AreBrokenOff (rows ++ fields ∷ []) start old new stalled) → IsAtRest e
+    → MatchResult done (λ unit. AreAnswered (rows ++ fields ∷ []) start e.house old new) (λ why. AreBrokenOff (rows ++ fields ∷ []) start old new stalled) → IsAtRest e
     → MatchResult done (λ unit. r ≡ Ok unit) (λ why. r ≡ Err fault.Write) → HasTaken rows fields start e old new stalled r
 handed_taken rows fields start e old new stalled (Ok done) r held rest is = rw is (underway_at_rest (rows ++ fields ∷ []) start e old new rest held)
 handed_taken rows fields start e old new stalled (Err why) r held rest is = rw is (inr held)
@@ -410,6 +438,8 @@ report_word word.Number asked is = absurd cc
 report_word word.Post asked is = absurd cc
 report_word word.Give asked is = absurd cc
 report_word word.Take asked is = absurd cc
+report_word word.Divide asked is = absurd cc
+report_word word.Dissolve asked is = absurd cc
 report_word word.Recut asked is = absurd cc
 report_word word.Views asked is = let same : asked ≡ report.Views = cc in rw same refl
 report_word word.Scan asked is = let same : asked ≡ report.Scan = cc in rw same refl
@@ -434,6 +464,8 @@ recut_word word.Number is = absurd cc
 recut_word word.Post is = absurd cc
 recut_word word.Give is = absurd cc
 recut_word word.Take is = absurd cc
+recut_word word.Divide is = absurd cc
+recut_word word.Dissolve is = absurd cc
 recut_word word.Views is = absurd cc
 recut_word word.Scan is = absurd cc
 recut_word word.Index is = absurd cc

@@ -1,6 +1,6 @@
 -- How the text of a run grows, record by record.
 use Rattle.std.proofs.Common.{◌≡◌, refl, sym, ap, ◌∙◌, subst, ℕ, ◌+◌, ◌≤◌, ◌<◌, List, [], ◌∷◌, ◌++◌, length, Option, Some, None, Bool, true, false, append_assoc, length-append, ◌⊎◌, inl, inr, arith}
-use Rattle.std.specs.Prelude.{◌==◌, IfSome, IfOk, IfErr, MatchResult, option_map, Result, Ok, Err}
+use Rattle.std.specs.Prelude.{◌==◌, IfSome, option_map, Result, Ok, Err}
 use Rattle.std.specs.Result.{is_err}
 use Rattle.std.proofs.lemmas.Bool.{false≢true}
 use Rattle.std.proofs.lemmas.Bool.Decides.{nat_tests}
@@ -18,8 +18,6 @@ use Rattle.hlr.specs.declared.records.Report.TheVariants as report
 use Rattle.hlr.specs.declared.records.Word.{Word}
 use Rattle.hlr.specs.declared.records.Word.TheVariants as word
 use Rattle.hlr.specs.Inside.{Answers, word_of_report, report_on}
-use Rattle.hlr.specs.Lines.{reply_line, refused_line}
-use Rattle.hlr_core.specs.declared.event.Reply.{Reply}
 use Rattle.hlr.specs.Sink.{Puts}
 use Rattle.hlr.specs.Run.{WritesWhole, AnsweredRecords, RanWhole, RanFront, Ran}
 use Rattle.hlr.specs.Text.{CommandText, RecordText, RecordsText}
@@ -300,10 +298,3 @@ report_refused fields report.Propose is more = rw (← is, not_one (length field
 pub recut_named : (fields : List (List ℕ)) → Some word.Recut ≡ word_named (field fields 0) → command_of fields ≡ Ok command.Recut
 unfolding command_of
 recut_named fields is = rw (← is) refl
-
--- the line of what was told, or refused, answers as these do
-pub told_text : (fields : List (List ℕ)) (asked : Result Command Refusal) (before after : Store) (told : Result Reply Refusal) (line : List ℕ)
-    → MatchResult told (λ reply. line ≡ reply_line reply) (λ why. line ≡ refused_line why)
-    → IfOk told (λ reply. CommandText fields asked before (reply_line reply) after) → IfErr told (λ why. CommandText fields asked before (refused_line why) after) → CommandText fields asked before line after
-told_text fields asked before after (Ok reply) line is done refused = rw is done
-told_text fields asked before after (Err why) line is done refused = rw is refused

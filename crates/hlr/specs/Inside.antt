@@ -110,7 +110,6 @@ pub record IsOwed (rows : List (List (List ℕ))) (before : Store) (engine : Eng
   pub events : List Event
   pub asked : AskFor rows events
   pub stands : Stands engine before (map Took events)
-  pub sight : before.sight ≡ engine.house.spare.view.seen
 
 -- of records from a store on, the first are answered, and the sink took their text; the answers to the others are owed
 pub record IsUnderway (rows : List (List (List ℕ))) (start : Store) (engine : Engaged) (old new : Option (List ℕ))
@@ -124,10 +123,16 @@ pub record IsUnderway (rows : List (List (List ℕ))) (start : Store) (engine : 
   pub grew : Appends old new text
   pub owes : IsOwed owed now engine
 
--- records from a store on are answered, and the sink took their text
-pub record AreAnswered (rows : List (List (List ℕ))) (start now : Store) (old new : Option (List ℕ)) : Type 0 where
+-- the store of a register, with some sight of the words, of which no text tells
+abbrev pub with_sight : List ℕ → Seating → Store
+with_sight sight house = record (store_in house) { sight = sight }
+
+-- records from a store on are answered, up to the store of a register, and the sink took their text
+pub record AreAnswered (rows : List (List (List ℕ))) (start : Store) (house : Seating) (old new : Option (List ℕ))
+    : Type 0 where
   pub text : List ℕ
-  pub answers : RecordsText rows start text now
+  pub sight : List ℕ
+  pub answers : RecordsText rows start text (with_sight sight house)
   pub grew : Appends old new text
 
 -- records from a store on are answered, of whose text the sink took a front and then told of a fault
@@ -143,7 +148,7 @@ pub record AreBrokenOff (rows : List (List (List ℕ))) (start : Store) (old new
 abbrev pub WritesOwed : Engaged → Seating → Option (List ℕ) → Option (List ℕ) → Bool → Result (Unit {0}) Stalled → Type 0
 WritesOwed before after taken new stalled r =
     (rows : List (List (List ℕ))) (start : Store) (old : Option (List ℕ)) → IsUnderway rows start before old taken
-    → MatchResult r (λ done. AreAnswered rows start (store_in after) old new) (λ why. AreBrokenOff rows start old new stalled)
+    → MatchResult r (λ done. AreAnswered rows start after old new) (λ why. AreBrokenOff rows start old new stalled)
 
 -- nothing is owed: no event is pending, and the engine stands at its register
 pub record IsAtRest (engine : Engaged) : Type 0 where

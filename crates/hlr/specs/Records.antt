@@ -41,6 +41,8 @@ word_named text =
     else if bytes_eq text (codes "post") then Some word.Post
     else if bytes_eq text (codes "give") then Some word.Give
     else if bytes_eq text (codes "take") then Some word.Take
+    else if bytes_eq text (codes "divide") then Some word.Divide
+    else if bytes_eq text (codes "dissolve") then Some word.Dissolve
     else if bytes_eq text (codes "views") then Some word.Views
     else if bytes_eq text (codes "scan") then Some word.Scan
     else if bytes_eq text (codes "index") then Some word.Index
@@ -194,6 +196,19 @@ take_of fields = do
   part ← number_field (field fields 2)
   Ok (command.Ask (event.Take piece part))
 
+-- divide,part,at
+abbrev pub divide_of : List (List ℕ) → Result Command Refusal
+divide_of fields = do
+  part ← number_field (field fields 1)
+  at ← number_field (field fields 2)
+  Ok (command.Ask (event.Divide part at))
+
+-- dissolve,part
+abbrev pub dissolve_of : List (List ℕ) → Result Command Refusal
+dissolve_of fields = do
+  part ← number_field (field fields 1)
+  Ok (command.Ask (event.Dissolve part))
+
 -- the bounds of a re-cut; no register has more than 15, so more are Field
 unfoldable pub bound_fields : List (List ℕ) → Result (List ℕ) Refusal
 bound_fields texts = if nat_lt MOST_BOUNDS (length texts) then Err Field else number_fields texts
@@ -228,6 +243,8 @@ command_named (Some word.Scan) fields = with_fields 0 fields (Ok command.Scan)
 command_named (Some word.Index) fields = with_fields 0 fields (Ok command.Index)
 command_named (Some word.Give) fields = with_fields 3 fields (give_of fields)
 command_named (Some word.Take) fields = with_fields 2 fields (take_of fields)
+command_named (Some word.Divide) fields = with_fields 2 fields (divide_of fields)
+command_named (Some word.Dissolve) fields = with_fields 1 fields (dissolve_of fields)
 command_named (Some word.Regions) fields = with_fields 0 fields (Ok command.Regions)
 command_named (Some word.Propose) fields = with_fields 0 fields (Ok command.Propose)
 command_named (Some word.Recut) fields = Ok command.Recut

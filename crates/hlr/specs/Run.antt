@@ -23,8 +23,8 @@ WritesWhole fault.Thread written text = written ≡ text
 WritesWhole fault.Read written text = written ≡ text
 
 -- records that a run answered, as many as it may at most, with their text and the store after them: what they order of
--- the register is a right run, with the answers that the text tells, and gives, takes and re-cuts change none of these
--- but Moving
+-- the register is a right run, with the answers that the text tells, and gives, takes, re-cuts and parts that come and
+-- go change none of these but Moving
 pub record AnsweredRecords (start : Store) : Type 0 where
   pub rows : List (List (List ℕ))
   pub few : length rows ≤ RECORDS

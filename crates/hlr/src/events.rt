@@ -208,6 +208,26 @@ pub fn read_take(row: &ByteRecord) -> Result<(u64, u64), Refusal>
     Ok((piece, part))
 }
 
+/// Reads `divide,part,at`.
+#[inline(always)]
+pub fn read_divide(row: &ByteRecord) -> Result<(u64, u64), Refusal>
+    ensures { command_named (Some word.Divide) (fields_of row.now) ≡ asks (λ f. event.Divide f.0 f.1) result }
+{
+    check_len(row, 3)?;
+    let part = parse_number(field(row, 1))?;
+    let at = parse_number(field(row, 2))?;
+    Ok((part, at))
+}
+
+/// Reads `dissolve,part`.
+#[inline(always)]
+pub fn read_dissolve(row: &ByteRecord) -> Result<u64, Refusal>
+    ensures { command_named (Some word.Dissolve) (fields_of row.now) ≡ asks event.Dissolve result }
+{
+    check_len(row, 2)?;
+    parse_number(field(row, 1))
+}
+
 /// The event that a record of the word `gsd` asks for.
 fn gsd_event(row: &ByteRecord) -> Result<Event, Refusal>
     ensures { command_named (Some word.Gsd) (fields_of row.now) ≡ asks (λ e. e) result }
@@ -331,6 +351,22 @@ fn take_event(row: &ByteRecord) -> Result<Event, Refusal>
     Ok(Event::Take { piece, part })
 }
 
+/// The event that a record of the word `divide` asks for.
+fn divide_event(row: &ByteRecord) -> Result<Event, Refusal>
+    ensures { command_named (Some word.Divide) (fields_of row.now) ≡ asks (λ e. e) result }
+{
+    let (part, at) = read_divide(row)?;
+    Ok(Event::Divide { part, at })
+}
+
+/// The event that a record of the word `dissolve` asks for.
+fn dissolve_event(row: &ByteRecord) -> Result<Event, Refusal>
+    ensures { command_named (Some word.Dissolve) (fields_of row.now) ≡ asks (λ e. e) result }
+{
+    let part = read_dissolve(row)?;
+    Ok(Event::Dissolve { part })
+}
+
 /// The event that a record of the word `sub` asks for.
 fn sub_event(row: &ByteRecord) -> Result<Event, Refusal>
     ensures { command_named (Some word.Sub) (fields_of row.now) ≡ asks (λ e. e) result }
@@ -373,6 +409,8 @@ pub fn event_of(word: Word, row: &ByteRecord) -> Result<Event, Refusal>
         Word::Post => post_event(row),
         Word::Give => give_event(row),
         Word::Take => take_event(row),
+        Word::Divide => divide_event(row),
+        Word::Dissolve => dissolve_event(row),
         _ => unreachable!(),
     }
 }

@@ -3,7 +3,7 @@ ghost use Rattle.std.specs.Prelude.{◌≡◌, ◌≤◌, ◌<◌, ◌+◌, ◌*
 ghost use Rattle.std.specs.Fmt.{signed_decimal};
 ghost use Rattle.tatp_rows.specs.Number.{number_text};
 ghost use Rattle.hlr_core.specs.Step.{edited_reply};
-ghost use Rattle.hlr.specs.Lines.{hex_digit, hexes_text, bytes_text, numbers_text, ok_line, refused_line, subscriber_line, numbers_line, access_line, total_line, cell_line, counted_line, number_line, place_text, region_line, taken_line, decimals_text, bounds_line, recut_line, row_reply_line, reply_line};
+ghost use Rattle.hlr.specs.Lines.{hex_digit, hexes_text, bytes_text, numbers_text, ok_line, refused_line, subscriber_line, numbers_line, access_line, total_line, cell_line, counted_line, number_line, place_text, region_line, taken_line, parted_line, decimals_text, bounds_line, recut_line, row_reply_line, reply_line};
 
 use arrayvec::ArrayVec;
 use hlr_core::Reply;
@@ -363,6 +363,23 @@ pub fn build_taken(line: &mut Line, piece: u8, part: u8)
     line.put_word(b"taken,");
 }
 
+/// Builds the line of a part that came, or has the rows of one that went: a word, which ends with a comma, the part's
+/// number, and where it begins and ends.
+#[tactic(auto, unfolding(crate::specs::Lines::parted_line))]
+pub fn build_parted(line: &mut Line, word: &[u8], part: u8, lo: u32, hi: u32)
+    requires { length word.now ≤ 10 }
+    ensures { line.new.items ≡ parted_line word.now part lo hi }
+{
+    line.clear();
+    line.put_byte(b'\n');
+    line.put_decimal(u64::from(hi));
+    line.put_byte(b',');
+    line.put_decimal(u64::from(lo));
+    line.put_byte(b',');
+    line.put_decimal(u64::from(part));
+    line.put(word);
+}
+
 /// Puts bounds between parts in front, each after a comma.
 fn put_bounds(line: &mut Line, bounds: &Bounds)
     requires { length line.old.items + 315 ≤ LINE_ROOM }
@@ -441,16 +458,8 @@ pub fn build_reply(line: &mut Line, reply: &Reply)
             build_region(line, &region);
         }
         Reply::Taken { piece, part } => build_taken(line, *piece, *part),
+        Reply::Divided { part, lo, hi } => build_parted(line, b"divided,", *part, *lo, *hi),
+        Reply::Dissolved { part, lo, hi } => build_parted(line, b"dissolved,", *part, *lo, *hi),
         Reply::Refused(why) => build_refused(line, *why),
-    }
-}
-
-/// Builds the line of a reply, or of a refusal.
-pub fn build_told(line: &mut Line, told: Result<Reply, Refusal>)
-    ensures { MatchResult told (λ reply. line.new.items ≡ reply_line reply) (λ why. line.new.items ≡ refused_line why) }
-{
-    match told {
-        Ok(reply) => build_reply(line, &reply),
-        Err(why) => build_refused(line, why),
     }
 }

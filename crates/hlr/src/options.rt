@@ -11,7 +11,7 @@ use std::alloc::{AllocError, Global};
 use tatp_rows::GREATEST_WIDTH;
 
 /// The version that the program answers.
-const VERSION: &str = "0.2.0";
+const VERSION: &str = "0.3.0";
 
 /// What the program is.
 const ABOUT: &str = "A home location register. It answers command records.";
@@ -37,6 +37,8 @@ the program waits for more input.
   give,P,high,S                  the part P gives its subscribers from S on away, as a loose piece: piece,K,FROM,TO
   give,P,low,S                   the same with those below S
   take,K,P                       the part P takes the loose piece K beside it: taken,K,P
+  divide,P,S                     a new part Q, P + 1, gets the part P's subscribers from S on: divided,Q,FROM,TO
+  dissolve,P                     the part Q, P - 1, gets the part P's subscribers: dissolved,Q,FROM,TO
   views                          shows the counts that aren't 0: cell,CELL,PUBLISHED,UNPOSTED lines, then views,LINES
   scan                           counts the rows anew: cell,CELL,COUNT lines, then scan,LINES
   index                          shows all numbers: number,N,S lines, then index,LINES
@@ -53,6 +55,7 @@ Any other record, or one that can't be done, is answered refused,CODE,NAME, by w
   1 Memory          2 Field           3 NoSubscriber    4 NoNumber        5 NoAccess        6 NoFacility
   7 NoForwarding    8 NoDestination   9 Exists         10 NumberTaken    11 Moving         12 NoPart
  13 NoPiece        14 OutOfRange     15 NotAdjacent    16 ManyPieces     17 Worn           19 Syntax
+ 22 ManyParts
 
 18 Thread, 20 Read and 21 Write are no answers. A blank line has none.
 
@@ -63,8 +66,10 @@ the subscribers by area, cell 24 + V / 268435456; 40 to 71 of the rows of all ki
 The subscribers are shared among parts, numbered from 0: each part has those from a number FROM on and below a number
 TO, and publishes their counts. What a part gives away is a loose piece until a part beside it takes it; till then
 its subscribers are answered refused,11,Moving. A bound S between two parts is the first subscriber of the second.
-propose shares rows out by whole zones, so give --zone the greatest S divided by 32, rounded up, and post every part
-before propose, which goes by the published counts.
+Parts may come and go, with 1 to 16 at any time; the numbers of those behind rise or fall by one. What a part that
+goes has published is taken back, and is unposted in the part that gets its subscribers. propose shares rows out by
+whole zones, so give --zone the greatest S divided by 32, rounded up, and post every part before propose, which goes
+by the published counts.
 
 Example:
 
@@ -78,7 +83,7 @@ option is wrong.";
 /// The options of the program.
 #[derive(Clone, Copy, Debug, PartialEq, Eq)]
 pub struct Options {
-    /// How many parts share the subscribers, 1..=16.
+    /// How many parts share the subscribers at first, 1..=16.
     pub parts: u8,
     /// How many subscribers a zone has, 1..=524,288.
     pub width: u32,
@@ -94,7 +99,7 @@ fn parts_arg<'a>(alloc: Global) -> Arg<'a>
     Arg::new(alloc, "parts")
         .long("parts")
         .value_name("N")
-        .help("How many parts share the subscribers, 1 to 16")
+        .help("How many parts share the subscribers at first, 1 to 16")
         .value_parser(ValueParser::signed(1, i64::from(MOST_PARTS)))
         .default_value("1")
 }

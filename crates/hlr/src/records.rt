@@ -46,6 +46,10 @@ pub enum Word {
     Give,
     /// `take`, by which a part takes a loose piece.
     Take,
+    /// `divide`, by which a part is divided in two.
+    Divide,
+    /// `dissolve`, by which a part's rows go to the part in front.
+    Dissolve,
     /// `views`, the report of the standing counts.
     Views,
     /// `scan`, the report of the counts over the rows.
@@ -123,6 +127,8 @@ pub fn word_of(text: &[u8]) -> Option<Word>
         b"post" => Word::Post,
         b"give" => Word::Give,
         b"take" => Word::Take,
+        b"divide" => Word::Divide,
+        b"dissolve" => Word::Dissolve,
         b"views" => Word::Views,
         b"scan" => Word::Scan,
         b"index" => Word::Index,

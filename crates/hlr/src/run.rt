@@ -23,8 +23,8 @@ use crate::edits::{
     set_number, update_location, update_subscriber,
 };
 use crate::fault::{Fault, read_fault};
-use crate::lines::{Line, build_done, build_recut, build_refused, build_told, empty_line};
-use crate::moves::{give, post, take};
+use crate::lines::{Line, build_done, build_recut, build_refused, empty_line};
+use crate::moves::{build_dissolve, build_divide, build_give, build_post, build_take};
 use crate::owed::{OpenGate, answer_all_by};
 use crate::records::{Report, Word, field, read_bounds, word_of};
 use crate::reports::{write_index, write_proposal, write_regions, write_scan, write_views};
@@ -131,9 +131,11 @@ fn answer_word<S: Sink>(
         Word::Fac => build_done(line, add_facility(row, register)),
         Word::Active => build_done(line, set_active(row, register)),
         Word::Number => build_done(line, set_number(row, register)),
-        Word::Post => build_told(line, post(row, register)),
-        Word::Give => build_told(line, give(row, register)),
-        Word::Take => build_told(line, take(row, register)),
+        Word::Post => build_post(row, register, line),
+        Word::Give => build_give(row, register, line),
+        Word::Take => build_take(row, register, line),
+        Word::Divide => build_divide(row, register, line),
+        Word::Dissolve => build_dissolve(row, register, line),
         Word::Views => return answer_report(Report::Views, row, register, line, sink),
         Word::Scan => return answer_report(Report::Scan, row, register, line, sink),
         Word::Index => return answer_report(Report::Index, row, register, line, sink),

@@ -1,6 +1,7 @@
 //! What no clause says: readers and writers that are slow or fail, answers that come before a read may wait, the limit
 //! of records, and the options. Whole scripts lie in the repository's folder `examples`, each with its answers.
 mod any_bytes;
+mod parts;
 
 use crate::fault::Fault;
 use crate::fields::{parse_byte, parse_bytes, parse_digits, parse_number};
@@ -827,6 +828,7 @@ fn lines_and_fields_are_as_told(rt: HostRuntime) {
     build_recut(&mut line, Ok(15));
     assert_eq!(rt; line.as_slice(), b"recut,15\n".as_slice());
     assert_eq!(rt; word_of(b"recut"), Some(Word::Recut));
+    assert_eq!(rt; word_of(b"dissolve"), Some(Word::Dissolve));
     assert_eq!(rt; parse_byte(b"00255"), Ok(255));
     assert_eq!(rt; parse_byte(b"256"), Err(Refusal::Field));
     assert_eq!(rt; parse_digits::<3>(b"aF0", 16), Ok([10, 15, 0]));

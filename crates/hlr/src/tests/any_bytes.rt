@@ -22,7 +22,7 @@ const FIRST: [&[u8]; 2] = [
 ];
 
 /// The records of which the rest is drawn.
-const RECORDS: [&[u8]; 40] = [
+const RECORDS: [&[u8]; 44] = [
     b"sub,8,000000000000008,0000000000,0000000000,00000000000000000000,1,1",
     b"acc,7,1,255,0,ABC,VWXYZ",
     b"acc,66,4,0,9,DEF,ABCDE",
@@ -57,6 +57,10 @@ const RECORDS: [&[u8]; 40] = [
     b"take,1,0",
     b"take,1,1",
     b"take,2,1",
+    b"divide,0,5",
+    b"divide,1,70",
+    b"dissolve,1",
+    b"dissolve,2",
     b"views",
     b"scan",
     b"index",
@@ -166,7 +170,7 @@ impl Draws {
 
     /// Puts one of the records.
     fn put_any_record(&mut self, input: &mut Input) {
-        let record = RECORDS[(self.next() % 40) as usize];
+        let record = RECORDS[(self.next() % 44) as usize];
         self.put_record(record, input);
     }
 

@@ -65,6 +65,14 @@ pub returns-in-take : goal.returns-in-take
 unfolding word_named
 returns-in-take c = rw (text_from_reads c.args.text.now (codes "take") (omega arith) (search rules)) refl
 
+pub returns-in-divide : goal.returns-in-divide
+unfolding word_named
+returns-in-divide c = rw (text_from_reads c.args.text.now (codes "divide") (omega arith) (search rules)) refl
+
+pub returns-in-dissolve : goal.returns-in-dissolve
+unfolding word_named
+returns-in-dissolve c = rw (text_from_reads c.args.text.now (codes "dissolve") (omega arith) (search rules)) refl
+
 pub returns-in-views : goal.returns-in-views
 unfolding word_named
 returns-in-views c = rw (text_from_reads c.args.text.now (codes "views") (omega arith) (search rules)) refl

@@ -2,8 +2,8 @@ use Rattle.std.proofs.Common.{refl}
 use Rattle.csv.specs.Records.{fields_of}
 use Rattle.hlr_owners.specs.Seats.{store_in}
 use Rattle.hlr.specs.Text.{RecordText}
-use Rattle.hlr.proofs.RunFacts.{answered, named_text, recut_named, told_text}
-use Rattle.hlr.proofs.run.answer_word.Goals.{in-Gsd, in-Gad, in-Gnd, in-Usd, in-Ul, in-Icf, in-Dcf, in-Sub, in-Acc, in-Fac, in-Active, in-Number, in-Post, in-Give, in-Take, After-put_all}
+use Rattle.hlr.proofs.RunFacts.{answered, named_text, recut_named}
+use Rattle.hlr.proofs.run.answer_word.Goals.{in-Gsd, in-Gad, in-Gnd, in-Usd, in-Ul, in-Icf, in-Dcf, in-Sub, in-Acc, in-Fac, in-Active, in-Number, in-Post, in-Give, in-Take, in-Divide, in-Dissolve, After-put_all}
 use Rattle.hlr.proofs.run.answer_word.Goals as goal
 
 -- what the line answers
@@ -21,9 +21,11 @@ answer_text g c = elim c.match-word.branch [
   | in-Fac w ↦ named_text _ _ _ _ _ c.requires.named (rw (w.in-Fac.is, w.line-is, w.build_done-in-Fac.ensures, w.register-is) w.add_facility.ensures.text)
   | in-Active w ↦ named_text _ _ _ _ _ c.requires.named (rw (w.in-Active.is, w.line-is, w.build_done-in-Active.ensures, w.register-is) w.set_active.ensures.text)
   | in-Number w ↦ named_text _ _ _ _ _ c.requires.named (rw (w.in-Number.is, w.line-is, w.build_done-in-Number.ensures, w.register-is) w.set_number.ensures.text)
-  | in-Post w ↦ named_text _ _ _ _ _ c.requires.named (rw (w.in-Post.is, w.line-is) (told_text (fields_of c.args.row.now) _ (store_in c.args.register.now) (store_in c.match-word.register) w.post.result _ w.build_told.ensures (rw (w.register-is) w.post.ensures.done) (rw (w.register-is) w.post.ensures.refused)))
-  | in-Give w ↦ named_text _ _ _ _ _ c.requires.named (rw (w.in-Give.is, w.line-is) (told_text (fields_of c.args.row.now) _ (store_in c.args.register.now) (store_in c.match-word.register) w.give.result _ w.build_told-in-Give.ensures (rw (w.register-is) w.give.ensures.done) (rw (w.register-is) w.give.ensures.refused)))
-  | in-Take w ↦ named_text _ _ _ _ _ c.requires.named (rw (w.in-Take.is, w.line-is) (told_text (fields_of c.args.row.now) _ (store_in c.args.register.now) (store_in c.match-word.register) w.take.result _ w.build_told-in-Take.ensures (rw (w.register-is) w.take.ensures.done) (rw (w.register-is) w.take.ensures.refused)))
+  | in-Post w ↦ named_text _ _ _ _ _ c.requires.named (rw (w.in-Post.is, w.line-is, w.register-is) w.build_post.ensures.text)
+  | in-Give w ↦ named_text _ _ _ _ _ c.requires.named (rw (w.in-Give.is, w.line-is, w.register-is) w.build_give.ensures.text)
+  | in-Take w ↦ named_text _ _ _ _ _ c.requires.named (rw (w.in-Take.is, w.line-is, w.register-is) w.build_take.ensures.text)
+  | in-Divide w ↦ named_text _ _ _ _ _ c.requires.named (rw (w.in-Divide.is, w.line-is, w.register-is) w.build_divide.ensures.text)
+  | in-Dissolve w ↦ named_text _ _ _ _ _ c.requires.named (rw (w.in-Dissolve.is, w.line-is, w.register-is) w.build_dissolve.ensures.text)
 ]
 
 pub returns-clause-text : goal.returns-clause-text
@@ -43,9 +45,11 @@ returns-clause-home g c = elim c.match-word.branch [
   | in-Fac w ↦ rw (w.register-is) w.add_facility.ensures.home
   | in-Active w ↦ rw (w.register-is) w.set_active.ensures.home
   | in-Number w ↦ rw (w.register-is) w.set_number.ensures.home
-  | in-Post w ↦ rw (w.register-is) w.post.ensures.home
-  | in-Give w ↦ rw (w.register-is) w.give.ensures.home
-  | in-Take w ↦ rw (w.register-is) w.take.ensures.home
+  | in-Post w ↦ rw (w.register-is) w.build_post.ensures.home
+  | in-Give w ↦ rw (w.register-is) w.build_give.ensures.home
+  | in-Take w ↦ rw (w.register-is) w.build_take.ensures.home
+  | in-Divide w ↦ rw (w.register-is) w.build_divide.ensures.home
+  | in-Dissolve w ↦ rw (w.register-is) w.build_dissolve.ensures.home
 ]
 
 pub write_recut-requires-clause-named : goal.write_recut-requires-clause-named

@@ -1,9 +1,0 @@
-use Rattle.hlr_owners.proofs.HomeLemmas.{part_home_of_all}
-use Rattle.hlr_core.proofs.HomeLemmas.{still_home}
-use Rattle.hlr.proofs.moves.give.Goals as goal
-
-pub apply-requires : goal.apply-requires
-apply-requires c = part_home_of_all _ c.args.register.now c.requires
-
-pub returns-clause-home : goal.returns-clause-home
-returns-clause-home c = still_home _ _ c.apply.ensures.house c.requires
