@@ -59,9 +59,10 @@ enum {
     HLR_NO_PART = 12,       /* there is no such part */
     HLR_NO_PIECE = 13,      /* there is no such loose piece */
     HLR_OUT_OF_RANGE = 14,  /* at isn't strictly inside the part's range */
-    HLR_NOT_ADJACENT = 15,  /* the piece doesn't touch the part */
+    HLR_NOT_ADJACENT = 15,  /* the piece doesn't touch the part; of hlr_dissolve: no part touches it in front */
     HLR_MANY_PIECES = 16,   /* sixteen pieces are loose */
     HLR_WORN = 17,          /* a word of the board is at its limit, 2^63 - 1 */
+    HLR_MANY_PARTS = 22,    /* sixteen parts are there */
     HLR_NOT_OPEN = 254,     /* the handle has no register */
     HLR_STILL_OPEN = 255    /* the handle of hlr_open has a register */
 };
@@ -216,6 +217,20 @@ uint8_t hlr_give(hlr *handle, uint64_t part, uint64_t side, uint64_t at, hlr_reg
 
 /* A part takes a loose piece that touches it. HLR_NO_PIECE, HLR_NO_PART, HLR_NOT_ADJACENT, HLR_MEMORY. */
 uint8_t hlr_take(hlr *handle, uint64_t piece, uint64_t part);
+
+/*
+ * Divides a part at a subscriber: it keeps what is below at, and a new part with the next number has the rest, of which
+ * nothing is published yet; later parts' numbers rise by one. Tells the new part.
+ * HLR_NO_PART, HLR_OUT_OF_RANGE, HLR_MANY_PARTS, HLR_MEMORY.
+ */
+uint8_t hlr_divide(hlr *handle, uint64_t part, uint64_t at, hlr_region *made);
+
+/*
+ * Dissolves a part: the part in front has its rows, what it had published is taken back, and later parts' numbers fall
+ * by one. Tells the part in front as it is then.
+ * HLR_NO_PART, HLR_NOT_ADJACENT (it is the first part, or a loose piece lies in front of it), HLR_MEMORY.
+ */
+uint8_t hlr_dissolve(hlr *handle, uint64_t part, hlr_region *front);
 
 /* All regions, in order. */
 uint8_t hlr_regions(hlr *handle, hlr_region_list *regions);

@@ -1,5 +1,6 @@
 /* A day of traffic in small, with the register as a library (the README's "For C" builds it): two subscribers in two
- * parts, a call that is forwarded, a move, what the counts say, and a bound that goes to where the rows are. */
+ * parts, a call that is forwarded, a move, what the counts say, a bound that goes to where the rows are, and a third
+ * part for a while. */
 #include "hlr.h"
 #include <inttypes.h>
 #include <stdio.h>
@@ -28,6 +29,7 @@ int main(void) {
     hlr_facility forwarding = {.s_id = 7, .sf_type = 2, .is_active = 1, .data_b = {'A', 'B', 'C', 'D', 'E'}};
     hlr_numbers numbers;
     hlr_region_list regions;
+    hlr_region part;
     hlr_bounds bounds;
     uint64_t count;
     seventy.s_id = seventy.sub_nbr = 70;
@@ -50,9 +52,12 @@ int main(void) {
     if (!views()) return 1;
     done("propose", hlr_propose(&handle, &bounds));
     if (!done("recut", hlr_recut(&handle, &bounds, &count))) return 1;
+    if (!done("divide part 1 at 70", hlr_divide(&handle, 1, 70, &part))) return 1;
     done("regions", hlr_regions(&handle, &regions));
     for (count = 0; count < regions.count; count++)
         printf("  part %" PRIu64 ": %" PRIu64 " to %" PRIu64 "\n", regions.regions[count].number, regions.regions[count].lo, regions.regions[count].hi - 1);
+    if (!done("dissolve part 2", hlr_dissolve(&handle, 2, &part))) return 1;
+    printf("  part %" PRIu64 " to %" PRIu64 "\n", part.number, part.hi - 1);
     done("close", hlr_close(&handle));
     done("read 7", hlr_subscriber_data(&handle, 7, &row));
     return 0;

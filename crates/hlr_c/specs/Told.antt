@@ -42,6 +42,12 @@ abbrev pub given_told : HlrRegion → Reply → ℕ × HlrRegion
 given_told before (reply.Given piece lo hi) = (DONE, record { lo = lo; hi = hi; is_piece = 1; number = piece })
 given_told before other = (code_told other, before)
 
+-- the code, and the new part of a divide, or the part in front of one that was dissolved
+abbrev pub part_told : HlrRegion → Reply → ℕ × HlrRegion
+part_told before (reply.Divided part lo hi) = (DONE, record { lo = lo; hi = hi; is_piece = 0; number = part })
+part_told before (reply.Dissolved part lo hi) = (DONE, record { lo = lo; hi = hi; is_piece = 0; number = part })
+part_told before other = (code_told other, before)
+
 -- the code, and how many bounds a re-cut moved
 abbrev pub recut_told : ℕ → Result ℕ Refusal → ℕ × ℕ
 recut_told before (Ok count) = (DONE, count)

@@ -1,10 +1,10 @@
-//! The calls that post and that move bounds between parts.
+//! The calls that post, that move bounds between parts, and by which parts come and go.
 ghost use Rattle.std.specs.Prelude.{◌≡◌, Ok};
 ghost use Rattle.hlr_owners.specs.Seats.{AllHome};
 ghost use Rattle.hlr_core.specs.declared.event.Event.TheVariants as event;
 ghost use Rattle.hlr_c.specs.Asked.{bounds_in, give_asked, side_of};
 ghost use Rattle.hlr_c.specs.Call.{IsAnswer, IsCall, IsRecutAnswer, IsRecutReply, IsReply};
-ghost use Rattle.hlr_c.specs.Told.{code_told, given_told, posted_told, recut_told};
+ghost use Rattle.hlr_c.specs.Told.{code_told, given_told, part_told, posted_told, recut_told};
 ghost use Rattle.hlr_c.specs.declared.codes.TheConstants.{NOT_OPEN};
 
 use crate::codes::{DONE, NOT_OPEN, code_of_reply};
@@ -22,6 +22,18 @@ fn side_of(side: u64) -> Result<Side, Refusal>
         0 => Ok(Side::Low),
         1 => Ok(Side::High),
         _ => Err(Refusal::Field),
+    }
+}
+
+/// The region of a part.
+fn part_for_c(part: u8, lo: u32, hi: u32) -> HlrRegion
+    ensures { result ≡ record { lo = lo; hi = hi; is_piece = 0; number = part } }
+{
+    HlrRegion {
+        lo: u64::from(lo),
+        hi: u64::from(hi),
+        is_piece: 0,
+        number: u64::from(part),
     }
 }
 
@@ -44,6 +56,25 @@ fn tell_given(reply: &Reply, given: &mut HlrRegion) -> u8
             is_piece: 1,
             number: u64::from(*piece),
         };
+    }
+    code_of_reply(reply)
+}
+
+fn tell_part(reply: &Reply, part: &mut HlrRegion) -> u8
+    ensures { (result, part.new) ≡ part_told part.old reply.now }
+{
+    match reply {
+        Reply::Divided {
+            part: number,
+            lo,
+            hi,
+        } => *part = part_for_c(*number, *lo, *hi),
+        Reply::Dissolved {
+            part: number,
+            lo,
+            hi,
+        } => *part = part_for_c(*number, *lo, *hi),
+        _ => {}
     }
     code_of_reply(reply)
 }
@@ -135,6 +166,47 @@ pub extern "C" fn hlr_take(alloc: Global, handle: &mut Hlr, piece: u64, part: u6
     let reply = register.apply(Event::Take { piece, part });
     handle.put(register);
     code_of_reply(&reply)
+}
+
+/// Divides a part at a subscriber: it keeps what is below, and a new part with the next number has the rest; tells the
+/// new part. Later parts' numbers rise by one. `NOT_OPEN`, `NoPart`, `OutOfRange`, `ManyParts`, `Memory`.
+#[unsafe(no_mangle)]
+pub extern "C" fn hlr_divide(
+    alloc: Global,
+    handle: &mut Hlr,
+    part: u64,
+    at: u64,
+    made: &mut HlrRegion,
+) -> u8
+    ensures { IsCall (NOT_OPEN, made.old) (IsAnswer (Ok (event.Divide part at)) (part_told made.old))
+        handle.old.kept.register (result, made.new) handle.new.kept.register }
+{
+    let Some(mut register) = handle.take(alloc) else {
+        return NOT_OPEN;
+    };
+    let reply = register.apply(Event::Divide { part, at });
+    handle.put(register);
+    tell_part(&reply, made)
+}
+
+/// Dissolves a part: the part in front has its rows, and later parts' numbers fall by one; tells the part in front, as
+/// it is then. `NOT_OPEN`, `NoPart`, `NotAdjacent` where it is the first part or a loose piece lies between, `Memory`.
+#[unsafe(no_mangle)]
+pub extern "C" fn hlr_dissolve(
+    alloc: Global,
+    handle: &mut Hlr,
+    part: u64,
+    front: &mut HlrRegion,
+) -> u8
+    ensures { IsCall (NOT_OPEN, front.old) (IsAnswer (Ok (event.Dissolve part)) (part_told front.old))
+        handle.old.kept.register (result, front.new) handle.new.kept.register }
+{
+    let Some(mut register) = handle.take(alloc) else {
+        return NOT_OPEN;
+    };
+    let reply = register.apply(Event::Dissolve { part });
+    handle.put(register);
+    tell_part(&reply, front)
 }
 
 /// Moves the bounds between parts to these, the first subscriber of each part but the first, and tells how many were

@@ -7,7 +7,7 @@ use crate::changes::{
 };
 use crate::codes::{DONE, NOT_OPEN, STILL_OPEN};
 use crate::handle::Hlr;
-use crate::moves::{hlr_give, hlr_post, hlr_recut, hlr_take};
+use crate::moves::{hlr_dissolve, hlr_divide, hlr_give, hlr_post, hlr_recut, hlr_take};
 use crate::opening::{hlr_close, hlr_open};
 use crate::reads::{hlr_access_data, hlr_new_destination, hlr_subscriber_data};
 use crate::reports::{hlr_propose, hlr_regions, hlr_scan, hlr_views};
@@ -261,6 +261,55 @@ fn sixteen_pieces(rt: HostRuntime) -> Result<(), Fail> {
     Ok(())
 }
 
+/// A part's region.
+fn part(number: u64, lo: u64, hi: u64) -> HlrRegion {
+    HlrRegion {
+        lo,
+        hi,
+        is_piece: 0,
+        number,
+    }
+}
+
+#[test]
+fn parts_come_and_go(rt: HostRuntime) -> Result<(), Fail> {
+    let alloc = rt.alloc();
+    let mut handle = opened(&rt, alloc, 1, 4);
+    let added = filled(alloc, &mut handle);
+    let mut posted = 0;
+    let (mut made, mut front, mut left) = (NO_REGION, NO_REGION, NO_REGION);
+    let (mut published, mut unposted) = ([9; CELLS as usize], [9; CELLS as usize]);
+    let codes = [
+        hlr_divide(alloc, &mut handle, 0, 5, &mut made),
+        hlr_post(alloc, &mut handle, 1, 72, &mut posted),
+        hlr_dissolve(alloc, &mut handle, 1, &mut front),
+        hlr_views(alloc, &mut handle, &mut published, &mut unposted),
+        hlr_divide(alloc, &mut handle, 0, 1, &mut left),
+        hlr_divide(alloc, &mut handle, 1, 9, &mut left),
+        hlr_dissolve(alloc, &mut handle, 1, &mut left),
+        hlr_dissolve(alloc, &mut handle, 0, &mut left),
+    ];
+    closed(&rt, alloc, handle);
+    assert_eq!(rt;
+        (added, codes, left),
+        (
+            [DONE; 5],
+            [DONE, DONE, DONE, DONE, 14, 12, 12, 15],
+            NO_REGION
+        )
+    );
+    assert_eq!(rt;
+        (made, front),
+        (part(1, 5, 16_777_217), part(0, 1, 16_777_217))
+    );
+    // what the new part had published is taken back, and pending with the one that has its rows
+    assert!(rt;
+        published == [0; CELLS as usize] && unposted[25] == 1 && unposted[41] == 4,
+        "the cells are taken back"
+    );
+    Ok(())
+}
+
 #[test]
 fn counts(rt: HostRuntime) -> Result<(), Fail> {
     let alloc = rt.alloc();
@@ -298,7 +347,7 @@ fn counts(rt: HostRuntime) -> Result<(), Fail> {
 }
 
 /// Each call on a closed handle, but for `hlr_open`: its codes; what it was to write stays.
-fn asked_closed(alloc: Global, handle: &mut Hlr) -> [u8; 21] {
+fn asked_closed(alloc: Global, handle: &mut Hlr) -> [u8; 23] {
     let (mut found, mut data, mut numbers) = (NO_ROW, NO_ACCESS, NO_NUMBERS);
     let (mut given, mut regions, mut bounds) = (NO_REGION, NO_REGIONS, NO_BOUNDS);
     let (mut published, mut unposted) = ([0; CELLS as usize], [0; CELLS as usize]);
@@ -320,6 +369,8 @@ fn asked_closed(alloc: Global, handle: &mut Hlr) -> [u8; 21] {
         hlr_post(alloc, handle, 99, 0, &mut number),
         hlr_give(alloc, handle, 99, 2, 0, &mut given),
         hlr_take(alloc, handle, 0, 99),
+        hlr_divide(alloc, handle, 99, 0, &mut given),
+        hlr_dissolve(alloc, handle, 99, &mut given),
         hlr_recut(alloc, handle, &NO_BOUNDS, &mut number),
         hlr_views(alloc, handle, &mut published, &mut unposted),
         hlr_scan(alloc, handle, &mut counted),
@@ -354,7 +405,7 @@ fn closed_handles(rt: HostRuntime) -> Result<(), Fail> {
         ([2; 6], [DONE, STILL_OPEN, DONE], DONE)
     );
     assert!(rt;
-        before == [NOT_OPEN; 21] && after == [NOT_OPEN; 21],
+        before == [NOT_OPEN; 23] && after == [NOT_OPEN; 23],
         "a closed handle says so"
     );
     Ok(())

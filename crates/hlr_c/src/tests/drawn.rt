@@ -7,7 +7,7 @@ use crate::changes::{
 };
 use crate::codes::DONE;
 use crate::handle::Hlr;
-use crate::moves::{hlr_give, hlr_post, hlr_take};
+use crate::moves::{hlr_dissolve, hlr_divide, hlr_give, hlr_post, hlr_take};
 use crate::reads::{hlr_access_data, hlr_new_destination, hlr_subscriber_data};
 use crate::rows::{HlrAccess, HlrFacility, HlrNumbers, HlrRegion, HlrSubscriber};
 use hlr_core::{
@@ -34,6 +34,8 @@ enum Asked {
     Post(u64, u64),
     Give(u64, u64, u64),
     Take(u64, u64),
+    Divide(u64, u64),
+    Dissolve(u64),
 }
 
 /// What a call answers: what it wrote, where it was done, else its code.
@@ -44,7 +46,7 @@ enum Answer {
     Access(HlrAccess),
     Numbers(HlrNumbers),
     Posted(u64),
-    Given(HlrRegion),
+    Region(HlrRegion),
 }
 
 /// Numbers that look random (xorshift).
@@ -127,10 +129,12 @@ impl Draws {
     }
 
     fn moving(&mut self) -> Asked {
-        match self.next() % 4 {
-            0 => Asked::Give(self.below(4), self.below(3), self.below(44)),
-            1 | 2 => Asked::Take(self.below(18), self.below(4)),
-            _ => Asked::Post(self.below(4), self.below(80)),
+        match self.next() % 16 {
+            0 | 1 => Asked::Give(self.below(17), self.below(3), self.below(44)),
+            2..=6 => Asked::Take(self.below(18), self.below(17)),
+            7..=11 => Asked::Divide(self.below(17), self.below(44)),
+            12 => Asked::Dissolve(self.below(128)),
+            _ => Asked::Post(self.below(17), self.below(80)),
         }
     }
 
@@ -241,7 +245,18 @@ fn event_of(asked: &Asked) -> Result<Event, Refusal> {
             at,
         },
         Asked::Take(piece, part) => Event::Take { piece, part },
+        Asked::Divide(part, at) => Event::Divide { part, at },
+        Asked::Dissolve(part) => Event::Dissolve { part },
     })
+}
+
+fn region(lo: u32, hi: u32, is_piece: u64, number: u8) -> HlrRegion {
+    HlrRegion {
+        lo: u64::from(lo),
+        hi: u64::from(hi),
+        is_piece,
+        number: u64::from(number),
+    }
 }
 
 /// What a register's reply is to be told as.
@@ -269,12 +284,10 @@ fn told(asked: &Asked, reply: &Reply) -> Answer {
             Answer::Numbers(list)
         }
         (_, Reply::Posted(count)) => Answer::Posted(u64::from(*count)),
-        (_, Reply::Given { piece, lo, hi }) => Answer::Given(HlrRegion {
-            lo: u64::from(*lo),
-            hi: u64::from(*hi),
-            is_piece: 1,
-            number: u64::from(*piece),
-        }),
+        (_, Reply::Given { piece, lo, hi }) => Answer::Region(region(*lo, *hi, 1, *piece)),
+        (_, Reply::Divided { part, lo, hi } | Reply::Dissolved { part, lo, hi }) => {
+            Answer::Region(region(*lo, *hi, 0, *part))
+        }
         _ => Answer::Code(DONE),
     }
 }
@@ -328,15 +341,23 @@ fn read(alloc: Global, handle: &mut Hlr, asked: &Asked) -> Answer {
 
 fn moved(alloc: Global, handle: &mut Hlr, asked: &Asked) -> Answer {
     let mut posted = 0;
-    let mut given = NO_REGION;
+    let mut region = NO_REGION;
     match *asked {
         Asked::Post(part, limit) => {
             let code = hlr_post(alloc, handle, part, limit, &mut posted);
             wrote(code, Answer::Posted(posted))
         }
         Asked::Give(part, side, at) => {
-            let code = hlr_give(alloc, handle, part, side, at, &mut given);
-            wrote(code, Answer::Given(given))
+            let code = hlr_give(alloc, handle, part, side, at, &mut region);
+            wrote(code, Answer::Region(region))
+        }
+        Asked::Divide(part, at) => {
+            let code = hlr_divide(alloc, handle, part, at, &mut region);
+            wrote(code, Answer::Region(region))
+        }
+        Asked::Dissolve(part) => {
+            let code = hlr_dissolve(alloc, handle, part, &mut region);
+            wrote(code, Answer::Region(region))
         }
         Asked::Take(piece, part) => Answer::Code(hlr_take(alloc, handle, piece, part)),
         _ => read(alloc, handle, asked),
@@ -377,7 +398,7 @@ fn difference(
     alloc: Global,
     handle: &mut Hlr,
     register: &mut Register,
-    codes: &mut [u32; 18],
+    codes: &mut [u32; 23],
 ) -> Option<u32> {
     let mut draws = Draws {
         seed: 88_172_645_463_325_252,
@@ -402,7 +423,7 @@ fn difference(
 #[test]
 fn drawn_events(rt: HostRuntime) -> Result<(), Fail> {
     let alloc = rt.alloc();
-    let mut codes = [0; 18];
+    let mut codes = [0; 23];
     let mut handle = opened(&rt, alloc, 3, 1);
     let Ok(mut register) = Register::open(alloc, 3, 1) else {
         panic!(rt; "a register is opened")
@@ -410,8 +431,8 @@ fn drawn_events(rt: HostRuntime) -> Result<(), Fail> {
     let differs = difference(alloc, &mut handle, &mut register, &mut codes);
     drop(register);
     closed(&rt, alloc, handle);
-    // want of memory, sixteen pieces and a worn word are not drawn
+    // want of memory, sixteen pieces and a worn word are not drawn, and four refusals are those of runs alone
     let rare = codes.iter().filter(|count| **count == 0).count();
-    assert_eq!(rt; (differs, rare), (None, 3));
+    assert_eq!(rt; (differs, rare), (None, 7));
     Ok(())
 }
