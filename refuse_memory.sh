@@ -141,6 +141,11 @@ script() {
   cut 300 301
   cut 2 16777216
   cut 2 3
+  printf 'divide,2,400\ndivide,2,100\n' | twice
+  printf 'post,3,20\npost,4,72\ngsd,399\ngsd,400\n'
+  reports
+  printf 'dissolve,4\ndissolve,3\n' | twice
+  reports
   cut 161 337
   reports
   for s in $(seq 601 640) $(seq 10001 10040); do row "$s"; done | twice
@@ -245,7 +250,7 @@ program() {
 # The program without threads.
 program_alone() {
   script > "$room/script"
-  program hlr $'sub\nacc\nfac\nicf\nnumber\ngive\ntake\nrecut\nwhole recut,2\nloose recut,1\nwhole recut,1\nloose recut,0' --parts 3 --zone 16
+  program hlr $'sub\nacc\nfac\nicf\nnumber\ngive\ntake\ndivide\ndissolve\nrecut\nwhole recut,2\nloose recut,1\nwhole recut,1\nloose recut,0' --parts 3 --zone 16
 }
 
 # A shorter script for three parts and zones of 16, for threads: the trees and the index grow once, those of other rows
@@ -262,6 +267,9 @@ short_script() {
   printf 'gsd,7\ngad,20,1\ngnd,7,2,8,9\n'
   printf 'take,1,1\n' | twice
   printf 'gsd,20\nusd,20,2,1,9\npost,1,72\n'
+  printf 'divide,1,30\ndivide,3,1000\n' | twice
+  printf 'gsd,7\ngsd,35\npost,2,72\n'
+  printf 'dissolve,4\ndissolve,3\n' | twice
   reports
   cut 12 300
   reports
@@ -270,7 +278,7 @@ short_script() {
 # The program with threads.
 program_threaded() {
   short_script > "$room/script"
-  program 'hlr --threads' $'sub\nacc\nfac\nicf\nnumber\ngive\ntake\nrecut' --threads --parts 3 --zone 16
+  program 'hlr --threads' $'sub\nacc\nfac\nicf\nnumber\ngive\ntake\ndivide\ndissolve\nrecut' --threads --parts 3 --zone 16
 }
 
 # Where a run with threads ends whose workers only read: after how many answers, with which fault, and how often. The
@@ -419,10 +427,10 @@ tests() {
   tests_of number_index tests::numbers
   tests_of tatp_actions tests::refused_nodes plain_tests::same_actions cut_tests::refused_cuts
   tests_of view_board tests::two_threads tests::words_at_limit
-  tests_of hlr_core_tests holding_tests::a_worn_word_ends_a_posting holding_tests::pieces_are_given_and_taken holding_tests::owners_work_in_threads
-  tests_of hlr_core_tests tests::runs tests::additions_at_split tests::renamings_at_split plain_tests::few_drawn_events region_tests::gives_of_two_parts region_tests::one_part_and_sixteen region_tests::words_that_stand gather_tests::refusals_hand_all_back gather_tests::many_numbers_are_gathered lent_tests::part_is_lent lent_tests::events_go
+  tests_of hlr_core_tests holding_tests::a_worn_word_ends_a_posting holding_tests::pieces_are_given_and_taken holding_tests::owners_work_in_threads holding_parting_tests::holding_comes_and_goes
+  tests_of hlr_core_tests tests::runs tests::additions_at_split tests::renamings_at_split plain_tests::few_drawn_events region_tests::gives_of_two_parts region_tests::one_part_and_sixteen region_tests::words_that_stand gather_tests::refusals_hand_all_back gather_tests::many_numbers_are_gathered lent_tests::part_is_lent lent_tests::events_go parting_tests::part_comes_and_goes parting_tests::parts_of_many_rows
   recuts_of hlr_core_tests region_tests::recut_of_three
-  tests_of hlr_workers_tests run_tests::taken_again_after_memory refused_tests::settled_after_memory
+  tests_of hlr_workers_tests run_tests::taken_again_after_memory refused_tests::settled_after_memory refused_tests::part_comes_and_goes
   recuts_of hlr_workers_tests refused_tests::recut_of_three
   tests_of hlr tests::refused_memory_is_told
   once_refused 1 mr_subtree tests::memory_refused
@@ -431,6 +439,7 @@ tests() {
   once_refused 2 view_board tests::words_at_limit
   once_refused 2 hlr_core_tests refused_tests::events_without_memory
   once_refused 4 hlr_core_tests refused_tests::calls_without_memory
+  once_refused 4 hlr_core_tests refused_tests::parts_without_memory
   once_refused 1 hlr_workers_tests refused_tests::works_without_memory
   none_asked part_table
   none_asked view_delta

@@ -132,13 +132,13 @@ options() {
   has '--help' "$room/out" '--zone <W>'
   has '--help' "$room/out" '--threads'
   is '--help: standard error' "$(wc -c < "$room/err")" 0
-  for word in gsd gnd gad usd ul icf dcf sub acc fac active number post give take views scan index regions propose recut; do
+  for word in gsd gnd gad usd ul icf dcf sub acc fac active number post give take views scan index regions propose recut divide dissolve; do
     is "--help: the command $word" "$(grep -c "^  $word[, ]" "$room/out")" "$([ "$word" = give ] && echo 2 || echo 1)"
   done
   has '--help' "$room/out" 'refused,CODE,NAME'
   for word in '1 Memory' '2 Field' '3 NoSubscriber' '4 NoNumber' '5 NoAccess' '6 NoFacility' '7 NoForwarding' \
     '8 NoDestination' '9 Exists' '10 NumberTaken' '11 Moving' '12 NoPart' '13 NoPiece' '14 OutOfRange' '15 NotAdjacent' \
-    '16 ManyPieces' '17 Worn' '18 Thread' '19 Syntax' '20 Read' '21 Write'; do
+    '16 ManyPieces' '17 Worn' '18 Thread' '19 Syntax' '20 Read' '21 Write' '22 ManyParts'; do
     is "--help: the refusal $word" "$(grep -cwF -e "$word" "$room/out")" 1
   done
   has '--help' "$room/out" 'cell 24 + V / 268435456'
@@ -152,7 +152,7 @@ options() {
   hlr_on < "$room/in"
   same '--help: its example' "$room/out" "$room/example.out"
   hlr_on --version < /dev/null
-  ends '--version' 0 $'hlr 0.2.0\n' ''
+  ends '--version' 0 $'hlr 0.3.0\n' ''
   hlr_on --zone 524288 < /dev/null
   ends '--zone 524288' 0 '' ''
   hlr_on --zone 1 < /dev/null
