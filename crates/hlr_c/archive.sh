@@ -3,6 +3,7 @@
 # archive, but it doesn't take those libraries, and proves all of them again.
 set -eu
 cd "$(dirname "$0")"
+rm -f out/libhlr_c.a
 kit=$(dirname "$(rt doc)")
 words=(--crate-name hlr_c src/lib.rt --crate-type staticlib -L "dependency=$kit/rlibs")
 for used in std $(sed -n 's/^hlr_c .*: *//p' ../../crates.txt); do

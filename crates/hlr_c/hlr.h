@@ -6,8 +6,8 @@
  *
  * Each call answers a code: HLR_DONE, or why it was refused. A refusal changes nothing, but for two that say so
  * (hlr_post, hlr_recut). What a call writes by reference it writes where it answers HLR_DONE, and else it leaves that
- * as it was. Refusals are listed in their order: of several that apply, the first one is answered. Each call first
- * answers HLR_NOT_OPEN where the handle isn't open, so that isn't said again.
+ * as it was. Refusals are listed in their order: of several that apply, the first one is answered. Each call but
+ * hlr_open first answers HLR_NOT_OPEN where the handle isn't open, so that isn't said again.
  *
  * All numbers are checked, whatever is handed in; they are 64 bits wide, so that nothing is cut off on the way. Letters
  * are ASCII codes, and have no 0 behind them.
@@ -19,7 +19,8 @@
  *   - An open handle is closed once, or its memory is never given back.
  *   - One call at a time works on a handle. It may go from thread to thread, where a lock, a thread's start or join, or
  *     an atomic step in one order for all (memory_order_seq_cst) stands between two calls.
- *   - Pointers aren't null, point to what their type says, and the things that one call is passed don't overlap.
+ *   - Pointers aren't null and point to a value of their type, also where a call only writes it (so fill it before, as
+ *     by = {0}); the things that one call is passed don't overlap.
  *   - malloc, realloc and free are those of one allocator, and align a block to each power of two up to 16 that divides
  *     its size. No call is made from a signal handler, or in the forked child of a process with threads.
  *
@@ -140,7 +141,7 @@ typedef struct {
  */
 uint8_t hlr_open(uint64_t parts, uint64_t width, hlr *handle);
 
-/* Closes a handle, and gives back all memory of its register. HLR_NOT_OPEN. */
+/* Closes a handle, and gives back all memory of its register. */
 uint8_t hlr_close(hlr *handle);
 
 /* GET_SUBSCRIBER_DATA: reads a row. HLR_FIELD, HLR_MOVING, HLR_NO_SUBSCRIBER. */

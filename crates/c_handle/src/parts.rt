@@ -12,6 +12,7 @@ pub struct BoxParts<T, A: Allocator> {
     pub address: *mut T,
     /// What gave the memory.
     pub alloc: A,
+    /// The value that lies there.
     pub ghost value: { T },
 }
 

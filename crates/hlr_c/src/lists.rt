@@ -55,12 +55,7 @@ pub(crate) fn regions_for_c(list: &[Region]) -> HlrRegions
     ensures count { result.count ≡ length list.now }
     ensures regions { take result.count result.regions ≡ map region_for_c list.now }
 {
-    let none = HlrRegion {
-        lo: 0,
-        hi: 0,
-        is_piece: 0,
-        number: 0,
-    };
+    let none = region_for_c(&Region::default());
     let mut regions = [none; 32];
     for at in 0..list.len() {
         regions[at] = region_for_c(&list[at]);

@@ -9,9 +9,9 @@ ghost use Rattle.hlr_c.specs.declared.codes.TheConstants.{NOT_OPEN};
 
 use crate::codes::{DONE, NOT_OPEN, code_of_reply};
 use crate::handle::Hlr;
-use crate::lists::bounds_in;
+use crate::lists::{bounds_in, region_for_c};
 use crate::rows::{HlrBounds, HlrRegion};
-use hlr_core::{Event, Refusal, Register, Reply, Side};
+use hlr_core::{Event, Place, Refusal, Region, Register, Reply, Side};
 use std::alloc::Global;
 
 /// The side of a number: 0 is the low one, 1 the high one, and all else is `Field`.
@@ -22,18 +22,6 @@ fn side_of(side: u64) -> Result<Side, Refusal>
         0 => Ok(Side::Low),
         1 => Ok(Side::High),
         _ => Err(Refusal::Field),
-    }
-}
-
-/// The region of a part.
-fn part_for_c(part: u8, lo: u32, hi: u32) -> HlrRegion
-    ensures { result ≡ record { lo = lo; hi = hi; is_piece = 0; number = part } }
-{
-    HlrRegion {
-        lo: u64::from(lo),
-        hi: u64::from(hi),
-        is_piece: 0,
-        number: u64::from(part),
     }
 }
 
@@ -50,12 +38,11 @@ fn tell_given(reply: &Reply, given: &mut HlrRegion) -> u8
     ensures { (result, given.new) ≡ given_told given.old reply.now }
 {
     if let Reply::Given { piece, lo, hi } = reply {
-        *given = HlrRegion {
-            lo: u64::from(*lo),
-            hi: u64::from(*hi),
-            is_piece: 1,
-            number: u64::from(*piece),
-        };
+        *given = region_for_c(&Region {
+            lo: *lo,
+            hi: *hi,
+            place: Place::Piece(*piece),
+        });
     }
     code_of_reply(reply)
 }
@@ -63,18 +50,22 @@ fn tell_given(reply: &Reply, given: &mut HlrRegion) -> u8
 fn tell_part(reply: &Reply, part: &mut HlrRegion) -> u8
     ensures { (result, part.new) ≡ part_told part.old reply.now }
 {
-    match reply {
-        Reply::Divided {
-            part: number,
-            lo,
-            hi,
-        } => *part = part_for_c(*number, *lo, *hi),
-        Reply::Dissolved {
-            part: number,
-            lo,
-            hi,
-        } => *part = part_for_c(*number, *lo, *hi),
-        _ => {}
+    if let Reply::Divided {
+        part: number,
+        lo,
+        hi,
+    }
+    | Reply::Dissolved {
+        part: number,
+        lo,
+        hi,
+    } = reply
+    {
+        *part = region_for_c(&Region {
+            lo: *lo,
+            hi: *hi,
+            place: Place::Part(*number),
+        });
     }
     code_of_reply(reply)
 }

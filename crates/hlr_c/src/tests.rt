@@ -14,7 +14,7 @@ use crate::reports::{hlr_propose, hlr_regions, hlr_scan, hlr_views};
 use crate::rows::{
     HlrAccess, HlrBounds, HlrFacility, HlrNumbers, HlrRegion, HlrRegions, HlrSubscriber,
 };
-use hlr_core::CELLS;
+use hlr_core::{CELLS, LIMIT, Refusal, Register, WORDS};
 use std::alloc::Global;
 use std::process::Abort;
 use std::test::Fail;
@@ -191,27 +191,12 @@ fn moves(rt: HostRuntime) -> Result<(), Fail> {
     let mut posted = 99;
     let mut given = NO_REGION;
     let mut regions = NO_REGIONS;
-    let mut bounds = NO_BOUNDS;
-    let mut moved = 99;
     let codes = [
         hlr_post(alloc, &mut handle, 0, 2, &mut posted),
         hlr_give(alloc, &mut handle, 0, 1, 5, &mut given),
         hlr_regions(alloc, &mut handle, &mut regions),
         hlr_take(alloc, &mut handle, 1, 1),
-        hlr_propose(alloc, &mut handle, &mut bounds),
     ];
-    let recut = hlr_recut(
-        alloc,
-        &mut handle,
-        &HlrBounds {
-            count: 1,
-            ..NO_BOUNDS
-        },
-        &mut moved,
-    );
-    let bounds_before = bounds;
-    bounds.bounds[0] = 9;
-    let recut_again = hlr_recut(alloc, &mut handle, &bounds, &mut moved);
     closed(&rt, alloc, handle);
     let piece = HlrRegion {
         lo: 5,
@@ -221,15 +206,77 @@ fn moves(rt: HostRuntime) -> Result<(), Fail> {
     };
     assert_eq!(rt;
         (added, codes, posted, given),
-        ([DONE; 5], [DONE; 5], 2, piece)
+        ([DONE; 5], [DONE; 4], 2, piece)
     );
     assert_eq!(rt;
         (regions.count, regions.regions[1], regions.regions[2].number),
         (3, piece, 1)
     );
+    Ok(())
+}
+
+/// So many bounds, the first of which is 9.
+fn from_nine(count: u64) -> HlrBounds {
+    let mut bounds = [0; 15];
+    bounds[0] = 9;
+    HlrBounds { count, bounds }
+}
+
+#[test]
+fn recuts(rt: HostRuntime) -> Result<(), Fail> {
+    let alloc = rt.alloc();
+    let mut handle = opened(&rt, alloc, 2, 4);
+    let added = filled(alloc, &mut handle);
+    let mut bounds = NO_BOUNDS;
+    let mut given = NO_REGION;
+    let (mut left, mut moved) = (99, 99);
+    let codes = [
+        hlr_propose(alloc, &mut handle, &mut bounds),
+        hlr_recut(alloc, &mut handle, &from_nine(0), &mut left),
+        hlr_recut(alloc, &mut handle, &from_nine(2), &mut left),
+        hlr_recut(alloc, &mut handle, &from_nine(16), &mut left),
+        hlr_give(alloc, &mut handle, 0, 1, 5, &mut given),
+        hlr_recut(alloc, &mut handle, &from_nine(1), &mut left),
+        hlr_take(alloc, &mut handle, 1, 1),
+        hlr_recut(alloc, &mut handle, &from_nine(1), &mut moved),
+    ];
+    closed(&rt, alloc, handle);
     assert_eq!(rt;
-        (bounds_before.count, recut, recut_again, moved),
-        (1, 2, DONE, 1)
+        (added, codes),
+        ([DONE; 5], [DONE, 2, 2, 2, DONE, 11, DONE, DONE])
+    );
+    assert_eq!(rt; (bounds.count, left, moved), (1, 99, 1));
+    Ok(())
+}
+
+/// A handle with an empty register of two parts in which nobody can raise the words of cell 41 of part 0.
+fn opened_worn(alloc: Global) -> Result<Hlr, Refusal> {
+    let mut words = [0; WORDS];
+    words[41] = LIMIT;
+    words[usize::from(CELLS) + 41] = LIMIT;
+    let register = Box::new(alloc, Register::open_from(alloc, 2, 4, &words)?)?;
+    let mut handle = Hlr::closed();
+    handle.put(register);
+    Ok(handle)
+}
+
+#[test]
+fn worn_words(rt: HostRuntime) -> Result<(), Fail> {
+    let alloc = rt.alloc();
+    let Ok(mut handle) = opened_worn(alloc) else {
+        panic!(rt; "a register is opened")
+    };
+    let added = filled(alloc, &mut handle);
+    let (mut posted, mut left) = (99, 99);
+    let codes = [
+        hlr_post(alloc, &mut handle, 0, 9, &mut posted),
+        hlr_post(alloc, &mut handle, 0, 72, &mut left),
+    ];
+    closed(&rt, alloc, handle);
+    // the eight hours and the area are posted, and the zone can't be
+    assert_eq!(rt;
+        (added, codes, posted, left),
+        ([DONE; 5], [DONE, 17], 9, 99)
     );
     Ok(())
 }
