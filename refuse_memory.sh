@@ -25,7 +25,8 @@ failed=0
 
 # A malloc, or where REFUSED_KIND is thread a start of threads, that refuses one call, the one of the number
 # REFUSED_CALL; where the kind is all, a malloc that refuses the first call for as many bytes as that number, or of any
-# number of bytes where it is 0, and each later one. The file REFUSED_FILE has a byte for each call that was refused.
+# number of bytes where it is 0, and each later one. The file REFUSED_FILE has a byte for each call that was refused. At
+# its end a program tells in the file LEFT_FILE how many pieces of memory it has that it didn't give back.
 cat > "$room/refuse.c" <<'C'
 #define _GNU_SOURCE
 #include <dlfcn.h>
@@ -33,14 +34,17 @@ cat > "$room/refuse.c" <<'C'
 #include <fcntl.h>
 #include <pthread.h>
 #include <stdatomic.h>
+#include <stdio.h>
 #include <stdlib.h>
 #include <string.h>
 #include <unistd.h>
 
 void *__libc_malloc(size_t size);
+void *__libc_calloc(size_t count, size_t size);
 void *__libc_realloc(void *old, size_t size);
+void __libc_free(void *old);
 
-static atomic_long calls;
+static atomic_long calls, pieces;
 static atomic_int is_all_refused;
 
 // Whether this call, of one kind, is refused.
@@ -72,12 +76,39 @@ static int is_refused(const char *kind, size_t size) {
     return 1;
 }
 
+static void *had(void *piece) {
+    pieces += piece != NULL;
+    return piece;
+}
+
 void *malloc(size_t size) {
-    return is_refused("memory", size) ? NULL : __libc_malloc(size);
+    return is_refused("memory", size) ? NULL : had(__libc_malloc(size));
+}
+
+void *calloc(size_t count, size_t size) {
+    return had(__libc_calloc(count, size));
 }
 
 void *realloc(void *old, size_t size) {
-    return is_refused("memory", size) ? NULL : __libc_realloc(old, size);
+    if (is_refused("memory", size)) {
+        return NULL;
+    }
+    return old ? __libc_realloc(old, size) : had(__libc_realloc(old, size));
+}
+
+void free(void *old) {
+    pieces -= old != NULL;
+    __libc_free(old);
+}
+
+__attribute__((destructor)) static void end(void) {
+    const char *name = getenv("LEFT_FILE");
+    char told[24];
+    int length = snprintf(told, sizeof told, "%ld", (long)pieces);
+    int file = name ? open(name, O_CREAT | O_WRONLY | O_TRUNC, 0600) : -1;
+    if (name && (file < 0 || write(file, told, length) != length)) {
+        abort();
+    }
 }
 
 int pthread_create(pthread_t *thread, const pthread_attr_t *how, void *(*work)(void *), void *with) {
@@ -446,7 +477,7 @@ tests() {
 }
 
 # A day in C by the library: whichever allocation is refused, it ends with 'day: no memory' behind a front of its lines;
-# or it tells all of them, where it is the C library's own buffer.
+# or it tells all of them, where it is the C library's own buffer. Of all memory that buffer alone is left at its end.
 library() {
   local archive=crates/hlr_c/out/libhlr_c.a call=0 ended=0 status
   if [ ! -f "$archive" ]; then
@@ -457,8 +488,9 @@ library() {
   begin
   while true; do
     call=$((call + 1))
-    refusing memory $call "$room/day" > "$room/got" 2> "$room/err"
+    LEFT_FILE=$room/left refusing memory $call "$room/day" > "$room/got" 2> "$room/err"
     status=$?
+    [ "$(cat "$room/left")" -le 1 ] || wrong "$(cat "$room/left") pieces of memory are left with allocation $call of the library refused"
     [ -f "$room/refused" ] || break
     cmp -s "$room/got" <(head -n "$(wc -l < "$room/got")" examples/library/day.stdout) || wrong "the answers of the library with allocation $call refused"
     if [ $status = 0 ]; then

@@ -616,6 +616,12 @@ library() {
     echo 'skipped, since there is no valgrind: a day in C under it'
   fi
   handed_over "$archive" "$kit"
+  if command -v g++ > /dev/null; then
+    printf '#include "hlr.h"\nhlr handle = HLR_CLOSED;\n' > "$room/header.cc"
+    is 'hlr.h is read by C++' "$(g++ -Wall -Wextra -Werror -fsyntax-only -Icrates/hlr_c "$room/header.cc" 2>&1; echo "$?")" 0
+  else
+    echo 'skipped, since there is no g++: hlr.h in C++'
+  fi
   if ! command -v python3 > /dev/null; then
     echo 'skipped, since there is no python3: day.py of examples/library'
     return
