@@ -14,7 +14,7 @@ use std::thread::Threads;
 use tatp_rows::Number;
 
 /// How many scripts are drawn for each number of parts.
-const SCRIPTS: u64 = 67;
+const SCRIPTS: u64 = 72;
 
 /// How many re-cuts that move a bound they have at least, where there are several parts.
 const RECUTS: u64 = 5 * SCRIPTS;

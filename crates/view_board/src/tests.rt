@@ -176,9 +176,11 @@ fn words_at_limit(rt: HostRuntime) -> Result<(), Fail> {
     let found = seen(&board, &mut desk, &mut other, &mut none);
     let nets = [desk.net(0), none.net(0), other.net(5)];
     let all = [desk.nets()[0], none.nets()[0], other.nets()[5]];
+    board.take_back(&mut other, 3);
     let end = ended(board, desk, other);
     words[usize::from(CELLS)] = 1;
     words[PLUS] = 7;
+    words[MINUS] = 7;
     assert_eq!(rt; opened(rt.alloc(), &words).is_err(), is_refused);
     assert_eq!(rt; (raised, owned), ([true; 3], [false, false, true, false]));
     assert_eq!(rt;
