@@ -1,6 +1,6 @@
 #!/usr/bin/env bash
-# Proves hlr_c and builds out/libhlr_c.a over the libraries that `rt ci` left in crates/*/out. `rt lib` makes the same
-# archive, but it doesn't take those libraries, and proves all of them again.
+# Proves hlr_c and builds out/libhlr_c.a over the libraries that `rt ci` left in crates/*/out. `rt lib` does so too, but it
+# doesn't take those libraries, and proves all of them again.
 set -eu
 cd "$(dirname "$0")"
 rm -f out/libhlr_c.a
