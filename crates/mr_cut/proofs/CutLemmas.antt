@@ -14,7 +14,7 @@ use Rattle.tatp_rows.proofs.SpanLemmas.{from-weaker}
 use Rattle.mr_node.specs.declared.body.Leaf.{Leaf}
 use Rattle.mr_node.specs.Rows.{Seen, key_of_pair, key_limit, KeysBelow, KeysFrom}
 use Rattle.mr_node.specs.Runs.{IsRun}
-use Rattle.mr_node.specs.Search.{IsKidPlace}
+use Rattle.mr_node.specs.Levels.{IsKidPlace}
 use Rattle.mr_node.specs.Levels.{NodeKid, NodeBranch, kids_of, rows_of, pairs_of, IsKid, IsLeaf, IsBranch, seen_leaf, seen_branch}
 use Rattle.mr_node.proofs.PlaceLemmas.{packed_some}
 use Rattle.mr_node.proofs.RunLemmas.{run_length}

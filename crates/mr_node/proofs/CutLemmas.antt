@@ -9,7 +9,7 @@ use Rattle.mr_node.specs.Rows.{Seen, key_of_pair, key_limit, KeysBelow, KeysFrom
 use Rattle.mr_node.specs.Runs.{IsRun}
 use Rattle.mr_node.specs.Levels.{NodePart, NodeKid, NodeBranch, kids_of, rows_of, IsKid, IsBranch, seen_branch}
 use Rattle.mr_node.specs.Growth.{IsGrown}
-use Rattle.mr_node.specs.Search.{IsKidPlace}
+use Rattle.mr_node.specs.Levels.{IsKidPlace}
 use Rattle.mr_node.specs.Pairs.{IsHalved}
 use Rattle.mr_node.specs.Inside.{IsWholeAgain, IsRoomAt, IsPartedAt}
 use Rattle.mr_node.proofs.PlaceLemmas.{packed_some}

@@ -6,7 +6,8 @@ use Rattle.tatp_rows.proofs.SpanLemmas.{find-skip, find-head, find-left, find-ri
 use Rattle.mr_node.specs.declared.body.Leaf.{Leaf}
 use Rattle.mr_node.specs.Rows.{key_of_pair}
 use Rattle.mr_node.specs.Runs.{no_key}
-use Rattle.mr_node.specs.Search.{IsStop, IsKidPlace}
+use Rattle.mr_node.specs.Search.{IsStop}
+use Rattle.mr_node.specs.Levels.{IsKidPlace}
 use Rattle.mr_node.specs.Levels.{IsLeaf, pairs_of, NodePart, NodeKid, NodeBranch, kids_of, rows_of, IsKid, IsBranch}
 use Rattle.mr_node.proofs.PlaceLemmas.{got_used, never_none}
 use Rattle.mr_node.proofs.RunLemmas.{run_rest, run_length}

@@ -11,7 +11,7 @@ use Rattle.tatp_rows.proofs.SpanLemmas.{below-weaker, from-weaker, below_start, 
 use Rattle.mr_node.specs.Rows.{key_of_pair, KeysBelow, KeysFrom, key_limit, StartsWith}
 use Rattle.mr_node.specs.Runs.{entries, IsRun}
 use Rattle.mr_node.specs.Levels.{NodePart, NodeKid, NodeBranch, kids_of, rows_of, IsKid, IsKidOf, IsBranch}
-use Rattle.mr_node.specs.Search.{IsKidPlace}
+use Rattle.mr_node.specs.Levels.{IsKidPlace}
 use Rattle.mr_node.specs.declared.body.Kid.{Kid}
 use Rattle.mr_node.proofs.PlaceLemmas.{packed_some}
 use Rattle.mr_node.proofs.RunLemmas.{run_length, run_split, run_next, run_rest}

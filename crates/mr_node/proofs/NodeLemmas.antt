@@ -8,7 +8,7 @@ use Rattle.tatp_rows.proofs.OrderedLemmas.{each-with_row, ordered-with_row, orde
 use Rattle.tatp_rows.proofs.SpanLemmas.{row_at-part, with_row_at-part, with_row-part, every-with_row_at-same, length-with_row_at, length-with_row, starts_with_row, starts_with_row_at}
 use Rattle.mr_node.specs.Rows.{Seen, key_of_pair, key_limit, KeysBelow}
 use Rattle.mr_node.specs.Levels.{NodePart, NodeKid, NodeBranch, kids_of, rows_of, IsWell, IsKid, IsBranch, seen_branch}
-use Rattle.mr_node.specs.Search.{IsKidPlace}
+use Rattle.mr_node.specs.Levels.{IsKidPlace}
 use Rattle.mr_node.specs.Growth.{IsGrown, IsRoomAnswer, is_done}
 use Rattle.mr_node.specs.declared.room.Room.{Room}
 use Rattle.mr_node.specs.declared.room.Room.TheVariants.{Done, Exists, Full}

@@ -10,7 +10,8 @@ use Rattle.tatp_rows.proofs.OrderedLemmas.{each-weaker, filter_all, filter_none}
 use Rattle.mr_node.specs.declared.body.Leaf.{Leaf}
 use Rattle.mr_node.specs.Rows.{key_of_pair, KeysBelow, KeysFrom}
 use Rattle.mr_node.specs.Runs.{no_key}
-use Rattle.mr_node.specs.Search.{IsStop, IsKidPlace}
+use Rattle.mr_node.specs.Search.{IsStop}
+use Rattle.mr_node.specs.Levels.{IsKidPlace}
 use Rattle.mr_node.specs.Levels.{IsLeaf, pairs_of, NodePart, NodeBranch, kids_of, rows_of, IsKid, IsBranch}
 use Rattle.mr_node.specs.Pages.{IsPage}
 use Rattle.mr_node.proofs.RunLemmas.{run_next, run_rest, run_length}

@@ -4,7 +4,7 @@ use Rattle.std.specs.Option.{unwrap_or}
 use Rattle.tatp_rows.specs.Ordered.{row_at, with_row_at}
 use Rattle.tatp_rows.proofs.OrderedLemmas.{with_row_at_absent}
 use Rattle.mr_node.specs.Rows.{Seen, key_of_pair, value_at}
-use Rattle.mr_node.specs.Search.{IsKidPlace}
+use Rattle.mr_node.specs.Levels.{IsKidPlace}
 use Rattle.mr_node.specs.Entries.{IsThere}
 use Rattle.mr_node.specs.declared.body.Leaf.{Leaf}
 use Rattle.mr_node.specs.Levels.{IsLeaf, pairs_of, NodePart, NodeBranch, kids_of, rows_of, IsWell, IsBranch, seen_branch}

@@ -5,7 +5,8 @@ use Rattle.std.proofs.lemmas.Bool.Decides.{nat_tests}
 use Rattle.tatp_rows.specs.Ordered.{IsOrderedBy}
 use Rattle.mr_node.specs.Rows.{key_of_pair, key_limit, KeysBelow}
 use Rattle.mr_node.specs.Runs.{no_key, entries, IsRun}
-use Rattle.mr_node.specs.Search.{IsRising, IsStop, IsKidPlace}
+use Rattle.mr_node.specs.Search.{IsRising, IsStop}
+use Rattle.mr_node.specs.Levels.{IsKidPlace}
 use Rattle.mr_node.proofs.RunLemmas.{run_behind, run_below, run_rises}
 
 -- the sum of the first n

@@ -1,5 +1,5 @@
 -- The rules of one level of a tree: what holds of a leaf, of an inner node, and of a child of one.
-use Rattle.std.specs.Prelude.{◌≡◌, ℕ, ◌-◌, ◌*◌, ◌^◌, ◌<◌, ◌≤◌, List, length}
+use Rattle.std.specs.Prelude.{◌≡◌, ℕ, ◌+◌, ◌-◌, ◌*◌, ◌^◌, ◌<◌, ◌≤◌, List, length, slice_index_or}
 use Rattle.std.specs.List.{AllByRecursion, flat_map, sum_by}
 use Rattle.std.specs.declared.boxed.Box.{Box}
 use Rattle.std.specs.declared.alloc.Global.{Global}
@@ -83,6 +83,12 @@ pub record IsBranchOf {V : Type 0} (w : ℕ) (b : NodeBranch V) : Type 0 where
 -- an inner node: its children are half full at least
 abbrev pub IsBranch : {V : Type 0} → NodeBranch V → Type 0
 IsBranch b = IsBranchOf 16 b
+
+-- the place of the child to which a key belongs, of n: the last whose least key isn't above the key, or the first
+pub record IsKidPlace (key place n : ℕ) (leasts : List ℕ) : Type 0 where
+  pub within : place < n
+  pub here : 0 < place → slice_index_or leasts place 0 ≤ key
+  pub next : place + 1 < n → key < slice_index_or leasts (place + 1) 0
 
 -- what is seen of a leaf
 abbrev pub seen_leaf : {V : Type 0} → Leaf V → Seen V

@@ -10,9 +10,3 @@ pub record IsStop (key place : ℕ) (keys : List ℕ) : Type 0 where
   pub within : place ≤ length keys
   pub before : 0 < place → slice_index_or keys (place - 1) 0 < key
   pub here : place < length keys → key ≤ slice_index_or keys place 0
-
--- the place of the child to which a key belongs, of n: the last whose least key isn't above the key, or the first
-pub record IsKidPlace (key place n : ℕ) (leasts : List ℕ) : Type 0 where
-  pub within : place < n
-  pub here : 0 < place → slice_index_or leasts place 0 ≤ key
-  pub next : place + 1 < n → key < slice_index_or leasts (place + 1) 0

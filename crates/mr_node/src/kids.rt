@@ -4,7 +4,7 @@ ghost use Rattle.std.specs.List.{sum_by};
 ghost use Rattle.mr_node.specs.Runs.{entries, IsRun, IsPacked};
 ghost use Rattle.tatp_rows.specs.Ordered.{IsOrderedBy};
 ghost use Rattle.mr_node.specs.Rows.{key_of_pair, key_limit, KeysBelow};
-ghost use Rattle.mr_node.specs.Search.{IsKidPlace};
+ghost use Rattle.mr_node.specs.Levels.{IsKidPlace};
 
 use crate::keys::{NO_KEY, count_below, put_key, take_key};
 use crate::places::{last_to, move_to_end};

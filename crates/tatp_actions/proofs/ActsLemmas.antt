@@ -16,7 +16,7 @@ use Rattle.tatp_actions.specs.Book.{Book, IsBook, IsWithin, subscriber_at}
 use Rattle.tatp_actions.specs.Change.{IsChange}
 use Rattle.tatp_actions.specs.Heights.{Heights}
 use Rattle.tatp_actions.specs.Part.{PartState, IsPart}
-use Rattle.tatp_actions.specs.Inside.{Acts}
+use Rattle.tatp_actions.specs.Edit.{Acts}
 use Rattle.tatp_actions.specs.Tables.{once_more}
 use Rattle.tatp_actions.specs.declared.action.Action.{Action}
 use Rattle.tatp_actions.specs.declared.action.RowReply.{RowReply}

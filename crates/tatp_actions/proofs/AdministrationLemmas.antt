@@ -12,7 +12,8 @@ use Rattle.tatp_actions.specs.Action.{is_in_range}
 use Rattle.tatp_actions.specs.Book.{Book, IsWithin, subscriber_at, access_at, facility_at, forwarding_at, put_subscriber, put_facility, more_subscribers, more_access, more_facilities}
 use Rattle.tatp_actions.specs.Change.{IsChange}
 use Rattle.tatp_actions.specs.Part.{PartState, IsPart}
-use Rattle.tatp_actions.specs.Inside.{subscriber_added, row_moved, AreHours, span_steps, until, Acts, asked_once, changed_once, changed_to, subscriber_revised, facility_revised}
+use Rattle.tatp_actions.specs.Edit.{Acts}
+use Rattle.tatp_actions.specs.Inside.{subscriber_added, row_moved, AreHours, span_steps, until, asked_once, changed_once, changed_to, subscriber_revised, facility_revised}
 use Rattle.tatp_actions.specs.Tables.{once_more}
 use Rattle.tatp_actions.specs.declared.action.Action.TheVariants.{AddSubscriber, AddAccess, AddFacility, SetActive, SetNumber}
 use Rattle.tatp_actions.specs.declared.action.RowReply.TheVariants as reply

@@ -15,7 +15,8 @@ use Rattle.tatp_rows.specs.declared.refusal.Refusal.TheVariants as refusal
 use Rattle.tatp_actions.specs.Action.{is_in_range, takes_call, destinations, new_destination}
 use Rattle.tatp_actions.specs.Book.{Book, IsBook, IsWithin, facility_at, has_active, forwarding_at}
 use Rattle.tatp_actions.specs.Part.{PartState, IsPart}
-use Rattle.tatp_actions.specs.Inside.{destination, Acts, asked_once}
+use Rattle.tatp_actions.specs.Edit.{Acts}
+use Rattle.tatp_actions.specs.Inside.{destination, asked_once}
 use Rattle.tatp_actions.specs.Tables.{once_more}
 use Rattle.tatp_actions.specs.declared.action.Action.TheVariants.{NewDestination}
 use Rattle.tatp_actions.specs.declared.action.RowReply.TheVariants as reply

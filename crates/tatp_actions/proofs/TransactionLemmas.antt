@@ -13,7 +13,8 @@ use Rattle.tatp_actions.specs.Action.{effect}
 use Rattle.tatp_actions.specs.Book.{Book, IsWithin, subscriber_at, facility_at, has_active, forwarding_at, put_subscriber, put_facility, more_forwardings, without_forwarding}
 use Rattle.tatp_actions.specs.Change.{IsChange}
 use Rattle.tatp_actions.specs.Part.{PartState, IsPart}
-use Rattle.tatp_actions.specs.Inside.{area_moved, AreForwardingNotes, Acts, asked_once, changed_once, changed_to, subscriber_revised, facility_revised}
+use Rattle.tatp_actions.specs.Edit.{Acts}
+use Rattle.tatp_actions.specs.Inside.{area_moved, AreForwardingNotes, asked_once, changed_once, changed_to, subscriber_revised, facility_revised}
 use Rattle.tatp_actions.specs.Tables.{once_more}
 use Rattle.tatp_actions.specs.declared.action.Action.TheVariants.{UpdateSubscriber, UpdateLocation, InsertForwarding, DeleteForwarding}
 use Rattle.tatp_actions.specs.declared.action.RowReply.TheVariants as reply

@@ -107,18 +107,3 @@ pub record AreHours (amount : ℕ → ℤ) (hour : ℕ) (notes : List (ℕ × �
 abbrev pub AreForwardingNotes : Bool → Bool → CallForwardingRow → ℕ → List (ℕ × ℤ) → Type 0
 AreForwardingNotes up active row zone notes =
     (c : ℕ) → change_at notes c ≡ (if nat_lt c FIRST_AREA then row_steps up active row c else pos 0) +ℤ change_at (row_moved up zone) c
-
--- the notes of a change; a refusal has none
-abbrev pub notes_of : Result (List (ℕ × ℤ)) Refusal → List (ℕ × ℤ)
-notes_of (Ok notes) = notes
-notes_of (Err why) = []
-
--- what an action does to a part: a right outcome, the exact change of every cell, the same range and width, no cut or
--- join, and at most eight questions
-pub record Acts (action : Action) (before : PartState) (answer : RowReply) (notes : List (ℕ × ℤ)) (after : PartState) : Type 0 where
-  pub outcome : IsOutcome action before.book answer after.book
-  pub change : IsChange before.width before.book after.book notes
-  pub refused : (why : Refusal) → answer ≡ reply.Refused why → (notes ≡ []) × (after.book ≡ before.book)
-  pub range : (after.lo ≡ before.lo) × (after.hi ≡ before.hi) × (after.width ≡ before.width)
-  pub steps : after.steps ≡ before.steps
-  pub asked : after.asked ≤ before.asked + 8

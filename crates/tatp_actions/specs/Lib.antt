@@ -4,6 +4,7 @@ pub mod Cell
 pub mod Change
 pub mod Cut
 pub mod CutTables
+pub mod Edit
 pub mod Heights
 pub mod Inside
 pub mod Joined

@@ -2,7 +2,8 @@
 ghost use Rattle.std.specs.Prelude.{◌≡◌, ◌≤◌};
 ghost use Rattle.tatp_actions.specs.Book.{IsWithin, forwarding_at};
 ghost use Rattle.tatp_actions.specs.Action.{done_reply};
-ghost use Rattle.tatp_actions.specs.Inside.{Acts, notes_of, asked_once, until};
+ghost use Rattle.tatp_actions.specs.Edit.{Acts, notes_of};
+ghost use Rattle.tatp_actions.specs.Inside.{asked_once, until};
 ghost use Rattle.tatp_actions.specs.declared.action.Action.{Action};
 ghost use Rattle.tatp_actions.specs.declared.cells.TheConstants.{FIRST_AREA};
 

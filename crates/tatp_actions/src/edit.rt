@@ -3,7 +3,7 @@
 ghost use Rattle.std.specs.Prelude.{◌≡◌};
 ghost use Rattle.tatp_actions.specs.Action.{done_reply, s_id_of};
 ghost use Rattle.tatp_actions.specs.Book.{IsWithin};
-ghost use Rattle.tatp_actions.specs.Inside.{Acts, notes_of};
+ghost use Rattle.tatp_actions.specs.Edit.{Acts, notes_of};
 ghost use Rattle.tatp_actions.specs.Part.{IsPart};
 ghost use Rattle.tatp_actions.specs.declared.action.Action.{Action};
 ghost use Rattle.tatp_actions.specs.declared.action.Action.TheVariants as action;

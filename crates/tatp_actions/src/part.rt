@@ -2,7 +2,7 @@
 ghost use Rattle.std.specs.Prelude.{◌≡◌, ◌+◌, ◌<◌, ◌≤◌, [], IfOk, IfErr};
 ghost use Rattle.tatp_rows.specs.Zones.{zone_of};
 ghost use Rattle.tatp_actions.specs.Action.{s_id_of, done_reply, IsOutcome};
-ghost use Rattle.tatp_actions.specs.Inside.{Acts, notes_of};
+ghost use Rattle.tatp_actions.specs.Edit.{Acts, notes_of};
 ghost use Rattle.tatp_actions.specs.Book.{IsWithin, IsRowsOf, empty_book};
 ghost use Rattle.tatp_actions.specs.Change.{IsChange};
 ghost use Rattle.tatp_actions.specs.Heights.{zero_heights};

@@ -4,7 +4,8 @@ ghost use Rattle.std.specs.Option.{option_to_list};
 ghost use Rattle.arrayvec.specs.ArrayVec.{array_vec_len};
 ghost use Rattle.tatp_actions.specs.Book.{IsWithin, subscriber_at, forwarding_at};
 ghost use Rattle.tatp_actions.specs.Action.{done_reply};
-ghost use Rattle.tatp_actions.specs.Inside.{destination, Acts, asked_once, notes_of};
+ghost use Rattle.tatp_actions.specs.Edit.{Acts, notes_of};
+ghost use Rattle.tatp_actions.specs.Inside.{destination, asked_once};
 ghost use Rattle.tatp_actions.specs.Part.{IsPart};
 ghost use Rattle.tatp_actions.specs.declared.action.Action.{Action};
 

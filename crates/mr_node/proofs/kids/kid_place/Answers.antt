@@ -1,5 +1,5 @@
 use Rattle.std.proofs.Common.{rules, ◌≡◌, length, subst, sym}
-use Rattle.mr_node.specs.Search.{IsKidPlace}
+use Rattle.mr_node.specs.Levels.{IsKidPlace}
 use Rattle.mr_node.proofs.RunLemmas.{run_rises}
 use Rattle.mr_node.proofs.SearchLemmas.{kid_placed}
 use Rattle.mr_node.proofs.kids.kid_place.Goals as goal
