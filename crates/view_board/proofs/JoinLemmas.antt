@@ -10,10 +10,15 @@ use Rattle.atomic_table.proofs.Lists.{at_set}
 use Rattle.view_board.specs.declared.rule.View.{View}
 use Rattle.view_board.specs.declared.words.TheConstants.{SLOTS, SLOT_WORDS, WORDS}
 use Rattle.view_board.specs.Views.{owned_at, Owns, OwnsWord, IsWide, both, nobody, slots_of_both, numbers_of_both, AreApart}
+use Rattle.view_board.specs.Words.{AreSmall}
 use Rattle.view_board.specs.Rule.{Fits, IsRuled}
 use Rattle.view_board.specs.Desks.{Agrees}
 use Rattle.view_board.proofs.ListLemmas.{each_word_at, length-each_word, each_slot_at, length-each_slot, set_within, apart_at, apart_by_slots}
 use Rattle.view_board.proofs.RuleLemmas.{HaveOneOwner, fit_after}
+
+-- a number of both
+abbrev number_of : List ℕ → List ℕ → List Bool → ℕ → ℕ
+number_of numbers others flags w = if get_or flags (w / SLOT_WORDS) false then get_or others w 0 else get_or numbers w 0
 
 -- one of two flags is set
 either_set : (a b : Bool) → (a || b) ≡ true → (a ≡ true) ⊎ (b ≡ true)
@@ -162,6 +167,15 @@ pub told : (v other joined : View) → IsWide v → IsWide other → joined ≡ 
 told v other joined wide other_wide is within was_apart =
     told_of_both v other wide other_wide (subst (λ (j : View). (w : ℕ) → OwnsWord j w → get_or j.seen w 0 ≤ get_or j.numbers w 0) is within) (subst (λ (j : View). j.was_apart ≡ true) is was_apart)
 
+-- no number of both passes the limit
+numbers_small : (numbers others : List ℕ) (flags : List Bool) → AreSmall numbers → AreSmall others → AreSmall (numbers_of_both numbers others flags)
+numbers_small numbers others flags small others_small w = elim (cases_lt w WORDS) [
+  | inl below ↦ by_test (get_or flags (w / SLOT_WORDS) false)
+      (λ theirs. let is : get_or (numbers_of_both numbers others flags) w 0 ≡ get_or others w 0 = each_word_at (number_of numbers others flags) w below ∙ rw theirs refl in rw is (others_small w))
+      (λ ours. let is : get_or (numbers_of_both numbers others flags) w 0 ≡ get_or numbers w 0 = each_word_at (number_of numbers others flags) w below ∙ rw ours refl in rw is (small w))
+  | inr past ↦ rw (get_or_past (numbers_of_both numbers others flags) w 0 (rw (length-each_word (number_of numbers others flags)) past)) (omega arith)
+]
+
 -- a desk that took in another one stores what it now knows
 pub joined_agrees : (me other after : Me (Unit {0}) View) (flags other_flags slots : List Bool) (stored other_stored numbers : List ℕ) → Agrees me flags stored → Agrees other other_flags other_stored
     → after ≡ (both me.0 other.0, me.1) → after.0.was_apart ≡ true → slots ≡ slots_of_both flags other_flags → numbers ≡ numbers_of_both stored other_stored other_flags → Agrees after slots numbers
@@ -174,5 +188,6 @@ joined_agrees me other after flags other_flags slots stored other_stored numbers
     numbers = length-each_word (λ w. if owned_at other.0 (w / SLOT_WORDS) then get_or other.0.numbers w 0 else get_or me.0.numbers w 0);
     seen = length-each_word (λ w. max (get_or me.0.seen w 0) (get_or other.0.seen w 0));
   });
+  small = rw numbers_are (numbers_small stored other_stored other_flags agrees.small others.small);
   was_apart = was_apart;
 }

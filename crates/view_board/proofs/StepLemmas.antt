@@ -72,7 +72,6 @@ checks slots id i me s rule homes there word =
       record {
         same = refl;
         within = λ w own. let seen = fits.seen w in let is = fits.own w own in omega arith;
-        small = λ w own. let most = rule.small w in let is = fits.own w own in omega arith;
         was_apart = fits.was_apart;
       },
     )

