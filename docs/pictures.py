@@ -2,11 +2,14 @@
 """Draws the pictures of docs/: counts.svg from the text below, speed.svg from the tables of SPEED.md, crates.svg from crates.txt.
 
     python3 docs/pictures.py [FOLDER]     at the repository's top; into docs/, or the folder
+
+It calls `dot` (Debian's package graphviz) for the crates.
 """
-import re
+import subprocess
 import sys
 
-INK, LINE, FILL, MARK = "#222", "#888", "#f4f4f0", "#2f6f8f"
+INK, LINE, FILL, MARK = "#222222", "#888888", "#f4f4f0", "#2f6f8f"
+SHADES = (MARK, "#8fb3c3", "#d5e2e8", "#e5c99a", "#c9c9c9")
 
 
 class Picture:
@@ -61,57 +64,54 @@ def cells(row):
     return [cell.strip() for cell in row.strip("|\n").split("|")]
 
 
-def table(title):
-    """The rows of the first table of SPEED.md whose head begins so."""
+def table(head):
+    """The rows of the first table of SPEED.md whose head begins so, the head first."""
     with open("docs/SPEED.md") as file:
-        rows = file.read().split("| " + title, 1)[1].split("\n")[2:]
-    return [cells(row) for row in rows[: next(n for n, row in enumerate(rows) if not row.startswith("|"))]]
+        rows = (head + file.read().split(f"\n{head}", 1)[1]).split("\n")
+    rows = rows[: next(n for n, row in enumerate(rows) if not row.startswith("|"))]
+    return [cells(rows[0]), *map(cells, rows[2:])]
 
 
 def speed():
-    """Instructions a command of the program, below them those of the plain one and of SQLite."""
+    """Instructions a command: a bar for each program of the table, in the order of its columns."""
     kind = ": instructions"
-    rows = [(row[0].removesuffix(kind).strip("`"), *(int(cell.replace(",", "")) for cell in row[1:]))
-            for row in table("| hlr |") if row[0].endswith(kind)]
-    picture = Picture(640, 60 + 58 * len(rows))
-    picture.text(20, 28, "Instructions a command: hlr (dark), plain Rust over BTreeMap and HashMap, SQLite (pale)", 14)
+    head, *rows = table("| | hlr |")
+    rows = [(row[0].removesuffix(kind).strip("`"), *(int(cell.replace(",", "")) for cell in row[1:])) for row in rows if row[0].endswith(kind)]
+    programs, fills = head[1:], SHADES[: len(head) - 1]
+    top, high = 40 + 20 * len(programs), 16 * len(programs) + 12
+    picture = Picture(640, top + high * len(rows))
+    picture.text(20, 26, "Instructions a command", 14)
+    for place, (program, fill) in enumerate(zip(programs, fills)):
+        picture.bar(20, 38 + 20 * place, 28, fill)
+        picture.text(56, 50 + 20 * place, program.replace("`", ""), 12)
     scale = 460 / max(max(row[1:]) for row in rows)
     for place, (name, *counts) in enumerate(rows):
-        y = 44 + 58 * place
-        picture.text(20, y + 28, name, 13)
-        for line, (count, fill) in enumerate(zip(counts, (MARK, "#8fb3c3", "#d5e2e8"))):
+        y = top + high * place
+        picture.text(20, y + 8 * len(counts) + 4, name, 13)
+        for line, (count, fill) in enumerate(zip(counts, fills)):
             picture.bar(80, y + 16 * line, count * scale, fill)
             picture.text(86 + count * scale, y + 12 + 16 * line, f"{count:,}", 11)
     return picture
 
 
 def crates():
-    """The crates, each above those on which it stands."""
+    """The crates, each above those on which it stands; an arrow that others imply is left out."""
     with open("crates.txt") as file:
-        named = [re.split(r"[ :]", line, maxsplit=1)[0] for line in file]
-        file.seek(0)
-        below = {name: [word for word in line.split(":")[1].split() if word in named] for name, line in zip(named, file)}
-    level = {}
+        rows = [line.split(":") for line in file]
+    named = [row[0].split()[0] for row in rows]
+    below = {name: [word for word in row[1].split() if word in named] for name, row in zip(named, rows)}
+    graph = ["digraph {", f'bgcolor="white"; pad=0.2; nodesep=0.35; ranksep=0.45;',
+             f'node [shape=box, style="filled,rounded", fillcolor="{FILL}", color="{LINE}", fontname="sans-serif", fontsize=13, fontcolor="{INK}"];',
+             f'edge [color="{MARK}", arrowsize=0.7];']
     for name in named:
-        level[name] = 1 + max((level[other] for other in below[name]), default=-1)
-    top = max(level.values())
-    places, picture = {}, Picture(860, 74 * (top + 1))
-    for depth in range(top + 1):
-        row = [name for name in named if level[name] == depth]
-        half = min(150, 400 // len(row))
-        for place, name in enumerate(row):
-            places[name] = (430 + half * (2 * place - len(row) + 1), 24 + 74 * (top - depth))
-    for name in named:
-        direct = [other for other in below[name] if not any(other in below[third] for third in below[name])]
-        for other in direct:
-            (x1, y1), (x2, y2) = places[name], places[other]
-            picture.arrow(x1, y1 + 30, x2, y2 - 2)
-    for name, (x, y) in places.items():
-        picture.box(x - 70, y, 140, 30, [name])
-    return picture
+        graph.append(f"{name};")
+        graph += [f"{name} -> {other};" for other in below[name] if not any(other in below[third] for third in below[name])]
+    return subprocess.run(["dot", "-Tsvg"], input="\n".join([*graph, "}"]), capture_output=True, text=True, check=True).stdout
 
 
 if __name__ == "__main__":
     folder = sys.argv[1] if len(sys.argv) > 1 else "docs"
-    for draw in (counts, speed, crates):
+    for draw in (counts, speed):
         draw().write(f"{folder}/{draw.__name__}.svg")
+    with open(f"{folder}/crates.svg", "w") as file:
+        file.write(crates())
