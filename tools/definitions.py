@@ -48,7 +48,8 @@ def definitions(path):
         name = starts_definition(line)
         if name:
             found.append((number, name, " ".join(comment)))
-        comment = []
+        if not line.startswith("infix"):
+            comment = []
     return found
 
 
