@@ -47,11 +47,15 @@ def counts():
     picture.box(20, 30, 230, 92, ["part 0", "the rows of its subscribers", "deltas not posted: cell 26, +1"])
     picture.box(20, 218, 230, 92, ["part 1", "the rows of its subscribers", "deltas not posted: none"])
     picture.box(20, 134, 230, 72, ["piece 1, from part 0", "its rows, with their own count;", "its subscribers get Moving"], "#fff3e0")
-    picture.box(350, 70, 180, 190, ["the board", "slot 0: words of part 0", "slot 1: words of part 1", "", "a plus-word and a minus-", "word for each of 72 cells;", "a word only rises, and", "its slot's owner alone", "raises it"])
+    picture.box(350, 74, 180, 174, ["the board", "slot 0: words of part 0", "slot 1: words of part 1", "", "a plus-word and a minus-", "word for each of 72 cells;", "a word only rises, and", "its slot's owner alone", "raises it"])
     picture.box(620, 90, 180, 130, ["views", "for each cell: what is", "published (plus less minus,", "over all slots) and the", "deltas not posted:", "together the count now"])
-    picture.arrow(250, 76, 350, 110, "post")
-    picture.arrow(250, 262, 350, 220, "post")
+    picture.arrow(250, 90, 350, 120, "post")
+    picture.arrow(250, 246, 350, 214, "post")
     picture.arrow(530, 150, 620, 150, "published")
+    picture.arrow(250, 40, 700, 88)
+    picture.arrow(250, 304, 700, 222)
+    picture.text(540, 58, "not posted", 12, color=MARK)
+    picture.text(540, 276, "not posted", 12, color=MARK)
     picture.arrow(135, 206, 135, 218)
     picture.arrow(135, 122, 135, 134)
     picture.text(142, 131, "give", 12, color=MARK)
@@ -76,21 +80,22 @@ def speed():
     """Instructions a command: a bar for each program of the table, in the order of its columns."""
     kind = ": instructions"
     head, *rows = table("| | hlr |")
-    rows = [(row[0].removesuffix(kind).strip("`"), *(int(cell.replace(",", "")) for cell in row[1:])) for row in rows if row[0].endswith(kind)]
-    programs, fills = head[1:], SHADES[: len(head) - 1]
+    rows = [(row[0].removesuffix(kind).strip("`"), [cell.replace(",", "") for cell in row[1:]]) for row in rows if row[0].endswith(kind)]
+    programs = list(zip(head[1:], SHADES))
     top, high = 40 + 20 * len(programs), 16 * len(programs) + 12
     picture = Picture(640, top + high * len(rows))
     picture.text(20, 26, "Instructions a command", 14)
-    for place, (program, fill) in enumerate(zip(programs, fills)):
+    for place, (program, fill) in enumerate(programs):
         picture.bar(20, 38 + 20 * place, 28, fill)
         picture.text(56, 50 + 20 * place, program.replace("`", ""), 12)
-    scale = 460 / max(max(row[1:]) for row in rows)
-    for place, (name, *counts) in enumerate(rows):
+    scale = 460 / max(int(count) for _, counts in rows for count in counts if count.isdigit())
+    for place, (name, counts) in enumerate(rows):
         y = top + high * place
         picture.text(20, y + 8 * len(counts) + 4, name, 13)
-        for line, (count, fill) in enumerate(zip(counts, fills)):
-            picture.bar(80, y + 16 * line, count * scale, fill)
-            picture.text(86 + count * scale, y + 12 + 16 * line, f"{count:,}", 11)
+        for line, (count, (_, fill)) in enumerate(zip(counts, programs)):
+            if count.isdigit():
+                picture.bar(80, y + 16 * line, int(count) * scale, fill)
+                picture.text(86 + int(count) * scale, y + 12 + 16 * line, f"{int(count):,}", 11)
     return picture
 
 
