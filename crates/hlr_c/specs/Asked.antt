@@ -41,9 +41,11 @@ deletion_asked sub_nbr sf_type start_time = asks (λ number. event.DeleteForward
 abbrev pub subscriber_asked : SubscriberRow → Result Event Refusal
 subscriber_asked row = asks event.AddSubscriber (subscriber_of row)
 
+-- an access that C hands in to be added
 abbrev pub access_asked : AccessInfoRow → Result Event Refusal
 access_asked row = asks event.AddAccess (access_of row)
 
+-- a facility that C hands in to be added
 abbrev pub facility_asked : SpecialFacilityRow → Result Event Refusal
 facility_asked row = asks event.AddFacility (facility_of row)
 

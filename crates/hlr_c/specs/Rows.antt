@@ -23,6 +23,7 @@ abbrev pub number_for_c : Place → ℕ
 number_for_c (place.Part number) = number
 number_for_c (place.Piece number) = number
 
+-- a region as C gets it
 abbrev pub region_for_c : Region → HlrRegion
 region_for_c region = record {
   lo = region.lo;

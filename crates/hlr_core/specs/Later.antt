@@ -10,6 +10,7 @@ use Rattle.hlr_core.specs.Index.{number_pair}
 abbrev pub numbers_of : HoldingState → List (ℕ × ℕ)
 numbers_of holding = map number_pair holding.part.book.subscribers
 
+-- the pairs of number and subscriber of a seat's rows
 abbrev pub numbers_at : Seat → List (ℕ × ℕ)
 numbers_at seat = map number_pair (owner_of seat).part.book.subscribers
 

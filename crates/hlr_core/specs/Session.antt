@@ -80,6 +80,7 @@ AreDone regions before (one ∷ jobs) after =
 abbrev pub jobs_of : ℕ → List JobReply → List JobReply
 jobs_of p jobs = filter (λ one. one.part == p) jobs
 
+-- the jobs of all parts but one, in order
 abbrev pub jobs_beside : ℕ → List JobReply → List JobReply
 jobs_beside p jobs = filter (λ one. not (one.part == p)) jobs
 

@@ -171,6 +171,7 @@ abbrev pub divided_reply : Result (ℕ × ℕ × ℕ) Refusal → Reply
 divided_reply (Ok part) = reply.Divided part.0 part.1 part.2
 divided_reply (Err why) = reply.Refused why
 
+-- the reply of a dissolve
 abbrev pub dissolved_reply : Result (ℕ × ℕ × ℕ) Refusal → Reply
 dissolved_reply (Ok part) = reply.Dissolved part.0 part.1 part.2
 dissolved_reply (Err why) = reply.Refused why

@@ -24,6 +24,7 @@ owners_of holdings pieces = map of_holding holdings ++ map of_piece pieces
 abbrev pub holding_range : HoldingState → Region
 holding_range holding = record { lo = holding.part.lo; hi = holding.part.hi; place = Part 0 }
 
+-- the range of a piece, as a region in which the number counts for nothing
 abbrev pub piece_range : PieceState → Region
 piece_range piece = record { lo = piece.part.lo; hi = piece.part.hi; place = Piece 0 }
 

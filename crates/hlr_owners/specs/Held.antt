@@ -16,9 +16,11 @@ pub record Owner : Type 0 where
   pub pending : List ℤ
   pub view : View
 
+-- a holding as an owner
 abbrev pub of_holding : HoldingState → Owner
 of_holding holding = record { part = holding.part; pending = holding.pending; view = holding.desk.view }
 
+-- a loose piece as an owner, whose desk is nobody's
 abbrev pub of_piece : PieceState → Owner
 of_piece piece = record { part = piece.part; pending = piece.pending; view = nobody }
 

@@ -71,6 +71,7 @@ abbrev pub IsHouseDivided : ℕ → Result (ℕ × ℕ × ℕ) Refusal → Seati
 IsHouseDivided part (Err why) before after = after ≡ before
 IsHouseDivided part (Ok new) before after = IsWithNew part before after
 
+-- who is at home, and who is out, after a dissolve
 abbrev pub IsHouseDissolved : ℕ → Result (ℕ × ℕ × ℕ) Refusal → Seating → Seating → Type 0
 IsHouseDissolved part (Err why) before after = after ≡ before
 IsHouseDissolved part (Ok front) before after = IsWithout part before after
@@ -80,6 +81,7 @@ abbrev pub IsDividedBeside : ℕ → ℕ → Result (ℕ × ℕ × ℕ) Refusal 
 IsDividedBeside part at done before after =
     (holdings : List HoldingState) → MayBecome before.seats holdings → IsDivided part at done (store_with before holdings) (store_with after holdings)
 
+-- a dissolve is right of the stores, whatever the holdings that are out have become
 abbrev pub IsDissolvedBeside : ℕ → Result (ℕ × ℕ × ℕ) Refusal → Seating → Seating → Type 0
 IsDissolvedBeside part done before after =
     (holdings : List HoldingState) → MayBecome before.seats holdings → IsDissolved part done (store_with before holdings) (store_with after holdings)

@@ -22,6 +22,7 @@ use Rattle.hlr_owners.specs.declared.scattered.Scattered.{Scattered}
 abbrev pub holdings_in : Scattered → List HoldingState
 holdings_in apart = unboxed apart.holdings.items
 
+-- the pieces of a register that was taken apart
 abbrev pub pieces_in : Scattered → List PieceState
 pieces_in apart = unboxed apart.pieces.items
 

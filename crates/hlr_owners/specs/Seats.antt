@@ -26,6 +26,7 @@ abbrev pub owner_of : Seat → Owner
 owner_of (Part lodged) = of_holding lodged.holding
 owner_of (Piece b) = of_piece b.value
 
+-- the owners of all seats
 abbrev pub owners_in : List Seat → List Owner
 owners_in seats = map owner_of seats
 
@@ -38,6 +39,7 @@ abbrev pub of_part : {X : Type 0} → (Lodged → X) → Seat → List X
 of_part f (Part lodged) = f lodged ∷ []
 of_part f (Piece b) = []
 
+-- what a function makes of each part's holding, in order
 abbrev pub of_parts : {X : Type 0} → (Lodged → X) → List Seat → List X
 of_parts f [] = []
 of_parts f (seat ∷ seats) = of_part f seat ++ of_parts f seats
@@ -74,6 +76,7 @@ IsKind (place.Part p) (Piece b) = ⊥
 IsKind (place.Piece n) (Part lodged) = ⊥
 IsKind (place.Piece n) (Piece b) = ⊤
 
+-- a seat beside a region: of its kind, with an owner who has its rows
 pub record IsSeat (width : ℕ) (region : Region) (seat : Seat) : Type 0 where
   pub kind : IsKind region.place seat
   pub owner : IsOwner width region (owner_of seat)
@@ -96,6 +99,7 @@ store_in h = record {
   width = h.width;
 }
 
+-- the rules that all seats keep together
 pub record AreSeated (h : Seating) : Type 0 where
   pub are : AreRegions h.regions
   pub each : AllZip (IsSeat h.width) h.regions h.seats

@@ -11,6 +11,7 @@ use Rattle.part_table.specs.Regions.{parts_of}
 use Rattle.part_table.specs.declared.region.Region.{Region}
 use Rattle.hlr_owners.specs.Words.{net, all_slots, blank_words}
 
+-- a store: book, regions, words, what was seen of them, the slots of each part, width
 pub record Store : Type 0 where
   pub book : Book
   pub regions : List Region

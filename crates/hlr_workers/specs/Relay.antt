@@ -14,6 +14,7 @@ use Rattle.hlr_workers.specs.declared.message.Message.{Message}
 use Rattle.hlr_workers.specs.declared.message.Message.TheVariants.{Begin, Do, Stop}
 use Rattle.hlr_workers.specs.declared.work.TheConstants.{MOST_PENDING}
 
+-- what a pass knows: whether it may push and pop, what was sent, and what was received
 abbrev pub log : Bool → Bool → List Message → List Message → Log
 log pushes pops sent got = record { pushes = pushes; pops = pops; sent = sent; got = got }
 

@@ -41,6 +41,7 @@ abbrev pub numbered : ℕ → List (ℕ × Job) → ℕ
 numbered k [] = 0
 numbered k (job ∷ jobs) = (if job.0 == k then 1 else 0) + numbered k jobs
 
+-- how many of the jobs that are out have this number
 abbrev pub numbered_in : ℕ → List (List (ℕ × Job)) → ℕ
 numbered_in k [] = 0
 numbered_in k (own ∷ jobs) = numbered k own + numbered_in k jobs

@@ -18,6 +18,7 @@ most_of_joins height = 32 * ((height + 1) * (height + 1))
 abbrev pub most_of_slice : ℕ → ℕ
 most_of_slice height = 64 * ((height + 1) * (height + 1))
 
+-- the fewest steps that the slice of a tree of this height takes
 abbrev pub fewest_of_slice : ℕ → ℕ
 fewest_of_slice height = 9 * height + 3
 
@@ -25,6 +26,7 @@ fewest_of_slice height = 9 * height + 3
 abbrev pub most_of_meld : ℕ → ℕ → ℕ
 most_of_meld a b = 16 * (abs_diff a b + 1)
 
+-- the fewest steps that the meld of trees of these heights takes
 abbrev pub fewest_of_meld : ℕ → ℕ → ℕ
 fewest_of_meld a b = 2 * abs_diff a b + 4
 

@@ -21,6 +21,7 @@ dissolve_answer_of (Some part) None p = Err NotAdjacent
 dissolve_answer_of (Some part) (Some front) p =
     if front.hi == part.lo then Ok (p - 1, front.lo, part.hi) else Err NotAdjacent
 
+-- what a dissolve of the part p answers: NoPart, NotAdjacent, else the number of the part in front and its range then
 abbrev pub dissolve_answer : ℕ → List Region → Result (ℕ × ℕ × ℕ) Refusal
 dissolve_answer p regions = dissolve_answer_of (find (is_part p) regions) (part_before p regions) p
 
@@ -40,6 +41,7 @@ dissolved_behind p first (second ∷ regions) =
     if is_part p second then record first { hi = second.hi } ∷ lowered regions
     else first ∷ dissolved_behind p second regions
 
+-- the regions with that of the part p joined to the one in front
 abbrev pub dissolved : ℕ → List Region → List Region
 dissolved p [] = []
 dissolved p (region ∷ regions) = dissolved_behind p region regions

@@ -18,6 +18,8 @@ divide_answer_of (Some part) p at regions =
     if length (parts_of regions) == MOST_PARTS then Err ManyParts else
     Ok (p + 1, at, part.hi))
 
+-- what a divide of the part p at a subscriber answers: NoPart, OutOfRange, ManyParts, else the new part's number and
+-- its range
 abbrev pub divide_answer : ℕ → ℕ → List Region → Result (ℕ × ℕ × ℕ) Refusal
 divide_answer p at regions = divide_answer_of (find (is_part p) regions) p at regions
 

@@ -36,6 +36,7 @@ answer_of_part (Some part) side at regions =
     if length (pieces_of regions) == MOST_PIECES then Err ManyPieces else
     Ok (free_number (pieces_of regions), (given side at part).0, (given side at part).1))
 
+-- what a give of the part p answers: NoPart, OutOfRange, ManyPieces, else the piece's number and its range
 abbrev pub give_answer : ℕ → Side → ℕ → List Region → Result (ℕ × ℕ × ℕ) Refusal
 give_answer p side at regions = answer_of_part (find (is_part p) regions) side at regions
 
@@ -60,6 +61,7 @@ abbrev pub piece_index : Side → ℕ → ℕ
 piece_index Low i = i
 piece_index High i = i + 1
 
+-- of such neighbours, the index of the second by that of the piece (no public clause cites it)
 abbrev pub second_index : Side → ℕ → ℕ
 second_index Low i = i + 1
 second_index High i = i

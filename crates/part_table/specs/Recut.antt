@@ -49,6 +49,7 @@ handed_on p side at q (Ok piece) regions =
     let given = after_give p side at (Ok piece) regions in
     taken piece.0 q (take_answer piece.0 q given) given
 
+-- the regions after the part p gave a stretch away and the part q took it, or why it can't be
 abbrev pub handed_over : ℕ → Side → ℕ → ℕ → List Region → Result (List Region) Refusal
 handed_over p side at q regions = handed_on p side at q (give_answer p side at regions) regions
 

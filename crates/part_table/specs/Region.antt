@@ -27,6 +27,7 @@ abbrev pub is_of_part_place : Place → Bool
 is_of_part_place (Part number) = true
 is_of_part_place (Piece number) = false
 
+-- the region is that of a part
 abbrev pub is_of_part : Region → Bool
 is_of_part region = is_of_part_place region.place
 

@@ -20,6 +20,7 @@ answer_of_both None part = Err NoPiece
 answer_of_both (Some piece) None = Err NoPart
 answer_of_both (Some piece) (Some part) = ok_or (touching piece part) NotAdjacent
 
+-- what a take of the piece n by the part q answers: NoPiece, NoPart, NotAdjacent, else the side on which it lies
 abbrev pub take_answer : ℕ → ℕ → List Region → Result Side Refusal
 take_answer n q regions = answer_of_both (find (is_piece n) regions) (find (is_part q) regions)
 
@@ -50,6 +51,7 @@ joined_behind n q first [] = first ∷ []
 joined_behind n q first (second ∷ regions) =
     joined_pair (side_between n q first second) first second regions (joined_behind n q second regions)
 
+-- the regions with the piece n and the part q as one region of the part
 abbrev pub joined : ℕ → ℕ → List Region → List Region
 joined n q [] = []
 joined n q (region ∷ regions) = joined_behind n q region regions

@@ -108,6 +108,7 @@ add_access book row None there = (reply.Refused refusal.NoSubscriber, book)
 add_access book row (Some subscriber) None = (reply.Done, more_access book row)
 add_access book row (Some subscriber) (Some other) = (reply.Refused refusal.Exists, book)
 
+-- a new facility of the subscriber that was found, unless a row with its key was found
 abbrev pub add_facility : Book → SpecialFacilityRow → Option SubscriberRow → Option SpecialFacilityRow → RowReply × Book
 add_facility book row None there = (reply.Refused refusal.NoSubscriber, book)
 add_facility book row (Some subscriber) None = (reply.Done, more_facilities book row)

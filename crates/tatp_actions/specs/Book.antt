@@ -41,6 +41,7 @@ forwarding_at book s_id sf_type start_time = row_at forwarding_key (key_of s_id 
 abbrev pub put_subscriber : Book → ℕ → SubscriberRow → Book
 put_subscriber book s_id row = record book { subscribers = with_row_at subscriber_key (key_of s_id 0 0) row book.subscribers }
 
+-- the book with a row in the place of the facility with its key
 abbrev pub put_facility : Book → ℕ → ℕ → SpecialFacilityRow → Book
 put_facility book s_id sf_type row = record book { facilities = with_row_at facility_key (key_of s_id sf_type 0) row book.facilities }
 
@@ -48,12 +49,15 @@ put_facility book s_id sf_type row = record book { facilities = with_row_at faci
 abbrev pub more_subscribers : Book → SubscriberRow → Book
 more_subscribers book row = record book { subscribers = with_row subscriber_key row book.subscribers }
 
+-- the book with one more access
 abbrev pub more_access : Book → AccessInfoRow → Book
 more_access book row = record book { access = with_row access_key row book.access }
 
+-- the book with one more facility
 abbrev pub more_facilities : Book → SpecialFacilityRow → Book
 more_facilities book row = record book { facilities = with_row facility_key row book.facilities }
 
+-- the book with one more forwarding
 abbrev pub more_forwardings : Book → CallForwardingRow → Book
 more_forwardings book row = record book { forwardings = with_row forwarding_key row book.forwardings }
 

@@ -49,6 +49,7 @@ abbrev pub slice_bound : Heights → ℕ
 slice_bound h =
     most_of_slice h.subscribers + most_of_slice h.access + most_of_slice h.facilities + most_of_slice h.forwardings
 
+-- the fewest steps that a part's slice takes, by the heights of its trees
 abbrev pub slice_least : Heights → ℕ
 slice_least h =
     fewest_of_slice h.subscribers + fewest_of_slice h.access + fewest_of_slice h.facilities
@@ -60,6 +61,7 @@ meld_bound a b =
     most_of_meld a.subscribers b.subscribers + most_of_meld a.access b.access + most_of_meld a.facilities b.facilities
     + most_of_meld a.forwardings b.forwardings
 
+-- the fewest steps that the meld of two parts takes, by the heights of their trees
 abbrev pub meld_least : Heights → Heights → ℕ
 meld_least a b =
     fewest_of_meld a.subscribers b.subscribers + fewest_of_meld a.access b.access

@@ -77,6 +77,7 @@ pub record AreForSlice (h : Heights) (stocks : Stocks) : Type 0 where
   pub facilities : IsForSlice h.facilities stocks.facilities
   pub forwardings : IsForSlice h.forwardings stocks.forwardings
 
+-- the stocks are large enough for a meld of trees of these heights
 pub record AreForMeld (a b : Heights) (stocks : Stocks) : Type 0 where
   pub subscribers : IsForMeld a.subscribers b.subscribers stocks.subscribers
   pub access : IsForMeld a.access b.access stocks.access

@@ -10,6 +10,7 @@ use Rattle.tatp_rows.specs.declared.refusal.Refusal.TheVariants.{Field}
 abbrev pub IsNumber : ℕ → Type 0
 IsNumber n = n < 1000000000000000
 
+-- whether a value is such a number
 abbrev pub is_number : ℕ → Bool
 is_number n = nat_lt n 1000000000000000
 

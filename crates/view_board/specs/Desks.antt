@@ -6,6 +6,7 @@ use Rattle.view_board.specs.declared.rule.View.{View}
 use Rattle.view_board.specs.Views.{IsWide}
 use Rattle.view_board.specs.Words.{AreSmall}
 
+-- a desk: its board, and what it knows
 pub record Station : Type 0 where
   pub board : TableId
   pub view : View

@@ -9,6 +9,7 @@ use Rattle.view_board.specs.Words.{raised_by, raises_of, each_word, each_slot, l
 abbrev pub owned_at : View → ℕ → Bool
 owned_at v slot = slice_index_or v.owned slot false
 
+-- the slot is the desk's
 abbrev pub Owns : View → ℕ → Type 0
 Owns v slot = owned_at v slot ≡ true
 

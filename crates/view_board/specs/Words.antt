@@ -8,6 +8,7 @@ use Rattle.view_board.specs.declared.words.TheConstants.{SLOTS, CELLS, SLOT_WORD
 abbrev pub plus_word : ℕ → ℕ → ℕ
 plus_word slot cell = slot * SLOT_WORDS + cell
 
+-- the place of a slot's minus-word of a cell
 abbrev pub minus_word : ℕ → ℕ → ℕ
 minus_word slot cell = slot * SLOT_WORDS + CELLS + cell
 
@@ -39,6 +40,7 @@ slot_net words cell slot = pos (slice_index words (plus_word slot cell)) -ℤ po
 unfoldable pub each_word : (ℕ → ℕ) → List ℕ
 each_word number = map number (range_with_len 0 WORDS)
 
+-- a flag for each slot
 unfoldable pub each_slot : (ℕ → Bool) → List Bool
 each_slot flag = map flag (range_with_len 0 SLOTS)
 
