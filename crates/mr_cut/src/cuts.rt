@@ -12,6 +12,7 @@ use mr_node::{
 };
 
 /// A root over some children of an inner node: a blank leaf, the only child, or an inner node. One step at most.
+#[inline(never)]
 fn root_of<V: Drop>(
     mut branch: Branch<Box<Node<V>>>,
     blank: Box<Node<V>>,
@@ -34,6 +35,7 @@ fn root_of<V: Drop>(
 }
 
 /// The child to which a key belongs, between roots over the children in front of it and behind it. Two steps at most.
+#[inline(never)]
 fn divide<V: Drop>(
     mut branch: Branch<Box<Node<V>>>,
     key: u64,
@@ -57,6 +59,7 @@ fn divide<V: Drop>(
 }
 
 /// The two roots of a leaf that is cut at a key. Two steps.
+#[inline(never)]
 fn halves_of<V: Drop>(
     mut leaf: Leaf<V>,
     key: u64,

@@ -2,7 +2,7 @@
 ghost use Rattle.std.specs.Prelude.{◌≡◌, ◌+◌, ◌-◌, ◌*◌, ◌<◌, ◌≤◌, ◌++◌, IfSome};
 ghost use Rattle.tatp_rows.specs.Ordered.{IsOrderedBy};
 ghost use Rattle.mr_node.specs.Rows.{key_limit, key_of_pair, KeysBelow};
-ghost use Rattle.mr_node.specs.Levels.{kids_of, rows_of};
+ghost use Rattle.mr_node.specs.Levels.{kids_of, rows_of, seen_branch, IsBranch};
 ghost use Rattle.mr_node.specs.Pairs.{IsKidNode};
 ghost use Rattle.mr_node.specs.Steps.{after_steps};
 ghost use Rattle.mr_cut.specs.Grafts.{beside, end_of, IsTurned, IsRest, IsEvened, IsGrafted};
@@ -46,6 +46,7 @@ pub(crate) fn turned<V: Drop>(
 }
 
 /// Evens out two neighbours of one height. Four steps.
+#[inline(never)]
 fn even<V: Drop>(
     mut low: Box<Node<V>>,
     mut high: Box<Node<V>>,
@@ -62,7 +63,22 @@ fn even<V: Drop>(
     (low, Some(high))
 }
 
+/// Builds an inner node of these children in a box. One step. It is not inlined: the stack of a graft holds no node then.
+#[inline(never)]
+fn built<V: Drop>(
+    branch: Branch<Box<Node<V>>>,
+    blank: Box<Node<V>>,
+    meter: &mut Meter,
+) -> Box<Node<V>>
+    requires { IsBranch branch }
+    ensures seen { result.value ≡ seen_branch branch }
+    ensures steps { meter.new ≡ after_steps 1 meter.old }
+{
+    build_inner(branch, blank, meter)
+}
+
 /// An inner node of one child. One step.
+#[inline(never)]
 fn lone<V: Drop>(
     height: u64,
     node: Box<Node<V>>,
@@ -80,6 +96,7 @@ fn lone<V: Drop>(
 }
 
 /// Puts what became of the child at a side back beside the others. One step, or six where it became two.
+#[inline(never)]
 fn hang_back<V: Drop>(
     side: Side,
     mut branch: Branch<Box<Node<V>>>,
@@ -106,14 +123,14 @@ fn hang_back<V: Drop>(
         Some(two) => {
             let (near, far) = turned(side, one, two);
             hang(&mut branch, place, near);
-            let node = build_inner(branch, blank, meter);
+            let node = built(branch, blank, meter);
             let last = lone(height, far, stock.give(), meter);
             let (first, second) = turned(side, node, last);
             even(first, second, meter)
         }
         None => {
             hang(&mut branch, place, one);
-            (build_inner(branch, blank, meter), None)
+            (built(branch, blank, meter), None)
         }
     }
 }

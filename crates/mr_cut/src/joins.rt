@@ -13,6 +13,7 @@ use crate::grafts::{Side, graft, turned};
 use mr_node::{Meter, Node, Stock, build_inner, hang, no_branch};
 
 /// The root of what is one node, or two under a new one. One step where there are two.
+#[inline(never)]
 fn crown<V: Drop>(
     one: Box<Node<V>>,
     two: Option<Box<Node<V>>>,
@@ -44,6 +45,7 @@ fn side_of(low: u64, high: u64) -> Side
 }
 
 /// Joins two roots: the rows of the low one, and then those of the high one.
+#[inline(never)]
 pub(crate) fn join<V: Drop>(
     low: Box<Node<V>>,
     high: Box<Node<V>>,

@@ -10,4 +10,4 @@ mod tests;
 mod trees;
 
 pub use needs::{need_meld, need_slice, stock_for_meld, stock_for_slice};
-pub use trees::{Cut, meld, slice};
+pub use trees::{Cut, meld, meld_from, slice, slice_into};

@@ -1,13 +1,15 @@
 //! Slice and meld of whole trees.
-ghost use Rattle.std.specs.Prelude.{◌≡◌, ◌+◌, ◌-◌, ◌*◌, ◌≤◌, max, ◌++◌};
+ghost use Rattle.std.specs.Prelude.{◌≡◌, ◌+◌, ◌-◌, ◌*◌, ◌≤◌, max, ◌++◌, []};
 ghost use Rattle.std.specs.Int.{abs_diff};
 ghost use Rattle.mr_cut.specs.Bounds.{join_steps, blanks_for_slice, most_of_joins, most_of_slice, blanks_for_meld, most_of_meld, fewest_of_meld};
 ghost use Rattle.mr_cut.specs.Cuts.{IsCut, AreApart, rows_below, rows_from};
+ghost use Rattle.mr_subtree.specs.Trees.{IsRoot};
 
 use crate::cuts::cut;
 use crate::joins::join;
 use mr_node::{Meter, Node, Stock};
 use mr_subtree::SubTree;
+use std::mem;
 
 /// A tree that was cut in two.
 #[derive(Drop)]
@@ -22,12 +24,29 @@ pub struct Cut<V> {
     pub path: u64,
 }
 
-/// A node in a box.
-fn boxed<V: Drop>(node: Node<V>, mut blank: Box<Node<V>>) -> Box<Node<V>>
-    ensures { result.value ≡ node }
+/// Takes the root of a tree out, in a box; the tree has no row then.
+#[inline(never)]
+fn lift<V: Drop>(tree: &mut SubTree<V>, mut blank: Box<Node<V>>) -> Box<Node<V>>
+    ensures root { result.value ≡ tree.old }
+    ensures rules { IsRoot result.value }
+    ensures rows { tree.new.rows ≡ [] }
+    ensures height { tree.new.height ≡ 0 }
 {
-    *blank = node;
+    let Ok(empty) = SubTree::new(tree.alloc()) else {
+        unreachable!()
+    };
+    *blank = mem::replace(tree, empty).into_root();
     blank
+}
+
+/// Makes a tree of a root, in the place of another one.
+#[inline(never)]
+fn plant<V: Drop>(place: &mut SubTree<V>, root: Box<Node<V>>)
+    requires { IsRoot root.value }
+    ensures { place.new ≡ root.value }
+{
+    let alloc = place.alloc();
+    drop(mem::replace(place, SubTree::from_root(alloc, Box::into_inner(root))));
 }
 
 /// Cuts a tree at a key: at most three steps a level on the path, and two melds a level beside it. It takes no memory
@@ -43,26 +62,57 @@ pub fn slice<V: Drop>(tree: SubTree<V>, key: u64, stock: &mut Stock<V>) -> Cut<V
     ensures steps { result.steps ≤ most_of_slice tree.height }
     ensures no_fewer { result.path + 8 * tree.height ≤ result.steps }
 {
-    let alloc = tree.alloc();
+    let mut low = tree;
+    let Ok(mut high) = SubTree::new(low.alloc()) else {
+        unreachable!()
+    };
+    let (steps, path) = slice_into(&mut low, &mut high, key, stock);
+    Cut {
+        low,
+        high,
+        steps,
+        path,
+    }
+}
+
+/// Cuts a tree at a key, as `slice` does: it keeps the rows with keys below the key, and those from the key on stand in
+/// another one, in place of its own. How many steps it took, and how many of them fell on the path.
+pub fn slice_into<V: Drop>(
+    tree: &mut SubTree<V>,
+    high: &mut SubTree<V>,
+    key: u64,
+    stock: &mut Stock<V>,
+) -> (u64, u64)
+    requires stock { blanks_for_slice tree.old.height ≤ stock.old }
+    ensures low { tree.new.rows ≡ rows_below key tree.old.rows }
+    ensures high { high.new.rows ≡ rows_from key tree.old.rows }
+    ensures cut { IsCut key tree.old tree.new high.new }
+    ensures path { result.1 ≤ 3 * (tree.old.height + 1) }
+    ensures path_no_fewer { tree.old.height + 3 ≤ result.1 }
+    ensures joins { result.0 ≤ result.1 + most_of_joins tree.old.height }
+    ensures steps { result.0 ≤ most_of_slice tree.old.height }
+    ensures no_fewer { result.1 + 8 * tree.old.height ≤ result.0 }
+{
     // For the prover: the height is below 16, on which the steps' bounds rest.
     let _ = tree.height();
-    let root = boxed(tree.into_root(), stock.give());
+    let root = lift(tree, stock.give());
     let mut path = Meter::new();
     let mut joins = Meter::new();
-    let (low, high) = cut(root, key, stock, &mut path, &mut joins);
-    Cut {
-        low: SubTree::from_root(alloc, Box::into_inner(low)),
-        high: SubTree::from_root(alloc, Box::into_inner(high)),
-        steps: path.steps() + joins.steps(),
-        path: path.steps(),
-    }
+    let (below, above) = cut(root, key, stock, &mut path, &mut joins);
+    plant(tree, below);
+    plant(high, above);
+    (path.steps() + joins.steps(), path.steps())
 }
 
 /// Joins two trees, the keys of the low one below those of the high one: the rows of the one, and then those of the
 /// other; and how many steps it took: four, two for each level by which the heights differ, five for each of those
 /// levels from which two nodes came back, and one for a new root. It takes no memory but the blank nodes of the stock
 /// (`need_meld`): two, one for each such level, and one for a new root.
-pub fn meld<V: Drop>(low: SubTree<V>, high: SubTree<V>, stock: &mut Stock<V>) -> (SubTree<V>, u64)
+pub fn meld<V: Drop>(
+    mut low: SubTree<V>,
+    mut high: SubTree<V>,
+    stock: &mut Stock<V>,
+) -> (SubTree<V>, u64)
     requires apart { AreApart low.rows high.rows }
     requires stock { blanks_for_meld low.height high.height ≤ stock.old }
     ensures rows { result.0.rows ≡ low.rows ++ high.rows }
@@ -72,13 +122,28 @@ pub fn meld<V: Drop>(low: SubTree<V>, high: SubTree<V>, stock: &mut Stock<V>) ->
     ensures steps { result.1 ≤ most_of_meld low.height high.height }
     ensures no_fewer { fewest_of_meld low.height high.height ≤ result.1 }
 {
-    let alloc = low.alloc();
-    let low = boxed(low.into_root(), stock.give());
-    let high = boxed(high.into_root(), stock.give());
+    let steps = meld_from(&mut low, &mut high, stock);
+    drop(high);
+    (low, steps)
+}
+
+/// Joins a tree with another one, as `meld` does: it has the rows of both, and the other one none. How many steps it
+/// took.
+pub fn meld_from<V: Drop>(low: &mut SubTree<V>, high: &mut SubTree<V>, stock: &mut Stock<V>) -> u64
+    requires apart { AreApart low.old.rows high.old.rows }
+    requires stock { blanks_for_meld low.old.height high.old.height ≤ stock.old }
+    ensures rows { low.new.rows ≡ low.old.rows ++ high.old.rows }
+    ensures stock { stock.new + 2 ≤ stock.old }
+    ensures used { stock.old ≤ stock.new + blanks_for_meld low.old.height high.old.height }
+    ensures count { result ≡ join_steps (abs_diff low.old.height high.old.height) (stock.old - stock.new - 2) (low.new.height - max low.old.height high.old.height) }
+    ensures steps { result ≤ most_of_meld low.old.height high.old.height }
+    ensures no_fewer { fewest_of_meld low.old.height high.old.height ≤ result }
+    ensures left { (high.new.rows ≡ []) × (high.new.height ≡ 0) }
+{
+    let first = lift(low, stock.give());
+    let second = lift(high, stock.give());
     let mut meter = Meter::new();
-    let root = join(low, high, stock, &mut meter);
-    (
-        SubTree::from_root(alloc, Box::into_inner(root)),
-        meter.steps(),
-    )
+    let root = join(first, second, stock, &mut meter);
+    plant(low, root);
+    meter.steps()
 }

@@ -7,19 +7,20 @@ use Rattle.std.proofs.lemmas.Bool.Decides.{nat_tests}
 use Rattle.std.proofs.lemmas.List.{length-map, map-append}
 use Rattle.mr_cut.specs.Cuts.{rows_below, rows_from, AreApart}
 use Rattle.mr_subtree.specs.Trees.{IsHeightOf}
+use Rattle.part_table.specs.declared.region.Side.TheVariants.{Low, High}
 use Rattle.tatp_rows.proofs.AppendLemmas.{each-append}
 use Rattle.tatp_rows.proofs.MapLemmas.{each-unmap}
 use Rattle.tatp_rows.proofs.OrderedLemmas.{by_test, each_from_two}
 use Rattle.tatp_rows.specs.Keys.{key_of, subscriber_key, access_key, facility_key, forwarding_key}
 use Rattle.tatp_rows.specs.Rows.{SubscriberRow, AccessInfoRow, SpecialFacilityRow, CallForwardingRow}
 use Rattle.tatp_rows.specs.Spans.{AllBelow, AllFrom, keys_below, keys_from}
-use Rattle.tatp_actions.specs.Book.{IsRowsOf}
+use Rattle.tatp_actions.specs.Book.{IsRowsOf, empty_book}
 use Rattle.tatp_actions.specs.Cut.{AreHeightsOf, low_part, high_part, melded, meld_bound, meld_least}
-use Rattle.tatp_actions.specs.CutTables.{tables_below, tables_from, join_tables, TablesApart, tables_of, heights_of}
-use Rattle.tatp_actions.specs.Heights.{Heights}
+use Rattle.tatp_actions.specs.CutTables.{tables_below, tables_from, join_tables, TablesApart, TablesApartAt, tables_of, heights_of}
+use Rattle.tatp_actions.specs.Heights.{Heights, zero_heights}
 use Rattle.tatp_actions.specs.Joined.{join_books, cut_low, cut_high}
 use Rattle.tatp_actions.specs.Part.{PartState, IsWidth}
-use Rattle.tatp_actions.specs.Tables.{Tables, AreKeyed, IsKeyed, stored_book, values_of}
+use Rattle.tatp_actions.specs.Tables.{Tables, AreKeyed, IsKeyed, empty_tables, stored_book, values_of}
 use Rattle.tatp_actions.specs.declared.trees.Trees.{Trees}
 use Rattle.tatp_actions.proofs.CutLemmas.{same_tables, cut_low_rows, cut_high_rows}
 use Rattle.tatp_actions.proofs.JoinedLemmas.{rows_joined}
@@ -205,6 +206,47 @@ module _ {h h' : Heights} (mine other whole : Tables) (asked lo hi width steps a
   melded_high joined other_way n s same =
       let begins : (hi == lo') ≡ false = grind (arith, nat_tests) in
       rw (← is, ← given_is, ap stored_book joined ∙ join_book other mine, same, begins) refl
+
+-- tables that a key parts, seen from either side
+pub apart_behind : (low high : Tables) → TablesApart low high → TablesApartAt High low high
+apart_behind low high apart = record { subscribers = apart.subscribers; access = apart.access; facilities = apart.facilities; forwardings = apart.forwardings }
+
+pub apart_before : (low high : Tables) → TablesApart low high → TablesApartAt Low high low
+apart_before low high apart = record { subscribers = apart.subscribers; access = apart.access; facilities = apart.facilities; forwardings = apart.forwardings }
+
+-- no rows are rows of any range
+no_rows : (lo hi : ℕ) → IsRowsOf lo hi empty_book
+no_rows lo hi = record {
+  rules = record {
+    subscribers_ordered = tt;
+    access_ordered = tt;
+    facilities_ordered = tt;
+    forwardings_ordered = tt;
+    subscribers_in_range = tt;
+    access_in_range = tt;
+    facilities_in_range = tt;
+    forwardings_in_range = tt;
+    access_have_subscriber = tt;
+    facilities_have_subscriber = tt;
+    forwardings_have_facility = tt;
+  };
+  subscribers = tt;
+  access = tt;
+  facilities = tt;
+  forwardings = tt;
+}
+
+-- a part whose rows went to another one
+module _ {h : Heights} (tables none : Tables) (asked lo hi width steps : ℕ) where
+  pub emptied_is : (part : PartState) → part_of tables asked lo hi width steps h ≡ part → {k : Heights} → none ≡ empty_tables → k ≡ zero_heights → {n : ℕ} → n ≡ asked
+      → part_of none n lo hi width steps k ≡ record part { book = empty_book; heights = zero_heights }
+  emptied_is part is empty low same = rw (← is, empty, low, same) refl
+
+  pub emptied_holds : Holds tables asked lo hi width steps h → none ≡ empty_tables → {k : Heights} (n s : ℕ) → Holds none n lo hi width s k
+  emptied_holds holds empty n s = rw empty (
+    record { range = holds.0.range; width = holds.0.width; rows = no_rows lo hi },
+    record { subscribers = tt; access = tt; facilities = tt; forwardings = tt },
+  )
 
 -- the steps of a join are bounded alike in either order
 apart_swapped : (a b : ℕ) → abs_diff a b ≡ abs_diff b a

@@ -1,7 +1,9 @@
 -- Tables that are cut at a key or joined, and the trees that hold them: no clause of a public call cites these.
-use Rattle.std.specs.Prelude.{ℕ, ◌<◌, ◌≤◌, ◌++◌}
+use Rattle.std.specs.Prelude.{ℕ, ◌<◌, ◌≤◌, ◌++◌, List}
 use Rattle.mr_cut.specs.Bounds.{blanks_for_slice, blanks_for_meld}
 use Rattle.mr_cut.specs.Cuts.{rows_below, rows_from, AreApart}
+use Rattle.part_table.specs.declared.region.Side.{Side}
+use Rattle.part_table.specs.declared.region.Side.TheVariants.{Low, High}
 use Rattle.tatp_actions.specs.Heights.{Heights}
 use Rattle.tatp_actions.specs.Tables.{Tables}
 use Rattle.tatp_actions.specs.declared.stocks.Stocks.{Stocks}
@@ -25,6 +27,32 @@ tables_from key tables = record {
   forwardings = rows_from key tables.forwardings;
 }
 
+-- the side of cut pairs that is kept, and the one that is given away
+abbrev pub kept_rows : {X : Type 0} → Side → ℕ → List (ℕ × X) → List (ℕ × X)
+kept_rows Low key rows = rows_from key rows
+kept_rows High key rows = rows_below key rows
+
+abbrev pub given_rows : {X : Type 0} → Side → ℕ → List (ℕ × X) → List (ℕ × X)
+given_rows Low key rows = rows_below key rows
+given_rows High key rows = rows_from key rows
+
+-- the same of the four tables
+abbrev pub kept_tables : Side → ℕ → Tables → Tables
+kept_tables side key tables = record {
+  subscribers = kept_rows side key tables.subscribers;
+  access = kept_rows side key tables.access;
+  facilities = kept_rows side key tables.facilities;
+  forwardings = kept_rows side key tables.forwardings;
+}
+
+abbrev pub given_tables : Side → ℕ → Tables → Tables
+given_tables side key tables = record {
+  subscribers = given_rows side key tables.subscribers;
+  access = given_rows side key tables.access;
+  facilities = given_rows side key tables.facilities;
+  forwardings = given_rows side key tables.forwardings;
+}
+
 -- there is a key in each table that parts the low pairs from the high ones
 pub record TablesApart (low high : Tables) : Type 0 where
   pub subscribers : AreApart low.subscribers high.subscribers
@@ -39,6 +67,30 @@ join_tables low high = record {
   access = low.access ++ high.access;
   facilities = low.facilities ++ high.facilities;
   forwardings = low.forwardings ++ high.forwardings;
+}
+
+-- pairs that stand on a side of others: a key parts them, and they stand in front of those, or behind them
+abbrev pub AreApartAt : {X : Type 0} → Side → List (ℕ × X) → List (ℕ × X) → Type 0
+AreApartAt Low rows others = AreApart others rows
+AreApartAt High rows others = AreApart rows others
+
+abbrev pub joined_rows : {X : Type 0} → Side → List (ℕ × X) → List (ℕ × X) → List (ℕ × X)
+joined_rows Low rows others = others ++ rows
+joined_rows High rows others = rows ++ others
+
+-- the same of the four tables
+pub record TablesApartAt (side : Side) (tables others : Tables) : Type 0 where
+  pub subscribers : AreApartAt side tables.subscribers others.subscribers
+  pub access : AreApartAt side tables.access others.access
+  pub facilities : AreApartAt side tables.facilities others.facilities
+  pub forwardings : AreApartAt side tables.forwardings others.forwardings
+
+abbrev pub joined_tables : Side → Tables → Tables → Tables
+joined_tables side tables others = record {
+  subscribers = joined_rows side tables.subscribers others.subscribers;
+  access = joined_rows side tables.access others.access;
+  facilities = joined_rows side tables.facilities others.facilities;
+  forwardings = joined_rows side tables.forwardings others.forwardings;
 }
 
 -- the tables that trees hold

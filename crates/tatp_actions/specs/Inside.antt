@@ -5,16 +5,13 @@ use Rattle.std.specs.Option.{option_map_or, unwrap_or}
 use Rattle.tatp_rows.specs.Rows.{SubscriberRow, SpecialFacilityRow, CallForwardingRow, subscriber_in_range, facility_in_range}
 use Rattle.tatp_rows.specs.declared.refusal.Refusal.{Refusal}
 use Rattle.tatp_rows.specs.declared.refusal.Refusal.TheVariants as refusal
-use Rattle.tatp_actions.specs.Action.{IsOutcome, takes_call}
+use Rattle.tatp_actions.specs.Action.{takes_call}
 use Rattle.tatp_actions.specs.Book.{Book, subscriber_at, facility_at, put_subscriber, put_facility}
 use Rattle.tatp_actions.specs.Cell.{covers}
-use Rattle.tatp_actions.specs.Change.{change_at, IsChange}
+use Rattle.tatp_actions.specs.Change.{change_at}
 use Rattle.tatp_actions.specs.Heights.{Heights}
 use Rattle.tatp_actions.specs.Part.{PartState}
 use Rattle.tatp_actions.specs.Tables.{once_more}
-use Rattle.tatp_actions.specs.declared.action.Action.{Action}
-use Rattle.tatp_actions.specs.declared.action.RowReply.{RowReply}
-use Rattle.tatp_actions.specs.declared.action.RowReply.TheVariants as reply
 use Rattle.tatp_actions.specs.declared.cells.TheConstants.{FIRST_AREA, FIRST_ZONE}
 use Rattle.tatp_actions.specs.declared.change.Spans.{Spans}
 

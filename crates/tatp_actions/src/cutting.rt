@@ -1,115 +1,166 @@
 //! A part that is cut in two, and two parts that become one.
-ghost use Rattle.std.specs.Prelude.{◌≡◌, ◌<◌, ◌≤◌, ℕ, Err, IfOk, IfErr, OnOk, OnErr};
+ghost use Rattle.std.specs.Prelude.{◌≡◌, ◌<◌, ◌≤◌, ℕ, [], Err, IfOk, IfErr, OnOk, OnErr};
+ghost use Rattle.mr_cut.specs.Bounds.{most_of_slice, fewest_of_slice, most_of_meld, fewest_of_meld};
+ghost use Rattle.tatp_actions.specs.Book.{empty_book};
 ghost use Rattle.tatp_actions.specs.Cut.{given_part, kept_part, melded, Touch, AreHeightsOf, slice_bound, slice_least, meld_bound, meld_least};
-ghost use Rattle.tatp_actions.specs.CutTables.{tables_below, tables_from, join_tables, TablesApart, tables_of, heights_of, AreForSlice, AreForMeld};
+ghost use Rattle.tatp_actions.specs.CutTables.{AreApartAt, kept_rows, given_rows, joined_rows, kept_tables, given_tables, joined_tables, TablesApartAt, tables_of, heights_of, IsForSlice, IsForMeld, AreForSlice, AreForMeld};
+ghost use Rattle.tatp_actions.specs.Heights.{zero_heights};
 ghost use Rattle.tatp_actions.specs.Part.{IsPart};
+ghost use Rattle.tatp_actions.specs.Tables.{empty_tables};
 
 use crate::part::Part;
 use crate::stocks::Stocks;
 use crate::trees::Trees;
-use mr_cut::{meld, slice};
+use mr_cut::{meld_from, slice_into};
+use mr_node::Stock;
+use mr_subtree::SubTree;
 use part_table::Side;
-use std::alloc::Global;
 use std::mem;
 use tatp_rows::{Back, Refusal, subscriber_key};
 
-// Trees that were cut at a key, and how many steps it took. Neither half was asked yet.
-#[derive(Drop)]
-struct Halves {
-    low: Trees,
-    high: Trees,
-    steps: u64,
+/// Cuts a tree at a key: it keeps the rows of one side, and those of the side that is named stand in another one, in
+/// place of its own; how many steps it took.
+fn cut_tree<V: Drop>(
+    tree: &mut SubTree<V>,
+    given: &mut SubTree<V>,
+    side: Side,
+    key: u64,
+    mut stock: Stock<V>,
+) -> u64
+    requires { IsForSlice tree.old.height stock }
+    ensures kept { tree.new.rows ≡ kept_rows side key tree.old.rows }
+    ensures given { given.new.rows ≡ given_rows side key tree.old.rows }
+    ensures steps { result ≤ most_of_slice tree.old.height }
+    ensures no_fewer { fewest_of_slice tree.old.height ≤ result }
+{
+    let (steps, _) = slice_into(tree, given, key, &mut stock);
+    match side {
+        Side::Low => {
+            exchange(tree, given);
+            steps
+        }
+        Side::High => steps,
+    }
+}
+
+/// Exchanges two trees. It is not inlined, so that the stack of a cut or a join holds no tree.
+#[inline(never)]
+fn exchange<V: Drop>(one: &mut SubTree<V>, two: &mut SubTree<V>)
+    ensures one { one.new ≡ two.old }
+    ensures two { two.new ≡ one.old }
+{
+    mem::swap(one, two);
+}
+
+/// Joins a tree with another one, whose keys are all higher or all lower: it has the rows of both, and the other one
+/// none; how many steps it took.
+fn join_tree<V: Drop>(
+    tree: &mut SubTree<V>,
+    other: &mut SubTree<V>,
+    side: Side,
+    mut stock: Stock<V>,
+) -> u64
+    requires apart { AreApartAt side tree.old.rows other.old.rows }
+    requires stock { IsForMeld tree.old.height other.old.height stock }
+    ensures rows { tree.new.rows ≡ joined_rows side tree.old.rows other.old.rows }
+    ensures other { other.new.rows ≡ [] }
+    ensures other_height { other.new.height ≡ 0 }
+    ensures steps { result ≤ most_of_meld tree.old.height other.old.height }
+    ensures no_fewer { fewest_of_meld tree.old.height other.old.height ≤ result }
+{
+    match side {
+        Side::Low => {
+            let steps = meld_from(other, tree, &mut stock);
+            exchange(tree, other);
+            steps
+        }
+        Side::High => meld_from(tree, other, &mut stock),
+    }
 }
 
 impl Trees {
-    /// Takes the trees out: empty ones stay, which were asked as often.
-    fn take(&mut self, alloc: Global) -> Trees
-        ensures trees { result ≡ self.old }
+    /// Cuts the trees at a key: they keep one side, and the side that is named goes into others, which were not asked
+    /// yet; how many steps it took.
+    fn cut_into(&mut self, given: &mut Trees, side: Side, key: u64, stocks: Stocks) -> u64
+        requires { AreForSlice (heights_of self.old) stocks }
+        ensures kept { tables_of self.new ≡ kept_tables side key (tables_of self.old) }
+        ensures given { tables_of given.new ≡ given_tables side key (tables_of self.old) }
         ensures asked { self.new.asked ≡ self.old.asked }
+        ensures given_asked { given.new.asked ≡ 0 }
+        ensures steps { result ≤ slice_bound (heights_of self.old) }
+        ensures no_fewer { slice_least (heights_of self.old) ≤ result }
     {
-        let Ok(mut empty) = Trees::new(alloc) else {
-            unreachable!()
-        };
-        empty.asked = self.asked;
-        mem::replace(self, empty)
-    }
-
-    /// Puts trees in the place of these, asked as often as these were.
-    fn put(&mut self, trees: Trees)
-        ensures trees { tables_of self.new ≡ tables_of trees }
-        ensures asked { self.new.asked ≡ self.old.asked }
-    {
-        let asked = self.asked;
-        drop(mem::replace(self, trees));
-        self.asked = asked;
-    }
-
-    /// Cuts the trees at a key.
-    fn cut(self, key: u64, mut stocks: Stocks) -> Halves
-        requires { AreForSlice (heights_of self) stocks }
-        ensures low { tables_of result.low ≡ tables_below key (tables_of self) }
-        ensures high { tables_of result.high ≡ tables_from key (tables_of self) }
-        ensures asked { (result.low.asked ≡ 0) × (result.high.asked ≡ 0) }
-        ensures steps { result.steps ≤ slice_bound (heights_of self) }
-        ensures no_fewer { slice_least (heights_of self) ≤ result.steps }
-    {
-        let subscribers = slice(self.subscribers, key, &mut stocks.subscribers);
-        let access = slice(self.access, key, &mut stocks.access);
-        let facilities = slice(self.facilities, key, &mut stocks.facilities);
-        let forwardings = slice(self.forwardings, key, &mut stocks.forwardings);
-        let low = Trees {
-            subscribers: subscribers.low,
-            access: access.low,
-            facilities: facilities.low,
-            forwardings: forwardings.low,
-            asked: 0,
-        };
-        let high = Trees {
-            subscribers: subscribers.high,
-            access: access.high,
-            facilities: facilities.high,
-            forwardings: forwardings.high,
-            asked: 0,
-        };
-        let steps = subscribers.steps + access.steps + facilities.steps + forwardings.steps;
-        Halves { low, high, steps }
-    }
-
-    /// Joins trees with others, whose keys are all higher; and how many steps it took. The joined ones were not asked
-    /// yet.
-    fn join(self, high: Trees, mut stocks: Stocks) -> (Trees, u64)
-        requires apart { TablesApart (tables_of self) (tables_of high) }
-        requires stocks { AreForMeld (heights_of self) (heights_of high) stocks }
-        ensures rows { tables_of result.0 ≡ join_tables (tables_of self) (tables_of high) }
-        ensures asked { result.0.asked ≡ 0 }
-        ensures steps { result.1 ≤ meld_bound (heights_of self) (heights_of high) }
-        ensures no_fewer { meld_least (heights_of self) (heights_of high) ≤ result.1 }
-    {
-        let (subscribers, first) = meld(
-            self.subscribers,
-            high.subscribers,
-            &mut stocks.subscribers,
-        );
-        let (access, second) = meld(self.access, high.access, &mut stocks.access);
-        let (facilities, third) = meld(self.facilities, high.facilities, &mut stocks.facilities);
-        let (forwardings, fourth) = meld(
-            self.forwardings,
-            high.forwardings,
-            &mut stocks.forwardings,
-        );
-        let joined = Trees {
+        let Stocks {
             subscribers,
             access,
             facilities,
             forwardings,
-            asked: 0,
-        };
-        (joined, first + second + third + fourth)
+        } = stocks;
+        given.asked = 0;
+        cut_tree(
+            &mut self.subscribers,
+            &mut given.subscribers,
+            side,
+            key,
+            subscribers,
+        ) + cut_tree(&mut self.access, &mut given.access, side, key, access)
+            + cut_tree(
+                &mut self.facilities,
+                &mut given.facilities,
+                side,
+                key,
+                facilities,
+            )
+            + cut_tree(
+                &mut self.forwardings,
+                &mut given.forwardings,
+                side,
+                key,
+                forwardings,
+            )
+    }
+
+    /// Joins the trees with others, whose keys are all higher or all lower, and which have no row then; how many steps
+    /// it took.
+    fn join_from(&mut self, other: &mut Trees, side: Side, stocks: Stocks) -> u64
+        requires apart { TablesApartAt side (tables_of self.old) (tables_of other.old) }
+        requires stocks { AreForMeld (heights_of self.old) (heights_of other.old) stocks }
+        ensures rows { tables_of self.new ≡ joined_tables side (tables_of self.old) (tables_of other.old) }
+        ensures other { tables_of other.new ≡ empty_tables }
+        ensures other_heights { heights_of other.new ≡ zero_heights }
+        ensures asked { (self.new.asked ≡ self.old.asked) × (other.new.asked ≡ other.old.asked) }
+        ensures steps { result ≤ meld_bound (heights_of self.old) (heights_of other.old) }
+        ensures no_fewer { meld_least (heights_of self.old) (heights_of other.old) ≤ result }
+    {
+        let Stocks {
+            subscribers,
+            access,
+            facilities,
+            forwardings,
+        } = stocks;
+        join_tree(
+            &mut self.subscribers,
+            &mut other.subscribers,
+            side,
+            subscribers,
+        ) + join_tree(&mut self.access, &mut other.access, side, access)
+            + join_tree(
+                &mut self.facilities,
+                &mut other.facilities,
+                side,
+                facilities,
+            )
+            + join_tree(
+                &mut self.forwardings,
+                &mut other.forwardings,
+                side,
+                forwardings,
+            )
     }
 }
 
 impl Part {
-    /// Cuts the part in two at a subscriber strictly inside its range: it keeps one half, and gives the other one, on
+    /// Cuts the part at a subscriber strictly inside its range: it keeps one half, and gives the other one, on
     /// the side that is named, which was never asked, cut or joined.
     ///
     /// `Memory` where the blank nodes can't be had, all of which are taken first: then the part is as before.
@@ -132,22 +183,62 @@ impl Part {
         ensures after { IsPart self.new }
         ensures rules { IfOk result IsPart }
     {
+        let Ok(mut given) = Part::new(self.alloc, 1, 2, 1) else {
+            unreachable!()
+        };
+        match self.slice_into(at, side, &mut given) {
+            Ok(()) => Ok(given),
+            Err(why) => {
+                drop(given);
+                Err(why)
+            }
+        }
+    }
+
+    /// Cuts the part at a subscriber strictly inside its range, as `slice` does, and puts the half that it gives in the
+    /// place of another part.
+    ///
+    /// `Memory` where the blank nodes can't be had, all of which are taken first: then both are as before.
+    pub fn slice_into(&mut self, at: u32, side: Side, given: &mut Part) -> Result<(), Refusal>
+        requires inside { (self.old.lo < at) × (at < self.old.hi) }
+        ensures given { OnOk result (given.new ≡ record (given_part side at self.old) {
+          asked = 0;
+          steps = 0;
+          heights = given.new.heights;
+        }) }
+        ensures kept { OnOk result (self.new ≡ record (kept_part side at self.old) {
+          steps = self.new.steps;
+          heights = self.new.heights;
+        }) }
+        ensures steps { OnOk result
+            ((self.new.steps ≤ slice_bound self.old.heights) × (slice_least self.old.heights ≤ self.new.steps)) }
+        ensures heights { OnOk result (AreHeightsOf self.old.heights self.old.book) }
+        ensures refused { OnErr result ((result ≡ Err Refusal.Memory) × (self.new ≡ self.old) × (given.new ≡ given.old)) }
+        ensures before { IsPart self.old }
+        ensures after { IsPart self.new }
+        ensures rules { IsPart given.new }
+    {
+        // Opens the other part for the prover: it keeps its rules where this one is refused.
+        let _ = &given.rows;
         let stocks = Stocks::for_slice(self.alloc, &self.rows)?;
-        let trees = self.rows.take(self.alloc);
-        let Halves { low, high, steps } = trees.cut(subscriber_key(at), stocks);
+        let steps = self
+            .rows
+            .cut_into(&mut given.rows, side, subscriber_key(at), stocks);
         self.last_steps = steps;
+        given.width = self.width;
+        given.last_steps = 0;
         match side {
             Side::Low => {
-                let given = Part::over(self.alloc, low, self.lo, at, self.width);
-                self.rows.put(high);
+                given.lo = self.lo;
+                given.hi = at;
                 self.lo = at;
-                Ok(given)
+                Ok(())
             }
             Side::High => {
-                let given = Part::over(self.alloc, high, at, self.hi, self.width);
-                self.rows.put(low);
+                given.lo = at;
+                given.hi = self.hi;
                 self.hi = at;
-                Ok(given)
+                Ok(())
             }
         }
     }
@@ -157,7 +248,7 @@ impl Part {
     ///
     /// `Memory` where the blank nodes can't be had, all of which are taken first: then the part is as before, and the
     /// other one is handed back as it was.
-    pub fn meld(&mut self, other: Part) -> Result<(), Back<Part>>
+    pub fn meld(&mut self, mut other: Part) -> Result<(), Back<Part>>
         requires touch { Touch self.old other }
         requires width { self.old.width ≡ other.width }
         ensures melded { OnOk result (self.new ≡ record (melded self.old other) {
@@ -174,22 +265,45 @@ impl Part {
         ensures other { IsPart other }
         ensures after { IsPart self.new }
     {
-        let stocks = match Stocks::for_meld(self.alloc, &self.rows, &other.rows) {
-            Ok(stocks) => stocks,
-            Err(why) => return Err(Back { why, item: other }),
-        };
-        let trees = self.rows.take(self.alloc);
-        let Part { rows, lo, hi, .. } = other;
-        if self.hi == lo {
-            let (joined, steps) = trees.join(rows, stocks);
-            self.rows.put(joined);
-            self.hi = hi;
+        match self.meld_from(&mut other) {
+            Ok(()) => {
+                drop(other);
+                Ok(())
+            }
+            Err(why) => Err(Back { why, item: other }),
+        }
+    }
+
+    /// Takes the rows and the range of another part, as `meld` does: the other one has no row then.
+    ///
+    /// `Memory` where the blank nodes can't be had, all of which are taken first: then both are as before.
+    pub fn meld_from(&mut self, other: &mut Part) -> Result<(), Refusal>
+        requires touch { Touch self.old other.old }
+        requires width { self.old.width ≡ other.old.width }
+        ensures melded { OnOk result (self.new ≡ record (melded self.old other.old) {
+          steps = self.new.steps;
+          heights = self.new.heights;
+        }) }
+        ensures left { OnOk result (other.new ≡ record other.old { book = empty_book; heights = zero_heights }) }
+        ensures steps { OnOk result ((self.new.steps ≤ meld_bound self.old.heights other.old.heights)
+            × (meld_least self.old.heights other.old.heights ≤ self.new.steps)) }
+        ensures heights { OnOk result (AreHeightsOf self.old.heights self.old.book) }
+        ensures other_heights { OnOk result (AreHeightsOf other.old.heights other.old.book) }
+        ensures refused { OnErr result ((result ≡ Err Refusal.Memory) × (self.new ≡ self.old) × (other.new ≡ other.old)) }
+        ensures before { IsPart self.old }
+        ensures other { IsPart other.old }
+        ensures after { IsPart self.new }
+        ensures rest { IsPart other.new }
+    {
+        let stocks = Stocks::for_meld(self.alloc, &self.rows, &other.rows)?;
+        if self.hi == other.lo {
+            let steps = self.rows.join_from(&mut other.rows, Side::High, stocks);
+            self.hi = other.hi;
             self.last_steps = steps;
             return Ok(());
         }
-        let (joined, steps) = rows.join(trees, stocks);
-        self.rows.put(joined);
-        self.lo = lo;
+        let steps = self.rows.join_from(&mut other.rows, Side::Low, stocks);
+        self.lo = other.lo;
         self.last_steps = steps;
         Ok(())
     }

@@ -40,7 +40,7 @@ ends : (g : _) (c : After-turned-first g)
     c.turned-first.result.0.value c.turned-first.result.1.value
 ends g c back =
     let put = c.hang.ensures in
-    let node = c.build_inner-node.ensures.seen in
+    let node = c.built-node.ensures.seen in
     back_ends _ _ _ _ _ _ _ _ _ _ put.height put.len back node c.lone-last.ensures.node c.turned-first.ensures
 
 -- the only one is back
@@ -68,9 +68,9 @@ hang-requires-in-None g c =
     let kid = c.requires.one in
     (search rules, (search rules, (c.requires.rest.run, (c.requires.room, (within, own_level _ _ kid)))))
 
-pub build_inner-node-requires : goal.build_inner-node-requires
-build_inner-node-requires g c =
-    let at = goal.at.build_inner-node-requires g c in
+pub built-node-requires : goal.built-node-requires
+built-node-requires g c =
+    let at = goal.at.built-node-requires g c in
     (search rules, (search rules, (near g at.After-hang (kids g at.After-turned-near).0).branch))
 
 pub lone-last-requires : goal.lone-last-requires
@@ -85,9 +85,9 @@ even-requires g c =
     let both = ends g at.After-turned-first back in
     (search rules, (both.level ∙ sym both.next, subst (IsOrderedBy key_of_pair) (sym both.list) back.ordered))
 
-pub build_inner-requires : goal.build_inner-requires
-build_inner-requires g c =
-    let put = alone g (goal.at.build_inner-requires g c).After-hang-in-None in
+pub built-requires : goal.built-requires
+built-requires g c =
+    let put = alone g (goal.at.built-requires g c).After-hang-in-None in
     (search rules, (search rules, put.0))
 
 pub returns-in-Some-clause-grafted : goal.returns-in-Some-clause-grafted
@@ -100,7 +100,7 @@ pub returns-in-None-clause-grafted : goal.returns-in-None-clause-grafted
 returns-in-None-clause-grafted g c =
     let put = alone g (goal.at.returns-in-None-clause-grafted g c).After-hang-in-None in
     let hung = c.hang-in-None.ensures in
-    let node = c.build_inner.ensures.seen in
+    let node = c.built.ensures.seen in
     rw c.in-None.is (hung_one c.args.branch c.hang-in-None.new.branch _ _ put.0 hung.height hung.len put.1 node)
 
 pub returns-in-Some-clause-stock : goal.returns-in-Some-clause-stock
@@ -108,11 +108,11 @@ returns-in-Some-clause-stock g c = rw c.in-Some.is (omega (arith, c.give.ensures
 
 pub returns-in-Some-clause-steps : goal.returns-in-Some-clause-steps
 returns-in-Some-clause-steps g c =
-    let built = c.build_inner-node.ensures.steps in
+    let built = c.built-node.ensures.steps in
     rw c.in-Some.is (omega (arith, built, c.lone-last.ensures.steps, c.even.ensures.steps))
 
 pub returns-in-None-clause-stock : goal.returns-in-None-clause-stock
 returns-in-None-clause-stock g c = rw c.in-None.is (omega arith)
 
 pub returns-in-None-clause-steps : goal.returns-in-None-clause-steps
-returns-in-None-clause-steps g c = rw c.in-None.is (omega (arith, c.build_inner.ensures.steps))
+returns-in-None-clause-steps g c = rw c.in-None.is (omega (arith, c.built.ensures.steps))
