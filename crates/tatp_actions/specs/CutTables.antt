@@ -27,16 +27,17 @@ tables_from key tables = record {
   forwardings = rows_from key tables.forwardings;
 }
 
--- the side of cut pairs that is kept, and the one that is given away
+-- the side of cut pairs that is kept, where the side that is named is given away
 abbrev pub kept_rows : {X : Type 0} → Side → ℕ → List (ℕ × X) → List (ℕ × X)
 kept_rows Low key rows = rows_from key rows
 kept_rows High key rows = rows_below key rows
 
+-- the side of cut pairs that is given away
 abbrev pub given_rows : {X : Type 0} → Side → ℕ → List (ℕ × X) → List (ℕ × X)
 given_rows Low key rows = rows_below key rows
 given_rows High key rows = rows_from key rows
 
--- the same of the four tables
+-- what each of the four tables keeps
 abbrev pub kept_tables : Side → ℕ → Tables → Tables
 kept_tables side key tables = record {
   subscribers = kept_rows side key tables.subscribers;
@@ -45,6 +46,7 @@ kept_tables side key tables = record {
   forwardings = kept_rows side key tables.forwardings;
 }
 
+-- what each of the four tables gives away
 abbrev pub given_tables : Side → ℕ → Tables → Tables
 given_tables side key tables = record {
   subscribers = given_rows side key tables.subscribers;
@@ -74,17 +76,19 @@ abbrev pub AreApartAt : {X : Type 0} → Side → List (ℕ × X) → List (ℕ 
 AreApartAt Low rows others = AreApart others rows
 AreApartAt High rows others = AreApart rows others
 
+-- pairs and others that stand on a side of them, in order
 abbrev pub joined_rows : {X : Type 0} → Side → List (ℕ × X) → List (ℕ × X) → List (ℕ × X)
 joined_rows Low rows others = others ++ rows
 joined_rows High rows others = rows ++ others
 
--- the same of the four tables
+-- each of the four tables stands on a side of another one
 pub record TablesApartAt (side : Side) (tables others : Tables) : Type 0 where
   pub subscribers : AreApartAt side tables.subscribers others.subscribers
   pub access : AreApartAt side tables.access others.access
   pub facilities : AreApartAt side tables.facilities others.facilities
   pub forwardings : AreApartAt side tables.forwardings others.forwardings
 
+-- the pairs of both, table by table
 abbrev pub joined_tables : Side → Tables → Tables → Tables
 joined_tables side tables others = record {
   subscribers = joined_rows side tables.subscribers others.subscribers;
