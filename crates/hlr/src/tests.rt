@@ -797,7 +797,7 @@ fn a_run_ends_after_a_million_records(rt: HostRuntime) {
 
 /// Any allocation may be refused here: then the run ends with `Memory`, or a record is answered so.
 #[test]
-fn refused_memory_is_told(rt: HostRuntime) {
+fn memory_is_told_each_refused(rt: HostRuntime) {
     let pending = Cell::new(false);
     for threads in WAYS {
         let mut tape = Tape::new(&pending);

@@ -322,7 +322,7 @@ fn expect_again(
 
 // Also run with each allocation refused in turn (`refuse_memory.sh`).
 #[test]
-fn holding_comes_and_goes(rt: HostRuntime) -> Result<(), Fail> {
+fn holding_comes_and_goes_each_refused(rt: HostRuntime) -> Result<(), Fail> {
     let (board, mut rest) = board_of(rt.alloc(), &words_with(5, 5))?;
     let own = split_off(&board, &mut rest, 0)?;
     let first = split_off(&board, &mut rest, 1)?;

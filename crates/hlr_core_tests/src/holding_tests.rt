@@ -153,7 +153,7 @@ fn adds_and_posts(
 }
 
 #[test]
-fn a_worn_word_ends_a_posting(rt: HostRuntime) -> Result<(), Fail> {
+fn a_worn_word_ends_a_posting_each_refused(rt: HostRuntime) -> Result<(), Fail> {
     let mut words = [0; WORDS];
     words[usize::from(AREA)] = 5;
     words[usize::from(ZONE)] = LIMIT;
@@ -235,7 +235,7 @@ fn gives_and_takes(holding: &mut Holding) -> Option<Moves> {
 }
 
 #[test]
-fn pieces_are_given_and_taken(rt: HostRuntime) -> Result<(), Fail> {
+fn pieces_are_given_and_taken_each_refused(rt: HostRuntime) -> Result<(), Fail> {
     let (board, desk) = board_of(rt.alloc(), &[0; WORDS])?;
     let mut holding = opened(&rt, rt.alloc(), 1, 65, desk);
     let (_, posted, _) = adds_and_posts(&board, &mut holding);
@@ -474,7 +474,7 @@ fn piece_goes_over<R: Threads + Sync>(
 }
 
 #[test]
-fn owners_work_in_threads(rt: HostRuntime) -> Result<(), Fail> {
+fn owners_work_in_threads_each_refused(rt: HostRuntime) -> Result<(), Fail> {
     let (board, desk) = board_of(rt.alloc(), &[0; WORDS])?;
     let (first, last, desk) = three_desks(&board, desk)?;
     let mut low = opened(&rt, rt.alloc(), 1, 65, desk);

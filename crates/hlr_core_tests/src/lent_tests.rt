@@ -108,7 +108,7 @@ fn expect_lent(rt: &impl Abort, register: &mut Register) {
 }
 
 #[test]
-fn part_is_lent(rt: HostRuntime) {
+fn part_is_lent_each_refused(rt: HostRuntime) {
     let mut register = opened(rt.alloc(), 2, 4).expect(&rt, "a register");
     expect_lent(&rt, &mut register);
     drop(register);
@@ -262,7 +262,7 @@ fn expect_all_routes(rt: &impl Abort, register: &mut Register) {
 }
 
 #[test]
-fn events_go(rt: HostRuntime) {
+fn events_go_each_refused(rt: HostRuntime) {
     let mut register = opened(rt.alloc(), 2, 4).expect(&rt, "a register");
     expect_all_routes(&rt, &mut register);
     drop(register);

@@ -143,7 +143,7 @@ fn first_wrong(register: &mut Register) -> Option<usize> {
 
 // Also run with each allocation refused in turn (`refuse_memory.sh`).
 #[test]
-fn part_comes_and_goes(rt: HostRuntime) {
+fn part_comes_and_goes_each_refused(rt: HostRuntime) {
     let seven = row(7, 7, 268_435_456).expect(&rt, "a row");
     let mut register = opened(rt.alloc(), 1, 4).expect(&rt, "a register");
     let is_added = replies(&mut register, Event::AddSubscriber(seven), DONE);
@@ -549,7 +549,7 @@ fn parted_differs(register: &mut Register) -> Option<usize> {
 
 // Also run with each allocation refused in turn (`refuse_memory.sh`).
 #[test]
-fn parts_of_many_rows(rt: HostRuntime) {
+fn parts_of_many_rows_each_refused(rt: HostRuntime) {
     let mut register = opened(rt.alloc(), 1, 4).expect(&rt, "a register");
     let are_added = are_added(&rt, &mut register, 100);
     let differs = parted_differs(&mut register);

@@ -613,7 +613,7 @@ fn expect_few_alike(rt: &impl Abort, register: &mut Register) -> Result<(), Refu
 
 // Run with each allocation refused in turn (`refuse_memory.sh`).
 #[test]
-fn few_drawn_events(rt: HostRuntime) -> Result<(), Fail> {
+fn few_drawn_events_each_refused(rt: HostRuntime) -> Result<(), Fail> {
     let mut register = opened(rt.alloc(), 3, 8)?;
     let alike = expect_few_alike(&rt, &mut register);
     drop(register);

@@ -114,7 +114,7 @@ fn expect_answered(rt: &impl Abort, alloc: Global, register: &mut Register) -> R
 
 // Run with all memory refused once the register is filled (`refuse_memory.sh`).
 #[test]
-fn events_without_memory(rt: HostRuntime) -> Result<(), Fail> {
+fn events_all_refused_2(rt: HostRuntime) -> Result<(), Fail> {
     let mut register = opened(rt.alloc(), 3, 8)?;
     let answered = expect_answered(&rt, rt.alloc(), &mut register);
     drop(register);
@@ -220,7 +220,7 @@ fn two_posted(rt: &impl Abort, alloc: Global) -> Register {
 
 // Run with all memory refused once the register stands (`refuse_memory.sh`).
 #[test]
-fn calls_without_memory(rt: HostRuntime) {
+fn calls_all_refused_4(rt: HostRuntime) {
     let mut register = two_posted(&rt, rt.alloc());
     let is_refused = is_all_refused(rt.alloc());
     expect_calls(&rt, &mut register, is_refused);
@@ -242,7 +242,7 @@ fn expect_parts(rt: &impl Abort, register: &mut Register, is_refused: bool) {
 
 // Run with all memory refused once the register is filled (`refuse_memory.sh`).
 #[test]
-fn parts_without_memory(rt: HostRuntime) {
+fn parts_all_refused_4(rt: HostRuntime) {
     let mut register = opened(rt.alloc(), 1, 4).expect(&rt, "a register");
     let are_added = are_added(&rt, &mut register, 100);
     let comes = replies(&mut register, dividing(0, 60), divided(1, 60, END));

@@ -251,7 +251,7 @@ pub fn gives_sixteen(register: &mut Register) -> bool {
 
 // Also run with each allocation refused in turn (`refuse_memory.sh`).
 #[test]
-fn gives_of_two_parts(rt: HostRuntime) -> Result<(), Fail> {
+fn gives_of_two_parts_each_refused(rt: HostRuntime) -> Result<(), Fail> {
     let mut register = opened(rt.alloc(), 2, 4)?;
     let refuses = refuses_gives(&mut register);
     let gives = gives_sixteen(&mut register);
@@ -370,7 +370,7 @@ fn one_proposes_none(alloc: Global) -> Result<bool, Refusal> {
 }
 
 #[test]
-fn one_part_and_sixteen(rt: HostRuntime) -> Result<(), Fail> {
+fn one_part_and_sixteen_each_refused(rt: HostRuntime) -> Result<(), Fail> {
     let none = one_proposes_none(rt.alloc())?;
     let mut sixteen = opened(rt.alloc(), 16, 4)?;
     let ends = ends_with_sixteenth(&mut sixteen);
@@ -479,7 +479,7 @@ fn posts_over(alloc: Global, posting_is: &Posting) -> Result<bool, Refusal> {
 
 // Also run with each allocation refused in turn (`refuse_memory.sh`).
 #[test]
-fn words_that_stand(rt: HostRuntime) -> Result<(), Fail> {
+fn words_that_stand_each_refused(rt: HostRuntime) -> Result<(), Fail> {
     let alloc = rt.alloc();
     let uneven = refuses_words(alloc, 2, 5, 4)
         && refuses_words(alloc, 2, 4, 5)
@@ -682,7 +682,7 @@ fn recut_moves_regions(register: &mut Register) -> Result<Option<&'static str>, 
 
 // Also run with each allocation refused in turn (`refuse_memory.sh`, which reads the line that tells what was left).
 #[test]
-fn recut_of_three(rt: HostRuntime) -> Result<(), Fail> {
+fn recut_of_three_each_refused(rt: HostRuntime) -> Result<(), Fail> {
     let mut register = opened(rt.alloc(), 3, 4)?;
     let moves = recut_moves_regions(&mut register);
     drop(register);

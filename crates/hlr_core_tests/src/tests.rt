@@ -420,7 +420,7 @@ fn expect_runs(rt: &impl Abort, register: &mut Register) {
 
 // Also run with each allocation refused in turn (`refuse_memory.sh`).
 #[test]
-fn runs(rt: HostRuntime) {
+fn runs_each_refused(rt: HostRuntime) {
     let mut register = opened(rt.alloc(), 1, 4).expect(&rt, "a register");
     expect_runs(&rt, &mut register);
     drop(register);
@@ -457,7 +457,7 @@ fn expect_renamed(rt: &impl Abort, register: &mut Register) -> Result<(), Refusa
 // A full leaf has 32 rows, and leaves 16 behind where the rows rise: with 32 rows the root is a full leaf, with 48 the
 // last leaf is full and the root above it isn't, and with 528 both are. Also run with each allocation refused.
 #[test]
-fn additions_at_split(rt: HostRuntime) -> Result<(), Fail> {
+fn additions_at_split_each_refused(rt: HostRuntime) -> Result<(), Fail> {
     let mut register = opened(rt.alloc(), 1, 4)?;
     let added = expect_additions(&rt, &mut register, 560);
     drop(register);
@@ -475,7 +475,7 @@ fn expect_renamed_at(rt: &impl Abort, alloc: Global, count: u64) -> Result<(), R
 
 // Also run with each allocation refused.
 #[test]
-fn renamings_at_split(rt: HostRuntime) -> Result<(), Fail> {
+fn renamings_at_split_each_refused(rt: HostRuntime) -> Result<(), Fail> {
     for count in [32, 48, 528] {
         expect_renamed_at(&rt, rt.alloc(), count)?;
     }

@@ -71,7 +71,7 @@ fn works_on<R: Threads + Wait + Abort + Copy + Send + Sync + 'static>(
 
 // Run with all memory refused once both workers are out (`refuse_memory.sh`).
 #[test]
-fn works_without_memory(rt: HostRuntime) {
+fn works_all_refused_1(rt: HostRuntime) {
     let gate = open_gate(&rt, rt.alloc());
     let register = filled(&rt, rt.alloc(), 2, &[7, 100]);
     let mut engine = engine_over(&rt, rt.alloc(), register, &gate);
@@ -128,7 +128,7 @@ fn both_taken<R: Threads + Wait + Abort + Copy + Send + Sync + 'static>(
 
 // Also run with each allocation refused in turn, and each start of a thread (`refuse_memory.sh`).
 #[test]
-fn settled_after_memory(rt: HostRuntime) {
+fn settled_each_refused(rt: HostRuntime) {
     let gate = open_gate(&rt, rt.alloc());
     let register = filled(&rt, rt.alloc(), 2, &[1, 100]);
     let mut engine = engine_over(&rt, rt.alloc(), register, &gate);
@@ -262,7 +262,7 @@ fn three_posted(rt: &impl Abort, alloc: Global) -> Register {
 
 // Also run with each allocation refused in turn (`refuse_memory.sh`, which reads the line that tells what was left).
 #[test]
-fn recut_of_three(rt: HostRuntime) -> Result<(), Fail> {
+fn recut_of_three_each_refused(rt: HostRuntime) -> Result<(), Fail> {
     let gate = open_gate(&rt, rt.alloc());
     let register = three_posted(&rt, rt.alloc());
     let before = left(&rt, &register);
@@ -367,7 +367,7 @@ fn together(register: &Register) -> [i64; CELLS as usize] {
 
 // Also run with each allocation refused in turn, and each start of a thread (`refuse_memory.sh`).
 #[test]
-fn part_comes_and_goes(rt: HostRuntime) {
+fn part_comes_and_goes_each_refused(rt: HostRuntime) {
     let gate = open_gate(&rt, rt.alloc());
     let register = three_posted(&rt, rt.alloc());
     let before = together(&register);

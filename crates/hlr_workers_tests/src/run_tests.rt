@@ -178,7 +178,7 @@ pub fn are_taken<R: Threads + Wait + Copy + Send + Sync + 'static>(
 }
 
 #[test]
-fn taken_again_after_memory(rt: HostRuntime) {
+fn taken_again_each_refused(rt: HostRuntime) {
     let s_ids = [1, 100, 1, 100];
     let gate = open_gate(&rt, rt.alloc());
     let register = filled(&rt, rt.alloc(), 2, &[1, 100]);

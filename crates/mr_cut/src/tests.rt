@@ -212,7 +212,7 @@ fn drawn_trees(rt: HostRuntime) -> Result<(), Fail> {
 
 // Also run with each allocation refused in turn (`refuse_memory.sh`).
 #[test]
-fn memory_refused(rt: HostRuntime) -> Result<(), Fail> {
+fn cuts_each_refused(rt: HostRuntime) -> Result<(), Fail> {
     compare_steps(&rt, SubTree::new(rt.alloc())?, 40, 1, (14, 5, 6));
     Ok(())
 }
@@ -247,7 +247,7 @@ fn cut_without_memory(rt: &impl Abort, tree: SubTree<Token>, key: u64, mut spare
 
 // Run with all memory refused once the tree and its blank nodes are there (`refuse_memory.sh`).
 #[test]
-fn all_memory_refused(rt: HostRuntime) -> Result<(), Fail> {
+fn cuts_all_refused_2(rt: HostRuntime) -> Result<(), Fail> {
     let spare = Stock::take(rt.alloc(), 8)?;
     let tree = filled(&rt, SubTree::new(rt.alloc())?, 3_000);
     cut_without_memory(&rt, tree, drawn(1_000), spare);

@@ -208,7 +208,7 @@ fn taken(rt: &impl Abort, alloc: Global, count: usize) -> usize {
 // More blank nodes than memory can hold are refused, and those that were there stay. Also run with each allocation
 // refused in turn (`refuse_memory.sh`).
 #[test]
-fn blanks(rt: HostRuntime) -> Result<(), Fail> {
+fn blanks_each_refused(rt: HostRuntime) -> Result<(), Fail> {
     let mut stock = Stock::<u64>::none(rt.alloc());
     let counts = [
         stock.count(),

@@ -212,7 +212,7 @@ fn change_without_memory(rt: &impl Abort, tree: &mut SubTree<u64>, full: &mut Su
 
 // Also run with each allocation refused in turn, and with all refused once the trees stand (`refuse_memory.sh`).
 #[test]
-fn memory_refused(rt: HostRuntime) {
+fn rows_each_and_all_refused_1(rt: HostRuntime) {
     let mut tree = SubTree::new(rt.alloc()).expect(&rt, "a tree");
     let mut full = SubTree::new(rt.alloc()).expect(&rt, "a tree");
     grow(&rt, &mut tree);

@@ -249,7 +249,7 @@ fn expect_two_cuts(rt: &impl Abort, part: &mut Part) {
 
 // Also run with each allocation refused in turn (`refuse_memory.sh`).
 #[test]
-fn refused_cuts(rt: HostRuntime) {
+fn cuts_each_refused(rt: HostRuntime) {
     let mut part = Part::new(rt.alloc(), 1, 65, 2).expect(&rt, "a part");
     expect_two_cuts(&rt, &mut part);
     drop(part);

@@ -141,7 +141,7 @@ fn expect_alike(rt: &impl Abort, part: &mut Part, plain: &mut Part<PlainRows>) {
 
 // Also run with each allocation refused in turn (`refuse_memory.sh`).
 #[test]
-fn same_actions(rt: HostRuntime) {
+fn same_actions_each_refused(rt: HostRuntime) {
     let mut part = Part::new(rt.alloc(), 1, 41, 1).expect(&rt, "a part");
     let mut plain = Part::over(rt.alloc(), PlainRows::new(rt.alloc(), 480), 1, 41, 1);
     expect_alike(&rt, &mut part, &mut plain);

@@ -172,7 +172,7 @@ fn expect_hundred(rt: &impl Abort, part: &mut Part) {
 
 // Also run with each allocation refused in turn (`refuse_memory.sh`).
 #[test]
-fn refused_nodes(rt: HostRuntime) {
+fn nodes_each_refused(rt: HostRuntime) {
     let mut part = Part::new(rt.alloc(), 1, 101, 10).expect(&rt, "a part");
     expect_hundred(&rt, &mut part);
     drop(part);

@@ -100,7 +100,7 @@ fn side_by_side<R: Threads + Sync>(
 
 // Also run with each allocation refused in turn (`refuse_memory.sh`).
 #[test]
-fn two_threads(rt: HostRuntime) -> Result<(), Fail> {
+fn two_threads_each_refused(rt: HostRuntime) -> Result<(), Fail> {
     let (board, mut first) = opened(rt.alloc(), &[0; WORDS]).ok().ok_or("no board")?;
     let other = split_off(&board, &mut first, 3).ok().ok_or("no desk")?;
     let ((first, sight), (other, posted)) = side_by_side(&rt, &board, first, other);
@@ -160,7 +160,7 @@ fn is_all_refused(alloc: Global) -> bool {
 
 // Also run with each allocation refused in turn, and with all refused once the desks are there.
 #[test]
-fn words_at_limit(rt: HostRuntime) -> Result<(), Fail> {
+fn words_at_limit_each_and_all_refused_2(rt: HostRuntime) -> Result<(), Fail> {
     let mut words = [0; WORDS];
     words[0] = LIMIT + 1;
     assert_eq!(rt; Board::open(rt.alloc(), &words).err(), Some(Refusal::Field));
