@@ -1,5 +1,8 @@
 #!/usr/bin/env python3
-"""Adds, moves and reads a subscriber and an access by the shared library: day.py LIBHLR.SO (the README's "For C" makes it)."""
+"""Adds, moves and reads a subscriber and an access by the shared library: day.py LIBHLR.SO
+
+docs/LIBRARY.md tells how the library is made.
+"""
 import ctypes
 import sys
 
@@ -19,7 +22,12 @@ class Access(ctypes.Structure):
     _fields_ += [("data3", ctypes.c_uint8 * 3), ("data4", ctypes.c_uint8 * 5)]
 
 
-library = ctypes.CDLL(sys.argv[1])
+if len(sys.argv) != 2:
+    sys.exit("give the path of libhlr.so: docs/LIBRARY.md tells how it is made")
+try:
+    library = ctypes.CDLL(sys.argv[1])
+except OSError:
+    sys.exit(f"there is no library at {sys.argv[1]}: docs/LIBRARY.md tells how it is made")
 
 
 def call(name, *arguments):

@@ -1,5 +1,5 @@
 //! What no clause says: readers and writers that are slow or fail, answers that come before a read may wait, the limit
-//! of records, and the options. Whole scripts lie in the repository's folder `examples`, each with its answers.
+//! of records, and the options. Whole scripts lie in the repository's `tests/scripts`, each with its answers.
 mod any_bytes;
 mod parts;
 

@@ -2,9 +2,10 @@
 # A day of traffic in four parts, opened for 10,000 subscribers of whom 6,000 are there: 50,000 transactions of TATP, postings,
 # and then the bounds between the parts go to where the rows are.
 #
-#   examples/clients/day.sh [HLR [OPTION ..]]     at the repository's top, once crates/hlr/out/hlr is built; it wants python3
+#   examples/library/day.sh [HLR [OPTION ..]]     at the repository's top, once crates/hlr/out/hlr is built; it wants python3
 set -eu
 [ $# -gt 0 ] || set -- crates/hlr/out/hlr
+command -v "$1" > /dev/null || { echo "there is no program at $1: run rt run in crates/hlr" >&2; exit 1; }
 room=$(mktemp -d)
 trap 'rm -rf "$room"' EXIT
 

@@ -1,7 +1,7 @@
 #!/usr/bin/env python3
 """Runs the gate and prints how many processor and wall minutes each crate took, phase by phase.
 
-    python3 bench/gate_times.py [COMMAND ..]     at the top of a clean clone; without a command it runs `rt ci`
+    python3 tools/gate_times.py [COMMAND ..]     at the top of a clean clone; without a command it runs `rt ci`
 
 The phases are the proof of a crate, the proof of its tests, and its must-fail edits; `rt ci` runs several of them side by
 side. It looks at the running provers some five times a second, so a crate's number may be short by some percent; the sum

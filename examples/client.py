@@ -1,10 +1,13 @@
 #!/usr/bin/env python3
 """Asks hlr one record after another, and waits for each answer: client.py [HLR [OPTION ..]]"""
+import shutil
 import subprocess
 import sys
 
 REPORTS = ("views", "scan", "index", "regions")
 program = sys.argv[1:] or ["crates/hlr/out/hlr"]
+if not shutil.which(program[0]):
+    sys.exit(f"there is no program at {program[0]}: run rt run in crates/hlr")
 hlr = subprocess.Popen(program, stdin=subprocess.PIPE, stdout=subprocess.PIPE, text=True)
 
 

@@ -1,7 +1,7 @@
 #!/usr/bin/env bash
 # Which modules of a crate took the prover longest.
 #
-#   bash bench/slow_proofs.sh CRATE [COUNT]     at the repository's top, after `rt check` or `rt check --test` of the crate from
+#   bash tools/slow_proofs.sh CRATE [COUNT]     at the repository's top, after `rt check` or `rt check --test` of the crate from
 #                                               nothing (with no out/ in its folder)
 #
 # A check saves each module as it is done, so the seconds since the one before are what it took; where a check had two jobs

@@ -1,7 +1,7 @@
 #!/usr/bin/env python3
 """Gives the program one line of so many bytes, and views: how it ends, its answers, and what memory and time it took.
 
-    python3 bench/long_line.py crates/hlr/out/hlr BYTES BYTE [MOST_KB [OPTION ..]]
+    python3 tools/long_line.py crates/hlr/out/hlr BYTES BYTE [MOST_KB [OPTION ..]]
 
 BYTE is what the line is of, behind 'gsd,'. MOST_KB is how much address space the program may have (0: any).
 """

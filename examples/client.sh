@@ -1,6 +1,7 @@
 #!/usr/bin/env bash
-# Asks hlr one record after another, and waits for each answer: examples/clients/client.sh [HLR [OPTION ..]]
+# Asks hlr one record after another, and waits for each answer: examples/client.sh [HLR [OPTION ..]]
 [ $# -gt 0 ] || set -- crates/hlr/out/hlr
+command -v "$1" > /dev/null || { echo "there is no program at $1: run rt run in crates/hlr" >&2; exit 1; }
 coproc register { "$@"; }
 
 # ask RECORD: one whose answer is one line

@@ -1,0 +1,22 @@
+# shellcheck shell=bash disable=SC2154
+# What the parts share that compile C: the library's archive, and the preload of tests/preload. It is read behind lib.sh.
+archive=crates/hlr_c/out/libhlr_c.a
+
+archive_built() { built "$archive" 'run crates/hlr_c/archive.sh behind rt ci, or rt lib in crates/hlr_c'; }
+
+# compiled NAME WORD ..: gcc with these words makes $room/NAME.
+compiled() {
+  gcc -O2 -Wall -Wextra -Werror "${@:2}" -o "$room/$1" || { fail "$1 isn't compiled"; return 1; }
+}
+
+# kit_archive: prints where the kit has what the library for C asks of the C library.
+kit_archive() { echo "$(dirname "$(rt doc)")/c/liblibc_c.a"; }
+
+# probe_made: compiles the preload, tests/preload/probe.c.
+probe_made() { compiled probe.so -shared -fPIC tests/preload/probe.c -ldl; }
+
+# probed MODE CALL COMMAND ..: runs it under the preload; $room/probed is what that wrote.
+probed() {
+  rm -f "$room/probed"
+  PROBE_MODE=$1 PROBE_CALL=$2 PROBE_FILE=$room/probed LD_PRELOAD=$room/probe.so "${@:3}"
+}

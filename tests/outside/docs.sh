@@ -1,0 +1,53 @@
+#!/usr/bin/env bash
+# What pages say of the repository, and what they may not outgrow.
+. "$(dirname "$0")/lib.sh"
+
+# at_most WHAT WORDS FILE ..: so many words these files have, and no more.
+at_most() {
+  local words
+  words=$(cat "${@:3}" | wc -w)
+  if [ "$words" -le "$2" ]; then pass "words of $1"; else fail "$1 has $words words, and may have $2"; fi
+}
+
+# says_nothing WHAT COMMAND ..: a command that checks finds nothing wrong.
+says_nothing() {
+  "${@:2}" > "$room/out" 2>&1
+  status=$?
+  is "$1" "$status" 0
+  [ "$status" = 0 ] || cat "$room/out"
+}
+
+# Each path that a page names is there, but for what is built and for names that stand for any (NAME, N).
+paths() {
+  local page path
+  for page in README.md docs/*.md; do
+    grep -oE '(^|[^A-Za-z0-9_/.*-])(bench|crates|docs|examples|tests|tools)/[][A-Za-z0-9_/.*-]+' "$page" |
+      sed -E 's/^[^a-z]//; s/[].-]+$//' | grep -vE '/out(/|$)|NAME' | sort -u |
+      while read -r path; do compgen -G "$path" > /dev/null || echo "$page: $path"; done
+  done
+}
+
+# The pictures of docs are those that are drawn of its tables.
+pictures() {
+  local drawn
+  mkdir "$room/docs"
+  says_nothing 'the pictures of docs are drawn' python3 docs/pictures.py "$room/docs"
+  for drawn in docs/*.svg; do same "$drawn" "$drawn" "$room/$drawn"; done
+}
+
+at_most README.md 1300 README.md
+at_most docs 20000 docs/*.md
+paths > "$room/paths"
+same 'paths that pages name are there' "$room/paths" /dev/null
+tool python3 'the pictures of docs, the index of definitions, heads of specs, and orders of refusals' || finish
+pictures
+for script in 'definitions.py --check' heads.py; do
+  # shellcheck disable=SC2086
+  if [ -f "tools/${script%% *}" ]; then says_nothing "tools/$script" python3 tools/$script; fi
+done
+if program_built; then
+  hlr_on --help < /dev/null
+  cp "$room/out" "$room/help"
+  says_nothing refusals python3 tests/outside/refusals.py docs/RECORDS.md crates/hlr_c/hlr.h "$room/help"
+fi
+finish

@@ -1,0 +1,65 @@
+#!/usr/bin/env bash
+# The library for C, and its header: clients in C, also under valgrind and with a small stack, and one in Python.
+. "$(dirname "$0")/lib.sh"
+. "$(dirname "$0")/c_lib.sh"
+header=crates/hlr_c/hlr.h
+in_library=tests/outside/library
+
+# ended NAME OUT COMMAND ..: a command says what the file OUT has, nothing else, and ends well.
+ended() {
+  "${@:3}" > "$room/out" 2> "$room/err"
+  is "$1: status" "$?" 0
+  same "$1: standard output" "$room/out" "$2"
+  is "$1: standard error" "$(cat "$room/err")" ''
+}
+
+# client NAME WORD ..: compiles a client with the library.
+client() { compiled "$1" -std=c11 -pthread -Icrates/hlr_c "${@:2}" "$archive" "$(kit_archive)"; }
+
+# The header is read by C++, and has the library's layout, codes, parameters and refusals, as its sources have them.
+headers() {
+  if tool g++ 'hlr.h in C++'; then
+    printf '#include "hlr.h"\nhlr handle = HLR_CLOSED;\n' > "$room/header.cc"
+    is 'hlr.h is read by C++' "$(g++ -Wall -Wextra -Werror -fsyntax-only -Icrates/hlr_c "$room/header.cc" 2>&1; echo "$?")" 0
+  fi
+  awk -f "$in_library/layout.awk" crates/hlr_c/src/{rows,kept,handle,codes}.rt crates/tatp_rows/src/refusal.rt > "$room/layout.h"
+  is "hlr.h has the library's layout" "$(gcc -std=c11 -Wall -Wextra -Werror -fsyntax-only -I"$room" -Icrates/hlr_c "$in_library/layout.c" 2>&1; echo "$?")" 0
+  awk -f "$in_library/calls.awk" "$header" | sort > "$room/declared"
+  awk -f "$in_library/calls.awk" crates/hlr_c/src/*.rt | sort > "$room/wanted"
+  same "hlr.h has the library's calls" "$room/declared" "$room/wanted"
+}
+
+# A day in C: as it is, under valgrind, and in a thread with a small stack.
+days() {
+  local day=examples/library/day
+  client day "$day.c" || return
+  ended 'a day in C' "$day.stdout" "$room/day"
+  if tool valgrind 'a day in C under it'; then
+    ended 'a day in C under valgrind' "$day.stdout" valgrind -q --leak-check=full --error-exitcode=9 "$room/day"
+  fi
+  compiled day.o -std=c11 -Icrates/hlr_c -Dmain=day_main -c "$day.c" || return
+  client small_stack "$in_library/small_stack.c" "$room/day.o" || return
+  ended 'a day in C with a small stack' "$day.stdout" "$room/small_stack"
+}
+
+# Each field comes back as it went in; and a handle that goes from thread to thread, which tells 1,000 rows in both cells.
+clients() {
+  if client rows "$in_library/rows.c"; then ended 'rows go in and come back' /dev/null "$room/rows"; fi
+  if client handed "$in_library/handed.c"; then ended 'a handle that is handed over' <(echo 0 1000 1000 0 254) "$room/handed"; fi
+}
+
+# A day in Python, by the shared library.
+python() {
+  tool python3 'day.py of examples/library' || return
+  compiled libhlr.so -shared -Wl,--whole-archive "$archive" -Wl,--no-whole-archive "$(kit_archive)" -Wl,-z,defs || return
+  is 'a day in Python' "$(python3 examples/library/day.py "$room/libhlr.so")" \
+    $'hlr_open 0\nhlr_add_subscriber 0\nhlr_update_location 0\nhlr_subscriber_data 0\n7 7 1 536870912\nhlr_add_access 0\nhlr_access_data 0\n255 4 ABC VWXYZ\nhlr_subscriber_data 3\nhlr_close 0\nhlr_close 254'
+}
+
+tool gcc 'the library for C' || finish
+headers
+archive_built || finish
+days
+clients
+python
+finish

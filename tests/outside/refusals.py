@@ -1,0 +1,78 @@
+#!/usr/bin/env python3
+"""Compares what is said of refusals: refusals.py RECORDS.md hlr.h HELP
+
+RECORDS.md has the order of each command's refusals, a row `| icf | Syntax, Field, .. |` each. hlr.h has the same for each
+call that does what a command does, in a line `Refusals: FIELD, ..` of its comment. HELP is what the program says of
+itself: it lists the same commands, and the same refusals with the codes of hlr.h. What differs is printed, and the status
+is 1 then.
+"""
+import re
+import sys
+
+CALLS = {
+    "sub": "hlr_add_subscriber", "acc": "hlr_add_access", "fac": "hlr_add_facility", "gsd": "hlr_subscriber_data",
+    "gnd": "hlr_new_destination", "gad": "hlr_access_data", "usd": "hlr_update_subscriber", "ul": "hlr_update_location",
+    "icf": "hlr_insert_forwarding", "dcf": "hlr_delete_forwarding", "active": "hlr_set_active", "number": "hlr_set_number",
+    "post": "hlr_post", "give": "hlr_give", "take": "hlr_take", "divide": "hlr_divide", "dissolve": "hlr_dissolve",
+    "views": "hlr_views", "scan": "hlr_scan", "regions": "hlr_regions", "propose": "hlr_propose", "recut": "hlr_recut",
+}
+# No call lists the index, and these calls are of no command.
+NO_CALL = {"index"}
+NO_COMMAND = {"hlr_open": ["STILL_OPEN", "FIELD", "MEMORY"], "hlr_close": []}
+# A record's number may have more than 64 bits, which is refused Field; a call's number can't.
+ANY_NUMBER = {"post", "take", "divide", "dissolve"}
+
+wrong = []
+
+
+def snake(name):
+    return re.sub(r"(?<!^)(?=[A-Z])", "_", name).upper()
+
+
+def orders_of_records(text):
+    rows = re.findall(r"^\| *`?([a-z]+)`? *\| *([A-Z]\w*(?:, [A-Z]\w*)*) *\| *$", text, re.M)
+    if len(rows) != len(dict(rows)):
+        wrong.append("RECORDS.md has two rows for a command")
+    return {command: names.split(", ") for command, names in rows}
+
+
+def orders_of_calls(text):
+    calls = re.findall(r"/\*((?:(?!\*/).)*)\*/\s*uint8_t (hlr_\w+)\(", text, re.S)
+    orders = {}
+    for comment, call in calls:
+        told = re.search(r"Refusals: (\w+(?:, \w+)*)", comment)
+        orders[call] = [it for it in (told[1].split(", ") if told else ["untold"]) if it != "none"]
+    return orders
+
+
+def expect(what, found, wanted):
+    if found != wanted:
+        wrong.append(f"{what}: {found}, and not {wanted}")
+
+
+def main():
+    records, header, said = (open(it, encoding="utf-8").read() for it in sys.argv[1:])
+    orders, calls = orders_of_records(records), orders_of_calls(header)
+    wanted = dict(NO_COMMAND)
+    for command, call in CALLS.items():
+        left_out = {"Syntax", "Field"} if command in ANY_NUMBER else {"Syntax"}
+        wanted[call] = [snake(it) for it in orders.get(command, []) if it not in left_out]
+    expect("the commands of RECORDS.md", sorted(orders), sorted([*CALLS, *NO_CALL]))
+    expect("the calls of hlr.h", sorted(calls), sorted(wanted))
+    for call in sorted(set(calls) & set(wanted)):
+        expect(f"the refusals of {call} in hlr.h", calls[call], wanted[call])
+    listed = set(re.findall(r"^  ([a-z]+)(?:,\S*)?  +\S", said, re.M))
+    expect("the commands of --help", sorted(listed), sorted(orders))
+    numbers = {snake(name): code for code, name in re.findall(r"(?<!\S)(\d+) ([A-Z][A-Za-z]+)(?!\S)", said)}
+    codes = dict(re.findall(r"HLR_(\w+) = (\d+),", header))
+    names = {snake(it) for order in orders.values() for it in order}
+    expect("refusals that RECORDS.md has and --help hasn't", sorted(names - set(numbers)), [])
+    for name in sorted(set(numbers) & set(codes)):
+        expect(f"the code of {name} in --help", numbers[name], codes[name])
+    expect("refusals of hlr.h that RECORDS.md hasn't", sorted(set(codes) - names - {"DONE", "NOT_OPEN", "STILL_OPEN"}), [])
+    print(*wrong, sep="\n", end="\n" if wrong else "")
+    return bool(wrong)
+
+
+if __name__ == "__main__":
+    sys.exit(main())

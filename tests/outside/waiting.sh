@@ -1,0 +1,58 @@
+#!/usr/bin/env bash
+# Front ends that wait for each answer, and terminals.
+. "$(dirname "$0")/lib.sh"
+
+# asks RECORD ANSWER: writes the record to the waiting program, and has the answer before it writes on.
+asks() {
+  local answer=nothing
+  printf '%b' "$1" 2> /dev/null 1>&"$to"
+  IFS= read -r -t 5 answer <&"$from"
+  is "the answer to $1 before the next record" "$answer" "$2"
+}
+
+# waiting [OPTION ..]: a front end that waits for each answer.
+waiting() {
+  local turn from to ended
+  coproc HLR { "$hlr" "$@"; echo "status $?"; }
+  exec {from}<&"${HLR[0]}" {to}>&"${HLR[1]}"
+  # shellcheck disable=SC1083,SC2093
+  exec {HLR[1]}>&-
+  trap '' PIPE
+  asks 'views\n' 'views,0'
+  asks 'sub,7,000000000000007,0000000000,0000000000,00000000000000000000,1,268435456\n' 'ok'
+  asks 'post,0,51\r\n' 'posted,2'
+  asks '\r\ngsd,8\r\n\r\n' 'refused,3,NoSubscriber'
+  asks '\n\ngsd,9\n\n\n' 'refused,3,NoSubscriber'
+  asks '"gsd","10"\n' 'refused,3,NoSubscriber'
+  asks 'gsd,10\n"a\n' 'refused,3,NoSubscriber'
+  asks '"\ngsd' 'refused,19,Syntax'
+  asks ',12\n' 'refused,3,NoSubscriber'
+  for turn in 1 2 3 4 5 6 7 8 9 10; do
+    asks "number$turn\n" 'refused,19,Syntax'
+  done
+  exec {to}>&-
+  IFS= read -r -t 5 ended <&"$from"
+  is "the end of the input ends the program $*" "$ended" 'status 0'
+  exec {from}<&-
+  wait "$HLR_PID" 2> /dev/null
+}
+
+# A terminal: Ctrl-D ends the input at the beginning of a line, and Ctrl-C the program. Behind half a record the first
+# Ctrl-D hands it on, the next one ends the record, and one more the run, since a terminal goes on after an end.
+terminal() {
+  tool python3 'a terminal' || return
+  python3 tests/outside/terminal.py "$hlr" "$@" > "$room/out"
+  cat > "$room/want" <<'TEXT'
+('views,0\n', 0)
+('views,0\nrefused,19,Syntax\n', 0)
+('views,0\nrefused,3,NoSubscriber\n', -2)
+TEXT
+  same "a terminal $*" "$room/out" "$room/want"
+}
+
+program_built || finish
+terminal
+terminal --threads
+waiting
+waiting --threads
+finish
