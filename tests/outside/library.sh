@@ -26,6 +26,7 @@ headers() {
   is "hlr.h has the library's layout" "$(gcc -std=c11 -Wall -Wextra -Werror -fsyntax-only -I"$room" -Icrates/hlr_c "$in_library/layout.c" 2>&1; echo "$?")" 0
   awk -f "$in_library/calls.awk" "$header" | sort > "$room/declared"
   awk -f "$in_library/calls.awk" crates/hlr_c/src/*.rt | sort > "$room/wanted"
+  is 'calls of hlr.h that are compared' "$(wc -l < "$room/declared")" "$(grep -c '^uint8_t ' "$header")"
   same "hlr.h has the library's calls" "$room/declared" "$room/wanted"
 }
 
