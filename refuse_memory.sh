@@ -10,6 +10,6 @@
 . "$(dirname "$0")/tests/outside/lib.sh"
 
 tool gcc 'memory that is refused' || finish
-parts refused_program refused_library
+parts refused_program refused_starts refused_library
 if [ "${1:-all}" = all ]; then parts refused_tests; fi
 finish
