@@ -7,7 +7,7 @@
 #
 # It needs gcc, and what `rt ci` (or `rt run` in crates/hlr and `rt test` in the others) and crates/hlr_c/archive.sh behind
 # it (or `rt lib` in crates/hlr_c) leave in crates/*/out.
-. "$(dirname "$0")/tests/outside/lib.sh"
+. "$(dirname "$0")/tests/outside/lib.sh" || exit 1
 
 tool gcc 'memory that is refused' || finish
 parts refused_program refused_starts refused_library

@@ -5,7 +5,7 @@
 #   ./test.sh program    the built programs and the library alone, as they stand in crates/*/out
 #
 # The second takes three minutes at most. Its parts are scripts of tests/outside; each can be run alone.
-. "$(dirname "$0")/tests/outside/lib.sh"
+. "$(dirname "$0")/tests/outside/lib.sh" || exit 1
 
 if [ "${1:-all}" = all ]; then
   counted rt ci

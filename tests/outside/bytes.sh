@@ -1,6 +1,6 @@
 #!/usr/bin/env bash
 # Bytes that no one wrote with care, and lines without an end.
-. "$(dirname "$0")/lib.sh"
+. "$(dirname "$0")/lib.sh" || exit 1
 
 # Bytes that no one wrote with care.
 bytes() {

@@ -1,6 +1,6 @@
 #!/usr/bin/env bash
 # What pages say of the repository, and what they may not outgrow.
-. "$(dirname "$0")/lib.sh"
+. "$(dirname "$0")/lib.sh" || exit 1
 
 # at_most WHAT WORDS FILE ..: so many words these files have, and no more.
 at_most() {
@@ -17,13 +17,16 @@ says_nothing() {
   [ "$status" = 0 ] || cat "$room/out"
 }
 
-# Each path that a page names is there, but for what is built and for names that stand for any (NAME, N).
+# Each path that a page names is there, but for what is built and for names that stand for any (NAME, N); and each file
+# that it links to.
 paths() {
   local page path
   for page in README.md docs/*.md; do
     grep -oE '(^|[^A-Za-z0-9_/.*-])(bench|crates|docs|examples|tests|tools)/[][A-Za-z0-9_/.*-]+' "$page" |
-      sed -E 's/^[^a-z]//; s/[].-]+$//' | grep -vE '/out(/|$)|NAME' | sort -u |
+      sed -E 's/^[^a-z]//; s/[].-]+$//' | grep -vE '/out(/|$)|NAME|/[A-Z]+(/|$)' | sort -u |
       while read -r path; do compgen -G "$path" > /dev/null || echo "$page: $path"; done
+    grep -oE '\]\([^)#: ]+' "$page" | sed 's/^](//' | sort -u |
+      while read -r path; do [ -e "$(dirname "$page")/$path" ] || echo "$page: $path"; done
   done
 }
 

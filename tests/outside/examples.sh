@@ -1,7 +1,7 @@
 #!/usr/bin/env bash
 # Scripts with their answers, and the clients that ask and wait. A script is NAME.csv; NAME.csv.stdout is what it must print,
 # and NAME.csv.args its options, a word a line, where it has any, as `rt try --cases` has them.
-. "$(dirname "$0")/lib.sh"
+. "$(dirname "$0")/lib.sh" || exit 1
 
 # scripts [OPTION ..]: each script, with these options beside its own.
 scripts() {

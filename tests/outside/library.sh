@@ -1,7 +1,7 @@
 #!/usr/bin/env bash
 # The library for C, and its header: clients in C, also under valgrind and with a small stack, and one in Python.
-. "$(dirname "$0")/lib.sh"
-. "$(dirname "$0")/c_lib.sh"
+. "$(dirname "$0")/lib.sh" || exit 1
+. tests/outside/c_lib.sh || exit 1
 header=crates/hlr_c/hlr.h
 in_library=tests/outside/library
 

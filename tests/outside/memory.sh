@@ -1,7 +1,7 @@
 #!/usr/bin/env bash
 # How often calls ask for memory, and how much engines have.
-. "$(dirname "$0")/lib.sh"
-. "$(dirname "$0")/c_lib.sh"
+. "$(dirname "$0")/lib.sh" || exit 1
+. tests/outside/c_lib.sh || exit 1
 engine_tests=crates/hlr_workers_tests/out/hlr_workers_tests_tests
 
 # asked COMMAND ..: how often a command asks for memory, given the script $room/in.

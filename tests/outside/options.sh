@@ -1,6 +1,6 @@
 #!/usr/bin/env bash
 # The options: what they may be, what is said of others, and the help.
-. "$(dirname "$0")/lib.sh"
+. "$(dirname "$0")/lib.sh" || exit 1
 
 # the version that the program answers
 version=$(sed -n 's/^const VERSION: &str = "\(.*\)";$/\1/p' crates/hlr/src/options.rt)

@@ -1,7 +1,7 @@
 #!/usr/bin/env bash
 # What the README and the pages of docs show: in a fence each line after a $ is a command that prints what stands below it,
 # up to the next $ or the fence's end. A backslash at its end carries a command on.
-. "$(dirname "$0")/lib.sh"
+. "$(dirname "$0")/lib.sh" || exit 1
 
 # shown PAGE: writes each command of a page to $room/PAGE.NN, and what stands below it to $room/PAGE.NN.want; prints these
 # names without .want.

@@ -1,9 +1,9 @@
 #!/usr/bin/env bash
 # A day in C by the library, with memory refused: whichever piece is, it ends with 'day: no memory' behind a front of its
 # lines; or it tells all of them, where it is the C library's own buffer. Of all memory that buffer alone is left at its end.
-. "$(dirname "$0")/lib.sh"
-. "$(dirname "$0")/c_lib.sh"
-. "$(dirname "$0")/refused_lib.sh"
+. "$(dirname "$0")/lib.sh" || exit 1
+. tests/outside/c_lib.sh || exit 1
+. tests/outside/refused_lib.sh || exit 1
 
 # left: how many pieces of memory the last run had at its end.
 left() { od -A n -t d8 -w32 "$room/had" | awk '{ print $3 }'; }

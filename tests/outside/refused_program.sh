@@ -3,10 +3,10 @@
 # refused it answers all as it does with memory, but for one such record that is refused,1,Memory and done where it stands
 # again; or it ends with 'hlr: no memory' after the whole answers to the first records. With --threads a growth that the
 # engine itself wants ends the run so, and with 'hlr: no thread' where it is wanted by the start of a thread.
-. "$(dirname "$0")/lib.sh"
-. "$(dirname "$0")/c_lib.sh"
-. "$(dirname "$0")/refused_lib.sh"
-. "$(dirname "$0")/refused_scripts.sh"
+. "$(dirname "$0")/lib.sh" || exit 1
+. tests/outside/c_lib.sh || exit 1
+. tests/outside/refused_lib.sh || exit 1
+. tests/outside/refused_scripts.sh || exit 1
 
 # alike ANSWERS: those to $room/script are as in $room/wanted, but for what was refused; prints what was.
 alike() { awk -v wanted="$room/wanted" -v script="$room/script" -f tests/outside/alike.awk "$1"; }

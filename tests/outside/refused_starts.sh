@@ -1,9 +1,9 @@
 #!/usr/bin/env bash
 # The program with threads, while memory is refused with which workers are started.
-. "$(dirname "$0")/lib.sh"
-. "$(dirname "$0")/c_lib.sh"
-. "$(dirname "$0")/refused_lib.sh"
-. "$(dirname "$0")/refused_scripts.sh"
+. "$(dirname "$0")/lib.sh" || exit 1
+. tests/outside/c_lib.sh || exit 1
+. tests/outside/refused_lib.sh || exit 1
+. tests/outside/refused_scripts.sh || exit 1
 
 # Where a run with threads ends whose workers only read: after how many answers, with which fault, and how often. The
 # third record starts the first worker, and the fourth the second one; the report brings them home, and the last two

@@ -7,9 +7,9 @@
 #
 # A test .._recut_.._each_refused tells besides what a refused re-cut left. A crate whose code names no allocator has tests
 # that ask for no memory.
-. "$(dirname "$0")/lib.sh"
-. "$(dirname "$0")/c_lib.sh"
-. "$(dirname "$0")/refused_lib.sh"
+. "$(dirname "$0")/lib.sh" || exit 1
+. tests/outside/c_lib.sh || exit 1
+. tests/outside/refused_lib.sh || exit 1
 # of so many bytes a test asks for a piece, twice, where all is to be refused from there on; nothing else does
 signal=7654321
 

@@ -1,6 +1,6 @@
 #!/usr/bin/env bash
 # What can go wrong with the streams: they end, fail, close or are full, anywhere.
-. "$(dirname "$0")/lib.sh"
+. "$(dirname "$0")/lib.sh" || exit 1
 
 # cut_off LINES STATUS ERR [OPTION ..]: the program on $room/in, whose answers are read no further than so many lines.
 cut_off() {

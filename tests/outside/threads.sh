@@ -1,7 +1,7 @@
 #!/usr/bin/env bash
 # Threads that are started, refused, or have no addresses.
-. "$(dirname "$0")/lib.sh"
-. "$(dirname "$0")/c_lib.sh"
+. "$(dirname "$0")/lib.sh" || exit 1
+. tests/outside/c_lib.sh || exit 1
 
 # both_parts: a script for two parts that both get jobs, twice, is $room/in; its answers without threads are $room/whole.
 both_parts() {

@@ -1,6 +1,6 @@
 #!/usr/bin/env bash
 # Front ends that wait for each answer, and terminals.
-. "$(dirname "$0")/lib.sh"
+. "$(dirname "$0")/lib.sh" || exit 1
 
 # asks RECORD ANSWER: writes the record to the waiting program, and has the answer before it writes on.
 asks() {
