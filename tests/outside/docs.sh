@@ -38,6 +38,20 @@ pictures() {
   for drawn in docs/*.svg; do same "$drawn" "$drawn" "$room/$drawn"; done
 }
 
+# The program answers the first of several refusals that apply, in the order of docs/RECORDS.md.
+orders() {
+  grep -v -e '^#' -e '^$' tests/outside/orders.txt > "$room/cases"
+  sed 's/ |.*//' "$room/cases" > "$room/in"
+  hlr_on --parts 2 --zone 4 < "$room/in"
+  # of each case the record, and the refusal that is answered, or that comes first
+  paste -d '|' "$room/cases" "$room/out" | awk -F ' *[|] *' 'NF == 3 { sub(/.*,/, "", $3); print $1 ": " $3 }' > "$room/found"
+  awk -F ' *[|] *' 'FNR == NR { gsub(/`/, "", $2); if (NF == 4 && $2 ~ /^[a-z]+$/) orders[$2] = $3; next }
+    NF == 2 { word = $1; sub(/,.*/, "", word); count = split(orders[word], order, ", "); first = "nothing"
+      for (i = count; i > 0; i--) if (index(" " $2 " ", " " order[i] " ")) first = order[i]
+      print $1 ": " first }' docs/RECORDS.md "$room/cases" > "$room/wanted"
+  same 'the first refusal is answered' "$room/found" "$room/wanted"
+}
+
 at_most README.md 1300 README.md
 at_most docs 20000 docs/*.md
 paths > "$room/paths"
@@ -52,5 +66,6 @@ if program_built; then
   hlr_on --help < /dev/null
   cp "$room/out" "$room/help"
   says_nothing refusals python3 tests/outside/refusals.py docs/RECORDS.md crates/hlr_c/hlr.h "$room/help"
+  orders
 fi
 finish
