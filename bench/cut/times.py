@@ -1,6 +1,6 @@
 #!/usr/bin/env python3
-"""Runs `cut_bench` and the plain program (bench/map_cut_bench.rs) in turns, each by cuts and by insertion.
-usage: cut_times.py CUT_BENCH MAP_CUT [RUNS [KEYS..]]
+"""Runs the cuts of a tree (main.rt.txt) and of a map (map.rs) in turns, each by cuts and by insertion.
+usage: times.py TREE MAP [RUNS [KEYS ..]]     run.sh builds both
 
 For each number of keys: microseconds of the processor a slice and a meld, medians of the runs, the reading of the clock
 taken off, the steps, and, up to 100,000 keys, instructions of a slice and a meld together, by callgrind, less those of building

@@ -1,42 +1,27 @@
-//! Times the operations of a BTreeMap of rows of `SIZE` bytes: `map_bench KEYS ROUNDS WORDS`.
+//! Times the operations of a BTreeMap of rows of `SIZE` bytes: `map KEYS ROUNDS WORDS`, where the words are letters of `grdk`
+//! (get, replace, remove, the drawing of keys alone). Built with `--cfg bytes24` or `bytes40`, and `rising`.
+#![allow(unexpected_cfgs)]
+#[path = "../clock.rs"]
+mod clock;
+
+use clock::{mix, now};
 use std::collections::BTreeMap;
 use std::mem;
 
 /// The bytes of a row.
-const SIZE: usize = 80;
+const SIZE: usize = if cfg!(bytes24) {
+    24
+} else if cfg!(bytes40) {
+    40
+} else {
+    80
+};
 
 /// Whether the keys are put in and taken out in rising order, or drawn.
-const RISING: bool = false;
+const RISING: bool = cfg!(rising);
 
 type Row = [u8; SIZE];
 type Map = BTreeMap<u64, Row>;
-
-#[repr(C)]
-struct Timespec {
-    seconds: i64,
-    nanos: i64,
-}
-
-unsafe extern "C" {
-    fn clock_gettime(clock: i32, time: *mut Timespec) -> i32;
-}
-
-// The processor time of the process in nanoseconds.
-fn now() -> u64 {
-    let mut time = Timespec {
-        seconds: 0,
-        nanos: 0,
-    };
-    unsafe { clock_gettime(2, &mut time) };
-    time.seconds as u64 * 1_000_000_000 + time.nanos as u64
-}
-
-fn mix(number: u64) -> u64 {
-    let start = number.wrapping_mul(0x9E3779B97F4A7C15);
-    let first = (start ^ (start >> 30)).wrapping_mul(0xBF58476D1CE4E5B9);
-    let second = (first ^ (first >> 27)).wrapping_mul(0x94D049BB133111EB);
-    second ^ (second >> 31)
-}
 
 fn key_of(number: u64) -> u64 {
     if RISING { number } else { mix(number) / 2 }

@@ -1,5 +1,9 @@
-//! Times cutting and joining a BTreeMap of rows of `SIZE` bytes: `map_cut_bench KEYS ROUNDS WAY`, where the way is `split`
+//! Times cutting and joining a BTreeMap of rows of `SIZE` bytes: `map KEYS ROUNDS WAY`, where the way is `split`
 //! (split_off and append) or `insert` (both maps built anew by insertion, and then the whole one).
+#[path = "../clock.rs"]
+mod clock;
+
+use clock::{mix, now};
 use std::collections::BTreeMap;
 use std::mem;
 
@@ -8,33 +12,6 @@ const SIZE: usize = 80;
 
 type Row = [u8; SIZE];
 type Map = BTreeMap<u64, Row>;
-
-#[repr(C)]
-struct Timespec {
-    seconds: i64,
-    nanos: i64,
-}
-
-unsafe extern "C" {
-    fn clock_gettime(clock: i32, time: *mut Timespec) -> i32;
-}
-
-// The processor time of the process in nanoseconds.
-fn now() -> u64 {
-    let mut time = Timespec {
-        seconds: 0,
-        nanos: 0,
-    };
-    unsafe { clock_gettime(2, &mut time) };
-    time.seconds as u64 * 1_000_000_000 + time.nanos as u64
-}
-
-fn mix(number: u64) -> u64 {
-    let start = number.wrapping_mul(0x9E3779B97F4A7C15);
-    let first = (start ^ (start >> 30)).wrapping_mul(0xBF58476D1CE4E5B9);
-    let second = (first ^ (first >> 27)).wrapping_mul(0x94D049BB133111EB);
-    second ^ (second >> 31)
-}
 
 fn key_of(number: u64) -> u64 {
     mix(number) / 2
