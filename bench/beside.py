@@ -1,73 +1,88 @@
 #!/usr/bin/env python3
-"""The first table of docs/SPEED.md: `hlr`, the plain Rust program (bench/baseline.rs) and SQLite (bench/sqlite.c) on the
-same records, in turns.
-usage: beside.py HLR BASELINE SQLITE [ROW ..]     at the repository's top; it works in /tmp/bench (ROOM)
+"""`hlr` beside plain Rust that is tuned by hand (plain.rs, over BTreeMap and over hash maps) and SQLite (sqlite.c): the same
+records through each, in turns.
+usage: beside.py HLR PLAIN PLAIN_HASH SQLITE [RUNS]     at the repository's top; it works in /tmp/bench (ROOM)
+       beside.py write                                  writes the loads alone
 
-Rows: load, small, large, gsd, gad, ul, icf, sub, views, cut; without one, all of them. Loads are processor seconds, user
-and system, and resident KB, medians of three runs; commands are instructions by callgrind, of 20,000 records of each (4,000
-for SQLite), less those of their store; views and cut are processor time after the load of 100,000 subscribers, less that of
-the load alone, medians of three runs. The three have to answer the same bytes."""
-import os
+It prints processor seconds, user and system, medians of the runs, and resident KB of the same runs. All four have to answer
+the same bytes, which is looked at in a first turn that isn't counted; SQLite runs in that turn alone. At last milliseconds of
+a give and a take of half of 100,000 subscribers."""
 import statistics
 import sys
 
-from tatp import ROOM, ZONE, commands, instructions, run, timed, write_load
+from common import ROOM, ZONE, kept, load_of, same_bytes, timed
 
-LOADS = {"load": ("100000", "0"), "small": ("1000", "400000"), "large": ("50000", "500000")}
-NAMES = {
-    "load": "loading 100,000 subscribers with 873,302 other rows: s, KB",
-    "small": "400,000 transactions over 1,000 subscribers: s, KB",
-    "large": "500,000 transactions over 50,000 subscribers: s, KB",
-    "views": "`views` of those 100,000 subscribers: µs",
-    "cut": "half of them given and taken back: ms",
+FEW, MANY = ("1000", "400000"), ("50000", "500000")
+LOADS = {
+    "1,000, `gsd`": FEW + ("--only", "gsd"),
+    "1,000, `ul`": FEW + ("--only", "ul"),
+    "1,000, mix": FEW,
+    "50,000, `gsd`": MANY + ("--only", "gsd"),
+    "50,000, `ul`": MANY + ("--only", "ul"),
+    "50,000, mix": MANY,
+    "100,000, rows alone": ("100000", "0"),
+    "100,000, rows alone, drawn order": ("100000", "0", "--order", "random"),
 }
-# what follows the load, and how often: in hlr, in the plain program, in SQLite
-AFTER = {"views": (["views"], (50_000, 50_000, 3)), "cut": (["give,0,high,50001", "take,1,0"], (30, 30, 1))}
-UNITS = {"views": 1e6, "cut": 1e3}
+PAIRS = 10
 
 
-def loads(programs, row):
-    records, _ = write_load(LOADS[row])
-    found = [[run(program, records) for _ in range(3)] for program in programs]
-    assert len({result[2] for results in found for result in results}) == 1, "the answers differ"
-    seconds = [statistics.median(result[0] for result in results) for results in found]
-    return [f"{s:.2f}, {statistics.median(result[1] for result in results):,}" for s, results in zip(seconds, found)]
+def moved():
+    """The load of 100,000 subscribers, and half of them given and taken back some times."""
+    rows, _ = load_of("100000", "0")
+    with open(rows) as lines:
+        return rows, kept("moved", lambda out: out.write(lines.read() + "give,0,high,50001\ntake,1,0\n" * PAIRS))
 
 
-def command(programs, row):
-    store, records = next((store, records) for name, store, records in commands() if name == row)
-    counts = []
-    for program in programs:
-        asked = records[:4000] if program == programs[2] else records
-        counts.append((instructions(program, store + asked) - instructions(program, store)) // len(asked))
-    return [f"{count:,}" for count in counts]
+def measure(programs, words, runs):
+    """What each program used in each of its runs."""
+    records, _ = load_of(*words)
+    answers = [f"{ROOM}/answers{place}" for place, _ in enumerate(programs)]
+    first = [timed([program] + ZONE, records, path) for program, path in zip(programs, answers)]
+    assert same_bytes(answers), "the answers differ"
+    found = [[] for _ in programs[:3]] + [first[3:]]
+    for _ in range(runs):
+        for place, program in enumerate(programs[:3]):
+            found[place].append(timed([program] + ZONE, records))
+    return found
 
 
-def seconds_of(program, path):
-    return statistics.median(sum(timed([program] + ZONE, path)[:2]) for _ in range(3))
+def median(results, column):
+    return statistics.median(result[column] for result in results)
 
 
-def after_load(programs, row):
-    load, _ = write_load(LOADS["load"])
-    lines, counts = AFTER[row]
-    told = []
-    for program, count in zip(programs, counts):
-        longer = f"{ROOM}/longer.csv"
-        with open(load) as first, open(longer, "w") as both:
-            both.write(first.read() + "\n".join(lines * count) + "\n")
-        took = (seconds_of(program, longer) - seconds_of(program, load)) / count * UNITS[row]
-        told.append(f"{took:,.1f}")
-    return told
+def print_loads(programs, runs):
+    memory = []
+    print("| processor seconds | hlr | BTreeMap | hash maps | SQLite | BTreeMap / hlr | hash maps / hlr |\n|---|---|---|---|---|---|---|")
+    for name, words in LOADS.items():
+        found = measure(programs, words, runs)
+        took = [median(results, 0) for results in found]
+        cells = [f"{seconds:.3f}" for seconds in took[:3]] + [f"{took[3]:.1f}", f"{took[1] / took[0]:.2f}", f"{took[2] / took[0]:.2f}"]
+        print(f"| {name} | " + " | ".join(cells) + " |", flush=True)
+        memory.append((name, [median(results, 1) for results in found]))
+    print("\n| resident KB | hlr | BTreeMap | hash maps | SQLite |\n|---|---|---|---|---|")
+    for name, sizes in memory:
+        print(f"| {name} | " + " | ".join(f"{size:,.0f}" for size in sizes) + " |")
+
+
+def print_moved(programs, runs):
+    rows, pairs = moved()
+    found = [[] for _ in programs]
+    for _ in range(runs):
+        for place, program in enumerate(programs):
+            found[place].append(timed([program] + ZONE, pairs)[0] - timed([program] + ZONE, rows)[0])
+    print("\n| milliseconds | hlr | BTreeMap | hash maps |\n|---|---|---|---|")
+    cells = [f"{statistics.median(took) / PAIRS * 1000:.1f}" for took in found]
+    print("| half of 100,000 subscribers given and taken back | " + " | ".join(cells) + " |", flush=True)
 
 
 def main():
-    programs = sys.argv[1:4]
-    os.makedirs(ROOM, exist_ok=True)
-    print("| | hlr | plain | SQLite |\n|---|---|---|---|")
-    for row in sys.argv[4:] or ["load", "small", "large", "gsd", "gad", "ul", "icf", "sub", "views", "cut"]:
-        measure = loads if row in LOADS else after_load if row in AFTER else command
-        name = NAMES.get(row, f"`{row}`: instructions")
-        print(f"| {name} | " + " | ".join(measure(programs, row)) + " |", flush=True)
+    if sys.argv[1:] == ["write"]:
+        for words in LOADS.values():
+            load_of(*words)
+        return moved()
+    programs, runs = sys.argv[1:5], int(sys.argv[5]) if len(sys.argv) > 5 else 7
+    print_loads(programs, runs)
+    print_moved(programs[:3], min(runs, 3))
 
 
 main()

@@ -1,16 +1,18 @@
 #!/usr/bin/env bash
 # Calls a second from C: libhlr_c.a beside a BTreeMap behind the same calls, for each call the best of some rounds by turns.
 #
-#   bench/library.sh [ROUNDS [SUBSCRIBERS ..]]     at the repository's top, once `rt lib` ran in crates/hlr_c
+#   bench/library.sh [ROUNDS [SUBSCRIBERS ..]]     at the repository's top, once `rt lib` ran in crates/hlr_c;
+#                                                  LIBRARY is another libhlr_c.a
 set -eu
 rounds=${1:-7}
 [ $# -gt 1 ] && shift && sizes=("$@") || sizes=(1000 100000)
+library=${LIBRARY:-crates/hlr_c/out/libhlr_c.a}
 kit=$(dirname "$(rt doc)")
 room=$(mktemp -d)
 trap 'rm -rf "$room"' EXIT
 
 rustc --edition 2021 -O -C panic=abort --crate-type staticlib bench/library_baseline.rs -o "$room/libplain.a"
-gcc -O2 -Icrates/hlr_c bench/library.c crates/hlr_c/out/libhlr_c.a "$kit/c/liblibc_c.a" -o "$room/ours"
+gcc -O2 -Icrates/hlr_c bench/library.c "$library" "$kit/c/liblibc_c.a" -o "$room/ours"
 gcc -O2 -Icrates/hlr_c bench/library.c "$room/libplain.a" -lpthread -ldl -o "$room/plain"
 
 for size in "${sizes[@]}"; do

@@ -1,19 +1,20 @@
 #!/usr/bin/env python3
-"""Runs `hlr --threads` beside `hlr` on one thread, each with PARTS parts: seconds by the clock of so many records on drawn subscribers, less
-those of their rows alone, medians of the runs in turns.
-usage: threads.py HLR [RUNS [PARTS]]     it works in /tmp/bench
+"""`hlr --threads` beside `hlr` on one thread, with as many parts: nanoseconds a record by the clock, those of the rows taken off.
+usage: threads.py HLR [RUNS [PARTS]]     3 runs and 3 parts; it works in /tmp/bench (ROOM)
+       threads.py write                  writes the loads alone
 
-Subscribers alone have rows, and for `gad` an Access_Info row each; `mix` is 35 `gsd`, 35 `gad` and 14 `ul` of 84. Both have to answer the same bytes."""
-import os
+`gsd` and `ul` have subscribers alone; `mix` has 35 `gsd`, 35 `gad` and 14 `ul` of 84, and an access for each subscriber. The
+rows of 500,000 subscribers leave room for half a million records in a run, so there is no `mix` of them. Both have
+to answer the same bytes, which is looked at in a first turn that isn't counted."""
 import random
 import statistics
-import subprocess
 import sys
-import time
 
-ROOM = "/tmp/bench"
-MOST = 1_048_576
-KINDS = {"gsd": "gsd", "gad": "gad", "ul": "ul", "mix": "".join(["gsd "] * 35 + ["gad "] * 35 + ["ul "] * 14).split()}
+from common import ROOM, kept, same_bytes, timed
+
+MIX = ["gsd"] * 35 + ["gad"] * 35 + ["ul"] * 14
+LOADS = [(size, kind) for size in (1_000, 50_000, 500_000) for kind in ("gsd", "ul", "mix") if (size, kind) != (500_000, "mix")]
+COUNT = 500_000
 
 
 def rows(subscribers, with_access):
@@ -31,44 +32,36 @@ def record(kind, s_id, draw):
     return f"ul,{s_id:015d},{draw.randrange(1, 4_000_000_000)}\n"
 
 
-def write(name, subscribers, kind, count):
-    draw, with_access = random.Random(7), kind in ("gad", "mix")
-    path = f"{ROOM}/threads_{name}.csv"
-    with open(path, "w") as lines:
-        lines.writelines(rows(subscribers, with_access))
-        kinds = [KINDS[kind]] if isinstance(KINDS[kind], str) else KINDS[kind]
-        lines.writelines(record(draw.choice(kinds), draw.randrange(1, subscribers + 1), draw) for _ in range(count))
-    return path
+def write(lines, subscribers, kind, count):
+    draw = random.Random(7)
+    lines.writelines(rows(subscribers, kind == "mix"))
+    kinds = MIX if kind == "mix" else [kind]
+    lines.writelines(record(draw.choice(kinds), draw.randrange(1, subscribers + 1), draw) for _ in range(count))
 
 
-def seconds(words, path, answers):
-    with open(path, "rb") as lines, open(answers, "wb") as out:
-        start = time.perf_counter()
-        subprocess.run(words, stdin=lines, stdout=out, check=True)
-        return time.perf_counter() - start
+def files(subscribers, kind):
+    """The rows with the records, and the rows alone."""
+    return [kept(f"threads_{subscribers}_{kind}_{count}", lambda lines: write(lines, subscribers, kind, count)) for count in (COUNT, 0)]
 
 
 def main(hlr, runs="3", parts="3"):
-    os.makedirs(ROOM, exist_ok=True)
-    for subscribers in (1_000, 50_000, 500_000):
-        width = -(-subscribers // 32)
-        ways = [[hlr, "--parts", parts, "--zone", str(width)], [hlr, "--threads", "--parts", parts, "--zone", str(width)]]
-        for kind in KINDS:
-            of_each = 2 if kind in ("gad", "mix") else 1
-            if subscribers * of_each > 1_000_000 - 20_000:
-                subscribers_here = 400_000
-            else:
-                subscribers_here = subscribers
-            count = min(500_000, MOST - subscribers_here * of_each)
-            whole, bare = write("whole", subscribers_here, kind, count), write("bare", subscribers_here, kind, 0)
-            took = [[], []]
-            for _ in range(int(runs)):
-                for way, words in enumerate(ways):
-                    took[way].append(seconds(words, whole, f"{ROOM}/answers{way}") - seconds(words, bare, f"{ROOM}/nothing"))
-            with open(f"{ROOM}/answers0", "rb") as one, open(f"{ROOM}/answers1", "rb") as many:
-                same = "" if one.read() == many.read() else " NOT THE SAME ANSWERS"
-            alone, threads = (statistics.median(it) * 1e9 / count for it in took)
-            print(f"| {subscribers_here:,} `{kind}` | {alone:.0f} | {threads:.0f} | {alone / threads:.2f} |{same}", flush=True)
+    if hlr == "write":
+        return [files(*load) for load in LOADS]
+    print("| subscribers, kind | one thread | with threads | one thread / threads |\n|---|---|---|---|")
+    for subscribers, kind in LOADS:
+        whole, bare = files(subscribers, kind)
+        common = [hlr, "--parts", parts, "--zone", str(-(-subscribers // 32))]
+        ways = [common, common + ["--threads"]]
+        answers = [f"{ROOM}/answers{place}" for place, _ in enumerate(ways)]
+        for words, path in zip(ways, answers):
+            timed(words, whole, path)
+        assert same_bytes(answers), "the answers differ"
+        took = [[], []]
+        for _ in range(int(runs)):
+            for way, words in enumerate(ways):
+                took[way].append(timed(words, whole)[2] - timed(words, bare)[2])
+        alone, threads = (statistics.median(it) * 1e9 / COUNT for it in took)
+        print(f"| {subscribers:,} `{kind}` | {alone:.0f} | {threads:.0f} | {alone / threads:.2f} |", flush=True)
 
 
 if __name__ == "__main__":

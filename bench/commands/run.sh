@@ -1,9 +1,9 @@
 #!/usr/bin/env bash
-# What a command costs: `hlr`, reading alone and the plain Rust program over the same bytes, in turn.
+# What a record costs beside reading alone (main.rt.txt, which reads by the kit's `csv` as `hlr` does) and beside plain Rust
+# (plain.rs), over the same bytes, in turn.
 #
-#   bash bench/commands.sh [RUNS [OPTION ..]]    at the repository's top, once crates/hlr/out/hlr is built; the options are those
-#                                                of hlr, which answers alone then; it works in /tmp/bench
-#   HLR=PROGRAM bash bench/commands.sh [RUNS]    another hlr
+#   bash bench/commands/run.sh [RUNS [OPTION ..]]    at the repository's top, once crates/hlr/out/hlr is built (HLR is another);
+#                                                    with options of hlr it answers alone
 #
 # It prints user seconds (best of RUNS) and resident KB for a million records, and instructions a record, by callgrind on
 # 20,000 records, less those of the 1,000 subscribers alone; then what a row costs in the reports that walk over all rows; at last
@@ -12,14 +12,10 @@ set -eu
 runs=${1:-5}
 options=("${@:2}")
 hlr=${HLR:-$PWD/crates/hlr/out/hlr}
-room=/tmp/bench
-mkdir -p "$room/crates/reading/src"
-
-[ "$room/baseline" -nt bench/baseline.rs ] || rustc --edition 2021 -O bench/baseline.rs -o "$room/baseline"
-cp bench/reading.txt "$room/crates/reading/src/main.rt"
-printf 'reading: csv\n' > "$room/crates.txt"
-[ -x "$room/crates/reading/out/reading" ] || (cd "$room" && git init -q . && cd crates/reading && rt run < /dev/null > /dev/null)
-reading=$room/crates/reading/out/reading
+. bench/room.sh
+open_room commands csv
+build_program < /dev/null
+rustc --edition 2021 -O bench/plain.rs -o "$room/plain"
 
 rows() {
   awk 'BEGIN { for (s = 1; s <= 1000; s++) printf "sub,%d,%015d,0101010101,0123456789,00112233445566778899,%d,%.0f\n", s, s, s, s * 4000000 }'
@@ -56,16 +52,11 @@ seconds() {
   done | sort -n | awk 'NR == 1 { best = $1 } $2 > most { most = $2 } END { printf "%s s, %s KB", best, most }'
 }
 
-# instructions FILE PROGRAM ..
-instructions() {
-  valgrind --tool=callgrind --callgrind-out-file=/dev/null "${@:2}" < "$1" 2>&1 > /dev/null | sed -n 's/.*Collected : //p'
-}
-
 # cost KIND PROGRAM ..: a line of what a record of this kind costs.
 cost() {
   local before after
-  before=$(instructions "$room/rows.csv" "${@:2}")
-  after=$(instructions "$room/short.csv" "${@:2}")
+  before=$(instructions "${@:2}" < "$room/rows.csv")
+  after=$(instructions "${@:2}" < "$room/short.csv")
   echo "$1 $(basename "$2"): $(seconds "$room/long.csv" "${@:2}"), $(((after - before) / 20000)) instructions a record"
 }
 
@@ -73,8 +64,8 @@ cost() {
 walked() {
   local before after
   (rows && for _ in $(seq 100); do echo "$1"; done) > "$room/short.csv"
-  before=$(instructions "$room/rows.csv" "${@:2}")
-  after=$(instructions "$room/short.csv" "${@:2}")
+  before=$(instructions "${@:2}" < "$room/rows.csv")
+  after=$(instructions "${@:2}" < "$room/short.csv")
   echo "$1: $(((after - before) / 100000)) instructions a row"
 }
 
@@ -84,8 +75,8 @@ for kind in found ends quoted refused moved posted idle views; do
   input $kind 20000 > "$room/short.csv"
   cost $kind "$hlr" ${options[@]+"${options[@]}"}
   [ ${#options[@]} = 0 ] || continue
-  cost $kind "$reading"
-  cost $kind "$room/baseline"
+  cost $kind "$program"
+  [ $kind = quoted ] || cost $kind "$room/plain"
 done
 
 for report in index scan; do

@@ -1,19 +1,28 @@
 #!/usr/bin/env bash
-# Measures events through an engine beside one thread, from the repository's top: nanoseconds an event by the clock,
-# medians of RUNS runs of EVENTS events, one thread over four parts, and engines of 1 to 4 parts in turn.
+# Events through engines of 1 to 4 parts, each with a worker, beside one thread over four parts: nanoseconds an event by the
+# clock, medians, and in brackets how many times as fast as one thread.
 #
-#   bash bench/engine_bench.sh PROGRAM [RUNS [EVENTS]]    PROGRAM is bench/engine_bench.txt, built; SIZES are the
-#                                                         numbers of subscribers
+#   bash bench/engine/run.sh [RUNS [EVENTS]]     at the repository's top; KINDS and SIZES are what is asked and of how many
+#                                                subscribers, PROGRAM is an engine_bench that is built
 set -eu
-program=$1 runs=${2:-5} events=${3:-409600}
+runs=${1:-5} events=${2:-409600}
+if [ -n "${PROGRAM:-}" ]; then
+  program=$PROGRAM
+else
+  . bench/room.sh
+  open_room engine hlr_workers hlr_core tatp_actions tatp_rows
+  build_program alone gsd 1000 1 1000
+fi
 
 # median COMMAND ..: of the times that it tells.
 median() {
   for _ in $(seq "$runs"); do "$@" | sed -n 's/^[a-z]*: \([0-9]*\) ns.*/\1/p'; done | sort -n | awk '{ took[NR] = $1 } END { print took[int((NR + 1) / 2)] }'
 }
 
-for kind in gsd gad ul mix; do
-  for subscribers in ${SIZES:-1000 50000 100000 500000}; do
+echo "| subscribers, kind | one thread | 1 worker | 2 workers | 3 workers | 4 workers |"
+echo "|---|---|---|---|---|---|"
+for kind in ${KINDS:-gsd ul mix}; do
+  for subscribers in ${SIZES:-1000 50000 500000}; do
     alone=$(median "$program" alone "$kind" "$subscribers" 4 "$events")
     line="| $subscribers \`$kind\` | $alone |"
     for parts in 1 2 3 4; do

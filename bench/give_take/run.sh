@@ -2,7 +2,7 @@
 # What a give and a take of some of 100,000 subscribers cost, and a divide and a dissolve of the same: `hlr` on the load
 # alone, and with pairs behind it, in turns.
 #
-#   bash bench/give_take.sh [RUNS]      at the repository's top, once crates/hlr/out/hlr is built; it works in /tmp/bench
+#   bash bench/give_take/run.sh [RUNS]     at the repository's top, once crates/hlr/out/hlr is built (HLR is another)
 #
 # For each piece: user milliseconds a pair, the median of RUNS. At last, by callgrind, instructions of a pair that moves
 # half, of its walks over rows (the count), and of its copies of memory. In a divide and a dissolve nothing is posted, so
@@ -10,7 +10,7 @@
 set -eu
 runs=${1:-5}
 hlr=${HLR:-crates/hlr/out/hlr}
-room=${ROOM:-/tmp/bench}
+room=${ROOM:-/tmp/bench}/give_take
 mkdir -p "$room"
 python3 bench/tatp_load.py 100000 0 > "$room/load.csv" 2> "$room/told"
 

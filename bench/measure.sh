@@ -1,0 +1,46 @@
+#!/usr/bin/env bash
+# Measures what docs/SPEED.md has in seconds, in some five minutes on a machine with nothing beside: programs side by side,
+# parts, an engine, the program with threads and the library for C.
+#
+#   bash bench/measure.sh write      builds the programs to measure beside, and writes the loads; once, before
+#   bash bench/measure.sh [NAME ..]  measures: beside, parts, engine, threads, library; without a name all of them
+#
+# At the repository's top, once `rt run` ran in crates/hlr and `rt lib` in crates/hlr_c; it works in /tmp/bench (ROOM). HLR is
+# another program, ENGINE an engine_bench that is built (bench/engine/run.sh builds it).
+set -eu
+export ROOM=${ROOM:-/tmp/bench}
+hlr=${HLR:-crates/hlr/out/hlr}
+engine=${ENGINE:-$ROOM/engine/crates/engine_bench/out/engine_bench}
+mkdir -p "$ROOM"
+
+write() {
+  rustc --edition 2021 -O bench/plain.rs -o "$ROOM/plain"
+  rustc --edition 2021 -O --cfg hash bench/plain.rs -o "$ROOM/plain_hash"
+  cc -O2 bench/sqlite.c -lsqlite3 -o "$ROOM/sqlite"
+  python3 bench/beside.py write
+  python3 bench/tatp.py write
+  python3 bench/threads.py write
+}
+
+measure() {
+  case $1 in
+    beside) python3 bench/beside.py "$hlr" "$ROOM/plain" "$ROOM/plain_hash" "$ROOM/sqlite" 7 ;;
+    parts) python3 bench/tatp.py parts "$hlr" 1,4,16 5 ;;
+    engine) PROGRAM=$engine bash bench/engine/run.sh 3 ;;
+    threads) python3 bench/threads.py "$hlr" 3 3 ;;
+    library) bash bench/library.sh 4 ;;
+  esac
+}
+
+if [ "${1:-}" = write ]; then
+  write
+  exit
+fi
+for name in "${@:-beside parts engine threads library}"; do
+  for one in $name; do
+    echo "$one, at $(date +%T), $(cut -d' ' -f1 /proc/loadavg) programs ready:"
+    measure "$one" || echo "$one failed"
+    echo
+  done
+done
+date +%T
