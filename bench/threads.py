@@ -47,7 +47,7 @@ def files(subscribers, kind):
 def main(hlr, runs="3", parts="3"):
     if hlr == "write":
         return [files(*load) for load in LOADS]
-    print("| subscribers, kind | one thread | with threads | one thread / threads |\n|---|---|---|---|")
+    print("| subscribers | one thread | with threads | times |\n|---|---|---|---|")
     for subscribers, kind in LOADS:
         whole, bare = files(subscribers, kind)
         common = [hlr, "--parts", parts, "--zone", str(-(-subscribers // 32))]
@@ -61,7 +61,7 @@ def main(hlr, runs="3", parts="3"):
             for way, words in enumerate(ways):
                 took[way].append(timed(words, whole)[2] - timed(words, bare)[2])
         alone, threads = (statistics.median(it) * 1e9 / COUNT for it in took)
-        print(f"| {subscribers:,} `{kind}` | {alone:.0f} | {threads:.0f} | {alone / threads:.2f} |", flush=True)
+        print(f"| {subscribers:,}, `{kind}` | {alone:.0f} | {threads:.0f} | {alone / threads:.2f} |", flush=True)
 
 
 if __name__ == "__main__":

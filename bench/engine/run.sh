@@ -1,6 +1,6 @@
 #!/usr/bin/env bash
 # Events through engines of 1 to 4 parts, each with a worker, beside one thread over four parts: nanoseconds an event by the
-# clock, medians, and in brackets how many times as fast as one thread.
+# clock of one thread, medians, and how many times as fast the engines are.
 #
 #   bash bench/engine/run.sh [RUNS [EVENTS]]     at the repository's top; KINDS and SIZES are what is asked and of how many
 #                                                subscribers, PROGRAM is an engine_bench that is built
@@ -19,15 +19,15 @@ median() {
   for _ in $(seq "$runs"); do "$@" | sed -n 's/^[a-z]*: \([0-9]*\) ns.*/\1/p'; done | sort -n | awk '{ took[NR] = $1 } END { print took[int((NR + 1) / 2)] }'
 }
 
-echo "| subscribers, kind | one thread | 1 worker | 2 workers | 3 workers | 4 workers |"
+echo "| subscribers | one thread, ns | 1 worker | 2 | 3 | 4 |"
 echo "|---|---|---|---|---|---|"
 for kind in ${KINDS:-gsd ul mix}; do
   for subscribers in ${SIZES:-1000 50000 500000}; do
     alone=$(median "$program" alone "$kind" "$subscribers" 4 "$events")
-    line="| $subscribers \`$kind\` | $alone |"
+    line="| $subscribers, \`$kind\` | $alone |"
     for parts in 1 2 3 4; do
       took=$(median "$program" engine "$kind" "$subscribers" "$parts" "$events")
-      line="$line $took ($(awk -v a="$alone" -v b="$took" 'BEGIN { printf "%.1f", a / b }')) |"
+      line="$line $(awk -v a="$alone" -v b="$took" 'BEGIN { printf "%.2f", a / b }') |"
     done
     echo "$line"
   done
