@@ -12,8 +12,8 @@ ghost use Rattle.hlr_owners.specs.Store.{published, unpublished};
 ghost use Rattle.hlr_owners.specs.Seats.{AllHome, is_home, owner_of, book_in, store_in, unposted};
 
 use crate::lodging::Seat;
+use crate::owner::Owner;
 use crate::seats::Seats;
-use holding::{Holding, Piece};
 use tatp_actions::{CELLS, Cells};
 
 impl Seat {
@@ -42,29 +42,18 @@ fn add_published(sums: &mut [i64; CELLS as usize], seat: &Seat)
     }
 }
 
-/// Adds what is pending of each cell in a holding to a sum. Neither is past 2^60, either way.
-fn add_pending_of(sums: &mut [i64; CELLS as usize], holding: &Holding)
+/// Adds what is pending of each cell with an owner to a sum. Neither is past 2^60, either way.
+fn add_deltas<O: Owner>(sums: &mut [i64; CELLS as usize], owner: &O)
     requires sums { AreSummable (pending_at sums.old) }
-    requires pending { AreSummable (pending_at holding.now.pending) }
-    ensures { (c : ℕ) → c < CELLS → pending_at sums.new c ≡ pending_at sums.old c +ℤ pending_at holding.now.pending c }
+    requires pending { AreSummable (pending_at (O.deltas_of owner.now)) }
+    ensures { (c : ℕ) → c < CELLS → pending_at sums.new c ≡ pending_at sums.old c +ℤ pending_at (O.deltas_of owner.now) c }
 {
     for cell in 0..CELLS {
-        sums[usize::from(cell)] += holding.pending(cell);
+        sums[usize::from(cell)] += owner.delta(cell);
     }
 }
 
-/// The same of a loose piece.
-fn add_counts_of(sums: &mut [i64; CELLS as usize], piece: &Piece)
-    requires sums { AreSummable (pending_at sums.old) }
-    requires pending { AreSummable (pending_at piece.now.pending) }
-    ensures { (c : ℕ) → c < CELLS → pending_at sums.new c ≡ pending_at sums.old c +ℤ pending_at piece.now.pending c }
-{
-    for cell in 0..CELLS {
-        sums[usize::from(cell)] += piece.pending(cell);
-    }
-}
-
-/// Adds what is pending of each cell to a sum. Neither is past 2^60, either way.
+/// The same with the owner who sits there.
 fn add_pending(sums: &mut [i64; CELLS as usize], seat: &Seat)
     requires home { is_home seat.now ≡ true }
     requires sums { AreSummable (pending_at sums.old) }
@@ -72,8 +61,8 @@ fn add_pending(sums: &mut [i64; CELLS as usize], seat: &Seat)
     ensures { (c : ℕ) → c < CELLS → pending_at sums.new c ≡ pending_at sums.old c +ℤ pending_at (owner_of seat.now).pending c }
 {
     match seat {
-        Seat::Part(lodging) => add_pending_of(sums, lodging.holding()),
-        Seat::Piece(piece) => add_counts_of(sums, piece),
+        Seat::Part(lodging) => add_deltas(sums, lodging.holding()),
+        Seat::Piece(piece) => add_deltas(sums, &**piece),
     }
 }
 

@@ -1,17 +1,21 @@
 //! What has the rows of a range: a part's holding, or a loose piece.
-ghost use Rattle.std.specs.Prelude.{◌≡◌, ℕ};
+ghost use Rattle.std.specs.Prelude.{◌≡◌, ℕ, ◌<◌, List, ℤ};
+ghost use Rattle.tatp_actions.specs.declared.cells.TheConstants.{CELLS};
 ghost use Rattle.part_table.specs.declared.region.Region.{Region};
+ghost use Rattle.view_delta.specs.Pending.{pending_at};
 ghost use Rattle.holding.specs.Held.{IsHolding, IsPiece};
 ghost use Rattle.hlr_owners.specs.Gather.{holding_range, piece_range};
 
 use holding::{Holding, Piece};
 use part_table::{Place, Region};
 
-/// An owner of the rows of a range, seen by its range and the width of its zones.
+/// An owner of the rows of a range, seen by its range, the width of its zones, and what is pending.
 pub(crate) trait Owner {
     ghost range_of: { Self → Region };
 
     ghost width_of: { Self → ℕ };
+
+    ghost deltas_of: { Self → List ℤ };
 
     ghost keeps: { Self → Type 0 };
 
@@ -23,12 +27,19 @@ pub(crate) trait Owner {
     /// The width of the zones.
     fn zone_width(&self) -> u32
         ensures { result ≡ width_of self.now };
+
+    /// What is pending of a cell.
+    fn delta(&self, cell: u8) -> i64
+        requires { cell < CELLS }
+        ensures { result ≡ pending_at (deltas_of self.now) cell };
 }
 
 impl Owner for Holding {
     ghost range_of = { holding_range };
 
     ghost width_of = { λ holding. holding.part.width };
+
+    ghost deltas_of = { λ holding. holding.pending };
 
     ghost keeps = { IsHolding };
 
@@ -43,12 +54,18 @@ impl Owner for Holding {
     fn zone_width(&self) -> u32 {
         self.width()
     }
+
+    fn delta(&self, cell: u8) -> i64 {
+        self.pending(cell)
+    }
 }
 
 impl Owner for Piece {
     ghost range_of = { piece_range };
 
     ghost width_of = { λ piece. piece.part.width };
+
+    ghost deltas_of = { λ piece. piece.pending };
 
     ghost keeps = { IsPiece };
 
@@ -62,5 +79,9 @@ impl Owner for Piece {
 
     fn zone_width(&self) -> u32 {
         self.width()
+    }
+
+    fn delta(&self, cell: u8) -> i64 {
+        self.pending(cell)
     }
 }

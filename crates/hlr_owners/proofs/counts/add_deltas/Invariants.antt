@@ -1,0 +1,6 @@
+use Rattle.view_delta.specs.Pending.{pending_at}
+use Rattle.view_delta.proofs.SumLemmas.{AreMovedTo}
+use Rattle.hlr_owners.proofs.counts.add_deltas.Given as goal
+
+abbrev pub invariant-loop-cell : goal.invariant-loop-cell
+invariant-loop-cell g l = AreMovedTo (λ c. pending_at (g.O.Owner.deltas_of l.owner) c) l.initial.sums l.sums l.cell
