@@ -1,7 +1,8 @@
 -- What is done to seats at home, done beside holdings that are out.
-use Rattle.std.proofs.Common.{◌≡◌, ◌∙◌, refl, ap, ℕ, List, get_or, set, true, Some}
-use Rattle.std.specs.Prelude.{Ok, position, insert, remove, Box, if◌then◌else◌}
+use Rattle.std.proofs.Common.{◌≡◌, ◌∙◌, refl, ap, ℕ, List, get_or, set, true, Some, None}
+use Rattle.std.specs.Prelude.{Result, Ok, Err, position, insert, remove, Box, if◌then◌else◌}
 use Rattle.std.specs.declared.alloc.Global.{Global}
+use Rattle.atomic_table.specs.Seated.{TableId}
 use Rattle.tatp_rows.specs.declared.refusal.Refusal.{Refusal}
 use Rattle.tatp_rows.specs.declared.refusal.Refusal.TheVariants as refusal
 use Rattle.tatp_actions.specs.Action.{s_id_of, IsOutcome, is_in_range}
@@ -12,19 +13,22 @@ use Rattle.part_table.specs.Give.{cut, give_answer, piece_index}
 use Rattle.part_table.specs.Region.{lies_in, is_part, is_piece}
 use Rattle.part_table.specs.Take.{joined, take_answer}
 use Rattle.part_table.specs.declared.region.Side.{Side}
-use Rattle.holding.specs.Held.{HoldingState, PieceState, IsHolding, IsPiece}
+use Rattle.holding.specs.Held.{HoldingState, PieceState, IsHolding, IsPiece, count_of}
 use Rattle.holding.specs.Moved.{IsGiven, IsTaken}
-use Rattle.hlr_owners.specs.Beside.{MayBecome, IsAnsweredBeside, IsMovedBeside}
+use Rattle.holding.specs.Post as own
+use Rattle.hlr_owners.specs.Beside.{MayBecome, HasRowsBeside, IsAnsweredBeside, IsMovedBeside, IsPostedBeside}
+use Rattle.hlr_owners.specs.Desks.{AreDesks}
 use Rattle.hlr_owners.specs.Inside.{IsMovedAlone}
 use Rattle.hlr_owners.specs.Lodged.{Lodged}
 use Rattle.hlr_owners.specs.Out.{with_outs}
-use Rattle.hlr_owners.specs.Seats.{Seating, AreSeated, taker}
+use Rattle.hlr_owners.specs.Seats.{Seating, AreSeated, desks_in, taker}
 use Rattle.hlr_owners.specs.Store.{Store}
 use Rattle.hlr_owners.specs.declared.lodging.Seat.TheVariants.{Part, Piece}
 use Rattle.hlr_owners.proofs.EditLemmas.{given_store}
-use Rattle.hlr_owners.proofs.LendLemmas.{seated_later}
+use Rattle.hlr_owners.proofs.LendLemmas.{desks_later, seated_later}
 use Rattle.hlr_owners.proofs.OutLemmas.{become_carried, outs-at, outs-insert, outs-remove, outs-set}
-use Rattle.hlr_owners.proofs.SeatLemmas.{parts-kept, acted_answer, piece_answer}
+use Rattle.hlr_owners.proofs.PostedLemmas.{none_posted, posted_right}
+use Rattle.hlr_owners.proofs.SeatLemmas.{parts-kept, part_not_loose, acted_answer, piece_answer, read_answer}
 use Rattle.hlr_owners.proofs.TakeLemmas.{taken_store}
 
 -- the seats with what the holdings that are out have become
@@ -48,6 +52,29 @@ module _ (h : Seating) (are : AreSeated h) (act : Action) (i : ℕ) (at : positi
   pub refused_beside : (b : Box PieceState Global) → Piece b ≡ get_or h.seats i (Piece b) → (why : Refusal) → why ≡ (if is_in_range act then refusal.Moving else refusal.Field)
       → IsAnsweredBeside act h (row_reply.Refused why) h
   refused_beside b is why told = λ ks become. (piece_answer (now h ks) (now_seated h ks are become) (s_id_of act) i at b (outs-at h.seats ks i (Piece b) is refl) act why told, refl)
+
+-- what is read of the rows of a part at home
+pub rows_beside : (h : Seating) (are : AreSeated h) (s_id i : ℕ) (at : position (lies_in s_id) h.regions ≡ Some i) (l : Lodged) → Part l ≡ get_or h.seats i (Part l) → l.home ≡ true → HasRowsBeside s_id h l.holding
+rows_beside h are s_id i at l is home = λ ks become.
+    let there = outs-at h.seats ks i (Part l) is home in
+    let seated = now_seated h ks are become in
+    record {
+      home = part_not_loose (now h ks) seated s_id i at l there;
+      answers = read_answer (now h ks) seated s_id i at l there;
+    }
+
+-- a posting of a part at home, and of none
+pub posted_beside : (h : Seating) (are : AreSeated h) (board : TableId) → AreDesks board h.spare (desks_in h.seats) → (p i : ℕ) (index : position (is_part p) h.regions ≡ Some i)
+    (l : Lodged) → Part l ≡ get_or h.seats i (Part l) → l.home ≡ true → (m : Lodged) → m.home ≡ true → (limit : ℕ) (posted : Result ℕ Refusal) → IsHolding l.holding
+    → (posted, m.holding.desk.view) ≡ own.post (count_of l.holding.part) l.holding.slot limit l.holding.desk.view → m.holding.part ≡ l.holding.part
+    → (m.holding.desk.board ≡ l.holding.desk.board) × (m.holding.desk.view.owned ≡ l.holding.desk.view.owned) × (m.holding.slot ≡ l.holding.slot)
+    → IsPostedBeside p limit h posted (record h { seats = set h.seats i (Part m) })
+posted_beside h are board rules p i index l is home m still limit posted lawful done same desk = λ ks become.
+    rw (outs-set h.seats ks i l m is still)
+    (posted_right (now h ks) (now_seated h ks are become) board (desks_later board h.spare h.seats (with_outs h.seats ks) become rules) p i index l (outs-at h.seats ks i (Part l) is home) m limit posted lawful done same desk)
+
+pub none_posted_beside : (h : Seating) (are : AreSeated h) (p limit : ℕ) → position (is_part p) h.regions ≡ None → IsPostedBeside p limit h (Err refusal.NoPart) h
+none_posted_beside h are p limit none = λ ks become. none_posted (now h ks) (now_seated h ks are become) p limit none
 
 -- a give
 pub given_beside : (h : Seating) (are : AreSeated h) (p : ℕ) (side : Side) (at : ℕ) (told : ℕ × ℕ × ℕ) (answer : give_answer p side at h.regions ≡ Ok told) (i : ℕ) (index : position (is_part p) h.regions ≡ Some i)

@@ -5,6 +5,7 @@ use Rattle.std.proofs.lemmas.Bool.Decides.{nat_tests}
 use Rattle.arrayvec.specs.ArrayVec.{ArrayVec, array_vec_len}
 use Rattle.tatp_rows.specs.Rows.{is_between}
 use Rattle.tatp_rows.specs.declared.ranges.TheConstants.{LAST_SUBSCRIBER}
+use Rattle.tatp_rows.specs.declared.refusal.Refusal.{Refusal}
 use Rattle.tatp_rows.specs.declared.refusal.Refusal.TheVariants as refusal
 use Rattle.tatp_actions.specs.Action.{s_id_of, effect, is_in_range, new_destination}
 use Rattle.tatp_actions.specs.Book.{Book, IsWithin}
@@ -12,7 +13,10 @@ use Rattle.tatp_actions.specs.declared.action.Action.{Action}
 use Rattle.tatp_actions.specs.declared.action.RowReply.{RowReply}
 use Rattle.tatp_actions.specs.declared.action.RowReply.TheVariants as row_reply
 use Rattle.holding.specs.Held.{HoldingState}
+use Rattle.hlr_owners.specs.Answered.{is_loose}
+use Rattle.hlr_owners.specs.Beside.{HasRowsBeside, IsReadBeside, store_with}
 use Rattle.hlr_owners.specs.Read.{HasRowsOf, IsRead}
+use Rattle.hlr_owners.specs.Seats.{Seating}
 use Rattle.hlr_owners.specs.Store.{Store}
 
 -- one of all subscribers has an s_id in range, and with a type in range both are
@@ -26,6 +30,14 @@ subscriber_fits s_id within =
 module _ (act : Action) (store : Store) (holding : HoldingState) (has : HasRowsOf (s_id_of act) store holding) (fits : is_in_range act ≡ true) where
   pub is_read : (answer : RowReply) → effect act holding.part.book ≡ (answer, holding.part.book) → IsRead act store answer
   is_read answer does = rw (has.home) (has.answers act answer refl (inr (inl (fits, sym does))))
+
+-- the same whatever the holdings that are out have become; and so answers a loose piece
+module _ (act : Action) (h : Seating) (fits : is_in_range act ≡ true) where
+  pub read_beside : (holding : HoldingState) → HasRowsBeside (s_id_of act) h holding → (answer : RowReply) → effect act holding.part.book ≡ (answer, holding.part.book) → IsReadBeside act h answer
+  read_beside holding has answer does = λ ks become. is_read act (store_with h ks) holding (has ks become) fits answer does
+
+  pub moving_beside : (why : Refusal) → why ≡ refusal.Moving → is_loose (s_id_of act) h.regions ≡ true → IsReadBeside act h (row_reply.Refused why)
+  moving_beside why is loose = λ ks become. rw (loose, fits, is) (refl, refl)
 
 -- the answer to numbers that were found, and to none
 pub numbers_read : (book : Book) (numbers : ArrayVec ℕ) → (array_vec_len numbers == 0) ≡ false → new_destination book numbers.items ≡ (row_reply.Numbers numbers, book)

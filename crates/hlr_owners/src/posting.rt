@@ -1,5 +1,6 @@
 //! Postings of parts to the board.
 ghost use Rattle.std.specs.Prelude.{◌≡◌};
+ghost use Rattle.hlr_owners.specs.Beside.{IsPostedBeside};
 ghost use Rattle.hlr_owners.specs.Store.{slots_of};
 ghost use Rattle.hlr_owners.specs.Out.{outs_in};
 ghost use Rattle.hlr_owners.specs.Posting.{IsPosting};
@@ -18,6 +19,7 @@ impl Seats {
         ensures same { self.new ≡ record self.old { seats = self.new.seats } }
         ensures homes { homes_in self.new.seats ≡ homes_in self.old.seats }
         ensures outs { outs_in self.new.seats ≡ outs_in self.old.seats }
+        ensures beside { IsPostedBeside part limit self.old result self.new }
     {
         let Some(i) = self.regions.index_of_part(part) else {
             return Err(Refusal::NoPart);

@@ -7,7 +7,7 @@ ghost use Rattle.part_table.specs.declared.region.TheConstants.{MOST_PARTS};
 ghost use Rattle.hlr_owners.specs.Read.{HasRowsOf};
 ghost use Rattle.hlr_owners.specs.Sight.{IsSightOf};
 ghost use Rattle.hlr_owners.specs.Answered.{IsAnswered, is_loose};
-ghost use Rattle.hlr_owners.specs.Beside.{IsAnsweredBeside};
+ghost use Rattle.hlr_owners.specs.Beside.{HasRowsBeside, IsAnsweredBeside};
 ghost use Rattle.hlr_owners.specs.Out.{outs_in};
 ghost use Rattle.tatp_actions.specs.Action.{s_id_of, is_in_range, done_reply};
 ghost use Rattle.tatp_actions.specs.Book.{IsRowsOf, IsWithin, subscriber_at};
@@ -87,6 +87,7 @@ impl Seats {
         requires within { IsWithin 1 (LAST_SUBSCRIBER + 1) s_id }
         requires home { IsHomeFor s_id self.now }
         ensures home { IfOk result (λ holding. HasRowsOf s_id (store_in self.now) holding.now) }
+        ensures beside { IfOk result (λ holding. HasRowsBeside s_id self.now holding.now) }
         ensures moving { OnErr result ((result ≡ Err Refusal.Moving) × (is_loose s_id self.now.regions ≡ true)) }
     {
         match &self.seats[self.seat_of(s_id)] {

@@ -1,6 +1,7 @@
 use Rattle.std.proofs.Common.{◌∙◌, sym}
 use Rattle.hlr_owners.specs.Lodged.{Lodged}
 use Rattle.hlr_owners.specs.Out.{out_of}
+use Rattle.hlr_owners.proofs.BesideLemmas.{none_posted_beside, posted_beside}
 use Rattle.hlr_owners.proofs.OutLemmas.{none_out}
 use Rattle.hlr_owners.proofs.PartLemmas.{part_sits_there, part_sits, part_is_home}
 use Rattle.hlr_owners.proofs.PostedLemmas.{none_posted, posted_before, posted_desks, posted_seated, posted_right}
@@ -49,3 +50,15 @@ returns-clause-outs c =
     let is = rw c.in-Part.is at c.index_mut.ensures.value in
     let was = part_is_home _ c.self.invariant.0 c.args.part _ (sym c.index_of_part.ensures ∙ c.in-Some.is) c.in-Part.lodging is (rw (← c.self.view_is) at c.requires.home) in
     rw (← c.self.view_is) (parts-kept out_of c.self.inside.seats.items _ c.in-Part.lodging c.post.new.self (none_out _ _ was c.post.ensures.home) is)
+
+pub returns-in_default-clause-beside : goal.returns-in_default-clause-beside
+returns-in_default-clause-beside c =
+    rw (← c.self.view_is) (none_posted_beside _ c.self.invariant.0 c.args.part c.args.limit (sym c.in_default.ensures))
+
+pub returns-clause-beside : goal.returns-clause-beside
+returns-clause-beside c =
+    let is = rw c.in-Part.is at c.index_mut.ensures.value in
+    let index = sym c.index_of_part.ensures ∙ c.in-Some.is in
+    let was = part_is_home _ c.self.invariant.0 c.args.part _ index c.in-Part.lodging is (rw (← c.self.view_is) at c.requires.home) in
+    rw (← c.self.view_is) (posted_beside _ c.self.invariant.0 _ c.self.invariant.1 c.args.part _ index c.in-Part.lodging is was c.post.new.self c.post.ensures.home c.args.limit c.post.result
+    c.post.ensures.before c.post.ensures.posted c.post.ensures.part c.post.ensures.desk)
