@@ -1,5 +1,5 @@
 -- What the register does while holdings are out is right whatever these have become.
-use Rattle.std.proofs.Common.{◌≡◌, ◌∙◌, refl, sym, ap, ℕ, List, [], ◌∷◌, Bool, true, false, Some, None, Result, Ok, Err}
+use Rattle.std.proofs.Common.{◌≡◌, ◌∙◌, refl, sym, ap, ℕ, List, [], ◌∷◌, Bool, true, false, Option, Some, None, Result, Ok, Err}
 use Rattle.std.specs.Prelude.{is_some, option_map}
 use Rattle.tatp_rows.specs.Rows.{SubscriberRow}
 use Rattle.tatp_rows.specs.declared.refusal.Refusal.{Refusal}
@@ -20,7 +20,7 @@ use Rattle.part_table.specs.declared.region.Region.{Region}
 use Rattle.part_table.specs.declared.region.Side.{Side}
 use Rattle.holding.specs.Held.{HoldingState}
 use Rattle.hlr_owners.specs.Answered.{MayAnswer, is_loose}
-use Rattle.hlr_owners.specs.Beside.{IsAnsweredBeside, IsMovedBeside}
+use Rattle.hlr_owners.specs.Beside.{IsAnsweredBeside, IsMovedBeside, IsPostedBeside}
 use Rattle.hlr_owners.specs.Out.{outs_in, with_outs}
 use Rattle.hlr_owners.specs.Parted.{IsDissolvedBeside, IsDividedBeside}
 use Rattle.hlr_owners.specs.Recut.{IsRecut, IsRecutBy}
@@ -31,16 +31,18 @@ use Rattle.hlr_owners.specs.declared.lodging.Seat.TheVariants.{Part}
 use Rattle.hlr_owners.proofs.OutLemmas.{outs_carried, own_outs}
 use Rattle.hlr_core.specs.Beside.{beside, IsStepBeside, IsRecutBeside}
 use Rattle.hlr_core.specs.Index.{IsRegister}
-use Rattle.hlr_core.specs.Inside.Asked.{IsRowStep}
+use Rattle.hlr_core.specs.Inside.Asked.{IsAsked, IsRowStepBeside}
+use Rattle.hlr_core.specs.Kept.{is_on_rows}
 use Rattle.hlr_core.specs.Later.{IsLater, AreLater}
-use Rattle.hlr_core.specs.Step.{IsStep, dissolved_reply, divided_reply, given_reply, taken_reply, reply_of}
+use Rattle.hlr_core.specs.Step.{IsAskedStep, IsStep, action_for, dissolved_reply, divided_reply, given_number, given_reply, posted_reply, taken_reply, reply_of}
 use Rattle.hlr_core.specs.declared.event.Event.{Event}
-use Rattle.hlr_core.specs.declared.event.Event.TheVariants.{Give, Take, Divide, Dissolve}
+use Rattle.hlr_core.specs.declared.event.Event.TheVariants.{Give, Take, Divide, Dissolve, Post}
 use Rattle.hlr_core.specs.declared.event.Reply.{Reply}
 use Rattle.hlr_core.specs.declared.event.Reply.TheVariants as reply
 use Rattle.hlr_core.proofs.LaterLemmas.{all_later_self, each_seat, number_later, registered_later}
-use Rattle.hlr_core.proofs.RegisterLemmas.{IsHome, acted_step, exists_step, free_to_take, moving_step, outcome_of_answer, some_number, unadded_step}
+use Rattle.hlr_core.proofs.RegisterLemmas.{IsHome, acted_step, asked_step, exists_step, free_to_take, moving_step, outcome_of_answer, posted_step, some_number, unadded_step, unasked_step}
 use Rattle.hlr_core.proofs.RenamedLemmas.{renamed_step, unnumbered_step, unrenamed_step}
+use Rattle.hlr_core.proofs.RouteLemmas.{asks_later, step_asked}
 
 -- a step that is right whatever they have become is right as they were
 pub own_step : (event : Event) (before after : Seating) (answer : Reply) → outs_in after.seats ≡ outs_in before.seats → IsStepBeside event before answer after
@@ -59,10 +61,30 @@ later_carried before after ks same later =
     outs_carried IsLater (λ h k. IsLater (Part (record { holding = h; home = false })) (Part (record { holding = k; home = false })))
     (λ l m is. record { seat = is.seat; numbers = is.numbers }) (λ l m is. record { seat = is.seat; numbers = is.numbers }) later_one before after ks same later
 
+-- what an event on rows asks for, it asks for whatever they have become
+pub step_beside : (event : Event) (before after : Seating) (answer : Reply) → is_on_rows event ≡ true
+    → ((ks : List HoldingState) → AreLater before.seats (with_outs before.seats ks) → IsAskedStep (action_for event (book_in before.seats)) (store_in (beside before ks)) answer (store_in (beside after ks)))
+    → IsStepBeside event before answer after
+step_beside event before after answer rows step = λ ks later.
+    step_asked event (store_in (beside before ks)) answer (store_in (beside after ks)) rows (rw (asks_later event before rows (with_outs before.seats ks) later) (step ks later))
+
+-- an edit is done or refused by the rows, or refused as it is asked for
+pub asked_beside : (fits : Bool) (wanted : Option Action) (act : Action) (before after : Seating) (rows : RowReply) (answer : Reply) → given_number act ≡ None
+    → IsAsked fits wanted (Ok act) → IsAnsweredBeside act before rows after → answer ≡ reply_of rows → IsRowStepBeside fits wanted before answer after
+asked_beside fits wanted act before after rows answer gives asked done is = λ ks later.
+    let answered = done ks (each_seat before.seats (with_outs before.seats ks) later) in
+    asked_step fits wanted act (store_in (beside before ks)) (store_in (beside after ks)) rows answer gives asked answered.0 answered.1 is
+
+pub unasked_beside : (fits : Bool) (wanted : Option Action) (why : Refusal) (h : Seating) → IsAsked fits wanted (Err why) → IsRowStepBeside fits wanted h (reply.Refused why) h
+unasked_beside fits wanted why h asked = λ ks later. unasked_step fits wanted why (store_in (beside h ks)) asked
+
+-- a posting
+pub posted_beside : (before after : Seating) (part limit : ℕ) (posted : Result ℕ Refusal) → IsPostedBeside part limit before posted after → IsStepBeside (Post part limit) before (posted_reply posted) after
+posted_beside before after part limit posted is = λ ks later. posted_step _ part limit _ _ posted (is ks (each_seat before.seats (with_outs before.seats ks) later))
+
 -- an action is a right step, whatever they have become
 abbrev pub IsActedBeside : Action → Seating → Reply → Seating → Type 0
-IsActedBeside act before answer after =
-    (ks : List HoldingState) → AreLater before.seats (with_outs before.seats ks) → IsRowStep true (Some act) (store_in (beside before ks)) answer (store_in (beside after ks))
+IsActedBeside act before answer after = IsRowStepBeside true (Some act) before answer after
 
 pub moving_beside : (act : Action) (h : Seating) → is_loose (s_id_of act) h.regions ≡ true → IsActedBeside act h (reply.Refused refusal.Moving) h
 moving_beside act h loose = λ ks later. moving_step act (store_in (beside h ks)) (store_in (beside h ks)) (reply.Refused refusal.Moving) loose refl refl

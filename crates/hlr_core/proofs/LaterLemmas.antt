@@ -27,7 +27,7 @@ use Rattle.hlr_owners.proofs.OwnerLemmas.{owner_rows}
 use Rattle.hlr_owners.proofs.SeatLemmas.{owned}
 use Rattle.hlr_core.specs.Index.{number_pair, index_of, IsRegister}
 use Rattle.hlr_core.specs.Later.{IsLater, AreLater, IsBackWith, with_seats}
-use Rattle.hlr_core.specs.Numbers.{HasNoTwin}
+use Rattle.hlr_core.specs.Numbers.{HasNoTwin, bearer_id}
 use Rattle.hlr_core.specs.Session.{IsJobDone, IsJobOf, IsDoneAt}
 use Rattle.hlr_core.specs.Step.{given_number}
 use Rattle.hlr_core.specs.declared.event.Reply.{Reply}
@@ -183,6 +183,24 @@ number_same k (x ∷ xs) (y ∷ ys) same =
 pub number_later : (seats ks : List Seat) → AreLater seats ks → (s_id : ℕ)
     → option_map (λ (row : SubscriberRow). row.sub_nbr) (subscriber_at (book_in ks) s_id) ≡ option_map (λ (row : SubscriberRow). row.sub_nbr) (subscriber_at (book_in seats) s_id)
 number_later seats ks later s_id = number_same (key_of s_id 0 0) (book_in seats).subscribers (book_in ks).subscribers (numbers_later seats ks later)
+
+-- the subscriber with a number is of the pairs alone
+bearer_same : (rows others : List SubscriberRow) (n : ℕ) → map number_pair others ≡ map number_pair rows → bearer_id others n ≡ bearer_id rows n
+bearer_same [] [] n same = refl
+bearer_same [] (y ∷ ys) n same = absurd cc
+bearer_same (x ∷ xs) [] n same = absurd cc
+bearer_same (x ∷ xs) (y ∷ ys) n same =
+    let pair : number_pair y ≡ number_pair x = cc in
+    let number : y.sub_nbr ≡ x.sub_nbr = ap (λ (one : ℕ × ℕ). one.0) pair in
+    let bearer : y.s_id ≡ x.s_id = ap (λ (one : ℕ × ℕ). one.1) pair in
+    let tail : map number_pair ys ≡ map number_pair xs = cc in
+    let rest = bearer_same xs ys n tail in
+    by_test (x.sub_nbr == n)
+    (λ e. rw (number, e) (ap Some bearer))
+    (λ e. rw (number, e) rest)
+
+pub bearer_later : (seats ks : List Seat) → AreLater seats ks → (n : ℕ) → bearer_id (book_in ks).subscribers n ≡ bearer_id (book_in seats).subscribers n
+bearer_later seats ks later n = bearer_same (book_in seats).subscribers (book_in ks).subscribers n (numbers_later seats ks later)
 
 -- the index, and that no number stands twice, are of the pairs alone
 index_same : (rows others : List SubscriberRow) → map number_pair others ≡ map number_pair rows → index_of others ≡ index_of rows

@@ -6,7 +6,6 @@ use Rattle.std.proofs.lemmas.List.{length-map}
 use Rattle.std.proofs.lemmas.Option.{slice_get_past, get_or_from_slice_get}
 use Rattle.atomic_table.specs.Seated.{TableId}
 use Rattle.tatp_rows.proofs.OrderedLemmas.{by_test}
-use Rattle.tatp_rows.specs.Rows.{SubscriberRow}
 use Rattle.tatp_rows.specs.declared.refusal.Refusal.{Refusal}
 use Rattle.tatp_rows.specs.declared.refusal.Refusal.TheVariants as refusal
 use Rattle.tatp_actions.specs.Action.{is_in_range, s_id_of}
@@ -27,7 +26,6 @@ use Rattle.hlr_owners.specs.declared.lodging.Seat.{Seat}
 use Rattle.hlr_owners.specs.declared.lodging.Seat.TheVariants.{Part}
 use Rattle.hlr_owners.proofs.LendLemmas.{desks_later}
 use Rattle.hlr_owners.proofs.PartLemmas.{at_number, count_parts, part_lodged}
-use Rattle.hlr_core.specs.Index.{number_pair}
 use Rattle.hlr_core.specs.Inside.Asked.{IsAsked}
 use Rattle.hlr_core.specs.Inside.Routed.{AsksFor, IsSendable}
 use Rattle.hlr_core.specs.Kept.{is_on_rows}
@@ -43,7 +41,7 @@ use Rattle.hlr_core.specs.declared.event.Event.TheVariants.{Post, Give, Take, Di
 use Rattle.hlr_core.specs.declared.event.Reply.{Reply}
 use Rattle.hlr_core.specs.declared.event.Reply.TheVariants as reply
 use Rattle.hlr_core.specs.declared.route.Route.TheVariants.{Now, To}
-use Rattle.hlr_core.proofs.LaterLemmas.{all_seated_later, each_seat, numbers_later}
+use Rattle.hlr_core.proofs.LaterLemmas.{all_seated_later, bearer_later, each_seat}
 use Rattle.hlr_core.proofs.SentLemmas.{acted_sent, posted_sent}
 
 -- an event that asks for an action asks so before its fields are tested
@@ -67,7 +65,7 @@ module _ (wanted : Result Action Refusal) where
   fits_err why asks = fitting_err asks.0 asks.1 why asks.3 ∙ sym asks.2
 
 -- a right step of what an event on rows asks for is one of the event
-step_asked : (event : Event) (before : Store) (answer : Reply) (after : Store) → is_on_rows event ≡ true → IsAskedStep (action_for event before.book) before answer after → IsStep event before answer after
+pub step_asked : (event : Event) (before : Store) (answer : Reply) (after : Store) → is_on_rows event ≡ true → IsAskedStep (action_for event before.book) before answer after → IsStep event before answer after
 step_asked (SubscriberData s_id) before answer after rows step = step
 step_asked (NewDestination s_id sf_type start_time end_time) before answer after rows step = step
 step_asked (AccessData s_id ai_type) before answer after rows step = step
@@ -86,22 +84,7 @@ step_asked (Take piece part) before answer after rows step = absurd cc
 step_asked (Divide part at) before answer after rows step = absurd cc
 step_asked (Dissolve part) before answer after rows step = absurd cc
 
--- the subscriber with a number is of the pairs alone
-bearer_same : (rows others : List SubscriberRow) (n : ℕ) → map number_pair others ≡ map number_pair rows → bearer_id others n ≡ bearer_id rows n
-bearer_same [] [] n same = refl
-bearer_same [] (y ∷ ys) n same = absurd cc
-bearer_same (x ∷ xs) [] n same = absurd cc
-bearer_same (x ∷ xs) (y ∷ ys) n same =
-    let pair : number_pair y ≡ number_pair x = cc in
-    let number : y.sub_nbr ≡ x.sub_nbr = ap (λ (one : ℕ × ℕ). one.0) pair in
-    let bearer : y.s_id ≡ x.s_id = ap (λ (one : ℕ × ℕ). one.1) pair in
-    let tail : map number_pair ys ≡ map number_pair xs = cc in
-    let rest = bearer_same xs ys n tail in
-    by_test (x.sub_nbr == n)
-    (λ e. rw (number, e) (ap Some bearer))
-    (λ e. rw (number, e) rest)
-
--- so is what an event asks for
+-- what an event asks for is of who has a number alone
 asked_same : (event : Event) (book other : Book) → ((n : ℕ) → bearer_id other.subscribers n ≡ bearer_id book.subscribers n) → action_for event other ≡ action_for event book
 asked_same (SubscriberData s_id) book other same = refl
 asked_same (NewDestination s_id sf_type start_time end_time) book other same = refl
@@ -150,8 +133,8 @@ part_low h are p i index =
 
 module _ (event : Event) (h : Seating) (rows : is_on_rows event ≡ true) where
   -- what an event asks for is what it asked for when it was routed
-  asks_later : (ks : List Seat) → AreLater h.seats ks → action_for event (book_in ks) ≡ action_for event (book_in h.seats)
-  asks_later ks later = asked_same event (book_in h.seats) (book_in ks) (λ n. bearer_same (book_in h.seats).subscribers (book_in ks).subscribers n (numbers_later h.seats ks later))
+  pub asks_later : (ks : List Seat) → AreLater h.seats ks → action_for event (book_in ks) ≡ action_for event (book_in h.seats)
+  asks_later ks later = asked_same event (book_in h.seats) (book_in ks) (bearer_later h.seats ks later)
 
   -- it is refused at once
   pub now_refused : (why : Refusal) → action_for event (book_in h.seats) ≡ Err why → IsRouted event h (Now (reply.Refused why))

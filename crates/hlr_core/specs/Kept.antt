@@ -63,3 +63,9 @@ IsSameAtHome orders before answers after =
     (base : Store) → pieces_of base.regions ≡ []
     → IsRun (kept_orders orders answers) (record base { book = before }) (kept_answers orders answers)
     (record base { book = after })
+
+-- so it is with each right run, however it was made
+abbrev pub RunsAreSameAtHome : Type 0
+RunsAreSameAtHome =
+    (orders : List Order) (answers : List Answer) (before after : Store)
+    → IsRun orders before answers after → IsSameAtHome orders before.book answers after.book

@@ -22,7 +22,7 @@ mod transactions;
 mod weights;
 
 pub use event::{Event, Reply};
-pub use order::{Answer, Order};
+pub use order::{Answer, Order, no_reply_but_moving};
 pub use register::Register;
 pub use route::Route;
 

@@ -10,7 +10,6 @@ ghost use Rattle.hlr_core.specs.Kept.{IsSameAtHome};
 ghost use Rattle.hlr_owners.specs.Apart.{pieces_seated};
 ghost use Rattle.hlr_owners.specs.Boxed.{unboxed};
 ghost use Rattle.hlr_owners.specs.Recut.{IsHomeToCut, IsRecut};
-ghost use Rattle.hlr_core.specs.Route.{is_here};
 ghost use Rattle.hlr_core.specs.Run.{IsOrderStep, IsRun};
 ghost use Rattle.hlr_core.specs.Gather.{IsRefusedWhole};
 ghost use Rattle.hlr_core.specs.Home.{IsHomeTo, IsHouseAfter, IsLaterDesk, IsSameHouse};
@@ -201,14 +200,13 @@ impl Register {
         }
     }
 
-    /// Applies an event, and replies to it. A refusal changes nothing; after `Worn` the cells posted before stand. An
-    /// event that gives a number, moves regions, or has a part come or go is right whatever jobs have done to the
-    /// holdings that are out.
+    /// Applies an event, and replies to it. A refusal changes nothing; after `Worn` the cells posted before stand. It is
+    /// right whatever jobs have done to the holdings that are out.
     pub fn apply(&mut self, event: Event) -> Reply
         requires { IsHomeTo event self.old }
         ensures step { IsStep event (store_in self.old) result (store_in self.new) }
         ensures house { IsHouseAfter event result self.old self.new }
-        ensures beside { is_here event ≡ true → IsStepBeside event self.old result self.new }
+        ensures beside { IsStepBeside event self.old result self.new }
     {
         match event {
             Event::SubscriberData { s_id } => row_reply(self.lend_subscriber(s_id)),
@@ -242,7 +240,7 @@ impl Register {
         requires home { IsHomeTo event self.old }
         ensures step { IsStep event (store_in self.old) (edited_reply result) (store_in self.new) }
         ensures house { IsSameHouse self.old self.new }
-        ensures beside { is_here event ≡ true → IsStepBeside event self.old (edited_reply result) self.new }
+        ensures beside { IsStepBeside event self.old (edited_reply result) self.new }
     {
         match event {
             Event::UpdateSubscriber {
@@ -418,6 +416,7 @@ impl Register {
         requires { IsPartHome part self.old }
         ensures step { IsStep (Event.Post part limit) (store_in self.old) result (store_in self.new) }
         ensures house { IsSameHouse self.old self.new }
+        ensures beside { IsStepBeside (Event.Post part limit) self.old result self.new }
     {
         Reply::of_posting(self.seats.post(part, limit))
     }

@@ -1,9 +1,10 @@
 //! The events on rows, as calls of their own: a read lends its row, and a change goes down to its row with no event,
 //! action or reply made of it. Each refuses a field that is out of its range by `Field`, before it asks a row, and
-//! answers `Moving` where the subscriber lies in a loose piece.
-ghost use Rattle.std.specs.Prelude.{◌≡◌, ◌+◌, ℕ, Some, IfOk, IfErr, Bool, Option};
+//! answers `Moving` where the subscriber lies in a loose piece. Each is right whatever jobs have done to the holdings that
+//! are out.
+ghost use Rattle.std.specs.Prelude.{◌≡◌, ◌+◌, ℕ, Some, IfOk, IfErr, MatchResult, Bool, Option};
 ghost use Rattle.tatp_rows.specs.declared.ranges.TheConstants.{LAST_SUBSCRIBER};
-ghost use Rattle.hlr_core.specs.Inside.Asked.{IsAsked, IsRowAction, IsRowStep, action_asked};
+ghost use Rattle.hlr_core.specs.Inside.Asked.{IsAsked, IsRowAction, IsRowStep, IsRowStepBeside, action_asked};
 ghost use Rattle.hlr_core.specs.Step.{IsStep, edited_reply};
 ghost use Rattle.hlr_core.specs.declared.event.Event.TheVariants as event;
 ghost use Rattle.hlr_core.specs.declared.event.Reply.TheVariants as reply;
@@ -33,6 +34,7 @@ impl Register {
         requires { IsHomeTo (event.SubscriberData s_id) self.now }
         ensures row { IfOk result (λ row. IsStep (event.SubscriberData s_id) (store_in self.now) (reply.Rows (row_reply.Row row.now)) (store_in self.now)) }
         ensures refused { IfErr result (λ why. IsStep (event.SubscriberData s_id) (store_in self.now) (reply.Refused why) (store_in self.now)) }
+        ensures beside { MatchResult result (λ row. IsStepBeside (event.SubscriberData s_id) self.now (reply.Rows (row_reply.Row row.now)) self.now) (λ why. IsStepBeside (event.SubscriberData s_id) self.now (reply.Refused why) self.now) }
     {
         let s_id = in_range(s_id, LAST_SUBSCRIBER)?;
         self.seats.lend_subscriber(s_id)
@@ -45,6 +47,7 @@ impl Register {
         ensures row { IfOk result (λ row. IsStep (event.AccessData s_id ai_type) (store_in self.now)
             (reply.Rows (row_reply.AccessRow row.now.data1 row.now.data2 row.now.data3 row.now.data4)) (store_in self.now)) }
         ensures refused { IfErr result (λ why. IsStep (event.AccessData s_id ai_type) (store_in self.now) (reply.Refused why) (store_in self.now)) }
+        ensures beside { MatchResult result (λ row. IsStepBeside (event.AccessData s_id ai_type) self.now (reply.Rows (row_reply.AccessRow row.now.data1 row.now.data2 row.now.data3 row.now.data4)) self.now) (λ why. IsStepBeside (event.AccessData s_id ai_type) self.now (reply.Refused why) self.now) }
     {
         let s_id = in_range(s_id, LAST_SUBSCRIBER)?;
         let ai_type = byte_in_range(ai_type, 4)?;
@@ -64,6 +67,7 @@ impl Register {
         requires { IsHomeTo (event.NewDestination s_id sf_type start_time end_time) self.now }
         ensures numbers { IfOk result (λ numbers. IsStep (event.NewDestination s_id sf_type start_time end_time) (store_in self.now) (reply.Rows (row_reply.Numbers numbers)) (store_in self.now)) }
         ensures refused { IfErr result (λ why. IsStep (event.NewDestination s_id sf_type start_time end_time) (store_in self.now) (reply.Refused why) (store_in self.now)) }
+        ensures beside { MatchResult result (λ numbers. IsStepBeside (event.NewDestination s_id sf_type start_time end_time) self.now (reply.Rows (row_reply.Numbers numbers)) self.now) (λ why. IsStepBeside (event.NewDestination s_id sf_type start_time end_time) self.now (reply.Refused why) self.now) }
     {
         let s_id = in_range(s_id, LAST_SUBSCRIBER)?;
         let sf_type = byte_in_range(sf_type, 4)?;
@@ -87,6 +91,7 @@ impl Register {
         requires { IsHomeTo (event.UpdateSubscriber s_id sf_type bit_1 data_a) self.old }
         ensures step { IsStep (event.UpdateSubscriber s_id sf_type bit_1 data_a) (store_in self.old) (edited_reply result) (store_in self.new) }
         ensures house { IsSameHouse self.old self.new }
+        ensures beside { IsStepBeside (event.UpdateSubscriber s_id sf_type bit_1 data_a) self.old (edited_reply result) self.new }
     {
         self.edit(checked::update_subscriber(s_id, sf_type, bit_1, data_a))
     }
@@ -97,6 +102,7 @@ impl Register {
         requires { IsHomeTo (event.UpdateLocation sub_nbr vlr_location) self.old }
         ensures step { IsStep (event.UpdateLocation sub_nbr vlr_location) (store_in self.old) (edited_reply result) (store_in self.new) }
         ensures house { IsSameHouse self.old self.new }
+        ensures beside { IsStepBeside (event.UpdateLocation sub_nbr vlr_location) self.old (edited_reply result) self.new }
     {
         let bearer_id = self.bearer(sub_nbr);
         self.edit(checked::update_location(bearer_id, vlr_location))
@@ -116,6 +122,7 @@ impl Register {
         requires { IsHomeTo (event.InsertForwarding sub_nbr sf_type start_time end_time numberx) self.old }
         ensures step { IsStep (event.InsertForwarding sub_nbr sf_type start_time end_time numberx) (store_in self.old) (edited_reply result) (store_in self.new) }
         ensures house { IsSameHouse self.old self.new }
+        ensures beside { IsStepBeside (event.InsertForwarding sub_nbr sf_type start_time end_time numberx) self.old (edited_reply result) self.new }
     {
         let bearer_id = self.bearer(sub_nbr);
         self.edit(checked::insert_forwarding(bearer_id, sf_type, start_time, end_time, numberx))
@@ -132,6 +139,7 @@ impl Register {
         requires { IsHomeTo (event.DeleteForwarding sub_nbr sf_type start_time) self.old }
         ensures step { IsStep (event.DeleteForwarding sub_nbr sf_type start_time) (store_in self.old) (edited_reply result) (store_in self.new) }
         ensures house { IsSameHouse self.old self.new }
+        ensures beside { IsStepBeside (event.DeleteForwarding sub_nbr sf_type start_time) self.old (edited_reply result) self.new }
     {
         let bearer_id = self.bearer(sub_nbr);
         self.edit(checked::delete_forwarding(bearer_id, sf_type, start_time))
@@ -142,6 +150,7 @@ impl Register {
         requires { IsHomeTo (event.AddAccess row) self.old }
         ensures step { IsStep (event.AddAccess row) (store_in self.old) (edited_reply result) (store_in self.new) }
         ensures house { IsSameHouse self.old self.new }
+        ensures beside { IsStepBeside (event.AddAccess row) self.old (edited_reply result) self.new }
     {
         self.edit(checked::add_access(row))
     }
@@ -151,6 +160,7 @@ impl Register {
         requires { IsHomeTo (event.AddFacility row) self.old }
         ensures step { IsStep (event.AddFacility row) (store_in self.old) (edited_reply result) (store_in self.new) }
         ensures house { IsSameHouse self.old self.new }
+        ensures beside { IsStepBeside (event.AddFacility row) self.old (edited_reply result) self.new }
     {
         self.edit(checked::add_facility(row))
     }
@@ -161,6 +171,7 @@ impl Register {
         requires { IsHomeTo (event.SetActive s_id sf_type is_active) self.old }
         ensures step { IsStep (event.SetActive s_id sf_type is_active) (store_in self.old) (edited_reply result) (store_in self.new) }
         ensures house { IsSameHouse self.old self.new }
+        ensures beside { IsStepBeside (event.SetActive s_id sf_type is_active) self.old (edited_reply result) self.new }
     {
         self.edit(checked::set_active(s_id, sf_type, is_active))
     }
@@ -226,6 +237,7 @@ impl Register {
         requires home { IfOk asked (λ edit. IsHomeFor (s_id_of (E.action edit)) self.old) }
         ensures house { IsSameHouse self.old self.new }
         ensures step { (fits : Bool) (wanted : Option Action) → IsAsked fits wanted (action_asked E.action asked) → IsRowStep fits wanted (store_in self.old) (edited_reply result) (store_in self.new) }
+        ensures beside { (fits : Bool) (wanted : Option Action) → IsAsked fits wanted (action_asked E.action asked) → IsRowStepBeside fits wanted self.old (edited_reply result) self.new }
     {
         let edit = asked?;
         self.seats.edit(edit)

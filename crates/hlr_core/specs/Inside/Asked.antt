@@ -1,12 +1,17 @@
 -- What an event on rows asks for, once its plain numbers are checked.
-use Rattle.std.specs.Prelude.{⊤, ◌≡◌, ◌+◌, Bool, true, false, Option, Some, None, Result, Ok, Err}
+use Rattle.std.specs.Prelude.{⊤, ◌≡◌, ◌+◌, Bool, true, false, List, Option, Some, None, Result, Ok, Err}
 use Rattle.tatp_rows.specs.declared.refusal.Refusal.{Refusal}
 use Rattle.tatp_rows.specs.declared.refusal.Refusal.TheVariants as refusal
 use Rattle.tatp_rows.specs.declared.ranges.TheConstants.{LAST_SUBSCRIBER}
 use Rattle.tatp_actions.specs.Action.{is_in_range, s_id_of}
 use Rattle.tatp_actions.specs.Book.{IsWithin}
 use Rattle.tatp_actions.specs.declared.action.Action.{Action}
+use Rattle.holding.specs.Held.{HoldingState}
+use Rattle.hlr_owners.specs.Out.{with_outs}
+use Rattle.hlr_owners.specs.Seats.{Seating, store_in}
 use Rattle.hlr_owners.specs.Store.{Store}
+use Rattle.hlr_core.specs.Beside.{beside}
+use Rattle.hlr_core.specs.Later.{AreLater}
 use Rattle.hlr_core.specs.Step.{IsAskedStep, checked, given_number}
 use Rattle.hlr_core.specs.declared.event.Event.{Event}
 use Rattle.hlr_core.specs.declared.event.Event.TheVariants as event
@@ -43,6 +48,12 @@ IsAskedAlone act = IsAsked (is_in_range act) (Some act)
 -- a right step of an event whose fields are in range or not, and that wants an action or finds no subscriber
 abbrev pub IsRowStep : Bool → Option Action → Store → Reply → Store → Type 0
 IsRowStep fits wanted before answer after = IsAskedStep (checked fits wanted) before answer after
+
+-- the same, whatever jobs have done to the holdings that are out
+abbrev pub IsRowStepBeside : Bool → Option Action → Seating → Reply → Seating → Type 0
+IsRowStepBeside fits wanted before answer after =
+    (holdings : List HoldingState) → AreLater before.seats (with_outs before.seats holdings)
+    → IsRowStep fits wanted (store_in (beside before holdings)) answer (store_in (beside after holdings))
 
 -- a right step of an event that names its subscriber
 abbrev pub IsActionStep : Action → Store → Reply → Store → Type 0
