@@ -1,6 +1,6 @@
 -- Where an event goes: what it asks for, and what may be answered to it at once, are the same whatever jobs are done.
 use Rattle.std.proofs.Common.{◌≡◌, ◌∙◌, refl, sym, ap, ℕ, ◌<◌, ◌≤◌, arith, List, [], ◌∷◌, length, map, Bool, true, false, Option, Some, None, Result, Ok, Err}
-use Rattle.std.specs.Prelude.{position, ◌==◌}
+use Rattle.std.specs.Prelude.{position}
 use Rattle.std.specs.List.{list_any}
 use Rattle.std.proofs.lemmas.List.{length-map}
 use Rattle.std.proofs.lemmas.Option.{slice_get_past, get_or_from_slice_get}

@@ -40,7 +40,7 @@ use Rattle.hlr_core.specs.Step.{IsStep}
 use Rattle.hlr_core.specs.declared.event.Event.{Event}
 use Rattle.hlr_core.specs.declared.event.Reply.{Reply}
 use Rattle.hlr_core.proofs.LaterLemmas.{all_later_after, all_later_self, all_seated_later, put_later}
-use Rattle.hlr_workers.specs.Inside.{AllNumberless, AreIdle, Crewed, IsBehind, IsHomeAgain, IsKept, IsOut, IsParted, IsSentTo, NoneOut, Parting, engaged, land, parted, parting_of}
+use Rattle.hlr_workers.specs.Inside.{AllNumberless, AreIdle, Crewed, IsBehind, IsHomeAgain, IsKept, IsOut, IsCrewParted, IsSentTo, NoneOut, Parting, engaged, land, parted, parting_of}
 use Rattle.hlr_workers.specs.Relay.{nothing}
 use Rattle.hlr_workers.specs.Session.{AreNumberless}
 use Rattle.hlr_workers.specs.Standing.{AreEnds, Cut, IsAsBefore, IsSettled, Stands, Took, TookNext, answers_by, answers_with, orders_of, store_at}
@@ -112,7 +112,7 @@ module _ (crew : Crewed) (replies : List (ℕ × Reply)) (kept : IsKept crew rep
     }
 
   -- the register itself did an event
-  module _ (after : Crewed) (told : Parting) (is : IsParted told crew after) where
+  module _ (after : Crewed) (told : Parting) (is : IsCrewParted told crew after) where
     pub here_took : (event : Event) (r : Reply) → IsStepBeside event crew.house r after.house → TookNext (Took event) (engaged crew replies) (engaged after (replies ++ (length replies, r) ∷ []))
     here_took event r right = λ start asked stands.
         rw (is.jobs, is.outs)
@@ -517,7 +517,7 @@ sides_next outs moves k move there is each i d low = elim (cases_lt i k) [
 
 -- the register itself did an event, after the parts came home that work on it
 pub here_after : (crew : Crewed) (replies : List (ℕ × Reply)) (mid : Crewed) (landed : List (ℕ × Reply)) → IsKept mid landed → IsAsBefore (engaged crew replies) (engaged mid landed)
-    → length landed ≡ length replies → (now : Crewed) (r : Reply) → IsParted (parting_of r) mid now → (event : Event) → IsStepBeside event mid.house r now.house
+    → length landed ≡ length replies → (now : Crewed) (r : Reply) → IsCrewParted (parting_of r) mid now → (event : Event) → IsStepBeside event mid.house r now.house
     → IsKept now (landed ++ (length replies, r) ∷ []) × TookNext (Took event) (engaged crew replies) (engaged now (landed ++ (length replies, r) ∷ []))
 here_after crew replies mid landed kept stands places now r is event step =
     subst (λ (n : ℕ). IsKept now (landed ++ (n, r) ∷ []) × TookNext (Took event) (engaged crew replies) (engaged now (landed ++ (n, r) ∷ []))) places (

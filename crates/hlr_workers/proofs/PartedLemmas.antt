@@ -33,7 +33,7 @@ use Rattle.hlr_core.specs.declared.event.Event.TheVariants.{SubscriberData, NewD
 use Rattle.hlr_core.specs.declared.event.Event.TheVariants.{AddSubscriber, AddAccess, AddFacility, SetActive, SetNumber, Post, Give, Take, Divide, Dissolve}
 use Rattle.hlr_core.specs.declared.event.Reply.{Reply}
 use Rattle.hlr_workers.specs.Finish.{Sent}
-use Rattle.hlr_workers.specs.Inside.{Crewed, HasWorker, IsBehind, IsParted, IsPlace, New, Parting, Same, jobs_at, parted, parting_of}
+use Rattle.hlr_workers.specs.Inside.{Crewed, HasWorker, IsBehind, IsCrewParted, IsPlace, New, Parting, Same, jobs_at, parted, parting_of}
 use Rattle.hlr_workers.specs.Standing.{changes_parts}
 use Rattle.hlr_workers.proofs.CrewLemmas.{as_parts, idle_parts, out_is, outs_home}
 use Rattle.hlr_workers.proofs.HouseLemmas.{part_at}
@@ -206,7 +206,7 @@ module _ (h : Seating) (are : AreSeated h) (g : Seating) where
 pub record IsApplied (old : Crewed) (g : Seating) (ws : List (Option Sent)) (told : Parting) : Type 0 where
   pub room : IsPlace told (length ws)
   pub each : AllZip HasWorker (outs_in g.seats) (parted told None ws)
-  pub now : IsParted told old (record { house = g; jobs = map jobs_at (parted told None ws) })
+  pub now : IsCrewParted told old (record { house = g; jobs = map jobs_at (parted told None ws) })
 
 crew_applied : (h : Seating) (ws : List (Option Sent)) → AllZip HasWorker (outs_in h.seats) ws → (told : Parting) (g : Seating) → IsHouseParted told h g
     → IsApplied (record { house = h; jobs = map jobs_at ws }) g ws told

@@ -133,7 +133,7 @@ IsBehind (New part) q = part ≤ q
 IsBehind (Gone part) q = part ≤ q
 
 -- a crew after it: a new part is at home, as the one that is gone was, and all the parts behind it were
-pub record IsParted (told : Parting) (before after : Crewed) : Type 0 where
+pub record IsCrewParted (told : Parting) (before after : Crewed) : Type 0 where
   pub outs : outs_in after.house.seats ≡ parted told None (outs_in before.house.seats)
   pub jobs : after.jobs ≡ parted told [] before.jobs
   pub place : IsPlace told (length (outs_in before.house.seats))

@@ -9,9 +9,8 @@ ghost use Rattle.hlr_owners.specs.Seats.{AllHome, AreSeated, homes_in, store_in}
 ghost use Rattle.hlr_owners.specs.Sight.{IsSightOf};
 ghost use Rattle.hlr_core.specs.Beside.{IsRecutBeside, IsStepBeside};
 ghost use Rattle.hlr_core.specs.Home.{IsHomeTo, IsLaterDesk, IsSameHouse};
-ghost use Rattle.hlr_core.specs.Route.{is_here};
 ghost use Rattle.hlr_core.specs.Session.{IsJobOf, IsWithinJob};
-ghost use Rattle.hlr_workers.specs.Inside.{AreIdle, IsHomeAgain, IsOut, IsParted, IsPlace, IsSentTo, is_sent_more, parted, parting_of};
+ghost use Rattle.hlr_workers.specs.Inside.{AreIdle, IsHomeAgain, IsOut, IsCrewParted, IsPlace, IsSentTo, NoneOut, is_sent_more, parted, parting_of};
 ghost use Rattle.hlr_workers.specs.Standing.{changes_parts};
 ghost use Rattle.hlr_workers.specs.declared.work.TheConstants.{MOST_PENDING};
 
@@ -129,6 +128,7 @@ impl Crew {
 
     /// The register, once all parts are at home.
     pub(crate) fn into_register(self) -> Register
+        requires { NoneOut self }
         ensures { result ≡ self.house }
     {
         let Crew {
@@ -212,13 +212,11 @@ impl Crew {
         Some(answers)
     }
 
-    /// Has the register do an event that gives a number, moves regions, or has a part come or go; the parts that it
-    /// works on are at home. The workers stay with their parts.
+    /// Has the register do an event; the parts that it works on are at home. The workers stay with their parts.
     pub(crate) fn apply(&mut self, event: Event) -> Reply
-        requires here { is_here event ≡ true }
-        requires home { IsHomeTo event self.old.house }
+        requires { IsHomeTo event self.old.house }
         ensures step { IsStepBeside event self.old.house result self.new.house }
-        ensures parted { IsParted (parting_of result) self.old self.new }
+        ensures parted { IsCrewParted (parting_of result) self.old self.new }
         ensures spare { changes_parts event ≡ false → self.new.house.spare ≡ self.old.house.spare }
         ensures desk { IsLaterDesk self.old.house.spare self.new.house.spare }
     {

@@ -190,7 +190,7 @@ fn part_of(register: &Register, event: &Event) -> Option<u8>
 }
 
 /// Brings the part home that works on an event which gives a number or moves regions.
-fn bring_worker_home<R: Threads + Wait>(
+fn bring_one_home<R: Threads + Wait>(
     rt: &R,
     crew: &mut Crew,
     replies: &mut Vec<(u64, Reply)>,
@@ -234,7 +234,7 @@ fn bring_workers_home<R: Threads + Wait>(
     match *event {
         Event::Divide { part, .. } => bring_home_from(rt, crew, replies, part),
         Event::Dissolve { part } => bring_home_from(rt, crew, replies, part.saturating_sub(1)),
-        _ => bring_worker_home(rt, crew, replies, event),
+        _ => bring_one_home(rt, crew, replies, event),
     }
 }
 

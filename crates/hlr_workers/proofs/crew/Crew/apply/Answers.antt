@@ -5,19 +5,19 @@ use Rattle.hlr_workers.proofs.crew.Crew.apply.Goals as goal
 pub part_workers-requires : goal.part_workers-requires
 part_workers-requires c =
     let did = c.apply-reply in
-    (applied c.args.self.now c.self.inside.register c.self.inside.workers.items c.self.view_is c.board-board.ensures.seated c.self.invariant c.args.event did.result did.new.self c.requires.home did.ensures.step did.ensures.house).room
+    (applied c.args.self.now c.self.inside.register c.self.inside.workers.items c.self.view_is c.board-board.ensures.seated c.self.invariant c.args.event did.result did.new.self c.requires did.ensures.step did.ensures.house).room
 
 pub invariant_of-self : goal.invariant_of-self
 invariant_of-self c =
     let did = c.apply-reply in
     rw c.part_workers.ensures
-    (applied c.args.self.now c.self.inside.register c.self.inside.workers.items c.self.view_is c.board-board.ensures.seated c.self.invariant c.args.event did.result did.new.self c.requires.home did.ensures.step did.ensures.house).each
+    (applied c.args.self.now c.self.inside.register c.self.inside.workers.items c.self.view_is c.board-board.ensures.seated c.self.invariant c.args.event did.result did.new.self c.requires did.ensures.step did.ensures.house).each
 
 pub returns-clause-parted : goal.returns-clause-parted
 returns-clause-parted c =
     let did = c.apply-reply in
     rw c.part_workers.ensures
-    (applied c.args.self.now c.self.inside.register c.self.inside.workers.items c.self.view_is c.board-board.ensures.seated c.self.invariant c.args.event did.result did.new.self c.requires.home did.ensures.step did.ensures.house).now
+    (applied c.args.self.now c.self.inside.register c.self.inside.workers.items c.self.view_is c.board-board.ensures.seated c.self.invariant c.args.event did.result did.new.self c.requires did.ensures.step did.ensures.house).now
 
 pub returns-clause-spare : goal.returns-clause-spare
 returns-clause-spare c =

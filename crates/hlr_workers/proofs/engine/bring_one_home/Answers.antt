@@ -2,7 +2,7 @@ use Rattle.std.proofs.Common.{◌≡◌, ◌∙◌, sym, ap, get_or, None}
 use Rattle.hlr_owners.specs.Out.{outs_in}
 use Rattle.hlr_owners.specs.Seats.{Seating}
 use Rattle.hlr_workers.proofs.EngineLemmas.{none_put, part_home}
-use Rattle.hlr_workers.proofs.engine.bring_worker_home.Goals as goal
+use Rattle.hlr_workers.proofs.engine.bring_one_home.Goals as goal
 
 pub returns-clause-home : goal.returns-clause-home
 returns-clause-home g c =
