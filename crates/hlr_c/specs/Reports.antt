@@ -3,7 +3,7 @@ use Rattle.std.specs.Prelude.{◌≡◌, ℕ, ◌<◌, List, length, map, take, 
 use Rattle.tatp_actions.specs.Cell.{cell}
 use Rattle.tatp_actions.specs.declared.cells.TheConstants.{CELLS}
 use Rattle.part_table.specs.Proposal.{proposal}
-use Rattle.hlr_owners.specs.Seats.{Seating, book_in, store_in}
+use Rattle.hlr_owners.specs.Seats.{Seating, book_in, store_in, unposted}
 use Rattle.hlr_owners.specs.Store.{parts_in, published, unpublished}
 use Rattle.hlr_core.specs.Weights.{published_weights}
 use Rattle.hlr_c.specs.declared.codes.TheConstants.{DONE}
@@ -17,10 +17,11 @@ pub record IsReport {X : Type 0} (Tells : X → Type 0) (before : Seating) (answ
   pub code : answer.0 ≡ DONE
   pub told : Tells answer.1
 
--- each cell as published, and what isn't published of it
+-- each cell as published; and what is pending of it in all owners, which is what isn't published of it
 pub record AreViews (register : Seating) (views : List ℤ × List ℤ) : Type 0 where
   pub published : (c : ℕ) → c < CELLS → slice_index_or views.0 c (pos 0) ≡ published (store_in register) c
-  pub unposted : (c : ℕ) → c < CELLS → slice_index_or views.1 c (pos 0) ≡ unpublished (store_in register) c
+  pub pending : (c : ℕ) → c < CELLS → slice_index_or views.1 c (pos 0) ≡ unposted register.seats c
+  pub difference : (c : ℕ) → c < CELLS → slice_index_or views.1 c (pos 0) ≡ unpublished (store_in register) c
 
 -- each cell counted over the rows
 abbrev pub AreCounts : Seating → List ℕ → Type 0
