@@ -6,16 +6,19 @@
  *
  * Each call answers a code: HLR_DONE, or why it was refused. A refusal changes nothing, but for two that say so
  * (hlr_post, hlr_recut). What a call writes by reference it writes where it answers HLR_DONE, and else it leaves that
- * as it was. Refusals are listed in their order: of several that apply, the first one is answered. Each call but
- * hlr_open first answers HLR_NOT_OPEN where the handle isn't open, so that isn't said again.
+ * as it was. The last line on a call lists its refusals, by their codes' names without HLR_, in their order: of several
+ * that apply, the first one is answered. Each call but hlr_open first answers HLR_NOT_OPEN where the handle isn't open,
+ * so that isn't said again.
  *
  * All numbers are checked, whatever is handed in; they are 64 bits wide, so that nothing is cut off on the way. Letters
  * are ASCII codes, and have no 0 behind them.
  *
  * What C owes, since no prover sees it:
- *   - A handle is filled with zeros (HLR_CLOSED) before its first call. From then on only these calls write to it, and
- *     it isn't copied: two copies of an open handle would have one register. A handle that was never filled may be
- *     anything, and then so may the calls.
+ *   - A handle is filled with zeros (HLR_CLOSED) before its first call. From then on only these calls write to it. A
+ *     handle that was never filled may be anything, and then so may the calls.
+ *   - An open handle may be moved as its bytes (as realloc moves an array of handles), if the old place isn't used as a
+ *     handle again before it is filled with zeros. Two copies that are both used would have one register, which is gone
+ *     under one of them once the other one is closed.
  *   - An open handle is closed once, or its memory is never given back.
  *   - One call at a time works on a handle. It may go from thread to thread, where a lock, a thread's start or join, or
  *     an atomic step in one order for all (memory_order_seq_cst) stands between two calls.
@@ -23,6 +26,10 @@
  *     by = {0}); the things that one call is passed don't overlap.
  *   - malloc, realloc and free are those of one allocator, and align a block to each power of two up to 16 that divides
  *     its size. No call is made from a signal handler, or in the forked child of a process with threads.
+ *   - A call needs at most 64 KB of stack.
+ *   - The processor has what x86-64-v2 asks for, SSE4.2 and POPCNT. No call tests that, and without it a call may end
+ *     the process by an illegal instruction. In gcc and clang __builtin_cpu_supports("sse4.2") tells it.
+ *     `rt lib --cpu x86-64` builds a library for every x86-64.
  *
  * Link libhlr_c.a and then liblibc_c.a of the kit, which has what the library asks of malloc and free.
  */
@@ -136,116 +143,158 @@ typedef struct {
 
 /*
  * Opens an empty register in a closed handle. parts, 1..=16, share its subscribers, which lie in 32 zones of width
- * subscribers each, 1..=524288; the last zone has all that are left.
- * HLR_STILL_OPEN, HLR_FIELD, HLR_MEMORY; after the last two the handle is closed.
+ * subscribers each, 1..=524288; the last zone has all that are left. After HLR_FIELD and HLR_MEMORY the handle is
+ * closed.
+ * Refusals: STILL_OPEN, FIELD, MEMORY
  */
 uint8_t hlr_open(uint64_t parts, uint64_t width, hlr *handle);
 
-/* Closes a handle, and gives back all memory of its register. */
+/*
+ * Closes a handle, and gives back all memory of its register.
+ * Refusals: none
+ */
 uint8_t hlr_close(hlr *handle);
 
-/* GET_SUBSCRIBER_DATA: reads a row. HLR_FIELD, HLR_MOVING, HLR_NO_SUBSCRIBER. */
+/*
+ * GET_SUBSCRIBER_DATA: reads a row.
+ * Refusals: FIELD, MOVING, NO_SUBSCRIBER
+ */
 uint8_t hlr_subscriber_data(hlr *handle, uint64_t s_id, hlr_subscriber *row);
 
 /*
  * GET_NEW_DESTINATION: the numbers that an active facility forwards to, of its forwardings that start by start_time and
- * end after end_time, by their start. HLR_FIELD, HLR_MOVING, HLR_NO_DESTINATION.
+ * end after end_time, by their start.
+ * Refusals: FIELD, MOVING, NO_DESTINATION
  */
 uint8_t hlr_new_destination(hlr *handle, uint64_t s_id, uint64_t sf_type, uint64_t start_time, uint64_t end_time,
                             hlr_numbers *numbers);
 
-/* GET_ACCESS_DATA: reads a row. HLR_FIELD, HLR_MOVING, HLR_NO_ACCESS. */
+/*
+ * GET_ACCESS_DATA: reads a row.
+ * Refusals: FIELD, MOVING, NO_ACCESS
+ */
 uint8_t hlr_access_data(hlr *handle, uint64_t s_id, uint64_t ai_type, hlr_access *row);
 
 /*
  * UPDATE_SUBSCRIBER_DATA: sets bit_1, 0 or 1, of the subscriber and data_a, 0..=255, of the facility, or neither.
- * HLR_FIELD, HLR_MOVING, HLR_NO_SUBSCRIBER, HLR_NO_FACILITY.
+ * Refusals: FIELD, MOVING, NO_SUBSCRIBER, NO_FACILITY
  */
 uint8_t hlr_update_subscriber(hlr *handle, uint64_t s_id, uint64_t sf_type, uint64_t bit_1, uint64_t data_a);
 
-/* UPDATE_LOCATION: moves the subscriber with a number. HLR_FIELD, HLR_NO_NUMBER, HLR_MOVING. */
+/*
+ * UPDATE_LOCATION: moves the subscriber with a number.
+ * Refusals: FIELD, NO_NUMBER, MOVING
+ */
 uint8_t hlr_update_location(hlr *handle, uint64_t sub_nbr, uint64_t vlr_location);
 
 /*
  * INSERT_CALL_FORWARDING: adds a forwarding of the subscriber with a number, to the number numberx.
- * HLR_FIELD, HLR_NO_NUMBER, HLR_MOVING, HLR_NO_FACILITY, HLR_EXISTS, HLR_MEMORY.
+ * Refusals: FIELD, NO_NUMBER, MOVING, NO_FACILITY, EXISTS, MEMORY
  */
 uint8_t hlr_insert_forwarding(hlr *handle, uint64_t sub_nbr, uint64_t sf_type, uint64_t start_time, uint64_t end_time,
                               uint64_t numberx);
 
-/* DELETE_CALL_FORWARDING: takes one away. HLR_FIELD, HLR_NO_NUMBER, HLR_MOVING, HLR_NO_FORWARDING. */
+/*
+ * DELETE_CALL_FORWARDING: takes a forwarding away from the subscriber with a number.
+ * Refusals: FIELD, NO_NUMBER, MOVING, NO_FORWARDING
+ */
 uint8_t hlr_delete_forwarding(hlr *handle, uint64_t sub_nbr, uint64_t sf_type, uint64_t start_time);
 
-/* Adds a row. HLR_FIELD, HLR_MOVING, HLR_EXISTS, HLR_NUMBER_TAKEN, HLR_MEMORY. */
+/*
+ * Adds a row.
+ * Refusals: FIELD, MOVING, EXISTS, NUMBER_TAKEN, MEMORY
+ */
 uint8_t hlr_add_subscriber(hlr *handle, const hlr_subscriber *row);
 
-/* Adds a row. HLR_FIELD, HLR_MOVING, HLR_NO_SUBSCRIBER, HLR_EXISTS, HLR_MEMORY. */
+/*
+ * Adds a row.
+ * Refusals: FIELD, MOVING, NO_SUBSCRIBER, EXISTS, MEMORY
+ */
 uint8_t hlr_add_access(hlr *handle, const hlr_access *row);
 
-/* Adds a row. HLR_FIELD, HLR_MOVING, HLR_NO_SUBSCRIBER, HLR_EXISTS, HLR_MEMORY. */
+/*
+ * Adds a row.
+ * Refusals: FIELD, MOVING, NO_SUBSCRIBER, EXISTS, MEMORY
+ */
 uint8_t hlr_add_facility(hlr *handle, const hlr_facility *row);
 
 /*
  * Switches a facility on or off (is_active 1 or 0), and with it all its forwardings.
- * HLR_FIELD, HLR_MOVING, HLR_NO_FACILITY.
+ * Refusals: FIELD, MOVING, NO_FACILITY
  */
 uint8_t hlr_set_active(hlr *handle, uint64_t s_id, uint64_t sf_type, uint64_t is_active);
 
 /*
  * Gives a subscriber another number; nothing changes where it is the one that stands.
- * HLR_FIELD, HLR_MOVING, HLR_NO_SUBSCRIBER, HLR_NUMBER_TAKEN, HLR_MEMORY.
+ * Refusals: FIELD, MOVING, NO_SUBSCRIBER, NUMBER_TAKEN, MEMORY
  */
 uint8_t hlr_set_number(hlr *handle, uint64_t s_id, uint64_t sub_nbr);
 
 /*
- * Posts the first limit cells of a part that aren't posted, in ascending order, and tells how many were.
- * HLR_NO_PART; HLR_WORN, after which the cells that were posted before stand.
+ * Posts the first limit cells of a part that aren't posted, in ascending order, and tells how many were. After HLR_WORN
+ * the cells that were posted before stand.
+ * Refusals: NO_PART, WORN
  */
 uint8_t hlr_post(hlr *handle, uint64_t part, uint64_t limit, uint64_t *posted);
 
-/* Each cell as published, and what isn't posted of it yet: they add up to the count over the rows now. No row is read. */
+/*
+ * Each cell as published, and what isn't posted of it yet: they add up to the count over the rows now. No row is read.
+ * Refusals: none
+ */
 uint8_t hlr_views(hlr *handle, int64_t published[HLR_CELLS], int64_t unposted[HLR_CELLS]);
 
-/* Each cell, counted anew by a walk over all rows. */
+/*
+ * Each cell, counted anew by a walk over all rows.
+ * Refusals: none
+ */
 uint8_t hlr_scan(hlr *handle, uint64_t counts[HLR_CELLS]);
 
 /*
  * A part gives away its subscribers below at (side 0) or from at on (side 1), as a loose piece with the least free
  * number; while it is loose, its subscribers are answered HLR_MOVING. Tells the piece.
- * HLR_FIELD, HLR_NO_PART, HLR_OUT_OF_RANGE, HLR_MANY_PIECES, HLR_MEMORY.
+ * Refusals: FIELD, NO_PART, OUT_OF_RANGE, MANY_PIECES, MEMORY
  */
-uint8_t hlr_give(hlr *handle, uint64_t part, uint64_t side, uint64_t at, hlr_region *piece);
+uint8_t hlr_give(hlr *handle, uint64_t part, uint64_t side, uint64_t at, hlr_region *given);
 
-/* A part takes a loose piece that touches it. HLR_NO_PIECE, HLR_NO_PART, HLR_NOT_ADJACENT, HLR_MEMORY. */
+/*
+ * A part takes a loose piece that touches it.
+ * Refusals: NO_PIECE, NO_PART, NOT_ADJACENT, MEMORY
+ */
 uint8_t hlr_take(hlr *handle, uint64_t piece, uint64_t part);
 
 /*
  * Divides a part at a subscriber: it keeps what is below at, and a new part with the next number has the rest, of which
  * nothing is published yet; later parts' numbers rise by one. Tells the new part.
- * HLR_NO_PART, HLR_OUT_OF_RANGE, HLR_MANY_PARTS, HLR_MEMORY.
+ * Refusals: NO_PART, OUT_OF_RANGE, MANY_PARTS, MEMORY
  */
 uint8_t hlr_divide(hlr *handle, uint64_t part, uint64_t at, hlr_region *made);
 
 /*
  * Dissolves a part: the part in front has its rows, what it had published is taken back, and later parts' numbers fall
- * by one. Tells the part in front as it is then.
- * HLR_NO_PART, HLR_NOT_ADJACENT (it is the first part, or a loose piece lies in front of it), HLR_MEMORY.
+ * by one. Tells the part in front as it is then. HLR_NOT_ADJACENT where it is the first part, or a loose piece lies in
+ * front of it.
+ * Refusals: NO_PART, NOT_ADJACENT, MEMORY
  */
 uint8_t hlr_dissolve(hlr *handle, uint64_t part, hlr_region *front);
 
-/* All regions, in order. */
+/*
+ * All regions, in order.
+ * Refusals: none
+ */
 uint8_t hlr_regions(hlr *handle, hlr_region_list *regions);
 
 /*
  * The bounds between zones that would give each part about its share of the rows, as they are published: post every
  * part first.
+ * Refusals: none
  */
 uint8_t hlr_propose(hlr *handle, hlr_bounds *bounds);
 
 /*
  * Moves the bounds between parts to these, and tells how many were moved. HLR_FIELD where they aren't strictly rising
- * ones in 2..=16777216, one less than there are parts; HLR_MOVING; HLR_MEMORY, after which the moves that were done
- * stand, and the piece of the next one may be loose.
+ * ones in 2..=16777216, one less than there are parts; HLR_MOVING where a piece is loose. After HLR_MEMORY the moves
+ * that were done stand, and the piece of the next one may be loose.
+ * Refusals: FIELD, MOVING, MEMORY
  */
 uint8_t hlr_recut(hlr *handle, const hlr_bounds *bounds, uint64_t *moved);
 

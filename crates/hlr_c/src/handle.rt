@@ -28,6 +28,9 @@ pub struct Hlr {
     ghost home: { IfSome kept.register (λ register. AllHome register.seats) } by { Prim.hlevel props },
 }
 
+// hlr.h declares it for C, where it has the same size.
+const _: () = prove!(size_of::<Hlr>() == 16);
+
 impl Hlr {
     /// A closed handle.
     pub fn closed() -> Hlr

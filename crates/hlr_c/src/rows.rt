@@ -174,3 +174,18 @@ pub struct HlrBounds {
     /// The bounds, in the first places.
     pub bounds: [u64; 15],
 }
+
+// hlr.h declares these for C, where they have the same sizes.
+const _: () = prove!(size_of::<HlrSubscriber>() == 64);
+
+const _: () = prove!(size_of::<HlrAccess>() == 40);
+
+const _: () = prove!(size_of::<HlrFacility>() == 48);
+
+const _: () = prove!(size_of::<HlrNumbers>() == 32);
+
+const _: () = prove!(size_of::<HlrRegion>() == 32);
+
+const _: () = prove!(size_of::<HlrRegions>() == 1032);
+
+const _: () = prove!(size_of::<HlrBounds>() == 128);

@@ -62,15 +62,15 @@ const NO_BOUNDS: HlrBounds = HlrBounds {
     bounds: [0; 15],
 };
 
-/// A Subscriber row.
+/// A Subscriber row. No two of its fields, and of the next rows' but their keys, are alike.
 fn row(s_id: u64, sub_nbr: u64, vlr_location: u64) -> HlrSubscriber {
     HlrSubscriber {
         s_id,
         sub_nbr,
-        bits: [1, 0, 1, 0, 1, 0, 1, 0, 1, 0],
-        hexes: [15, 0, 1, 2, 3, 4, 5, 6, 7, 8],
-        bytes: [255, 0, 1, 2, 3, 4, 5, 6, 7, 8],
-        msc_location: 9,
+        bits: [1, 0, 1, 1, 0, 0, 0, 1, 0, 1],
+        hexes: [15, 0, 14, 3, 9, 4, 7, 12, 6, 8],
+        bytes: [255, 0, 128, 16, 99, 200, 5, 64, 33, 254],
+        msc_location: 4_294_967_294,
         vlr_location,
     }
 }
@@ -83,7 +83,7 @@ fn access(s_id: u64, ai_type: u64, data1: u64) -> HlrAccess {
         data1,
         data2: 4,
         data3: *b"ABC",
-        data4: *b"ABCDE",
+        data4: *b"VWXYZ",
     }
 }
 
@@ -93,9 +93,9 @@ fn facility(s_id: u64, sf_type: u64, is_active: u64) -> HlrFacility {
         s_id,
         sf_type,
         is_active,
-        error_cntrl: 0,
-        data_a: 0,
-        data_b: *b"ABCDE",
+        error_cntrl: 203,
+        data_a: 14,
+        data_b: *b"FGHIJ",
     }
 }
 
@@ -172,7 +172,7 @@ fn changes(rt: HostRuntime) -> Result<(), Fail> {
     ];
     closed(&rt, alloc, handle);
     let want = HlrSubscriber {
-        bits: [0, 0, 1, 0, 1, 0, 1, 0, 1, 0],
+        bits: [0, 0, 1, 1, 0, 0, 0, 1, 0, 1],
         ..row(7, 78, 4_294_967_295)
     };
     assert_eq!(rt;

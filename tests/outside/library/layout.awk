@@ -1,0 +1,65 @@
+# What hlr.h has to agree with, as lines for layout.c: the layout of each struct that C is passed, each code, and how
+# many cells there are. Reads rows.rt, kept.rt, handle.rt and codes.rt of crates/hlr_c/src, refusal.rt of
+# crates/tatp_rows/src and cells.rt of crates/tatp_actions/src, in this order.
+#
+# The structs are `#[repr(C)]`, so they lie as C's: each field stands in the order of the source, at the next multiple
+# of its alignment, and the size is the next multiple of the greatest alignment. A ghost field has no place. What
+# `prove!` says of a size is the compiler's own word, and has its line too.
+BEGIN {
+  size["u8"] = align["u8"] = 1
+  size["u64"] = align["u64"] = size["*mut u8"] = align["*mut u8"] = 8
+  structs = split("Hlr HlrSubscriber HlrAccess HlrFacility HlrNumbers HlrRegion HlrRegions HlrBounds", list, " ")
+  for (i in list) name[list[i]] = snake(list[i])
+  name["HlrRegions"] = "hlr_region_list"
+}
+function snake(camel) { gsub(/[A-Z]/, "_&", camel); return tolower(substr(camel, 2)) }
+function next_multiple(at, of) { return int((at + of - 1) / of) * of }
+function unknown(what) { print "#error \"layout.awk finds no " what "\"" }
+
+/^#\[repr\(C\)\]/ { is_c = 1 }
+/^pub struct (Hlr|Kept)/ {
+  struct = $3; at = 0; most = 1
+  if (!is_c) unknown("repr(C) on " struct)
+  is_c = 0
+}
+struct && /^    (pub )?[a-z_0-9]+: .*,$/ {
+  sub(/^ *(pub )?/, ""); sub(/,$/, "")
+  field = type = $0
+  sub(/: .*/, "", field); sub(/^[a-z_0-9]+: /, "", type)
+  count = 1
+  if (type ~ /^\[/) {
+    count = type; sub(/.*; /, "", count); sub(/\]$/, "", count)
+    sub(/^\[/, "", type); sub(/; .*/, "", type)
+  }
+  if (!(type in size)) unknown("layout of " struct "." field)
+  else {
+    at = next_multiple(at, align[type])
+    if (struct in name) print "FIELD(" name[struct] ", " field ", " at ", " count * size[type] ")"
+    at += count * size[type]
+    if (align[type] > most) most = align[type]
+  }
+}
+struct && /^}/ {
+  size[struct] = next_multiple(at, most); align[struct] = most
+  if (struct in name) { print "SIZE(" name[struct] ", " size[struct] ", " most ")"; laid++ }
+  struct = ""
+}
+/^const _: \(\) = prove!\(size_of::</ {
+  proved = $0; sub(/.*size_of::</, "", proved); sub(/>.*/, "", proved)
+  if (proved in name) { print "SIZE(" name[proved] ", " $(NF) + 0 ", " align[proved] ")"; sized++ }
+}
+
+/^pub const (DONE|NOT_OPEN|STILL_OPEN|CELLS): u8 = [0-9]+;/ {
+  sub(/:/, "", $3)
+  print "IS(" $3 ", " $NF + 0 ")"; numbers++
+}
+# the program's own refusals, which no call for C answers
+/Refusal::(Thread|Syntax|Read|Write) => / { next }
+/Refusal::[A-Za-z]+ => [0-9]+,/ {
+  refusal = $1; sub(/Refusal::/, "", refusal)
+  print "IS(" toupper(snake(refusal)) ", " $NF + 0 ")"; numbers++
+}
+END {
+  if (laid != structs || sized != structs) unknown("layout of " structs " structs")
+  if (numbers != 22) unknown("21 codes and the cells")
+}
