@@ -26,7 +26,7 @@ measure() {
   case $1 in
     beside) python3 bench/beside.py "$hlr" "$ROOM/plain" "$ROOM/plain_hash" "$ROOM/sqlite" 7 ;;
     parts) python3 bench/tatp.py parts "$hlr" 1,4,16 5 ;;
-    engine) PROGRAM=$engine bash bench/engine/run.sh 3 ;;
+    engine) PROGRAM=$engine bash bench/engine/run.sh 5 ;;
     threads) python3 bench/threads.py "$hlr" 3 3 ;;
     library) bash bench/library.sh 4 ;;
   esac

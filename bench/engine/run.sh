@@ -2,7 +2,7 @@
 # Events through engines of 1 to 4 parts, each with a worker, beside one thread over four parts: nanoseconds an event by the
 # clock of one thread, medians, and how many times as fast the engines are.
 #
-#   bash bench/engine/run.sh [RUNS [EVENTS]]     at the repository's top; KINDS and SIZES are what is asked and of how many
+#   bash bench/engine/run.sh [ROUNDS [EVENTS]]     at the repository's top; KINDS and SIZES are what is asked and of how many
 #                                                subscribers, PROGRAM is an engine_bench that is built
 set -eu
 runs=${1:-5} events=${2:-409600}
@@ -14,9 +14,9 @@ else
   build_program alone gsd 1000 1 1000
 fi
 
-# median COMMAND ..: of the times that it tells.
+# median COMMAND ..: of the times that it tells of its rounds.
 median() {
-  for _ in $(seq "$runs"); do "$@" | sed -n 's/^[a-z]*: \([0-9]*\) ns.*/\1/p'; done | sort -n | awk '{ took[NR] = $1 } END { print took[int((NR + 1) / 2)] }'
+  "$@" "$runs" | sed -n 's/^[a-z]*: \([0-9]*\) ns.*/\1/p' | sort -n | awk '{ took[NR] = $1 } END { print took[int((NR + 1) / 2)] }'
 }
 
 echo "| subscribers | one thread, ns | 1 worker | 2 | 3 | 4 |"
