@@ -6,10 +6,7 @@
 set -eu
 . bench/room.sh
 open_room holding holding view_board tatp_actions tatp_rows
-add_invariants work_on
-nets=proofs/has_small_nets/Invariants.antt
-mkdir -p "$room/crates/holding_bench/proofs/has_small_nets"
-sed 's/holding\.proofs\.tests/holding_bench.proofs/' "crates/holding/proofs/tests/has_small_nets/Invariants.antt" > "$room/crates/holding_bench/$nets"
+for module in work_on has_small_nets; do add_invariants $module; done
 build_program one 1
 
 for kind in acts one; do
