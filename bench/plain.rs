@@ -129,8 +129,26 @@ enum Refusal {
 use Refusal::*;
 
 const NAMES: [&str; 20] = [
-    "", "", "Field", "NoSubscriber", "NoNumber", "NoAccess", "NoFacility", "NoForwarding", "NoDestination", "Exists",
-    "NumberTaken", "", "NoPart", "NoPiece", "", "", "", "", "", "Syntax",
+    "",
+    "",
+    "Field",
+    "NoSubscriber",
+    "NoNumber",
+    "NoAccess",
+    "NoFacility",
+    "NoForwarding",
+    "NoDestination",
+    "Exists",
+    "NumberTaken",
+    "",
+    "NoPart",
+    "NoPiece",
+    "",
+    "",
+    "",
+    "",
+    "",
+    "Syntax",
 ];
 
 /// A decimal number in a range.
@@ -146,10 +164,17 @@ fn decimal(text: &[u8], least: u64, most: u64) -> Result<u64, Refusal> {
         value = if text.len() < 20 {
             value * 10 + u64::from(digit)
         } else {
-            value.checked_mul(10).and_then(|tens| tens.checked_add(digit.into())).ok_or(Field)?
+            value
+                .checked_mul(10)
+                .and_then(|tens| tens.checked_add(digit.into()))
+                .ok_or(Field)?
         };
     }
-    if text.is_empty() || value < least || value > most { Err(Field) } else { Ok(value) }
+    if text.is_empty() || value < least || value > most {
+        Err(Field)
+    } else {
+        Ok(value)
+    }
 }
 
 fn subscriber_id(text: &[u8]) -> Result<u32, Refusal> {
@@ -174,7 +199,11 @@ fn location(text: &[u8]) -> Result<u32, Refusal> {
 
 fn start_hour(text: &[u8]) -> Result<u8, Refusal> {
     let hour = decimal(text, 0, 16)? as u8;
-    if hour % 8 == 0 { Ok(hour) } else { Err(Field) }
+    if hour % 8 == 0 {
+        Ok(hour)
+    } else {
+        Err(Field)
+    }
 }
 
 fn end_hour(text: &[u8]) -> Result<u8, Refusal> {
@@ -224,7 +253,11 @@ fn packed<const COUNT: usize>(text: &[u8]) -> Result<[u8; COUNT], Refusal> {
 
 fn letters<const COUNT: usize>(text: &[u8]) -> Result<[u8; COUNT], Refusal> {
     let letters: [u8; COUNT] = text.try_into().map_err(|_| Field)?;
-    if letters.iter().all(u8::is_ascii_uppercase) { Ok(letters) } else { Err(Field) }
+    if letters.iter().all(u8::is_ascii_uppercase) {
+        Ok(letters)
+    } else {
+        Err(Field)
+    }
 }
 
 /// The two digits of each number below 100.
@@ -286,7 +319,10 @@ impl Answers {
         for (place, pair) in [high / 10_000, high / 100 % 100, high % 100].into_iter().enumerate() {
             digits[2 + 2 * place..4 + 2 * place].copy_from_slice(&PAIRS[pair as usize]);
         }
-        for (place, pair) in [low / 1_000_000, low / 10_000 % 100, low / 100 % 100, low % 100].into_iter().enumerate() {
+        for (place, pair) in [low / 1_000_000, low / 10_000 % 100, low / 100 % 100, low % 100]
+            .into_iter()
+            .enumerate()
+        {
             digits[8 + 2 * place..10 + 2 * place].copy_from_slice(&PAIRS[pair as usize]);
         }
         self.text(&digits);
@@ -298,7 +334,10 @@ impl Answers {
         self.text(b",");
         let mut digits = [[0; 2]; COUNT];
         for (pair, byte) in digits.iter_mut().zip(bytes) {
-            *pair = [b"0123456789abcdef"[usize::from(byte >> 4)], b"0123456789abcdef"[usize::from(byte & 15)]];
+            *pair = [
+                b"0123456789abcdef"[usize::from(byte >> 4)],
+                b"0123456789abcdef"[usize::from(byte & 15)],
+            ];
         }
         self.text(digits.as_flattened());
     }
@@ -421,8 +460,19 @@ impl Store {
         Ok(())
     }
 
-    fn new_destination(&self, id: &[u8], of: &[u8], start: &[u8], end: &[u8], answers: &mut Answers) -> Result<(), Refusal> {
-        let (key, start, end) = (typed_key(subscriber_id(id)?, kind(of)?), start_hour(start)?, end_hour(end)?);
+    fn new_destination(
+        &self,
+        id: &[u8],
+        of: &[u8],
+        start: &[u8],
+        end: &[u8],
+        answers: &mut Answers,
+    ) -> Result<(), Refusal> {
+        let (key, start, end) = (
+            typed_key(subscriber_id(id)?, kind(of)?),
+            start_hour(start)?,
+            end_hour(end)?,
+        );
         if !self.rows.facilities.get(&key).is_some_and(|row| row.active) {
             return Err(NoDestination);
         }
@@ -462,12 +512,27 @@ impl Store {
         Ok(())
     }
 
-    fn insert_forwarding(&mut self, number: &[u8], of: &[u8], start: &[u8], end: &[u8], to: &[u8]) -> Result<(), Refusal> {
-        let (number, of, start, end, to) = (phone(number)?, kind(of)?, start_hour(start)?, end_hour(end)?, phone(to)?);
+    fn insert_forwarding(
+        &mut self,
+        number: &[u8],
+        of: &[u8],
+        start: &[u8],
+        end: &[u8],
+        to: &[u8],
+    ) -> Result<(), Refusal> {
+        let (number, of, start, end, to) = (
+            phone(number)?,
+            kind(of)?,
+            start_hour(start)?,
+            end_hour(end)?,
+            phone(to)?,
+        );
         let id = *self.numbers.get(&number).ok_or(NoNumber)?;
         let key = typed_key(id, of);
         let active = self.rows.facilities.get(&key).ok_or(NoFacility)?.active;
-        let Entry::Vacant(free) = self.rows.forwardings.entry(forwarding_key(key, start)) else { return Err(Exists) };
+        let Entry::Vacant(free) = self.rows.forwardings.entry(forwarding_key(key, start)) else {
+            return Err(Exists);
+        };
         free.insert(Forwarding { end, number: to });
         self.counts.zone(id, self.width, 1);
         if active {
@@ -480,7 +545,11 @@ impl Store {
         let (number, of, start) = (phone(number)?, kind(of)?, start_hour(start)?);
         let id = *self.numbers.get(&number).ok_or(NoNumber)?;
         let key = typed_key(id, of);
-        let row = self.rows.forwardings.remove(&forwarding_key(key, start)).ok_or(NoForwarding)?;
+        let row = self
+            .rows
+            .forwardings
+            .remove(&forwarding_key(key, start))
+            .ok_or(NoForwarding)?;
         self.counts.zone(id, self.width, -1);
         if self.rows.facilities.get(&key).is_some_and(|row| row.active) {
             self.counts.hours(start..row.end, -1);
@@ -498,8 +567,12 @@ impl Store {
             msc: location(fields[5])?,
             vlr: location(fields[6])?,
         };
-        let Entry::Vacant(free) = self.rows.subscribers.entry(id) else { return Err(Exists) };
-        let hash_map::Entry::Vacant(number) = self.numbers.entry(row.number) else { return Err(NumberTaken) };
+        let Entry::Vacant(free) = self.rows.subscribers.entry(id) else {
+            return Err(Exists);
+        };
+        let hash_map::Entry::Vacant(number) = self.numbers.entry(row.number) else {
+            return Err(NumberTaken);
+        };
         number.insert(id);
         self.counts.area(row.vlr, 1);
         self.counts.zone(id, self.width, 1);
@@ -510,11 +583,16 @@ impl Store {
     fn add_access(&mut self, fields: &[&[u8]]) -> Result<(), Refusal> {
         let (id, of) = (subscriber_id(fields[0])?, kind(fields[1])?);
         let data = [small(fields[2])?, small(fields[3])?];
-        let row = Access { data, letters: (letters(fields[4])?, letters(fields[5])?) };
+        let row = Access {
+            data,
+            letters: (letters(fields[4])?, letters(fields[5])?),
+        };
         if !self.rows.subscribers.contains_key(&id) {
             return Err(NoSubscriber);
         }
-        let Entry::Vacant(free) = self.rows.accesses.entry(typed_key(id, of)) else { return Err(Exists) };
+        let Entry::Vacant(free) = self.rows.accesses.entry(typed_key(id, of)) else {
+            return Err(Exists);
+        };
         free.insert(row);
         self.counts.zone(id, self.width, 1);
         Ok(())
@@ -522,11 +600,18 @@ impl Store {
 
     fn add_facility(&mut self, fields: &[&[u8]]) -> Result<(), Refusal> {
         let (id, of, active) = (subscriber_id(fields[0])?, kind(fields[1])?, flag(fields[2])?);
-        let row = Facility { active, error: small(fields[3])?, data: small(fields[4])?, letters: letters(fields[5])? };
+        let row = Facility {
+            active,
+            error: small(fields[3])?,
+            data: small(fields[4])?,
+            letters: letters(fields[5])?,
+        };
         if !self.rows.subscribers.contains_key(&id) {
             return Err(NoSubscriber);
         }
-        let Entry::Vacant(free) = self.rows.facilities.entry(typed_key(id, of)) else { return Err(Exists) };
+        let Entry::Vacant(free) = self.rows.facilities.entry(typed_key(id, of)) else {
+            return Err(Exists);
+        };
         free.insert(row);
         self.counts.zone(id, self.width, 1);
         Ok(())
@@ -539,7 +624,9 @@ impl Store {
         if row.active != on {
             row.active = on;
             let change = if on { 1 } else { -1 };
-            forwardings(&self.rows.forwardings, key, 16, |start, row| self.counts.hours(start..row.end, change));
+            forwardings(&self.rows.forwardings, key, 16, |start, row| {
+                self.counts.hours(start..row.end, change)
+            });
         }
         Ok(())
     }

@@ -62,6 +62,9 @@ fn main() {
             meld += now() - start;
         }
     }
-    println!("slice {slice}\nmeld {meld}\nclock {clock}\nrows {}", map.len());
+    println!(
+        "slice {slice}\nmeld {meld}\nclock {clock}\nrows {}",
+        map.len()
+    );
     mem::forget(map);
 }

@@ -24,7 +24,11 @@ type Row = [u8; SIZE];
 type Map = BTreeMap<u64, Row>;
 
 fn key_of(number: u64) -> u64 {
-    if RISING { number } else { mix(number) / 2 }
+    if RISING {
+        number
+    } else {
+        mix(number) / 2
+    }
 }
 
 fn draw(turn: u64, count: u64) -> u64 {
