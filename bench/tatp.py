@@ -82,7 +82,7 @@ def words_of(program, parts, load):
 
 
 def print_parts(program, parts, runs):
-    print("| load | " + " | ".join(f"{number} parts" for number in parts) + " |\n" + "|---" * (len(parts) + 1) + "|")
+    print("| load | " + " | ".join(f"{number} part" + "s" * (number != "1") for number in parts) + " |\n" + "|---" * (len(parts) + 1) + "|")
     for load in LOADS:
         records, _ = load_of(*load)
         found = {number: [] for number in parts}
