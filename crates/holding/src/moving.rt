@@ -1,6 +1,9 @@
 //! Pieces that a holding gives away and takes.
-ghost use Rattle.std.specs.Prelude.{◌≡◌, ◌⊎◌, ◌↔◌, IsTrue, Err, IfOk, IfErr, OnOk, OnErr};
+ghost use Rattle.std.specs.Prelude.{◌≡◌, ◌⊎◌, ◌↔◌, IsTrue, Err, IfOk, IfErr, OnOk, OnErr, map, pos};
+ghost use Rattle.tatp_actions.specs.Book.{empty_book};
 ghost use Rattle.tatp_actions.specs.Cut.{Touch};
+ghost use Rattle.tatp_actions.specs.Heights.{zero_heights};
+ghost use Rattle.tatp_actions.specs.Part.{IsPart};
 ghost use Rattle.holding.specs.Held.{IsHolding, IsPiece};
 ghost use Rattle.holding.specs.Inside.{IsPendingWith, TakesPart};
 ghost use Rattle.holding.specs.Moved.{IsInside, IsGiven, IsTaken};
@@ -8,8 +11,7 @@ ghost use Rattle.holding.specs.Moved.{IsInside, IsGiven, IsTaken};
 use crate::holding::Holding;
 use crate::piece::Piece;
 use part_table::Side;
-use std::mem;
-use tatp_actions::Part;
+use tatp_actions::{Cells, Part};
 use tatp_rows::{Back, Refusal};
 use view_delta::Pending;
 
@@ -45,12 +47,9 @@ impl Holding {
             return Err(Refusal::OutOfRange);
         }
         // All memory is had before anything changes: the piece's box, and what the cut takes.
-        let mut piece = Box::new(self.alloc, Piece::blank(self.alloc))?;
-        match self.cut_off(side, at) {
-            Ok(given) => {
-                drop(mem::replace(&mut *piece, given));
-                Ok(piece)
-            }
+        let mut piece = Piece::boxed(self.alloc)?;
+        match self.cut_off(side, at, &mut piece) {
+            Ok(()) => Ok(piece),
             Err(why) => {
                 drop(piece);
                 Err(why)
@@ -58,23 +57,40 @@ impl Holding {
         }
     }
 
-    /// Cuts the stretch on one side of a subscriber strictly inside the range off as a piece, whose rows are counted
+    /// Cuts the stretch on one side of a subscriber strictly inside the range off into a piece, whose rows are counted
     /// once. `Memory` where a growth was refused: then nothing is changed.
-    pub(crate) fn cut_off(&mut self, side: Side, at: u32) -> Result<Piece, Refusal>
+    fn cut_off(&mut self, side: Side, at: u32, piece: &mut Piece) -> Result<(), Refusal>
         requires { IsInside at self.old.part }
-        ensures given { IfOk result (λ piece. IsGiven side at self.old piece self.new) }
+        ensures given { OnOk result (IsGiven side at self.old piece.new self.new) }
         ensures refused { OnErr result ((result ≡ Err Refusal.Memory) × (self.new ≡ self.old)) }
-        ensures piece { IfOk result IsPiece }
+        ensures piece { IsPiece piece.new }
         ensures before { IsHolding self.old }
         ensures after { IsHolding self.new }
     {
-        let part = self.part.slice(at, side)?;
-        let counts = part.recount();
+        let counts = self.cut_into(side, at, &mut piece.part)?;
+        piece.pending = counts;
+        Ok(())
+    }
+
+    /// Cuts the stretch on one side of a subscriber strictly inside the range off into another part, whose rows are
+    /// counted once: the counts. `Memory` where a growth was refused: then nothing is changed.
+    pub(crate) fn cut_into(
+        &mut self,
+        side: Side,
+        at: u32,
+        given: &mut Part,
+    ) -> Result<Cells, Refusal>
+        requires { IsInside at self.old.part }
+        ensures given { IfOk result (λ counts. IsGiven side at self.old (record { part = given.new; pending = map pos counts }) self.new) }
+        ensures piece { IfOk result (λ counts. IsPiece (record { part = given.new; pending = map pos counts })) }
+        ensures refused { OnErr result ((result ≡ Err Refusal.Memory) × (self.new ≡ self.old) × (given.new ≡ given.old)) }
+        ensures before { IsHolding self.old }
+        ensures after { IsHolding self.new }
+    {
+        self.part.slice_into(at, side, given)?;
+        let counts = given.recount();
         self.pending.subtract(&counts);
-        Ok(Piece {
-            part,
-            pending: counts,
-        })
+        Ok(counts)
     }
 
     /// Takes a loose piece of the same width of zones. No row is counted.
@@ -96,39 +112,45 @@ impl Holding {
                 item: piece,
             });
         }
-        // An empty piece takes no memory.
-        let Piece { part, pending } = mem::replace(&mut *piece, Piece::blank(self.alloc));
-        let mut grown = self.pending;
-        grown.add(&pending);
-        if let Err(back) = self.take_in(part, grown) {
-            let kept = Piece {
-                part: back.item,
-                pending,
-            };
-            drop(mem::replace(&mut *piece, kept));
-            return Err(Back {
-                why: back.why,
-                item: piece,
-            });
+        if let Err(why) = self.take_out(&mut piece) {
+            return Err(Back { why, item: piece });
         }
         drop(piece);
         Ok(())
     }
 
-    /// Takes in a part that touches this one, with what is pending then: the counts of its rows too. `Memory` where a
-    /// growth was refused: then nothing is changed, and the part is handed back as it came.
-    pub(crate) fn take_in(&mut self, part: Part, pending: Pending) -> Result<(), Back<Part>>
-        requires touch { Touch self.old.part part }
-        requires width { self.old.part.width ≡ part.width }
-        requires pending { IsPendingWith part self.old.pending pending }
-        ensures taken { OnOk result (TakesPart self.old part self.new) }
-        ensures refused { IfErr result (λ back. (back ≡ record { why = Refusal.Memory; item = part }) × (self.new ≡ self.old)) }
+    /// Takes the rows of a piece that touches the part, with their counts: the piece has no row then. `Memory` where a
+    /// growth was refused: then nothing is changed.
+    fn take_out(&mut self, piece: &mut Piece) -> Result<(), Refusal>
+        requires touch { Touch self.old.part piece.old.part }
+        requires width { self.old.part.width ≡ piece.old.part.width }
+        ensures taken { OnOk result (IsTaken self.old piece.old self.new) }
+        ensures refused { OnErr result ((result ≡ Err Refusal.Memory) × (self.new ≡ self.old) × (piece.new ≡ piece.old)) }
+        ensures piece { IsPiece piece.old }
         ensures before { IsHolding self.old }
         ensures after { IsHolding self.new }
     {
-        if let Err(back) = self.part.meld(part) {
-            return Err(back);
-        }
+        let mut grown = self.pending;
+        grown.add(&piece.pending);
+        self.take_in(&mut piece.part, grown)?;
+        piece.pending = Cells::zero();
+        Ok(())
+    }
+
+    /// Takes in a part that touches this one, with what is pending then: the counts of its rows too. The other part has
+    /// no row then. `Memory` where a growth was refused: then nothing is changed.
+    pub(crate) fn take_in(&mut self, part: &mut Part, pending: Pending) -> Result<(), Refusal>
+        requires touch { Touch self.old.part part.old }
+        requires width { self.old.part.width ≡ part.old.width }
+        requires pending { IsPendingWith part.old self.old.pending pending }
+        ensures taken { OnOk result (TakesPart self.old part.old self.new) }
+        ensures left { OnOk result (part.new ≡ record part.old { book = empty_book; heights = zero_heights }) }
+        ensures refused { OnErr result ((result ≡ Err Refusal.Memory) × (self.new ≡ self.old) × (part.new ≡ part.old)) }
+        ensures before { IsHolding self.old }
+        ensures after { IsHolding self.new }
+        ensures rest { IsPart part.new }
+    {
+        self.part.meld_from(part)?;
         self.pending = pending;
         Ok(())
     }

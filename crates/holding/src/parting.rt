@@ -5,16 +5,16 @@ ghost use Rattle.view_board.specs.Desks.{with_view};
 ghost use Rattle.view_board.specs.Nets.{net_of};
 ghost use Rattle.view_board.specs.Views.{IsWide, OwnsAlone, taken_back};
 ghost use Rattle.view_delta.specs.Pending.{pending_at};
-ghost use Rattle.holding.specs.Held.{IsHolding};
+ghost use Rattle.holding.specs.Held.{IsHolding, IsPiece};
+ghost use Rattle.part_table.specs.declared.region.Side.TheVariants.{High};
 ghost use Rattle.holding.specs.Inside.{IsPendingWith, TakesPart};
-ghost use Rattle.holding.specs.Moved.{IsBlankDesk, IsInside, IsMerged, IsParted};
+ghost use Rattle.holding.specs.Moved.{IsBlankDesk, IsGiven, IsInside, IsMerged, IsParted, as_piece};
 
 use crate::holding::{Holding, least_slot};
 use crate::moving::is_inside;
 use crate::piece::Piece;
 use part_table::Side;
 use std::alloc::Global;
-use std::mem;
 use tatp_actions::CELLS;
 use tatp_rows::{Back, Refusal};
 use view_board::{Board, Desk};
@@ -42,6 +42,14 @@ fn withdraw(board: &Board, desk: &mut Desk, slot: u8)
     board.take_back(desk, slot);
 }
 
+/// The desk of a holding in a box; the rows are let go.
+#[inline(never)]
+fn let_go(holding: Box<Holding>) -> Desk
+    ensures { result ≡ holding.value.desk }
+{
+    Box::into_inner(holding).into_desk()
+}
+
 impl Holding {
     /// Divides the part at a subscriber: it keeps all below, and a new holding with this desk has the subscriber and
     /// all above. The new part's rows are counted once, and nothing of them is published yet. The desk owns one slot,
@@ -65,23 +73,20 @@ impl Holding {
             });
         }
         // All memory is had before anything changes: the new holding's box, and what the cut takes.
-        let mut new = match Box::new(self.alloc, Holding::blank(self.alloc, desk)) {
+        let mut new = match Holding::boxed(self.alloc, desk) {
             Ok(new) => new,
-            Err(refused) => {
+            Err(desk) => {
                 return Err(Back {
                     why: Refusal::Memory,
-                    item: refused.value.into_desk(),
+                    item: desk,
                 });
             }
         };
-        match self.cut_off(Side::High, at) {
-            Ok(piece) => {
-                new.fill(piece);
-                Ok(new)
-            }
+        match self.fill(at, &mut new) {
+            Ok(()) => Ok(new),
             Err(why) => Err(Back {
                 why,
-                item: Box::into_inner(new).into_desk(),
+                item: let_go(new),
             }),
         }
     }
@@ -116,7 +121,7 @@ impl Holding {
         if let Err(why) = self.absorb(board, &mut other) {
             return Err(Back { why, item: other });
         }
-        Ok(Box::into_inner(other).into_desk())
+        Ok(let_go(other))
     }
 
     /// A holding with no row, of which nothing is published and nothing pending.
@@ -132,18 +137,39 @@ impl Holding {
         Holding::of(alloc, part, desk)
     }
 
-    /// Puts the rows of a piece into a holding that has none, of which nothing is published and nothing pending.
-    fn fill(&mut self, piece: Piece)
-        requires idle { (c : ℕ) → c < CELLS → net_of self.old.desk.view c ≡ pos 0 }
-        requires none { (c : ℕ) → c < CELLS → pending_at self.old.pending c ≡ pos 0 }
-        ensures part { self.new.part ≡ piece.part }
-        ensures pending { (c : ℕ) → c < CELLS → pending_at self.new.pending c ≡ pending_at piece.pending c }
-        ensures desk { self.new.desk ≡ self.old.desk }
-        ensures after { IsHolding self.new }
+    /// A holding with no row, of which nothing is published and nothing pending, in a box: the desk where this can't be
+    /// had.
+    #[inline(never)]
+    fn boxed(alloc: Global, desk: Desk) -> Result<Box<Self>, Desk>
+        requires { IsBlankDesk desk.view }
+        ensures desk { IfOk result (λ new. new.value.desk ≡ desk) }
+        ensures none { IfOk result (λ new. (c : ℕ) → c < CELLS → pending_at new.value.pending c ≡ pos 0) }
+        ensures rules { IfOk result (λ new. IsHolding new.value) }
+        ensures refused { IfErr result (λ back. back ≡ desk) }
     {
-        let Piece { part, pending } = piece;
-        drop(mem::replace(&mut self.part, part));
-        self.pending.add(&pending);
+        match Box::new(alloc, Holding::blank(alloc, desk)) {
+            Ok(new) => Ok(new),
+            Err(refused) => Err(refused.value.into_desk()),
+        }
+    }
+
+    /// Cuts the stretch from a subscriber strictly inside the range on off into a new holding, of which nothing is
+    /// published and nothing pending. `Memory` where a growth was refused: then nothing is changed.
+    fn fill(&mut self, at: u32, new: &mut Holding) -> Result<(), Refusal>
+        requires inside { IsInside at self.old.part }
+        requires idle { (c : ℕ) → c < CELLS → net_of new.old.desk.view c ≡ pos 0 }
+        requires none { (c : ℕ) → c < CELLS → pending_at new.old.pending c ≡ pos 0 }
+        ensures given { OnOk result (IsGiven High at self.old (as_piece new.new) self.new) }
+        ensures counts { OnOk result (IsPiece (as_piece new.new)) }
+        ensures desk { new.new.desk ≡ new.old.desk }
+        ensures refused { OnErr result ((result ≡ Err Refusal.Memory) × (self.new ≡ self.old)) }
+        ensures before { IsHolding self.old }
+        ensures after { IsHolding self.new }
+        ensures new { IsHolding new.new }
+    {
+        let counts = self.cut_into(Side::High, at, &mut new.part)?;
+        new.pending.add(&counts);
+        Ok(())
     }
 
     /// The desk; the rows are let go.
@@ -171,15 +197,7 @@ impl Holding {
         ensures after { IsHolding self.new }
     {
         let pending = self.pending_with(other);
-        let Piece {
-            part: empty,
-            pending: _,
-        } = Piece::blank(self.alloc);
-        let part = mem::replace(&mut other.part, empty);
-        if let Err(back) = self.take_in(part, pending) {
-            drop(mem::replace(&mut other.part, back.item));
-            return Err(back.why);
-        }
+        self.take_in(&mut other.part, pending)?;
         withdraw(board, &mut other.desk, other.slot);
         other.pending = Pending::zero();
         Ok(())

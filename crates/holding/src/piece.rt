@@ -1,5 +1,5 @@
 //! A loose part.
-ghost use Rattle.std.specs.Prelude.{◌≡◌, ℕ, ◌<◌, ◌≤◌, ◌^◌, option_copied, slice_index, pos};
+ghost use Rattle.std.specs.Prelude.{◌≡◌, ℕ, ◌<◌, ◌≤◌, ◌^◌, option_copied, slice_index, pos, IfErr};
 ghost use Rattle.tatp_actions.specs.Book.{empty_book, first_subscriber};
 ghost use Rattle.tatp_actions.specs.declared.cells.TheConstants.{CELLS};
 ghost use Rattle.view_delta.specs.Pending.{pending_at};
@@ -8,7 +8,7 @@ ghost use Rattle.holding.specs.Held.{IsPiece, count_of};
 use std::alloc::Global;
 use std::marker::Model;
 use tatp_actions::{Cells, Part};
-use tatp_rows::Subscriber;
+use tatp_rows::{Refusal, Subscriber};
 
 /// A loose part, which a holding gave away and none has taken, with what is pending of each cell: as nobody has posted
 /// anything of it, the counts of its rows.
@@ -51,6 +51,14 @@ impl Piece {
             part,
             pending: Cells::zero(),
         }
+    }
+
+    /// A piece with no row, in a box: `Memory` where this can't be had.
+    #[inline(never)]
+    pub(crate) fn boxed(alloc: Global) -> Result<Box<Self>, Refusal>
+        ensures { IfErr result (λ why. why ≡ Refusal.Memory) }
+    {
+        Ok(Box::new(alloc, Piece::blank(alloc))?)
     }
 
     /// The first subscriber of the range, 1..=16,777,216.

@@ -1,8 +1,8 @@
-use Rattle.std.proofs.Common.{◌∙◌, ap}
+use Rattle.std.proofs.Common.{ap}
 use Rattle.std.specs.Prelude.{ℤ, pos}
 use Rattle.tatp_rows.proofs.BlankLemmas.{blank_at}
 use Rattle.tatp_actions.specs.declared.cells.TheConstants.{CELLS}
-use Rattle.holding.specs.Held.{PieceState, HoldingState}
+use Rattle.tatp_actions.specs.Part.{PartState}
 use Rattle.holding.proofs.PartedLemmas.{alone_least, emptied}
 use Rattle.holding.proofs.parting.Holding.absorb.Goals as goal
 
@@ -13,10 +13,8 @@ withdraw-requires-clause-alone c =
 
 pub invariant_of-other-2 : goal.invariant_of-other-2
 invariant_of-other-2 c =
-    let empty = ap (λ (p : PieceState). p.part.book) c.empty.view_is ∙ c.blank.ensures in
-    rw (c.replace-part.ensures.after, c.zero-other-inside.ensures) (emptied _ _ _ _ _ _ _ c.other.invariant c.empty.invariant.rules empty c.withdraw.ensures.back c.withdraw.ensures.idle (λ k below. blank_at {A = ℤ} CELLS k (pos 0)))
+    let empty = ap (λ (p : PartState). p.book) c.in_ok-take_in.ensures.left in
+    rw c.zero-other-inside.ensures (emptied _ _ _ _ _ _ _ c.other.invariant c.in_ok-take_in.ensures.rest empty c.withdraw.ensures.back c.withdraw.ensures.idle (λ k below. blank_at {A = ℤ} CELLS k (pos 0)))
 
 pub returns-clause-taken : goal.returns-clause-taken
-returns-clause-taken c =
-    let was = c.replace-part.ensures.value ∙ ap (λ (h : HoldingState). h.part) c.other.view_is in
-    rw (← was) c.in_default.ensures.taken
+returns-clause-taken c = rw (← c.other.view_is) c.in_ok-take_in.ensures.taken

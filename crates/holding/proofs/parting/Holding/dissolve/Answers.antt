@@ -11,4 +11,4 @@ returns-clause-merged c =
     let done = c.in_default.ensures in
     let counts = counts_list c.deref_mut.result.now.part in
     let counted = are_counts c.deref_mut.result.now.part done.other.rules in
-    rw (← was, c.into_desk.ensures, c.into_inner.ensures) (record { counts = counts; counted = counted; taken = done.taken counts counted; back = done.back; idle = done.idle })
+    rw (← was, c.let_go.ensures) (record { counts = counts; counted = counted; taken = done.taken counts counted; back = done.back; idle = done.idle })

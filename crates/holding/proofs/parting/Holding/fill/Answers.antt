@@ -1,25 +1,27 @@
-use Rattle.std.proofs.Common.{ap, arith}
+use Rattle.std.proofs.Common.{refl, arith}
 use Rattle.std.proofs.lemmas.Int.{ints}
-use Rattle.holding.specs.Held.{PieceState}
 use Rattle.holding.proofs.MovedLemmas.{sums_fit, counts_of, counts_pending}
-use Rattle.holding.proofs.PartedLemmas.{filled}
+use Rattle.holding.proofs.PartedLemmas.{filled, given_to, counted_by}
 use Rattle.holding.proofs.parting.Holding.fill.Goals as goal
 
 pub add-requires : goal.add-requires
-add-requires c = sums_fit _ c.piece.inside.part _ c.self.invariant c.piece.invariant.rules (counts_of _ _ c.piece.invariant)
+add-requires c = sums_fit _ c.cut_into.new.given _ c.new.invariant c.in_ok-counts.ensures.piece.rules (counts_of _ _ c.in_ok-counts.ensures.piece)
 
-pub invariant_of-self : goal.invariant_of-self
-invariant_of-self c =
-    let idle = rw (← c.self.view_is) at c.requires.idle in
-    let none = rw (← c.self.view_is) at c.requires.none in
-    rw c.replace.ensures.after (filled _ c.piece.inside.part _ _ c.piece.inside.pending _ _ c.self.invariant c.piece.invariant idle none c.add.ensures)
+pub invariant_of-new-2 : goal.invariant_of-new-2
+invariant_of-new-2 c =
+    let idle = rw (← c.new.view_is) at c.requires.idle in
+    let none = rw (← c.new.view_is) at c.requires.none in
+    filled _ c.cut_into.new.given _ _ c.in_ok-counts.counts _ _ c.new.invariant c.in_ok-counts.ensures.piece idle none c.add.ensures
 
-pub returns-clause-pending : goal.returns-clause-pending
-returns-clause-pending c = λ k below.
-    let none = (rw (← c.self.view_is) at c.requires.none) k below in
-    let is = c.add.ensures k below in
-    let count = counts_pending c.piece.inside.pending k in
-    rw (← ap (λ (p : PieceState). p.pending) c.piece.view_is, count) (omega (arith, ints))
+pub returns-clause-given : goal.returns-clause-given
+returns-clause-given c =
+    let none = rw (← c.new.view_is) at c.requires.none in
+    given_to _ c.args.at _ _ _ _ c.in_ok-counts.ensures.given refl (λ k below. let before = none k below in let is = c.add.ensures k below in let count = counts_pending c.in_ok-counts.counts k in rw count (omega (arith, ints)))
 
-pub returns-clause-after : goal.returns-clause-after
-returns-clause-after c = invariant_of-self c
+pub returns-clause-counts : goal.returns-clause-counts
+returns-clause-counts c =
+    let none = rw (← c.new.view_is) at c.requires.none in
+    counted_by _ _ c.in_ok-counts.ensures.piece refl (λ k below. let before = none k below in let is = c.add.ensures k below in let count = counts_pending c.in_ok-counts.counts k in rw count (omega (arith, ints)))
+
+pub returns-clause-new : goal.returns-clause-new
+returns-clause-new c = invariant_of-new-2 c
