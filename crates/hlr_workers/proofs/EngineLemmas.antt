@@ -40,7 +40,8 @@ use Rattle.hlr_core.specs.Step.{IsStep}
 use Rattle.hlr_core.specs.declared.event.Event.{Event}
 use Rattle.hlr_core.specs.declared.event.Reply.{Reply}
 use Rattle.hlr_core.proofs.LaterLemmas.{all_later_after, all_later_self, all_seated_later, put_later}
-use Rattle.hlr_workers.specs.Inside.{AllNumberless, AreIdle, Crewed, IsBehind, IsHomeAgain, IsKept, IsOut, IsCrewParted, IsSentTo, NoneOut, Parting, engaged, land, parted, parting_of}
+use Rattle.hlr_workers.specs.Inside.{AreIdle, IsBehind, IsHomeAgain, IsOut, IsCrewParted, IsSentTo, Parting, land, parted, parting_of}
+use Rattle.hlr_workers.specs.Kept.{AllNumberless, Crewed, IsKept, NoneOut, engaged}
 use Rattle.hlr_workers.specs.Relay.{nothing}
 use Rattle.hlr_workers.specs.Session.{AreNumberless}
 use Rattle.hlr_workers.specs.Standing.{AreEnds, Cut, IsAsBefore, IsSettled, Stands, Took, TookNext, answers_by, answers_with, orders_of, store_at}

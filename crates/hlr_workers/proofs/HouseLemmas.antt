@@ -25,7 +25,7 @@ use Rattle.hlr_core.specs.Later.{AreLater, IsLater, with_seats}
 use Rattle.hlr_core.specs.Session.{IsDoneAt, IsJobDone}
 use Rattle.hlr_core.specs.declared.event.Reply.{Reply}
 use Rattle.hlr_core.proofs.LaterLemmas.{all_later_self, later_after}
-use Rattle.hlr_workers.specs.Inside.{AllNumberless}
+use Rattle.hlr_workers.specs.Kept.{AllNumberless}
 use Rattle.hlr_workers.specs.Session.{AreNumberless, IsNumberless}
 use Rattle.hlr_workers.specs.Standing.{AreEnds, IsSessionBy}
 use Rattle.hlr_workers.proofs.BackLemmas.{job_numbers}

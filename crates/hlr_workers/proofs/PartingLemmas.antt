@@ -9,7 +9,8 @@ use Rattle.holding.specs.Held.{HoldingState}
 use Rattle.holding.specs.declared.job.Job.{Job}
 use Rattle.hlr_owners.proofs.ZipLemmas.{zip_insert, zip_remove}
 use Rattle.hlr_core.specs.declared.event.Reply.{Reply}
-use Rattle.hlr_workers.specs.Inside.{Gone, InOrder, IsBehind, IsPlace, New, Parting, Same, parted}
+use Rattle.hlr_workers.specs.Inside.{Gone, IsBehind, IsPlace, New, Parting, Same, parted}
+use Rattle.hlr_workers.specs.Kept.{InOrder}
 use Rattle.hlr_workers.specs.Relay.{nothing}
 use Rattle.hlr_workers.specs.Standing.{AreEnds, numbered, numbered_in}
 

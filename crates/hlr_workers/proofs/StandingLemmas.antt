@@ -22,7 +22,8 @@ use Rattle.hlr_core.specs.declared.order.Order.{Order}
 use Rattle.hlr_core.specs.declared.order.Order.TheVariants as order
 use Rattle.hlr_workers.specs.Session.{IsSession}
 use Rattle.hlr_workers.specs.Standing.{IsSessionBy, AreEnds, numbered, numbered_in, HasKept, Asked, Took, Cut, orders_of, events_in, answers_by, answers_with}
-use Rattle.hlr_workers.specs.Inside.{InOrder, land}
+use Rattle.hlr_workers.specs.Inside.{land}
+use Rattle.hlr_workers.specs.Kept.{InOrder}
 
 -- two numbers are the same, or not
 by_number : {A : Type 0} (i j : ℕ) → (i ≡ j → A) → (i ≢ j → A) → A

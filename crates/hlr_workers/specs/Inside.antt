@@ -11,6 +11,7 @@ use Rattle.hlr_owners.specs.declared.lodging.Seat.TheVariants.{Part}
 use Rattle.hlr_core.specs.declared.event.Reply.{Reply}
 use Rattle.hlr_core.specs.declared.event.Reply.TheVariants.{Divided, Dissolved}
 use Rattle.hlr_workers.specs.Finish.{Sent}
+use Rattle.hlr_workers.specs.Kept.{Crewed}
 use Rattle.hlr_workers.specs.Session.{AreNumberless, IsSession}
 use Rattle.hlr_workers.specs.Standing.{AreNumbered, Engaged, numbered_in}
 
@@ -18,19 +19,6 @@ use Rattle.hlr_workers.specs.Standing.{AreNumbered, Engaged, numbered_in}
 abbrev pub land : List (ℕ × Reply) → List (ℕ × Reply) → List (ℕ × Reply)
 land replies [] = replies
 land replies (one ∷ answers) = land (slice_set replies one.0 one) answers
-
--- the rules of numbers: a place for each event, with its number; no number out twice, and none of an event that wasn't
--- taken; no more jobs of a part than events
-pub record InOrder (jobs : List (List (ℕ × Job))) (replies : List (ℕ × Reply)) : Type 0 where
-  pub places : AreNumbered replies
-  pub once : (k : ℕ) → numbered_in k jobs ≤ 1
-  pub below : (k : ℕ) → length replies ≤ k → numbered_in k jobs ≡ 0
-  pub few : (p : ℕ) (own : List (ℕ × Job)) → slice_get jobs p ≡ Some own → length own ≤ length replies
-
--- a register, with the parts that are out as they were lent, and the jobs that are out, by the numbers of their parts
-pub record Crewed : Type 0 where
-  pub house : Seating
-  pub jobs : List (List (ℕ × Job))
 
 -- the jobs that a worker has, if there is one
 abbrev pub jobs_at : Option Sent → List (ℕ × Job)
@@ -79,24 +67,6 @@ IsHomeAgain part before (Some answers) after =
       house = record before.house { seats = slice_set before.house.seats index (Part (record { holding = home; home = true })) };
       jobs = slice_set before.jobs part [];
     })
-
--- jobs that give no number, of each part
-abbrev pub AllNumberless : List (List (ℕ × Job)) → Type 0
-AllNumberless jobs = AllByRecursion AreNumberless jobs
-
--- what an engine has
-abbrev pub engaged : Crewed → List (ℕ × Reply) → Engaged
-engaged crew replies = record { house = crew.house; jobs = crew.jobs; replies = replies }
-
--- the rules that a crew and the replies kept keep together
-pub record IsKept (crew : Crewed) (replies : List (ℕ × Reply)) : Type 0 where
-  pub paired : length crew.jobs ≡ length (outs_in crew.house.seats)
-  pub none : AllNumberless crew.jobs
-  pub order : InOrder crew.jobs replies
-
--- nobody is out
-abbrev pub NoneOut : Crewed → Type 0
-NoneOut crew = AllByRecursion (λ (out : Option HoldingState). out ≡ None) (outs_in crew.house.seats)
 
 -- nobody from a part on is out
 abbrev pub NoneOutFrom : ℕ → Crewed → Type 0

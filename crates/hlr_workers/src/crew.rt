@@ -10,7 +10,8 @@ ghost use Rattle.hlr_owners.specs.Sight.{IsSightOf};
 ghost use Rattle.hlr_core.specs.Beside.{IsRecutBeside, IsStepBeside};
 ghost use Rattle.hlr_core.specs.Home.{IsHomeTo, IsLaterDesk, IsSameHouse};
 ghost use Rattle.hlr_core.specs.Session.{IsJobOf, IsWithinJob};
-ghost use Rattle.hlr_workers.specs.Inside.{AreIdle, IsHomeAgain, IsOut, IsCrewParted, IsPlace, IsSentTo, NoneOut, is_sent_more, parted, parting_of};
+ghost use Rattle.hlr_workers.specs.Inside.{AreIdle, IsHomeAgain, IsOut, IsCrewParted, IsPlace, IsSentTo, is_sent_more, parted, parting_of};
+ghost use Rattle.hlr_workers.specs.Kept.{NoneOut};
 ghost use Rattle.hlr_workers.specs.Standing.{changes_parts};
 ghost use Rattle.hlr_workers.specs.declared.work.TheConstants.{MOST_PENDING};
 
@@ -37,7 +38,8 @@ impl Model for Crew {
     ghost use Rattle.std.specs.Prelude.{map};
     ghost use Rattle.std.specs.List.{AllZip};
     ghost use Rattle.hlr_owners.specs.Out.{outs_in};
-    ghost use Rattle.hlr_workers.specs.Inside.{Crewed, HasWorker, jobs_at};
+    ghost use Rattle.hlr_workers.specs.Inside.{HasWorker, jobs_at};
+    ghost use Rattle.hlr_workers.specs.Kept.{Crewed};
 
     ghost Value = { Crewed };
 

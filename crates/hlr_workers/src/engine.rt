@@ -10,7 +10,8 @@ ghost use Rattle.hlr_owners.specs.Sight.{IsSightOf};
 ghost use Rattle.hlr_core.specs.Home.{IsHomeTo, IsLaterDesk};
 ghost use Rattle.tatp_rows.specs.declared.ranges.TheConstants.{LAST_SUBSCRIBER};
 ghost use Rattle.hlr_core.specs.Route.{is_here};
-ghost use Rattle.hlr_workers.specs.Inside.{IsKept, NoneOut, NoneOutFrom, engaged, land};
+ghost use Rattle.hlr_workers.specs.Inside.{NoneOutFrom, land};
+ghost use Rattle.hlr_workers.specs.Kept.{IsKept, NoneOut, engaged};
 ghost use Rattle.hlr_workers.specs.Standing.{AreNumbered, Cut, IsAsBefore, IsSettled, Stands, Took, TookNext, WantsWorker, changes_parts};
 ghost use Rattle.hlr_workers.specs.declared.work.TheConstants.{MOST_PENDING};
 
@@ -39,7 +40,7 @@ pub struct Engine<G: Gate + 'static> {
 
 impl<G: Gate + 'static> Model for Engine<G> {
     ghost use Rattle.std.specs.Prelude.{◌≡◌, ◌≤◌, ◌⊎◌, [], vec_capacity};
-    ghost use Rattle.hlr_workers.specs.Inside.{IsKept, NoneOut, engaged};
+    ghost use Rattle.hlr_workers.specs.Kept.{IsKept, NoneOut, engaged};
     ghost use Rattle.hlr_workers.specs.Standing.{Engaged};
     ghost use Rattle.hlr_workers.specs.declared.work.TheConstants.{MOST_PENDING};
 

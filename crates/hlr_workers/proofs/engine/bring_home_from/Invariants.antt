@@ -1,6 +1,6 @@
 use Rattle.std.proofs.Common.{◌≡◌, ◌<◌, ◌≤◌, ℕ, None, get_or, length, vec_capacity}
 use Rattle.hlr_owners.specs.Out.{outs_in}
-use Rattle.hlr_workers.specs.Inside.{IsKept, engaged}
+use Rattle.hlr_workers.specs.Kept.{IsKept, engaged}
 use Rattle.hlr_workers.specs.Standing.{IsAsBefore}
 use Rattle.hlr_workers.proofs.engine.bring_home_from.Given as goal
 

@@ -1,7 +1,7 @@
 use Rattle.std.proofs.Common.{◌≡◌, ◌<◌, ℕ, get_or, length, vec_capacity}
 use Rattle.part_table.specs.declared.moves.CutMove.{CutMove}
 use Rattle.hlr_owners.specs.Out.{outs_in}
-use Rattle.hlr_workers.specs.Inside.{IsKept, NoneOut, engaged}
+use Rattle.hlr_workers.specs.Kept.{IsKept, NoneOut, engaged}
 use Rattle.hlr_workers.specs.Standing.{IsAsBefore}
 use Rattle.hlr_workers.proofs.EngineLemmas.{AreSidesHome}
 use Rattle.hlr_workers.proofs.engine.bring_sides_home.Given as goal

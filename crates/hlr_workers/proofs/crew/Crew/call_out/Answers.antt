@@ -1,5 +1,5 @@
 use Rattle.std.proofs.Common.{refl, inl, subst, ◌<◌, length, arith, sym}
-use Rattle.hlr_workers.specs.Inside.{Crewed}
+use Rattle.hlr_workers.specs.Kept.{Crewed}
 use Rattle.hlr_workers.proofs.CrewLemmas.{as_outs, out_there, started_each, started_out}
 use Rattle.hlr_workers.proofs.crew.Crew.call_out.Goals as goal
 

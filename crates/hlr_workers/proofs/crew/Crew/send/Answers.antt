@@ -1,5 +1,6 @@
 use Rattle.std.proofs.Common.{subst, sym}
-use Rattle.hlr_workers.specs.Inside.{Crewed, IsOut}
+use Rattle.hlr_workers.specs.Inside.{IsOut}
+use Rattle.hlr_workers.specs.Kept.{Crewed}
 use Rattle.hlr_workers.proofs.CrewLemmas.{sends}
 use Rattle.hlr_workers.proofs.crew.Crew.send.Goals as goal
 

@@ -1,6 +1,6 @@
 use Rattle.std.proofs.Common.{[], inl, refl, subst}
 use Rattle.hlr_owners.specs.Seats.{Seating, store_in}
-use Rattle.hlr_workers.specs.Inside.{NoneOut, engaged}
+use Rattle.hlr_workers.specs.Kept.{NoneOut, engaged}
 use Rattle.hlr_workers.specs.Standing.{Stands}
 use Rattle.hlr_workers.proofs.CrewLemmas.{outs_home}
 use Rattle.hlr_workers.proofs.EngineLemmas.{new_kept, new_stands}

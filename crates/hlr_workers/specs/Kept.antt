@@ -1,0 +1,41 @@
+-- What an engine has, and the rules that it keeps.
+use Rattle.std.specs.Prelude.{◌≡◌, ◌≤◌, ℕ, List, length, Option, None, Some, slice_get}
+use Rattle.std.specs.List.{AllByRecursion}
+use Rattle.holding.specs.Held.{HoldingState}
+use Rattle.holding.specs.declared.job.Job.{Job}
+use Rattle.hlr_owners.specs.Out.{outs_in}
+use Rattle.hlr_owners.specs.Seats.{Seating}
+use Rattle.hlr_core.specs.declared.event.Reply.{Reply}
+use Rattle.hlr_workers.specs.Session.{AreNumberless}
+use Rattle.hlr_workers.specs.Standing.{AreNumbered, Engaged, numbered_in}
+
+-- a register, with the parts that are out as they were lent, and the jobs that are out, by the numbers of their parts
+pub record Crewed : Type 0 where
+  pub house : Seating
+  pub jobs : List (List (ℕ × Job))
+
+-- jobs that give no number, of each part
+abbrev pub AllNumberless : List (List (ℕ × Job)) → Type 0
+AllNumberless jobs = AllByRecursion AreNumberless jobs
+
+-- the rules of numbers: a place for each event, with its number; no number out twice, and none of an event that wasn't
+-- taken; no more jobs of a part than events
+pub record InOrder (jobs : List (List (ℕ × Job))) (replies : List (ℕ × Reply)) : Type 0 where
+  pub places : AreNumbered replies
+  pub once : (k : ℕ) → numbered_in k jobs ≤ 1
+  pub below : (k : ℕ) → length replies ≤ k → numbered_in k jobs ≡ 0
+  pub few : (p : ℕ) (own : List (ℕ × Job)) → slice_get jobs p ≡ Some own → length own ≤ length replies
+
+-- what an engine has
+abbrev pub engaged : Crewed → List (ℕ × Reply) → Engaged
+engaged crew replies = record { house = crew.house; jobs = crew.jobs; replies = replies }
+
+-- the rules that a crew and the replies kept keep together
+pub record IsKept (crew : Crewed) (replies : List (ℕ × Reply)) : Type 0 where
+  pub paired : length crew.jobs ≡ length (outs_in crew.house.seats)
+  pub none : AllNumberless crew.jobs
+  pub order : InOrder crew.jobs replies
+
+-- nobody is out
+abbrev pub NoneOut : Crewed → Type 0
+NoneOut crew = AllByRecursion (λ (out : Option HoldingState). out ≡ None) (outs_in crew.house.seats)
