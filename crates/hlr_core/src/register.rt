@@ -421,6 +421,7 @@ impl Register {
         Reply::of_posting(self.seats.post(part, limit))
     }
 
+    #[inline(never)]
     fn give(&mut self, part: u64, side: Side, at: u64) -> Reply
         requires { IsPartHome part self.old }
         ensures step { IsStep (Event.Give part side at) (store_in self.old) result (store_in self.new) }
@@ -433,6 +434,7 @@ impl Register {
         }
     }
 
+    #[inline(never)]
     fn take(&mut self, piece: u64, part: u64) -> Reply
         requires { IsPartHome part self.old }
         ensures step { IsStep (Event.Take piece part) (store_in self.old) result (store_in self.new) }
@@ -450,6 +452,7 @@ impl Register {
         }
     }
 
+    #[inline(never)]
     fn divide(&mut self, part: u64, at: u64) -> Reply
         requires { IsHomeFrom part self.old }
         ensures step { IsStep (Event.Divide part at) (store_in self.old) result (store_in self.new) }
@@ -462,6 +465,7 @@ impl Register {
         }
     }
 
+    #[inline(never)]
     fn dissolve(&mut self, part: u64) -> Reply
         requires { IsHomeFrom (part - 1) self.old }
         ensures step { IsStep (Event.Dissolve part) (store_in self.old) result (store_in self.new) }

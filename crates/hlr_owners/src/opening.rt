@@ -22,8 +22,18 @@ use tatp_actions::Part;
 use tatp_rows::Refusal;
 use view_board::{Board, Desk, WORDS};
 
+/// A holding in a box; `Memory` where this can't be had.
+#[inline(never)]
+fn boxed(alloc: Global, holding: Holding) -> Result<Box<Holding>, Refusal>
+    ensures ok { IfOk result (λ boxed. boxed.value ≡ holding) }
+    ensures err { OnErr result (result ≡ Err Refusal.Memory) }
+{
+    Ok(Box::new(alloc, holding)?)
+}
+
 /// A holding with no row, over a slot that is split off the desk of those that no part has yet. `Memory` where a growth
 /// was refused.
+#[inline(never)]
 fn opened(
     alloc: Global,
     board: &Board,
@@ -44,7 +54,7 @@ fn opened(
 {
     let desk = board.split(spare, slot)?;
     let part = Part::new(alloc, region.lo, region.hi, width)?;
-    Ok(Box::new(alloc, Holding::of(alloc, part, desk))?)
+    boxed(alloc, Holding::of(alloc, part, desk))
 }
 
 impl Seats {
