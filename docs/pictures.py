@@ -78,9 +78,8 @@ def table(head):
 
 def speed():
     """Instructions a command: a bar for each program of the table, in the order of its columns."""
-    kind = ": instructions"
-    head, *rows = table("| | hlr |")
-    rows = [(row[0].removesuffix(kind).strip("`"), [cell.replace(",", "") for cell in row[1:]]) for row in rows if row[0].endswith(kind)]
+    head, *rows = table("| command | hlr |")
+    rows = [(row[0].strip("`"), [cell.replace(",", "") for cell in row[1:]]) for row in rows]
     programs = list(zip(head[1:], SHADES))
     top, high = 40 + 20 * len(programs), 16 * len(programs) + 12
     picture = Picture(640, top + high * len(rows))
