@@ -1,6 +1,6 @@
 -- The weights of the zones, by what is published of them.
 use Rattle.std.proofs.Common.{◌≡◌, ◌∙◌, refl, sym, ap, ℕ, zero, suc, ◌+◌, ◌<◌, ◌≤◌, List, length, map, take, set, get_or, arith}
-use Rattle.std.specs.Prelude.{ℤ, pos, negsuc, ◌-ℤ◌, min}
+use Rattle.std.specs.Prelude.{ℤ, pos, negsuc, ◌-ℤ◌, min, unsigned_abs, int_lt, true, false}
 use Rattle.std.specs.List.{All, range_with_len}
 use Rattle.std.proofs.lemmas.Int.{ints}
 use Rattle.std.proofs.lemmas.List.{take_more_set, take_all}
@@ -20,6 +20,15 @@ use Rattle.tatp_actions.proofs.CountLemmas.{few_in_weight}
 weight_at_most : (amount : ℤ) → weight amount ≤ GREATEST_WEIGHT
 weight_at_most (pos n) = omega arith
 weight_at_most (negsuc n) = omega arith
+
+-- a zone of which less than nothing is published weighs nothing; any other one what is published, at most all rows
+pub weighs_none : (published : ℤ) → int_lt published (pos 0) ≡ true → 0 ≡ weight published
+weighs_none (pos n) below = omega (arith, ints, below)
+weighs_none (negsuc n) below = refl
+
+pub weighs_itself : (published : ℤ) → int_lt published (pos 0) ≡ false → min (unsigned_abs published) GREATEST_WEIGHT ≡ weight published
+weighs_itself (pos n) above = refl
+weighs_itself (negsuc n) above = omega (arith, ints, above)
 
 -- one weight more
 pub weights_more : (f : ℕ → ℕ) (zone : ℕ) (weights : List ℕ) (w : ℕ) → zone < length weights → take zone weights ≡ map f (range_with_len 0 zone) → w ≡ f zone

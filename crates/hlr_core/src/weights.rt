@@ -15,10 +15,10 @@ const _: () = prove!(ZONES == 32);
 fn weight_of(published: i64) -> u64
     ensures { result ≡ weight published }
 {
-    match u64::try_from(published) {
-        Ok(count) => count.min(GREATEST_WEIGHT),
-        Err(_) => 0,
+    if published < 0 {
+        return 0;
     }
+    published.unsigned_abs().min(GREATEST_WEIGHT)
 }
 
 /// The weights of the zones, by the cells as published.
