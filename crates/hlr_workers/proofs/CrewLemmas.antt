@@ -25,8 +25,8 @@ use Rattle.hlr_core.specs.Session.{IsJobOf, IsWithinJob}
 use Rattle.hlr_core.specs.declared.event.Reply.{Reply}
 use Rattle.hlr_core.proofs.SentLemmas.{within_job}
 use Rattle.hlr_workers.specs.Finish.{Sent}
-use Rattle.hlr_workers.specs.Inside.{AreIdle, HasWorker, IsHomeAgain, IsOut, IsSentTo, is_sent_more, jobs_at}
-use Rattle.hlr_workers.specs.Kept.{Crewed}
+use Rattle.hlr_workers.specs.Inside.{AreIdle, IsHomeAgain, IsOut, IsSentTo, is_sent_more}
+use Rattle.hlr_workers.specs.Kept.{Crewed, HasWorker, jobs_at}
 use Rattle.hlr_workers.specs.Session.{AreNumberless, IsNumberless, IsSession}
 use Rattle.hlr_workers.specs.declared.work.TheConstants.{MOST_PENDING}
 use Rattle.hlr_workers.proofs.BackLemmas.{session_back}

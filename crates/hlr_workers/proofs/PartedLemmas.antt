@@ -33,8 +33,8 @@ use Rattle.hlr_core.specs.declared.event.Event.TheVariants.{SubscriberData, NewD
 use Rattle.hlr_core.specs.declared.event.Event.TheVariants.{AddSubscriber, AddAccess, AddFacility, SetActive, SetNumber, Post, Give, Take, Divide, Dissolve}
 use Rattle.hlr_core.specs.declared.event.Reply.{Reply}
 use Rattle.hlr_workers.specs.Finish.{Sent}
-use Rattle.hlr_workers.specs.Inside.{HasWorker, IsBehind, IsCrewParted, IsPlace, New, Parting, Same, jobs_at, parted, parting_of}
-use Rattle.hlr_workers.specs.Kept.{Crewed}
+use Rattle.hlr_workers.specs.Inside.{IsBehind, IsCrewParted, IsPlace, New, Parting, Same, parted, parting_of}
+use Rattle.hlr_workers.specs.Kept.{Crewed, HasWorker, jobs_at}
 use Rattle.hlr_workers.specs.Standing.{changes_parts}
 use Rattle.hlr_workers.proofs.CrewLemmas.{as_parts, idle_parts, out_is, outs_home}
 use Rattle.hlr_workers.proofs.HouseLemmas.{part_at}

@@ -20,18 +20,6 @@ abbrev pub land : List (ℕ × Reply) → List (ℕ × Reply) → List (ℕ × R
 land replies [] = replies
 land replies (one ∷ answers) = land (slice_set replies one.0 one) answers
 
--- the jobs that a worker has, if there is one
-abbrev pub jobs_at : Option Sent → List (ℕ × Job)
-jobs_at None = []
-jobs_at (Some sent) = sent.jobs
-
--- a part that is out has a worker, who was sent its holding, and jobs that give no number; one at home has none
-abbrev pub HasWorker : Option HoldingState → Option Sent → Type 0
-HasWorker None None = ⊤
-HasWorker None (Some sent) = ⊥
-HasWorker (Some lent) None = ⊥
-HasWorker (Some lent) (Some sent) = (sent.lent ≡ lent) × AreNumberless sent.jobs
-
 -- a part was out before, or has gone out, with no job yet
 abbrev pub IsOut : ℕ → Crewed → Crewed → Type 0
 IsOut part before after =

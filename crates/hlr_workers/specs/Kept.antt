@@ -1,11 +1,12 @@
 -- What an engine has, and the rules that it keeps.
-use Rattle.std.specs.Prelude.{◌≡◌, ◌≤◌, ℕ, List, length, Option, None, Some, slice_get}
+use Rattle.std.specs.Prelude.{◌≡◌, ◌≤◌, ℕ, List, [], length, Option, None, Some, slice_get, ⊤}
 use Rattle.std.specs.List.{AllByRecursion}
 use Rattle.holding.specs.Held.{HoldingState}
 use Rattle.holding.specs.declared.job.Job.{Job}
 use Rattle.hlr_owners.specs.Out.{outs_in}
 use Rattle.hlr_owners.specs.Seats.{Seating}
 use Rattle.hlr_core.specs.declared.event.Reply.{Reply}
+use Rattle.hlr_workers.specs.Finish.{Sent}
 use Rattle.hlr_workers.specs.Session.{AreNumberless}
 use Rattle.hlr_workers.specs.Standing.{AreNumbered, Engaged, numbered_in}
 
@@ -13,6 +14,18 @@ use Rattle.hlr_workers.specs.Standing.{AreNumbered, Engaged, numbered_in}
 pub record Crewed : Type 0 where
   pub house : Seating
   pub jobs : List (List (ℕ × Job))
+
+-- the jobs that a worker has, if there is one
+abbrev pub jobs_at : Option Sent → List (ℕ × Job)
+jobs_at None = []
+jobs_at (Some sent) = sent.jobs
+
+-- a part that is out has a worker, who was sent its holding, and jobs that give no number; one at home has none
+abbrev pub HasWorker : Option HoldingState → Option Sent → Type 0
+HasWorker None None = ⊤
+HasWorker None (Some sent) = ⊥
+HasWorker (Some lent) None = ⊥
+HasWorker (Some lent) (Some sent) = (sent.lent ≡ lent) × AreNumberless sent.jobs
 
 -- jobs that give no number, of each part
 abbrev pub AllNumberless : List (List (ℕ × Job)) → Type 0

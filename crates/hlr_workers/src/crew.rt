@@ -38,8 +38,7 @@ impl Model for Crew {
     ghost use Rattle.std.specs.Prelude.{map};
     ghost use Rattle.std.specs.List.{AllZip};
     ghost use Rattle.hlr_owners.specs.Out.{outs_in};
-    ghost use Rattle.hlr_workers.specs.Inside.{HasWorker, jobs_at};
-    ghost use Rattle.hlr_workers.specs.Kept.{Crewed};
+    ghost use Rattle.hlr_workers.specs.Kept.{Crewed, HasWorker, jobs_at};
 
     ghost Value = { Crewed };
 

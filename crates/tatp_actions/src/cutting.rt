@@ -196,7 +196,7 @@ impl Part {
     }
 
     /// Cuts the part at a subscriber strictly inside its range, as `slice` does, and puts the half that it gives in the
-    /// place of another part.
+    /// place of another part, whose own rows are let go.
     ///
     /// `Memory` where the blank nodes can't be had, all of which are taken first: then both are as before.
     pub fn slice_into(&mut self, at: u32, side: Side, given: &mut Part) -> Result<(), Refusal>
