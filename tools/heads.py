@@ -1,12 +1,13 @@
 #!/usr/bin/env python3
 """Checks what specs say of themselves: a definition that is said to be cited by no public clause is cited by none.
 
-    python3 tools/heads.py      from the repository's top; prints each that is cited, and ends with status 1 then
+    python3 tools/heads.py [--count]      prints each that is cited, and ends with status 1 then
 
 A file's first line, or the comment in front of one definition, says so by the words 'no public clause' or 'no clause of
 a public call'; of a file with a folder of its name the files in it are meant too. A public clause is a clause or a ghost
-item of what a library's lib.rt gives out: functions, methods, traits, structs and models. A definition is cited by a
-clause that names it, or that names another definition that cites it.
+item of what a library's lib.rt gives out (of the program, of its five public items): functions, methods, traits, structs,
+their models, and the models of what lies in their fields. A definition is cited by a clause that names it, or that names
+another definition that cites it.
 """
 import re
 import sys
@@ -15,6 +16,7 @@ from pathlib import Path
 CLAIM = re.compile(r"no (?:clause of a )?public (?:clause|call)", re.I)
 NAME = re.compile(r"[^\s(){}\[\],;.`\\]+(?:\.[^\s(){}\[\],;`\\]+)*")
 IMPORT = re.compile(r"^\s*(?:ghost )?(?:pub )?use Rattle\.(\w+)\.specs\.([\w.]+?)\.\{([^}]*)\}", re.M)
+PROGRAM = ("run", "run_alone", "read_options", "Sink", "Out")
 DEFINITION = re.compile(r"^(?:abbrev |unfoldable |pub |record |data )*(?:pub )(?:record |data )?(\S+)")
 
 
@@ -55,7 +57,7 @@ def definitions(crate, folder):
             begins = DEFINITION.match(line)
             if begins and not line.startswith(("pub mod", "pub use", "use ")):
                 name = begins.group(1)
-                now = found.setdefault((crate, module, name), Definition(file, number, " ".join(comment)))
+                now = found.setdefault((crate, module, name), Definition(file, number, " ".join(comment).replace(" -- ", " ")))
             if now and line.strip():
                 now.text += line + "\n"
             if line.strip():
@@ -64,8 +66,11 @@ def definitions(crate, folder):
 
 
 def given_out(folder):
-    """The names that a library gives out, and the modules that it gives out whole."""
-    text = (folder / "src/lib.rt").read_text()
+    """The names that a crate gives out, and the modules that it gives out whole; of a program its five public items."""
+    root = folder / "src/lib.rt"
+    if not root.exists():
+        return set(PROGRAM), set()
+    text = root.read_text()
     names = set()
     for group in re.findall(r"^pub use [\w:]+::\{([^}]*)\}", text, re.M):
         names |= {name.strip() for name in group.split(",") if name.strip()}
@@ -73,46 +78,75 @@ def given_out(folder):
     return names, set(re.findall(r"^pub mod (\w+)", text, re.M))
 
 
-def clause(lines, at):
-    """The lines of an item's head, from its first to the one that ends it: `{` alone, or `;`, or `}` of an impl."""
-    head = []
+def head_of(lines, at):
+    """The head of the item that begins on a line: up to the line that opens its body, or ends it."""
+    head, depth = [], 0
     for line in lines[at:]:
-        head.append(line)
-        if line.rstrip() in ("{", "    {") or line.rstrip().endswith(";") and "{" not in line.split("//")[0][-1:]:
+        code = line.split("//")[0].strip()
+        if depth == 0 and code in ("{", "{}"):
             break
-        if line.rstrip().endswith("};"):
+        head.append(line)
+        depth += code.count("{") - code.count("}")
+        if depth == 0 and (code.endswith(";") or code == "}"):
             break
     return "\n".join(head)
 
 
-def public_texts(folder):
-    """The texts of a library's public clauses, each with the imports of its file."""
-    names, modules = given_out(folder)
+def sources(folder):
+    """The files of a crate's code, without its tests."""
     for file in sorted((folder / "src").rglob("*.rt")):
-        if "tests" in file.stem or "tests" in file.parts:
-            continue
+        if not any("tests" in part for part in (file.stem, *file.parts)):
+            yield file
+
+
+def seen_through(folder, names):
+    """The names with those of the types that lie in fields of what they name, and so on."""
+    fields = {}
+    for file in sources(folder):
+        for name, body in re.findall(r"^(?:pub(?:\(\w+\))? )?(?:struct|enum) (\w+)[^{;]*\{(.*?)^\}", file.read_text(), re.M | re.S):
+            fields.setdefault(name, set()).update(re.findall(r"\b[A-Z]\w*", body))
+    wait, seen = list(names), set(names)
+    while wait:
+        for name in fields.get(wait.pop(), ()):
+            if name not in seen:
+                seen.add(name)
+                wait.append(name)
+    return seen
+
+
+BLOCK = re.compile(r"(?:unsafe )?(impl|pub trait|pub struct|pub enum)\b(?:<[^>]*>)?\s*(?:([\w:]+)(?:<.*>)?\s+for\s+)?(\w+)")
+CALL = re.compile(r"\s*(?:pub(?:\(\w+\))? )?(?:extern \"C\" )?(?:const )?(?:unsafe )?(?:extern \"C\" )?fn (\w+)")
+
+
+def public_texts(folder):
+    """The texts of a crate's public clauses, each with the imports of its file."""
+    names, modules = given_out(folder)
+    seen = seen_through(folder, names)
+    for file in sources(folder):
         text = file.read_text()
-        lines = text.splitlines()
-        whole = file.stem in modules
-        used = imports(text)
-        inside = None
+        lines, used, whole = text.splitlines(), imports(text), file.stem in modules
+        kind, of_trait, owner = None, None, None
         for at, line in enumerate(lines):
-            block = re.match(r"(?:unsafe )?(impl|pub trait|pub struct|pub enum|trait)\b(?:<[^>]*>)?\s*(?:(\w+)(?:<.*>)?\s+for\s+)?(\w+)", line)
+            block = BLOCK.match(line)
             if block:
                 kind, of_trait, owner = block.groups()
-                is_public = owner in names or whole
-                inside = (kind, of_trait, is_public)
             elif line.startswith("}"):
-                inside = None
-            begins = re.match(r"(\s*)(?:pub )?(?:extern \"C\" )?(?:const )?(?:unsafe )?fn (\w+)", line)
-            if begins and line.lstrip().startswith(("pub fn", "pub extern", "pub const fn")):
-                is_given = whole or (inside[2] if inside else begins.group(2) in names or "extern" in line)
-                if is_given:
-                    yield clause(lines, at), used
-            elif begins and inside and inside[0] == "pub trait" and inside[2]:
-                yield clause(lines, at), used
-            elif inside and inside[2] and line.lstrip().startswith("ghost "):
-                yield clause(lines, at), used
+                kind, of_trait, owner = None, None, None
+            call, word = CALL.match(line), line.lstrip()
+            if call and word.startswith(("fn ", "pub fn ", "pub extern", "pub const fn", "pub unsafe fn")):
+                is_pub = word.startswith("pub ") or of_trait or kind == "pub trait"
+                is_given = whole or (owner in names if owner else call.group(1) in names or "extern" in line)
+                if is_pub and is_given:
+                    yield head_of(lines, at), used
+            elif owner and word.startswith("ghost ") and (whole or owner in (seen if of_trait == "Model" else names)):
+                yield head_of(lines, at), used
+
+
+def meant(key, found, used):
+    """The definition that a name stands for, where its module only gives it out."""
+    while key and key not in found and key[2] in used.get(key[:2], ()):
+        key = used[key[:2]][key[2]]
+    return key
 
 
 def closure(top):
@@ -123,11 +157,9 @@ def closure(top):
         found |= one
         used |= two
     for crate, folder in crates(top):
-        if not (folder / "src/lib.rt").exists():
-            continue
         for text, names in public_texts(folder):
             for word in NAME.findall(text):
-                key = names.get(word) or names.get(word.split(".")[0])
+                key = meant(names.get(word) or names.get(word.split(".")[0]), found, used)
                 if key in found and key not in cited:
                     cited[key] = "a public clause of " + crate
                     wait.append(key)
@@ -136,7 +168,7 @@ def closure(top):
         names = used[key[:2]]
         for word in NAME.findall(found[key].text):
             for part in (word, word.split(".")[0]):
-                other = names.get(part, (key[0], key[1], part))
+                other = meant(names.get(part, (key[0], key[1], part)), found, used)
                 if other in found and other not in cited:
                     cited[other] = ".".join(key)
                     wait.append(other)
@@ -151,7 +183,8 @@ def main():
     claims = set()
     for crate, folder in crates(top):
         for file in (folder / "specs").rglob("*.antt"):
-            if CLAIM.search(file.read_text().partition("\nuse ")[0].partition("\npub ")[0]):
+            front = file.read_text().partition("\nuse ")[0].partition("\npub ")[0].partition("\n\n")[0]
+            if CLAIM.search(front.replace("\n-- ", " ")):
                 claims.add(file)
                 claims |= set(file.with_suffix("").rglob("*.antt"))
     wrong = 0
@@ -162,7 +195,8 @@ def main():
             place = definition.file.relative_to(top)
             print(f"{place}:{definition.line}: {key[2]} is cited, by {cited[key]}")
     said = sum(1 for d in found.values() if d.file in claims or CLAIM.search(d.comment))
-    print(f"{said} definitions are said to be inside, {wrong} of them are cited by public clauses")
+    if "--count" in sys.argv:
+        print(f"{said} definitions are said to be inside, {wrong} of them are cited by public clauses")
     sys.exit(1 if wrong else 0)
 
 

@@ -68,7 +68,7 @@ tool python3 'the pictures of docs, the index of definitions, heads of specs, an
 pictures
 for script in 'definitions.py --check' heads.py; do
   # shellcheck disable=SC2086
-  if [ -f "tools/${script%% *}" ]; then says_nothing "tools/$script" python3 tools/$script; fi
+  says_nothing "tools/$script" python3 tools/$script
 done
 if program_built; then
   hlr_on --help < /dev/null
