@@ -1,6 +1,8 @@
-/* A day of examples/library/day.c, whose main is day_main here, in a thread with a stack of STACK_KB and no byte more: a
- * page that can't be touched lies below it. The C library keeps what it knows of the thread in the stack too. */
+/* Calls in threads with a stack of STACK_KB and no byte more: a page that can't be touched lies below it. The first one
+ * has a day of examples/library/day.c, whose main is day_main here; the second one a register whose trees are four levels
+ * high, and each call that changes many rows. The C library keeps what it knows of a thread in its stack too. */
 #define _GNU_SOURCE
+#include "hlr.h"
 #include <pthread.h>
 #include <stdint.h>
 #include <stdio.h>
@@ -8,22 +10,101 @@
 #include <unistd.h>
 
 #define STACK_KB 64
+#define ROWS 200000
 
 int day_main(void);
+
+/* What the second thread works on; none of it lies in its stack. */
+static hlr many = HLR_CLOSED;
+static hlr_region region;
+static hlr_bounds bounds;
+static uint64_t told, counts[HLR_CELLS];
+static int64_t published[HLR_CELLS], unposted[HLR_CELLS];
 
 static void *day(void *none) {
     (void)none;
     return (void *)(intptr_t)day_main();
 }
 
-int main(void) {
+/* The line of a call that didn't answer DONE. */
+#define DO(call) do { if ((call) != HLR_DONE) return __LINE__; } while (0)
+
+/* All rows of one subscriber. */
+static int add(uint64_t s_id) {
+    static hlr_subscriber row = {.msc_location = 1};
+    static hlr_access access = {.ai_type = 1, .data3 = "ABC", .data4 = {'A', 'B', 'C', 'D', 'E'}};
+    static hlr_facility facility = {.sf_type = 1, .is_active = 1, .data_b = {'A', 'B', 'C', 'D', 'E'}};
+    row.s_id = access.s_id = facility.s_id = row.sub_nbr = row.vlr_location = s_id;
+    DO(hlr_add_subscriber(&many, &row));
+    DO(hlr_add_access(&many, &access));
+    DO(hlr_add_facility(&many, &facility));
+    for (uint64_t hour = 0; hour < 24; hour += 8) DO(hlr_insert_forwarding(&many, s_id, 1, hour, hour + 8, s_id));
+    return 0;
+}
+
+static int filled(void) {
+    int line;
+    DO(hlr_open(2, ROWS / 32 + 1, &many));
+    for (uint64_t n = 0; n < ROWS; n++)
+        if ((line = add(1 + n * 61681 % ROWS)) != 0) return line;
+    return 0;
+}
+
+/* Rows go from part to part, parts come and go, and all counts are told. */
+static int moved(void) {
+    for (int side = 0; side < 2; side++) {
+        DO(hlr_give(&many, 1 - side, side, side ? ROWS / 7 : ROWS - ROWS / 7, &region));
+        DO(hlr_take(&many, region.number, 1 - side));
+    }
+    DO(hlr_divide(&many, 0, ROWS / 3, &region));
+    DO(hlr_post(&many, region.number, HLR_CELLS, &told));
+    DO(hlr_dissolve(&many, region.number, &region));
+    for (uint64_t part = 0; part < 2; part++) DO(hlr_post(&many, part, HLR_CELLS, &told));
+    DO(hlr_propose(&many, &bounds));
+    DO(hlr_recut(&many, &bounds, &told));
+    DO(hlr_views(&many, published, unposted));
+    DO(hlr_scan(&many, counts));
+    for (int cell = 0; cell < HLR_CELLS; cell++)
+        if (published[cell] + unposted[cell] != (int64_t)counts[cell]) return __LINE__;
+    return 0;
+}
+
+/* Rows are taken away, numbers change, facilities are switched. */
+static int emptied(void) {
+    for (uint64_t s_id = 1; s_id <= ROWS; s_id++) {
+        DO(hlr_set_active(&many, s_id, 1, s_id % 2));
+        DO(hlr_set_number(&many, s_id, ROWS + s_id));
+        DO(hlr_update_location(&many, ROWS + s_id, 7));
+        for (uint64_t hour = 0; hour < 24; hour += 8) DO(hlr_delete_forwarding(&many, ROWS + s_id, 1, hour));
+    }
+    DO(hlr_close(&many));
+    return 0;
+}
+
+static void *much(void *none) {
+    int line;
+    (void)none;
+    if ((line = filled()) != 0 || (line = moved()) != 0) return (void *)(intptr_t)line;
+    return (void *)(intptr_t)emptied();
+}
+
+/* What a thread with the small stack answers. */
+static int in_thread(void *(*work)(void *)) {
     size_t page = (size_t)sysconf(_SC_PAGESIZE), size = STACK_KB * 1024;
     char *stack = mmap(NULL, page + size, PROT_READ | PROT_WRITE, MAP_PRIVATE | MAP_ANONYMOUS | MAP_STACK, -1, 0);
     pthread_attr_t how;
     pthread_t thread;
-    void *status;
+    void *answer;
     if (stack == MAP_FAILED || mprotect(stack, page, PROT_NONE)) return 2;
     if (pthread_attr_init(&how) || pthread_attr_setstack(&how, stack + page, size)) return 2;
-    if (pthread_create(&thread, &how, day, NULL) || pthread_join(thread, &status)) return 2;
-    return (int)(intptr_t)status;
+    if (pthread_create(&thread, &how, work, NULL) || pthread_join(thread, &answer)) return 2;
+    return (int)(intptr_t)answer;
+}
+
+int main(void) {
+    int status = in_thread(day);
+    if (status != 0) return status;
+    status = in_thread(much);
+    if (status != 0) fprintf(stderr, "line %d\n", status);
+    return status != 0;
 }
