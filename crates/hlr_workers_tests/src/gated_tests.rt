@@ -87,6 +87,20 @@ fn done_beside<R: Threads + Wait + Copy + Send + Sync + 'static>(
     engine.settle(rt)
 }
 
+// One more read than the queue of a worker has places: its worker is held up at the first, and the others wait in the
+// queue.
+#[test]
+fn reads_wait_in_the_queue(rt: HostRuntime) {
+    let gate = Arc::new(rt.alloc(), Hold::of(0)).expect(&rt, "a gate");
+    let register = filled(&rt, rt.alloc(), 1, &[1]);
+    let mut engine = engine_over(&rt, rt.alloc(), register, &gate);
+    let replies = done_beside(&rt, &mut engine, &gate, &[read(1); 257]);
+    let (register, _none) = engine.close(&rt);
+    drop(register);
+    let found = (are_rows(&rt, &replies, &[1; 257]), gate.gave_up());
+    assert_eq!(rt; found, (true, false));
+}
+
 /// A read of each of three parts; then, between reads of the second and the third, what the register does there, and
 /// what is known at once.
 fn events_beside(rt: &impl Abort) -> [Event; 11] {
