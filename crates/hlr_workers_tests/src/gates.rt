@@ -102,6 +102,47 @@ impl Gate for Hold {
     fn after(&self, _part: u8, _seq: u64) {}
 }
 
+/// A gate that counts the jobs that are done.
+#[derive(Drop)]
+pub struct Tally {
+    done: AtomicU64,
+    gave_up: AtomicBool,
+}
+
+impl Tally {
+    /// A gate behind which no job was done.
+    pub fn new() -> Self {
+        Tally {
+            done: AtomicU64::new(0),
+            gave_up: AtomicBool::new(false),
+        }
+    }
+
+    /// Waits until so many jobs are done.
+    pub fn wait_for(&self, jobs: u64) {
+        for _ in 0..TURNS {
+            if self.done.load(Ordering::SeqCst) >= jobs {
+                return;
+            }
+            thread::yield_now();
+        }
+        self.gave_up.store(true, Ordering::SeqCst);
+    }
+
+    /// Whether somebody gave up waiting.
+    pub fn gave_up(&self) -> bool {
+        self.gave_up.load(Ordering::SeqCst)
+    }
+}
+
+impl Gate for Tally {
+    fn before(&self, _part: u8, _seq: u64) {}
+
+    fn after(&self, _part: u8, _seq: u64) {
+        self.done.fetch_add(1, Ordering::SeqCst);
+    }
+}
+
 /// How many parts have their calls counted.
 const COUNTED: u64 = 3;
 

@@ -4,12 +4,12 @@ use crate::engines::{
     DONE, are_replies, are_rows, closed, engine_over, filled, has_posting, number, open_gate, read,
     read_all, row, row_reply, submit,
 };
-use crate::gates::Open;
+use crate::gates::{Open, Tally};
 use hlr_core::{Event, Register, Reply};
 use hlr_workers::Engine;
 use std::alloc::Global;
 use std::process::Abort;
-use std::sync::Wait;
+use std::sync::{Arc, Wait};
 use std::thread::{self, Threads};
 use std::time::{Clock, Duration};
 use tatp_actions::{CELLS, RowReply};
@@ -256,4 +256,38 @@ fn sleeping_worker_is_woken(rt: HostRuntime) {
     let engine = engine_over(&rt, rt.alloc(), register, &gate);
     let replies = reads_apart(&rt, engine);
     assert!(rt; are_rows(&rt, &replies, &[7; 3]));
+}
+
+/// How many reads are submitted one after another, each once the one before is done.
+const SPACED: u64 = 2_000;
+
+/// The replies to reads of subscriber 7, each of which is submitted once the one before is done, and up to a
+/// millisecond after it: about when its worker, which finds nothing, goes to sleep.
+fn reads_spaced<R: Threads + Wait + Clock + Copy + Send + Sync + 'static>(
+    rt: &R,
+    engine: &mut Engine<Tally>,
+    gate: &Tally,
+) -> Vec<(u64, Reply)> {
+    for turn in 0..SPACED {
+        let _number = submit(rt, engine, read(7));
+        gate.wait_for(turn + 1);
+        thread::sleep(rt, Duration::from_micros(turn % 1_000));
+    }
+    engine.settle(rt)
+}
+
+// The gate gives up on a read whose push did not wake the worker.
+#[test]
+fn worker_that_falls_asleep_is_woken(rt: HostRuntime) {
+    let gate = Arc::new(rt.alloc(), Tally::new()).expect(&rt, "a gate");
+    let register = filled(&rt, rt.alloc(), 1, &[7]);
+    let mut engine = engine_over(&rt, rt.alloc(), register, &gate);
+    let replies = reads_spaced(&rt, &mut engine, &gate);
+    let (register, _none) = engine.close(&rt);
+    drop(register);
+    let found = (
+        are_rows(&rt, &replies, &[7; SPACED as usize]),
+        gate.gave_up(),
+    );
+    assert_eq!(rt; found, (true, false));
 }
