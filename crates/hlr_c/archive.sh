@@ -1,6 +1,6 @@
 #!/usr/bin/env bash
-# Proves hlr_c and builds out/libhlr_c.a over the libraries that `rt ci` left in crates/*/out. `rt lib` does so too, but it
-# doesn't take those libraries, and proves all of them again.
+# Proves hlr_c and builds out/libhlr_c.a, for every x86-64 processor, over the libraries that `rt ci` left in
+# crates/*/out. `rt lib --cpu x86-64` does so too, but it doesn't take those libraries, and proves all of them again.
 set -eu
 cd "$(dirname "$0")"
 rm -f out/libhlr_c.a
@@ -17,4 +17,4 @@ for library in ../*/out/rlib; do
   words+=(-L "dependency=$library")
 done
 exec "$kit/bin/rattle" build "${words[@]}" --antt-project "$kit/rattle/logic/antt-project.json" \
-  --logic-built "$kit/logic_built" --toolchain "$kit/toolchain" --backend llvm --jobs 1 -o out/libhlr_c.a
+  --logic-built "$kit/logic_built" --toolchain "$kit/toolchain" --backend llvm --cpu x86-64 --jobs 1 -o out/libhlr_c.a

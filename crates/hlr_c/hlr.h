@@ -27,9 +27,6 @@
  *   - malloc, realloc and free are those of one allocator, and align a block to each power of two up to 16 that divides
  *     its size. No call is made from a signal handler, or in the forked child of a process with threads.
  *   - A call needs at most 64 KB of stack.
- *   - The processor has what x86-64-v2 asks for, SSE4.2 and POPCNT. No call tests that, and without it a call may end
- *     the process by an illegal instruction. In gcc and clang __builtin_cpu_supports("sse4.2") tells it.
- *     `rt lib --cpu x86-64` builds a library for every x86-64.
  *
  * Link libhlr_c.a and then liblibc_c.a of the kit, which has what the library asks of malloc and free.
  */
