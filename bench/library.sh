@@ -2,7 +2,7 @@
 # Millions of calls a second from C of libhlr_c.a, and how many times as fast it is as BTreeMaps behind the same calls; for
 # each call the best of some rounds in turns.
 #
-#   bench/library.sh [ROUNDS [SUBSCRIBERS ..]]     at the repository's top, once `rt lib` ran in crates/hlr_c;
+#   bench/library.sh [ROUNDS [SUBSCRIBERS ..]]     at the repository's top, once `rt lib --cpu x86-64` ran in crates/hlr_c;
 #                                                  LIBRARY is another libhlr_c.a
 set -euo pipefail
 rounds=${1:-7}

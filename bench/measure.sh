@@ -5,7 +5,7 @@
 #   bash bench/measure.sh write      builds the programs to measure beside, and writes the loads; once, before
 #   bash bench/measure.sh [NAME ..]  measures: beside, parts, engine, threads, library; without a name all of them
 #
-# At the repository's top, once `rt run` ran in crates/hlr and `rt lib` in crates/hlr_c; it works in /tmp/bench (ROOM). HLR is
+# At the repository's top, once `rt run` ran in crates/hlr and `rt lib --cpu x86-64` in crates/hlr_c; it works in /tmp/bench (ROOM). HLR is
 # another program, ENGINE an engine_bench that is built (bench/engine/run.sh builds it).
 set -eu
 export ROOM=${ROOM:-/tmp/bench}

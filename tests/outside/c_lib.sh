@@ -2,7 +2,7 @@
 # What the parts share that compile C: the library's archive, and the preload of tests/preload. It is read behind lib.sh.
 archive=crates/hlr_c/out/libhlr_c.a
 
-archive_built() { built "$archive" 'run crates/hlr_c/archive.sh behind rt ci, or rt lib in crates/hlr_c'; }
+archive_built() { built "$archive" 'run crates/hlr_c/archive.sh behind rt ci, or rt lib --cpu x86-64 in crates/hlr_c'; }
 
 # compiled NAME WORD ..: gcc with these words makes $room/NAME.
 compiled() {
