@@ -7,3 +7,4 @@ pub mod OwedFacts
 pub mod ReportFacts
 pub mod RunFacts
 pub mod SinkFacts
+pub mod ToldFacts

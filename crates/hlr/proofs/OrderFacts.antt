@@ -15,6 +15,7 @@ use Rattle.hlr.specs.Orders.{answer_in, answers_in, order_of, orders_of, recut_a
 use Rattle.hlr.specs.Records.{bounds_of, command_of}
 use Rattle.hlr.specs.Run.{AnsweredRecords}
 use Rattle.hlr.specs.Text.{CommandText, RecordsText, RecutText}
+use Rattle.hlr.proofs.ToldFacts.{answers_told}
 
 -- a re-cut, and a run behind it
 recut_run : (bounds : Result (ArrayVec ℕ) Refusal) (before : Store) (text : List ℕ) (next : Store) (told : RecutText bounds before text next)
@@ -54,6 +55,7 @@ answered_records start rows text end few told = record {
   text = text;
   end = end;
   answers = told;
+  tells = answers_told rows start text end told;
   run = records_run rows start text end told;
   kept = same_at_home (orders_of rows) (answers_in rows start text end told) start end (records_run rows start text end told);
 }

@@ -3,11 +3,9 @@ use Rattle.std.proofs.Common.{◌≡◌, refl, sym, ap, ◌∙◌, subst, ℕ, �
 use Rattle.std.specs.Prelude.{◌⊎◌, map, IfSome, Result, Ok, Err, MatchResult}
 use Rattle.std.proofs.lemmas.List.{append-nil}
 use Rattle.std.specs.Io.KnownBytes.{Keeps}
-use Rattle.csv.specs.Reading.{ReadRecord, Reached, default_config, reader_config, reader_state, source_of}
+use Rattle.csv.specs.Reading.{Reached, default_config}
 use Rattle.csv.specs.declared.parser.State.{State}
 use Rattle.csv.specs.declared.parser.State.TheVariants as st
-use Rattle.csv.specs.declared.reader.Reader.{Reader}
-use Rattle.csv.proofs.ReadFacts.{rows-more, rows-end}
 use Rattle.arrayvec.specs.ArrayVec.{ArrayVec}
 use Rattle.tatp_rows.specs.declared.refusal.Refusal.{Refusal}
 use Rattle.hlr_owners.specs.Recut.{IsRecut}
@@ -23,8 +21,9 @@ use Rattle.hlr.specs.Command.{Command as command}
 use Rattle.hlr.specs.Inside.{Answers, AreAnswered, AreBrokenOff, AskFor, HasAnswered, HasCome, HasComeTo, HasComeToEnd, HasTaken, IsAtRest, IsOwed, IsUnderway, kind_of, replies_text, with_sight, word_of_report}
 use Rattle.hlr.specs.Lines.{reply_line}
 use Rattle.hlr.specs.Records.{bounds_of, command_named, command_of, field, word_named}
-use Rattle.hlr.specs.Run.{Ran, RanFront}
+use Rattle.hlr.specs.Run.{RanFront}
 use Rattle.hlr.specs.Sink.{Puts}
+use Rattle.hlr.specs.Source.{AreRead, AsksEvent, HasNextEvent, RanUntil, ReadsOne, StoppedFront, StopsBehind, Unread}
 use Rattle.hlr.specs.Text.{CommandText, RecordText, RecordsText, RecutText}
 use Rattle.hlr.specs.declared.fault.Fault.{Fault}
 use Rattle.hlr.specs.declared.fault.Fault.TheVariants as fault
@@ -36,7 +35,7 @@ use Rattle.hlr.specs.declared.records.Word.TheVariants as word
 use Rattle.hlr.specs.declared.run.TheConstants.{RECORDS}
 use Rattle.hlr.specs.declared.sink.Stalled.{Stalled}
 use Rattle.hlr.proofs.OrderFacts.{answered_records}
-use Rattle.hlr.proofs.RunFacts.{front_is_whole, if_some, records_more}
+use Rattle.hlr.proofs.RunFacts.{front_is_whole, has_next, if_known, if_some, read_all, read_more, read_none, records_more, stopped_at_last, stopped_by_read}
 use Rattle.hlr.proofs.SinkFacts.{appends_both, appends_kept, appends_none, front_after, front_all}
 
 -- the events that records ask for, one more
@@ -238,12 +237,13 @@ broken_kept rows start house old mid new stalled done kept told = record {
 }
 
 -- a run that came to a record and no further, unless the sink failed
-pub come_to : (start : Store) (bytes : List ℕ) (e : Engaged) (old new : Option (List ℕ)) (why : Fault) → (why ≡ fault.Write → ⊥) → HasComeTo start bytes e old new → HasCome start bytes e old new (Err why)
-come_to start bytes e old new fault.Memory unless come = come
-come_to start bytes e old new fault.Field unless come = come
-come_to start bytes e old new fault.Thread unless come = come
-come_to start bytes e old new fault.Read unless come = come
-come_to start bytes e old new fault.Write unless come = absurd (unless refl)
+pub come_to : (stops : List (List (List ℕ)) → Fault → Type 0) (start : Store) (bytes : List ℕ) (e : Engaged) (old new : Option (List ℕ)) (why : Fault) → (why ≡ fault.Write → ⊥)
+    → HasComeTo stops start bytes e old new why → HasCome stops start bytes e old new (Err why)
+come_to stops start bytes e old new fault.Memory unless come = come
+come_to stops start bytes e old new fault.Field unless come = come
+come_to stops start bytes e old new fault.Thread unless come = come
+come_to stops start bytes e old new fault.Read unless come = come
+come_to stops start bytes e old new fault.Write unless come = absurd (unless refl)
 
 -- a reader's fault is none of the sink
 pub read_is_no_write : (why : Fault) → (why ≡ fault.Memory) ⊎ (why ≡ fault.Read) → why ≡ fault.Write → ⊥
@@ -264,20 +264,29 @@ broken_front rows start bytes old new stalled state left broken few reached = re
   grew = broken.front.grew;
 }
 
+-- a front of the text after a fault of the sink
+pub front_until : (stops : List (List (List ℕ)) → Fault → Type 0) (start : Store) (bytes : List ℕ) (old new : Option (List ℕ)) → RanFront start bytes old new fault.Write
+    → StoppedFront stops start bytes old new fault.Write
+front_until stops start bytes old new front = record { front = front; stopped = λ unless. absurd (unless refl) }
+
 -- and what is owed of all records is written, after no fault of the sink
-module _ (start : Store) (bytes : List ℕ) (e : Engaged) (old mid new : Option (List ℕ)) where
-  stopped : (house : Seating) (why : Fault) → HasComeTo start bytes e old mid → ((rows : List (List (List ℕ))) → IsUnderway rows start e old mid → AreAnswered rows start house old new)
-      → RanFront start bytes old new why
+module _ (stops : List (List (List ℕ)) → Fault → Type 0) (start : Store) (bytes : List ℕ) (e : Engaged) (old mid new : Option (List ℕ)) where
+  stopped : (house : Seating) (why : Fault) → HasComeTo stops start bytes e old mid why → ((rows : List (List (List ℕ))) → IsUnderway rows start e old mid → AreAnswered rows start house old new)
+      → StoppedFront stops start bytes old new why
   stopped house why come write =
       let all = write come.rows come.underway in
-      front_is_whole start bytes old new why (answered_records start come.rows all.text (with_sight all.sight house) come.few all.answers) come.state come.left come.are_first all.grew
+      record {
+        front = front_is_whole start bytes old new why (answered_records start come.rows all.text (with_sight all.sight house) come.few all.answers) come.state come.left come.are_first all.grew;
+        stopped = λ unless. come.stopped;
+      }
 
-  cut : (stalled : Bool) → HasComeTo start bytes e old mid → ((rows : List (List (List ℕ))) → IsUnderway rows start e old mid → AreBrokenOff rows start old new stalled)
-      → RanFront start bytes old new fault.Write
-  cut stalled come write = broken_front come.rows start bytes old new stalled come.state come.left (write come.rows come.underway) come.few come.are_first
+  cut : (why : Fault) (stalled : Bool) → HasComeTo stops start bytes e old mid why → ((rows : List (List (List ℕ))) → IsUnderway rows start e old mid → AreBrokenOff rows start old new stalled)
+      → StoppedFront stops start bytes old new fault.Write
+  cut why stalled come write =
+      front_until stops start bytes old new (broken_front come.rows start bytes old new stalled come.state come.left (write come.rows come.underway) come.few come.are_first)
 
-  pub come_whole : (house : Seating) (done : Result (Unit {0}) Fault) → (done ≡ Err fault.Write → ⊥) → HasCome start bytes e old mid done
-      → ((rows : List (List (List ℕ))) → IsUnderway rows start e old mid → AreAnswered rows start house old new) → Ran start bytes old new done
+  pub come_whole : (house : Seating) (done : Result (Unit {0}) Fault) → (done ≡ Err fault.Write → ⊥) → HasCome stops start bytes e old mid done
+      → ((rows : List (List (List ℕ))) → IsUnderway rows start e old mid → AreAnswered rows start house old new) → RanUntil stops start bytes old new done
   come_whole house (Ok done) unless come write =
       let all = write come.rows come.underway in
       record { answered = answered_records start come.rows all.text (with_sight all.sight house) come.few all.answers; are_records = come.are_records; grew = all.grew }
@@ -288,108 +297,116 @@ module _ (start : Store) (bytes : List ℕ) (e : Engaged) (old mid new : Option 
   come_whole house (Err fault.Write) unless come write = absurd (unless refl)
 
   -- or the sink fails in that
-  pub come_broken : (stalled : Bool) (done : Result (Unit {0}) Fault) → (done ≡ Err fault.Write → ⊥) → HasCome start bytes e old mid done
-      → ((rows : List (List (List ℕ))) → IsUnderway rows start e old mid → AreBrokenOff rows start old new stalled) → RanFront start bytes old new fault.Write
+  pub come_broken : (stalled : Bool) (done : Result (Unit {0}) Fault) → (done ≡ Err fault.Write → ⊥) → HasCome stops start bytes e old mid done
+      → ((rows : List (List (List ℕ))) → IsUnderway rows start e old mid → AreBrokenOff rows start old new stalled) → StoppedFront stops start bytes old new fault.Write
   come_broken stalled (Ok done) unless come write =
-      broken_front come.rows start bytes old new stalled come.are_records.0 come.are_records.1 (write come.rows come.underway) come.few come.are_records.2
-  come_broken stalled (Err fault.Memory) unless come write = cut stalled come write
-  come_broken stalled (Err fault.Field) unless come write = cut stalled come write
-  come_broken stalled (Err fault.Thread) unless come write = cut stalled come write
-  come_broken stalled (Err fault.Read) unless come write = cut stalled come write
+      front_until stops start bytes old new
+      (broken_front come.rows start bytes old new stalled come.are_records.0 come.are_records.1 (write come.rows come.underway) come.few come.are_records.2)
+  come_broken stalled (Err fault.Memory) unless come write = cut fault.Memory stalled come write
+  come_broken stalled (Err fault.Field) unless come write = cut fault.Field stalled come write
+  come_broken stalled (Err fault.Thread) unless come write = cut fault.Thread stalled come write
+  come_broken stalled (Err fault.Read) unless come write = cut fault.Read stalled come write
   come_broken stalled (Err fault.Write) unless come write = absurd (unless refl)
 
--- records are what was read of some bytes
-pub record AreRead (bytes : List ℕ) (source : Option (List ℕ)) (state : State) (rows : List (List (List ℕ))) : Type 0 where
-  pub left : List ℕ
-  pub source_is : source ≡ Some left
-  pub reached : Reached default_config st.StartRecord bytes rows state left
-
 -- so many records were read, of the bytes if they are known, and are answered or owed
-pub record SoFarOwed (start : Store) (known source : Option (List ℕ)) (state : State) (e : Engaged) (old new : Option (List ℕ)) (count : ℕ) : Type 0 where
+pub record SoFarOwed (start : Store) (known : Option (List ℕ)) (unread : Unread) (e : Engaged) (old new : Option (List ℕ)) (count : ℕ) : Type 0 where
   pub rows : List (List (List ℕ))
   pub many : length rows ≡ count
   pub underway : IsUnderway rows start e old new
-  pub read : IfSome known (λ bytes. AreRead bytes source state rows)
+  pub read : IfSome known (λ bytes. AreRead bytes unread rows)
 
 -- nothing is read yet
-pub owed_started : (e : Engaged) (known : Option (List ℕ)) (at : State) (old : Option (List ℕ)) → IsAtRest e → at ≡ st.StartRecord → SoFarOwed (store_in e.house) known known at e old old 0
-unfolding Reached
-owed_started e known at old rest at_start = record {
+pub owed_started : (e : Engaged) (unread : Unread) (old : Option (List ℕ)) → IsAtRest e → unread.state ≡ st.StartRecord → SoFarOwed (store_in e.house) unread.bytes unread e old old 0
+owed_started e unread old rest at_start = record {
   rows = [];
   many = refl;
   underway = underway_none e old rest;
-  read = none known;
+  read = if_known _ _ (λ bytes is. read_none bytes unread is at_start);
 }
-  where
-    none : (known : Option (List ℕ)) → IfSome known (λ bytes. AreRead bytes known at [])
-    none None = tt
-    none (Some bytes) = record { left = bytes; source_is = refl; reached = (sym at_start, refl) }
 
-module _ {R : Type 0} (rem : R → Option (List ℕ)) (a b : Reader R) (fields : List (List ℕ)) (config : reader_config a ≡ default_config) (found : Bool) (taken : ReadRecord rem a b found fields) where
-  -- one record more was read
-  read_more : (bytes : List ℕ) (rows : List (List (List ℕ))) → found ≡ true → AreRead bytes (source_of rem a) (reader_state a) rows
-      → AreRead bytes (source_of rem b) (reader_state b) (rows ++ fields ∷ [])
-  read_more bytes rows there read =
-      let one : ReadRecord rem a b true fields = subst (λ (f : Bool). ReadRecord rem a b f fields) there taken in
-      let more = rows-more rem a b fields default_config st.StartRecord bytes read.left rows config read.source_is read.reached one in
-      record { left = more.0; source_is = more.1; reached = more.2 }
+module _ (a b : Unread) (fields : List (List ℕ)) (found : Bool) (taken : ReadsOne a b found fields) (start : Store) (known : Option (List ℕ)) (e : Engaged)
+    (old mid new : Option (List ℕ)) (count : ℕ) (so : SoFarOwed start known a e old mid count) where
+  -- one record more is answered or owed
+  pub owed_goes_on : (next : Engaged) → found ≡ true → IsUnderway (so.rows ++ fields ∷ []) start next old new → SoFarOwed start known b next old new (count + 1)
+  owed_goes_on next there under =
+      let many = so.many in
+      record {
+        rows = so.rows ++ fields ∷ [];
+        many = rw length-append (omega arith);
+        underway = under;
+        read = if_some known _ _ (λ bytes read. read_more bytes a b so.rows fields read found there taken) so.read;
+      }
 
-  module _ (start : Store) (known : Option (List ℕ)) (e : Engaged) (old mid new : Option (List ℕ)) (count : ℕ) where
-    -- and is answered or owed
-    pub owed_goes_on : (next : Engaged) (so : SoFarOwed start known (source_of rem a) (reader_state a) e old mid count) → found ≡ true → IsUnderway (so.rows ++ fields ∷ []) start next old new
-        → SoFarOwed start known (source_of rem b) (reader_state b) next old new (count + 1)
-    owed_goes_on next so there under =
-        let many = so.many in
-        record {
-          rows = so.rows ++ fields ∷ [];
-          many = rw length-append (omega arith);
-          underway = under;
-          read = if_some known _ _ (λ bytes read. read_more bytes so.rows there read) so.read;
-        }
+  -- the bytes end
+  pub owed_ends : found ≡ false → count ≤ 1048576 → IfSome known (λ bytes. HasComeToEnd start bytes e old mid)
+  owed_ends none within =
+      let many = so.many in
+      if_some known _ _ (λ bytes read.
+      record { rows = so.rows; few = omega arith; are_records = read_all bytes a b so.rows fields read found none taken; underway = so.underway }) so.read
 
-    came : {bytes : List ℕ} (next : Engaged) (so : SoFarOwed start known (source_of rem a) (reader_state a) e old mid count) → AreRead bytes (source_of rem a) (reader_state a) so.rows
-        → count < 1048576 → IsUnderway so.rows start next old new → HasComeTo start bytes next old new
-    came next so read below under =
-        let many = so.many in
-        record { rows = so.rows; few = omega arith; state = reader_state a; left = read.left; are_first = read.reached; underway = under }
+  -- a run stops in front of the record, for one or the other reason
+  stops_at : (stops : List ℕ → List (List (List ℕ)) → Fault → Type 0) (next : Engaged) (why : Fault) → count ≤ 1048576 → (why ≡ fault.Write → ⊥) → IsUnderway so.rows start next old new
+      → ((bytes : List ℕ) → AreRead bytes a so.rows → stops bytes so.rows why) → IfSome known (λ bytes. HasCome (stops bytes) start bytes next old new (Err why))
+  stops_at stops next why within unless under stopped =
+      let many = so.many in
+      if_some known _ _ (λ bytes read.
+      come_to (stops bytes) start bytes next old new why unless
+      (record { rows = so.rows; few = omega arith; state = a.state; left = read.left; are_first = read.reached; underway = under; stopped = stopped bytes read })) so.read
 
-    -- or that ended the run
-    pub owed_fails : (next : Engaged) (stalled : Bool) (why : Fault) (so : SoFarOwed start known (source_of rem a) (reader_state a) e old mid count) → found ≡ true → count < 1048576
-        → HasTaken so.rows fields start next old new stalled (Err why) → IfSome known (λ bytes. HasCome start bytes next old new (Err why))
-    owed_fails next stalled fault.Memory so there below held = if_some known _ _ (λ bytes read. came next so read below held) so.read
-    owed_fails next stalled fault.Thread so there below held = if_some known _ _ (λ bytes read. came next so read below held) so.read
-    owed_fails next stalled fault.Field so there below held = absurd held
-    owed_fails next stalled fault.Read so there below held = absurd held
-    owed_fails next stalled fault.Write so there below held =
-        let many = so.many in
-        if_some known _ _ (λ bytes read.
-        elim held [
-          | inl before ↦ broken_front so.rows start bytes old new stalled (reader_state a) read.left before (omega arith) read.reached
-          | inr itself ↦
-              let more = read_more bytes so.rows there read in
-              broken_front (so.rows ++ fields ∷ []) start bytes old new stalled (reader_state b) more.left itself (rw length-append (omega arith)) more.reached
-        ]) so.read
+module _ {T : Type 0} (unread : T → Unread) (fails : T → T → Fault → Type 0) (at now : T) (b : Unread) (fields : List (List ℕ)) (found : Bool)
+    (taken : ReadsOne (unread at) b found fields) (start : Store) (known : Option (List ℕ)) (e : Engaged) (old mid new : Option (List ℕ)) (count : ℕ)
+    (so : SoFarOwed start known (unread at) e old mid count) where
+  -- the event of the record was refused, for want of memory or a thread
+  next_event : (bytes : List ℕ) → AreRead bytes (unread at) so.rows → found ≡ true → AsksEvent fields → HasNextEvent bytes so.rows
+  next_event bytes read there asks =
+      (fields, asks, has_next bytes b so.rows fields (read_more bytes (unread at) b so.rows fields read found there taken))
 
-    -- the bytes end
-    pub owed_ends : (so : SoFarOwed start known (source_of rem a) (reader_state a) e old mid count) → found ≡ false → count ≤ 1048576 → IfSome known (λ bytes. HasComeToEnd start bytes e old mid)
-    owed_ends so none within =
-        let many = so.many in
-        let last : ReadRecord rem a b false fields = subst (λ (f : Bool). ReadRecord rem a b f fields) none taken in
-        if_some known _ _ (λ bytes read.
-        record {
-          rows = so.rows;
-          few = omega arith;
-          are_records = (reader_state a, read.left, read.reached, rows-end rem a b fields default_config read.left config read.source_is last);
-          underway = so.underway;
-        }) so.read
+  -- the record ended the run
+  pub owed_fails : (next : Engaged) (stalled : Bool) (why : Fault) → found ≡ true → count < 1048576 → HasTaken so.rows fields start next old new stalled (Err why)
+      → IfSome known (λ bytes. HasCome (StopsBehind unread fails true bytes now) start bytes next old new (Err why))
+  owed_fails next stalled fault.Memory there below held =
+      stops_at (unread at) b fields found taken start known e old mid new count so (λ bytes. StopsBehind unread fails true bytes now) next fault.Memory (omega arith) (λ is. cc) held.0
+      (λ bytes read. inr (refl, next_event bytes read there held.1))
+  owed_fails next stalled fault.Thread there below held =
+      stops_at (unread at) b fields found taken start known e old mid new count so (λ bytes. StopsBehind unread fails true bytes now) next fault.Thread (omega arith) (λ is. cc) held.0
+      (λ bytes read. (refl, next_event bytes read there held.1))
+  owed_fails next stalled fault.Field there below held = absurd held
+  owed_fails next stalled fault.Read there below held = absurd held
+  owed_fails next stalled fault.Write there below held =
+      let many = so.many in
+      if_some known _ _ (λ bytes read.
+      elim held [
+        | inl before ↦ broken_front so.rows start bytes old new stalled (unread at).state read.left before (omega arith) read.reached
+        | inr itself ↦
+            let more = read_more bytes (unread at) b so.rows fields read found there taken in
+            broken_front (so.rows ++ fields ∷ []) start bytes old new stalled b.state more.left itself (rw length-append (omega arith)) more.reached
+      ]) so.read
 
--- a run stops between two records
-pub owed_stops : (start : Store) (known source : Option (List ℕ)) (state : State) (e : Engaged) (old new : Option (List ℕ)) (count : ℕ) (why : Fault)
-    → SoFarOwed start known source state e old new count → count ≤ 1048576 → (why ≡ fault.Write → ⊥) → IfSome known (λ bytes. HasCome start bytes e old new (Err why))
-owed_stops start known source state e old new count why so within unless =
+  -- the record is one too many
+  pub owed_stops_at_last : found ≡ true → count ≡ 1048576 → IfSome known (λ bytes. HasCome (StopsBehind unread fails true bytes now) start bytes e old mid (Err fault.Read))
+  owed_stops_at_last there last =
+      let many = so.many in
+      stops_at (unread at) b fields found taken start known e old mid mid count so (λ bytes. StopsBehind unread fails true bytes now) e fault.Read (omega arith) (λ is. cc) so.underway
+      (λ bytes read.
+      stopped_at_last unread fails true bytes so.rows now fields (omega arith)
+      (has_next bytes b so.rows fields (read_more bytes (unread at) b so.rows fields read found there taken)))
+
+-- the read of a record failed
+pub owed_stops : {T : Type 0} (unread : T → Unread) (fails : T → T → Fault → Type 0) (at now : T) (start : Store) (known : Option (List ℕ)) (e : Engaged) (old new : Option (List ℕ)) (count : ℕ)
+    (why : Fault) → (so : SoFarOwed start known (unread at) e old new count) → count ≤ 1048576 → fails at now why → (why ≡ fault.Memory) ⊎ (why ≡ fault.Read)
+    → IfSome known (λ bytes. HasCome (StopsBehind unread fails true bytes now) start bytes e old new (Err why))
+owed_stops unread fails at now start known e old new count why so within failed either =
     let many = so.many in
     if_some known _ _ (λ bytes read.
-    come_to start bytes e old new why unless (record { rows = so.rows; few = omega arith; state = state; left = read.left; are_first = read.reached; underway = so.underway })) so.read
+    come_to (StopsBehind unread fails true bytes now) start bytes e old new why (read_is_no_write why either) (record {
+      rows = so.rows;
+      few = omega arith;
+      state = (unread at).state;
+      left = read.left;
+      are_first = read.reached;
+      underway = so.underway;
+      stopped = stopped_by_read unread fails true bytes so.rows now at why read failed either;
+    })) so.read
 
 -- a record that ended a run was no option out of range, and where the sink failed it told so
 pub taken_no_field : (rows : List (List (List ℕ))) (fields : List (List ℕ)) (start : Store) (e : Engaged) (old new : Option (List ℕ)) (stalled : Bool) (r : Result (Unit {0}) Fault)

@@ -6,11 +6,11 @@ use Rattle.std.proofs.lemmas.Bool.{false≢true}
 use Rattle.std.proofs.lemmas.Bool.Decides.{nat_tests}
 use Rattle.std.proofs.lemmas.List.{append-nil}
 use Rattle.std.specs.Io.KnownBytes.{Appends, Keeps}
-use Rattle.csv.specs.Reading.{ReadRecord, Reached, default_config, reader_config, reader_state, source_of, strip_bom}
+use Rattle.csv.specs.Machine.{Read, next_record}
+use Rattle.csv.specs.Reading.{AreRecords, NextIs, Reached, ReadsNext, default_config, strip_bom}
 use Rattle.csv.specs.declared.parser.State.{State}
 use Rattle.csv.specs.declared.parser.State.TheVariants as st
-use Rattle.csv.specs.declared.reader.Reader.{Reader}
-use Rattle.csv.proofs.ReadFacts.{rows-more, rows-end}
+use Rattle.csv.proofs.ReadFacts.{reached-more}
 use Rattle.hlr_owners.specs.Store.{Store}
 use Rattle.hlr.specs.Records.{command_of, command_named, field, word_named}
 use Rattle.hlr.specs.declared.records.Report.{Report}
@@ -20,6 +20,7 @@ use Rattle.hlr.specs.declared.records.Word.TheVariants as word
 use Rattle.hlr.specs.Inside.{Answers, word_of_report, report_on}
 use Rattle.hlr.specs.Sink.{Puts}
 use Rattle.hlr.specs.Run.{WritesWhole, AnsweredRecords, RanWhole, RanFront, Ran}
+use Rattle.hlr.specs.Source.{AreRead, HasNext, RanUntil, ReadsOne, StoppedFront, StopsBehind, Unread}
 use Rattle.hlr.specs.Text.{CommandText, RecordText, RecordsText}
 use Rattle.hlr.proofs.OrderFacts.{answered_records}
 use Rattle.tatp_rows.specs.declared.refusal.Refusal.{Refusal}
@@ -65,25 +66,61 @@ records_more [] row s m t text more h k =
 records_more (first ∷ rows) row s m t text more h k =
     (h.0, h.1, h.2 ++ more, h.3, records_more rows row h.1 m t h.2 more h.4 k, ap (λ w. w ++ more) h.5 ∙ append_assoc h.0 h.2 more)
 
+-- nothing is read yet
+pub read_none : (bytes : List ℕ) (unread : Unread) → unread.bytes ≡ Some bytes → unread.state ≡ st.StartRecord → AreRead bytes unread []
+unfolding Reached
+read_none bytes unread is at_start = record { left = bytes; left_is = is; reached = (sym at_start, refl) }
+
+module _ (bytes : List ℕ) (a b : Unread) (rows : List (List (List ℕ))) (fields : List (List ℕ)) (read : AreRead bytes a rows) where
+  more_by : (o : Option Read) → next_record default_config a.state [] [] read.left ≡ o → (after : Option (List ℕ)) (z : List ℕ) → after ≡ Some z → NextIs o true fields b.state z
+      → (z : List ℕ) × (after ≡ Some z) × Reached default_config st.StartRecord bytes (rows ++ fields ∷ []) b.state z
+  more_by None is after z known next = absurd (false≢true (sym next))
+  more_by (Some p) is after z known next =
+      (z, known, rw (next.1, next.2, next.3) (reached-more default_config st.StartRecord a.state bytes read.left rows p read.reached is))
+
+  more_after : (after : Option (List ℕ)) → ReadsNext default_config a.state (Some read.left) after true fields b.state
+      → (z : List ℕ) × (after ≡ Some z) × Reached default_config st.StartRecord bytes (rows ++ fields ∷ []) b.state z
+  more_after None next = absurd next
+  more_after (Some z) next = more_by (next_record default_config a.state [] [] read.left) refl (Some z) z refl next
+
+  -- one record more was read
+  pub read_more : (found : Bool) → found ≡ true → ReadsOne a b found fields → AreRead bytes b (rows ++ fields ∷ [])
+  read_more found there taken =
+      let more = more_after b.bytes (rw (there, read.left_is) at taken) in
+      record { left = more.0; left_is = more.1; reached = more.2 }
+
+  none_by : (o : Option Read) (z : List ℕ) → NextIs o false fields b.state z → o ≡ None
+  none_by None z next = refl
+  none_by (Some p) z next = absurd (false≢true next.0)
+
+  none_after : (after : Option (List ℕ)) → ReadsNext default_config a.state (Some read.left) after false fields b.state → next_record default_config a.state [] [] read.left ≡ None
+  none_after None next = absurd next
+  none_after (Some z) next = none_by (next_record default_config a.state [] [] read.left) z next
+
+  -- there was none, so these are all
+  pub read_all : (found : Bool) → found ≡ false → ReadsOne a b found fields → AreRecords default_config st.StartRecord bytes rows
+  read_all found none taken = (a.state, read.left, read.reached, none_after b.bytes (rw (none, read.left_is) at taken))
+
+-- behind records stands one that was read
+pub has_next : (bytes : List ℕ) (unread : Unread) (rows : List (List (List ℕ))) (fields : List (List ℕ)) → AreRead bytes unread (rows ++ fields ∷ []) → HasNext bytes rows fields
+has_next bytes unread rows fields read = (unread.state, read.left, read.reached)
+
 -- the first records of the bytes are read and answered
-pub record SoFar (start : Store) (bytes : List ℕ) (source : Option (List ℕ)) (state : State) (now : Store) (old new : Option (List ℕ)) (count : ℕ) : Type 0 where
-  pub left : List ℕ
-  pub source_is : source ≡ Some left
+pub record SoFar (start : Store) (bytes : List ℕ) (unread : Unread) (now : Store) (old new : Option (List ℕ)) (count : ℕ) : Type 0 where
   pub rows : List (List (List ℕ))
-  pub reached : Reached default_config st.StartRecord bytes rows state left
+  pub read : AreRead bytes unread rows
   pub text : List ℕ
   pub answers : RecordsText rows start text now
   pub grew : Appends old new text
   pub many : length rows ≡ count
 
 -- nothing is read yet
-pub started : (start : Store) (bytes : List ℕ) (source : Option (List ℕ)) (at : State) (old : Option (List ℕ)) → source ≡ Some bytes → at ≡ st.StartRecord → SoFar start bytes source at start old old 0
-unfolding RecordsText Reached
-started start bytes source at old source_is at_start = record {
-  left = bytes;
-  source_is = source_is;
+pub started : (start : Store) (bytes : List ℕ) (unread : Unread) (old : Option (List ℕ)) → unread.bytes ≡ Some bytes → unread.state ≡ st.StartRecord
+    → SoFar start bytes unread start old old 0
+unfolding RecordsText
+started start bytes unread old is at_start = record {
   rows = [];
-  reached = (sym at_start, refl);
+  read = read_none bytes unread is at_start;
   text = [];
   answers = (refl, refl);
   grew = appends_none old;
@@ -91,25 +128,21 @@ started start bytes source at old source_is at_start = record {
 }
 
 -- what is answered so far, where the count is within the limit
-abbrev answered_so_far : (start : Store) (bytes : List ℕ) (source : Option (List ℕ)) (at : State) (now : Store) (old new : Option (List ℕ)) (count : ℕ)
-    → SoFar start bytes source at now old new count → count ≤ 1048576 → AnsweredRecords start
-answered_so_far start bytes source at now old new count so within =
+abbrev answered_so_far : (start : Store) (bytes : List ℕ) (unread : Unread) (now : Store) (old new : Option (List ℕ)) (count : ℕ)
+    → SoFar start bytes unread now old new count → count ≤ 1048576 → AnsweredRecords start
+answered_so_far start bytes unread now old new count so within =
     let many = so.many in answered_records start so.rows so.text now (omega arith) so.answers
 
-module _ {R : Type 0} (rem : R → Option (List ℕ)) (start : Store) (bytes : List ℕ) where
+module _ (start : Store) (bytes : List ℕ) (a b : Unread) (fields : List (List ℕ)) (now next : Store) (old mid new : Option (List ℕ)) (count : ℕ)
+    (so : SoFar start bytes a now old mid count) (found : Bool) (taken : ReadsOne a b found fields) where
   -- one record more is read and answered
-  pub goes_on : (a b : Reader R) (fields : List (List ℕ)) (now next : Store) (old mid new : Option (List ℕ)) (count : ℕ)
-      → SoFar start bytes (source_of rem a) (reader_state a) now old mid count → reader_config a ≡ default_config → (found : Bool) → found ≡ true → ReadRecord rem a b found fields
-      → (stalled : Bool) (r : Result (Unit {0}) Stalled) → is_err r ≡ false → Answers fields now next mid new stalled r → SoFar start bytes (source_of rem b) (reader_state b) next old new (count + 1)
-  goes_on a b fields now next old mid new count so config found there taken stalled r passed done =
-      let read : ReadRecord rem a b true fields = subst (λ (f : Bool). ReadRecord rem a b f fields) there taken in
-      let more = rows-more rem a b fields default_config st.StartRecord bytes so.left so.rows config so.source_is so.reached read in
+  pub goes_on : found ≡ true → (stalled : Bool) (r : Result (Unit {0}) Stalled) → is_err r ≡ false → Answers fields now next mid new stalled r
+      → SoFar start bytes b next old new (count + 1)
+  goes_on there stalled r passed done =
       let many = so.many in
       record {
-        left = more.0;
-        source_is = more.1;
         rows = so.rows ++ fields ∷ [];
-        reached = more.2;
+        read = read_more bytes a b so.rows fields so.read found there taken;
         text = so.text ++ done.text;
         answers = records_more so.rows fields start now next so.text done.text so.answers done.answer;
         grew = appends_both old mid new so.text done.text so.grew (put_whole done.text mid new stalled r passed done.put);
@@ -117,35 +150,33 @@ module _ {R : Type 0} (rem : R → Option (List ℕ)) (start : Store) (bytes : L
       }
 
   -- the bytes end
-  pub ends : (a b : Reader R) (fields : List (List ℕ)) (now : Store) (old new : Option (List ℕ)) (count : ℕ)
-      → SoFar start bytes (source_of rem a) (reader_state a) now old new count → reader_config a ≡ default_config → (found : Bool) → found ≡ false → ReadRecord rem a b found fields → count ≤ 1048576 → RanWhole start bytes old new
-  ends a b fields now old new count so config found none taken few =
-      let read : ReadRecord rem a b false fields = subst (λ (f : Bool). ReadRecord rem a b f fields) none taken in
-      record {
-        answered = answered_so_far start bytes (source_of rem a) (reader_state a) now old new count so few;
-        are_records = (reader_state a, so.left, so.reached, rows-end rem a b fields default_config so.left config so.source_is read);
-        grew = so.grew;
-      }
+  pub ends : found ≡ false → count ≤ 1048576 → RanWhole start bytes old mid
+  ends none few = record {
+    answered = answered_so_far start bytes a now old mid count so few;
+    are_records = read_all bytes a b so.rows fields so.read found none taken;
+    grew = so.grew;
+  }
 
   -- the sink failed in the answer of a record
-  pub breaks : (a b : Reader R) (fields : List (List ℕ)) (now next : Store) (old mid new : Option (List ℕ)) (count : ℕ)
-      → SoFar start bytes (source_of rem a) (reader_state a) now old mid count → reader_config a ≡ default_config → (found : Bool) → found ≡ true → ReadRecord rem a b found fields
-      → (stalled : Bool) (r : Result (Unit {0}) Stalled) → is_err r ≡ true → Answers fields now next mid new stalled r → count < 1048576 → RanFront start bytes old new fault.Write
-  breaks a b fields now next old mid new count so config found there taken stalled r failed cut below =
-      let read : ReadRecord rem a b true fields = subst (λ (f : Bool). ReadRecord rem a b f fields) there taken in
-      let more = rows-more rem a b fields default_config st.StartRecord bytes so.left so.rows config so.source_is so.reached read in
+  pub breaks : (stops : List (List (List ℕ)) → Fault → Type 0) → found ≡ true → (stalled : Bool) (r : Result (Unit {0}) Stalled) → is_err r ≡ true
+      → Answers fields now next mid new stalled r → count < 1048576 → StoppedFront stops start bytes old new fault.Write
+  breaks stops there stalled r failed cut below =
+      let more = read_more bytes a b so.rows fields so.read found there taken in
       let many = so.many in
       let front = (put_front cut.text mid new stalled r failed cut.put).0 in
       record {
-        answered = answered_records start (so.rows ++ fields ∷ []) (so.text ++ cut.text) next (rw length-append (omega arith))
-            (records_more so.rows fields start now next so.text cut.text so.answers cut.answer);
-        state = reader_state b;
-        left = more.0;
-        are_first = more.2;
-        written = so.text ++ front.front;
-        begins = begins_after so.text front.front cut.text front.begins;
-        whole = tt;
-        grew = appends_both old mid new so.text front.front so.grew front.grew;
+        front = record {
+          answered = answered_records start (so.rows ++ fields ∷ []) (so.text ++ cut.text) next (rw length-append (omega arith))
+              (records_more so.rows fields start now next so.text cut.text so.answers cut.answer);
+          state = b.state;
+          left = more.left;
+          are_first = more.reached;
+          written = so.text ++ front.front;
+          begins = begins_after so.text front.front cut.text front.begins;
+          whole = tt;
+          grew = appends_both old mid new so.text front.front so.grew front.grew;
+        };
+        stopped = λ unless. absurd (unless refl);
       }
 
 -- a text that is written whole
@@ -157,7 +188,7 @@ writes_whole fault.Read text = refl
 writes_whole fault.Write text = tt
 
 -- the first records are answered, and their whole text is written
-pub front_is_whole : (start : Store) (bytes : List ℕ) (old new : Option (List ℕ)) (why : Fault) (answered : AnsweredRecords start) (at : State) (left : List ℕ)
+abbrev pub front_is_whole : (start : Store) (bytes : List ℕ) (old new : Option (List ℕ)) (why : Fault) (answered : AnsweredRecords start) (at : State) (left : List ℕ)
     → Reached default_config st.StartRecord bytes answered.rows at left → Appends old new answered.text → RanFront start bytes old new why
 front_is_whole start bytes old new why answered at left reached grew = record {
   answered = answered;
@@ -185,10 +216,37 @@ front_kept start bytes old mid new why other ran whole kept = record {
 }
 
 -- the run stops between two records
-pub stops : (start : Store) (bytes : List ℕ) (source : Option (List ℕ)) (at : State) (now : Store) (old new : Option (List ℕ)) (count : ℕ) (why : Fault)
-    → SoFar start bytes source at now old new count → count ≤ 1048576 → RanFront start bytes old new why
-stops start bytes source at now old new count why so within =
-    front_is_whole start bytes old new why (answered_so_far start bytes source at now old new count so within) at so.left so.reached so.grew
+pub stops_so : (stops : List (List (List ℕ)) → Fault → Type 0) (start : Store) (bytes : List ℕ) (unread : Unread) (now : Store) (old new : Option (List ℕ)) (count : ℕ) (why : Fault)
+    → (so : SoFar start bytes unread now old new count) → count ≤ 1048576 → stops so.rows why → StoppedFront stops start bytes old new why
+stops_so stops start bytes unread now old new count why so within stopped = record {
+  front = front_is_whole start bytes old new why (answered_so_far start bytes unread now old new count so within) unread.state so.read.left so.read.reached so.grew;
+  stopped = λ unless. stopped;
+}
+
+module _ {T : Type 0} (unread : T → Unread) (fails : T → T → Fault → Type 0) (threads : Bool) (bytes : List ℕ) (rows : List (List (List ℕ))) (now : T) where
+  -- a read failed
+  pub stopped_by_read : (at : T) (why : Fault) → AreRead bytes (unread at) rows → fails at now why → (why ≡ fault.Memory) ⊎ (why ≡ fault.Read)
+      → StopsBehind unread fails threads bytes now rows why
+  stopped_by_read at fault.Memory read failed either = inl (record { at = at; read = read; failed = failed })
+  stopped_by_read at fault.Read read failed either = inl (record { at = at; read = read; failed = failed })
+  stopped_by_read at fault.Write read failed either = tt
+  stopped_by_read at fault.Field read failed (inl is) = cc
+  stopped_by_read at fault.Field read failed (inr is) = cc
+  stopped_by_read at fault.Thread read failed (inl is) = cc
+  stopped_by_read at fault.Thread read failed (inr is) = cc
+
+  -- a run may answer no more
+  pub stopped_at_last : (fields : List (List ℕ)) → length rows ≡ 1048576 → HasNext bytes rows fields → StopsBehind unread fails threads bytes now rows fault.Read
+  stopped_at_last fields many next = inr (many, fields, next)
+
+-- the run stops at a record that is one too many
+pub stops_full : {T : Type 0} (unread : T → Unread) (fails : T → T → Fault → Type 0) (last : T) (start : Store) (bytes : List ℕ) (a b : Unread) (fields : List (List ℕ)) (now : Store)
+    (old new : Option (List ℕ)) (count : ℕ) (so : SoFar start bytes a now old new count) (found : Bool) → ReadsOne a b found fields → found ≡ true → count ≡ 1048576
+    → StoppedFront (StopsBehind unread fails false bytes last) start bytes old new fault.Read
+stops_full unread fails last start bytes a b fields now old new count so found taken there full =
+    let many = so.many in
+    stops_so (StopsBehind unread fails false bytes last) start bytes a now old new count fault.Read so (omega arith)
+    (stopped_at_last unread fails false bytes so.rows last fields (omega arith) (has_next bytes b so.rows fields (read_more bytes a b so.rows fields so.read found there taken)))
 
 -- a run that read nothing and wrote nothing
 pub ran_nothing : (start : Store) (bytes : List ℕ) (old new : Option (List ℕ)) (why : Fault) → Keeps old new → RanFront start bytes old new why
@@ -227,6 +285,12 @@ pub keeps_same : (o : Option (List ℕ)) → Keeps o o
 keeps_same None = tt
 keeps_same (Some xs) = refl
 
+-- a run over a source is one over its bytes
+pub ran_until : (stops : List (List (List ℕ)) → Fault → Type 0) (start : Store) (bytes : List ℕ) (old new : Option (List ℕ)) (r : Result (Unit {0}) Fault)
+    → RanUntil stops start bytes old new r → Ran start bytes old new r
+ran_until stops start bytes old new (Ok done) ran = ran
+ran_until stops start bytes old new (Err why) ran = ran.front
+
 -- a run that ended with a flush
 pub ran_finished : (start : Store) (bytes : List ℕ) (old mid new : Option (List ℕ)) (done r : Result (Unit {0}) Fault) → Ran start bytes old mid done → Keeps mid new
     → (r ≡ done) ⊎ (r ≡ Err fault.Write) → Ran start bytes old new r
@@ -244,11 +308,14 @@ pub ran_from : (known : Option (List ℕ)) (start other : Store) (old new : Opti
 ran_from known start other old new r same ran = subst (λ (store : Store). IfSome known (λ bytes. Ran store (strip_bom bytes) old new r)) same ran
 
 -- a run over a reader's bytes, without the byte order mark before them, that ended with a flush
-pub ran_flushed : (known source : Option (List ℕ)) (start : Store) (old mid new : Option (List ℕ)) (done r : Result (Unit {0}) Fault) → source ≡ option_map strip_bom known
-    → IfSome source (λ bytes. Ran start bytes old mid done) → Keeps mid new → (r ≡ done) ⊎ (r ≡ Err fault.Write) → IfSome known (λ bytes. Ran start (strip_bom bytes) old new r)
-ran_flushed None source start old mid new done r is ran kept ended = tt
-ran_flushed (Some bytes) source start old mid new done r is ran kept ended =
-    ran_finished start (strip_bom bytes) old mid new done r (subst (λ (o : Option (List ℕ)). IfSome o (λ bytes. Ran start bytes old mid done)) is ran) kept ended
+pub ran_flushed : (stops : List ℕ → List (List (List ℕ)) → Fault → Type 0) (known source : Option (List ℕ)) (start : Store) (old mid new : Option (List ℕ)) (done r : Result (Unit {0}) Fault)
+    → source ≡ option_map strip_bom known → IfSome source (λ bytes. RanUntil (stops bytes) start bytes old mid done) → Keeps mid new → (r ≡ done) ⊎ (r ≡ Err fault.Write)
+    → IfSome known (λ bytes. Ran start (strip_bom bytes) old new r)
+ran_flushed stops None source start old mid new done r is ran kept ended = tt
+ran_flushed stops (Some bytes) source start old mid new done r is ran kept ended =
+    let until : RanUntil (stops (strip_bom bytes)) start (strip_bom bytes) old mid done =
+    subst (λ (o : Option (List ℕ)). IfSome o (λ bytes. RanUntil (stops bytes) start bytes old mid done)) is ran in
+    ran_finished start (strip_bom bytes) old mid new done r (ran_until (stops (strip_bom bytes)) start (strip_bom bytes) old mid done until) kept ended
 
 -- the answer to a record whose word is known
 pub named_text : (fields : List (List ℕ)) (named : Option Word) (before after : Store) (text : List ℕ) → named ≡ word_named (field fields 0) → CommandText fields (command_named named fields) before text after

@@ -20,6 +20,7 @@ use Rattle.hlr_core.specs.Index.{index_of}
 use Rattle.hlr.specs.Reports.{report_text, cells_where, is_standing, standing_line, is_counted, rows_line, index_text, regions_text, scan_text, views_text}
 use Rattle.hlr.specs.Run.{RanFront}
 use Rattle.hlr.specs.Sink.{AppendsFront, Puts}
+use Rattle.hlr.specs.Source.{AsksEvent}
 use Rattle.hlr.specs.Text.{proposal_line, RecordText, RecordsText}
 use Rattle.hlr.specs.declared.fault.Fault.{Fault}
 use Rattle.hlr.specs.declared.fault.Fault.TheVariants as fault
@@ -169,12 +170,13 @@ AnswersNext fields before after taken new stalled r =
     (rows : List (List (List ℕ))) (start : Store) (old : Option (List ℕ)) → IsUnderway rows start before old taken
     → HasAnswered rows fields start after old new stalled r
 
--- behind records, one more is answered or owed; the engine stands as it did where it has no memory or thread for it
+-- behind records, one more is answered or owed; the engine stands as it did where it has no memory or thread for the
+-- event that it asks for
 abbrev pub HasTaken : List (List (List ℕ)) → List (List ℕ) → Store → Engaged → Option (List ℕ) → Option (List ℕ) → Bool
     → Result (Unit {0}) Fault → Type 0
 HasTaken rows fields start engine old new stalled (Ok done) = IsUnderway (rows ++ fields ∷ []) start engine old new
-HasTaken rows fields start engine old new stalled (Err fault.Memory) = IsUnderway rows start engine old new
-HasTaken rows fields start engine old new stalled (Err fault.Thread) = IsUnderway rows start engine old new
+HasTaken rows fields start engine old new stalled (Err fault.Memory) = IsUnderway rows start engine old new × AsksEvent fields
+HasTaken rows fields start engine old new stalled (Err fault.Thread) = IsUnderway rows start engine old new × AsksEvent fields
 HasTaken rows fields start engine old new stalled (Err fault.Write) =
     AreBrokenOff rows start old new stalled ⊎ AreBrokenOff (rows ++ fields ∷ []) start old new stalled
 HasTaken rows fields start engine old new stalled (Err _) = ⊥
@@ -193,18 +195,20 @@ pub record HasComeToEnd (start : Store) (bytes : List ℕ) (engine : Engaged) (o
   pub are_records : AreRecords default_config st.StartRecord bytes rows
   pub underway : IsUnderway rows start engine old new
 
--- the first records of the bytes are
-pub record HasComeTo (start : Store) (bytes : List ℕ) (engine : Engaged) (old new : Option (List ℕ)) : Type 0 where
+-- the first records of the bytes are, and behind them a run stopped so
+pub record HasComeTo (stops : List (List (List ℕ)) → Fault → Type 0) (start : Store) (bytes : List ℕ) (engine : Engaged)
+    (old new : Option (List ℕ)) (why : Fault) : Type 0 where
   pub rows : List (List (List ℕ))
   pub few : length rows ≤ RECORDS
   pub state : State
   pub left : List ℕ
   pub are_first : Reached default_config st.StartRecord bytes rows state left
   pub underway : IsUnderway rows start engine old new
+  pub stopped : stops rows why
 
 -- how far a run came that ended so, before what is owed is written: after a fault of the sink nothing more will be
-abbrev pub HasCome : Store → List ℕ → Engaged → Option (List ℕ) → Option (List ℕ) → Result (Unit {0}) Fault
-    → Type 0
-HasCome start bytes engine old new (Ok done) = HasComeToEnd start bytes engine old new
-HasCome start bytes engine old new (Err fault.Write) = RanFront start bytes old new fault.Write
-HasCome start bytes engine old new (Err _) = HasComeTo start bytes engine old new
+abbrev pub HasCome : (List (List (List ℕ)) → Fault → Type 0) → Store → List ℕ → Engaged → Option (List ℕ) → Option (List ℕ)
+    → Result (Unit {0}) Fault → Type 0
+HasCome stops start bytes engine old new (Ok done) = HasComeToEnd start bytes engine old new
+HasCome stops start bytes engine old new (Err fault.Write) = RanFront start bytes old new fault.Write
+HasCome stops start bytes engine old new (Err why) = HasComeTo stops start bytes engine old new why

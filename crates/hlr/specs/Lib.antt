@@ -9,6 +9,7 @@ pub mod Records
 pub mod Reports
 pub mod Run
 pub mod Sink
+pub mod Source
 pub mod Text
 pub mod WholeRecords
 pub mod Written

@@ -1,5 +1,5 @@
 -- What records order of the register, and which of its answers their text tells.
-use Rattle.std.specs.Prelude.{ℕ, List, [], ◌∷◌, ◌++◌, Result, Ok, Err}
+use Rattle.std.specs.Prelude.{◌≡◌, ⊤, ℕ, List, [], ◌∷◌, ◌++◌, Result, Ok, Err}
 use Rattle.arrayvec.specs.ArrayVec.{ArrayVec}
 use Rattle.tatp_rows.specs.declared.refusal.Refusal.{Refusal}
 use Rattle.hlr_owners.specs.Store.{Store}
@@ -10,7 +10,7 @@ use Rattle.hlr_core.specs.declared.order.Order.TheVariants as order
 use Rattle.hlr.specs.Command.{Command}
 use Rattle.hlr.specs.Command.{Command as command}
 use Rattle.hlr.specs.Records.{bounds_of, command_of}
-use Rattle.hlr.specs.Text.{CommandText, RecordsText, RecutText}
+use Rattle.hlr.specs.Text.{CommandText, RecordText, RecordsText, RecutText}
 
 -- the order of a re-cut to the bounds that were read, if they are some
 abbrev pub recut_order : Result (ArrayVec ℕ) Refusal → List Order
@@ -48,3 +48,17 @@ unfolding RecordsText
 answers_in [] before text after told = []
 answers_in (fields ∷ rows) before text after told =
     answer_in fields (command_of fields) before told.0 told.1 told.3 ++ answers_in rows told.1 told.2 after told.4
+
+-- the text of a record tells its answer: read in whatever way as a right answer to the record from the same store, it
+-- tells this one
+abbrev pub TellsAnswer : (fields : List (List ℕ)) (before : Store) (text : List ℕ) (after : Store) → RecordText fields before text after → Type 0
+TellsAnswer fields before text after told =
+    (later : Store) (other : RecordText fields before text later)
+    → answer_in fields (command_of fields) before text later other ≡ answer_in fields (command_of fields) before text after told
+
+-- the text of each of these records does
+unfoldable pub TellAnswers : (rows : List (List (List ℕ))) (before : Store) (text : List ℕ) (after : Store)
+    → RecordsText rows before text after → Type 0
+unfolding RecordsText
+TellAnswers [] before text after told = ⊤
+TellAnswers (fields ∷ rows) before text after told = TellsAnswer fields before told.0 told.1 told.3 × TellAnswers rows told.1 told.2 after told.4

@@ -10,7 +10,7 @@ use Rattle.hlr_core.specs.Run.{IsRun}
 use Rattle.hlr.specs.declared.run.TheConstants.{RECORDS}
 use Rattle.hlr.specs.declared.fault.Fault.{Fault}
 use Rattle.hlr.specs.declared.fault.Fault.TheVariants as fault
-use Rattle.hlr.specs.Orders.{answers_in, orders_of}
+use Rattle.hlr.specs.Orders.{answers_in, orders_of, TellAnswers}
 use Rattle.hlr.specs.Sink.{Begins}
 use Rattle.hlr.specs.Text.{RecordsText}
 
@@ -22,15 +22,16 @@ WritesWhole fault.Field written text = written ≡ text
 WritesWhole fault.Thread written text = written ≡ text
 WritesWhole fault.Read written text = written ≡ text
 
--- records that a run answered, as many as it may at most, with their text and the store after them: what they order of
--- the register is a right run, with the answers that the text tells, and gives, takes, re-cuts and parts that come and
--- go change none of these but Moving
+-- records that a run answered, as many as it may at most, with their text and the store after them: the text of each
+-- tells its answer, what they order of the register is a right run with these answers, and gives, takes, re-cuts and
+-- parts that come and go change none of them but Moving
 pub record AnsweredRecords (start : Store) : Type 0 where
   pub rows : List (List (List ℕ))
   pub few : length rows ≤ RECORDS
   pub text : List ℕ
   pub end : Store
   pub answers : RecordsText rows start text end
+  pub tells : TellAnswers rows start text end answers
   pub run : IsRun (orders_of rows) start (answers_in rows start text end answers) end
   pub kept : IsSameAtHome (orders_of rows) start.book (answers_in rows start text end answers) end.book
 

@@ -185,49 +185,6 @@ pub fn read_post(row: &ByteRecord) -> Result<(u64, u64), Refusal>
     Ok((part, limit))
 }
 
-/// Reads `give,part,side,at`.
-#[inline(always)]
-pub fn read_give(row: &ByteRecord) -> Result<(u64, Side, u64), Refusal>
-    ensures { command_named (Some word.Give) (fields_of row.now) ≡ asks (λ f. event.Give f.0 f.1 f.2) result }
-{
-    check_len(row, 4)?;
-    let side = side_named(field(row, 2))?;
-    let part = parse_number(field(row, 1))?;
-    let at = parse_number(field(row, 3))?;
-    Ok((part, side, at))
-}
-
-/// Reads `take,piece,part`.
-#[inline(always)]
-pub fn read_take(row: &ByteRecord) -> Result<(u64, u64), Refusal>
-    ensures { command_named (Some word.Take) (fields_of row.now) ≡ asks (λ f. event.Take f.0 f.1) result }
-{
-    check_len(row, 3)?;
-    let piece = parse_number(field(row, 1))?;
-    let part = parse_number(field(row, 2))?;
-    Ok((piece, part))
-}
-
-/// Reads `divide,part,at`.
-#[inline(always)]
-pub fn read_divide(row: &ByteRecord) -> Result<(u64, u64), Refusal>
-    ensures { command_named (Some word.Divide) (fields_of row.now) ≡ asks (λ f. event.Divide f.0 f.1) result }
-{
-    check_len(row, 3)?;
-    let part = parse_number(field(row, 1))?;
-    let at = parse_number(field(row, 2))?;
-    Ok((part, at))
-}
-
-/// Reads `dissolve,part`.
-#[inline(always)]
-pub fn read_dissolve(row: &ByteRecord) -> Result<u64, Refusal>
-    ensures { command_named (Some word.Dissolve) (fields_of row.now) ≡ asks event.Dissolve result }
-{
-    check_len(row, 2)?;
-    parse_number(field(row, 1))
-}
-
 /// The event that a record of the word `gsd` asks for.
 fn gsd_event(row: &ByteRecord) -> Result<Event, Refusal>
     ensures { command_named (Some word.Gsd) (fields_of row.now) ≡ asks (λ e. e) result }
@@ -335,35 +292,43 @@ fn post_event(row: &ByteRecord) -> Result<Event, Refusal>
     Ok(Event::Post { part, limit })
 }
 
-/// The event that a record of the word `give` asks for.
+/// The event that a record of the word `give` asks for: `give,part,side,at`.
 fn give_event(row: &ByteRecord) -> Result<Event, Refusal>
     ensures { command_named (Some word.Give) (fields_of row.now) ≡ asks (λ e. e) result }
 {
-    let (part, side, at) = read_give(row)?;
+    check_len(row, 4)?;
+    let side = side_named(field(row, 2))?;
+    let part = parse_number(field(row, 1))?;
+    let at = parse_number(field(row, 3))?;
     Ok(Event::Give { part, side, at })
 }
 
-/// The event that a record of the word `take` asks for.
+/// The event that a record of the word `take` asks for: `take,piece,part`.
 fn take_event(row: &ByteRecord) -> Result<Event, Refusal>
     ensures { command_named (Some word.Take) (fields_of row.now) ≡ asks (λ e. e) result }
 {
-    let (piece, part) = read_take(row)?;
+    check_len(row, 3)?;
+    let piece = parse_number(field(row, 1))?;
+    let part = parse_number(field(row, 2))?;
     Ok(Event::Take { piece, part })
 }
 
-/// The event that a record of the word `divide` asks for.
+/// The event that a record of the word `divide` asks for: `divide,part,at`.
 fn divide_event(row: &ByteRecord) -> Result<Event, Refusal>
     ensures { command_named (Some word.Divide) (fields_of row.now) ≡ asks (λ e. e) result }
 {
-    let (part, at) = read_divide(row)?;
+    check_len(row, 3)?;
+    let part = parse_number(field(row, 1))?;
+    let at = parse_number(field(row, 2))?;
     Ok(Event::Divide { part, at })
 }
 
-/// The event that a record of the word `dissolve` asks for.
+/// The event that a record of the word `dissolve` asks for: `dissolve,part`.
 fn dissolve_event(row: &ByteRecord) -> Result<Event, Refusal>
     ensures { command_named (Some word.Dissolve) (fields_of row.now) ≡ asks (λ e. e) result }
 {
-    let part = read_dissolve(row)?;
+    check_len(row, 2)?;
+    let part = parse_number(field(row, 1))?;
     Ok(Event::Dissolve { part })
 }
 

@@ -14,6 +14,7 @@ mod records;
 mod reports;
 mod run;
 mod sink;
+mod source;
 #[cfg(test)]
 mod tests;
 mod whole_records;

@@ -1,19 +1,15 @@
 //! A run with threads: an engine takes the events, and their answers are owed until they are settled.
 ghost use Rattle.std.specs.Prelude.{◌≡◌, ◌≢◌, ◌⊎◌, ◌<◌, [], List, ℕ, Bool, Option, true, Some, Ok, Err, IfSome, OnErr, OnOk, MatchResult, length};
-ghost use Rattle.csv.specs.Reading.{Ready, default_config, reader_config, reader_state, reader_trim, source_of};
 ghost use Rattle.csv.specs.Records.{fields_of};
 ghost use Rattle.csv.specs.declared.parser.State.TheVariants as state;
-ghost use Rattle.csv.specs.declared.reader.Trim.TheVariants as trim;
 ghost use Rattle.hlr_owners.specs.Seats.{store_in};
-ghost use Rattle.hlr_owners.specs.Store.{Store};
 ghost use Rattle.hlr.specs.Command.{Command as command};
 ghost use Rattle.hlr.specs.Inside.{AnswersNext, HasCome, IsAtRest, TakesNext, WritesOwed, replies_text, word_of_report};
 ghost use Rattle.hlr.specs.Lines.{refused_line};
 ghost use Rattle.hlr.specs.Records.{bounds_of, command_of, field, word_named};
-ghost use Rattle.hlr.specs.Run.{Ran};
 ghost use Rattle.hlr.specs.Sink.{Puts};
+ghost use Rattle.hlr.specs.Source.{RanUntil, StopsBehind};
 ghost use Rattle.hlr.specs.Text.{RecutText};
-ghost use Rattle.hlr.specs.WholeRecords.{inner_remaining};
 ghost use Rattle.hlr.specs.declared.fault.Fault.TheVariants as fault;
 ghost use Rattle.hlr_workers.specs.declared.work.TheConstants.{MOST_PENDING};
 
@@ -21,13 +17,12 @@ use crate::events::event_of;
 use crate::fault::Fault;
 use crate::lines::{Line, build_recut, build_refused, build_reply, empty_line};
 use crate::records::{Kind, Report, Word, field, kind_of, read_bounds, word_of};
-use crate::run::{RECORDS, answer_report, read_record};
+use crate::run::{RECORDS, answer_report};
 use crate::sink::{Sink, Stalled, put_all};
-use crate::whole_records::WholeRecords;
-use csv::{ByteRecord, Reader};
+use crate::source::Source;
+use csv::ByteRecord;
 use hlr_core::{Event, Reply};
 use hlr_workers::{Engine, Gate, MOST_PENDING};
-use std::io::Read;
 use std::sync::Wait;
 use std::thread::Threads;
 use tatp_rows::Refusal;
@@ -230,9 +225,9 @@ fn hand_on<H: Threads + Wait, S: Sink>(
 
 /// Takes the record that was read last. What is owed is written where 4,096 events are pending, and before a read that
 /// may wait, where no whole record is left of what was read; then the sink is flushed too.
-fn take_in_time<R: Read, H: Threads + Wait + Copy + Send + Sync + 'static, S: Sink>(
+fn take_in_time<T: Source, H: Threads + Wait + Copy + Send + Sync + 'static, S: Sink>(
     rt: &H,
-    reader: &Reader<WholeRecords<R>>,
+    source: &T,
     row: &ByteRecord,
     engine: &mut Engine<OpenGate>,
     line: &mut Line,
@@ -243,7 +238,7 @@ fn take_in_time<R: Read, H: Threads + Wait + Copy + Send + Sync + 'static, S: Si
     ensures room { OnOk result (length engine.new.replies < MOST_PENDING) }
 {
     take_record(rt, row, engine, line, sink)?;
-    if !reader.get_ref().has_record_from(reader.position().byte()) {
+    if !source.has_record() {
         return sink_fault(hand_on(rt, engine, line, sink));
     }
     if engine.pending() < MOST_PENDING {
@@ -252,35 +247,33 @@ fn take_in_time<R: Read, H: Threads + Wait + Copy + Send + Sync + 'static, S: Si
     sink_fault(write_owed(rt, engine, line, sink))
 }
 
-/// Takes the records of a reader in turn: `Read` where the reader fails or gives more than 1,048,576 records, `Memory`
+/// Takes the records of a source in turn: `Read` where the source fails or gives more than 1,048,576 records, `Memory`
 /// where it wants memory, or an event does, `Thread` where the start of a thread was refused, `Write` where the sink
 /// fails. Unless the sink failed, answers may be owed then. The row is the memory to read records into.
-fn take_all<R: Read, H: Threads + Wait + Copy + Send + Sync + 'static, S: Sink>(
+fn take_all<T: Source, H: Threads + Wait + Copy + Send + Sync + 'static, S: Sink>(
     rt: &H,
-    reader: &mut Reader<WholeRecords<R>>,
+    source: &mut T,
     row: &mut ByteRecord,
     engine: &mut Engine<OpenGate>,
     line: &mut Line,
     sink: &mut S,
 ) -> Result<(), Fault>
-    requires trims { reader_trim reader.old ≡ trim.None }
-    requires ready { Ready reader.old }
-    requires config { reader_config reader.old ≡ default_config }
-    requires start { reader_state reader.old ≡ state.StartRecord }
+    requires open { T.is_open source.old }
+    requires start { (T.unread source.old).state ≡ state.StartRecord }
     requires rest { IsAtRest engine.old }
-    ensures text { IfSome (source_of (inner_remaining R.remaining) reader.old)
-        (λ bytes. HasCome (store_in engine.old.house) bytes engine.new (S.taken sink.old) (S.taken sink.new) result) }
+    ensures text { IfSome (T.unread source.old).bytes
+        (λ bytes. HasCome (StopsBehind T.unread T.fails true bytes source.new) (store_in engine.old.house) bytes engine.new (S.taken sink.old) (S.taken sink.new) result) }
     ensures write { result ≡ Err fault.Write → S.has_stalled sink.new ≡ true }
     ensures field { result ≢ Err fault.Field }
 {
     for count in 0..RECORDS + 1 {
-        match read_record(reader, row) {
+        match source.read(row) {
             Ok(false) => return Ok(()),
             Ok(true) => {
                 if count == RECORDS {
                     return Err(Fault::Read);
                 }
-                take_in_time(rt, reader, row, engine, line, sink)?;
+                take_in_time(rt, source, row, engine, line, sink)?;
             }
             Err(why) => return Err(why),
         }
@@ -288,49 +281,32 @@ fn take_all<R: Read, H: Threads + Wait + Copy + Send + Sync + 'static, S: Sink>(
     Err(Fault::Read)
 }
 
-/// Writes what is owed at the end of a run, unless the sink failed already: `Write` where that fails, and else what the
-/// run came to.
-fn settle_up<H: Threads + Wait, S: Sink>(
-    rt: &H,
-    done: Result<(), Fault>,
-    engine: &mut Engine<OpenGate>,
-    line: &mut Line,
-    sink: &mut S,
-) -> Result<(), Fault>
-    ensures text { (start : Store) (bytes : List ℕ) (old : Option (List ℕ)) → HasCome start bytes engine.old old (S.taken sink.old) done → Ran start bytes old (S.taken sink.new) result }
-    ensures write { result ≡ Err fault.Write → ((done ≡ Err fault.Write) × (sink.new ≡ sink.old)) ⊎ (S.has_stalled sink.new ≡ true) }
-    ensures field { done ≢ Err fault.Field → result ≢ Err fault.Field }
-{
-    match done {
-        Err(Fault::Write) => Err(Fault::Write),
-        _ => match write_owed(rt, engine, line, sink) {
-            Ok(()) => done,
-            Err(_) => Err(Fault::Write),
-        },
-    }
-}
-
-/// Answers all records of a reader by an engine at rest: `Read` where the reader fails or gives more than 1,048,576
+/// Answers all records of a source by an engine at rest: `Read` where the source fails or gives more than 1,048,576
 /// records, `Memory` where it wants memory, or an event does, `Thread` where the start of a thread was refused, `Write`
-/// where the sink fails. The row is the memory to read records into.
-pub fn answer_all_by<R: Read, H: Threads + Wait + Copy + Send + Sync + 'static, S: Sink>(
+/// where the sink fails. Unless the sink failed, all records are answered that were read before, but for the one whose
+/// event was refused. The row is the memory to read records into.
+pub fn answer_all_by<T: Source, H: Threads + Wait + Copy + Send + Sync + 'static, S: Sink>(
     rt: &H,
-    reader: &mut Reader<WholeRecords<R>>,
+    source: &mut T,
     row: &mut ByteRecord,
     engine: &mut Engine<OpenGate>,
     sink: &mut S,
 ) -> Result<(), Fault>
-    requires trims { reader_trim reader.old ≡ trim.None }
-    requires ready { Ready reader.old }
-    requires config { reader_config reader.old ≡ default_config }
-    requires start { reader_state reader.old ≡ state.StartRecord }
+    requires open { T.is_open source.old }
+    requires start { (T.unread source.old).state ≡ state.StartRecord }
     requires rest { IsAtRest engine.old }
-    ensures text { IfSome (source_of (inner_remaining R.remaining) reader.old)
-        (λ bytes. Ran (store_in engine.old.house) bytes (S.taken sink.old) (S.taken sink.new) result) }
+    ensures text { IfSome (T.unread source.old).bytes
+        (λ bytes. RanUntil (StopsBehind T.unread T.fails true bytes source.new) (store_in engine.old.house) bytes (S.taken sink.old) (S.taken sink.new) result) }
     ensures write { result ≡ Err fault.Write → S.has_stalled sink.new ≡ true }
     ensures field { result ≢ Err fault.Field }
 {
     let mut line = empty_line();
-    let done = take_all(rt, reader, row, engine, &mut line, sink);
-    settle_up(rt, done, engine, &mut line, sink)
+    let done = take_all(rt, source, row, engine, &mut line, sink);
+    match done {
+        Err(Fault::Write) => Err(Fault::Write),
+        _ => match write_owed(rt, engine, &mut line, sink) {
+            Ok(()) => done,
+            Err(_) => Err(Fault::Write),
+        },
+    }
 }

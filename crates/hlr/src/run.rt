@@ -1,8 +1,8 @@
 //! A run: every record of a reader is answered.
-ghost use Rattle.std.specs.Prelude.{◌≡◌, ◌≢◌, ◌⊎◌, ◌↔◌, true, false, Some, Err, Ok, IfErr, IfOk, IfSome, OnOk, option_map};
+ghost use Rattle.std.specs.Prelude.{◌≡◌, ◌≢◌, ◌⊎◌, ◌↔◌, true, false, Some, Err, Ok, IfOk, IfSome, option_map};
 ghost use Rattle.std.specs.Result.{is_err};
 ghost use Rattle.std.specs.Io.KnownBytes.{Keeps};
-ghost use Rattle.csv.specs.Reading.{ReadRecord, Ready, default_config, reader_config, reader_state, reader_trim, source_of, strip_bom, took_first};
+ghost use Rattle.csv.specs.Reading.{Ready, default_config, reader_config, reader_state, reader_trim, source_of, strip_bom};
 ghost use Rattle.csv.specs.Records.{fields_of};
 ghost use Rattle.csv.specs.declared.parser.State.TheVariants as state;
 ghost use Rattle.csv.specs.declared.reader.Trim.TheVariants as trim;
@@ -14,6 +14,7 @@ ghost use Rattle.hlr.specs.Run.{IsFlushedAfter, Ran};
 ghost use Rattle.hlr.specs.Command.{Command as command};
 ghost use Rattle.hlr.specs.Inside.{Answers, IsAtRest, report_on, word_of_report};
 ghost use Rattle.hlr.specs.Sink.{Puts};
+ghost use Rattle.hlr.specs.Source.{RanUntil, StopsBehind};
 ghost use Rattle.tatp_rows.specs.declared.refusal.Refusal.TheVariants as refusal;
 ghost use Rattle.hlr.specs.declared.fault.Fault.TheVariants as fault;
 
@@ -22,13 +23,14 @@ use crate::edits::{
     add_access, add_facility, add_subscriber, delete_forwarding, insert_forwarding, set_active,
     set_number, update_location, update_subscriber,
 };
-use crate::fault::{Fault, read_fault};
+use crate::fault::Fault;
 use crate::lines::{Line, build_done, build_recut, build_refused, empty_line};
-use crate::moves::{build_dissolve, build_divide, build_give, build_post, build_take};
+use crate::moves::{build_moved, build_post};
 use crate::owed::{OpenGate, answer_all_by};
 use crate::records::{Report, Word, field, read_bounds, word_of};
 use crate::reports::{write_index, write_proposal, write_regions, write_scan, write_views};
 use crate::sink::{Sink, Stalled, put_all};
+use crate::source::Source;
 use crate::whole_records::WholeRecords;
 use csv::{ByteRecord, Reader, ReaderBuilder};
 use hlr_core::Register;
@@ -132,10 +134,9 @@ fn answer_word<S: Sink>(
         Word::Active => build_done(line, set_active(row, register)),
         Word::Number => build_done(line, set_number(row, register)),
         Word::Post => build_post(row, register, line),
-        Word::Give => build_give(row, register, line),
-        Word::Take => build_take(row, register, line),
-        Word::Divide => build_divide(row, register, line),
-        Word::Dissolve => build_dissolve(row, register, line),
+        Word::Give | Word::Take | Word::Divide | Word::Dissolve => {
+            build_moved(word, row, register, line)
+        }
         Word::Views => return answer_report(Report::Views, row, register, line, sink),
         Word::Scan => return answer_report(Report::Scan, row, register, line, sink),
         Word::Index => return answer_report(Report::Index, row, register, line, sink),
@@ -170,8 +171,8 @@ fn answer<S: Sink>(
 
 /// Answers the record that was read last, and flushes the sink before a read that may wait: where no whole record is
 /// left of what was read. Where the sink fails, a front of the answer was taken.
-fn answer_in_time<R: Read, S: Sink>(
-    reader: &Reader<WholeRecords<R>>,
+fn answer_in_time<T: Source, S: Sink>(
+    source: &T,
     row: &ByteRecord,
     register: &mut Register,
     line: &mut Line,
@@ -184,7 +185,7 @@ fn answer_in_time<R: Read, S: Sink>(
     if answer(row, register, line, sink).is_err() {
         return Err(Stalled);
     }
-    if reader.get_ref().has_record_from(reader.position().byte()) {
+    if source.has_record() {
         return Ok(());
     }
     match sink.flush() {
@@ -193,51 +194,33 @@ fn answer_in_time<R: Read, S: Sink>(
     }
 }
 
-/// Reads the next record into the row, and tells whether there was one: `Memory` where the reader wanted memory, else
-/// `Read` where it failed.
-pub fn read_record<R: Read>(
-    reader: &mut Reader<WholeRecords<R>>,
-    row: &mut ByteRecord,
-) -> Result<bool, Fault>
-    ensures ready { (reader_trim reader.old ≡ trim.None) → OnOk result (took_first reader.new ≡ true) }
-    ensures reads { IfOk result (λ found. (reader_trim reader.old ≡ trim.None) → Ready reader.old → ReadRecord (inner_remaining R.remaining) reader.old reader.new found (fields_of row.new)) }
-    ensures fault { IfErr result (λ why. (why ≡ fault.Memory) ⊎ (why ≡ fault.Read)) }
-{
-    match reader.read_byte_record(row) {
-        Ok(found) => Ok(found),
-        Err(error) => Err(read_fault(error)),
-    }
-}
-
-/// Answers the records of a reader in turn, each before the next read may wait: `Read` where the reader fails or gives
-/// more than 1,048,576 records, `Memory` where it wants memory, `Write` where the sink fails. The row is the memory to
-/// read records into.
-fn answer_all<R: Read, S: Sink>(
-    reader: &mut Reader<WholeRecords<R>>,
+/// Answers the records of a source in turn, each before the next read may wait: `Read` where the source fails or gives
+/// more than 1,048,576 records, `Memory` where it wants memory, `Write` where the sink fails. Unless the sink failed,
+/// all records are answered that were read before. The row is the memory to read records into.
+pub fn answer_all<T: Source, S: Sink>(
+    source: &mut T,
     row: &mut ByteRecord,
     register: &mut Register,
     sink: &mut S,
 ) -> Result<(), Fault>
-    requires trims { reader_trim reader.old ≡ trim.None }
-    requires ready { Ready reader.old }
-    requires config { reader_config reader.old ≡ default_config }
-    requires start { reader_state reader.old ≡ state.StartRecord }
+    requires open { T.is_open source.old }
+    requires start { (T.unread source.old).state ≡ state.StartRecord }
     requires home { AllHome register.old.seats }
-    ensures text { IfSome (source_of (inner_remaining R.remaining) reader.old)
-        (λ bytes. Ran (store_in register.old) bytes (S.taken sink.old) (S.taken sink.new) result) }
+    ensures text { IfSome (T.unread source.old).bytes
+        (λ bytes. RanUntil (StopsBehind T.unread T.fails false bytes source.new) (store_in register.old) bytes (S.taken sink.old) (S.taken sink.new) result) }
     ensures write { result ≡ Err fault.Write → S.has_stalled sink.new ≡ true }
     ensures field { result ≢ Err fault.Field }
     ensures thread { result ≢ Err fault.Thread }
 {
     let mut line = empty_line();
     for count in 0..RECORDS + 1 {
-        match read_record(reader, row) {
+        match source.read(row) {
             Ok(false) => return Ok(()),
             Ok(true) => {
                 if count == RECORDS {
                     return Err(Fault::Read);
                 }
-                if answer_in_time(reader, row, register, &mut line, sink).is_err() {
+                if answer_in_time(source, row, register, &mut line, sink).is_err() {
                     return Err(Fault::Write);
                 }
             }

@@ -9,8 +9,8 @@ returns-in_err-take_record-clause-text g c =
     let passed = err_from_is_err_and c.from_residual.result c.from_residual.ensures.1 in
     λ rows start old under. rw (passed.1, passed.2) (c.in_err-take_record.ensures rows start old under)
 
-pub returns-then-not-has_record_from-clause-text : goal.returns-then-not-has_record_from-clause-text
-returns-then-not-has_record_from-clause-text g c = λ rows start old under.
+pub returns-then-not-has_record-clause-text : goal.returns-then-not-has_record-clause-text
+returns-then-not-has_record-clause-text g c = λ rows start old under.
     handed_taken rows _ start c.hand_on.new.engine old _ _ c.hand_on.result _
     (c.hand_on.ensures.text (rows ++ fields_of c.args.row.now ∷ []) start old (c.in_ok-take_record.ensures rows start old under)) c.hand_on.ensures.rest c.sink_fault.ensures
 

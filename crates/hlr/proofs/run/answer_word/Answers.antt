@@ -3,7 +3,7 @@ use Rattle.csv.specs.Records.{fields_of}
 use Rattle.hlr_owners.specs.Seats.{store_in}
 use Rattle.hlr.specs.Text.{RecordText}
 use Rattle.hlr.proofs.RunFacts.{answered, named_text, recut_named}
-use Rattle.hlr.proofs.run.answer_word.Goals.{in-Gsd, in-Gad, in-Gnd, in-Usd, in-Ul, in-Icf, in-Dcf, in-Sub, in-Acc, in-Fac, in-Active, in-Number, in-Post, in-Give, in-Take, in-Divide, in-Dissolve, After-put_all}
+use Rattle.hlr.proofs.run.answer_word.Goals.{in-Gsd, in-Gad, in-Gnd, in-Usd, in-Ul, in-Icf, in-Dcf, in-Sub, in-Acc, in-Fac, in-Active, in-Number, in-Post, in-Give, After-put_all}
 use Rattle.hlr.proofs.run.answer_word.Goals as goal
 
 -- what the line answers
@@ -22,10 +22,7 @@ answer_text g c = elim c.match-word.branch [
   | in-Active w ↦ named_text _ _ _ _ _ c.requires.named (rw (w.in-Active.is, w.line-is, w.build_done-in-Active.ensures, w.register-is) w.set_active.ensures.text)
   | in-Number w ↦ named_text _ _ _ _ _ c.requires.named (rw (w.in-Number.is, w.line-is, w.build_done-in-Number.ensures, w.register-is) w.set_number.ensures.text)
   | in-Post w ↦ named_text _ _ _ _ _ c.requires.named (rw (w.in-Post.is, w.line-is, w.register-is) w.build_post.ensures.text)
-  | in-Give w ↦ named_text _ _ _ _ _ c.requires.named (rw (w.in-Give.is, w.line-is, w.register-is) w.build_give.ensures.text)
-  | in-Take w ↦ named_text _ _ _ _ _ c.requires.named (rw (w.in-Take.is, w.line-is, w.register-is) w.build_take.ensures.text)
-  | in-Divide w ↦ named_text _ _ _ _ _ c.requires.named (rw (w.in-Divide.is, w.line-is, w.register-is) w.build_divide.ensures.text)
-  | in-Dissolve w ↦ named_text _ _ _ _ _ c.requires.named (rw (w.in-Dissolve.is, w.line-is, w.register-is) w.build_dissolve.ensures.text)
+  | in-Give w ↦ named_text _ _ _ _ _ c.requires.named (rw (w.line-is, w.register-is) w.build_moved.ensures.text)
 ]
 
 pub returns-clause-text : goal.returns-clause-text
@@ -46,10 +43,7 @@ returns-clause-home g c = elim c.match-word.branch [
   | in-Active w ↦ rw (w.register-is) w.set_active.ensures.home
   | in-Number w ↦ rw (w.register-is) w.set_number.ensures.home
   | in-Post w ↦ rw (w.register-is) w.build_post.ensures.home
-  | in-Give w ↦ rw (w.register-is) w.build_give.ensures.home
-  | in-Take w ↦ rw (w.register-is) w.build_take.ensures.home
-  | in-Divide w ↦ rw (w.register-is) w.build_divide.ensures.home
-  | in-Dissolve w ↦ rw (w.register-is) w.build_dissolve.ensures.home
+  | in-Give w ↦ rw (w.register-is) w.build_moved.ensures.home
 ]
 
 pub write_recut-requires-clause-named : goal.write_recut-requires-clause-named
