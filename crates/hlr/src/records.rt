@@ -13,6 +13,9 @@ use tatp_rows::Refusal;
 /// The most bounds between parts that there can be.
 pub const MOST_BOUNDS: usize = MOST_PARTS as usize - 1;
 
+// Definitions name this constant, so its number is proved here.
+const _: () = prove!(MOST_BOUNDS == 15);
+
 /// The words that a record may begin with.
 #[derive(Clone, Copy, Debug, PartialEq, Eq)]
 pub enum Word {
