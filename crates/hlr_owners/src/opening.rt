@@ -2,7 +2,7 @@
 ghost use Rattle.std.specs.Prelude.{◌≡◌, ◌<◌, ◌⊎◌, IfOk, OnErr};
 ghost use Rattle.tatp_actions.specs.Part.{IsRange, IsWidth};
 ghost use Rattle.view_board.specs.Desks.{with_view};
-ghost use Rattle.view_board.specs.Views.{Owns, alone, without};
+ghost use Rattle.view_board.specs.Views.{Owns, alone, first_view, without};
 ghost use Rattle.view_board.specs.Words.{AreSmall, HasGreat};
 ghost use Rattle.view_board.specs.declared.words.TheConstants.{SLOTS};
 ghost use Rattle.holding.specs.Held.{HasSmallNets};
@@ -21,6 +21,16 @@ use std::sync::Arc;
 use tatp_actions::Part;
 use tatp_rows::Refusal;
 use view_board::{Board, Desk, WORDS};
+
+/// A board of these words, and the desk that owns all of it, as `Board::open` has them. It is not inlined, so that its
+/// copy of the words has left the stack before a part is made.
+#[inline(never)]
+fn opened_board(alloc: Global, words: &[u64; WORDS]) -> Result<(Board, Desk), Refusal>
+    ensures ok { IfOk result (λ opened. AreSmall words.now × (opened.1.board ≡ opened.0) × (opened.1.view ≡ first_view words.now)) }
+    ensures err { OnErr result (((result ≡ Err Refusal.Field) × HasGreat words.now) ⊎ ((result ≡ Err Refusal.Memory) × AreSmall words.now)) }
+{
+    Board::open(alloc, words)
+}
 
 /// A holding in a box; `Memory` where this can't be had.
 #[inline(never)]
@@ -68,7 +78,7 @@ impl Seats {
         ensures err { OnErr result (((result ≡ Err Refusal.Field) × HasGreat words.now) ⊎ ((result ≡ Err Refusal.Memory) × AreSmall words.now)) }
     {
         let regions = Regions::opening(parts, width)?;
-        let (board, mut spare) = Board::open(alloc, words)?;
+        let (board, mut spare) = opened_board(alloc, words)?;
         let board = Arc::new(alloc, board)?;
         let mut seats = Vec::with_capacity(alloc, SEATS)?;
         let rooms = Rooms::new(alloc)?;

@@ -125,6 +125,7 @@ impl Holding {
     }
 
     /// A holding with no row, of which nothing is published and nothing pending.
+    #[inline(never)]
     fn blank(alloc: Global, desk: Desk) -> Self
         requires { IsBlankDesk desk.view }
         ensures desk { result.desk ≡ desk }

@@ -1,5 +1,5 @@
 /* Calls in threads with a stack of STACK_KB and no byte more: a page that can't be touched lies below it. The first one
- * has a day of examples/library/day.c, whose main is day_main here; the second one a register whose trees are four levels
+ * has a day of examples/library/day.c, whose main is day_main here; the second one a register whose trees are three levels
  * high, and each call that changes many rows. The C library keeps what it knows of a thread in its stack too. */
 #define _GNU_SOURCE
 #include "hlr.h"
@@ -10,7 +10,7 @@
 #include <unistd.h>
 
 #define STACK_KB 64
-#define ROWS 200000
+#define ROWS 100000
 
 int day_main(void);
 
