@@ -54,6 +54,7 @@ fn refuse<R: Print + Eprint>(rt: &R, error: &clap::Error) -> ExitCode {
 }
 
 /// The words that the program was started with.
+#[inline(never)]
 fn words_of<R: Env + AllocGlobal + Eprint>(rt: &R) -> Result<Vec<String>, ExitCode> {
     match env::args(rt) {
         Ok(args) => args
@@ -68,6 +69,7 @@ fn words_of<R: Env + AllocGlobal + Eprint>(rt: &R) -> Result<Vec<String>, ExitCo
 }
 
 /// The options that the words ask for.
+#[inline(never)]
 fn options_of<R: AllocGlobal + Print + Eprint>(
     rt: &R,
     words: &[String],
@@ -83,6 +85,7 @@ fn options_of<R: AllocGlobal + Print + Eprint>(
 
 /// Answers standard input on standard output. The answers so far are flushed before a read that may wait, and at the
 /// end, but after `Field` and `Write`.
+#[inline(never)]
 fn answer_input<R: AllocGlobal + Input + Print + Threads + Wait + Copy + Send + Sync + 'static>(
     rt: &R,
     options: Options,

@@ -109,6 +109,7 @@ fn edited_reply(done: Result<(), Refusal>) -> Reply
 impl Register {
     /// An empty register whose words are all 0, with so many parts that share the zones out. `Field` where parts isn't
     /// in 1..=16 or the width isn't in 1..=524,288; `Memory` where a growth was refused.
+    #[inline(never)]
     pub fn open(alloc: Global, parts: u8, width: u32) -> Result<Register, Refusal>
         ensures ok { IfOk result (λ register. store_in register ≡ opening parts width) }
         ensures home { IfOk result (λ register. AllHome register.seats) }
