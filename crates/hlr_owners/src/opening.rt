@@ -1,5 +1,5 @@
 //! Seats of parts that have no row.
-ghost use Rattle.std.specs.Prelude.{◌≡◌, ◌<◌, ◌⊎◌, IfOk, OnErr};
+ghost use Rattle.std.specs.Prelude.{◌≡◌, ◌<◌, ◌⊎◌, true, Err, IfOk, OnErr};
 ghost use Rattle.tatp_actions.specs.Part.{IsRange, IsWidth};
 ghost use Rattle.view_board.specs.Desks.{with_view};
 ghost use Rattle.view_board.specs.Views.{Owns, alone, first_view, without};
@@ -32,6 +32,19 @@ fn opened_board(alloc: Global, words: &[u64; WORDS]) -> Result<(Board, Desk), Re
     Board::open(alloc, words)
 }
 
+/// A slot split off a desk, as `Board::split` does it. It is not inlined, so that its copy of the numbers has left the
+/// stack before a part is made.
+#[inline(never)]
+pub(crate) fn split_off(board: &Board, desk: &mut Desk, slot: u8) -> Result<Desk, Refusal>
+    requires board { desk.old.board ≡ board.now }
+    requires own { Owns desk.old.view slot }
+    ensures ok { IfOk result (λ new. (new ≡ with_view desk.old (alone desk.old.view slot)) × (desk.new ≡ with_view desk.old (without desk.old.view slot))) }
+    ensures once { desk.old.view.was_apart ≡ true }
+    ensures err { OnErr result ((desk.new ≡ desk.old) × (result ≡ Err Refusal.Memory)) }
+{
+    board.split(desk, slot)
+}
+
 /// A holding in a box; `Memory` where this can't be had.
 #[inline(never)]
 fn boxed(alloc: Global, holding: Holding) -> Result<Box<Holding>, Refusal>
@@ -62,7 +75,7 @@ fn opened(
         × (spare.new ≡ with_view spare.old (without spare.old.view slot))) }
     ensures err { OnErr result (result ≡ Err Refusal.Memory) }
 {
-    let desk = board.split(spare, slot)?;
+    let desk = split_off(board, spare, slot)?;
     let part = Part::new(alloc, region.lo, region.hi, width)?;
     boxed(alloc, Holding::of(alloc, part, desk))
 }

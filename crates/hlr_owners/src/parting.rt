@@ -7,6 +7,7 @@ ghost use Rattle.hlr_owners.specs.Parted.{IsDissolved, IsDissolvedBeside, IsDivi
 ghost use Rattle.hlr_owners.specs.Seats.{IsHomeFrom, store_in};
 
 use crate::lodging::{Lodging, Seat};
+use crate::opening::split_off;
 use crate::room::insert_reserved;
 use crate::seats::Seats;
 use tatp_rows::Refusal;
@@ -27,7 +28,7 @@ impl Seats {
         let Some(slot) = self.spare.least_slot() else {
             unreachable!()
         };
-        let desk = self.board.split(&mut self.spare, slot)?;
+        let desk = split_off(&self.board, &mut self.spare, slot)?;
         let parted = match &mut self.seats[i] {
             Seat::Part(lodging) => lodging.divide(at as u32, desk),
             Seat::Piece(_) => unreachable!(),
