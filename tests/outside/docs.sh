@@ -60,6 +60,7 @@ orders() {
   same 'the first refusal is answered' "$room/found" "$room/wanted"
 }
 
+is 'no page has a mark to be filled in' "$(grep -n '@@' README.md CHANGELOG.md docs/*.md)" ''
 at_most README.md 1300 README.md
 at_most docs 20000 docs/*.md
 paths > "$room/paths"
