@@ -28,7 +28,8 @@
  *     its size. No call is made from a signal handler, or in the forked child of a process with threads.
  *   - A call needs at most 64 KB of stack.
  *
- * Link libhlr_c.a and then liblibc_c.a of the kit, which has what the library asks of malloc and free.
+ * Link libhlr_c.a and then liblibc_c.a of the kit, which has what the library asks of malloc and free. What dist.sh
+ * installs has both in one: link what `pkg-config --libs hlr` prints.
  */
 #ifndef HLR_H
 #define HLR_H

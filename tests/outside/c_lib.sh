@@ -9,6 +9,14 @@ compiled() {
   gcc -O2 -Wall -Wextra -Werror "${@:2}" -o "$room/$1" || { fail "$1 isn't compiled"; return 1; }
 }
 
+# ended NAME OUT COMMAND ..: a command says what the file OUT has, nothing else, and ends well.
+ended() {
+  "${@:3}" > "$room/out" 2> "$room/err"
+  is "$1: status" "$?" 0
+  same "$1: standard output" "$room/out" "$2"
+  is "$1: standard error" "$(cat "$room/err")" ''
+}
+
 # kit_archive: prints where the kit has what the library for C asks of the C library.
 kit_archive() { echo "$(dirname "$(rt doc)")/c/liblibc_c.a"; }
 

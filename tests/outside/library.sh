@@ -5,14 +5,6 @@
 header=crates/hlr_c/hlr.h
 in_library=tests/outside/library
 
-# ended NAME OUT COMMAND ..: a command says what the file OUT has, nothing else, and ends well.
-ended() {
-  "${@:3}" > "$room/out" 2> "$room/err"
-  is "$1: status" "$?" 0
-  same "$1: standard output" "$room/out" "$2"
-  is "$1: standard error" "$(cat "$room/err")" ''
-}
-
 # client NAME WORD ..: compiles a client with the library.
 client() { compiled "$1" -std=c11 -pthread -Icrates/hlr_c "${@:2}" "$archive" "$(kit_archive)"; }
 

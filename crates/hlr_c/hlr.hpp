@@ -1,0 +1,197 @@
+/*
+ * hlr.hpp: the register for C++17, a thin wrapper over hlr.h.
+ *
+ *     hlrpp::store store;
+ *     if (store.open(1, 524288) == hlrpp::code::done) { ... }     // it closes itself
+ *
+ * A store has a register, or is closed. It can be moved and not copied; a store that was moved from is closed. A store
+ * that goes out of scope closes itself.
+ *
+ * Each call answers a code, which mustn't be left unread. Nothing throws. hlr.h tells what each call does, which codes
+ * it answers, and what its caller owes; a call has the same name there, with hlr_ before it. In short:
+ *   - One call at a time works on a store, so no call is const.
+ *   - What a call writes by reference it writes where it answers code::done. Give it a value first, as
+ *     hlrpp::subscriber row{}, and hand no call the same thing twice.
+ *
+ * The namespace isn't hlr, since that is the type of a handle in hlr.h.
+ */
+#ifndef HLR_HPP
+#define HLR_HPP
+
+#include "hlr.h"
+
+#include <array>
+#include <cstddef>
+#include <cstdint>
+
+namespace hlrpp {
+
+/* What a call answers: that it is done, or why it was refused. */
+enum class [[nodiscard]] code : std::uint8_t {
+    done = HLR_DONE,
+    memory = HLR_MEMORY,
+    field = HLR_FIELD,
+    no_subscriber = HLR_NO_SUBSCRIBER,
+    no_number = HLR_NO_NUMBER,
+    no_access = HLR_NO_ACCESS,
+    no_facility = HLR_NO_FACILITY,
+    no_forwarding = HLR_NO_FORWARDING,
+    no_destination = HLR_NO_DESTINATION,
+    exists = HLR_EXISTS,
+    number_taken = HLR_NUMBER_TAKEN,
+    moving = HLR_MOVING,
+    no_part = HLR_NO_PART,
+    no_piece = HLR_NO_PIECE,
+    out_of_range = HLR_OUT_OF_RANGE,
+    not_adjacent = HLR_NOT_ADJACENT,
+    many_pieces = HLR_MANY_PIECES,
+    worn = HLR_WORN,
+    many_parts = HLR_MANY_PARTS,
+    not_open = HLR_NOT_OPEN,
+    still_open = HLR_STILL_OPEN
+};
+
+/* The name of a code, as the program hlr prints refusals. */
+[[nodiscard]] constexpr const char *name(code answered) noexcept {
+    switch (answered) {
+    case code::done: return "Done";
+    case code::memory: return "Memory";
+    case code::field: return "Field";
+    case code::no_subscriber: return "NoSubscriber";
+    case code::no_number: return "NoNumber";
+    case code::no_access: return "NoAccess";
+    case code::no_facility: return "NoFacility";
+    case code::no_forwarding: return "NoForwarding";
+    case code::no_destination: return "NoDestination";
+    case code::exists: return "Exists";
+    case code::number_taken: return "NumberTaken";
+    case code::moving: return "Moving";
+    case code::no_part: return "NoPart";
+    case code::no_piece: return "NoPiece";
+    case code::out_of_range: return "OutOfRange";
+    case code::not_adjacent: return "NotAdjacent";
+    case code::many_pieces: return "ManyPieces";
+    case code::worn: return "Worn";
+    case code::many_parts: return "ManyParts";
+    case code::not_open: return "NotOpen";
+    case code::still_open: return "StillOpen";
+    }
+    return "";
+}
+
+/* The rows and reports of hlr.h. */
+using subscriber = hlr_subscriber;
+using access = hlr_access;
+using facility = hlr_facility;
+using numbers = hlr_numbers;
+using region = hlr_region;
+using region_list = hlr_region_list;
+using bounds = hlr_bounds;
+
+inline constexpr std::size_t cells = HLR_CELLS;
+
+/* The counts that store::scan finds. */
+using counts = std::array<std::uint64_t, cells>;
+
+/* What store::views reads: each cell as published, and what isn't posted of it yet. */
+struct view {
+    std::array<std::int64_t, cells> published;
+    std::array<std::int64_t, cells> unposted;
+};
+
+/* Which end store::give gives away: the subscribers below a number, or those from it on. */
+enum class side : std::uint64_t { low = 0, high = 1 };
+
+class store {
+public:
+    constexpr store() noexcept = default;
+    ~store() { shut(); }
+
+    store(const store &) = delete;
+    store &operator=(const store &) = delete;
+
+    store(store &&other) noexcept : handle_(other.handle_) { other.handle_ = HLR_CLOSED; }
+    store &operator=(store &&other) noexcept {
+        if (this != &other) {
+            shut();
+            handle_ = other.handle_;
+            other.handle_ = HLR_CLOSED;
+        }
+        return *this;
+    }
+
+    /* Whether it has a register. No subscriber is 0, so an open one refuses this with code::field. */
+    [[nodiscard]] bool is_open() noexcept { return hlr_set_active(&handle_, 0, 1, 1) != HLR_NOT_OPEN; }
+
+    /* The handle, for calls of hlr.h. */
+    [[nodiscard]] hlr *handle() noexcept { return &handle_; }
+
+    code open(std::uint64_t parts, std::uint64_t width) noexcept { return code{hlr_open(parts, width, &handle_)}; }
+    code close() noexcept { return code{hlr_close(&handle_)}; }
+
+    /* Reads. */
+    code subscriber_data(std::uint64_t s_id, subscriber &row) noexcept {
+        return code{hlr_subscriber_data(&handle_, s_id, &row)};
+    }
+    code new_destination(std::uint64_t s_id, std::uint64_t sf_type, std::uint64_t start_time, std::uint64_t end_time,
+                         numbers &found) noexcept {
+        return code{hlr_new_destination(&handle_, s_id, sf_type, start_time, end_time, &found)};
+    }
+    code access_data(std::uint64_t s_id, std::uint64_t ai_type, access &row) noexcept {
+        return code{hlr_access_data(&handle_, s_id, ai_type, &row)};
+    }
+
+    /* Changes. */
+    code update_subscriber(std::uint64_t s_id, std::uint64_t sf_type, std::uint64_t bit_1, std::uint64_t data_a) noexcept {
+        return code{hlr_update_subscriber(&handle_, s_id, sf_type, bit_1, data_a)};
+    }
+    code update_location(std::uint64_t sub_nbr, std::uint64_t vlr_location) noexcept {
+        return code{hlr_update_location(&handle_, sub_nbr, vlr_location)};
+    }
+    code insert_forwarding(std::uint64_t sub_nbr, std::uint64_t sf_type, std::uint64_t start_time, std::uint64_t end_time,
+                           std::uint64_t numberx) noexcept {
+        return code{hlr_insert_forwarding(&handle_, sub_nbr, sf_type, start_time, end_time, numberx)};
+    }
+    code delete_forwarding(std::uint64_t sub_nbr, std::uint64_t sf_type, std::uint64_t start_time) noexcept {
+        return code{hlr_delete_forwarding(&handle_, sub_nbr, sf_type, start_time)};
+    }
+    code add_subscriber(const subscriber &row) noexcept { return code{hlr_add_subscriber(&handle_, &row)}; }
+    code add_access(const access &row) noexcept { return code{hlr_add_access(&handle_, &row)}; }
+    code add_facility(const facility &row) noexcept { return code{hlr_add_facility(&handle_, &row)}; }
+    code set_active(std::uint64_t s_id, std::uint64_t sf_type, std::uint64_t is_active) noexcept {
+        return code{hlr_set_active(&handle_, s_id, sf_type, is_active)};
+    }
+    code set_number(std::uint64_t s_id, std::uint64_t sub_nbr) noexcept {
+        return code{hlr_set_number(&handle_, s_id, sub_nbr)};
+    }
+
+    /* Counts. */
+    code post(std::uint64_t part, std::uint64_t limit, std::uint64_t &posted) noexcept {
+        return code{hlr_post(&handle_, part, limit, &posted)};
+    }
+    code views(view &now) noexcept { return code{hlr_views(&handle_, now.published.data(), now.unposted.data())}; }
+    code scan(counts &found) noexcept { return code{hlr_scan(&handle_, found.data())}; }
+
+    /* Parts. */
+    code give(std::uint64_t part, side end, std::uint64_t at, region &given) noexcept {
+        return code{hlr_give(&handle_, part, static_cast<std::uint64_t>(end), at, &given)};
+    }
+    code take(std::uint64_t piece, std::uint64_t part) noexcept { return code{hlr_take(&handle_, piece, part)}; }
+    code divide(std::uint64_t part, std::uint64_t at, region &made) noexcept {
+        return code{hlr_divide(&handle_, part, at, &made)};
+    }
+    code dissolve(std::uint64_t part, region &front) noexcept { return code{hlr_dissolve(&handle_, part, &front)}; }
+    code regions(region_list &all) noexcept { return code{hlr_regions(&handle_, &all)}; }
+    code propose(bounds &proposed) noexcept { return code{hlr_propose(&handle_, &proposed)}; }
+    code recut(const bounds &wanted, std::uint64_t &moved) noexcept { return code{hlr_recut(&handle_, &wanted, &moved)}; }
+
+private:
+    /* Closes it, where it is open. */
+    void shut() noexcept { hlr_close(&handle_); }
+
+    hlr handle_ = HLR_CLOSED;
+};
+
+} // namespace hlrpp
+
+#endif

@@ -1,0 +1,174 @@
+#!/usr/bin/env bash
+# dist.sh: what it makes, twice alike, and what it installs; clients in C and C++ that are built against that by pkg-config,
+# with the archive and with the shared library; the names that both give out; the manual page; and what it refuses.
+. "$(dirname "$0")/lib.sh" || exit 1
+. tests/outside/c_lib.sh || exit 1
+in_library=tests/outside/library
+header=crates/hlr_c/hlr.h
+version=$(sed -n 's/^const VERSION: &str = "\(.*\)";$/\1/p' crates/hlr/src/options.rt)
+export SOURCE_DATE_EPOCH=1000000000
+
+# copied NAME: what dist.sh reads of the repository, in a folder of its own.
+copied() {
+  mkdir "$room/$1"
+  cp --parents dist.sh tools/man.awk crates/hlr/src/options.rt "$header" crates/hlr_c/hlr.hpp "$archive" crates/hlr/out/hlr "$room/$1"
+}
+
+# alike NAME FOLDER FOLDER: both have the same files, with the same bytes and modes.
+alike() {
+  is "$1" "$(diff -r --no-dereference "$2" "$3" 2>&1)" ''
+  is "$1: modes" "$(cd "$2" && find . -printf '%M %p %l\n' | sort)" "$(cd "$3" && find . -printf '%M %p %l\n' | sort)"
+}
+
+# made: two copies make the same packages, also with other rights, times and places.
+made() {
+  copied one
+  copied two
+  is 'dist.sh' "$("$room/one/dist.sh" 2>&1; echo "$?")" "$(without_deb)0"
+  is 'dist.sh again' "$(cd / && umask 077 && TZ=Asia/Tokyo LC_ALL=C.UTF-8 "$room/two/dist.sh" 2>&1; echo "$?")" "$(without_deb)0"
+  for package in "hlr-$version-x86_64-linux.tar.gz" ${deb:+"$deb"}; do
+    same "$package is the same twice" "$room/one/dist/$package" "$room/two/dist/$package"
+  done
+  alike 'dist/ is the same twice' "$room/one/dist" "$room/two/dist"
+}
+
+# without_deb: prints what dist.sh says where there is no dpkg-deb.
+without_deb() { [ -n "$deb" ] || echo 'no Debian package, since there is no dpkg-deb'; }
+
+# The calls that hlr.h declares, and nothing else, are what archive and shared library give out; hlr.hpp has them all, and
+# all codes.
+names() {
+  local one=$room/one/dist/lib
+  sed -n 's/^uint8_t \(hlr_[a-z_]*\)(.*/\1/p' "$header" | sort > "$room/called"
+  nm -g --defined-only "$one/libhlr.a" | awk 'NF == 3 { print $3 }' | sort > "$room/global"
+  same 'global names of libhlr.a' "$room/global" "$room/called"
+  nm -D --defined-only "$one/libhlr.so.1" | awk '$3 != "HLR_1" { sub(/@@HLR_1$/, "", $3); print $3 }' | sort > "$room/exported"
+  same 'names that libhlr.so.1 exports' "$room/exported" "$room/called"
+  is 'names that libhlr.a asks for' "$(nm -u "$one/libhlr.a" | awk 'NF == 2 { print $2 }' | sort | paste -sd ' ')" \
+    'free malloc memcpy memmove memset realloc'
+  is 'soname' "$(readelf -dW "$one/libhlr.so.1" | sed -n 's/.*(SONAME).*\[\(.*\)\]$/\1/p')" libhlr.so.1
+  grep -o 'hlr_[a-z_]*(' crates/hlr_c/hlr.hpp | tr -d '(' | sort -u > "$room/wrapped"
+  same 'calls of hlr.hpp' "$room/wrapped" "$room/called"
+  sed -n 's/^    HLR_\([A-Z_]*\) = [0-9].*/\1/p' "$header" > "$room/codes"
+  sed -n 's/^    [a-z_]* = HLR_\([A-Z_]*\),\{0,1\}$/\1/p' crates/hlr_c/hlr.hpp > "$room/wrapped"
+  same 'codes of hlr.hpp' "$room/wrapped" "$room/codes"
+}
+
+# installed: to a folder, and below another one for use elsewhere.
+installed() {
+  local files='bin/hlr include/hlr.h include/hlr.hpp lib/libhlr.a lib/libhlr.so lib/libhlr.so.1 lib/pkgconfig/hlr.pc share/man/man1/hlr.1'
+  is 'dist.sh install' "$(PREFIX=$room/prefix "$room/one/dist.sh" install 2>&1; echo "$?")" 0
+  is 'what it installs' "$(cd "$room/prefix" && find . ! -type d | sed 's/^..//' | sort | paste -sd ' ')" "$files"
+  is 'dist.sh install below a folder' "$(umask 077; PREFIX=/opt/hlr DESTDIR=$room/root "$room/two/dist.sh" install 2>&1; echo "$?")" 0
+  has 'hlr.pc has the prefix' "$room/root/opt/hlr/lib/pkgconfig/hlr.pc" 'prefix=/opt/hlr'
+  sed -i "s,^prefix=.*,prefix=$room/prefix," "$room/root/opt/hlr/lib/pkgconfig/hlr.pc"
+  chmod 644 "$room/root/opt/hlr/lib/pkgconfig/hlr.pc"
+  alike 'both installs' "$room/root/opt/hlr" "$room/prefix"
+  is 'the installed program' "$("$room/prefix/bin/hlr" --version)" "hlr $version"
+}
+
+# linked NAME PROGRAM WANTED: whether it asks for the shared library, 1 or 0.
+linked() { is "$1: asks for libhlr.so.1" "$(readelf -dW "$2" | grep -c 'NEEDED.*libhlr.so.1')" "$3"; }
+
+# clients TREE: the clients, by the hlr.pc of a tree.
+clients() {
+  local tree=$1 words archived
+  export PKG_CONFIG_PATH=$tree/lib/pkgconfig
+  is "$tree: version of hlr.pc" "$(pkg-config --modversion hlr)" "$version"
+  read -ra words < <(pkg-config --cflags --libs hlr)
+  archived=('-Wl,-Bstatic' "${words[@]}" '-Wl,-Bdynamic')
+  if compiled day -std=c11 examples/library/day.c "${words[@]}"; then
+    ended "$tree: a day in C, shared" examples/library/day.stdout env LD_LIBRARY_PATH="$tree/lib" "$room/day"
+    linked "$tree: a day in C, shared" "$room/day" 1
+  fi
+  if compiled day -std=c11 examples/library/day.c "${archived[@]}"; then
+    ended "$tree: a day in C, static" examples/library/day.stdout "$room/day"
+    linked "$tree: a day in C, static" "$room/day" 0
+  fi
+  tool g++ "a day in C++ by the tree $tree" || return
+  if in_cpp "$tree: a day in C++, shared" "${words[@]}"; then
+    ended "$tree: a day in C++, shared" "$in_library/day.stdout" env LD_LIBRARY_PATH="$tree/lib" "$room/day"
+    linked "$tree: a day in C++, shared" "$room/day" 1
+  fi
+  if in_cpp "$tree: a day in C++, static" "${archived[@]}"; then
+    ended "$tree: a day in C++, static" "$in_library/day.stdout" "$room/day"
+    linked "$tree: a day in C++, static" "$room/day" 0
+  fi
+  printf '#include <hlr.hpp>\nint main() { hlrpp::store day; day.open(1, 1); }\n' > "$room/unread.cc"
+  g++ -std=c++17 -fsyntax-only "$room/unread.cc" "${words[@]}" 2> "$room/err"
+  has "$tree: a code that is left unread is told" "$room/err" '[-Wunused-result]'
+}
+
+# in_cpp NAME WORD ..: g++ with these words makes $room/day of the day in C++.
+in_cpp() {
+  g++ -std=c++17 -O2 -Wall -Wextra -Wpedantic -Wconversion -Werror -fno-exceptions "$in_library/day.cc" "${@:2}" -o "$room/day" ||
+    { fail "$1 isn't compiled"; return 1; }
+}
+
+# The Debian package has what is installed below /usr, with the manual page packed.
+packaged() {
+  local root=$room/unpacked file=$room/one/dist/$deb
+  is 'the Debian package' "$(dpkg-deb -f "$file" Package Version Architecture)" $'Package: hlr\nVersion: '"$version"$'\nArchitecture: amd64'
+  is 'owners in it' "$(dpkg-deb -c "$file" | awk '{ print $2 }' | sort -u)" root/root
+  dpkg-deb -x "$file" "$root"
+  gunzip "$root/usr/share/man/man1/hlr.1.gz"
+  PREFIX=/usr DESTDIR=$room/usr "$room/one/dist.sh" install
+  alike 'the Debian package' "$root/usr" "$room/usr/usr"
+}
+
+# The manual page has all words of the help, in their order, and no fault.
+manual() {
+  local page=$room/one/dist/share/man/man1/hlr.1
+  has 'the page has the version and the day' "$page" ".TH HLR 1 \"2001-09-09\" \"hlr $version\""
+  tool man 'the manual page' || return
+  LC_ALL=C MANWIDTH=100 man --warnings -l "$page" > "$room/page" 2> "$room/err" < /dev/null
+  is 'the manual page: status' "$?" 0
+  is 'the manual page: faults' "$(cat "$room/err")" ''
+  "$hlr" --help < /dev/null | grep -vE '^(Usage: .*|Options:|Example:)$' | tr -s ' ' '\n' | grep . > "$room/words"
+  tr -s ' ' '\n' < "$room/page" | awk 'FNR == NR { page[++last] = $0; next }
+    { do at++; while (at <= last && page[at] != $0); if (at > last) { print; exit } }' - "$room/words" > "$room/lost"
+  is 'the manual page: the first word of the help that it lacks' "$(cat "$room/lost")" ''
+}
+
+# refused TEXT COMMAND ..: it says why, and makes nothing.
+refused() {
+  "${@:2}" > "$room/out" 2> "$room/err"
+  status=$?
+  ends "dist.sh: $1" 1 '' "dist.sh: $1"$'\n'
+}
+
+refusals() {
+  local copy=$room/three
+  copied three
+  refused "it takes the word install, or none, and not 'all'" "$copy/dist.sh" all
+  refused "there is no $copy/dist/bin/hlr: run ./dist.sh" "$copy/dist.sh" install
+  refused 'PREFIX is no path from the root: usr' env PREFIX=usr "$copy/dist.sh" install
+  sed -i '/^uint8_t hlr_take(/d' "$copy/$header"
+  refused "$archive hasn't the calls of $header: build it anew" "$copy/dist.sh"
+  sed -i 's/^const VERSION: &str = .*/const VERSION: \&str = "99.0.0";/' "$copy/crates/hlr/src/options.rt"
+  refused "crates/hlr/out/hlr isn't version 99.0.0: build it anew" "$copy/dist.sh"
+  rm "$copy/$archive"
+  refused "there is no $archive: run crates/hlr_c/archive.sh behind rt ci, or rt lib --cpu x86-64 in crates/hlr_c" "$copy/dist.sh"
+  rm "$copy/crates/hlr/out/hlr"
+  refused 'there is no crates/hlr/out/hlr: run rt run in crates/hlr' "$copy/dist.sh"
+  is 'what is refused makes no dist/' "$([ -e "$copy/dist" ] && echo there)" ''
+}
+
+tool gcc 'dist.sh' || finish
+program_built || finish
+archive_built || finish
+deb=
+if tool dpkg-deb 'the Debian package'; then deb=hlr_${version}_amd64.deb; fi
+made
+names
+installed
+if tool pkg-config 'clients by hlr.pc'; then
+  clients "$room/prefix"
+  # the tar ball, unpacked anywhere
+  tar -xzf "$room/one/dist/hlr-$version-x86_64-linux.tar.gz" -C "$room"
+  clients "$room/hlr-$version"
+fi
+[ -z "$deb" ] || packaged
+manual
+refusals
+finish
