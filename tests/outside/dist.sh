@@ -6,7 +6,7 @@
 in_library=tests/outside/library
 header=crates/hlr_c/hlr.h
 version=$(sed -n 's/^const VERSION: &str = "\(.*\)";$/\1/p' crates/hlr/src/options.rt)
-export SOURCE_DATE_EPOCH=1000000000
+unset SOURCE_DATE_EPOCH
 
 # copied NAME: what dist.sh reads of the repository, in a folder of its own.
 copied() {
@@ -20,16 +20,22 @@ alike() {
   is "$1: modes" "$(cd "$2" && find . -printf '%M %p %l\n' | sort)" "$(cd "$3" && find . -printf '%M %p %l\n' | sort)"
 }
 
-# made: two copies make the same packages, also with other rights, times and places.
+# made: two copies make the same packages, also with other rights, times and places; they have the time that is given.
 made() {
   copied one
   copied two
-  is 'dist.sh' "$("$room/one/dist.sh" 2>&1; echo "$?")" "$(without_deb)0"
-  is 'dist.sh again' "$(cd / && umask 077 && TZ=Asia/Tokyo LC_ALL=C.UTF-8 "$room/two/dist.sh" 2>&1; echo "$?")" "$(without_deb)0"
+  is 'dist.sh' "$("$room/one/dist.sh" 2>&1; echo "$?")" "$(without_deb; echo 0)"
+  is 'dist.sh again' "$(cd / && umask 077 && TZ=Asia/Tokyo LC_ALL=C.UTF-8 "$room/two/dist.sh" 2>&1; echo "$?")" "$(without_deb; echo 0)"
   for package in "hlr-$version-x86_64-linux.tar.gz" ${deb:+"$deb"}; do
     same "$package is the same twice" "$room/one/dist/$package" "$room/two/dist/$package"
   done
   alike 'dist/ is the same twice' "$room/one/dist" "$room/two/dist"
+  SOURCE_DATE_EPOCH=1000000000 "$room/two/dist.sh" > /dev/null
+  has 'the page has the version and the day' "$room/two/dist/share/man/man1/hlr.1" ".TH HLR 1 \"2001-09-09\" \"hlr $version\""
+  is 'owners and days of the tar ball' "$(tar --numeric-owner -tvzf "$room/two/dist/hlr-$version-x86_64-linux.tar.gz" |
+    awk '{ print $2, $4 }' | sort -u)" '0/0 2001-09-09'
+  [ -z "$deb" ] || is 'owners and days of the Debian package' "$(dpkg-deb -c "$room/two/dist/$deb" | awk '{ print $2, $4 }' | sort -u)" \
+    'root/root 2001-09-09'
 }
 
 # without_deb: prints what dist.sh says where there is no dpkg-deb.
@@ -42,8 +48,9 @@ names() {
   sed -n 's/^uint8_t \(hlr_[a-z_]*\)(.*/\1/p' "$header" | sort > "$room/called"
   nm -g --defined-only "$one/libhlr.a" | awk 'NF == 3 { print $3 }' | sort > "$room/global"
   same 'global names of libhlr.a' "$room/global" "$room/called"
-  nm -D --defined-only "$one/libhlr.so.1" | awk '$3 != "HLR_1" { sub(/@@HLR_1$/, "", $3); print $3 }' | sort > "$room/exported"
-  same 'names that libhlr.so.1 exports' "$room/exported" "$room/called"
+  nm -D --defined-only "$one/libhlr.so.1" | awk '{ print $3 }' | sort > "$room/exported"
+  { echo HLR_1; sed 's/$/@@HLR_1/' "$room/called"; } | sort > "$room/versioned"
+  same 'names that libhlr.so.1 exports' "$room/exported" "$room/versioned"
   is 'names that libhlr.a asks for' "$(nm -u "$one/libhlr.a" | awk 'NF == 2 { print $2 }' | sort | paste -sd ' ')" \
     'free malloc memcpy memmove memset realloc'
   is 'soname' "$(readelf -dW "$one/libhlr.so.1" | sed -n 's/.*(SONAME).*\[\(.*\)\]$/\1/p')" libhlr.so.1
@@ -59,7 +66,7 @@ installed() {
   local files='bin/hlr include/hlr.h include/hlr.hpp lib/libhlr.a lib/libhlr.so lib/libhlr.so.1 lib/pkgconfig/hlr.pc share/man/man1/hlr.1'
   is 'dist.sh install' "$(PREFIX=$room/prefix "$room/one/dist.sh" install 2>&1; echo "$?")" 0
   is 'what it installs' "$(cd "$room/prefix" && find . ! -type d | sed 's/^..//' | sort | paste -sd ' ')" "$files"
-  is 'dist.sh install below a folder' "$(umask 077; PREFIX=/opt/hlr DESTDIR=$room/root "$room/two/dist.sh" install 2>&1; echo "$?")" 0
+  is 'dist.sh install below a folder' "$(umask 077; PREFIX=/opt/hlr DESTDIR=$room/root "$room/one/dist.sh" install 2>&1; echo "$?")" 0
   has 'hlr.pc has the prefix' "$room/root/opt/hlr/lib/pkgconfig/hlr.pc" 'prefix=/opt/hlr'
   sed -i "s,^prefix=.*,prefix=$room/prefix," "$room/root/opt/hlr/lib/pkgconfig/hlr.pc"
   chmod 644 "$room/root/opt/hlr/lib/pkgconfig/hlr.pc"
@@ -109,7 +116,6 @@ in_cpp() {
 packaged() {
   local root=$room/unpacked file=$room/one/dist/$deb
   is 'the Debian package' "$(dpkg-deb -f "$file" Package Version Architecture)" $'Package: hlr\nVersion: '"$version"$'\nArchitecture: amd64'
-  is 'owners in it' "$(dpkg-deb -c "$file" | awk '{ print $2 }' | sort -u)" root/root
   dpkg-deb -x "$file" "$root"
   gunzip "$root/usr/share/man/man1/hlr.1.gz"
   PREFIX=/usr DESTDIR=$room/usr "$room/one/dist.sh" install
@@ -119,7 +125,6 @@ packaged() {
 # The manual page has all words of the help, in their order, and no fault.
 manual() {
   local page=$room/one/dist/share/man/man1/hlr.1
-  has 'the page has the version and the day' "$page" ".TH HLR 1 \"2001-09-09\" \"hlr $version\""
   tool man 'the manual page' || return
   LC_ALL=C MANWIDTH=100 man --warnings -l "$page" > "$room/page" 2> "$room/err" < /dev/null
   is 'the manual page: status' "$?" 0
