@@ -8,7 +8,7 @@
 # include/hlr.hpp, share/man/man1/hlr.1. Both packages come out byte for byte the same whenever they are made of the same
 # files: their times are SOURCE_DATE_EPOCH, or else that of the last commit. It needs rt, gcc and binutils, and for the
 # Debian package dpkg-deb. CC may name another compiler.
-set -eu
+set -euo pipefail
 cd "$(dirname "$0")"
 umask 022
 export LC_ALL=C TZ=UTC
