@@ -11,6 +11,6 @@ if [ "${1:-all}" = all ]; then
   counted rt ci
   crates/hlr_c/archive.sh > "$room/out" || fail 'crates/hlr_c/archive.sh'
 fi
-parts examples readme docs options streams bytes waiting memory threads library dist
+parts examples readme docs options streams bytes waiting memory threads library dist python
 counted ./refuse_memory.sh
 finish

@@ -1,0 +1,41 @@
+"""A home location register, over the shared library of the calls that hlr.h declares.
+
+>>> import hlr
+>>> with hlr.Register(parts=4) as register:
+...     register.add_subscriber(hlr.Subscriber(7, 77, vlr_location=268435456))
+...     register.add_facility(hlr.Facility(7, 2))
+...     register.insert_forwarding(77, 2, 8, 10, 100)
+...     for cell in register.cells():
+...         if cell.unposted:
+...             print(cell.name, cell.unposted)
+hour 8 1
+hour 9 1
+area 1 1
+zone 0 3
+
+A refused call raises the exception of its code, which is a `Refused`:
+
+>>> with hlr.Register() as register:
+...     try:
+...         register.subscriber_data(7)
+...     except hlr.NoSubscriber as refused:
+...         print(refused.code.name, int(refused.code), refused)
+NO_SUBSCRIBER 3 subscriber_data: no subscriber row has this s_id
+
+As the first register is opened, the library is looked for: at the path that the environment variable HLR_LIBRARY has;
+where that isn't set, as libhlr.so.1 in this package and in the folder that has it; and then where the system's loader
+finds libhlr.so.1. If it isn't found, ImportError is raised.
+"""
+from .refusals import (Code, Exists, Field, ManyParts, ManyPieces, Memory, Moving, NoAccess, NoDestination, NoFacility,
+                       NoForwarding, NoNumber, NoPart, NoPiece, NoSubscriber, NotAdjacent, NotOpen, NumberTaken,
+                       OutOfRange, Refused, StillOpen, Worn)
+from .register import CELLS, Access, Cell, Facility, Kind, Region, Register, Side, Subscriber
+
+__version__ = "0.3.0"
+
+__all__ = [
+    "CELLS", "Access", "Cell", "Code", "Exists", "Facility", "Field", "Kind", "ManyParts", "ManyPieces", "Memory",
+    "Moving", "NoAccess", "NoDestination", "NoFacility", "NoForwarding", "NoNumber", "NoPart", "NoPiece",
+    "NoSubscriber", "NotAdjacent", "NotOpen", "NumberTaken", "OutOfRange", "Refused", "Region", "Register", "Side",
+    "StillOpen", "Subscriber", "Worn",
+]

@@ -1,0 +1,97 @@
+"""The shared library: where it is found, and its calls and structures as hlr.h has them."""
+import ctypes
+import functools
+import os
+from ctypes import POINTER, Structure, c_int64, c_uint8, c_uint64, c_void_p
+
+NAME = "libhlr.so.1"
+CELLS = 72
+
+
+class Handle(Structure):
+    _fields_ = [("mark", c_uint64), ("address", c_void_p)]
+
+
+class SubscriberRow(Structure):
+    _fields_ = [("s_id", c_uint64), ("sub_nbr", c_uint64), ("bits", c_uint8 * 10), ("hexes", c_uint8 * 10),
+                ("bytes", c_uint8 * 10), ("msc_location", c_uint64), ("vlr_location", c_uint64)]
+
+
+class AccessRow(Structure):
+    _fields_ = [("s_id", c_uint64), ("ai_type", c_uint64), ("data1", c_uint64), ("data2", c_uint64),
+                ("data3", c_uint8 * 3), ("data4", c_uint8 * 5)]
+
+
+class FacilityRow(Structure):
+    _fields_ = [("s_id", c_uint64), ("sf_type", c_uint64), ("is_active", c_uint64), ("error_cntrl", c_uint64),
+                ("data_a", c_uint64), ("data_b", c_uint8 * 5)]
+
+
+class Numbers(Structure):
+    _fields_ = [("count", c_uint64), ("numbers", c_uint64 * 3)]
+
+
+class RegionRow(Structure):
+    _fields_ = [("lo", c_uint64), ("hi", c_uint64), ("is_piece", c_uint64), ("number", c_uint64)]
+
+
+class RegionList(Structure):
+    _fields_ = [("count", c_uint64), ("regions", RegionRow * 32)]
+
+
+class Bounds(Structure):
+    _fields_ = [("count", c_uint64), ("bounds", c_uint64 * 15)]
+
+
+# What each call is passed behind the handle; hlr_open is passed it last.
+_CALLS = {
+    "hlr_close": [],
+    "hlr_subscriber_data": [c_uint64, POINTER(SubscriberRow)],
+    "hlr_new_destination": [c_uint64, c_uint64, c_uint64, c_uint64, POINTER(Numbers)],
+    "hlr_access_data": [c_uint64, c_uint64, POINTER(AccessRow)],
+    "hlr_update_subscriber": [c_uint64, c_uint64, c_uint64, c_uint64],
+    "hlr_update_location": [c_uint64, c_uint64],
+    "hlr_insert_forwarding": [c_uint64, c_uint64, c_uint64, c_uint64, c_uint64],
+    "hlr_delete_forwarding": [c_uint64, c_uint64, c_uint64],
+    "hlr_add_subscriber": [POINTER(SubscriberRow)],
+    "hlr_add_access": [POINTER(AccessRow)],
+    "hlr_add_facility": [POINTER(FacilityRow)],
+    "hlr_set_active": [c_uint64, c_uint64, c_uint64],
+    "hlr_set_number": [c_uint64, c_uint64],
+    "hlr_post": [c_uint64, c_uint64, POINTER(c_uint64)],
+    "hlr_views": [POINTER(c_int64 * CELLS), POINTER(c_int64 * CELLS)],
+    "hlr_scan": [POINTER(c_uint64 * CELLS)],
+    "hlr_give": [c_uint64, c_uint64, c_uint64, POINTER(RegionRow)],
+    "hlr_take": [c_uint64, c_uint64],
+    "hlr_divide": [c_uint64, c_uint64, POINTER(RegionRow)],
+    "hlr_dissolve": [c_uint64, POINTER(RegionRow)],
+    "hlr_regions": [POINTER(RegionList)],
+    "hlr_propose": [POINTER(Bounds)],
+    "hlr_recut": [POINTER(Bounds), POINTER(c_uint64)],
+}
+
+
+def path() -> str:
+    """What the loader is given: a path, or NAME where the system's own places are left to look in."""
+    if "HLR_LIBRARY" in os.environ:
+        return os.environ["HLR_LIBRARY"]
+    package = os.path.dirname(os.path.abspath(__file__))
+    beside = [os.path.join(folder, NAME) for folder in (package, os.path.dirname(package))]
+    return next(filter(os.path.exists, beside), NAME)
+
+
+@functools.lru_cache(maxsize=None)
+def library() -> ctypes.CDLL:
+    """The library with its calls, loaded once."""
+    where = path()
+    try:
+        loaded = ctypes.CDLL(where)
+        loaded.hlr_open.argtypes = [c_uint64, c_uint64, POINTER(Handle)]
+        for name, passed in _CALLS.items():
+            getattr(loaded, name).argtypes = [POINTER(Handle), *passed]
+        for name in ("hlr_open", *_CALLS):
+            getattr(loaded, name).restype = c_uint8
+    except (OSError, AttributeError) as fault:
+        raise ImportError(f"hlr finds no library that it can use at {where!r} ({fault}): "
+                          f"set HLR_LIBRARY to the path of {NAME}") from None
+    return loaded

@@ -1,0 +1,436 @@
+"""Tests of the package hlr over the library that HLR_LIBRARY has: every call, every refusal that can be caused, wrong
+arguments, threads, many registers, and where the library is looked for."""
+import copy
+import doctest
+import inspect
+import os
+import pathlib
+import random
+import re
+import shutil
+import subprocess
+import sys
+import tempfile
+import threading
+import typing
+import unittest
+
+import hlr
+import hlr.library
+import hlr.refusals
+import hlr.register
+from hlr import Access, Facility, Region, Register, Side, Subscriber
+
+PYTHON = pathlib.Path(__file__).resolve().parent.parent
+CRATES = PYTHON.parent / "crates"
+HEADER = CRATES / "hlr_c" / "hlr.h"
+END = 16777217
+
+
+def load_tests(_loader, tests, _pattern):
+    """The doctests belong to these tests."""
+    for module in (hlr, hlr.register):
+        tests.addTests(doctest.DocTestSuite(module))
+    return tests
+
+
+def python(*words, **more):
+    """Runs Python with the package, and tells what it prints and how it ends."""
+    environment = {**os.environ, "PYTHONPATH": str(PYTHON), "PYTHONDONTWRITEBYTECODE": "1", **more}
+    environment = {name: value for name, value in environment.items() if value is not None}
+    ended = subprocess.run([sys.executable, *words], env=environment, cwd="/", stdout=subprocess.PIPE,
+                           stderr=subprocess.PIPE, universal_newlines=True, timeout=60)
+    return ended.returncode, ended.stdout, ended.stderr
+
+
+def filled(**options):
+    """A register with the subscriber 7, of number 77, with an access, a facility and a forwarding."""
+    register = Register(**options)
+    register.add_subscriber(Subscriber(7, 77, vlr_location=268435456))
+    register.add_access(Access(7, 1))
+    register.add_facility(Facility(7, 2))
+    register.insert_forwarding(77, 2, 8, 16, 100)
+    return register
+
+
+class Alike(unittest.TestCase):
+    """What the package says again is what its sources say."""
+
+    def test_version(self):
+        source = (CRATES / "hlr" / "src" / "options.rt").read_text()
+        self.assertEqual(hlr.__version__, re.search(r'^const VERSION: &str = "(.*)";$', source, re.M).group(1))
+
+    def test_codes(self):
+        told = dict(re.findall(r"^    HLR_([A-Z_]+) = (\d+)[, ]", HEADER.read_text(), re.M))
+        self.assertEqual({each.name: str(int(each)) for each in hlr.Code}, told)
+        self.assertEqual(set(hlr.refusals.BY_CODE), {int(code) for code in told.values()} - {0})
+        for code, refused in hlr.refusals.BY_CODE.items():
+            self.assertIs(getattr(hlr, refused.__name__), refused)
+            self.assertEqual(hlr.Code(code).name, re.sub(r"(?<!^)([A-Z])", r"_\1", refused.__name__).upper())
+        self.assertIsInstance(hlr.refusals.refusal(99, "post"), RuntimeError)
+
+    def test_calls(self):
+        types = {"uint64_t": "c_ulong", "hlr_subscriber": "SubscriberRow", "hlr_access": "AccessRow",
+                 "hlr_facility": "FacilityRow", "hlr_numbers": "Numbers", "hlr_region": "RegionRow",
+                 "hlr_region_list": "RegionList", "hlr_bounds": "Bounds", "hlr": "Handle"}
+        told = re.findall(r"^uint8_t (hlr_[a-z_]+)\(([^)]*)\);", HEADER.read_text(), re.M)
+        self.assertEqual(len(told), 24)
+        library = hlr.library.library()
+        for name, parameters in told:
+            wanted = []
+            for parameter in parameters.split(","):
+                base, star = re.fullmatch(r"\s*(?:const )?(\w+) (\*?)\w+(?:\[HLR_CELLS\])?", parameter).groups()
+                if parameter.endswith("[HLR_CELLS]"):
+                    wanted.append({"int64_t": "LP_c_long_Array_72", "uint64_t": "LP_c_ulong_Array_72"}[base])
+                else:
+                    wanted.append(("LP_" if star else "") + types[base])
+            self.assertEqual([each.__name__ for each in getattr(library, name).argtypes], wanted, name)
+            if name not in ("hlr_open", "hlr_close"):
+                self.assertTrue(callable(getattr(Register, name[len("hlr_"):])))
+
+    def test_refusals(self):
+        told = re.findall(r"^ \* Refusals: ([A-Z_, ]+|none)\n \*/\nuint8_t hlr_([a-z_]+)\(", HEADER.read_text(), re.M)
+        self.assertEqual(len(told), 24)
+        for refusals, name in told:
+            if name != "open":
+                text = " ".join(inspect.getdoc(getattr(Register, name)).split())
+                said = re.search(r"Raises ((?:\w+, )*\w+)[.;]", text)
+                names = [getattr(hlr, each).code.name for each in said.group(1).split(", ")] if said else ["none"]
+                self.assertEqual(", ".join(names), refusals, name)
+
+    def test_hints(self):
+        for name, call in vars(Register).items():
+            if not name.startswith("_"):
+                self.assertTrue(inspect.getdoc(call), name)
+                self.assertEqual(set(typing.get_type_hints(call)) - {"return"},
+                                 set(inspect.signature(call).parameters) - {"self"}, name)
+                self.assertIn("return", typing.get_type_hints(call), name)
+
+
+class Calls(unittest.TestCase):
+    """Every call once, and what it does."""
+
+    def test_rows(self):
+        row = Subscriber(16777216, 10 ** 15 - 1, bytes([0, 1] * 5), bytes(range(6, 16)), bytes(range(246, 256)),
+                         4294967295, 3)
+        access = Access(16777216, 4, 255, 1, "ABC", "VWXYZ")
+        with Register() as register:
+            register.add_subscriber(row)
+            register.add_access(access)
+            self.assertEqual(register.subscriber_data(16777216), row)
+            self.assertEqual(register.access_data(16777216, 4), access)
+
+    def test_events(self):
+        with filled() as register:
+            self.assertEqual(register.new_destination(7, 2, 8, 12), [100])
+            register.insert_forwarding(77, 2, 0, 24, 10 ** 15 - 1)
+            self.assertEqual(register.new_destination(7, 2, 16, 12), [10 ** 15 - 1, 100])
+            register.delete_forwarding(77, 2, 0)
+            self.assertEqual(register.new_destination(7, 2, 16, 12), [100])
+            register.update_subscriber(7, 2, 1, 255)
+            self.assertEqual(register.subscriber_data(7).bits, bytes([1] + [0] * 9))
+            register.update_location(77, 4294967295)
+            self.assertEqual(register.subscriber_data(7).vlr_location, 4294967295)
+            register.set_number(7, 78)
+            self.assertEqual(register.subscriber_data(7).sub_nbr, 78)
+            register.set_active(7, 2, False)
+            self.assertRaises(hlr.NoDestination, register.new_destination, 7, 2, 8, 12)
+            register.set_active(7, 2, True)
+            self.assertEqual(register.new_destination(7, 2, 8, 12), [100])
+
+    def test_counts(self):
+        with filled(width=4) as register:
+            counts = [0] * 72
+            for cell, count in [*((hour, 1) for hour in range(8, 16)), (25, 1), (41, 4)]:
+                counts[cell] = count
+            self.assertEqual(register.views(), ([0] * 72, counts))
+            self.assertEqual(register.scan(), counts)
+            self.assertEqual(register.post(0, 3), 3)
+            self.assertEqual(register.post(0), 7)
+            self.assertEqual(register.views(), (counts, [0] * 72))
+            register.update_location(77, 1)
+            cells = list(register.cells())
+            self.assertEqual(cells[25], hlr.Cell(25, hlr.Kind.AREA, "area 1", 1, -1))
+            self.assertEqual([cell.number for cell in cells], list(range(hlr.CELLS)))
+            self.assertEqual([cells[at].name for at in (0, 23, 24, 39, 40, 71)],
+                             ["hour 0", "hour 23", "area 0", "area 15", "zone 0", "zone 31"])
+
+    def test_parts(self):
+        with filled(parts=2, width=4) as register:
+            self.assertEqual(register.regions(), [Region(1, 65, False, 0), Region(65, END, False, 1)])
+            self.assertEqual(register.give(0, Side.HIGH, 5), Region(5, 65, True, 1))
+            register.take(1, 1)
+            self.assertEqual(register.give(1, Side.LOW, 6), Region(5, 6, True, 1))
+            register.take(1, 0)
+            self.assertEqual(register.divide(1, 100), Region(100, END, False, 2))
+            self.assertEqual(register.dissolve(2), Region(6, END, False, 1))
+            register.post(0), register.post(1)
+            self.assertEqual(register.propose(), [9])
+            self.assertEqual(register.recut((9,)), 1)
+            self.assertEqual(register.regions(), [Region(1, 9, False, 0), Region(9, END, False, 1)])
+
+    def test_mixed(self):
+        chance = random.Random(7)
+        with Register(parts=4, width=32) as register:
+            for s_id in range(1, 1001):
+                register.add_subscriber(Subscriber(s_id, s_id, vlr_location=chance.randrange(1, 1 << 32)))
+                register.add_facility(Facility(s_id, 1 + s_id % 4, is_active=chance.random() < 0.9))
+            for _ in range(5000):
+                number = chance.randrange(1, 1001)
+                try:
+                    chance.choice([
+                        lambda: register.update_location(number, chance.randrange(1, 1 << 32)),
+                        lambda: register.insert_forwarding(number, 1 + number % 4, chance.choice((0, 8, 16)),
+                                                           chance.randrange(1, 25), 5),
+                        lambda: register.delete_forwarding(number, 1 + number % 4, 8),
+                        lambda: register.set_active(number, 1 + number % 4, chance.random() < 0.5),
+                        lambda: register.post(number % 4, number % 9),
+                    ])()
+                except (hlr.Exists, hlr.NoForwarding, hlr.Field):
+                    pass
+            self.assertEqual([cell.published + cell.unposted for cell in register.cells()], register.scan())
+
+
+class Refusals(unittest.TestCase):
+    """Every refusal that can be caused, and what is no number, letter or row. No call comes to StillOpen, and a word is
+    worn after 2^63 changes."""
+
+    def refused(self, refusal, call, *arguments):
+        with self.assertRaises(refusal) as caught:
+            call(*arguments)
+        self.assertIsInstance(caught.exception, hlr.Refused)
+        self.assertIs(type(caught.exception), refusal)
+        self.assertIs(hlr.refusals.BY_CODE[caught.exception.code], refusal)
+        self.assertTrue(str(caught.exception))
+
+    def test_each(self):
+        with filled(parts=2, width=4) as r:
+            self.refused(hlr.Field, r.subscriber_data, 0)
+            self.refused(hlr.NoSubscriber, r.subscriber_data, 8)
+            self.refused(hlr.NoNumber, r.update_location, 78, 1)
+            self.refused(hlr.NoAccess, r.access_data, 7, 2)
+            self.refused(hlr.NoFacility, r.set_active, 7, 1, True)
+            self.refused(hlr.NoForwarding, r.delete_forwarding, 77, 2, 0)
+            self.refused(hlr.NoDestination, r.new_destination, 7, 2, 0, 1)
+            self.refused(hlr.Exists, r.add_subscriber, Subscriber(7, 78))
+            self.refused(hlr.NumberTaken, r.add_subscriber, Subscriber(8, 77))
+            self.refused(hlr.NoPart, r.post, 2)
+            self.refused(hlr.NoPiece, r.take, 1, 0)
+            self.refused(hlr.OutOfRange, r.give, 0, Side.LOW, 1)
+            self.refused(hlr.NotAdjacent, r.dissolve, 0)
+            self.assertEqual(r.give(0, Side.LOW, 8), Region(1, 8, True, 1))
+            self.refused(hlr.Moving, r.subscriber_data, 7)
+            self.refused(hlr.Moving, r.recut, [9])
+            self.refused(hlr.NotAdjacent, r.take, 1, 1)
+            for at in range(9, 24):
+                r.give(0, Side.LOW, at)
+            self.refused(hlr.ManyPieces, r.give, 0, Side.LOW, 24)
+        with Register(parts=16) as r:
+            self.refused(hlr.ManyParts, r.divide, 0, 2)
+
+    def test_memory(self):
+        status, out, err = python("-c", """if True:
+            import resource, hlr
+            register = hlr.Register()
+            used = int(open("/proc/self/statm").read().split()[0]) * resource.getpagesize()
+            resource.setrlimit(resource.RLIMIT_AS, (used + (4 << 20), -1))
+            try:
+                for s_id in range(1, 1000000):
+                    register.add_subscriber(hlr.Subscriber(s_id, s_id))
+            except hlr.Memory as refused:
+                resource.setrlimit(resource.RLIMIT_AS, (-1, -1))
+                print(refused, int(refused.code))
+                print(register.scan()[24] == s_id - 1, sum(register.views()[1][40:]) == s_id - 1)
+            """)
+        self.assertEqual((status, out, err), (0, "add_subscriber: no memory was left 1\nTrue True\n", ""))
+
+    def test_closed(self):
+        register = Register()
+        with register as same:
+            self.assertIs(same, register)
+        calls = {"add_subscriber": (Subscriber(-1, 7),), "add_access": (Access(7, 1, data3=""),),
+                 "add_facility": (Facility(7, 1),), "recut": ([],)}
+        for name, call in inspect.getmembers(register, inspect.ismethod):
+            if not name.startswith("_"):
+                count = sum(each.default is each.empty for each in inspect.signature(call).parameters.values())
+                self.refused(hlr.NotOpen, call, *calls.get(name, [1 << 70] * count))
+        self.refused(hlr.NotOpen, register.__enter__)
+        with Register() as register:
+            register.close()
+            self.refused(hlr.NotOpen, register.close)
+
+    def test_numbers(self):
+        for parts, width in ((0, 4), (17, 4), (1, 0), (1, 524289), (-1, 4), (1, (1 << 64) + 1)):
+            self.refused(hlr.Field, Register, parts, width)
+        self.assertRaises(TypeError, Register, "1")
+        calls = {"subscriber_data": (7,), "new_destination": (7, 2, 8, 12), "access_data": (7, 1),
+                 "update_subscriber": (7, 2, 1, 1), "update_location": (77, 1), "insert_forwarding": (77, 2, 0, 9, 5),
+                 "delete_forwarding": (77, 2, 8), "set_active": (7, 2, 1), "set_number": (7, 77), "post": (0, 0),
+                 "give": (0, 1, 5), "take": (1, 1), "divide": (1, 100), "dissolve": (2,)}
+        with filled(parts=2, width=4) as register:
+            for name, good in calls.items():
+                call = getattr(register, name)
+                for at in range(len(good)):
+                    for wrong in (good[at] + (1 << 64), -1, -(1 << 64), good[at] + (1 << 100)):
+                        self.refused(hlr.Field, call, *good[:at], wrong, *good[at + 1:])
+                    for wrong in ("7", 7.0, None, [7], b"7", Subscriber(7, 7)):
+                        with self.assertRaises(TypeError, msg=(name, at, wrong)):
+                            call(*good[:at], wrong, *good[at + 1:])
+                call(*good)
+
+    def test_rows(self):
+        good = {Subscriber: (8, 78), Access: (7, 2), Facility: (7, 3)}
+        numbers = ("s_id", "sub_nbr", "ai_type", "sf_type", "data1", "data2", "error_cntrl", "data_a", "msc_location",
+                   "vlr_location", "is_active")
+        with filled() as register:
+            before = register.scan()
+            for kind, add in ((Subscriber, register.add_subscriber), (Access, register.add_access),
+                              (Facility, register.add_facility)):
+                for field, value in vars(kind(*good[kind])).items():
+                    if field in numbers:
+                        fields, types = (-1, value + (1 << 64), 1 << 64), ("1", 1.0, None)
+                    elif isinstance(value, bytes):
+                        fields, types = (value[1:], value + b"\0", b""), ("0" * 10, None, 10, [0] * 10)
+                    else:
+                        fields = (value[1:], value + "A", "", value[1:] + "a", value[1:] + "\u00c4")
+                        types = (value.encode(), None, 3)
+                    if field in ("bits", "hexes"):
+                        fields += (b"\x10" * 10,)
+                    for wrong in fields:
+                        row = kind(*good[kind])
+                        setattr(row, field, wrong)
+                        self.refused(hlr.Field, add, row)
+                    for wrong in types:
+                        row = kind(*good[kind])
+                        setattr(row, field, wrong)
+                        self.assertRaises(TypeError, add, row)
+                for wrong in (7, None, [], [1], *(other(*good[other]) for other in good if other is not kind)):
+                    self.assertRaises(TypeError, add, wrong)
+            self.assertEqual(register.scan(), before)
+            register.add_subscriber(Subscriber(8, 78, bits=bytearray(10)))
+
+    def test_bounds(self):
+        with Register(parts=3) as register:
+            for wrong in ([], [2], [3, 2], [1, 2], [2, END], [2, 3, 4], list(range(2, 18)), [2, -1], [2, 1 << 64],
+                          [2, 3 + (1 << 64)]):
+                self.refused(hlr.Field, register.recut, wrong)
+            for wrong in (7, None, "23", [2, "3"], [2, 3.0]):
+                self.assertRaises(TypeError, register.recut, wrong)
+            self.assertEqual(register.recut(range(2, 4)), 2)
+
+    def test_copies(self):
+        with Register() as register:
+            self.assertRaises(TypeError, copy.copy, register)
+            self.assertRaises(TypeError, copy.deepcopy, register)
+
+
+class Many(unittest.TestCase):
+    """Threads that share a register, and many registers."""
+
+    def test_threads(self):
+        faults = []
+
+        def work(first):
+            try:
+                for s_id in range(first, 4001, 8):
+                    register.add_subscriber(Subscriber(s_id, s_id))
+                    register.update_location(s_id, 1 + (s_id % 16 << 28))
+                    register.post(s_id % 4, 2)
+                    assert register.subscriber_data(s_id).sub_nbr == s_id
+                    register.views()
+            except Exception as fault:
+                faults.append(fault)
+
+        with Register(parts=4, width=128) as register:
+            threads = [threading.Thread(target=work, args=(first,)) for first in range(1, 9)]
+            for thread in threads:
+                thread.start()
+            for thread in threads:
+                thread.join()
+            self.assertEqual(faults, [])
+            self.assertEqual(register.scan()[24:40], [250] * 16)
+            self.assertEqual([sum(both) for both in zip(*register.views())], register.scan())
+
+    def test_closed_beside(self):
+        for _ in range(20):
+            register, seen = filled(), []
+
+            def work():
+                try:
+                    while True:
+                        register.subscriber_data(7)
+                except hlr.Refused as refused:
+                    seen.append(type(refused))
+
+            threads = [threading.Thread(target=work) for _ in range(4)]
+            for thread in threads:
+                thread.start()
+            register.close()
+            for thread in threads:
+                thread.join()
+            self.assertEqual(seen, [hlr.NotOpen] * 4)
+
+    def test_hundred(self):
+        registers = [Register(parts=1 + at % 16) for at in range(100)]
+        for at, register in enumerate(registers):
+            register.add_subscriber(Subscriber(at + 1, at + 100))
+        for at, register in enumerate(registers):
+            self.assertEqual(register.subscriber_data(at + 1).sub_nbr, at + 100)
+            self.assertEqual(sum(register.scan()[40:]), 1)
+        for register in registers[::2]:
+            register.close()
+        del registers, register
+
+    def test_given_back(self):
+        status, out, _ = python("-c", """if True:
+            import resource, hlr
+            def fill():
+                register = hlr.Register()
+                for s_id in range(1, 501):
+                    register.add_subscriber(hlr.Subscriber(s_id, s_id))
+            for _ in range(5):
+                fill()
+            used = resource.getrusage(resource.RUSAGE_SELF).ru_maxrss
+            for _ in range(50):
+                fill()
+            print(resource.getrusage(resource.RUSAGE_SELF).ru_maxrss - used < 1000)
+            """)
+        self.assertEqual((status, out), (0, "True\n"))
+
+
+class Found(unittest.TestCase):
+    """Where the library is looked for."""
+
+    def setUp(self):
+        folder = tempfile.TemporaryDirectory()
+        self.addCleanup(folder.cleanup)
+        self.folder = pathlib.Path(folder.name)
+
+    def test_by_name(self):
+        library = os.environ["HLR_LIBRARY"]
+        self.assertEqual(python("-m", "hlr"), (0, f"hlr {hlr.__version__}\nlibrary {library}\n", ""))
+
+    def test_beside(self):
+        shutil.copytree(str(PYTHON / "hlr"), str(self.folder / "hlr"))
+        for place in (self.folder, self.folder / "hlr"):
+            shutil.copy(os.environ["HLR_LIBRARY"], str(place / "libhlr.so.1"))
+            self.assertEqual(python("-m", "hlr", HLR_LIBRARY=None, PYTHONPATH=str(self.folder)),
+                             (0, f"hlr {hlr.__version__}\nlibrary {place / 'libhlr.so.1'}\n", ""))
+
+    def test_by_loader(self):
+        shutil.copy(os.environ["HLR_LIBRARY"], str(self.folder / "libhlr.so.1"))
+        self.assertEqual(python("-m", "hlr", HLR_LIBRARY=None, LD_LIBRARY_PATH=str(self.folder)),
+                         (0, f"hlr {hlr.__version__}\nlibrary libhlr.so.1\n", ""))
+
+    def test_not_found(self):
+        for wrong in ("/nowhere/libhlr.so.1", "", str(HEADER), "libc.so.6"):
+            status, out, err = python("-m", "hlr", HLR_LIBRARY=wrong)
+            self.assertEqual((status, out), (1, f"hlr {hlr.__version__}\n"))
+            self.assertRegex(err, r"\Ahlr finds no library that it can use at .*: set HLR_LIBRARY to .*libhlr.so.1\n\Z")
+            status, out, err = python("-c", "import hlr; hlr.Register()", HLR_LIBRARY=wrong)
+            self.assertEqual((status, out), (1, ""))
+            self.assertEqual(len(re.findall("^ImportError: hlr finds no library", err, re.M)), 1)
+
+
+if __name__ == "__main__":
+    unittest.main()
