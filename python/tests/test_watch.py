@@ -123,8 +123,9 @@ class Ends(unittest.TestCase):
                         b"\xff\0,\n\xef\xbb\xbfviews\n", b'\xef\xbb\xbf"gsd","7"\n',
                         b"\xef\xbb\xbf" + row + b"\rviews\rscan\rgsd,7",
                         row + b"\nscan\nindex\nviews\n\n \nregions\n"):
-            _, err, status = self.run_watch(records)
+            out, err, status = self.run_watch(records)
             self.assertEqual((self.answers.read_bytes(), err, status), (answered(records), "", 0), records)
+            self.assertEqual(len(out.splitlines()), 19, records)
 
     def test_bytes(self):
         for records in (b'\xef\xbb\xbf"views"\r\n""views\rgsd,"7\nviews\n"\n"views', b"gsd,7\n\nscan"):
@@ -158,6 +159,10 @@ class Ends(unittest.TestCase):
         self.assertEqual(self.run_watch(b"", PROGRAM, every="0")[::2], ("", 2))
         self.assertEqual(self.run_watch(b"x\n" * 100000, "/bin/sh", "-c", "exit 7")[2], 7)
         self.assertEqual(self.run_watch(b"", "/bin/sh", "-c", "kill -9 $$")[2], 137)
+
+    def test_cut_off(self):
+        self.run_watch(b"views\n", "/bin/sh", "-c", "read record; echo cell,1,2,3")
+        self.assertEqual(self.answers.read_bytes(), b"cell,1,2,3\n")
 
     def test_ended_from_outside(self):
         for number in (signal.SIGINT, signal.SIGTERM):
