@@ -1,5 +1,5 @@
 -- Stored tables that are cut or joined: which books they are, and the rules of their parts.
-use Rattle.std.proofs.Common.{◌≡◌, ◌∙◌, refl, sym, ap, subst, ℕ, ◌*◌, ◌<◌, ◌≤◌, ◌==◌, arith, Bool, true, false, List, [], ◌∷◌, length, nat_lt}
+use Rattle.std.proofs.Common.{◌≡◌, ◌∙◌, refl, sym, ap, subst, ℕ, ◌*◌, ◌<◌, ◌≤◌, ◌==◌, arith, Bool, true, false, List, [], ◌∷◌, ◌++◌, length, nat_lt}
 use Rattle.std.specs.Prelude.{nat_le}
 use Rattle.std.specs.Int.{abs_diff}
 use Rattle.std.specs.List.{AllByRecursion, filter}
@@ -16,7 +16,7 @@ use Rattle.tatp_rows.specs.Rows.{SubscriberRow, AccessInfoRow, SpecialFacilityRo
 use Rattle.tatp_rows.specs.Spans.{AllBelow, AllFrom, keys_below, keys_from}
 use Rattle.tatp_actions.specs.Book.{IsRowsOf, empty_book}
 use Rattle.tatp_actions.specs.Cut.{AreHeightsOf, low_part, high_part, melded, meld_bound, meld_least}
-use Rattle.tatp_actions.specs.CutTables.{tables_below, tables_from, join_tables, TablesApart, TablesApartAt, tables_of, heights_of}
+use Rattle.tatp_actions.specs.CutTables.{TablesApartAt, tables_of, heights_of}
 use Rattle.tatp_actions.specs.Heights.{Heights, zero_heights}
 use Rattle.tatp_actions.specs.Joined.{join_books, cut_low, cut_high}
 use Rattle.tatp_actions.specs.Part.{PartState, IsWidth}
@@ -26,6 +26,40 @@ use Rattle.tatp_actions.proofs.CutLemmas.{same_tables, cut_low_rows, cut_high_ro
 use Rattle.tatp_actions.proofs.JoinedLemmas.{rows_joined}
 use Rattle.tatp_actions.proofs.LocalLemmas.{apart}
 use Rattle.tatp_actions.proofs.StoredLemmas.{part_of, Holds}
+
+-- the pairs of the four tables with keys below the key
+abbrev pub tables_below : ℕ → Tables → Tables
+tables_below key tables = record {
+  subscribers = rows_below key tables.subscribers;
+  access = rows_below key tables.access;
+  facilities = rows_below key tables.facilities;
+  forwardings = rows_below key tables.forwardings;
+}
+
+-- and those with keys from the key on
+abbrev pub tables_from : ℕ → Tables → Tables
+tables_from key tables = record {
+  subscribers = rows_from key tables.subscribers;
+  access = rows_from key tables.access;
+  facilities = rows_from key tables.facilities;
+  forwardings = rows_from key tables.forwardings;
+}
+
+-- there is a key in each table that parts the low pairs from the high ones
+pub record TablesApart (low high : Tables) : Type 0 where
+  pub subscribers : AreApart low.subscribers high.subscribers
+  pub access : AreApart low.access high.access
+  pub facilities : AreApart low.facilities high.facilities
+  pub forwardings : AreApart low.forwardings high.forwardings
+
+-- the pairs of both, table by table
+abbrev pub join_tables : Tables → Tables → Tables
+join_tables low high = record {
+  subscribers = low.subscribers ++ high.subscribers;
+  access = low.access ++ high.access;
+  facilities = low.facilities ++ high.facilities;
+  forwardings = low.forwardings ++ high.forwardings;
+}
 
 -- what holds of each element holds of each that a filter keeps
 each-filter : {X : Type 0} (P : X → Type 0) (test : X → Bool) (xs : List X) → AllByRecursion P xs → AllByRecursion P (filter test xs)

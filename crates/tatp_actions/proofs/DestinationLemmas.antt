@@ -1,5 +1,5 @@
 -- The numbers that a call is forwarded to, from three questions by key.
-use Rattle.std.proofs.Common.{◌≡◌, refl, sym, ◌∙◌, ap, subst, ℕ, ◌+◌, ◌<◌, ◌≤◌, arith, Bool, true, false, List, [], ◌∷◌, ◌++◌, map, length, Option, Some, None, nat_le, nat_lt, inl, inr}
+use Rattle.std.proofs.Common.{◌≡◌, refl, sym, ◌∙◌, ap, ℕ, ◌+◌, ◌<◌, ◌≤◌, arith, true, false, List, [], ◌∷◌, ◌++◌, map, length, Option, Some, None, nat_le, nat_lt, inl, inr}
 use Rattle.std.specs.Prelude.{◌&&◌, ◌==◌, ◌⊎◌}
 use Rattle.std.specs.List.{filter}
 use Rattle.std.specs.Option.{option_to_list}
@@ -16,11 +16,10 @@ use Rattle.tatp_actions.specs.Action.{is_in_range, takes_call, destinations, new
 use Rattle.tatp_actions.specs.Book.{Book, IsBook, IsWithin, facility_at, has_active, forwarding_at}
 use Rattle.tatp_actions.specs.Part.{PartState, IsPart}
 use Rattle.tatp_actions.specs.Edit.{Acts}
-use Rattle.tatp_actions.specs.Inside.{destination, asked_once}
-use Rattle.tatp_actions.specs.Tables.{once_more}
+use Rattle.tatp_actions.specs.Inside.{destination, IsOnlyAsked}
 use Rattle.tatp_actions.specs.declared.action.Action.TheVariants.{NewDestination}
 use Rattle.tatp_actions.specs.declared.action.RowReply.TheVariants as reply
-use Rattle.tatp_actions.proofs.ActsLemmas.{acts_read, one_more, first_fails, second_fails, is_typed_from}
+use Rattle.tatp_actions.proofs.ActsLemmas.{acts_read, first_fails, second_fails, is_typed_from}
 use Rattle.tatp_actions.proofs.BookLemmas.{forwarding_found}
 
 -- a forwarding that starts later takes no call
@@ -104,43 +103,52 @@ none_answered : (book : Book) (ns : List ℕ) → (length ns == 0) ≡ true → 
 none_answered book [] none = refl
 none_answered book (n ∷ ns) none = absurd (grind (arith, nat_tests))
 
--- the part after the three questions, and what they found
-module _ (p0 p1 p2 p3 p4 : PartState) (s t a e : ℕ) (active : Bool) (n0 n8 n16 : Option ℕ) (numbers : ArrayVec ℕ)
-    (rules : IsPart p0) (within : IsWithin p0.lo p0.hi s) (kind : is_between 1 4 t ≡ true) (start : is_start_time a ≡ true) (end : is_between 1 24 e ≡ true)
-    (kept1 : p1 ≡ asked_once p0) (switched : active ≡ has_active (facility_at p0.book s t)) (on : active ≡ true)
-    (is0 : n0 ≡ destination s t a e (forwarding_at p1.book s t 0)) (kept2 : p2 ≡ record p1 { asked = p2.asked }) (few2 : p2.asked ≤ p1.asked + 1)
-    (is8 : n8 ≡ destination s t a e (forwarding_at p2.book s t 8)) (kept3 : p3 ≡ record p2 { asked = p3.asked }) (few3 : p3.asked ≤ p2.asked + 1)
-    (is16 : n16 ≡ destination s t a e (forwarding_at p3.book s t 16)) (kept4 : p4 ≡ record p3 { asked = p4.asked }) (few4 : p4.asked ≤ p3.asked + 1)
-    (gathered : numbers.items ≡ (option_to_list n0 ++ option_to_list n8) ++ option_to_list n16) where
-  second : p2 ≡ record p0 { asked = p2.asked }
-  second = kept2 ∙ ap (λ (p : PartState). record p { asked = p2.asked }) kept1
+-- one read after another
+pub asked_then : (m n : ℕ) (a b c : PartState) → IsOnlyAsked m a b → IsOnlyAsked n b c → IsOnlyAsked (m + n) a c
+asked_then m n a b c first next = (next.0 ∙ ap (λ (p : PartState). record p { asked = c.asked }) first.0, few)
+  where
+    few : c.asked ≤ a.asked + (m + n)
+    few = let one = first.1 in let two = next.1 in omega arith
 
-  third : p3 ≡ record p0 { asked = p3.asked }
-  third = kept3 ∙ ap (λ (p : PartState). record p { asked = p3.asked }) second
+-- the book stays
+pub same_book : (n : ℕ) (a b : PartState) → IsOnlyAsked n a b → b.book ≡ a.book
+same_book n a b asked = ap (λ (p : PartState). p.book) asked.0
 
-  fourth : p4 ≡ record p0 { asked = p4.asked }
-  fourth = kept4 ∙ ap (λ (p : PartState). record p { asked = p4.asked }) third
+-- the parts after the facility and after each of the three hours, and what was found
+module _ (p0 p1 p2 p3 p4 : PartState) (s t a e : ℕ) (n0 n8 n16 : Option ℕ) (numbers : List ℕ) (rules : IsPart p0)
+    (asked1 : IsOnlyAsked 1 p0 p1) (asked2 : IsOnlyAsked 1 p1 p2) (asked3 : IsOnlyAsked 1 p2 p3) (asked4 : IsOnlyAsked 1 p3 p4) where
+  asked_twice : IsOnlyAsked 2 p0 p2
+  asked_twice = asked_then 1 1 p0 p1 p2 asked1 asked2
 
-  few : p4.asked ≤ p0.asked + 8
-  few =
-      let one = one_more p0.asked p0.asked (omega arith) in
-      let first : p1.asked ≡ once_more p0.asked = ap (λ (p : PartState). p.asked) kept1 in
-      let first' : p1.asked ≤ p0.asked + 1 = subst (λ (n : ℕ). n ≤ p0.asked + 1) (sym first) one in omega arith
+  asked_thrice : IsOnlyAsked 3 p0 p3
+  asked_thrice = asked_then 2 1 p0 p2 p3 asked_twice asked3
 
-  found : destinations p0.book s t a e ≡ numbers.items
-  found =
-      rw (← switched, on) (sym (
+  pub asked_in_all : IsOnlyAsked 4 p0 p4
+  asked_in_all = asked_then 3 1 p0 p3 p4 asked_thrice asked4
+
+  pub numbers_found : true ≡ has_active (facility_at p0.book s t)
+      → n0 ≡ destination s t a e (forwarding_at p1.book s t 0) → n8 ≡ destination s t a e (forwarding_at p2.book s t 8) → n16 ≡ destination s t a e (forwarding_at p3.book s t 16)
+      → numbers ≡ (option_to_list n0 ++ option_to_list n8) ++ option_to_list n16 → numbers ≡ destinations p0.book s t a e
+  numbers_found active is0 is8 is16 gathered = numbers_lent p0.book s t a e rules.rows.rules n0 n8 n16 numbers active
+      (is0 ∙ ap (λ (b : Book). destination s t a e (forwarding_at b s t 0)) (same_book 1 p0 p1 asked1))
+      (is8 ∙ ap (λ (b : Book). destination s t a e (forwarding_at b s t 8)) (same_book 2 p0 p2 asked_twice))
+      (is16 ∙ ap (λ (b : Book). destination s t a e (forwarding_at b s t 16)) (same_book 3 p0 p3 asked_thrice))
       gathered
-      ∙ ap (λ (o : Option ℕ). (option_to_list o ++ option_to_list n8) ++ option_to_list n16) (is0 ∙ ap (λ (p : PartState). destination s t a e (forwarding_at p.book s t 0)) kept1)
-      ∙ ap (λ (o : Option ℕ). (option_to_list (destination s t a e (forwarding_at p0.book s t 0)) ++ option_to_list o) ++ option_to_list n16) (is8 ∙ ap (λ (p : PartState). destination s t a e (forwarding_at p.book s t 8)) second)
-      ∙ ap (λ (o : Option ℕ). (option_to_list (destination s t a e (forwarding_at p0.book s t 0)) ++ option_to_list (destination s t a e (forwarding_at p0.book s t 8))) ++ option_to_list o) (is16 ∙ ap (λ (p : PartState). destination s t a e (forwarding_at p.book s t 16)) third)
-      ∙ three_found p0.book s t a e rules.rows.rules))
+
+-- the answer to a call, from the numbers that were found
+module _ (before after : PartState) (s t a e : ℕ) (numbers : ArrayVec ℕ) (rules : IsPart before) (within : IsWithin before.lo before.hi s)
+    (kind : is_between 1 4 t ≡ true) (start : is_start_time a ≡ true) (end : is_between 1 24 e ≡ true)
+    (found : numbers.items ≡ destinations before.book s t a e) (asked : IsOnlyAsked 4 before after) where
+  few : after.asked ≤ before.asked + 8
+  few = let most = asked.1 in omega arith
 
   in_range : is_in_range (NewDestination s t a e) ≡ true
-  in_range = both_from _ _ (is_typed_from p0 s t rules within kind) (both_from _ _ start end)
+  in_range = both_from _ _ (is_typed_from before s t rules within kind) (both_from _ _ start end)
 
-  pub numbers_found : (array_vec_len numbers == 0) ≡ false → Acts (NewDestination s t a e) p0 (reply.Numbers numbers) [] p4
-  numbers_found some = acts_read (NewDestination s t a e) p0 p4 (reply.Numbers numbers) p4.asked fourth few in_range (ap (λ (ns : List ℕ). new_destination p0.book ns) found ∙ numbers_answered p0.book numbers.items some)
+  pub numbers_answer : (array_vec_len numbers == 0) ≡ false → Acts (NewDestination s t a e) before (reply.Numbers numbers) [] after
+  numbers_answer some = acts_read (NewDestination s t a e) before after (reply.Numbers numbers) after.asked asked.0 few in_range
+      (ap (λ (ns : List ℕ). new_destination before.book ns) (sym found) ∙ numbers_answered before.book numbers.items some)
 
-  pub no_number_found : (array_vec_len numbers == 0) ≡ true → Acts (NewDestination s t a e) p0 (reply.Refused refusal.NoDestination) [] p4
-  no_number_found none = acts_read (NewDestination s t a e) p0 p4 (reply.Refused refusal.NoDestination) p4.asked fourth few in_range (ap (λ (ns : List ℕ). new_destination p0.book ns) found ∙ none_answered p0.book numbers.items none)
+  pub no_number_answer : (array_vec_len numbers == 0) ≡ true → Acts (NewDestination s t a e) before (reply.Refused refusal.NoDestination) [] after
+  no_number_answer none = acts_read (NewDestination s t a e) before after (reply.Refused refusal.NoDestination) after.asked asked.0 few in_range
+      (ap (λ (ns : List ℕ). new_destination before.book ns) (sym found) ∙ none_answered before.book numbers.items none)

@@ -22,3 +22,4 @@ pub mod JoinedLemmas
 pub mod CutLemmas
 pub mod CutTablesLemmas
 pub mod CrossingLemmas
+pub mod ManyLemmas

@@ -9,24 +9,6 @@ use Rattle.tatp_actions.specs.Tables.{Tables}
 use Rattle.tatp_actions.specs.declared.stocks.Stocks.{Stocks}
 use Rattle.tatp_actions.specs.declared.trees.Trees.{Trees}
 
--- the pairs of the four tables with keys below the key
-abbrev pub tables_below : ℕ → Tables → Tables
-tables_below key tables = record {
-  subscribers = rows_below key tables.subscribers;
-  access = rows_below key tables.access;
-  facilities = rows_below key tables.facilities;
-  forwardings = rows_below key tables.forwardings;
-}
-
--- and those with keys from the key on
-abbrev pub tables_from : ℕ → Tables → Tables
-tables_from key tables = record {
-  subscribers = rows_from key tables.subscribers;
-  access = rows_from key tables.access;
-  facilities = rows_from key tables.facilities;
-  forwardings = rows_from key tables.forwardings;
-}
-
 -- the side of cut pairs that is kept, where the side that is named is given away
 abbrev pub kept_rows : {X : Type 0} → Side → ℕ → List (ℕ × X) → List (ℕ × X)
 kept_rows Low key rows = rows_from key rows
@@ -53,22 +35,6 @@ given_tables side key tables = record {
   access = given_rows side key tables.access;
   facilities = given_rows side key tables.facilities;
   forwardings = given_rows side key tables.forwardings;
-}
-
--- there is a key in each table that parts the low pairs from the high ones
-pub record TablesApart (low high : Tables) : Type 0 where
-  pub subscribers : AreApart low.subscribers high.subscribers
-  pub access : AreApart low.access high.access
-  pub facilities : AreApart low.facilities high.facilities
-  pub forwardings : AreApart low.forwardings high.forwardings
-
--- the pairs of both, table by table
-abbrev pub join_tables : Tables → Tables → Tables
-join_tables low high = record {
-  subscribers = low.subscribers ++ high.subscribers;
-  access = low.access ++ high.access;
-  facilities = low.facilities ++ high.facilities;
-  forwardings = low.forwardings ++ high.forwardings;
 }
 
 -- pairs that stand on a side of others: a key parts them, and they stand in front of those, or behind them

@@ -24,6 +24,10 @@ destination s_id sf_type start_time end_time (Some row) = if takes_call s_id sf_
 abbrev pub asked_once : PartState → PartState
 asked_once part = record part { asked = once_more part.asked }
 
+-- the part is as before, but for at most so many more questions
+abbrev pub IsOnlyAsked : ℕ → PartState → PartState → Type 0
+IsOnlyAsked most before after = (after ≡ record before { asked = after.asked }) × (after.asked ≤ before.asked + most)
+
 -- the part with another book, asked once more, and its trees of these heights then
 abbrev pub changed_once : PartState → Book → Heights → PartState
 changed_once part book heights = record part { book = book; asked = once_more part.asked; heights = heights }

@@ -1,6 +1,7 @@
 //! The actions on the rows of one subscriber, and what they answer.
-ghost use Rattle.std.specs.Prelude.{◌≡◌};
-ghost use Rattle.tatp_rows.specs.Rows.{is_between};
+ghost use Rattle.std.specs.Prelude.{◌≡◌, ◌&&◌};
+ghost use Rattle.tatp_rows.specs.Number.{is_number};
+ghost use Rattle.tatp_rows.specs.Rows.{is_between, is_start_time};
 ghost use Rattle.tatp_actions.specs.Action.{is_typed, is_in_range, s_id_of};
 
 use arrayvec::ArrayVec;
@@ -103,6 +104,22 @@ fn is_typed(s_id: u32, kind: u8) -> bool
     is_subscriber(s_id) && is_between(kind, 1, 4)
 }
 
+/// Whether there can be a subscriber with this s_id and number.
+fn is_numbered(s_id: u32, sub_nbr: Number) -> bool
+    ensures { result ≡ (is_between 1 LAST_SUBSCRIBER s_id && is_number sub_nbr) }
+{
+    // For the prover: the number is in range, as its reader says.
+    let _ = sub_nbr.value();
+    is_subscriber(s_id)
+}
+
+/// Whether a call can ask for forwardings that start by one hour and end after another.
+fn are_hours_of_call(start_time: u8, end_time: u8) -> bool
+    ensures { result ≡ (is_start_time start_time && is_between 1 24 end_time) }
+{
+    is_start_time(u64::from(start_time)) && is_between(end_time, 1, 24)
+}
+
 impl Action {
     /// The subscriber whose rows it is on.
     pub fn s_id(&self) -> u32
@@ -135,11 +152,7 @@ impl Action {
                 sf_type,
                 start_time,
                 end_time,
-            } => {
-                is_typed(s_id, sf_type)
-                    && is_start_time(u64::from(start_time))
-                    && is_between(end_time, 1, 24)
-            }
+            } => is_typed(s_id, sf_type) && are_hours_of_call(start_time, end_time),
             Action::AccessData { s_id, ai_type } => is_typed(s_id, ai_type),
             Action::UpdateSubscriber {
                 s_id,
@@ -160,11 +173,7 @@ impl Action {
                 sf_type,
                 is_active,
             } => is_typed(s_id, sf_type) && is_active <= 1,
-            Action::SetNumber { s_id, sub_nbr } => {
-                // For the prover: the number is in range, as its reader says.
-                let _ = sub_nbr.value();
-                is_subscriber(s_id)
-            }
+            Action::SetNumber { s_id, sub_nbr } => is_numbered(s_id, sub_nbr),
             Action::InsertForwarding(row) => is_subscriber(row.s_id()),
             Action::AddSubscriber(row) => is_subscriber(row.s_id()),
             Action::AddAccess(row) => is_subscriber(row.s_id()),

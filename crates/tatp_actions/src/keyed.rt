@@ -6,6 +6,7 @@ ghost use Rattle.tatp_actions.specs.Part.{IsPart};
 ghost use Rattle.tatp_actions.specs.Tables.{once_more};
 ghost use Rattle.tatp_actions.specs.Inside.{KeepsSubscriber, KeepsFacility, asked_once, changed_once, changed_to, subscriber_revised, facility_revised, IsAdded};
 
+use crate::destinations::is_active;
 use crate::part::Part;
 use crate::rows::Rows;
 use mr_node::Revise;
@@ -54,10 +55,7 @@ impl<R: Rows> Part<R> {
         ensures kept { self.new ≡ asked_once self.old }
         ensures rules { IsPart self.old }
     {
-        match self.facility(s_id, sf_type) {
-            Some(facility) => facility.is_active(),
-            None => false,
-        }
+        is_active(self.facility(s_id, sf_type))
     }
 
     /// The Call_Forwarding row of a facility that starts at an hour.

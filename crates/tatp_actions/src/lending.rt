@@ -1,31 +1,30 @@
 //! The rows of a part, lent to be read where they lie.
 ghost use Rattle.std.specs.Prelude.{◌≡◌, option_copied};
 ghost use Rattle.tatp_actions.specs.Action.{destinations};
-ghost use Rattle.tatp_actions.specs.Book.{subscriber_at, access_at, facility_at, forwarding_at, has_active};
-ghost use Rattle.tatp_actions.specs.Inside.{destination};
+ghost use Rattle.tatp_actions.specs.Book.{subscriber_at, access_at, facility_at, forwarding_at};
 
+use crate::destinations::find_destinations;
 use crate::part::Part;
-use crate::transactions::numbers_of;
 use arrayvec::ArrayVec;
 use tatp_rows::{Access, Facility, Forwarding, Number, Subscriber, row_key, subscriber_key};
 
 impl Part {
-    /// The Subscriber row of a subscriber, where there is one.
+    /// Lends the Subscriber row of a subscriber, where there is one.
     pub fn lend_subscriber(&self, s_id: u32) -> Option<&Subscriber>
         ensures { option_copied result ≡ subscriber_at self.now.book s_id }
     {
         self.rows.subscribers.get(subscriber_key(s_id))
     }
 
-    /// The Access_Info row of a subscriber's access, where there is one.
+    /// Lends the Access_Info row of a subscriber's access, where there is one.
     pub fn lend_access(&self, s_id: u32, ai_type: u8) -> Option<&Access>
         ensures { option_copied result ≡ access_at self.now.book s_id ai_type }
     {
         self.rows.access.get(row_key(s_id, ai_type, 0))
     }
 
-    /// The numbers of the forwardings of an active facility that start by one hour and end after another, in the order
-    /// of their start times: at most three, and none where the facility isn't active.
+    /// Tells the numbers of the forwardings of an active facility that start by one hour and end after another, in the
+    /// order of their start times: at most three, and none where the facility isn't active.
     pub fn destinations(
         &self,
         s_id: u32,
@@ -37,60 +36,23 @@ impl Part {
     {
         // Opens the part for the prover: its rules are known.
         let _ = &self.rows;
-        if !self.lends_active(s_id, sf_type) {
-            return ArrayVec::new();
-        }
-        let first = self.destination_at(s_id, sf_type, 0, start_time, end_time);
-        let second = self.destination_at(s_id, sf_type, 8, start_time, end_time);
-        let third = self.destination_at(s_id, sf_type, 16, start_time, end_time);
-        numbers_of(first, second, third)
+        let mut rows = self;
+        find_destinations(&mut rows, s_id, sf_type, start_time, end_time)
     }
 
-    /// Whether a subscriber has an active facility of a type.
-    fn lends_active(&self, s_id: u32, sf_type: u8) -> bool
-        ensures { result ≡ has_active (facility_at self.now.book s_id sf_type) }
-    {
-        match self.lend_facility(s_id, sf_type) {
-            Some(facility) => facility.is_active(),
-            None => false,
-        }
-    }
-
-    /// The Special_Facility row of a subscriber's facility, where there is one.
-    fn lend_facility(&self, s_id: u32, sf_type: u8) -> Option<&Facility>
+    /// Lends the Special_Facility row of a subscriber's facility, where there is one.
+    #[inline(always)]
+    pub fn lend_facility(&self, s_id: u32, sf_type: u8) -> Option<&Facility>
         ensures { option_copied result ≡ facility_at self.now.book s_id sf_type }
     {
         self.rows.facilities.get(row_key(s_id, sf_type, 0))
     }
 
-    /// The Call_Forwarding row of a facility that starts at an hour, where there is one.
-    fn lend_forwarding(&self, s_id: u32, sf_type: u8, hour: u8) -> Option<&Forwarding>
+    /// Lends the Call_Forwarding row of a facility that starts at an hour, where there is one.
+    #[inline(always)]
+    pub fn lend_forwarding(&self, s_id: u32, sf_type: u8, hour: u8) -> Option<&Forwarding>
         ensures { option_copied result ≡ forwarding_at self.now.book s_id sf_type hour }
     {
         self.rows.forwardings.get(row_key(s_id, sf_type, hour))
-    }
-
-    /// The number of the forwarding that starts at an hour, where it starts no later than the call and ends after it.
-    fn destination_at(
-        &self,
-        s_id: u32,
-        sf_type: u8,
-        hour: u8,
-        start_time: u8,
-        end_time: u8,
-    ) -> Option<Number>
-        ensures { result ≡ destination s_id sf_type start_time end_time (forwarding_at self.now.book s_id sf_type hour) }
-    {
-        // Opens the part for the prover: its rules are known.
-        let _ = &self.rows;
-        if start_time < hour {
-            return None;
-        }
-        let row = self.lend_forwarding(s_id, sf_type, hour)?;
-        if end_time < row.end_time() {
-            Some(row.numberx())
-        } else {
-            None
-        }
     }
 }

@@ -12,9 +12,11 @@ mod change;
 #[cfg(test)]
 mod cut_tests;
 mod cutting;
+mod destinations;
 pub mod edit;
 mod keyed;
 mod lending;
+mod many;
 mod part;
 #[cfg(test)]
 mod plain;

@@ -1,47 +1,20 @@
 //! The seven transactions of TATP on a part.
-ghost use Rattle.std.specs.Prelude.{◌≡◌, ◌+◌, ◌<◌, ◌≤◌, ◌++◌, is_some, if◌then◌else◌};
-ghost use Rattle.std.specs.Option.{option_to_list};
-ghost use Rattle.arrayvec.specs.ArrayVec.{array_vec_len};
-ghost use Rattle.tatp_actions.specs.Book.{IsWithin, subscriber_at, forwarding_at};
+ghost use Rattle.std.specs.Prelude.{◌≡◌, is_some, if◌then◌else◌};
+ghost use Rattle.tatp_actions.specs.Book.{IsWithin, subscriber_at};
 ghost use Rattle.tatp_actions.specs.Action.{done_reply};
 ghost use Rattle.tatp_actions.specs.Edit.{Acts, notes_of};
-ghost use Rattle.tatp_actions.specs.Inside.{destination, asked_once};
+ghost use Rattle.tatp_actions.specs.Inside.{asked_once};
 ghost use Rattle.tatp_actions.specs.Part.{IsPart};
 ghost use Rattle.tatp_actions.specs.declared.action.Action.{Action};
 
 use crate::action::RowReply;
 use crate::change::Change;
+use crate::destinations::find_destinations;
 use crate::part::{Part, refused};
 use crate::revisions::{SetBit1, SetDataA, SwapLocation};
 use crate::rows::Rows;
-use arrayvec::ArrayVec;
 use std::num::NonZeroU32;
-use tatp_rows::{Forwarding, Number, Refusal, is_between, is_start_time};
-
-/// The numbers that were found, in order.
-pub(crate) fn numbers_of(
-    first: Option<Number>,
-    second: Option<Number>,
-    third: Option<Number>,
-) -> ArrayVec<Number, 3>
-    ensures { result.items ≡ (option_to_list first ++ option_to_list second) ++ option_to_list third }
-{
-    let mut numbers = ArrayVec::new();
-    push_found(&mut numbers, first);
-    push_found(&mut numbers, second);
-    push_found(&mut numbers, third);
-    numbers
-}
-
-/// Appends a number, where one was found.
-fn push_found(numbers: &mut ArrayVec<Number, 3>, found: Option<Number>)
-    requires { array_vec_len numbers.old < 3 }
-    ensures { numbers.new.items ≡ numbers.old.items ++ option_to_list found }
-{
-    if let Some(number) = found {
-        numbers.push(number);
-    }
-}
+use tatp_rows::{Forwarding, Refusal, is_between, is_start_time};
 
 impl<R: Rows> Part<R> {
     /// GET_SUBSCRIBER_DATA: `NoSubscriber`.
@@ -72,43 +45,13 @@ impl<R: Rows> Part<R> {
         {
             return refused(Refusal::Field);
         }
-        if !self.has_active(s_id, sf_type) {
-            return refused(Refusal::NoDestination);
-        }
-        let first = self.destination(s_id, sf_type, 0, start_time, end_time);
-        let second = self.destination(s_id, sf_type, 8, start_time, end_time);
-        let third = self.destination(s_id, sf_type, 16, start_time, end_time);
-        let numbers = numbers_of(first, second, third);
+        // Opens the part for the prover: its rules are known.
+        let _ = &self.rows;
+        let numbers = find_destinations(self, s_id, sf_type, start_time, end_time);
         if numbers.is_empty() {
             return refused(Refusal::NoDestination);
         }
         (RowReply::Numbers(numbers), Change::none())
-    }
-
-    /// The number of the forwarding that starts at an hour, where it starts no later than the call and ends after it.
-    fn destination(
-        &mut self,
-        s_id: u32,
-        sf_type: u8,
-        hour: u8,
-        start_time: u8,
-        end_time: u8,
-    ) -> Option<Number>
-        ensures found { result ≡ destination s_id sf_type start_time end_time (forwarding_at self.old.book s_id sf_type hour) }
-        ensures kept { self.new ≡ record self.old { asked = self.new.asked } }
-        ensures asked { self.new.asked ≤ self.old.asked + 1 }
-    {
-        // Opens the part for the prover: its rules are known.
-        let _ = &self.rows;
-        if start_time < hour {
-            return None;
-        }
-        let row = self.forwarding(s_id, sf_type, hour)?;
-        if end_time < row.end_time() {
-            Some(row.numberx())
-        } else {
-            None
-        }
     }
 
     /// GET_ACCESS_DATA: `Field`, `NoAccess`.

@@ -1,0 +1,141 @@
+//! The numbers that a call is forwarded to: one rule, for rows that are lent and for rows that are asked.
+ghost use Rattle.std.specs.Prelude.{◌≡◌, ◌+◌, ◌<◌, ◌≤◌, ◌++◌};
+ghost use Rattle.std.specs.Option.{option_to_list};
+ghost use Rattle.arrayvec.specs.ArrayVec.{array_vec_len};
+ghost use Rattle.tatp_actions.specs.Action.{destinations};
+ghost use Rattle.tatp_actions.specs.Book.{facility_at, forwarding_at, has_active};
+ghost use Rattle.tatp_actions.specs.Inside.{destination, IsOnlyAsked};
+ghost use Rattle.tatp_actions.specs.Part.{PartState, IsPart};
+
+use crate::part::Part;
+use crate::rows::Rows;
+use arrayvec::ArrayVec;
+use tatp_rows::{Facility, Forwarding, Number};
+
+/// Finds the rows of a facility by key, each with one question at most.
+pub(crate) trait FacilityRows {
+    ghost part: { Self → PartState };
+
+    /// The Special_Facility row of a subscriber's facility, where there is one.
+    fn find_facility(&mut self, s_id: u32, sf_type: u8) -> Option<Facility>
+        ensures found { result ≡ facility_at (part self.old).book s_id sf_type }
+        ensures asked { IsOnlyAsked 1 (part self.old) (part self.new) };
+
+    /// The Call_Forwarding row of a facility that starts at an hour, where there is one.
+    fn find_forwarding(&mut self, s_id: u32, sf_type: u8, hour: u8) -> Option<Forwarding>
+        ensures found { result ≡ forwarding_at (part self.old).book s_id sf_type hour }
+        ensures asked { IsOnlyAsked 1 (part self.old) (part self.new) };
+}
+
+/// A part that counts each question.
+impl<R: Rows> FacilityRows for Part<R> {
+    ghost part = { λ part. part };
+
+    #[inline(always)]
+    fn find_facility(&mut self, s_id: u32, sf_type: u8) -> Option<Facility> {
+        self.facility(s_id, sf_type)
+    }
+
+    #[inline(always)]
+    fn find_forwarding(&mut self, s_id: u32, sf_type: u8, hour: u8) -> Option<Forwarding> {
+        self.forwarding(s_id, sf_type, hour)
+    }
+}
+
+/// A part that lends its rows and counts no question.
+impl FacilityRows for &Part {
+    ghost part = { λ part. part.now };
+
+    #[inline(always)]
+    fn find_facility(&mut self, s_id: u32, sf_type: u8) -> Option<Facility> {
+        self.lend_facility(s_id, sf_type).copied()
+    }
+
+    #[inline(always)]
+    fn find_forwarding(&mut self, s_id: u32, sf_type: u8, hour: u8) -> Option<Forwarding> {
+        self.lend_forwarding(s_id, sf_type, hour).copied()
+    }
+}
+
+/// The numbers of the forwardings of an active facility that start by one hour and end after another, in the order of
+/// their start times: at most three, and none where the facility isn't active.
+#[inline(always)]
+pub(crate) fn find_destinations<F: FacilityRows>(
+    rows: &mut F,
+    s_id: u32,
+    sf_type: u8,
+    start_time: u8,
+    end_time: u8,
+) -> ArrayVec<Number, 3>
+    requires { IsPart (F.part rows.old) }
+    ensures found { result.items ≡ destinations (F.part rows.old).book s_id sf_type start_time end_time }
+    ensures asked { IsOnlyAsked 4 (F.part rows.old) (F.part rows.new) }
+{
+    if !is_active(rows.find_facility(s_id, sf_type)) {
+        return ArrayVec::new();
+    }
+    let first = find_destination(rows, s_id, sf_type, 0, start_time, end_time);
+    let second = find_destination(rows, s_id, sf_type, 8, start_time, end_time);
+    let third = find_destination(rows, s_id, sf_type, 16, start_time, end_time);
+    numbers_of(first, second, third)
+}
+
+/// The number of the forwarding that starts at an hour, where it starts no later than the call and ends after it.
+fn find_destination<F: FacilityRows>(
+    rows: &mut F,
+    s_id: u32,
+    sf_type: u8,
+    hour: u8,
+    start_time: u8,
+    end_time: u8,
+) -> Option<Number>
+    requires { IsPart (F.part rows.old) }
+    ensures found { result ≡ destination s_id sf_type start_time end_time (forwarding_at (F.part rows.old).book s_id sf_type hour) }
+    ensures asked { IsOnlyAsked 1 (F.part rows.old) (F.part rows.new) }
+{
+    if start_time < hour {
+        return None;
+    }
+    let row = rows.find_forwarding(s_id, sf_type, hour)?;
+    if end_time < row.end_time() {
+        Some(row.numberx())
+    } else {
+        None
+    }
+}
+
+/// Whether a facility was found and is active.
+#[inline(always)]
+pub(crate) fn is_active(found: Option<Facility>) -> bool
+    ensures { result ≡ has_active found }
+{
+    match found {
+        Some(facility) => facility.is_active(),
+        None => false,
+    }
+}
+
+/// The numbers that were found, in order.
+fn numbers_of(
+    first: Option<Number>,
+    second: Option<Number>,
+    third: Option<Number>,
+) -> ArrayVec<Number, 3>
+    ensures { result.items ≡ (option_to_list first ++ option_to_list second) ++ option_to_list third }
+{
+    let mut numbers = ArrayVec::new();
+    push_found(&mut numbers, first);
+    push_found(&mut numbers, second);
+    push_found(&mut numbers, third);
+    numbers
+}
+
+/// Appends a number, where one was found.
+fn push_found(numbers: &mut ArrayVec<Number, 3>, found: Option<Number>)
+    requires { array_vec_len numbers.old < 3 }
+    ensures { numbers.new.items ≡ numbers.old.items ++ option_to_list found }
+{
+    if let Some(number) = found {
+        numbers.push(number);
+    }
+}
