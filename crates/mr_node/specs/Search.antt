@@ -1,5 +1,5 @@
 -- Where a search among the keys of a node stops: no clause of a public call cites these.
-use Rattle.std.specs.Prelude.{ℕ, ◌+◌, ◌-◌, ◌<◌, ◌≤◌, List, length, slice_index_or}
+use Rattle.std.specs.Prelude.{ℕ, ◌-◌, ◌<◌, ◌≤◌, List, length, slice_index_or}
 
 -- no key is less than one in front of it
 abbrev pub IsRising : List ℕ → Type 0

@@ -121,6 +121,24 @@ impl<V> Node<V> {
         }
     }
 
+    /// The child to which a key belongs; of a leaf itself. Looking is no step.
+    #[inline]
+    pub fn towards(&self, key: u64) -> &Node<V>
+        ensures same { value_at key result.now.rows ≡ value_at key self.now.rows }
+        ensures level { result.now.height ≡ self.now.height - 1 }
+    {
+        match &self.body {
+            Body::Leaf(_) => self,
+            Body::Inner(branch) => {
+                let place = kid_place(branch, key);
+                match &branch.kids[place] {
+                    Some(kid) => &*kid.node,
+                    None => unreachable!(),
+                }
+            }
+        }
+    }
+
     /// The first row from a key on, or `None`. Looking is no step.
     pub fn first_from(&self, key: u64) -> Option<(u64, &V)>
         ensures { option_map (λ r. (r.0, r.1.now)) result ≡ find (λ p. nat_le key p.0) self.now.rows }

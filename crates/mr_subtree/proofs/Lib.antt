@@ -1,2 +1,3 @@
 pub mod RootFacts
 pub mod CrossingLemmas
+pub mod DescentLemmas

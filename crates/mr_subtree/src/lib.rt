@@ -1,6 +1,7 @@
 //! Trees of rows, each seen as the ordered list of its pairs of key and value.
 #![tactic(auto)]
 
+mod many;
 mod subtree;
 #[cfg(test)]
 mod tests;

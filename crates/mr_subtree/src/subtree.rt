@@ -60,6 +60,13 @@ impl<V> SubTree<V> {
         }
     }
 
+    /// The root, to be looked at.
+    pub(crate) fn root(&self) -> &Node<V>
+        ensures { result.now ≡ self.now }
+    {
+        &self.root
+    }
+
     /// The allocator of which the tree takes memory.
     pub fn alloc(&self) -> Global {
         self.spare.alloc()

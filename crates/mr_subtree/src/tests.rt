@@ -1,9 +1,10 @@
 //! What no clause says: that insertions succeed and what each call answers then, for values of several sizes, and what
 //! stands where a growth is refused.
-ghost use Rattle.std.specs.Prelude.{◌<◌};
+ghost use Rattle.std.specs.Prelude.{◌<◌, ◌≤◌, length};
 ghost use Rattle.mr_node.specs.Rows.{key_limit};
 
 use super::*;
+use arrayvec::ArrayVec;
 use std::alloc::Global;
 use std::process::Abort;
 use tatp_rows::Refusal;
@@ -459,4 +460,25 @@ fn heights_of_two_orders(rt: HostRuntime) {
         let done = put_keys(&mut tree, 1025, down);
         assert_eq!(rt; (done, tree.len(), tree.height()), (true, 1025, 2));
     }
+}
+
+// What a look at keys side by side answers.
+fn many(tree: &SubTree<u32>, keys: &[u64]) -> ArrayVec<Option<u32>, 16>
+    requires { length keys.now ≤ 16 }
+{
+    let mut found = ArrayVec::new();
+    tree.copy_many(keys, &mut found);
+    found
+}
+
+// Keys that are there and keys that aren't, at both ends and between, in a tree of height 2; and no keys.
+#[test]
+fn looks_side_by_side(rt: HostRuntime) {
+    let mut tree = SubTree::new(rt.alloc()).expect(&rt, "a tree");
+    let done = put_keys(&mut tree, 1025, false);
+    let found = many(&tree, &[1025, 0, 1, 500, 1026, u64::MAX]);
+    let wanted = [Some(1025), None, Some(1), Some(500), None, None];
+    let same = found.as_slice() == wanted.as_slice();
+    let empty = many(&tree, &[]);
+    assert_eq!(rt; (done, same, empty.len()), (true, true, 0));
 }

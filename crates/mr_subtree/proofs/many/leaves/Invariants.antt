@@ -1,0 +1,5 @@
+use Rattle.mr_subtree.specs.Inside.{HaveSameValues}
+use Rattle.mr_subtree.proofs.many.leaves.Given as goal
+
+abbrev pub invariant-loop : goal.invariant-loop
+invariant-loop g l = HaveSameValues l.fn.root.rows l.fn.keys l.nodes
