@@ -1,29 +1,43 @@
 //! The rows of a holding's part, lent to be read.
 ghost use Rattle.std.specs.Prelude.{◌≡◌, option_copied};
 ghost use Rattle.tatp_actions.specs.Action.{destinations};
-ghost use Rattle.tatp_actions.specs.Book.{subscriber_at, access_at};
+ghost use Rattle.tatp_actions.specs.Book.{subscriber_at, access_at, facility_at, forwarding_at};
 
 use crate::holding::Holding;
 use arrayvec::ArrayVec;
-use tatp_rows::{Access, Number, Subscriber};
+use tatp_rows::{Access, Facility, Forwarding, Number, Subscriber};
 
 impl Holding {
-    /// The Subscriber row of a subscriber, where there is one.
+    /// Lends the Subscriber row of a subscriber, where there is one.
     pub fn lend_subscriber(&self, s_id: u32) -> Option<&Subscriber>
         ensures { option_copied result ≡ subscriber_at self.now.part.book s_id }
     {
         self.part.lend_subscriber(s_id)
     }
 
-    /// The Access_Info row of a subscriber's access, where there is one.
+    /// Lends the Access_Info row of a subscriber's access, where there is one.
     pub fn lend_access(&self, s_id: u32, ai_type: u8) -> Option<&Access>
         ensures { option_copied result ≡ access_at self.now.part.book s_id ai_type }
     {
         self.part.lend_access(s_id, ai_type)
     }
 
-    /// The numbers of the forwardings of an active facility that start by one hour and end after another, in the order
-    /// of their start times: at most three, and none where the facility isn't active.
+    /// Lends the Special_Facility row of a subscriber's facility, where there is one.
+    pub fn lend_facility(&self, s_id: u32, sf_type: u8) -> Option<&Facility>
+        ensures { option_copied result ≡ facility_at self.now.part.book s_id sf_type }
+    {
+        self.part.lend_facility(s_id, sf_type)
+    }
+
+    /// Lends the Call_Forwarding row of a facility that starts at an hour, where there is one.
+    pub fn lend_forwarding(&self, s_id: u32, sf_type: u8, hour: u8) -> Option<&Forwarding>
+        ensures { option_copied result ≡ forwarding_at self.now.part.book s_id sf_type hour }
+    {
+        self.part.lend_forwarding(s_id, sf_type, hour)
+    }
+
+    /// Tells the numbers of the forwardings of an active facility that start by one hour and end after another, in the
+    /// order of their start times: at most three, and none where the facility isn't active.
     pub fn destinations(
         &self,
         s_id: u32,

@@ -9,6 +9,7 @@
 mod holding;
 mod job;
 mod lending;
+mod many;
 mod moving;
 mod parting;
 mod piece;

@@ -1,0 +1,29 @@
+//! Rows of several subscribers of a holding's part, looked for side by side.
+ghost use Rattle.std.specs.Prelude.{◌≡◌, ◌≤◌, [], length, map};
+ghost use Rattle.tatp_actions.specs.Book.{subscriber_at, access_at};
+
+use crate::holding::Holding;
+use arrayvec::ArrayVec;
+use tatp_rows::{Access, Subscriber};
+
+impl Holding {
+    /// Puts the Subscriber rows of up to 16 subscribers into an empty list, one for each in their order, `None` where
+    /// there is none. The rows are looked for side by side, so that their waits for memory overlap.
+    pub fn copy_subscribers(&self, s_ids: &[u32], rows: &mut ArrayVec<Option<Subscriber>, 16>)
+        requires few { length s_ids.now ≤ 16 }
+        requires empty { rows.old.items ≡ [] }
+        ensures { rows.new.items ≡ map (subscriber_at self.now.part.book) s_ids.now }
+    {
+        self.part.copy_subscribers(s_ids, rows);
+    }
+
+    /// Puts up to 16 Access_Info rows into an empty list, each asked by its s_id and ai_type, in the order in which they
+    /// are asked, `None` where there is none. The rows are looked for side by side.
+    pub fn copy_access(&self, asked: &[(u32, u8)], rows: &mut ArrayVec<Option<Access>, 16>)
+        requires few { length asked.now ≤ 16 }
+        requires empty { rows.old.items ≡ [] }
+        ensures { rows.new.items ≡ map (λ a. access_at self.now.part.book a.0 a.1) asked.now }
+    {
+        self.part.copy_access(asked, rows);
+    }
+}
