@@ -10,6 +10,7 @@ pub mod LentLemmas
 mod NotedLemmas
 pub mod NumbersLemmas
 pub mod PairsLemmas
+pub mod PartsLemmas
 pub mod PresentLemmas
 pub mod RegisterLemmas
 pub mod RenamedLemmas

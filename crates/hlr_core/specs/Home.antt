@@ -1,5 +1,5 @@
 -- The parts on which an event works are at home.
-use Rattle.std.specs.Prelude.{◌≡◌, ◌-◌, ◌≤◌, ℕ, IfSome, slice_index}
+use Rattle.std.specs.Prelude.{◌≡◌, ◌-◌, ◌<◌, ◌≤◌, ◌↔◌, ℕ, Bool, true, false, IfSome, slice_index}
 use Rattle.view_board.specs.Desks.{Station}
 use Rattle.hlr_owners.specs.Out.{outs_in}
 use Rattle.hlr_owners.specs.Parted.{IsWithNew, IsWithout}
@@ -9,6 +9,7 @@ use Rattle.hlr_core.specs.declared.event.Event.{Event}
 use Rattle.hlr_core.specs.declared.event.Event.TheVariants.{SubscriberData, NewDestination, AccessData, UpdateSubscriber, UpdateLocation, InsertForwarding, DeleteForwarding, AddSubscriber, AddAccess, AddFacility, SetActive, SetNumber, Post, Give, Take, Divide, Dissolve}
 use Rattle.hlr_core.specs.declared.event.Reply.{Reply}
 use Rattle.hlr_core.specs.declared.event.Reply.TheVariants.{Divided, Dissolved}
+use Rattle.hlr_core.specs.declared.route.Parts.{Parts}
 
 -- whoever has the subscriber with a number is at home, if there is such a subscriber
 abbrev pub IsBearerHome : ℕ → Seating → Type 0
@@ -34,6 +35,21 @@ IsHomeTo (Give part side at) h = IsPartHome part h
 IsHomeTo (Take piece part) h = IsPartHome part h
 IsHomeTo (Divide part at) h = IsHomeFrom part h
 IsHomeTo (Dissolve part) h = IsHomeFrom (part - 1) h
+
+-- each of these parts that is there is at home
+abbrev pub AreHome : Parts → Seating → Type 0
+AreHome parts h = (part : ℕ) → parts.first ≤ part → part < parts.end → IsPartHome part h
+
+-- in this seating they are at home just where what the event needs is
+abbrev pub WorksOn : Event → Parts → Seating → Type 0
+WorksOn event parts h = AreHome parts h ↔ IsHomeTo event h
+
+-- an event names its subscriber by a number, so that the rows tell who it is
+abbrev pub is_by_number : Event → Bool
+is_by_number (UpdateLocation sub_nbr vlr_location) = true
+is_by_number (InsertForwarding sub_nbr sf_type start_time end_time numberx) = true
+is_by_number (DeleteForwarding sub_nbr sf_type start_time) = true
+is_by_number _ = false
 
 -- the same parts are at home, the same holdings are out, and the desk of the slots that no part has is as it was
 pub record IsSameHouse (before after : Seating) : Type 0 where

@@ -7,6 +7,7 @@ pub mod Kept
 pub mod Later
 pub mod Numbers
 pub mod Route
+pub mod Rows
 pub mod Run
 pub mod Session
 pub mod Step

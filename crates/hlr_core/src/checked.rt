@@ -1,6 +1,6 @@
 //! An event's plain numbers, checked, as the edit that it asks for.
-ghost use Rattle.std.specs.Prelude.{◌≡◌, ◌&&◌, ◌<◌, ◌≤◌, ◌+◌, ℕ, Some, IfOk, OnErr, true, false, Option, option_map};
-ghost use Rattle.tatp_rows.specs.Rows.{is_between};
+ghost use Rattle.std.specs.Prelude.{◌≡◌, ◌&&◌, ◌+◌, ℕ, Some, IfOk, OnErr, true, false, Option, option_map};
+ghost use Rattle.tatp_rows.specs.Rows.{between, is_between};
 ghost use Rattle.tatp_rows.specs.declared.ranges.TheConstants.{LAST_SUBSCRIBER};
 ghost use Rattle.tatp_actions.specs.Action.{is_in_range};
 ghost use Rattle.tatp_actions.specs.Book.{IsWithin};
@@ -19,9 +19,9 @@ use tatp_rows::{
     is_start_time,
 };
 
-/// A byte. What is above 255 is out of each range.
-pub(crate) fn byte(value: u64) -> Result<u8, Refusal>
-    ensures { (IfOk result (λ small. small ≡ value)) × OnErr result ((256 ≤ value) × (result ≡ Err Refusal.Field)) }
+/// Makes a byte of a field: `Field` where it is above 255, which is out of each range.
+pub fn byte(value: u64) -> Result<u8, Refusal>
+    ensures { result ≡ between 0 255 value }
 {
     u8::try_from(value).map_err(|_| Refusal::Field)
 }

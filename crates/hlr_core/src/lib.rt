@@ -14,6 +14,7 @@ mod checked;
 mod event;
 mod lent;
 mod level;
+mod listing;
 mod numbers;
 mod order;
 mod register;
@@ -21,10 +22,11 @@ mod route;
 mod transactions;
 mod weights;
 
+pub use checked::byte;
 pub use event::{Event, Reply};
 pub use order::{Answer, Order, no_reply_but_moving};
 pub use register::Register;
-pub use route::Route;
+pub use route::{Parts, Route};
 
 // What the register's calls take and give, so that a caller needs no other crate's name.
 pub use arrayvec::ArrayVec;

@@ -275,14 +275,8 @@ impl Register {
                 is_active,
             } => self.set_active(s_id, sf_type, is_active),
             Event::SetNumber { s_id, sub_nbr } => self.set_number(s_id, sub_nbr),
-            Event::SubscriberData { .. }
-            | Event::NewDestination { .. }
-            | Event::AccessData { .. }
-            | Event::Post { .. }
-            | Event::Give { .. }
-            | Event::Take { .. }
-            | Event::Divide { .. }
-            | Event::Dissolve { .. } => unreachable!(),
+            // No other event changes rows.
+            _ => unreachable!(),
         }
     }
 

@@ -1,26 +1,30 @@
 //! Where an event goes: what is known of its reply at once, what a part's holding does wherever it is, and what the
 //! register itself does.
-ghost use Rattle.std.specs.Prelude.{◌≡◌, IfOk, Result, true, false};
+ghost use Rattle.std.specs.Prelude.{◌≡◌, ◌↔◌, ◌≤◌, IfOk, Result, true, false, length};
+ghost use Rattle.hlr_core.specs.Home.{AreHome, IsBearerHome, WorksOn, is_by_number};
 ghost use Rattle.hlr_core.specs.Inside.Asked.{IsAskedAlone, IsRowAction, action_asked};
-ghost use Rattle.hlr_core.specs.Inside.Routed.{AsksFor, IsSendable};
+ghost use Rattle.hlr_core.specs.Inside.Routed.{AsksFor, IsSendable, makes_change};
 ghost use Rattle.hlr_core.specs.Kept.{is_on_rows};
-ghost use Rattle.hlr_core.specs.Route.{IsRouted, is_here};
+ghost use Rattle.hlr_core.specs.Route.{IsRouted};
 ghost use Rattle.hlr_core.specs.Step.{action_for};
 ghost use Rattle.hlr_core.specs.declared.event.Event.{Event as Events};
 ghost use Rattle.hlr_core.specs.declared.event.Event.TheVariants as event;
-ghost use Rattle.hlr_owners.specs.Seats.{book_in};
+ghost use Rattle.part_table.specs.Regions.{parts_of};
+ghost use Rattle.hlr_owners.specs.Seats.{AreSeated, IsHomeFor, IsHomeFrom, IsPartHome, Seating, book_in};
 ghost use Rattle.tatp_actions.specs.declared.action.Action.{Action as Actions};
 ghost use Rattle.tatp_actions.specs.declared.action.Action.TheVariants as action;
 ghost use Rattle.tatp_rows.specs.declared.refusal.Refusal.{Refusal as Refusals};
 
-use crate::checked;
-use crate::checked::byte;
+use crate::checked::{
+    add_access, add_facility, byte, delete_forwarding, insert_forwarding, set_active,
+    update_location, update_subscriber,
+};
 use crate::event::{Event, Reply};
 use crate::register::Register;
 use holding::Job;
 use part_table::Place;
 use tatp_actions::{Action, Edit};
-use tatp_rows::{LAST_SUBSCRIBER, Refusal, in_range};
+use tatp_rows::{LAST_SUBSCRIBER, Number, Refusal, in_range};
 
 /// Where an event goes.
 #[derive(Debug, PartialEq, Eq, Drop)]
@@ -31,6 +35,20 @@ pub enum Route {
     To(u8, Job),
     /// To the register itself: it gives a number, moves regions, or has a part come or go.
     Here,
+}
+
+/// Some parts, one behind another: those with the numbers `first..end`, and none where `end` isn't above `first`.
+#[derive(Clone, Copy, Debug, PartialEq, Eq)]
+pub struct Parts {
+    /// The first of them.
+    pub first: u8,
+    /// The number behind the last of them, which is at most the number of parts.
+    pub end: u8,
+}
+
+impl Parts {
+    /// No part.
+    const NONE: Parts = Parts { first: 0, end: 0 };
 }
 
 fn subscriber_data(s_id: u64) -> Result<Action, Refusal>
@@ -89,29 +107,157 @@ fn fitting(asked: Result<Action, Refusal>) -> Result<Action, Refusal>
 }
 
 impl Register {
+    /// Tells which parts an event works on, which are those that `apply` wants at home, whichever are out: the part of its
+    /// subscriber, the part that posts, gives or takes, or the part that is divided, or stands in front of one that is
+    /// dissolved, and all behind it. None where the s_id is out of range, nobody has the number, a loose piece has the
+    /// subscriber, or no part has a number from there on. It takes no memory.
+    pub fn parts_for(&self, event: &Event) -> Parts
+        ensures now { WorksOn event.now result self.now }
+        ensures same { (h : Seating) → AreSeated h → h.regions ≡ self.now.regions → (book_in h.seats).subscribers ≡ (book_in self.now.seats).subscribers → WorksOn event.now result h }
+        ensures here { is_by_number event.now ≡ false → (h : Seating) → AreSeated h → h.regions ≡ self.now.regions → WorksOn event.now result h }
+        ensures few { result.end ≤ length (parts_of self.now.regions) }
+    {
+        // For the prover: each region has its owner beside it.
+        let _board = self.seats.board();
+        let event = *event;
+        match event {
+            Event::SubscriberData { s_id }
+            | Event::NewDestination { s_id, .. }
+            | Event::AccessData { s_id, .. }
+            | Event::UpdateSubscriber { s_id, .. }
+            | Event::SetActive { s_id, .. }
+            | Event::SetNumber { s_id, .. } => self.part_of(s_id),
+            Event::UpdateLocation { sub_nbr, .. }
+            | Event::InsertForwarding { sub_nbr, .. }
+            | Event::DeleteForwarding { sub_nbr, .. } => self.part_of_bearer(sub_nbr),
+            Event::AddSubscriber(row) => self.part_of(u64::from(row.s_id())),
+            Event::AddAccess(row) => self.part_of(u64::from(row.s_id())),
+            Event::AddFacility(row) => self.part_of(u64::from(row.s_id())),
+            Event::Post { part, .. } | Event::Give { part, .. } | Event::Take { part, .. } => {
+                self.part_numbered(part)
+            }
+            Event::Divide { part, .. } => self.parts_from(part),
+            Event::Dissolve { part } => self.parts_from(part.saturating_sub(1)),
+        }
+    }
+
+    /// The part with a number, if there is one.
+    fn part_numbered(&self, part: u64) -> Parts
+        ensures home { (h : Seating) → AreSeated h → h.regions ≡ self.now.regions → AreHome result h ↔ IsPartHome part h }
+        ensures few { result.end ≤ length (parts_of self.now.regions) }
+    {
+        if part >= u64::from(self.seats.parts()) {
+            return Parts::NONE;
+        }
+        Parts {
+            first: part as u8,
+            end: part as u8 + 1,
+        }
+    }
+
+    /// All parts from one on.
+    fn parts_from(&self, part: u64) -> Parts
+        ensures home { (h : Seating) → AreSeated h → h.regions ≡ self.now.regions → AreHome result h ↔ IsHomeFrom part h }
+        ensures few { result.end ≤ length (parts_of self.now.regions) }
+    {
+        let end = self.seats.parts();
+        if part >= u64::from(end) {
+            return Parts::NONE;
+        }
+        Parts {
+            first: part as u8,
+            end,
+        }
+    }
+
+    /// The part that has a subscriber, unless a loose piece has them, or nobody can have the s_id.
+    fn part_of(&self, s_id: u64) -> Parts
+        ensures home { (h : Seating) → AreSeated h → h.regions ≡ self.now.regions → AreHome result h ↔ IsHomeFor s_id h }
+        ensures few { result.end ≤ length (parts_of self.now.regions) }
+    {
+        let Ok(s_id) = in_range(s_id, LAST_SUBSCRIBER) else {
+            return Parts::NONE;
+        };
+        match self.seats.regions().place(s_id) {
+            Place::Part(part) => self.part_numbered(u64::from(part)),
+            Place::Piece(_) => Parts::NONE,
+        }
+    }
+
+    /// The part that has the subscriber with a number, if there is one.
+    fn part_of_bearer(&self, sub_nbr: Number) -> Parts
+        ensures home { (h : Seating) → AreSeated h → h.regions ≡ self.now.regions → (book_in h.seats).subscribers ≡ (book_in self.now.seats).subscribers → AreHome result h ↔ IsBearerHome sub_nbr h }
+        ensures few { result.end ≤ length (parts_of self.now.regions) }
+    {
+        // For the prover: each region has its owner beside it.
+        let _board = self.seats.board();
+        match self.bearer(sub_nbr) {
+            Some(s_id) => self.part_of(u64::from(s_id)),
+            None => Parts::NONE,
+        }
+    }
+
     /// Where an event goes. What is answered at once is right, and changes nothing, whatever the parts' holdings do
     /// meanwhile; a job that goes to a part is right whatever the others do. It takes no memory, wherever they are.
     pub fn route(&self, event: &Event) -> Route
         ensures { IsRouted event.now self.now result }
     {
-        match *event {
+        let asked = *event;
+        match asked {
+            Event::SubscriberData { s_id } => self.route_asked(subscriber_data(s_id)),
+            Event::NewDestination {
+                s_id,
+                sf_type,
+                start_time,
+                end_time,
+            } => self.route_asked(new_destination(s_id, sf_type, start_time, end_time)),
+            Event::AccessData { s_id, ai_type } => self.route_asked(access_data(s_id, ai_type)),
             Event::Post { part, limit } => self.route_post(part, limit),
-            Event::AddSubscriber(_)
-            | Event::SetNumber { .. }
-            | Event::Give { .. }
-            | Event::Take { .. }
-            | Event::Divide { .. }
-            | Event::Dissolve { .. } => Route::Here,
-            Event::SubscriberData { .. }
-            | Event::NewDestination { .. }
-            | Event::AccessData { .. }
-            | Event::UpdateSubscriber { .. }
-            | Event::UpdateLocation { .. }
-            | Event::InsertForwarding { .. }
-            | Event::DeleteForwarding { .. }
-            | Event::AddAccess(_)
-            | Event::AddFacility(_)
-            | Event::SetActive { .. } => self.route_rows(event),
+            _ => self.route_change(event),
+        }
+    }
+
+    /// Where an event goes that changes rows, regions or parts: to the part whose rows it changes alone, and any other
+    /// one to the register itself.
+    fn route_change(&self, event: &Event) -> Route
+        requires { makes_change event.now ≡ true }
+        ensures { IsRouted event.now self.now result }
+    {
+        let event = *event;
+        match event {
+            Event::UpdateSubscriber {
+                s_id,
+                sf_type,
+                bit_1,
+                data_a,
+            } => self.route_edit(update_subscriber(s_id, sf_type, bit_1, data_a)),
+            Event::UpdateLocation {
+                sub_nbr,
+                vlr_location,
+            } => self.route_edit(update_location(self.bearer(sub_nbr), vlr_location)),
+            Event::InsertForwarding {
+                sub_nbr,
+                sf_type,
+                start_time,
+                end_time,
+                numberx,
+            } => {
+                let s_id = self.bearer(sub_nbr);
+                self.route_edit(insert_forwarding(s_id, sf_type, start_time, end_time, numberx))
+            }
+            Event::DeleteForwarding {
+                sub_nbr,
+                sf_type,
+                start_time,
+            } => self.route_edit(delete_forwarding(self.bearer(sub_nbr), sf_type, start_time)),
+            Event::AddAccess(row) => self.route_edit(add_access(row)),
+            Event::AddFacility(row) => self.route_edit(add_facility(row)),
+            Event::SetActive {
+                s_id,
+                sf_type,
+                is_active,
+            } => self.route_edit(set_active(s_id, sf_type, is_active)),
+            _ => Route::Here,
         }
     }
 
@@ -127,16 +273,24 @@ impl Register {
         Route::To(part as u8, Job::Post(limit))
     }
 
-    /// An event on rows is refused, or goes where its action does.
-    fn route_rows(&self, event: &Event) -> Route
-        requires rows { is_on_rows event.now ≡ true }
-        requires numbers { is_here event.now ≡ false }
-        ensures { IsRouted event.now self.now result }
+    /// What asks for an action is refused, or goes where the action does. A field of the action may still be out of its
+    /// range.
+    fn route_asked(&self, asked: Result<Action, Refusal>) -> Route
+        requires { IfOk asked IsRowAction }
+        ensures { (event : Events) → is_on_rows event ≡ true → AsksFor (action_for event (book_in self.now.seats)) asked → IsRouted event self.now result }
     {
-        match fitting(self.asked(event)) {
+        match fitting(asked) {
             Ok(action) => self.route_action(action),
             Err(why) => Route::Now(Reply::Refused(why)),
         }
+    }
+
+    /// The same of what asks for an edit.
+    fn route_edit<E: Edit>(&self, asked: Result<E, Refusal>) -> Route
+        requires { IfOk asked (λ edit. IsRowAction (E.action edit)) }
+        ensures { (event : Events) → is_on_rows event ≡ true → AsksFor (action_for event (book_in self.now.seats)) (action_asked E.action asked) → IsRouted event self.now result }
+    {
+        self.route_asked(action_of(asked))
     }
 
     /// An action goes to the part that has its subscriber, and is refused where a loose piece has them.
@@ -149,68 +303,6 @@ impl Register {
         match self.seats.regions().place(action.s_id()) {
             Place::Part(part) => Route::To(part, Job::Act(action)),
             Place::Piece(_) => Route::Now(Reply::Refused(Refusal::Moving)),
-        }
-    }
-
-    /// What an event on rows asks for that gives no number. A field of the action may still be out of its range.
-    fn asked(&self, event: &Event) -> Result<Action, Refusal>
-        requires rows { is_on_rows event.now ≡ true }
-        requires numbers { is_here event.now ≡ false }
-        ensures action { IfOk result IsRowAction }
-        ensures asked { AsksFor (action_for event.now (book_in self.now.seats)) result }
-    {
-        let event = *event;
-        match event {
-            Event::SubscriberData { s_id } => subscriber_data(s_id),
-            Event::NewDestination {
-                s_id,
-                sf_type,
-                start_time,
-                end_time,
-            } => new_destination(s_id, sf_type, start_time, end_time),
-            Event::AccessData { s_id, ai_type } => access_data(s_id, ai_type),
-            Event::UpdateSubscriber {
-                s_id,
-                sf_type,
-                bit_1,
-                data_a,
-            } => action_of(checked::update_subscriber(s_id, sf_type, bit_1, data_a)),
-            Event::UpdateLocation {
-                sub_nbr,
-                vlr_location,
-            } => action_of(checked::update_location(self.bearer(sub_nbr), vlr_location)),
-            Event::InsertForwarding {
-                sub_nbr,
-                sf_type,
-                start_time,
-                end_time,
-                numberx,
-            } => action_of(checked::insert_forwarding(
-                self.bearer(sub_nbr),
-                sf_type,
-                start_time,
-                end_time,
-                numberx,
-            )),
-            Event::DeleteForwarding {
-                sub_nbr,
-                sf_type,
-                start_time,
-            } => action_of(checked::delete_forwarding(self.bearer(sub_nbr), sf_type, start_time)),
-            Event::AddAccess(row) => action_of(checked::add_access(row)),
-            Event::AddFacility(row) => action_of(checked::add_facility(row)),
-            Event::SetActive {
-                s_id,
-                sf_type,
-                is_active,
-            } => action_of(checked::set_active(s_id, sf_type, is_active)),
-            Event::AddSubscriber(_)
-            | Event::SetNumber { .. }
-            | Event::Post { .. }
-            | Event::Give { .. }
-            | Event::Take { .. }
-            | Event::Divide { .. }
-            | Event::Dissolve { .. } => unreachable!(),
         }
     }
 }

@@ -224,7 +224,7 @@ impl Register {
     }
 
     /// The s_id of the subscriber who has a number, or `None`.
-    pub(crate) fn bearer(&self, sub_nbr: Number) -> Option<u32>
+    pub fn bearer(&self, sub_nbr: Number) -> Option<u32>
         ensures value { result ≡ bearer_id (book_in self.now.seats).subscribers sub_nbr }
         ensures within { (s_id : ℕ) → result ≡ Some s_id → IsWithin 1 (LAST_SUBSCRIBER + 1) s_id }
     {

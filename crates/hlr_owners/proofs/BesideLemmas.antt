@@ -26,9 +26,10 @@ use Rattle.hlr_owners.specs.Store.{Store}
 use Rattle.hlr_owners.specs.declared.lodging.Seat.TheVariants.{Part, Piece}
 use Rattle.hlr_owners.proofs.EditLemmas.{given_store}
 use Rattle.hlr_owners.proofs.LendLemmas.{desks_later, seated_later}
+use Rattle.hlr_owners.proofs.ListingLemmas.{part_rows}
 use Rattle.hlr_owners.proofs.OutLemmas.{become_carried, outs-at, outs-insert, outs-remove, outs-set}
 use Rattle.hlr_owners.proofs.PostedLemmas.{none_posted, posted_right}
-use Rattle.hlr_owners.proofs.SeatLemmas.{parts-kept, part_not_loose, acted_answer, piece_answer, read_answer}
+use Rattle.hlr_owners.proofs.SeatLemmas.{parts-kept, acted_answer, piece_answer}
 use Rattle.hlr_owners.proofs.TakeLemmas.{taken_store}
 
 -- the seats with what the holdings that are out have become
@@ -55,13 +56,7 @@ module _ (h : Seating) (are : AreSeated h) (act : Action) (i : ℕ) (at : positi
 
 -- what is read of the rows of a part at home
 pub rows_beside : (h : Seating) (are : AreSeated h) (s_id i : ℕ) (at : position (lies_in s_id) h.regions ≡ Some i) (l : Lodged) → Part l ≡ get_or h.seats i (Part l) → l.home ≡ true → HasRowsBeside s_id h l.holding
-rows_beside h are s_id i at l is home = λ ks become.
-    let there = outs-at h.seats ks i (Part l) is home in
-    let seated = now_seated h ks are become in
-    record {
-      home = part_not_loose (now h ks) seated s_id i at l there;
-      answers = read_answer (now h ks) seated s_id i at l there;
-    }
+rows_beside h are s_id i at l is home = λ ks become. part_rows (now h ks) (now_seated h ks are become) s_id i at l (outs-at h.seats ks i (Part l) is home)
 
 -- a posting of a part at home, and of none
 pub posted_beside : (h : Seating) (are : AreSeated h) (board : TableId) → AreDesks board h.spare (desks_in h.seats) → (p i : ℕ) (index : position (is_part p) h.regions ≡ Some i)

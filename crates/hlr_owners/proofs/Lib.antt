@@ -16,6 +16,7 @@ pub mod HomeLemmas
 pub mod IndexedLemmas
 pub mod IntSumLemmas
 pub mod LendLemmas
+pub mod ListingLemmas
 pub mod MayGatherLemmas
 pub mod OpenLemmas
 pub mod OpenedLemmas

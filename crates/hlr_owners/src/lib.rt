@@ -11,6 +11,7 @@ mod counts;
 mod homes;
 mod lending;
 mod lent;
+mod listing;
 mod lodging;
 mod moving;
 mod opening;

@@ -1,7 +1,8 @@
 use Rattle.std.proofs.Common.{refl}
 use Rattle.hlr_owners.proofs.BesideLemmas.{rows_beside}
 use Rattle.hlr_owners.proofs.HomeLemmas.{seat_home}
-use Rattle.hlr_owners.proofs.SeatLemmas.{part_not_loose, piece_loose, read_answer}
+use Rattle.hlr_owners.proofs.ListingLemmas.{part_rows}
+use Rattle.hlr_owners.proofs.SeatLemmas.{piece_loose}
 use Rattle.hlr_owners.proofs.seats.Seats.holding_of.Goals as goal
 
 pub holding-requires : goal.holding-requires
@@ -13,10 +14,7 @@ pub returns-in-Part-clause-home : goal.returns-in-Part-clause-home
 returns-in-Part-clause-home c =
     let at = rw (← c.self.view_is) at c.seat_of.ensures.at in
     let is = rw c.in-Part.is at c.index.ensures in
-    rw (← c.self.view_is, c.holding.ensures.value) (record {
-      home = part_not_loose _ c.self.invariant.0 _ _ at c.in-Part.lodging is;
-      answers = read_answer _ c.self.invariant.0 _ _ at c.in-Part.lodging is;
-    })
+    rw (← c.self.view_is, c.holding.ensures.value) (part_rows _ c.self.invariant.0 _ _ at c.in-Part.lodging is)
 
 pub returns-in-Piece-clause-moving : goal.returns-in-Piece-clause-moving
 returns-in-Piece-clause-moving c =

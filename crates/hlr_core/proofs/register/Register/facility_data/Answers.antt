@@ -1,0 +1,22 @@
+use Rattle.std.proofs.Common.{◌≡◌, true}
+use Rattle.tatp_rows.proofs.RowLemmas.{between_ok, both_from}
+use Rattle.tatp_rows.specs.declared.ranges.TheConstants.{LAST_SUBSCRIBER}
+use Rattle.hlr_owners.specs.Out.{with_outs}
+use Rattle.tatp_actions.specs.Action.{is_typed}
+use Rattle.hlr_core.proofs.LaterLemmas.{each_seat}
+use Rattle.hlr_core.proofs.register.Register.facility_data.Goals.{After-facility}
+use Rattle.hlr_core.proofs.register.Register.facility_data.Goals as goal
+
+-- the fields in range are those that were given
+same : (c : After-facility) → (c.in_ok-s_id.s_id ≡ c.args.s_id) × (c.in_ok-sf_type.sf_type ≡ c.args.sf_type)
+same c = ((between_ok 1 LAST_SUBSCRIBER c.args.s_id c.in_ok-s_id.s_id c.in_ok-s_id.ensures).0, (between_ok 1 4 c.args.sf_type c.in_ok-sf_type.sf_type c.in_ok-sf_type.ensures).0)
+
+typed : (c : After-facility) → is_typed c.args.s_id c.args.sf_type ≡ true
+typed c = both_from _ _ (between_ok 1 LAST_SUBSCRIBER c.args.s_id c.in_ok-s_id.s_id c.in_ok-s_id.ensures).1 (between_ok 1 4 c.args.sf_type c.in_ok-sf_type.sf_type c.in_ok-sf_type.ensures).1
+
+pub returns-clause-value : goal.returns-clause-value
+returns-clause-value c = rw (typed c, ← (same c).0, ← (same c).1, ← c.self.view_is) c.facility.ensures.value
+
+pub returns-clause-beside : goal.returns-clause-beside
+returns-clause-beside c =
+    rw (typed c, ← (same c).0, ← (same c).1, ← c.self.view_is) (λ ks later. c.facility.ensures.beside ks (each_seat c.self.inside.seats.seats (with_outs c.self.inside.seats.seats ks) later))

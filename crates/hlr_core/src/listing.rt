@@ -1,0 +1,68 @@
+//! Rows by key and the next subscriber, to be written out: where no piece is loose, these and `lend_access` read all
+//! rows.
+ghost use Rattle.std.specs.Prelude.{◌≡◌, List};
+ghost use Rattle.holding.specs.Held.{HoldingState};
+ghost use Rattle.tatp_actions.specs.Book.{first_subscriber};
+ghost use Rattle.hlr_owners.specs.Out.{with_outs};
+ghost use Rattle.hlr_owners.specs.Seats.{AllHome, IsHomeFor, book_in, store_in};
+ghost use Rattle.hlr_core.specs.Beside.{beside};
+ghost use Rattle.hlr_core.specs.Later.{AreLater};
+ghost use Rattle.hlr_core.specs.Rows.{bearer_answer, facility_read, forwarding_read};
+
+use crate::register::Register;
+use tatp_rows::{
+    Facility, Forwarding, LAST_SUBSCRIBER, Number, Refusal, Subscriber, byte_in_range, in_range,
+    is_start_time,
+};
+
+impl Register {
+    /// Returns the Special_Facility row of a subscriber's facility: `Field` where s_id isn't in 1..=16,777,216 or sf_type
+    /// isn't in 1..=4, `Moving`, `NoFacility`. It takes no memory.
+    pub fn facility_data(&self, s_id: u64, sf_type: u64) -> Result<Facility, Refusal>
+        requires { IsHomeFor s_id self.now }
+        ensures value { result ≡ facility_read s_id sf_type (store_in self.now) }
+        ensures beside { (holdings : List HoldingState) → AreLater self.now.seats (with_outs self.now.seats holdings) → result ≡ facility_read s_id sf_type (store_in (beside self.now holdings)) }
+    {
+        let s_id = in_range(s_id, LAST_SUBSCRIBER)?;
+        let sf_type = byte_in_range(sf_type, 4)?;
+        self.seats.facility(s_id, sf_type)
+    }
+
+    /// Returns the Call_Forwarding row of a facility that starts at an hour: `Field` where s_id isn't in 1..=16,777,216,
+    /// sf_type isn't in 1..=4 or start_time isn't 0, 8 or 16, `Moving`, `NoForwarding`. It takes no memory.
+    pub fn forwarding(
+        &self,
+        s_id: u64,
+        sf_type: u64,
+        start_time: u64,
+    ) -> Result<Forwarding, Refusal>
+        requires { IsHomeFor s_id self.now }
+        ensures value { result ≡ forwarding_read s_id sf_type start_time (store_in self.now) }
+        ensures beside { (holdings : List HoldingState) → AreLater self.now.seats (with_outs self.now.seats holdings) → result ≡ forwarding_read s_id sf_type start_time (store_in (beside self.now holdings)) }
+    {
+        let s_id = in_range(s_id, LAST_SUBSCRIBER)?;
+        let sf_type = byte_in_range(sf_type, 4)?;
+        if !is_start_time(start_time) {
+            return Err(Refusal::Field);
+        }
+        self.seats.forwarding(s_id, sf_type, start_time as u8)
+    }
+
+    /// Finds the subscriber who has a number, in the index: the s_id, 1..=16,777,216, or `NoNumber`. It takes no memory,
+    /// and reads no row, so parts may be out.
+    pub fn find(&self, sub_nbr: Number) -> Result<u32, Refusal>
+        ensures value { result ≡ bearer_answer sub_nbr (store_in self.now) }
+        ensures beside { (holdings : List HoldingState) → AreLater self.now.seats (with_outs self.now.seats holdings) → result ≡ bearer_answer sub_nbr (store_in (beside self.now holdings)) }
+    {
+        self.bearer(sub_nbr).ok_or(Refusal::NoNumber)
+    }
+
+    /// Returns the first Subscriber row with an s_id from one on, of a part or of a loose piece, or `None` behind the
+    /// last. It takes no memory.
+    pub fn next_subscriber(&self, from: u64) -> Option<Subscriber>
+        requires { AllHome self.now.seats }
+        ensures { result ≡ first_subscriber from (book_in self.now.seats).subscribers }
+    {
+        self.seats.first_sub_from(from).copied()
+    }
+}

@@ -1,0 +1,120 @@
+-- Rows that no action reads: those of a part are those of all, and the first from a subscriber on.
+use Rattle.std.proofs.Common.{◌≡◌, ◌∙◌, refl, sym, ap, ℕ, zero, suc, ◌<◌, ◌≤◌, ◌==◌, arith, drop, get_or, length, List, [], ◌∷◌, ◌++◌, Bool, true, false, Option, Some, None}
+use Rattle.std.specs.Prelude.{Err, nat_le, position, ok_or}
+use Rattle.std.specs.List.{AllByRecursion, filter}
+use Rattle.std.proofs.lemmas.Bool.Decides.{nat_tests}
+use Rattle.std.proofs.lemmas.List.Quantifiers.{position-Some}
+use Rattle.tatp_rows.proofs.OrderedLemmas.{by_test, each-weaker}
+use Rattle.tatp_rows.proofs.RowLemmas.{facility_type, forwarding_type, forwarding_ranges}
+use Rattle.tatp_rows.specs.Keys.{key_of, facility_key, forwarding_key}
+use Rattle.tatp_rows.specs.Ordered.{row_at}
+use Rattle.tatp_rows.specs.Rows.{SubscriberRow, SpecialFacilityRow, CallForwardingRow, facility_in_range, forwarding_in_range}
+use Rattle.tatp_rows.specs.declared.refusal.Refusal.{Refusal}
+use Rattle.tatp_rows.specs.declared.refusal.Refusal.TheVariants as refusal
+use Rattle.tatp_actions.specs.Book.{Book, IsBook, IsWithin, facility_at, first_subscriber, forwarding_at, is_within, rows_between}
+use Rattle.part_table.specs.Region.{lies_in}
+use Rattle.part_table.specs.declared.region.Region.{Region}
+use Rattle.part_table.proofs.PlaceLemmas.{blank}
+use Rattle.holding.specs.Held.{HoldingState}
+use Rattle.hlr_owners.specs.Answered.{is_loose}
+use Rattle.hlr_owners.specs.Read.{HasRowsOf, facility_answer, forwarding_answer}
+use Rattle.hlr_owners.specs.Lodged.{Lodged}
+use Rattle.hlr_owners.specs.Seats.{AreSeated, Seating, book_in, owner_of, store_in}
+use Rattle.hlr_owners.specs.Store.{Store}
+use Rattle.hlr_owners.specs.declared.lodging.Seat.{Seat}
+use Rattle.hlr_owners.specs.declared.lodging.Seat.TheVariants.{Part}
+use Rattle.hlr_owners.proofs.OwnerLemmas.{lies_within}
+use Rattle.hlr_owners.proofs.SeatLemmas.{part_not_loose, read_answer, rows_at, seated_rows}
+
+-- a row stands at a key among those that pass a test as it does among all, where each row at the key passes
+kept_at : {X : Type 0} (key : X → ℕ) (test : X → Bool) (k : ℕ) (rows : List X) → AllByRecursion (λ row. key row ≡ k → test row ≡ true) rows → row_at key k (filter test rows) ≡ row_at key k rows
+kept_at key test k [] passes = refl
+kept_at key test k (row ∷ rows) passes =
+    by_test (key row == k)
+    (λ at. let same : key row ≡ k = grind (arith, nat_tests) in let kept = passes.0 same in rw (kept, at) refl)
+    (λ off. by_test (test row) (λ kept. rw (kept, off) (kept_at key test k rows passes.1)) (λ gone. rw (gone, off) (kept_at key test k rows passes.1)))
+
+module _ (lo hi s_id : ℕ) (book : Book) (rules : IsBook book) (within : IsWithin lo hi s_id) where
+  -- the s_id of a range is within it
+  inside : is_within lo hi s_id ≡ true
+  inside = let from = within.0 in let to = within.1 in grind (arith, nat_tests)
+
+  -- the facility of a subscriber of a range is among the rows of the range
+  pub facility_between : (t : ℕ) → t < 256 → facility_at (rows_between lo hi book) s_id t ≡ facility_at book s_id t
+  facility_between t low =
+      kept_at facility_key (λ (row : SpecialFacilityRow). is_within lo hi row.s_id) (key_of s_id t 0) book.facilities
+      (each-weaker {P = λ (row : SpecialFacilityRow). facility_in_range row ≡ true} {Q = λ (row : SpecialFacilityRow). facility_key row ≡ key_of s_id t 0 → is_within lo hi row.s_id ≡ true}
+      (λ row holds at. let kind = (facility_type row holds).below in let same : row.s_id ≡ s_id = omega arith in rw same inside) book.facilities rules.facilities_in_range)
+
+  -- so is the forwarding
+  pub forwarding_between : (t u : ℕ) → t < 256 → u < 256 → forwarding_at (rows_between lo hi book) s_id t u ≡ forwarding_at book s_id t u
+  forwarding_between t u low small =
+      kept_at forwarding_key (λ (row : CallForwardingRow). is_within lo hi row.s_id) (key_of s_id t u) book.forwardings
+      (each-weaker {P = λ (row : CallForwardingRow). forwarding_in_range row ≡ true} {Q = λ (row : CallForwardingRow). forwarding_key row ≡ key_of s_id t u → is_within lo hi row.s_id ≡ true}
+      (λ row holds at.
+      let kind = (forwarding_type row holds).below in
+      let start = (forwarding_ranges row holds).start_time_below in
+      let same : row.s_id ≡ s_id = omega arith in rw same inside) book.forwardings rules.forwardings_in_range)
+
+-- the part that has a subscriber has what all rows have of them
+module _ (h : Seating) (are : AreSeated h) (s_id i : ℕ) (at : position (lies_in s_id) h.regions ≡ Some i) (l : Lodged) (is : Part l ≡ get_or h.seats i (Part l)) where
+  abbrev region : Region
+  region = get_or h.regions i blank
+
+  here : (i < length h.regions) × (lies_in s_id region ≡ true) × ((k : ℕ) → k < i → lies_in s_id (get_or h.regions k blank) ≡ false)
+  here = position-Some (lies_in s_id) h.regions i blank at
+
+  own : rows_between region.lo region.hi (book_in h.seats) ≡ l.holding.part.book
+  own = rows_at h are i (Part l) is here.0
+
+  pub part_rows : HasRowsOf s_id (store_in h) l.holding
+  part_rows = record {
+    home = part_not_loose h are s_id i at l is;
+    answers = read_answer h are s_id i at l is;
+    facility = λ t low. sym (facility_between region.lo region.hi s_id (book_in h.seats) (seated_rows h are).rules (lies_within s_id region here.1) t low)
+        ∙ ap (λ (book : Book). facility_at book s_id t) own;
+    forwarding = λ t u low small. sym (forwarding_between region.lo region.hi s_id (book_in h.seats) (seated_rows h are).rules (lies_within s_id region here.1) t u low small)
+        ∙ ap (λ (book : Book). forwarding_at book s_id t u) own;
+  }
+
+-- what a part's rows have is what is answered of all, and a loose piece answers Moving
+module _ (s_id : ℕ) (store : Store) where
+  pub facility_found : (holding : HoldingState) → HasRowsOf s_id store holding → (t : ℕ) → t < 256 → (o : Option SpecialFacilityRow) → o ≡ facility_at holding.part.book s_id t → ok_or o refusal.NoFacility ≡ facility_answer s_id t store
+  facility_found holding has t low o is = rw (has.home, has.facility t low, ← is) refl
+
+  pub facility_loose : is_loose s_id store.regions ≡ true → (t : ℕ) → (why : Refusal) → why ≡ refusal.Moving → Err why ≡ facility_answer s_id t store
+  facility_loose loose t why is = rw (loose, is) refl
+
+  pub forwarding_found : (holding : HoldingState) → HasRowsOf s_id store holding → (t u : ℕ) → t < 256 → u < 256 → (o : Option CallForwardingRow) → o ≡ forwarding_at holding.part.book s_id t u
+      → ok_or o refusal.NoForwarding ≡ forwarding_answer s_id t u store
+  forwarding_found holding has t u low small o is = rw (has.home, has.forwarding t u low small, ← is) refl
+
+  pub forwarding_loose : is_loose s_id store.regions ≡ true → (t u : ℕ) → (why : Refusal) → why ≡ refusal.Moving → Err why ≡ forwarding_answer s_id t u store
+  forwarding_loose loose t u why is = rw (loose, is) refl
+
+-- where the first rows have none from a subscriber on, the first is that of the rest
+pub first_behind : (s_id : ℕ) (rows others : List SubscriberRow) → None ≡ first_subscriber s_id rows → first_subscriber s_id (rows ++ others) ≡ first_subscriber s_id others
+first_behind s_id [] others none = refl
+first_behind s_id (row ∷ rows) others none =
+    by_test (nat_le s_id row.s_id) (λ e. let some : None ≡ Some row = rw e at none in absurd cc) (λ e. rw e (first_behind s_id rows others (rw e at none)))
+
+-- where they have one, it is that
+pub first_here : (s_id : ℕ) (rows others : List SubscriberRow) (row : SubscriberRow) → Some row ≡ first_subscriber s_id rows → Some row ≡ first_subscriber s_id (rows ++ others)
+first_here s_id [] others row some = absurd cc
+first_here s_id (one ∷ rows) others row some = by_test (nat_le s_id one.s_id) (λ e. rw e (rw e at some)) (λ e. rw e (first_here s_id rows others row (rw e at some)))
+
+-- the rows from a seat on
+abbrev pub rows_from : ℕ → List Seat → List SubscriberRow
+rows_from k seats = (book_in (drop k seats)).subscribers
+
+-- one seat, and those behind it
+pub rows_next : (k : ℕ) (seats : List Seat) (seat : Seat) → k < length seats → seat ≡ get_or seats k seat → rows_from k seats ≡ (owner_of seat).part.book.subscribers ++ rows_from (suc k) seats
+rows_next k [] seat low is = absurd (omega arith)
+rows_next zero (one ∷ seats) seat low is = rw is refl
+rows_next (suc k) (one ∷ seats) seat low is = rows_next k seats seat (omega arith) is
+
+pub rows_past : (k : ℕ) (seats : List Seat) → length seats ≤ k → rows_from k seats ≡ []
+rows_past zero [] past = refl
+rows_past zero (one ∷ seats) past = absurd (omega arith)
+rows_past (suc k) [] past = refl
+rows_past (suc k) (one ∷ seats) past = rows_past k seats (omega arith)
