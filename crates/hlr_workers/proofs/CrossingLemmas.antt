@@ -76,10 +76,10 @@ count_sync : IsSync EventCount.the_row
 count_sync = search (sendable, crosses) depth 20
 
 inbox_send : IsSend Inbox.the_row
-inbox_send = declared_send Inbox.the_type (line_send, (count_send, tt))
+inbox_send = declared_send Inbox.the_type (line_send, (count_send, (count_send, tt)))
 
 inbox_sync : IsSync Inbox.the_row
-inbox_sync = declared_sync Inbox.the_type (line_sync, (count_sync, tt))
+inbox_sync = declared_sync Inbox.the_type (line_sync, (count_sync, (count_sync, tt)))
 
 pub inbox_shared_send : IsSend (Arc.the_row Inbox.the_row Heap.the_row heap.ghosts)
 inbox_shared_send = Arc-send Inbox.the_row inbox_send inbox_sync
@@ -89,4 +89,4 @@ byte_send = search sendable
 
 -- what the thread hands back
 pub finished_send : IsSend Finished.the_row
-finished_send = let port = port_send in let holding = boxed_send in let replies = replies_send in search sendable depth 20
+finished_send = let port = port_send in let lent = lent_send in let replies = replies_send in search sendable depth 20

@@ -1,14 +1,11 @@
 -- The moves of an engine: where it stands after each.
-use Rattle.std.proofs.Common.{◌≡◌, ◌∙◌, refl, sym, ap, subst, ℕ, zero, suc, ◌+◌, ◌<◌, ◌≤◌, List, [], ◌∷◌, ◌++◌, length, get_or, set, drop, arith, true, false, Bool, Some, None, inl, inr}
-use Rattle.std.specs.Prelude.{Option, Result, Ok, Err, slice_get, if◌then◌else◌, ◌-◌, ◌⊎◌}
+use Rattle.std.proofs.Common.{◌≡◌, ◌∙◌, refl, sym, ap, subst, ℕ, zero, suc, ◌+◌, ◌<◌, ◌≤◌, List, [], ◌∷◌, ◌++◌, length, get_or, set, arith, true, false, Bool, Some, None, inl, inr}
+use Rattle.std.specs.Prelude.{Option, Result, Ok, Err, slice_get, if◌then◌else◌, ◌-◌}
 use Rattle.std.specs.List.{AllByRecursion}
 use Rattle.std.proofs.lemmas.List.{get_or_default, get_or_past, length-set, set-get_or, set-set}
 use Rattle.std.proofs.lemmas.Bool.{cases_lt}
 use Rattle.std.proofs.lemmas.Option.{none-some, same_Some, slice_get_within, slice_get-get_or, slice_get_read}
-use Rattle.std.proofs.lemmas.Bool.Decides.{nat_tests}
 use Rattle.tatp_rows.proofs.OrderedLemmas.{by_test}
-use Rattle.tatp_rows.specs.Rows.{between, is_between}
-use Rattle.tatp_rows.specs.declared.ranges.TheConstants.{LAST_SUBSCRIBER}
 use Rattle.tatp_rows.specs.declared.refusal.Refusal.{Refusal}
 use Rattle.holding.specs.Held.{HoldingState}
 use Rattle.holding.specs.declared.job.Job.{Job}
@@ -17,27 +14,24 @@ use Rattle.view_board.specs.Views.{looked}
 use Rattle.hlr_owners.specs.Lodged.{Lodged}
 use Rattle.hlr_owners.specs.Out.{out_of, outs_in, with_out, with_outs}
 use Rattle.part_table.specs.Recut.{recut_answer}
-use Rattle.part_table.specs.Region.{lies_in}
-use Rattle.part_table.specs.Regions.{IsConsecutive, place_of}
 use Rattle.part_table.specs.declared.moves.CutMove.{CutMove}
-use Rattle.part_table.specs.declared.region.Region.{Region}
-use Rattle.part_table.specs.declared.region.TheConstants.{END, MOST_PARTS}
+use Rattle.part_table.specs.Regions.{parts_of}
 use Rattle.hlr_owners.specs.Recut.{IsHomeToCut, IsHomeToMove}
-use Rattle.hlr_owners.specs.Seats.{AllHome, AreSeated, IsLent, IsHomeFor, IsPartHome, Seating, desks_in, holdings_seated, homes_in, of_parts, store_in}
+use Rattle.hlr_owners.specs.Seats.{AllHome, AreSeated, IsLent, Seating, desks_in, holdings_seated, homes_in, of_parts, store_in}
 use Rattle.hlr_owners.specs.Store.{Store}
 use Rattle.hlr_owners.specs.declared.lodging.Seat.{Seat}
 use Rattle.hlr_owners.specs.declared.lodging.Seat.TheVariants.{Part, Piece}
-use Rattle.hlr_owners.proofs.OwnerLemmas.{lies_within}
-use Rattle.hlr_owners.proofs.PartLemmas.{ahead, count_parts, set_number}
+use Rattle.hlr_owners.proofs.PartLemmas.{ahead, set_number}
 use Rattle.hlr_owners.proofs.SightLemmas.{words_looked}
 use Rattle.hlr_core.specs.Beside.{IsRecutBeside, IsStepBeside, beside}
-use Rattle.hlr_core.specs.Home.{IsSameHouse}
+use Rattle.hlr_core.specs.Home.{IsSameHouse, is_by_number}
 use Rattle.hlr_core.specs.Later.{AreLater, IsLater, with_seats}
 use Rattle.hlr_core.specs.Run.{IsRun}
-use Rattle.hlr_core.specs.Route.{IsRightNow, IsRightSent}
+use Rattle.hlr_core.specs.Route.{IsRightNow, IsRightSent, is_here}
 use Rattle.hlr_core.specs.Session.{IsJobDone, IsJobOf}
 use Rattle.hlr_core.specs.Step.{IsStep}
 use Rattle.hlr_core.specs.declared.event.Event.{Event}
+use Rattle.hlr_core.specs.declared.event.Event.TheVariants.{SubscriberData, NewDestination, AccessData, UpdateSubscriber, UpdateLocation, InsertForwarding, DeleteForwarding, AddSubscriber, AddAccess, AddFacility, SetActive, SetNumber, Post, Give, Take, Divide, Dissolve}
 use Rattle.hlr_core.specs.declared.event.Reply.{Reply}
 use Rattle.hlr_core.proofs.LaterLemmas.{all_later_after, all_later_self, all_seated_later, put_later}
 use Rattle.hlr_workers.specs.Inside.{AreIdle, IsBehind, IsHomeAgain, IsOut, IsCrewParted, IsSentTo, Parting, land, parted, parting_of}
@@ -45,7 +39,7 @@ use Rattle.hlr_workers.specs.Kept.{AllNumberless, Crewed, IsKept, NoneOut, engag
 use Rattle.hlr_workers.specs.Relay.{nothing}
 use Rattle.hlr_workers.specs.Session.{AreNumberless}
 use Rattle.hlr_workers.specs.Standing.{AreEnds, Cut, IsAsBefore, IsSettled, Stands, Took, TookNext, answers_by, answers_with, orders_of, store_at}
-use Rattle.hlr_workers.proofs.CrewLemmas.{as_homes, lent_outs, numberless_of, out_part}
+use Rattle.hlr_workers.proofs.CrewLemmas.{as_homes, as_parts, lent_outs, numberless_of, out_part}
 use Rattle.hlr_workers.proofs.HouseLemmas.{IsPartAt, ends_later, out_done, out_ends, out_seats, part_at, seat_store, with_outs_same}
 use Rattle.hlr_workers.proofs.PartingLemmas.{all_parted, ends_alike, ends_parted, numbered_parted, order_parted, parted_long, undone}
 use Rattle.hlr_workers.proofs.SessionLemmas.{numberless_more}
@@ -356,18 +350,6 @@ part_home (Piece b ∷ seats) p none = part_home seats p none
 part_home (Part l ∷ seats) zero none = at_home l none
 part_home (Part l ∷ seats) (suc p) none = part_home seats p none
 
--- so are all from one on
-homes_all : (seats : List Seat) → ((q : ℕ) → get_or (outs_in seats) q None ≡ None) → AllByRecursion (λ (home : Bool). home ≡ true) (homes_in seats)
-homes_all [] none = tt
-homes_all (Piece b ∷ seats) none = homes_all seats none
-homes_all (Part l ∷ seats) none = (at_home l (none 0), homes_all seats (λ q. none (suc q)))
-
-pub homes_from : (seats : List Seat) (first : ℕ) → ((q : ℕ) → first ≤ q → get_or (outs_in seats) q None ≡ None) → AllByRecursion (λ (home : Bool). home ≡ true) (drop first (homes_in seats))
-homes_from seats zero none = homes_all seats (λ q. none q (omega arith))
-homes_from [] (suc first) none = tt
-homes_from (Piece b ∷ seats) (suc first) none = homes_from seats (suc first) none
-homes_from (Part l ∷ seats) (suc first) none = homes_from seats first (λ q from. none (suc q) (omega arith))
-
 -- what came home, or was at home
 pub still_none : (outs : List (Option HoldingState)) (p : ℕ) → get_or outs p None ≡ None → set outs p None ≡ outs
 still_none outs p none = ap (λ (o : Option HoldingState). set outs p o) (sym none) ∙ set-get_or outs p None
@@ -447,46 +429,25 @@ sides_cut bounds h moves answer each = rw answer (sides_each h moves each)
 pub refused_cut : (bounds : List ℕ) (h : Seating) (why : Refusal) → recut_answer h.regions bounds ≡ Err why → IsHomeToCut bounds h
 refused_cut bounds h why answer = rw answer tt
 
--- a part with a number behind all is nobody's
-pub past_home : (h : Seating) (are : AreSeated h) (p : ℕ) → MOST_PARTS ≤ p → IsPartHome p h
-past_home h are p past =
-    let count = count_parts (λ (o : Lodged). o.home) h.width h.regions h.seats are.each in
-    let few = are.are.few_parts in
-    get_or_past (homes_in h.seats) p true (omega arith)
-
--- a number out of range lies in no region
-nowhere : (from s_id : ℕ) (regions : List Region) → IsConsecutive from regions → (s_id < from) ⊎ (END ≤ s_id) → place_of s_id regions ≡ None
-nowhere from s_id [] consecutive out = refl
-nowhere from s_id (r ∷ regions) consecutive out =
-    let rest : place_of s_id regions ≡ None = nowhere r.hi s_id regions consecutive.2 (elim out [
-      | inl below ↦ inl (let lo = consecutive.0 in let some = consecutive.1 in omega arith)
-      | inr above ↦ inr above
-    ]) in
-    by_test (lies_in s_id r)
-    (λ e.
-    let within = lies_within s_id r e in
-    let end = consecutive_end r.hi regions consecutive.2 in
-    absurd (elim out [
-      | inl below ↦ (let lo = consecutive.0 in let from_lo = within.0 in omega arith)
-      | inr above ↦ (let under = within.1 in omega arith)
-    ]))
-    (λ e. rw e rest)
-  where
-    consecutive_end : (from : ℕ) (regions : List Region) → IsConsecutive from regions → from ≤ END
-    consecutive_end from [] is = let e : from ≡ END = is in omega arith
-    consecutive_end from (r ∷ regions) is = let lo = is.0 in let some = is.1 in let rest = consecutive_end r.hi regions is.2 in omega arith
-
-pub nobody_home : (h : Seating) (are : AreSeated h) (s_id : ℕ) → is_between 1 LAST_SUBSCRIBER s_id ≡ false → IsHomeFor s_id h
-nobody_home h are s_id out = rw (nowhere 1 s_id h.regions are.are.consecutive sides) tt
-  where
-    sides : (s_id < 1) ⊎ (END ≤ s_id)
-    sides = elim (cases_lt s_id 1) [
-      | inl below ↦ inl below
-      | inr from ↦ elim (cases_lt s_id END) [
-        | inl to ↦ absurd (let is : is_between 1 LAST_SUBSCRIBER s_id ≡ true = grind (arith, nat_tests, from, to) in cc)
-        | inr above ↦ inr above
-      ]
-    ]
+-- an event that the register does itself names no subscriber by a number
+pub here_by_id : (event : Event) → is_here event ≡ true → is_by_number event ≡ false
+here_by_id (SubscriberData _) here = refl
+here_by_id (NewDestination _ _ _ _) here = refl
+here_by_id (AccessData _ _) here = refl
+here_by_id (UpdateSubscriber _ _ _ _) here = refl
+here_by_id (UpdateLocation _ _) here = absurd cc
+here_by_id (InsertForwarding _ _ _ _ _) here = absurd cc
+here_by_id (DeleteForwarding _ _ _) here = absurd cc
+here_by_id (AddSubscriber _) here = refl
+here_by_id (AddAccess _) here = refl
+here_by_id (AddFacility _) here = refl
+here_by_id (SetActive _ _ _) here = refl
+here_by_id (SetNumber _ _) here = refl
+here_by_id (Post _ _) here = refl
+here_by_id (Give _ _ _) here = refl
+here_by_id (Take _ _) here = refl
+here_by_id (Divide _ _) here = refl
+here_by_id (Dissolve _) here = refl
 
 -- one after another
 pub house_more : (a b d : Seating) → b ≡ record a { seats = b.seats } → d ≡ record b { seats = d.seats } → d ≡ record a { seats = d.seats }
@@ -498,12 +459,13 @@ none_next outs first p each q from low = elim (cases_lt q p) [
   | inr above ↦ let same : q ≡ p = omega arith in rw same (none_put outs p)
 ]
 
--- all from one on came home
-pub none_from : (outs : List (Option HoldingState)) (first p : ℕ) → length outs ≤ p → ((q : ℕ) → first ≤ q → q < p → get_or outs q None ≡ None) → (q : ℕ) → first ≤ q → get_or outs q None ≡ None
-none_from outs first p past each q from = elim (cases_lt q p) [
-  | inl below ↦ each q from below
-  | inr above ↦ get_or_past outs q None (omega arith)
-]
+-- all came home
+pub none_all : (before after : Crewed) → after.house ≡ record before.house { seats = after.house.seats } → AreSeated after.house → (end : ℕ) → end ≡ length (parts_of before.house.regions)
+    → ((q : ℕ) → q < end → get_or (outs_in after.house.seats) q None ≡ None) → NoneOut after
+none_all before after house are end is each =
+    let count = as_parts after.house are in
+    let regions = ap (λ (h : Seating). length (parts_of h.regions)) house in
+    all_none (outs_in after.house.seats) (λ q low. each q (omega arith))
 
 pub sides_next : (outs : List (Option HoldingState)) (moves : List CutMove) (k : ℕ) (move : CutMove) → k < length moves → move ≡ get_or moves k move
     → ((i : ℕ) (d : CutMove) → i < k → AreSidesHome outs (get_or moves i d))
@@ -525,10 +487,6 @@ here_after crew replies mid landed kept stands places now r is event step =
       here_kept mid landed kept now (parting_of r) is r,
       λ start asked stood. here_took mid landed kept now (parting_of r) is event r step start asked (stands start asked stood),
     )
-
-pub not_between : (s_id : ℕ) (why : Refusal) → Err why ≡ between 1 LAST_SUBSCRIBER s_id → is_between 1 LAST_SUBSCRIBER s_id ≡ false
-not_between s_id why is =
-    by_test (is_between 1 LAST_SUBSCRIBER s_id) (λ e. let ok : Err why ≡ Ok s_id = rw e at is in absurd cc) (λ e. e)
 
 -- an engine with no job out
 pub all_idle : (crew : Crewed) → length crew.jobs ≡ length (outs_in crew.house.seats) → NoneOut crew → AreIdle crew → AllByRecursion (λ (own : List (ℕ × Job)). own ≡ []) crew.jobs

@@ -43,7 +43,7 @@ job_same (Post limit) a answer b done = record {
   owned = done.desk.1;
 }
 
-same_twice : (a b c : HoldingState) → IsSameOwner a b → IsSameOwner b c → IsSameOwner a c
+pub same_twice : (a b c : HoldingState) → IsSameOwner a b → IsSameOwner b c → IsSameOwner a c
 same_twice a b c one two = record {
   lo = two.lo ∙ one.lo;
   hi = two.hi ∙ one.hi;
@@ -52,7 +52,7 @@ same_twice a b c one two = record {
   owned = two.owned ∙ one.owned;
 }
 
-itself : (a b : HoldingState) → b ≡ a → IsSameOwner a b
+pub itself : (a b : HoldingState) → b ≡ a → IsSameOwner a b
 itself a b is = rw is (record { lo = refl; hi = refl; width = refl; board = refl; owned = refl })
 
 pub session_same : (a : HoldingState) (jobs : List (ℕ × Job)) (answers : List (ℕ × Reply)) (b : HoldingState) → IsSession a jobs answers b → IsSameOwner a b

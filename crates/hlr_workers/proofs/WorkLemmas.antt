@@ -1,62 +1,177 @@
--- One turn of a worker, and all of them.
-use Rattle.std.proofs.Common.{◌≡◌, ◌∙◌, refl, sym, ap, subst, ℕ, ◌<◌, ◌≤◌, true, false, List, [], ◌∷◌, ◌++◌, length, arith, length-append, append_assoc}
+-- One message more of a worker, and all of them.
+use Rattle.std.proofs.Common.{◌≡◌, ◌∙◌, refl, sym, ap, subst, ℕ, ◌+◌, ◌<◌, ◌≤◌, true, false, List, [], ◌∷◌, ◌++◌, length, get_or, map, take, zero, suc, arith, length-append, append_assoc}
+use Rattle.std.proofs.lemmas.List.{append-nil, length-map, map-append, take_more}
+use Rattle.arrayvec.specs.ArrayVec.{ArrayVec}
 use Rattle.holding.specs.Held.{HoldingState}
 use Rattle.holding.specs.declared.job.Job.{Job}
+use Rattle.hlr_owners.specs.Seats.{IsSameOwner}
 use Rattle.hlr_core.specs.Session.{IsJobDone, IsWithinJob}
 use Rattle.hlr_core.specs.declared.event.Reply.{Reply}
-use Rattle.hlr_workers.specs.Finish.{IsAtWork, IsWorked}
-use Rattle.hlr_workers.specs.Relay.{IsStarted, IsWellSent, jobs_of, lent_of, log}
+use Rattle.hlr_workers.specs.Finish.{HasDone, IsAtWork, IsSessionMore, MaySend, Sent, sent_with}
+use Rattle.hlr_workers.specs.Relay.{AreWithin, IsStarted, IsWellSent, job_pair, jobs_in, jobs_of, lent_of, log}
 use Rattle.hlr_workers.specs.Session.{IsSession}
 use Rattle.hlr_workers.specs.declared.message.Log.{Log}
 use Rattle.hlr_workers.specs.declared.message.Message.{Message}
 use Rattle.hlr_workers.specs.declared.message.Message.TheVariants.{Do, Stop}
+use Rattle.hlr_workers.specs.declared.message.Numbered.{Numbered}
 use Rattle.hlr_workers.specs.declared.work.TheConstants.{MOST_PENDING}
 use Rattle.hlr_workers.proofs.SessionLemmas.{session_length, session_more, session_same, within_later}
-use Rattle.hlr_workers.proofs.ShapeLemmas.{jobs_job, jobs_stop, lent_more, shape_within, started_ends, started_job, started_shape, started_stop}
+use Rattle.hlr_workers.proofs.ShapeLemmas.{jobs_do, jobs_stop, lent_more, shape_within, started_do, started_shape, started_stop}
 
--- a job came to a worker at work
-module _ (v : Log) (answers : List (ℕ × Reply)) (holding : HoldingState) (number : ℕ) (job : Job) (at : IsAtWork v answers holding) (well : IsWellSent (v.got ++ Do number job ∷ [])) where
-  -- there is room for its reply
-  pub room : length answers < MOST_PENDING
+-- jobs that a holding may be asked for it may be asked for later
+all_later : (a b : HoldingState) → IsSameOwner a b → (jobs : List (ℕ × Job)) → AreWithin a jobs → AreWithin b jobs
+all_later a b same [] within = tt
+all_later a b same (job ∷ jobs) within = (within_later a b job.1 same within.0, all_later a b same jobs within.1)
+
+-- and so one of them
+pub one_within : (a : HoldingState) (items : List Numbered) (i : ℕ) (one : Numbered) → AreWithin a (map job_pair items) → i < length items → one ≡ get_or items i one → IsWithinJob a one.job
+one_within a [] i one within low is = absurd (omega arith)
+one_within a (own ∷ items) zero one within low is = rw is within.0
+one_within a (own ∷ items) (suc i) one within low is = one_within a items i one within.1 (omega arith) is
+
+-- one job more of a message
+pub more_next : (items : List Numbered) (i : ℕ) (one : Numbered) (answers answers' answers'' : List (ℕ × Reply)) (reply : Reply) (a b c : HoldingState) → i < length items → one ≡ get_or items i one
+    → IsSessionMore (map job_pair (take i items)) answers a answers' b → IsJobDone one.job b reply c → answers'' ≡ answers' ++ (one.number, reply) ∷ []
+    → IsSessionMore (map job_pair (take (i + 1) items)) answers a answers'' c
+more_next items i one answers answers' answers'' reply a b c low is so_far done grew = λ lent jobs session.
+    let front = map job_pair (take i items) in
+    let list : map job_pair (take (i + 1) items) ≡ front ++ job_pair one ∷ [] = ap (λ (l : List Numbered). map job_pair l) (take_more items i one low) ∙ rw (← is) (map-append job_pair (take i items) (one ∷ [])) in
+    rw (grew, list, ← append_assoc jobs front (job_pair one ∷ []))
+    (session_more lent (jobs ++ front) answers' b (job_pair one) (one.number, reply) c (so_far lent jobs session) refl done)
+
+pub more_none : (answers : List (ℕ × Reply)) (a : HoldingState) → IsSessionMore [] answers a answers a
+more_none answers a = λ lent jobs session. rw (append-nil jobs) session
+
+-- jobs came to a worker at work
+module _ (got : List Message) (answers : List (ℕ × Reply)) (holding : HoldingState) (batch : ArrayVec Numbered) (at : HasDone got answers holding) (well : IsWellSent (got ++ Do batch ∷ [])) where
+  -- there is room for their replies
+  pub room : length answers + length batch.items ≤ MOST_PENDING
   room =
-      let same = session_length (lent_of v.got) (jobs_of v.got) answers holding at.2 in
-      let more = ap length (jobs_job v.got number job) in
-      let long = length-append (jobs_of v.got) ((number, job) ∷ []) in
+      let same = session_length (lent_of got) (jobs_of got) answers holding at.1 in
+      let more = ap length (jobs_do got batch) in
+      let long = length-append (jobs_of got) (jobs_in batch) in
+      let own = length-map batch.items job_pair in
       let few = well.1 in
       omega arith
 
-  -- and the holding as it is now may be asked for it
-  pub within : IsWithinJob holding job
-  within = within_later (lent_of v.got) holding job (session_same (lent_of v.got) (jobs_of v.got) answers holding at.2) (shape_within v.got number job at.1 well.0)
+  -- and the holding as it is now may be asked for them
+  pub within : AreWithin holding (jobs_in batch)
+  within = all_later (lent_of got) holding (session_same (lent_of got) (jobs_of got) answers holding at.1) (jobs_in batch) (shape_within got batch at.0 well.0)
 
-  -- once it is done
-  pub one_more : (w : Log) (answer : Reply) (after : HoldingState) → w ≡ log false true [] (v.got ++ Do number job ∷ []) → IsJobDone job holding answer after
-      → IsAtWork w (answers ++ (number, answer) ∷ []) after
-  one_more w answer after is done =
-      let now : IsAtWork (log false true [] (v.got ++ Do number job ∷ [])) (answers ++ (number, answer) ∷ []) after = (
-        refl,
-        started_job v.got number job (shape_within v.got number job at.1 well.0) at.1,
-        rw (lent_more v.got (Do number job) at.1, jobs_job v.got number job) (session_more (lent_of v.got) (jobs_of v.got) answers holding (number, job) (number, answer) after at.2 refl done),
-      ) in
-      subst (λ (u : Log). IsAtWork u (answers ++ (number, answer) ∷ []) after) (sym is) now
+  -- once they are done
+  pub batch_done : (answers' : List (ℕ × Reply)) (after : HoldingState) → IsSessionMore (jobs_in batch) answers holding answers' after → HasDone (got ++ Do batch ∷ []) answers' after
+  batch_done answers' after more = (
+    started_do got batch (shape_within got batch at.0 well.0) at.0,
+    rw (lent_more got (Do batch) at.0, jobs_do got batch) (more (lent_of got) (jobs_of got) at.1),
+  )
 
--- the end came
-pub stops : (v w : Log) (answers : List (ℕ × Reply)) (holding : HoldingState) → IsAtWork v answers holding → w ≡ log false true [] (v.got ++ Stop ∷ []) → IsWorked w answers holding
-stops v w answers holding at is = (v.got, is, at.1, at.2)
+-- and that it is to end
+pub stop_done : (got : List Message) (answers : List (ℕ × Reply)) (holding : HoldingState) → HasDone got answers holding → HasDone (got ++ Stop ∷ []) answers holding
+stop_done got answers holding at = (started_stop got at.0, rw (lent_more got Stop at.0, jobs_stop got) at.1)
 
--- a job may be sent, and the end
-pub sends_job : (sent : List Message) (number : ℕ) (job : Job) → IsWithinJob (lent_of sent) job → IsStarted sent → length (jobs_of sent) < MOST_PENDING → IsWellSent (sent ++ Do number job ∷ [])
-sends_job sent number job may is few =
-    let more = ap length (jobs_job sent number job) in
-    let long = length-append (jobs_of sent) ((number, job) ∷ []) in
-    (started_shape (sent ++ Do number job ∷ []) (started_job sent number job may is), omega arith)
+-- what a pass knows that is at work
+pub at_work : (w : Log) (got : List Message) (answers : List (ℕ × Reply)) (holding : HoldingState) → w ≡ log false true [] got → HasDone got answers holding → IsAtWork w answers holding
+at_work w got answers holding is done = rw is (refl, done)
 
-pub sends_stop : (sent : List Message) → IsStarted sent → length (jobs_of sent) ≤ MOST_PENDING → IsWellSent (sent ++ Stop ∷ [])
-sends_stop sent is few = (started_stop sent is, rw (jobs_stop sent) few)
+-- nothing waits
+pub none_left : {A : Type 0} (items : List A) → length items ≡ 0 → items ≡ []
+none_left [] none = refl
+none_left (x ∷ items) none = absurd (omega arith)
 
--- what a worker did is what was sent to it
-pub all_done : (sent front waiting got : List Message) (answers : List (ℕ × Reply)) (holding : HoldingState) → IsStarted sent → IsStarted front → got ≡ front ++ Stop ∷ []
-    → sent ++ Stop ∷ [] ≡ got ++ waiting → IsSession (lent_of front) (jobs_of front) answers holding → IsSession (lent_of sent) (jobs_of sent) answers holding
-all_done sent front waiting got answers holding is fronts ends total session =
-    let same : sent ++ Stop ∷ [] ≡ front ++ Stop ∷ waiting = total ∙ (ap (λ (l : List Message). l ++ waiting) ends ∙ append_assoc front (Stop ∷ []) waiting) in
-    subst (λ (messages : List Message). IsSession (lent_of messages) (jobs_of messages) answers holding) (sym (started_ends sent front waiting is fronts same)) session
+pub all_done : (sent got items : List Message) (answers : List (ℕ × Reply)) (holding : HoldingState) → sent ≡ got ++ items → length items ≡ 0 → HasDone got answers holding → HasDone sent answers holding
+all_done sent got items answers holding total none done =
+    let same : sent ≡ got = total ∙ (ap (λ (l : List Message). got ++ l) (none_left items none) ∙ append-nil got) in
+    rw same done
+
+-- what is held may be sent
+module _ (v : Log) (held : ArrayVec Numbered) (may : MaySend v held) where
+  pub sends_do : IsWellSent (v.sent ++ Do held ∷ [])
+  sends_do = (started_shape (v.sent ++ Do held ∷ []) (started_do v.sent held may.within may.started), rw (jobs_do v.sent held) may.room)
+
+  -- once it is, nothing is held
+  module _ (w : Log) (is : w ≡ log true false (v.sent ++ Do held ∷ []) []) (rest : ArrayVec Numbered) (none : rest.items ≡ []) where
+    sent : w.sent ≡ v.sent ++ Do held ∷ []
+    sent = ap (λ (l : Log). l.sent) is
+
+    nothing_held : jobs_in rest ≡ []
+    nothing_held = ap (λ (items : List Numbered). map job_pair items) none
+
+    all_sent : jobs_of w.sent ++ jobs_in rest ≡ jobs_of v.sent ++ jobs_in held
+    all_sent = ap (λ (l : List (ℕ × Job)). jobs_of w.sent ++ l) nothing_held ∙ (append-nil (jobs_of w.sent) ∙ (ap jobs_of sent ∙ jobs_do v.sent held))
+
+    pub do_may : MaySend w rest
+    do_may = record {
+      log = is ∙ ap (λ (l : List Message). log true false l []) (sym sent);
+      started = rw sent (started_do v.sent held may.within may.started);
+      within = rw nothing_held tt;
+      room = rw all_sent may.room;
+    }
+
+    pub do_same : sent_with w rest ≡ sent_with v held
+    do_same =
+        let lent : lent_of w.sent ≡ lent_of v.sent = ap lent_of sent ∙ lent_more v.sent (Do held) may.started in
+        rw (lent, all_sent) refl
+
+  -- that a thread is to end
+  pub sends_stop : IsWellSent (v.sent ++ Stop ∷ [])
+  sends_stop =
+      let all = length-append (jobs_of v.sent) (jobs_in held) in
+      let room = may.room in
+      (started_shape (v.sent ++ Stop ∷ []) (started_stop v.sent may.started), rw (jobs_stop v.sent) (omega (arith, all, room)))
+
+  module _ (w : Log) (is : w ≡ log true false (v.sent ++ Stop ∷ []) []) where
+    stopped : w.sent ≡ v.sent ++ Stop ∷ []
+    stopped = ap (λ (l : Log). l.sent) is
+
+    lent_still : lent_of w.sent ≡ lent_of v.sent
+    lent_still = ap lent_of stopped ∙ lent_more v.sent Stop may.started
+
+    jobs_still : jobs_of w.sent ≡ jobs_of v.sent
+    jobs_still = ap jobs_of stopped ∙ jobs_stop v.sent
+
+    pub stop_may : MaySend w held
+    stop_may = record {
+      log = is ∙ ap (λ (l : List Message). log true false l []) (sym stopped);
+      started = rw stopped (started_stop v.sent may.started);
+      within = rw lent_still may.within;
+      room = rw jobs_still may.room;
+    }
+
+    pub stop_same : sent_with w held ≡ sent_with v held
+    stop_same = rw (lent_still, jobs_still) refl
+
+  -- one job more is held
+  module _ (number : ℕ) (job : Job) (held' : ArrayVec Numbered) (grew : held'.items ≡ held.items ++ record { number = number; job = job } ∷ []) where
+    more_in : jobs_in held' ≡ jobs_in held ++ (number, job) ∷ []
+    more_in = ap (λ (items : List Numbered). map job_pair items) grew ∙ map-append job_pair held.items (record { number = number; job = job } ∷ [])
+
+    more_jobs : jobs_of v.sent ++ jobs_in held' ≡ (jobs_of v.sent ++ jobs_in held) ++ (number, job) ∷ []
+    more_jobs = ap (λ (l : List (ℕ × Job)). jobs_of v.sent ++ l) more_in ∙ sym (append_assoc (jobs_of v.sent) (jobs_in held) ((number, job) ∷ []))
+
+    pub held_may : IsWithinJob (lent_of v.sent) job → length (jobs_of v.sent ++ jobs_in held) < MOST_PENDING → MaySend v held'
+    held_may within few = record {
+      log = may.log;
+      started = may.started;
+      within = rw more_in (all_more (lent_of v.sent) (jobs_in held) may.within within);
+      room = rw more_jobs (let long = length-append (jobs_of v.sent ++ jobs_in held) ((number, job) ∷ []) in omega (arith, long, few));
+    }
+      where
+        all_more : (a : HoldingState) (jobs : List (ℕ × Job)) → AreWithin a jobs → IsWithinJob a job → AreWithin a (jobs ++ (number, job) ∷ [])
+        all_more a [] are one = (one, tt)
+        all_more a (own ∷ jobs) are one = (are.0, all_more a jobs are.1 one)
+
+    pub held_more : sent_with v held' ≡ record { lent = lent_of v.sent; jobs = (jobs_of v.sent ++ jobs_in held) ++ (number, job) ∷ [] }
+    held_more = rw more_jobs refl
+
+-- what is held may be done by a holding that has done all that was sent
+pub held_within : (v : Log) (held : ArrayVec Numbered) → MaySend v held → (answers : List (ℕ × Reply)) (holding : HoldingState) → HasDone v.sent answers holding → AreWithin holding (jobs_in held)
+held_within v held may answers holding done =
+    all_later (lent_of v.sent) holding (session_same (lent_of v.sent) (jobs_of v.sent) answers holding done.1) (jobs_in held) may.within
+
+pub held_room : (v : Log) (held : ArrayVec Numbered) → MaySend v held → (answers : List (ℕ × Reply)) (holding : HoldingState) → HasDone v.sent answers holding → length answers + length held.items ≤ MOST_PENDING
+held_room v held may answers holding done =
+    let same = session_length (lent_of v.sent) (jobs_of v.sent) answers holding done.1 in
+    let long = length-append (jobs_of v.sent) (jobs_in held) in
+    let own = length-map held.items job_pair in
+    let few = may.room in
+    omega arith

@@ -10,6 +10,7 @@ use Rattle.hlr_owners.specs.Seats.{Seating, IsLent}
 use Rattle.hlr_owners.specs.declared.lodging.Seat.TheVariants.{Part}
 use Rattle.hlr_core.specs.declared.event.Reply.{Reply}
 use Rattle.hlr_core.specs.declared.event.Reply.TheVariants.{Divided, Dissolved}
+use Rattle.hlr_core.specs.declared.route.Parts.{Parts}
 use Rattle.hlr_workers.specs.Finish.{Sent}
 use Rattle.hlr_workers.specs.Kept.{Crewed}
 use Rattle.hlr_workers.specs.Session.{AreNumberless, IsSession}
@@ -56,9 +57,9 @@ IsHomeAgain part before (Some answers) after =
       jobs = slice_set before.jobs part [];
     })
 
--- nobody from a part on is out
-abbrev pub NoneOutFrom : ℕ → Crewed → Type 0
-NoneOutFrom first crew = (q : ℕ) → first ≤ q → slice_index_or (outs_in crew.house.seats) q None ≡ None
+-- none of these parts is out
+abbrev pub NoneOutOf : Parts → Crewed → Type 0
+NoneOutOf parts crew = (q : ℕ) → parts.first ≤ q → q < parts.end → slice_index_or (outs_in crew.house.seats) q None ≡ None
 
 -- what a reply tells of parts that came or went: a new part has this number, or the part that had it is gone
 pub data Parting : Type 0 where

@@ -1,8 +1,10 @@
--- What goes through a worker's queue: the holding as it is lent, jobs of it, and the end. One pass at most may push,
+-- What goes through a worker's queue: the holding as it is lent, jobs of it, and that its thread is to end. One pass at most may push,
 -- and knows what was sent; one at most may pop, and knows what was received; the rest waits in the queue.
-use Rattle.std.specs.Prelude.{◌≡◌, ℕ, ◌≤◌, Bool, true, List, [], ◌∷◌, ◌++◌, length, ⊤}
+use Rattle.std.specs.Prelude.{◌≡◌, ℕ, ◌≤◌, Bool, true, List, [], ◌∷◌, ◌++◌, length, map, ⊤}
+use Rattle.std.specs.List.{AllByRecursion}
 use mathlib.Core.Option.{some}
 use lib.ListN.{get_elem?}
+use Rattle.arrayvec.specs.ArrayVec.{ArrayVec}
 use Rattle.tatp_actions.specs.Book.{empty_book}
 use Rattle.tatp_actions.specs.Heights.{zero_heights}
 use Rattle.view_board.specs.Views.{nobody}
@@ -12,6 +14,7 @@ use Rattle.hlr_core.specs.Session.{IsWithinJob}
 use Rattle.hlr_workers.specs.declared.message.Log.{Log}
 use Rattle.hlr_workers.specs.declared.message.Message.{Message}
 use Rattle.hlr_workers.specs.declared.message.Message.TheVariants.{Begin, Do, Stop}
+use Rattle.hlr_workers.specs.declared.message.Numbered.{Numbered}
 use Rattle.hlr_workers.specs.declared.work.TheConstants.{MOST_PENDING}
 
 -- what a pass knows: whether it may push and pop, what was sent, and what was received
@@ -27,46 +30,49 @@ nothing = record {
   slot = 0;
 }
 
+-- a job with its number
+abbrev pub job_pair : Numbered → ℕ × Job
+job_pair one = (one.number, one.job)
+
+-- the jobs of a message
+abbrev pub jobs_in : ArrayVec Numbered → List (ℕ × Job)
+jobs_in batch = map job_pair batch.items
+
+-- jobs that a holding may be asked for
+abbrev pub AreWithin : HoldingState → List (ℕ × Job) → Type 0
+AreWithin holding jobs = AllByRecursion (λ (job : ℕ × Job). IsWithinJob holding job.1) jobs
+
 -- jobs of a holding
 abbrev pub AreJobs : HoldingState → List Message → Type 0
 AreJobs holding [] = ⊤
 AreJobs holding (Begin lent ∷ messages) = ⊥
-AreJobs holding (Do number job ∷ messages) = IsWithinJob holding job × AreJobs holding messages
-AreJobs holding (Stop ∷ messages) = ⊥
-
--- and then perhaps the end
-abbrev pub AreJobsToTheEnd : HoldingState → List Message → Type 0
-AreJobsToTheEnd holding [] = ⊤
-AreJobsToTheEnd holding (Begin lent ∷ messages) = ⊥
-AreJobsToTheEnd holding (Do number job ∷ messages) = IsWithinJob holding job × AreJobsToTheEnd holding messages
-AreJobsToTheEnd holding (Stop ∷ messages) = messages ≡ []
+AreJobs holding (Do batch ∷ messages) = AreWithin holding (jobs_in batch) × AreJobs holding messages
+AreJobs holding (Stop ∷ messages) = AreJobs holding messages
 
 -- a holding, and then jobs of it
 abbrev pub IsStarted : List Message → Type 0
 IsStarted [] = ⊥
 IsStarted (Begin lent ∷ messages) = AreJobs lent.holding.value messages
-IsStarted (Do number job ∷ messages) = ⊥
+IsStarted (Do batch ∷ messages) = ⊥
 IsStarted (Stop ∷ messages) = ⊥
 
--- what may be sent so far: a holding, jobs of it, and then perhaps the end
+-- what may be sent so far: nothing, or a holding and jobs of it
 abbrev pub IsInShape : List Message → Type 0
 IsInShape [] = ⊤
-IsInShape (Begin lent ∷ messages) = AreJobsToTheEnd lent.holding.value messages
-IsInShape (Do number job ∷ messages) = ⊥
-IsInShape (Stop ∷ messages) = ⊥
+IsInShape (message ∷ messages) = IsStarted (message ∷ messages)
 
 -- the holding that was lent
 abbrev pub lent_of : List Message → HoldingState
 lent_of [] = nothing
 lent_of (Begin lent ∷ messages) = lent.holding.value
-lent_of (Do number job ∷ messages) = nothing
+lent_of (Do batch ∷ messages) = nothing
 lent_of (Stop ∷ messages) = nothing
 
 -- the jobs, each with its number
 abbrev pub jobs_of : List Message → List (ℕ × Job)
 jobs_of [] = []
 jobs_of (Begin lent ∷ messages) = jobs_of messages
-jobs_of (Do number job ∷ messages) = (number, job) ∷ jobs_of messages
+jobs_of (Do batch ∷ messages) = jobs_in batch ++ jobs_of messages
 jobs_of (Stop ∷ messages) = jobs_of messages
 
 -- that, with no more jobs than there is room for replies

@@ -16,10 +16,13 @@ ghost use Rattle.hlr_workers.specs.Standing.{changes_parts};
 ghost use Rattle.hlr_workers.specs.declared.work.TheConstants.{MOST_PENDING};
 
 use crate::gate::Gate;
+use crate::message::MOST_JOBS;
 use crate::worker::{Idle, Worker};
 use arrayvec::ArrayVec;
-use hlr_core::{Event, Register, Reply};
+use crossbeam_utils::Backoff;
+use hlr_core::{Event, Parts, Register, Reply};
 use holding::Job;
+use part_table::CutMove;
 use std::alloc::Global;
 use std::marker::Model;
 use std::sync::{Arc, Wait};
@@ -96,6 +99,101 @@ fn part_workers(workers: &mut ArrayVec<Option<Worker>, 16>, reply: &Reply)
             workers.remove(usize::from(part) + 1);
         }
         _ => {}
+    }
+}
+
+/// Pushes what the worker of a part holds, where there is a place in its queue.
+fn offer_at(workers: &mut ArrayVec<Option<Worker>, 16>, part: usize)
+    requires { part < length workers.old.items }
+    ensures { workers.new.items ≡ workers.old.items }
+{
+    match &mut workers.as_mut_slice()[part] {
+        Some(worker) => worker.offer(),
+        None => {}
+    }
+}
+
+/// Pushes what the worker of a part holds, once there is a place in its queue. It may wait.
+fn hand_on_at<R: Wait>(rt: &R, workers: &mut ArrayVec<Option<Worker>, 16>, part: usize)
+    requires { part < length workers.old.items }
+    ensures { workers.new.items ≡ workers.old.items }
+{
+    match &mut workers.as_mut_slice()[part] {
+        Some(worker) => worker.hand_on(rt),
+        None => {}
+    }
+}
+
+/// Tells the worker of a part to stop, if it has one. It may wait.
+fn stop_at<R: Wait>(rt: &R, workers: &mut ArrayVec<Option<Worker>, 16>, part: usize)
+    requires { part < length workers.old.items }
+    ensures { workers.new.items ≡ workers.old.items }
+{
+    match &mut workers.as_mut_slice()[part] {
+        Some(worker) => worker.stop(rt),
+        None => {}
+    }
+}
+
+/// Pushes what each worker holds, where there is a place in its queue.
+fn offer_all(workers: &mut ArrayVec<Option<Worker>, 16>)
+    ensures { workers.new.items ≡ workers.old.items }
+{
+    for part in 0..workers.len() {
+        offer_at(workers, part);
+    }
+}
+
+/// Tells how many jobs the worker of a part holds.
+fn count_held(workers: &ArrayVec<Option<Worker>, 16>, part: usize) -> usize
+    requires { part < length workers.now.items }
+{
+    match &workers.as_slice()[part] {
+        Some(worker) => worker.count_held(),
+        None => 0,
+    }
+}
+
+/// Tells whether another worker than that of a part holds jobs.
+fn do_others_hold(workers: &ArrayVec<Option<Worker>, 16>, part: usize) -> bool {
+    for other in 0..workers.len() {
+        if other != part && count_held(workers, other) > 0 {
+            return true;
+        }
+    }
+    false
+}
+
+/// Pushes what all workers hold, where there is a place, until that of a part holds so many jobs at most, or no other one
+/// holds any: so nobody lacks a job that another part's gate may wait for, while the caller waits for a place. It may
+/// wait.
+fn offer_until<R: Wait>(
+    rt: &R,
+    workers: &mut ArrayVec<Option<Worker>, 16>,
+    part: usize,
+    most: usize,
+)
+    requires { part < length workers.old.items }
+    ensures { workers.new.items ≡ workers.old.items }
+{
+    let backoff = Backoff::new();
+    for _ in rt.forever() {
+        if count_held(workers, part) <= most || !do_others_hold(workers, part) {
+            return;
+        }
+        offer_all(workers);
+        backoff.snooze();
+    }
+    unreachable!()
+}
+
+/// Pushes what each worker holds, once there is a place in its queue. It may wait.
+fn hand_on_all<R: Wait>(rt: &R, workers: &mut ArrayVec<Option<Worker>, 16>)
+    ensures { workers.new.items ≡ workers.old.items }
+{
+    for part in 0..workers.len() {
+        offer_until(rt, workers, part, 0);
+        hand_on_at(rt, workers, part);
     }
 }
 
@@ -193,14 +291,60 @@ impl Crew {
         }
         // For the prover: each region has its owner beside it.
         let _board = self.register.board();
+        offer_until(rt, &mut self.workers, usize::from(part), MOST_JOBS - 1);
         send_to(rt, &mut self.workers, part, number, job);
         Ok(())
     }
 
-    /// Brings the holding of a part home, if there is such a part and it is out, with what it answered to its jobs.
-    pub(crate) fn bring_home<R: Threads + Wait>(
+    /// Pushes the jobs that are held, where there is a place in their worker's queue.
+    pub(crate) fn offer(&mut self)
+        ensures { self.new ≡ self.old }
+    {
+        offer_all(&mut self.workers);
+    }
+
+    /// Pushes all jobs that are held: first where there is a place, and then wherever there is one in time. It may wait.
+    pub(crate) fn hand_on<R: Wait>(&mut self, rt: &R)
+        ensures { self.new ≡ self.old }
+    {
+        offer_all(&mut self.workers);
+        hand_on_all(rt, &mut self.workers);
+    }
+
+    /// Tells the worker of a part to stop, if there is such a part, and it is out. It may wait.
+    pub(crate) fn stop<R: Wait>(&mut self, rt: &R, part: u8)
+        ensures { self.new ≡ self.old }
+    {
+        if usize::from(part) < self.workers.len() {
+            stop_at(rt, &mut self.workers, usize::from(part));
+        }
+    }
+
+    /// Tells the workers of parts to stop. It may wait.
+    pub(crate) fn stop_parts<R: Wait>(&mut self, rt: &R, parts: Parts)
+        ensures { self.new ≡ self.old }
+    {
+        for part in parts.first..parts.end {
+            self.stop(rt, part);
+        }
+    }
+
+    /// Tells the workers on both sides of each bound that a re-cut moves to stop. It may wait.
+    pub(crate) fn stop_sides<R: Wait>(&mut self, rt: &R, moves: &[CutMove])
+        ensures { self.new ≡ self.old }
+    {
+        for bound_move in moves {
+            self.stop(rt, bound_move.bound.saturating_sub(1));
+            self.stop(rt, bound_move.bound);
+        }
+    }
+
+    /// Brings the holding of a part home, if there is such a part and it is out, with what it answered to its jobs. Its
+    /// worker was told to stop. It may wait.
+    pub(crate) fn bring_home<G: Gate, R: Threads + Wait>(
         &mut self,
         rt: &R,
+        gate: &Arc<G>,
         part: u8,
     ) -> Option<Vec<(u64, Reply)>>
         ensures { IsHomeAgain part self.old (option_map (λ answers. answers.items) result) self.new }
@@ -208,7 +352,7 @@ impl Crew {
         // For the prover: each region has its owner beside it.
         let _board = self.register.board();
         let worker = take_worker(&mut self.workers, part)?;
-        let (holding, answers) = worker.stop_and_join(rt);
+        let (holding, answers) = worker.join(rt, &**gate, part);
         self.register.back(holding);
         Some(answers)
     }

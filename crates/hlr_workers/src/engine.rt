@@ -1,16 +1,15 @@
 //! The engine: a register whose parts have workers in threads of their own.
-ghost use Rattle.std.specs.Prelude.{◌≡◌, ◌<◌, ◌≤◌, ◌⊎◌, ◌+◌, ◌++◌, [], ◌∷◌, length, true, false, Some, None, IfOk, IfSome, OnOk, OnErr, slice_set, vec_capacity};
+ghost use Rattle.std.specs.Prelude.{◌≡◌, ◌<◌, ◌≤◌, ◌⊎◌, ◌+◌, ◌++◌, [], ◌∷◌, length, true, false, None, IfOk, OnOk, OnErr, slice_set, vec_capacity};
 ghost use Rattle.std.specs.List.{AllByRecursion};
 ghost use Rattle.view_board.specs.Desks.{with_view};
 ghost use Rattle.view_board.specs.Views.{looked};
 ghost use Rattle.hlr_owners.specs.Out.{outs_in};
 ghost use Rattle.hlr_owners.specs.Recut.{IsHomeToCut};
-ghost use Rattle.hlr_owners.specs.Seats.{AllHome, AreSeated, IsHomeFor, IsPartHome, Seating, store_in};
+ghost use Rattle.hlr_owners.specs.Seats.{AllHome, store_in};
 ghost use Rattle.hlr_owners.specs.Sight.{IsSightOf};
 ghost use Rattle.hlr_core.specs.Home.{IsHomeTo, IsLaterDesk};
-ghost use Rattle.tatp_rows.specs.declared.ranges.TheConstants.{LAST_SUBSCRIBER};
 ghost use Rattle.hlr_core.specs.Route.{is_here};
-ghost use Rattle.hlr_workers.specs.Inside.{NoneOutFrom, land};
+ghost use Rattle.hlr_workers.specs.Inside.{NoneOutOf, land};
 ghost use Rattle.hlr_workers.specs.Kept.{IsKept, NoneOut, engaged};
 ghost use Rattle.hlr_workers.specs.Standing.{AreNumbered, Cut, IsAsBefore, IsSettled, Stands, Took, TookNext, WantsWorker, changes_parts};
 ghost use Rattle.hlr_workers.specs.declared.work.TheConstants.{MOST_PENDING};
@@ -18,15 +17,14 @@ ghost use Rattle.hlr_workers.specs.declared.work.TheConstants.{MOST_PENDING};
 use crate::crew::Crew;
 use crate::gate::Gate;
 use crate::work::MOST_PENDING;
-use hlr_core::{Event, Register, Reply, Route};
-use part_table::{MOST_PARTS, Place};
+use hlr_core::{Event, Parts, Register, Reply, Route};
 use std::alloc::Global;
 use std::marker::Model;
 use std::mem;
 use std::sync::{Arc, Wait};
 use std::thread::Threads;
 use tatp_actions::RowReply;
-use tatp_rows::{LAST_SUBSCRIBER, Refusal, in_range};
+use tatp_rows::Refusal;
 use view_board::Sight;
 
 /// A register that takes events while workers, a thread for each part that has jobs, do what its parts can do alone.
@@ -88,9 +86,15 @@ fn land(replies: &mut Vec<(u64, Reply)>, answers: Vec<(u64, Reply)>)
     }
 }
 
-/// Brings a part home, if it is out, and puts the replies to its jobs in their places.
-fn bring_home<R: Threads + Wait>(rt: &R, crew: &mut Crew, replies: &mut Vec<(u64, Reply)>, part: u8)
-    requires { IsKept crew.old replies.old.items }
+/// Brings a part home, if it is out, whose worker was told to stop, and puts the replies to its jobs in their places.
+fn join<G: Gate, R: Threads + Wait>(
+    rt: &R,
+    crew: &mut Crew,
+    replies: &mut Vec<(u64, Reply)>,
+    gate: &Arc<G>,
+    part: u8,
+)
+    requires kept { IsKept crew.old replies.old.items }
     ensures kept { IsKept crew.new replies.new.items }
     ensures stands { IsAsBefore (engaged crew.old replies.old.items) (engaged crew.new replies.new.items) }
     ensures home { outs_in crew.new.house.seats ≡ slice_set (outs_in crew.old.house.seats) part None }
@@ -100,36 +104,60 @@ fn bring_home<R: Threads + Wait>(rt: &R, crew: &mut Crew, replies: &mut Vec<(u64
 {
     // For the prover: each region has its owner beside it.
     let _register = crew.register();
-    if let Some(answers) = crew.bring_home(rt, part) {
+    if let Some(answers) = crew.bring_home(rt, gate, part) {
         land(replies, answers);
     }
 }
 
-/// Brings all parts from one on home.
-fn bring_home_from<R: Threads + Wait>(
+/// Brings parts home, whose workers were told to stop.
+fn join_parts<G: Gate, R: Threads + Wait>(
     rt: &R,
     crew: &mut Crew,
     replies: &mut Vec<(u64, Reply)>,
-    first: u64,
+    gate: &Arc<G>,
+    parts: Parts,
 )
-    requires { IsKept crew.old replies.old.items }
+    requires kept { IsKept crew.old replies.old.items }
     ensures kept { IsKept crew.new replies.new.items }
     ensures stands { IsAsBefore (engaged crew.old replies.old.items) (engaged crew.new replies.new.items) }
-    ensures home { NoneOutFrom first crew.new }
+    ensures home { NoneOutOf parts crew.new }
     ensures places { length replies.new.items ≡ length replies.old.items }
     ensures capacity { vec_capacity replies.new ≡ vec_capacity replies.old }
     ensures house { crew.new.house ≡ record crew.old.house { seats = crew.new.house.seats } }
 {
-    // For the prover: each region has its owner beside it.
-    let _register = crew.register();
-    let parts = u64::from(crew.register().regions().parts());
-    for part in first..parts {
-        bring_home(rt, crew, replies, part as u8);
+    for part in parts.first..parts.end {
+        join(rt, crew, replies, gate, part);
     }
 }
 
+/// Brings parts home: all their workers are told to stop before the first is waited for.
+fn bring_parts_home<G: Gate, R: Threads + Wait>(
+    rt: &R,
+    crew: &mut Crew,
+    replies: &mut Vec<(u64, Reply)>,
+    gate: &Arc<G>,
+    parts: Parts,
+)
+    requires kept { IsKept crew.old replies.old.items }
+    ensures kept { IsKept crew.new replies.new.items }
+    ensures stands { IsAsBefore (engaged crew.old replies.old.items) (engaged crew.new replies.new.items) }
+    ensures home { NoneOutOf parts crew.new }
+    ensures places { length replies.new.items ≡ length replies.old.items }
+    ensures capacity { vec_capacity replies.new ≡ vec_capacity replies.old }
+    ensures house { crew.new.house ≡ record crew.old.house { seats = crew.new.house.seats } }
+{
+    crew.hand_on(rt);
+    crew.stop_parts(rt, parts);
+    join_parts(rt, crew, replies, gate, parts);
+}
+
 /// Brings all parts home.
-fn bring_all_home<R: Threads + Wait>(rt: &R, crew: &mut Crew, replies: &mut Vec<(u64, Reply)>)
+fn bring_all_home<G: Gate, R: Threads + Wait>(
+    rt: &R,
+    crew: &mut Crew,
+    replies: &mut Vec<(u64, Reply)>,
+    gate: &Arc<G>,
+)
     requires { IsKept crew.old replies.old.items }
     ensures kept { IsKept crew.new replies.new.items }
     ensures stands { IsAsBefore (engaged crew.old replies.old.items) (engaged crew.new replies.new.items) }
@@ -138,67 +166,21 @@ fn bring_all_home<R: Threads + Wait>(rt: &R, crew: &mut Crew, replies: &mut Vec<
     ensures places { length replies.new.items ≡ length replies.old.items }
     ensures house { crew.new.house ≡ record crew.old.house { seats = crew.new.house.seats } }
 {
-    bring_home_from(rt, crew, replies, 0);
+    let end = crew.register().regions().parts();
+    bring_parts_home(rt, crew, replies, gate, Parts { first: 0, end });
     // For the prover: a part that isn't out has no jobs.
     let _register = crew.register();
 }
 
-/// The part with a number, if there may be one.
-fn part_numbered(part: u64) -> Option<u8>
-    ensures { (h : Seating) → AreSeated h → IfSome result (λ number. IsPartHome number h) → IsPartHome part h }
-{
-    if part >= u64::from(MOST_PARTS) {
-        return None;
-    }
-    Some(part as u8)
-}
-
-/// The part that has a subscriber, unless a loose piece has them.
-fn owner_of(register: &Register, s_id: u32) -> Option<u8>
-    requires from { 1 ≤ s_id }
-    requires to { s_id ≤ LAST_SUBSCRIBER }
-    ensures { (h : Seating) → h.regions ≡ register.now.regions → IfSome result (λ part. IsPartHome part h) → IsHomeFor s_id h }
-{
-    match register.regions().place(s_id) {
-        Place::Part(part) => Some(part),
-        Place::Piece(_) => None,
-    }
-}
-
-/// The same for a number that may be nobody's s_id.
-fn owner_if_any(register: &Register, s_id: u64) -> Option<u8>
-    ensures { (h : Seating) → AreSeated h → h.regions ≡ register.now.regions → IfSome result (λ part. IsPartHome part h) → IsHomeFor s_id h }
-{
-    let Ok(s_id) = in_range(s_id, LAST_SUBSCRIBER) else {
-        return None;
-    };
-    owner_of(register, s_id)
-}
-
-/// The part that works on an event that gives a number or moves regions, if one does.
-fn part_of(register: &Register, event: &Event) -> Option<u8>
-    requires here { is_here event.now ≡ true }
-    requires one { changes_parts event.now ≡ false }
-    ensures { (h : Seating) → AreSeated h → h.regions ≡ register.now.regions → IfSome result (λ part. IsPartHome part h) → IsHomeTo event.now h }
-{
-    match *event {
-        Event::AddSubscriber(row) => owner_of(register, row.s_id()),
-        Event::SetNumber { s_id, .. } => owner_if_any(register, s_id),
-        Event::Give { part, .. } => part_numbered(part),
-        Event::Take { part, .. } => part_numbered(part),
-        _ => unreachable!(),
-    }
-}
-
-/// Brings the part home that works on an event which gives a number or moves regions.
-fn bring_one_home<R: Threads + Wait>(
+/// Brings the parts home on which an event works that the register does itself.
+fn bring_workers_home<G: Gate, R: Threads + Wait>(
     rt: &R,
     crew: &mut Crew,
     replies: &mut Vec<(u64, Reply)>,
+    gate: &Arc<G>,
     event: &Event,
 )
     requires here { is_here event.now ≡ true }
-    requires one { changes_parts event.now ≡ false }
     requires kept { IsKept crew.old replies.old.items }
     ensures kept { IsKept crew.new replies.new.items }
     ensures stands { IsAsBefore (engaged crew.old replies.old.items) (engaged crew.new replies.new.items) }
@@ -207,44 +189,19 @@ fn bring_one_home<R: Threads + Wait>(
     ensures capacity { vec_capacity replies.new ≡ vec_capacity replies.old }
     ensures house { crew.new.house ≡ record crew.old.house { seats = crew.new.house.seats } }
 {
-    let Some(part) = part_of(crew.register(), event) else {
-        return;
-    };
-    bring_home(rt, crew, replies, part);
+    let parts = crew.register().parts_for(event);
+    bring_parts_home(rt, crew, replies, gate, parts);
     // For the prover: each region has its owner beside it.
     let _register = crew.register();
 }
 
-/// Brings the parts home that work on an event which the register does itself: the part that is divided, or stands in
-/// front of one that is dissolved, comes home with all behind it, whose numbers change.
-fn bring_workers_home<R: Threads + Wait>(
-    rt: &R,
-    crew: &mut Crew,
-    replies: &mut Vec<(u64, Reply)>,
-    event: &Event,
-)
-    requires here { is_here event.now ≡ true }
-    requires kept { IsKept crew.old replies.old.items }
-    ensures kept { IsKept crew.new replies.new.items }
-    ensures stands { IsAsBefore (engaged crew.old replies.old.items) (engaged crew.new replies.new.items) }
-    ensures home { IsHomeTo event.now crew.new.house }
-    ensures places { length replies.new.items ≡ length replies.old.items }
-    ensures capacity { vec_capacity replies.new ≡ vec_capacity replies.old }
-    ensures house { crew.new.house ≡ record crew.old.house { seats = crew.new.house.seats } }
-{
-    match *event {
-        Event::Divide { part, .. } => bring_home_from(rt, crew, replies, part),
-        Event::Dissolve { part } => bring_home_from(rt, crew, replies, part.saturating_sub(1)),
-        _ => bring_one_home(rt, crew, replies, event),
-    }
-}
-
 /// Has the register itself do an event, which gives a number, moves regions, or has a part come or go: the parts that
 /// work on it come home first, the others go on.
-fn answer_here<R: Threads + Wait>(
+fn answer_here<G: Gate, R: Threads + Wait>(
     rt: &R,
     crew: &mut Crew,
     replies: &mut Vec<(u64, Reply)>,
+    gate: &Arc<G>,
     event: Event,
 ) -> Reply
     requires here { is_here event ≡ true }
@@ -256,7 +213,7 @@ fn answer_here<R: Threads + Wait>(
     ensures spare { changes_parts event ≡ false → crew.new.house.spare ≡ crew.old.house.spare }
     ensures desk { IsLaterDesk crew.old.house.spare crew.new.house.spare }
 {
-    bring_workers_home(rt, crew, replies, &event);
+    bring_workers_home(rt, crew, replies, gate, &event);
     crew.apply(event)
 }
 
@@ -292,15 +249,16 @@ fn answer<G: Gate + 'static, R: Threads + Wait + Copy + Send + Sync + 'static>(
                 Err(why) => Err(why),
             }
         }
-        Route::Here => Ok(answer_here(rt, crew, replies, event)),
+        Route::Here => Ok(answer_here(rt, crew, replies, gate, event)),
     }
 }
 
-/// Brings the parts home on both sides of each bound that a re-cut moves.
-fn bring_sides_home<R: Threads + Wait>(
+/// Brings the parts home on both sides of each bound that a re-cut moves; their workers were told to stop.
+fn join_sides<G: Gate, R: Threads + Wait>(
     rt: &R,
     crew: &mut Crew,
     replies: &mut Vec<(u64, Reply)>,
+    gate: &Arc<G>,
     bounds: &[u64],
 )
     requires kept { IsKept crew.old replies.old.items }
@@ -316,9 +274,42 @@ fn bring_sides_home<R: Threads + Wait>(
         return;
     };
     for bound_move in moves.as_slice() {
-        bring_home(rt, crew, replies, bound_move.bound.saturating_sub(1));
-        bring_home(rt, crew, replies, bound_move.bound);
+        join(rt, crew, replies, gate, bound_move.bound.saturating_sub(1));
+        join(rt, crew, replies, gate, bound_move.bound);
     }
+}
+
+/// Tells the workers on both sides of each bound that a re-cut moves to stop.
+fn stop_sides<R: Wait>(rt: &R, crew: &mut Crew, bounds: &[u64])
+    ensures { crew.new ≡ crew.old }
+{
+    let Ok(moves) = crew.register().regions().moves_to(bounds) else {
+        return;
+    };
+    crew.stop_sides(rt, moves.as_slice());
+}
+
+/// Brings the parts home on both sides of each bound that a re-cut moves: all their workers are told to stop before the
+/// first is waited for.
+fn bring_sides_home<G: Gate, R: Threads + Wait>(
+    rt: &R,
+    crew: &mut Crew,
+    replies: &mut Vec<(u64, Reply)>,
+    gate: &Arc<G>,
+    bounds: &[u64],
+)
+    requires kept { IsKept crew.old replies.old.items }
+    ensures kept { IsKept crew.new replies.new.items }
+    ensures stands { IsAsBefore (engaged crew.old replies.old.items) (engaged crew.new replies.new.items) }
+    ensures home { IsHomeToCut bounds.now crew.new.house }
+    ensures still { NoneOut crew.old → NoneOut crew.new }
+    ensures places { length replies.new.items ≡ length replies.old.items }
+    ensures capacity { vec_capacity replies.new ≡ vec_capacity replies.old }
+    ensures house { crew.new.house ≡ record crew.old.house { seats = crew.new.house.seats } }
+{
+    crew.hand_on(rt);
+    stop_sides(rt, crew, bounds);
+    join_sides(rt, crew, replies, gate, bounds);
 }
 
 impl<G: Gate + 'static> Engine<G> {
@@ -359,9 +350,11 @@ impl<G: Gate + 'static> Engine<G> {
     /// Takes an event, where fewer than `MOST_PENDING` are pending: the answer is its number, counted from 0 after each
     /// settle. What is known at once is answered at once; what a part does alone goes to the part's worker, which is
     /// started for its first job; what gives a number or moves regions is done here, once the part is home that works
-    /// on it, and what has a part come or go, once all parts are home whose rows or numbers change with it. `Memory`
-    /// where a growth was refused, `Thread` where the start of a thread was: then the event isn't taken. The first
-    /// event after a settle wants memory, and one that starts a worker; no other is refused. It may wait.
+    /// on it, and what has a part come or go, once all parts are home whose rows or numbers change with it. A worker's
+    /// first job goes out at once, later ones when 16 are held, or at the next call that brings parts home or looks:
+    /// `settle`, `close`, `recut_to`, `sight`, or an event that is done here. `Memory` where a growth was refused,
+    /// `Thread` where the start of a thread was: then the event isn't taken. The first event after a settle wants
+    /// memory, and one that starts a worker; no other is refused. It may wait.
     pub fn submit<R: Threads + Wait + Copy + Send + Sync + 'static>(
         &mut self,
         rt: &R,
@@ -410,7 +403,7 @@ impl<G: Gate + 'static> Engine<G> {
         ensures stands { Stands self.new (store_in self.new.house) [] }
         ensures spare { self.new.house.spare ≡ self.old.house.spare }
     {
-        bring_all_home(rt, &mut self.crew, &mut self.replies);
+        bring_all_home(rt, &mut self.crew, &mut self.replies, &self.gate);
         mem::replace(&mut self.replies, Vec::new(self.alloc))
     }
 
@@ -421,7 +414,7 @@ impl<G: Gate + 'static> Engine<G> {
         ensures pending { length self.new.replies ≡ length self.old.replies }
         ensures spare { self.new.house.spare ≡ self.old.house.spare }
     {
-        bring_sides_home(rt, &mut self.crew, &mut self.replies, bounds);
+        bring_sides_home(rt, &mut self.crew, &mut self.replies, &self.gate, bounds);
         self.crew.recut_to(bounds)
     }
 
@@ -431,6 +424,7 @@ impl<G: Gate + 'static> Engine<G> {
         ensures stands { IsAsBefore self.old self.new }
         ensures seen { self.new ≡ record self.old { house = record self.old.house { spare = with_view self.old.house.spare (looked self.old.house.spare.view result.words) } } }
     {
+        self.crew.offer();
         self.crew.look()
     }
 

@@ -2,6 +2,7 @@
 ghost use Rattle.std.specs.Prelude.{◌≡◌};
 ghost use Rattle.std.specs.Arc.{arc_value};
 
+use arrayvec::ArrayVec;
 use holding::{Holding, Job};
 use std::collections::LinkedList;
 use std::sync::Arc;
@@ -15,11 +16,33 @@ pub struct Lent {
     pub ghost same: { holding.value.desk.board ≡ arc_value board },
 }
 
-/// A message to a worker: first the holding, then numbered jobs, at last the end.
+/// How many jobs a message has at most.
+pub const MOST_JOBS: usize = 16;
+
+/// A job under the number of its event.
+#[derive(Clone, Copy)]
+pub struct Numbered {
+    pub number: u64,
+    pub job: Job,
+}
+
+impl Default for Numbered {
+    fn default() -> Numbered {
+        Numbered {
+            number: 0,
+            job: Job::Post(0),
+        }
+    }
+}
+
+/// The jobs of a message, in their order.
+pub type Batch = ArrayVec<Numbered, MOST_JOBS>;
+
+/// A message to a worker: first the holding, then jobs; at `Stop` the thread hands back what it has.
 #[derive(Drop)]
 pub enum Message {
     Begin(Lent),
-    Do(u64, Job),
+    Do(Batch),
     Stop,
 }
 

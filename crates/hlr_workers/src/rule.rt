@@ -51,6 +51,17 @@ impl Lesson<Message, Log> for Total {
     ghost fact = { λ v items. v.sent ≡ v.got ++ items };
 }
 
+/// A message was popped, or none waits: what was sent is what was received then.
+pub struct Rest;
+
+impl Outcome<Message, Log> for Rest {
+    ghost then = { λ v x w. (w ≡ log v.pushes v.pops v.sent (v.got ++ x ∷ [])) × IsWellSent (v.got ++ x ∷ []) };
+}
+
+impl Lesson<Message, Log> for Rest {
+    ghost fact = { λ v items. v.sent ≡ v.got ++ items };
+}
+
 /// A worker's queue.
 pub type Line = RuledArrayQueue<Message, Log, InOrder>;
 

@@ -1,18 +1,21 @@
 //! A worker, as the router holds it.
-ghost use Rattle.std.specs.Prelude.{◌≡◌, ◌<◌, ◌≤◌, ◌++◌, ◌∷◌, [], ◌⊎◌, length, IfOk, OnErr, true, false, vec_capacity};
+ghost use Rattle.std.specs.Prelude.{List, ◌≡◌, ◌<◌, ◌≤◌, ◌++◌, ◌∷◌, [], ◌⊎◌, length, IfOk, OnErr, true, false, vec_capacity};
 ghost use Rattle.std.specs.Arc.{arc_value};
 ghost use Rattle.crossbeam_queue.specs.Passes.{view, IsPassOf};
 ghost use Rattle.hlr_core.specs.Session.{IsWithinJob};
-ghost use Rattle.hlr_workers.specs.Finish.{IsWorked};
-ghost use Rattle.hlr_workers.specs.Relay.{log};
+ghost use Rattle.hlr_workers.specs.Finish.{HasDone, IsAtWork, MayDo, MaySend, sent_with};
+ghost use Rattle.hlr_workers.specs.declared.message.Message.{Message};
+ghost use Rattle.hlr_workers.specs.Relay.{log, IsWellSent};
 ghost use Rattle.hlr_workers.specs.Session.{IsSession};
+ghost use Rattle.hlr_workers.specs.declared.message.TheConstants.{MOST_JOBS};
 ghost use Rattle.hlr_workers.specs.declared.work.TheConstants.{MOST_PENDING};
 
 use crate::gate::Gate;
 use crate::inbox::Inbox;
-use crate::message::{Lent, Message};
-use crate::rule::{Line, Port, Roles, Total};
-use crate::work::{Finished, MOST_PENDING, live};
+use crate::message::{Batch, Lent, MOST_JOBS, Message, Numbered};
+use crate::rule::{Line, Port, Roles};
+use crate::work::{Finished, MOST_PENDING, do_batch, live};
+use arrayvec::ArrayVec;
 use crossbeam_utils::sync::EventCount;
 use hlr_core::Reply;
 use holding::{Holding, Job};
@@ -20,13 +23,13 @@ use std::alloc::Global;
 use std::marker::Model;
 use std::snapshot::Snapshot;
 use std::sync::{Arc, Wait};
-use std::thread;
 use std::thread::{Promise, PromisedHandle, Threads};
+use std::{mem, thread};
 use tatp_rows::Refusal;
 use view_board::Board;
 
 /// How many messages a worker's queue holds.
-const PLACES: usize = 256;
+const PLACES: usize = 256 / MOST_JOBS;
 
 // The thread hands back what it received up to `Stop`, the replies and the holding.
 #[derive(Drop)]
@@ -35,9 +38,11 @@ struct WorksOff(Snapshot<Arc<Inbox, Global>>);
 impl Promise<Finished> for WorksOff {
     ghost use Rattle.crossbeam_queue.specs.Passes.{view, IsPassOf};
     ghost use Rattle.std.specs.Arc.{arc_value};
-    ghost use Rattle.hlr_workers.specs.Finish.{IsWorked};
+    ghost use Rattle.std.specs.Prelude.{◌≤◌, vec_capacity};
+    ghost use Rattle.hlr_workers.specs.Finish.{IsAtWork};
+    ghost use Rattle.hlr_workers.specs.declared.work.TheConstants.{MOST_PENDING};
 
-    ghost kept_by = { λ p r. IsPassOf (arc_value p.0.value).line r.port × IsWorked (view r.port) r.replies.items r.holding.value };
+    ghost kept_by = { λ p r. record { port : IsPassOf (arc_value p.0.value).line r.port; work : IsAtWork (view r.port) r.replies.items r.lent.holding.value; room : MOST_PENDING ≤ vec_capacity r.replies } };
 }
 
 /// A worker to which nothing was sent yet, seen as the board to which its part posts.
@@ -67,22 +72,24 @@ impl Model for Idle {
 pub struct Worker {
     inbox: Arc<Inbox, Global>,
     port: Port,
+    // Jobs that were not pushed yet.
+    held: Batch,
+    // Whether no job was sent yet.
+    is_fresh: bool,
     thread: PromisedHandle<Finished, WorksOff>,
 }
 
 impl Model for Worker {
-    ghost use Rattle.std.specs.Prelude.{◌≡◌, ◌≤◌, true, false, [], length};
+    ghost use Rattle.std.specs.Prelude.{◌≡◌};
     ghost use Rattle.crossbeam_queue.specs.Passes.{view as knows, IsPassOf};
     ghost use Rattle.std.specs.Arc.{arc_value};
-    ghost use Rattle.hlr_workers.specs.Relay.{log, IsStarted, lent_of, jobs_of};
-    ghost use Rattle.hlr_workers.specs.Finish.{Sent};
-    ghost use Rattle.hlr_workers.specs.declared.work.TheConstants.{MOST_PENDING};
+    ghost use Rattle.hlr_workers.specs.Finish.{MaySend, Sent, sent_with};
 
     ghost Value = { Sent };
 
-    ghost view = { λ w. record { lent = lent_of (knows w.port).sent; jobs = jobs_of (knows w.port).sent } };
+    ghost view = { λ w. sent_with (knows w.port) w.held };
 
-    ghost invariant = { λ w. record { port : IsPassOf (arc_value w.inbox).line w.port; log : knows w.port ≡ log true false (knows w.port).sent []; started : IsStarted (knows w.port).sent; room : length (jobs_of (knows w.port).sent) ≤ MOST_PENDING; thread : arc_value w.thread.promise.0.value ≡ arc_value w.inbox } };
+    ghost invariant = { λ w. record { port : IsPassOf (arc_value w.inbox).line w.port; may : MaySend (knows w.port) w.held; thread : arc_value w.thread.promise.0.value ≡ arc_value w.inbox } };
 }
 
 impl Idle {
@@ -108,6 +115,7 @@ impl Idle {
         let inbox = Inbox {
             line,
             pushes: EventCount::new(),
+            pops: EventCount::new(),
         };
         let Ok(inbox) = Arc::new(alloc, inbox) else {
             return Err(Refusal::Memory);
@@ -123,7 +131,7 @@ impl Idle {
         let promise = WorksOff(Snapshot::of(&inbox));
         let work = move || -> Finished
             requires { IsPassOf (arc_value shared).line theirs × (view theirs ≡ log false true [] []) × (MOST_PENDING ≤ vec_capacity replies) × (replies.items ≡ []) }
-            ensures { IsPassOf (arc_value shared).line result.port × IsWorked (view result.port) result.replies.items result.holding.value }
+            ensures { record { port : IsPassOf (arc_value shared).line result.port; work : IsAtWork (view result.port) result.replies.items result.lent.holding.value; room : MOST_PENDING ≤ vec_capacity result.replies } }
         { live(&rt2, &*shared, &*gate, part, theirs, replies) };
         match thread::spawn_with(rt, promise, work) {
             Ok(thread) => Ok(Idle {
@@ -152,40 +160,207 @@ impl Idle {
         Worker {
             inbox,
             port,
+            held: ArrayVec::new(),
+            is_fresh: true,
             thread,
         }
     }
 }
 
+/// Pushes the jobs that are held, once there is a place. It may wait.
+fn hand_on<R: Wait>(rt: &R, inbox: &Inbox, port: &mut Port, held: &mut Batch)
+    requires port { IsPassOf inbox.now.line port.old }
+    requires may { MaySend (view port.old) held.old }
+    ensures port { IsPassOf inbox.now.line port.new }
+    ensures may { MaySend (view port.new) held.new }
+    ensures same { sent_with (view port.new) held.new ≡ sent_with (view port.old) held.old }
+    ensures none { held.new.items ≡ [] }
+{
+    if held.is_empty() {
+        return;
+    }
+    let batch = mem::replace(held, ArrayVec::new());
+    inbox.push(rt, port, Message::Do(batch));
+}
+
+/// Has room for one job more: where a whole message is held, it is pushed first, once there is a place. It may wait.
+fn make_room<R: Wait>(rt: &R, inbox: &Inbox, port: &mut Port, held: &mut Batch)
+    requires port { IsPassOf inbox.now.line port.old }
+    requires may { MaySend (view port.old) held.old }
+    ensures port { IsPassOf inbox.now.line port.new }
+    ensures may { MaySend (view port.new) held.new }
+    ensures same { sent_with (view port.new) held.new ≡ sent_with (view port.old) held.old }
+    ensures room { length held.new.items < MOST_JOBS }
+{
+    if held.is_full() {
+        hand_on(rt, inbox, port, held);
+    }
+}
+
+/// Holds a numbered job. Where a whole message is held, it is pushed first, once there is a place. It may wait.
+fn hold<R: Wait>(rt: &R, inbox: &Inbox, port: &mut Port, held: &mut Batch, number: u64, job: Job)
+    requires port { IsPassOf inbox.now.line port.old }
+    requires may { MaySend (view port.old) held.old }
+    requires room { length (sent_with (view port.old) held.old).jobs < MOST_PENDING }
+    requires within { IsWithinJob (sent_with (view port.old) held.old).lent job }
+    ensures port { IsPassOf inbox.now.line port.new }
+    ensures may { MaySend (view port.new) held.new }
+    ensures lent { (sent_with (view port.new) held.new).lent ≡ (sent_with (view port.old) held.old).lent }
+    ensures jobs { (sent_with (view port.new) held.new).jobs ≡ (sent_with (view port.old) held.old).jobs ++ (number, job) ∷ [] }
+{
+    make_room(rt, inbox, port, held);
+    held.push(Numbered { number, job });
+}
+
+/// Pushes the jobs that are held, where there is a place.
+fn offer(inbox: &Inbox, port: &mut Port, held: &mut Batch)
+    requires port { IsPassOf inbox.now.line port.old }
+    requires may { MaySend (view port.old) held.old }
+    ensures port { IsPassOf inbox.now.line port.new }
+    ensures may { MaySend (view port.new) held.new }
+    ensures same { sent_with (view port.new) held.new ≡ sent_with (view port.old) held.old }
+{
+    if held.is_empty() {
+        return;
+    }
+    let batch = mem::replace(held, ArrayVec::new());
+    if let Err(back) = inbox.offer(port, Message::Do(batch)) {
+        match back {
+            Message::Do(batch) => *held = batch,
+            _ => unreachable!(),
+        }
+    }
+}
+
+/// Does the jobs of a message, if it has any.
+fn do_left<G: Gate>(
+    gate: &G,
+    part: u8,
+    board: &Board,
+    holding: &mut Holding,
+    replies: &mut Vec<(u64, Reply)>,
+    message: Message,
+)
+    requires board { holding.old.desk.board ≡ board.now }
+    requires left { MayDo message replies.old.items holding.old }
+    requires room { MOST_PENDING ≤ vec_capacity replies.old }
+    ensures board { holding.new.desk.board ≡ board.now }
+    ensures done { (got : List Message) → HasDone got replies.old.items holding.old → IsWellSent (got ++ message ∷ []) → HasDone (got ++ message ∷ []) replies.new.items holding.new }
+    ensures room { MOST_PENDING ≤ vec_capacity replies.new }
+{
+    match message {
+        Message::Do(batch) => do_batch(gate, part, board, holding, replies, &batch),
+        Message::Stop => {}
+        Message::Begin(_) => unreachable!(),
+    }
+}
+
+/// Does what was pushed behind `Stop`, once the thread has ended: all that was sent is done then. It may wait.
+fn do_rest<G: Gate, R: Wait>(
+    rt: &R,
+    inbox: &Inbox,
+    gate: &G,
+    part: u8,
+    port: &mut Port,
+    board: &Board,
+    holding: &mut Holding,
+    replies: &mut Vec<(u64, Reply)>,
+)
+    requires port { IsPassOf inbox.now.line port.old }
+    requires both { view port.old ≡ log true true (view port.old).sent (view port.old).got }
+    requires board { holding.old.desk.board ≡ board.now }
+    requires work { HasDone (view port.old).got replies.old.items holding.old }
+    requires room { MOST_PENDING ≤ vec_capacity replies.old }
+    ensures board { holding.new.desk.board ≡ board.now }
+    ensures work { HasDone (view port.old).sent replies.new.items holding.new }
+    ensures room { MOST_PENDING ≤ vec_capacity replies.new }
+{
+    for _ in rt.forever() {
+        match inbox.pop_rest(rt, port) {
+            Some(message) => do_left(gate, part, board, holding, replies, message),
+            None => return,
+        }
+    }
+    unreachable!()
+}
+
 impl Worker {
-    /// Sends a numbered job, of whose part the holding is. It may wait.
+    /// Tells how many jobs are held.
+    pub fn count_held(&self) -> usize {
+        self.held.len()
+    }
+
+    /// Sends a numbered job, of whose part the holding is: the first one is pushed at once, later ones are held until
+    /// a message is full. It may wait.
     pub fn send<R: Wait>(&mut self, rt: &R, number: u64, job: Job)
         requires room { length self.old.jobs < MOST_PENDING }
         requires within { IsWithinJob self.old.lent job }
         ensures lent { self.new.lent ≡ self.old.lent }
         ensures jobs { self.new.jobs ≡ self.old.jobs ++ (number, job) ∷ [] }
     {
-        self.inbox
-            .push(rt, &mut self.port, Message::Do(number, job));
+        hold(rt, &self.inbox, &mut self.port, &mut self.held, number, job);
+        if self.is_fresh || self.held.is_full() {
+            self.is_fresh = false;
+            offer(&self.inbox, &mut self.port, &mut self.held);
+        }
     }
 
-    /// Ends the worker, once it has done all its jobs: the holding, and their replies. It may wait.
-    pub fn stop_and_join<R: Threads + Wait>(self, rt: &R) -> (Box<Holding>, Vec<(u64, Reply)>)
+    /// Pushes the jobs that are held, once there is a place. It may wait.
+    pub fn hand_on<R: Wait>(&mut self, rt: &R)
+        ensures { self.new ≡ self.old }
+    {
+        hand_on(rt, &self.inbox, &mut self.port, &mut self.held);
+    }
+
+    /// Pushes the jobs that are held, where there is a place.
+    pub fn offer(&mut self)
+        ensures { self.new ≡ self.old }
+    {
+        offer(&self.inbox, &mut self.port, &mut self.held);
+    }
+
+    /// Tells the worker to end, once it has done the jobs that were pushed. It may wait.
+    pub fn stop<R: Wait>(&mut self, rt: &R)
+        ensures { self.new ≡ self.old }
+    {
+        self.inbox.push(rt, &mut self.port, Message::Stop);
+    }
+
+    /// Ends the worker, once it was told to stop: the holding, and the replies to all its jobs. What it has left undone
+    /// is done here. It may wait.
+    pub fn join<G: Gate, R: Threads + Wait>(
+        self,
+        rt: &R,
+        gate: &G,
+        part: u8,
+    ) -> (Box<Holding>, Vec<(u64, Reply)>)
         ensures { IsSession self.lent self.jobs result.1.items result.0.value }
     {
         let Worker {
             inbox,
             mut port,
+            held,
+            is_fresh: _is_fresh,
             thread,
         } = self;
-        inbox.push(rt, &mut port, Message::Stop);
         let Finished {
             port: theirs,
-            holding,
-            replies,
+            lent,
+            mut replies,
         } = thread.join(rt);
         inbox.line.absorb::<Roles>(&mut port, theirs);
-        inbox.line.learn_as::<Total>(&mut port);
+        let Lent { mut holding, board } = lent;
+        do_rest(
+            rt,
+            &inbox,
+            gate,
+            part,
+            &mut port,
+            &board,
+            &mut holding,
+            &mut replies,
+        );
+        do_batch(gate, part, &board, &mut holding, &mut replies, &held);
         (holding, replies)
     }
 }

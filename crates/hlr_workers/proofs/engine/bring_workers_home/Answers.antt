@@ -1,14 +1,12 @@
-use Rattle.std.proofs.Common.{ℕ, subst}
-use Rattle.hlr_owners.specs.Seats.{IsHomeFrom}
-use Rattle.hlr_workers.proofs.EngineLemmas.{homes_from}
+use Rattle.std.proofs.Common.{◌∙◌, sym, ap}
+use Rattle.hlr_owners.specs.Seats.{Seating}
+use Rattle.hlr_workers.proofs.EngineLemmas.{here_by_id, part_home}
 use Rattle.hlr_workers.proofs.engine.bring_workers_home.Goals as goal
 
-pub returns-in-Divide-clause-home : goal.returns-in-Divide-clause-home
-returns-in-Divide-clause-home g c =
-    let b = c.bring_home_from in
-    rw c.in-Divide.is (homes_from b.new.crew.house.seats c.in-Divide.part b.ensures.home)
-
-pub returns-in-Dissolve-clause-home : goal.returns-in-Dissolve-clause-home
-returns-in-Dissolve-clause-home g c =
-    let b = c.bring_home_from-in-Dissolve in
-    rw c.in-Dissolve.is (subst (λ (first : ℕ). IsHomeFrom first b.new.crew.house) c.saturating_sub.ensures (homes_from b.new.crew.house.seats c.saturating_sub.result b.ensures.home))
+pub returns-clause-home : goal.returns-clause-home
+returns-clause-home g c =
+    let b = c.bring_parts_home in
+    let h = b.new.crew.house in
+    let regions = ap (λ (g : Seating). g.regions) b.ensures.house ∙ sym (ap (λ (g : Seating). g.regions) c.register.ensures.value) in
+    (c.parts_for-parts.ensures.here (here_by_id c.args.event.now c.requires.here) h c.register-register.ensures.seated regions).0
+    (λ q from low. part_home h.seats q (b.ensures.home q from low))

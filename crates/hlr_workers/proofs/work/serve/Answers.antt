@@ -1,30 +1,30 @@
-use Rattle.std.proofs.Common.{◌∙◌, ap, arith}
-use Rattle.holding.specs.Held.{HoldingState}
+use Rattle.std.proofs.Common.{◌∙◌, ap, sym, arith}
 use Rattle.crossbeam_queue.specs.Passes.{view}
-use Rattle.hlr_workers.proofs.SessionLemmas.{job_same}
 use Rattle.hlr_workers.proofs.ShapeLemmas.{not_again}
-use Rattle.hlr_workers.proofs.WorkLemmas.{one_more, room, within}
+use Rattle.hlr_workers.proofs.WorkLemmas.{at_work, batch_done, room, stop_done, within}
 use Rattle.hlr_workers.proofs.work.serve.Goals as goal
 
-pub do_job-reply-requires-clause-within : goal.do_job-reply-requires-clause-within
-do_job-reply-requires-clause-within g c =
-    rw c.deref_mut.ensures.value (within (view c.loop.port) c.loop.replies.items c.loop.holding.value c.in-Do.number c.in-Do.job c.loop.invariant.work c.in-Do.ensures.right)
+pub do_batch-requires-clause-within : goal.do_batch-requires-clause-within
+do_batch-requires-clause-within g c κs lives =
+    rw c.deref_mut.ensures.value (within (view c.loop.port).got c.loop.replies.items c.loop.holding.value c.in-Do.batch c.loop.invariant.work.1 c.in-Do.ensures.right)
 
-pub push_reserved-requires : goal.push_reserved-requires
-push_reserved-requires g c =
-    let is = c.loop.replies.ok in
-    let few = room (view c.loop.port) c.loop.replies.items c.loop.holding.value c.in-Do.number c.in-Do.job c.loop.invariant.work c.in-Do.ensures.right in
-    let places = c.loop.invariant.room in omega (arith, is, few, places)
+pub do_batch-requires-clause-room : goal.do_batch-requires-clause-room
+do_batch-requires-clause-room g c κs lives =
+    let few = room (view c.loop.port).got c.loop.replies.items c.loop.holding.value c.in-Do.batch c.loop.invariant.work.1 c.in-Do.ensures.right in
+    let places = c.loop.invariant.room in omega (arith, few, places)
 
 pub loop-preserved : goal.loop-preserved
 loop-preserved g c = record {
   port = c.pop.ensures.port;
-  board = (job_same c.in-Do.job c.deref_mut.result.now c.do_job-reply.result c.do_job-reply.new.holding c.do_job-reply.ensures).board ∙ (ap (λ (h : HoldingState). h.desk.board) c.deref_mut.ensures.value ∙ c.loop.invariant.board);
-  work = rw c.push_reserved.ensures.items
-      (one_more (view c.loop.port) c.loop.replies.items c.loop.holding.value c.in-Do.number c.in-Do.job c.loop.invariant.work c.in-Do.ensures.right (view c.pop.new.port) c.do_job-reply.result c.do_job-reply.new.holding
-      c.in-Do.ensures.got (rw (← c.deref_mut.ensures.value) c.do_job-reply.ensures));
-  room = rw c.push_reserved.ensures.capacity c.loop.invariant.room;
+  board = c.do_batch.ensures.board;
+  work = at_work _ _ _ _ c.in-Do.ensures.got
+      (batch_done (view c.loop.port).got c.loop.replies.items c.loop.holding.value c.in-Do.batch c.loop.invariant.work.1 c.in-Do.ensures.right c.do_batch.new.replies.items c.do_batch.new.holding
+      (rw c.deref_mut.ensures.value at c.do_batch.ensures.done));
+  room = rw c.do_batch.ensures.capacity c.loop.invariant.room;
 }
 
 pub unreachable-requires : goal.unreachable-requires
-unreachable-requires g c = not_again (view c.loop.port).got c.in-Begin.field-0 c.loop.invariant.work.1 c.in-Begin.ensures.right.0
+unreachable-requires g c = not_again (view c.loop.port).got c.in-Begin.field-0 c.loop.invariant.work.1.0 c.in-Begin.ensures.right.0
+
+pub returns-in-Stop-clause-work : goal.returns-in-Stop-clause-work
+returns-in-Stop-clause-work g c = at_work _ _ _ _ c.in-Stop.ensures.got (stop_done (view c.loop.port).got c.loop.replies.items c.loop.holding.value c.loop.invariant.work.1)

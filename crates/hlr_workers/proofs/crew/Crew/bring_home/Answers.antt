@@ -11,20 +11,20 @@ returns-in_err-worker g c =
 pub back-requires : goal.back-requires
 back-requires g c =
     home_with c.self.inside.register c.board-board.ensures.seated c.self.inside.workers.items c.self.invariant c.args.part c.in_ok-worker.worker (sym c.take_worker.ensures.worker ∙ c.in_ok-worker.was)
-    c.stop_and_join-holding.result.1.items c.stop_and_join-holding.result.0.value c.stop_and_join-holding.ensures
+    c.join-holding.result.1.items c.join-holding.result.0.value c.join-holding.ensures
 
 pub invariant_of-self-2 : goal.invariant_of-self-2
 invariant_of-self-2 g c =
     let with = home_with c.self.inside.register c.board-board.ensures.seated c.self.inside.workers.items c.self.invariant c.args.part c.in_ok-worker.worker (sym c.take_worker.ensures.worker ∙ c.in_ok-worker.was)
-    c.stop_and_join-holding.result.1.items c.stop_and_join-holding.result.0.value c.stop_and_join-holding.ensures in
+    c.join-holding.result.1.items c.join-holding.result.0.value c.join-holding.ensures in
     rw (c.back.ensures with.0 with.1, c.take_worker.ensures.items)
     (home_each c.self.inside.register c.board-board.ensures.seated c.self.inside.workers.items c.self.invariant c.args.part c.in_ok-worker.worker (sym c.take_worker.ensures.worker ∙ c.in_ok-worker.was)
-    c.stop_and_join-holding.result.1.items c.stop_and_join-holding.result.0.value c.stop_and_join-holding.ensures)
+    c.join-holding.result.1.items c.join-holding.result.0.value c.join-holding.ensures)
 
 pub returns : goal.returns
 returns g c =
     let with = home_with c.self.inside.register c.board-board.ensures.seated c.self.inside.workers.items c.self.invariant c.args.part c.in_ok-worker.worker (sym c.take_worker.ensures.worker ∙ c.in_ok-worker.was)
-    c.stop_and_join-holding.result.1.items c.stop_and_join-holding.result.0.value c.stop_and_join-holding.ensures in
+    c.join-holding.result.1.items c.join-holding.result.0.value c.join-holding.ensures in
     rw (c.back.ensures with.0 with.1, c.take_worker.ensures.items, ← c.self.view_is)
     (home_again c.self.inside.register c.board-board.ensures.seated c.self.inside.workers.items c.self.invariant c.args.part c.in_ok-worker.worker (sym c.take_worker.ensures.worker ∙ c.in_ok-worker.was)
-    c.stop_and_join-holding.result.1.items c.stop_and_join-holding.result.0.value c.stop_and_join-holding.ensures)
+    c.join-holding.result.1.items c.join-holding.result.0.value c.join-holding.ensures)

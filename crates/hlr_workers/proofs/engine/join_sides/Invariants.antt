@@ -4,7 +4,7 @@ use Rattle.hlr_owners.specs.Out.{outs_in}
 use Rattle.hlr_workers.specs.Kept.{IsKept, NoneOut, engaged}
 use Rattle.hlr_workers.specs.Standing.{IsAsBefore}
 use Rattle.hlr_workers.proofs.EngineLemmas.{AreSidesHome}
-use Rattle.hlr_workers.proofs.engine.bring_sides_home.Given as goal
+use Rattle.hlr_workers.proofs.engine.join_sides.Given as goal
 
 abbrev pub invariant-loop-bound_move : goal.invariant-loop-bound_move
 invariant-loop-bound_move g l = record {

@@ -1,0 +1,41 @@
+use Rattle.std.proofs.Common.{◌≡◌, ◌∙◌, ap, arith, get_or, set, sym, List, None, Ok}
+use Rattle.std.proofs.lemmas.List.{get_or_default}
+use Rattle.part_table.specs.Recut.{recut_answer}
+use Rattle.part_table.specs.declared.moves.CutMove.{CutMove}
+use Rattle.part_table.specs.declared.region.Region.{Region}
+use Rattle.hlr_owners.specs.Out.{outs_in}
+use Rattle.hlr_owners.specs.Seats.{Seating}
+use Rattle.hlr_workers.proofs.EngineLemmas.{house_more, none_still, sides_cut, sides_next}
+use Rattle.hlr_workers.proofs.engine.join_sides.Goals as goal
+
+pub loop-bound_move-preserved : goal.loop-bound_move-preserved
+loop-bound_move-preserved g c =
+    let was = c.loop-bound_move.invariant in
+    let one = c.join.ensures in
+    let two = c.join-in-loop-bound_move.ensures in
+    let moves = c.as_slice-bound_move-items.result.now in
+    let move : CutMove = get_or moves c.loop-bound_move.bound_move-index (record { bound = 0; from = 0; to = 0 }) in
+    let there = c.loop-bound_move-test.true in
+    record {
+      kept = two.kept;
+      stands = λ start asked stood. two.stands start asked (one.stands start asked (was.stands start asked stood));
+      home = λ i d low. rw (two.home, one.home, c.saturating_sub.ensures)
+          (sides_next (outs_in c.loop-bound_move.crew.house.seats) moves c.loop-bound_move.bound_move-index move there (get_or_default moves c.loop-bound_move.bound_move-index (record { bound = 0; from = 0; to = 0 }) move there) was.home i d low);
+      still = λ none. rw (two.home, one.home) (none_still (set (outs_in c.loop-bound_move.crew.house.seats) c.saturating_sub.result None) move.bound
+          (none_still (outs_in c.loop-bound_move.crew.house.seats) c.saturating_sub.result (was.still none)));
+      places = two.places ∙ one.places ∙ was.places;
+      capacity = two.capacity ∙ one.capacity ∙ was.capacity;
+      house = house_more c.args.crew.now.house c.join.new.crew.house c.join-in-loop-bound_move.new.crew.house
+          (house_more c.args.crew.now.house c.loop-bound_move.crew.house c.join.new.crew.house was.house one.house) two.house;
+    }
+
+pub returns-clause-home : goal.returns-clause-home
+returns-clause-home g c =
+    let was = c.loop-bound_move.invariant in
+    let h = c.loop-bound_move.crew.house in
+    let regions : h.regions ≡ c.regions.result.now =
+    ap (λ (s : Seating). s.regions) was.house ∙ sym (c.regions.ensures.value ∙ ap (λ (s : Seating). s.regions) c.register.ensures.value) in
+    let answer : recut_answer h.regions c.args.bounds.now ≡ Ok c.as_slice-bound_move-items.result.now =
+    ap (λ (rs : List Region). recut_answer rs c.args.bounds.now) regions ∙ c.in-Ok.ensures.answer ∙ ap Ok (sym c.as_slice-bound_move-items.ensures.value) in
+    let past = c.loop-bound_move-test.false in
+    sides_cut c.args.bounds.now h c.as_slice-bound_move-items.result.now answer (λ i d low. was.home i d (omega arith))

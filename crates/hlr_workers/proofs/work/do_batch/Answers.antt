@@ -1,0 +1,46 @@
+use Rattle.std.proofs.Common.{◌≡◌, ◌<◌, ◌∙◌, refl, ap, arith, [], ◌∷◌, length, length-append}
+use Rattle.hlr_workers.proofs.SessionLemmas.{itself, job_same, same_twice, within_later}
+use Rattle.hlr_workers.proofs.WorkLemmas.{more_next, more_none, one_within}
+use Rattle.hlr_workers.proofs.work.do_batch.Goals as goal
+
+pub loop-one-init : goal.loop-one-init
+loop-one-init g c = record {
+  more = more_none c.args.replies.now.items c.args.holding.now;
+  same = itself c.args.holding.now c.args.holding.now refl;
+  long = omega arith;
+  capacity = refl;
+}
+
+pub do_job-reply-requires-clause-within : goal.do_job-reply-requires-clause-within
+do_job-reply-requires-clause-within g c =
+    let low = rw c.as_slice-one-items.ensures.value at c.loop-one-test.true in
+    let is = rw c.as_slice-one-items.ensures.value at c.one-item.is in
+    within_later c.args.holding.now c.loop-one.holding c.one-item.result.job c.loop-one.invariant.same
+    (one_within c.args.holding.now c.args.batch.now.items c.loop-one.one-index c.one-item.result c.requires.within low is)
+
+pub push_reserved-requires : goal.push_reserved-requires
+push_reserved-requires g c =
+    let low = rw c.as_slice-one-items.ensures.value at c.loop-one-test.true in
+    let is = c.loop-one.replies.ok in
+    let long = c.loop-one.invariant.long in
+    let capacity = c.loop-one.invariant.capacity in
+    let room = c.requires.room in
+    omega (arith, is, long, low, room, capacity)
+
+pub loop-one-preserved : goal.loop-one-preserved
+loop-one-preserved g c =
+    let low = rw c.as_slice-one-items.ensures.value at c.loop-one-test.true in
+    let is = rw c.as_slice-one-items.ensures.value at c.one-item.is in
+    let was = c.loop-one.invariant in
+    record {
+      more = more_next c.args.batch.now.items c.loop-one.one-index c.one-item.result c.args.replies.now.items c.loop-one.replies.items c.push_reserved.new.self.items c.do_job-reply.result c.args.holding.now c.loop-one.holding
+          c.do_job-reply.new.holding low is was.more c.do_job-reply.ensures c.push_reserved.ensures.items;
+      same = same_twice c.args.holding.now c.loop-one.holding c.do_job-reply.new.holding was.same
+          (job_same c.one-item.result.job c.loop-one.holding c.do_job-reply.result c.do_job-reply.new.holding c.do_job-reply.ensures);
+      long =
+          let grew = ap length c.push_reserved.ensures.items in
+          let one = length-append c.loop-one.replies.items ((c.one-item.result.number, c.do_job-reply.result) ∷ []) in
+          let long = was.long in
+          omega (arith, grew, one, long);
+      capacity = c.push_reserved.ensures.capacity ∙ was.capacity;
+    }
