@@ -1,0 +1,173 @@
+-- Whether the parts are at home on which something works, and what an event leaves of who is out.
+use Rattle.std.proofs.Common.{◌≡◌, ◌∙◌, refl, sym, ap, ℕ, zero, suc, ◌<◌, ◌≤◌, ◌+◌, List, [], ◌∷◌, length, get_or, drop, arith, true, false, Bool, Some, None, Ok, Err, inl, inr}
+use Rattle.std.specs.Prelude.{Option, IfSome, ◌⊎◌, ◌-◌, insert, remove}
+use Rattle.std.specs.List.{AllByRecursion}
+use Rattle.std.proofs.lemmas.Bool.{cases_lt}
+use Rattle.std.proofs.lemmas.Bool.Decides.{nat_tests}
+use Rattle.tatp_rows.proofs.OrderedLemmas.{by_test}
+use Rattle.tatp_rows.specs.Rows.{between, is_between}
+use Rattle.tatp_rows.specs.declared.ranges.TheConstants.{LAST_SUBSCRIBER}
+use Rattle.tatp_rows.specs.declared.refusal.Refusal.{Refusal}
+use Rattle.part_table.specs.Recut.{recut_answer}
+use Rattle.part_table.specs.Region.{lies_in}
+use Rattle.part_table.specs.Regions.{IsConsecutive, place_of}
+use Rattle.part_table.specs.declared.moves.CutMove.{CutMove}
+use Rattle.part_table.specs.declared.region.Region.{Region}
+use Rattle.part_table.specs.declared.region.TheConstants.{END}
+use Rattle.hlr_owners.specs.Out.{outs_in, with_outs}
+use Rattle.hlr_owners.specs.Recut.{IsHomeToCut, IsHomeToMove}
+use Rattle.hlr_owners.specs.Seats.{AreSeated, IsHomeFor, IsHomeFrom, Seating, homes_in, store_in}
+use Rattle.hlr_owners.proofs.OwnerLemmas.{lies_within}
+use Rattle.hlr_core.specs.Beside.{IsStepBeside}
+use Rattle.hlr_core.specs.Home.{IsHomeTo, IsHouseAfter, IsSameHouse}
+use Rattle.hlr_core.specs.Route.{IsRightNow}
+use Rattle.hlr_core.specs.Step.{IsStep}
+use Rattle.hlr_core.specs.declared.event.Event.{Event}
+use Rattle.hlr_core.specs.declared.event.Event.TheVariants.{SubscriberData, NewDestination, AccessData, UpdateSubscriber, UpdateLocation, InsertForwarding, DeleteForwarding}
+use Rattle.hlr_core.specs.declared.event.Event.TheVariants.{AddSubscriber, AddAccess, AddFacility, SetActive, SetNumber, Post, Give, Take, Divide, Dissolve}
+use Rattle.hlr_core.specs.declared.event.Reply.{Reply}
+use Rattle.hlr_core.specs.declared.event.Reply.TheVariants as reply
+use Rattle.hlr_core.proofs.LaterLemmas.{all_later_self}
+use Rattle.hlr_lent.specs.Rings.{HaveRings}
+use Rattle.hlr_lent.proofs.RingLemmas.{Ring, none_out}
+
+-- all parts from one on are at home where each is
+pub each_from : (homes : List Bool) (p : ℕ) → AllByRecursion (λ (home : Bool). home ≡ true) (drop p homes) → (q : ℕ) → p ≤ q → get_or homes q true ≡ true
+each_from [] p all q from = refl
+each_from (home ∷ homes) zero all zero from = all.0
+each_from (home ∷ homes) zero all (suc q) from = each_from homes zero all.1 q (omega arith)
+each_from (home ∷ homes) (suc p) all zero from = absurd (omega arith)
+each_from (home ∷ homes) (suc p) all (suc q) from = each_from homes p all q (omega arith)
+
+pub from_each : (homes : List Bool) (p : ℕ) → ((q : ℕ) → p ≤ q → get_or homes q true ≡ true) → AllByRecursion (λ (home : Bool). home ≡ true) (drop p homes)
+from_each [] zero each = tt
+from_each [] (suc p) each = tt
+from_each (home ∷ homes) zero each = (each 0 (omega arith), from_each homes zero (λ q from. each (suc q) (omega arith)))
+from_each (home ∷ homes) (suc p) each = from_each homes p (λ q from. each (suc q) (omega arith))
+
+-- nobody is out from a part on
+nobody_from : (p : ℕ) (h : Seating) → IsHomeFrom p h → (q : ℕ) → p ≤ q → get_or (outs_in h.seats) q None ≡ None
+nobody_from p h all q from = none_out h.seats q (each_from (homes_in h.seats) p all q from)
+
+-- a place more or less among places where nobody is out
+insert_none : {X : Type 0} (xs : List (Option X)) (i : ℕ) → ((q : ℕ) → i ≤ q → get_or xs q None ≡ None) → (q : ℕ) → get_or (insert xs i None) q None ≡ get_or xs q None
+insert_none xs zero none zero = sym (none 0 (omega arith))
+insert_none xs zero none (suc q) = none q (omega arith) ∙ sym (none (suc q) (omega arith))
+insert_none [] (suc i) none zero = refl
+insert_none [] (suc i) none (suc q) = refl
+insert_none (x ∷ xs) (suc i) none zero = refl
+insert_none (x ∷ xs) (suc i) none (suc q) = insert_none xs i (λ r from. none (suc r) (omega arith)) q
+
+remove_none : {X : Type 0} (xs : List (Option X)) (i : ℕ) → ((q : ℕ) → i ≤ q → get_or xs q None ≡ None) → (q : ℕ) → get_or (remove xs i) q None ≡ get_or xs q None
+remove_none [] zero none q = refl
+remove_none [] (suc i) none q = refl
+remove_none (x ∷ xs) zero none q = none (suc q) (omega arith) ∙ sym (none q (omega arith))
+remove_none (x ∷ xs) (suc i) none zero = refl
+remove_none (x ∷ xs) (suc i) none (suc q) = remove_none xs i (λ r from. none (suc r) (omega arith)) q
+
+-- so an event leaves who is out
+module _ (h g : Seating) where
+  abbrev OutsKept : Type 0
+  OutsKept = (q : ℕ) → get_or (outs_in g.seats) q None ≡ get_or (outs_in h.seats) q None
+
+  same_outs : IsSameHouse h g → OutsKept
+  same_outs house q = ap (λ outs. get_or outs q None) house.outs
+
+  divided_outs : (part at : ℕ) (r : Reply) → IsHomeFrom part h → IsHouseAfter (Divide part at) r h g → OutsKept
+  divided_outs part at (reply.Divided new lo hi) home house q =
+      ap (λ outs. get_or outs q None) house.outs ∙ insert_none (outs_in h.seats) (part + 1) (λ r from. nobody_from part h home r (omega arith)) q
+  divided_outs part at (reply.Rows rows) home house q = same_outs house q
+  divided_outs part at (reply.Posted count) home house q = same_outs house q
+  divided_outs part at (reply.Given piece lo hi) home house q = same_outs house q
+  divided_outs part at (reply.Taken piece p) home house q = same_outs house q
+  divided_outs part at (reply.Dissolved front lo hi) home house q = same_outs house q
+  divided_outs part at (reply.Refused why) home house q = same_outs house q
+
+  dissolved_outs : (part : ℕ) (r : Reply) → IsHomeFrom (part - 1) h → IsHouseAfter (Dissolve part) r h g → OutsKept
+  dissolved_outs part (reply.Dissolved front lo hi) home house q =
+      ap (λ outs. get_or outs q None) house.outs ∙ remove_none (outs_in h.seats) part (λ r from. nobody_from (part - 1) h home r (omega arith)) q
+  dissolved_outs part (reply.Rows rows) home house q = same_outs house q
+  dissolved_outs part (reply.Posted count) home house q = same_outs house q
+  dissolved_outs part (reply.Given piece lo hi) home house q = same_outs house q
+  dissolved_outs part (reply.Taken piece p) home house q = same_outs house q
+  dissolved_outs part (reply.Divided new lo hi) home house q = same_outs house q
+  dissolved_outs part (reply.Refused why) home house q = same_outs house q
+
+  outs_after : (event : Event) (r : Reply) → IsHomeTo event h → IsHouseAfter event r h g → OutsKept
+  outs_after (Divide part at) r home house = divided_outs part at r home house
+  outs_after (Dissolve part) r home house = dissolved_outs part r home house
+  outs_after (SubscriberData s_id) r home house = same_outs house
+  outs_after (NewDestination s_id t a e) r home house = same_outs house
+  outs_after (AccessData s_id t) r home house = same_outs house
+  outs_after (UpdateSubscriber s_id t bit d) r home house = same_outs house
+  outs_after (UpdateLocation n v) r home house = same_outs house
+  outs_after (InsertForwarding n t a e x) r home house = same_outs house
+  outs_after (DeleteForwarding n t a) r home house = same_outs house
+  outs_after (AddSubscriber row) r home house = same_outs house
+  outs_after (AddAccess row) r home house = same_outs house
+  outs_after (AddFacility row) r home house = same_outs house
+  outs_after (SetActive s_id t v) r home house = same_outs house
+  outs_after (SetNumber s_id n) r home house = same_outs house
+  outs_after (Post part limit) r home house = same_outs house
+  outs_after (Give part side at) r home house = same_outs house
+  outs_after (Take piece part) r home house = same_outs house
+
+  pub rings_after : (event : Event) (r : Reply) (rings : List (Option Ring)) → IsHomeTo event h → IsHouseAfter event r h g → HaveRings (outs_in h.seats) rings → HaveRings (outs_in g.seats) rings
+  rings_after event r rings home house have q = rw (outs_after event r home house q) (have q)
+
+-- what is known at once is right, and right beside the parts that are out
+pub right_here : (event : Event) (h : Seating) (o : Option Reply) → IfSome o (λ r. IsRightNow event h r) → IfSome o (λ r. IsStep event (store_in h) r (store_in h))
+right_here event h None right = tt
+right_here event h (Some r) right = right h.seats (all_later_self h.seats)
+
+pub right_beside : (event : Event) (h : Seating) (o : Option Reply) → IfSome o (λ r. IsRightNow event h r) → IfSome o (λ r. IsStepBeside event h r h)
+right_beside event h None right = tt
+right_beside event h (Some r) right = λ holdings later. right (with_outs h.seats holdings) later
+
+-- a number out of range lies in no region, so nobody is out who has it
+regions_end : (from : ℕ) (regions : List Region) → IsConsecutive from regions → from ≤ END
+regions_end from [] is = let end : from ≡ END = is in omega arith
+regions_end from (r ∷ regions) is =
+    let lo = is.0 in
+    let some = is.1 in
+    let rest = regions_end r.hi regions is.2 in
+    omega arith
+
+nowhere : (from s_id : ℕ) (regions : List Region) → IsConsecutive from regions → (s_id < from) ⊎ (END ≤ s_id) → place_of s_id regions ≡ None
+nowhere from s_id [] is out = refl
+nowhere from s_id (r ∷ regions) is out =
+    let lo = is.0 in
+    let some = is.1 in
+    let end = regions_end r.hi regions is.2 in
+    by_test (lies_in s_id r)
+    (λ lies. let within = lies_within s_id r lies in absurd (elim out [
+      | inl below ↦ (let from_lo = within.0 in omega arith)
+      | inr above ↦ (let under = within.1 in omega arith)
+    ]))
+    (λ beside. rw beside (nowhere r.hi s_id regions is.2 (elim out [
+      | inl below ↦ inl (omega arith)
+      | inr above ↦ inr above
+    ])))
+
+out_of_range : (s_id : ℕ) → is_between 1 LAST_SUBSCRIBER s_id ≡ false → (s_id < 1) ⊎ (END ≤ s_id)
+out_of_range s_id out = elim (cases_lt s_id 1) [
+  | inl below ↦ inl below
+  | inr from ↦ elim (cases_lt s_id END) [
+    | inl to ↦ absurd (let yes : is_between 1 LAST_SUBSCRIBER s_id ≡ true = grind (arith, nat_tests, from, to) in cc)
+    | inr above ↦ inr above
+  ]
+]
+
+refused_out : (s_id : ℕ) (why : Refusal) → between 1 LAST_SUBSCRIBER s_id ≡ Err why → is_between 1 LAST_SUBSCRIBER s_id ≡ false
+refused_out s_id why is = by_test (is_between 1 LAST_SUBSCRIBER s_id) (λ yes. let ok : Ok s_id ≡ Err why = rw yes at is in absurd cc) (λ e. e)
+
+pub nobody_home : (h : Seating) (are : AreSeated h) (s_id : ℕ) (why : Refusal) → between 1 LAST_SUBSCRIBER s_id ≡ Err why → IsHomeFor s_id h
+nobody_home h are s_id why is = rw (nowhere 1 s_id h.regions are.are.consecutive (out_of_range s_id (refused_out s_id why is))) tt
+
+-- a re-cut finds at home the parts on which it works, where each move does
+moves_from : (h : Seating) (moves : List CutMove) → ((i : ℕ) (d : CutMove) → i < length moves → IsHomeToMove h (get_or moves i d)) → AllByRecursion (IsHomeToMove h) moves
+moves_from h [] each = tt
+moves_from h (move ∷ moves) each = (each 0 move (omega arith), moves_from h moves (λ i d low. each (suc i) d (omega arith)))
+
+pub cut_from : (bounds : List ℕ) (h : Seating) (moves : List CutMove) → recut_answer h.regions bounds ≡ Ok moves → ((i : ℕ) (d : CutMove) → i < length moves → IsHomeToMove h (get_or moves i d)) → IsHomeToCut bounds h
+cut_from bounds h moves answer each = rw answer (moves_from h moves each)

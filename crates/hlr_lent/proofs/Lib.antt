@@ -1,0 +1,6 @@
+pub mod ComeLemmas
+pub mod CrossingLemmas
+pub mod EventLemmas
+pub mod JobLemmas
+pub mod RingLemmas
+pub mod SeatLemmas

@@ -1,0 +1,7 @@
+use Rattle.std.proofs.Common.{◌<◌, ℕ, get_or}
+use Rattle.part_table.specs.declared.moves.CutMove.{CutMove}
+use Rattle.hlr_owners.specs.Recut.{IsHomeToMove}
+use Rattle.hlr_lent.proofs.lender.Lender.is_home_to_cut.Given as goal
+
+abbrev pub invariant-loop-bound_move : goal.invariant-loop-bound_move
+invariant-loop-bound_move l = (i : ℕ) (d : CutMove) → i < l.bound_move-index → IsHomeToMove l.self (get_or l.bound_move-items i d)

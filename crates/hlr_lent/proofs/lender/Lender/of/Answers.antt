@@ -1,0 +1,15 @@
+use Rattle.std.proofs.Common.{◌≡◌, ◌∙◌, arith, None}
+use Rattle.std.specs.Prelude.{Option}
+use Rattle.std.proofs.lemmas.List.{length-replicate}
+use Rattle.part_table.specs.declared.region.TheConstants.{MOST_PARTS}
+use Rattle.hlr_owners.proofs.HomeLemmas.{part_home_of_all}
+use Rattle.hlr_lent.proofs.RingLemmas.{Ring, no_rings}
+use Rattle.hlr_lent.proofs.lender.Lender.of.Goals as goal
+
+pub invariant_of-result : goal.invariant_of-result
+invariant_of-result c =
+    let end = c.loop.auto.counter-end in
+    let test = c.loop-test.false in
+    let all : c.loop.counter ≡ MOST_PARTS = omega arith in
+    let none : Option Ring = None in
+    rw (c.loop.invariant.0) (no_rings c.args.register.seats c.loop.counter (λ p. part_home_of_all p c.args.register c.requires), length-replicate c.loop.counter none ∙ all)

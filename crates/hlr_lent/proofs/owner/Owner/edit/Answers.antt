@@ -1,0 +1,22 @@
+use Rattle.std.proofs.Common.{◌∙◌, ap, refl}
+use Rattle.rtrb.specs.Ring.{sent}
+use Rattle.tatp_actions.specs.Action.{done_reply}
+use Rattle.view_board.specs.Desks.{Station}
+use Rattle.holding.specs.Held.{HoldingState}
+use Rattle.holding.specs.declared.job.Job.TheVariants.{Act}
+use Rattle.hlr_core.specs.Session.{IsActed}
+use Rattle.hlr_core.specs.Step.{reply_of}
+use Rattle.hlr_lent.proofs.JobLemmas.{one_more}
+use Rattle.hlr_lent.proofs.owner.Owner.edit.Goals as goal
+
+pub invariant_of-self : goal.invariant_of-self
+invariant_of-self g c =
+    let did = c.edit.ensures in
+    let act = g.E.Edit.action c.args.edit in
+    let reply = reply_of (done_reply c.edit.result) in
+    let acted : IsActed act c.deref_mut.result.now reply c.edit.new.self =
+    record { rows = done_reply c.edit.result; outcome = did.outcome; answered = refl; range = did.range; desk = did.desk; rules = did.after } in (
+      ap (λ (d : Station). d.board) did.desk.0 ∙ ap (λ (k : HoldingState). k.desk.board) c.deref_mut.ensures.value ∙ c.self.invariant.0,
+      c.self.invariant.1,
+      one_more (sent c.self.inside.ring) c.self.inside.holding.value c.edit.new.self (Act act) reply c.self.invariant.2 c.requires.number (rw c.deref_mut.ensures.value at acted),
+    )

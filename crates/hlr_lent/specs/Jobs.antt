@@ -1,0 +1,37 @@
+-- The jobs that a holding does from when it is lent until it comes home.
+use Rattle.std.specs.Prelude.{◌≡◌, ℕ, true, List, [], ◌∷◌, None, Some, position, slice_get, slice_set, ⊤}
+use Rattle.part_table.specs.Region.{is_part}
+use Rattle.holding.specs.Held.{HoldingState}
+use Rattle.holding.specs.declared.job.Job.{Job}
+use Rattle.holding.specs.declared.job.Job.TheVariants.{Act, Post}
+use Rattle.hlr_owners.specs.Out.{outs_in}
+use Rattle.hlr_owners.specs.Seats.{Seating}
+use Rattle.hlr_owners.specs.declared.lodging.Seat.TheVariants.{Part}
+use Rattle.hlr_core.specs.Session.{IsJobDone}
+use Rattle.hlr_core.specs.Step.{given_number}
+use Rattle.hlr_core.specs.declared.event.Reply.{Reply}
+
+-- a job that gives no number
+abbrev pub IsNumberless : Job → Type 0
+IsNumberless (Act act) = given_number act ≡ None
+IsNumberless (Post limit) = ⊤
+
+-- such jobs, the last one first, each with the reply to it, make one holding of another
+abbrev pub AreDone : HoldingState → List (Job × Reply) → HoldingState → Type 0
+AreDone lent [] now = now ≡ lent
+AreDone lent (last ∷ earlier) now =
+    (before : HoldingState) × AreDone lent earlier before × IsNumberless last.0 × IsJobDone last.0 before last.1 now
+
+-- a holding is what some such jobs have made of the one that was lent
+abbrev pub IsWorked : HoldingState → HoldingState → Type 0
+IsWorked lent now = (jobs : List (Job × Reply)) × AreDone lent jobs now
+
+-- a part that was out is at home, with a holding that such jobs have made of the one that was lent
+pub record IsBack (part : ℕ) (before after : Seating) : Type 0 where
+  pub lent : HoldingState
+  pub home : HoldingState
+  pub index : ℕ
+  pub out : slice_get (outs_in before.seats) part ≡ Some (Some lent)
+  pub worked : IsWorked lent home
+  pub region : position (is_part part) before.regions ≡ Some index
+  pub seated : after ≡ record before { seats = slice_set before.seats index (Part (record { holding = home; home = true })) }

@@ -1,0 +1,219 @@
+//! A register that lends its parts.
+ghost use Rattle.std.specs.Prelude.{◌≡◌, ◌<◌, true, false, IsTrue, None, Some, IfOk, IfSome, OnErr, length, slice_index_or, slice_set};
+ghost use Rattle.view_board.specs.Desks.{with_view};
+ghost use Rattle.view_board.specs.Views.{looked};
+ghost use Rattle.hlr_owners.specs.Recut.{IsHomeToCut, IsRecut};
+ghost use Rattle.hlr_owners.specs.Seats.{AllHome, AreSeated, IsLent, homes_in, store_in};
+ghost use Rattle.hlr_owners.specs.Sight.{IsSightOf};
+ghost use Rattle.hlr_core.specs.Beside.{IsRecutBeside, IsStepBeside};
+ghost use Rattle.hlr_core.specs.Home.{IsHomeTo, IsHouseAfter, IsSameHouse};
+ghost use Rattle.hlr_core.specs.Route.{IsRightNow};
+ghost use Rattle.hlr_core.specs.Step.{IsStep};
+ghost use Rattle.hlr_lent.specs.Away.{IsAsking, IsAway, is_parting};
+ghost use Rattle.hlr_lent.specs.Jobs.{IsBack};
+
+use crate::owner::Owner;
+use crate::ring::{LenderEnd, arrived, ring, tell};
+use arrayvec::ArrayVec;
+use hlr_core::{Event, Register, Reply, Route, Sight};
+use part_table::MOST_PARTS;
+use std::alloc::Global;
+use std::marker::Model;
+use std::sync::Arc;
+use tatp_rows::Refusal;
+
+/// A register that lends its parts, seen as the register, with the parts that are out as they were lent.
+#[derive(Drop)]
+pub struct Lender {
+    pub(crate) register: Register,
+    // By the numbers of the parts: at which ring a part that is out is waited for.
+    pub(crate) rings: ArrayVec<Option<LenderEnd>, 16>,
+}
+
+impl Model for Lender {
+    ghost use Rattle.std.specs.Prelude.{◌≡◌, length};
+    ghost use Rattle.part_table.specs.declared.region.TheConstants.{MOST_PARTS};
+    ghost use Rattle.hlr_owners.specs.Out.{outs_in};
+    ghost use Rattle.hlr_owners.specs.Seats.{Seating};
+    ghost use Rattle.hlr_lent.specs.Rings.{HaveRings};
+
+    ghost Value = { Seating };
+
+    ghost view = { λ l. l.register };
+
+    ghost invariant = { λ l. HaveRings (outs_in l.register.seats) l.rings.items × (length l.rings.items ≡ MOST_PARTS) };
+}
+
+/// Takes the ring of a part out of its place, if there is one.
+fn take_ring(rings: &mut ArrayVec<Option<LenderEnd>, 16>, part: u8) -> Option<LenderEnd>
+    ensures items { rings.new.items ≡ slice_set rings.old.items part None }
+    ensures ring { result ≡ slice_index_or rings.old.items part None }
+{
+    if usize::from(part) >= rings.len() {
+        return None;
+    }
+    rings.as_mut_slice()[usize::from(part)].take()
+}
+
+/// Puts the ring of a part in its place.
+fn put_ring(rings: &mut ArrayVec<Option<LenderEnd>, 16>, part: u8, ring: LenderEnd)
+    requires { part < length rings.old.items }
+    ensures { rings.new.items ≡ slice_set rings.old.items part (Some ring) }
+{
+    rings.as_mut_slice()[usize::from(part)] = Some(ring);
+}
+
+/// Whether a part may come or go by an event.
+fn is_parting(event: &Event) -> bool
+    ensures { result ≡ is_parting event.now }
+{
+    matches!(event, Event::Divide { .. } | Event::Dissolve { .. })
+}
+
+impl Lender {
+    /// A lender of the parts of a register, which are all at home. It takes no memory.
+    pub fn of(register: Register) -> Lender
+        requires { AllHome register.seats }
+        ensures { result ≡ register }
+    {
+        let mut rings = ArrayVec::new();
+        for _ in 0..MOST_PARTS {
+            rings.push(None);
+        }
+        Lender { register, rings }
+    }
+
+    /// The register, with the parts that are out as they were lent.
+    pub fn register(&self) -> &Register
+        ensures value { result.now ≡ self.now }
+        ensures seated { AreSeated self.now }
+    {
+        // For the prover: each region has its owner beside it.
+        let _board = self.register.board();
+        &self.register
+    }
+
+    /// The register alone. A part that is out can't come home to it; `is_home_from(0)` tells whether one is.
+    pub fn into_register(self) -> Register
+        ensures { result ≡ self }
+    {
+        let Lender {
+            register,
+            rings: _rings,
+        } = self;
+        register
+    }
+
+    /// Lends a part that is at home to an owner, for whatever thread. `Memory` where a growth was refused: then nothing
+    /// is changed.
+    pub fn lend(&mut self, alloc: Global, part: u8) -> Result<Box<Owner>, Refusal>
+        requires { slice_index_or (homes_in self.old.seats) part false ≡ true }
+        ensures lent { IfOk result (λ owner. IsLent part self.old owner.value self.new) }
+        ensures refused { OnErr result ((self.new ≡ self.old) × (result ≡ Err Refusal.Memory)) }
+    {
+        // For the prover: each region has its owner beside it.
+        let _board = self.register.board();
+        let Ok((mut owner_end, mut lender_end)) = ring(alloc) else {
+            return Err(Refusal::Memory);
+        };
+        let Ok(board) = Arc::try_clone(self.register.board()) else {
+            return Err(Refusal::Memory);
+        };
+        let holding = self.register.lend(part);
+        tell(&mut owner_end, &mut lender_end, &holding);
+        match Box::new(alloc, Owner::of(holding, board, owner_end)) {
+            Ok(owner) => {
+                put_ring(&mut self.rings, part, lender_end);
+                Ok(owner)
+            }
+            Err(refused) => {
+                self.register.back(refused.value.into_holding());
+                Err(Refusal::Memory)
+            }
+        }
+    }
+
+    /// Takes a part in that its owner has sent home, and tells whether it did: a part at home, or none, hasn't come. It
+    /// takes no memory, and never waits.
+    pub fn back(&mut self, part: u8) -> bool
+        ensures come { IsTrue result → IsBack part self.old self.new }
+        ensures none { result ≡ false → self.new ≡ self.old }
+    {
+        // For the prover: each region has its owner beside it.
+        let _board = self.register.board();
+        let Some(mut ring) = take_ring(&mut self.rings, part) else {
+            return false;
+        };
+        match arrived(&mut ring) {
+            Some(holding) => {
+                self.register.back(holding);
+                true
+            }
+            None => {
+                put_ring(&mut self.rings, part, ring);
+                false
+            }
+        }
+    }
+
+    /// Applies an event whose parts are at home, and replies to it, as `Register::apply`. It is right whatever jobs have
+    /// done to the holdings that are out.
+    pub fn apply(&mut self, event: Event) -> Reply
+        requires { IsHomeTo event self.old }
+        ensures step { IsStep event (store_in self.old) result (store_in self.new) }
+        ensures house { IsHouseAfter event result self.old self.new }
+        ensures beside { IsStepBeside event self.old result self.new }
+    {
+        self.register.apply(event)
+    }
+
+    /// The reply to an event that is known without the parts that are out.
+    fn known(&self, event: &Event) -> Option<Reply>
+        ensures right { IfSome result (λ reply. IsRightNow event.now self.now reply) }
+        ensures house { IfSome result (λ reply. IsHouseAfter event.now reply self.now self.now) }
+        ensures asking { result ≡ None → IsAsking event.now self.now }
+    {
+        if is_parting(event) {
+            return None;
+        }
+        match self.register.route(event) {
+            Route::Now(reply) => Some(reply),
+            Route::To(..) | Route::Here => None,
+        }
+    }
+
+    /// Applies an event, or gives `None` where a part on which it works is out: then nothing is changed. Even then a field
+    /// out of its range of an event on rows is answered, a number that nobody has, and a posting of no part.
+    pub fn ask(&mut self, event: Event) -> Option<Reply>
+        ensures step { IfSome result (λ reply. IsStep event (store_in self.old) reply (store_in self.new)) }
+        ensures house { IfSome result (λ reply. IsHouseAfter event reply self.old self.new) }
+        ensures beside { IfSome result (λ reply. IsStepBeside event self.old reply self.new) }
+        ensures away { result ≡ None → IsAway event self.old }
+        ensures same { result ≡ None → self.new ≡ self.old }
+    {
+        if !self.is_home_to(&event) {
+            return self.known(&event);
+        }
+        Some(self.apply(event))
+    }
+
+    /// Moves the bounds between parts, where those on both sides of each that moves are at home, as
+    /// `Register::recut_to`.
+    pub fn recut_to(&mut self, bounds: &[u64]) -> Result<u8, Refusal>
+        requires { IsHomeToCut bounds.now self.old }
+        ensures recut { IsRecut bounds.now (store_in self.old) result (store_in self.new) }
+        ensures house { IsSameHouse self.old self.new }
+        ensures beside { IsRecutBeside bounds.now self.old result self.new }
+    {
+        self.register.recut_to(bounds)
+    }
+
+    /// A sight of the board's words, whoever is out, as `Register::look`. It takes no memory, and never waits.
+    pub fn look(&mut self) -> Sight
+        ensures right { IsSightOf (store_in self.old) result.words }
+        ensures seen { store_in self.new ≡ record (store_in self.old) { sight = result.words } }
+        ensures same { self.new ≡ record self.old { spare = with_view self.old.spare (looked self.old.spare.view result.words) } }
+    {
+        self.register.look()
+    }
+}

@@ -1,0 +1,149 @@
+//! A part that is out, in the hands of its owner.
+ghost use Rattle.std.specs.Prelude.{◌≡◌, ◌<◌, ◌↔◌, IsTrue, None, Some, option_copied};
+ghost use Rattle.std.specs.Arc.{arc_value};
+ghost use Rattle.rtrb.specs.Ring.{known_free, sent};
+ghost use Rattle.tatp_actions.specs.Action.{destinations, done_reply, s_id_of};
+ghost use Rattle.tatp_actions.specs.Book.{IsWithin, access_at, subscriber_at};
+ghost use Rattle.holding.specs.declared.job.Job.TheVariants as job;
+ghost use Rattle.hlr_core.specs.Session.{IsJobDone};
+ghost use Rattle.hlr_core.specs.Step.{given_number, posted_reply, reply_of};
+ghost use Rattle.hlr_lent.specs.Rings.{lent_as};
+
+use crate::ring::{Message, OwnerEnd};
+use arrayvec::ArrayVec;
+use holding::Holding;
+use std::marker::Model;
+use std::sync::Arc;
+use tatp_actions::Edit;
+use tatp_rows::{Access, Number, Refusal, Subscriber};
+use view_board::Board;
+
+/// A part that is out, seen as its holding. Whoever has it does jobs on its rows, alone, and posts to the board that all
+/// parts share, while the other parts and the register go on.
+///
+/// It goes home by `send_home`, from whatever thread. One that is dropped takes its rows along, and its part stays out.
+#[derive(Drop)]
+pub struct Owner {
+    holding: Box<Holding>,
+    board: Arc<Board>,
+    ring: OwnerEnd,
+}
+
+impl Model for Owner {
+    ghost use Rattle.std.specs.Prelude.{◌≡◌, ◌<◌};
+    ghost use Rattle.std.specs.Arc.{arc_value};
+    ghost use Rattle.rtrb.specs.Ring.{known_free, sent};
+    ghost use Rattle.holding.specs.Held.{HoldingState};
+    ghost use Rattle.hlr_lent.specs.Rings.{MayComeHome};
+
+    ghost Value = { HoldingState };
+
+    ghost view = { λ o. o.holding.value };
+
+    ghost invariant = { λ o. (o.holding.value.desk.board ≡ arc_value o.board) × (0 < known_free o.ring) × MayComeHome (sent o.ring) o.holding.value };
+}
+
+impl Owner {
+    /// The owner of a part that was just lent.
+    pub(crate) fn of(holding: Box<Holding>, board: Arc<Board>, ring: OwnerEnd) -> Owner
+        requires board { holding.value.desk.board ≡ arc_value board }
+        requires told { lent_as (sent ring) ≡ Some holding.value }
+        requires room { 0 < known_free ring }
+        ensures { result ≡ holding.value }
+    {
+        Owner {
+            holding,
+            board,
+            ring,
+        }
+    }
+
+    /// The holding, of a part that isn't lent after all.
+    pub(crate) fn into_holding(self) -> Box<Holding>
+        ensures { result.value ≡ self }
+    {
+        let Owner {
+            holding,
+            board: _board,
+            ring: _ring,
+        } = self;
+        holding
+    }
+
+    /// The first subscriber of the part, 1..=16,777,216. It stays the same while the part is out.
+    pub fn lo(&self) -> u32
+        ensures { result ≡ self.now.part.lo }
+    {
+        self.holding.lo()
+    }
+
+    /// The number behind the last subscriber of the part, at most 16,777,217.
+    pub fn hi(&self) -> u32
+        ensures { result ≡ self.now.part.hi }
+    {
+        self.holding.hi()
+    }
+
+    /// Whether a subscriber lies in the part.
+    pub fn has(&self, s_id: u32) -> bool
+        ensures { IsTrue result ↔ IsWithin self.now.part.lo self.now.part.hi s_id }
+    {
+        self.holding.lo() <= s_id && s_id < self.holding.hi()
+    }
+
+    /// The Subscriber row of a subscriber, where the part has one.
+    pub fn lend_subscriber(&self, s_id: u32) -> Option<&Subscriber>
+        ensures { option_copied result ≡ subscriber_at self.now.part.book s_id }
+    {
+        self.holding.lend_subscriber(s_id)
+    }
+
+    /// The Access_Info row of a subscriber's access, where the part has one.
+    pub fn lend_access(&self, s_id: u32, ai_type: u8) -> Option<&Access>
+        ensures { option_copied result ≡ access_at self.now.part.book s_id ai_type }
+    {
+        self.holding.lend_access(s_id, ai_type)
+    }
+
+    /// The numbers to which calls of a subscriber are forwarded, as `Holding::destinations`: at most three.
+    pub fn destinations(
+        &self,
+        s_id: u32,
+        sf_type: u8,
+        start_time: u8,
+        end_time: u8,
+    ) -> ArrayVec<Number, 3>
+        ensures { result.items ≡ destinations self.now.part.book s_id sf_type start_time end_time }
+    {
+        self.holding
+            .destinations(s_id, sf_type, start_time, end_time)
+    }
+
+    /// Does an edit on a subscriber of the part, that gives no number, as `Holding::edit`: `Field`, then the refusals of
+    /// the rows, `Memory` only where a row is added. A refusal changes nothing.
+    pub fn edit<E: Edit>(&mut self, edit: E) -> Result<(), Refusal>
+        requires within { IsWithin self.old.part.lo self.old.part.hi (s_id_of (E.action edit)) }
+        requires number { given_number (E.action edit) ≡ None }
+        ensures { IsJobDone (job.Act (E.action edit)) self.old (reply_of (done_reply result)) self.new }
+    {
+        self.holding.edit(edit)
+    }
+
+    /// Posts what is pending of the part, at most so many cells, as `Holding::post`, and tells how many were: `Worn`,
+    /// after which the cells before stay posted.
+    pub fn post(&mut self, limit: u64) -> Result<u8, Refusal>
+        ensures { IsJobDone (job.Post limit) self.old (posted_reply result) self.new }
+    {
+        self.holding.post(&self.board, limit)
+    }
+
+    /// Sends the part home, where `Lender::back` takes it in. It takes no memory, and never waits.
+    pub fn send_home(self) {
+        let Owner {
+            holding,
+            board: _board,
+            mut ring,
+        } = self;
+        ring.push_reserved(Message::Home(holding));
+    }
+}

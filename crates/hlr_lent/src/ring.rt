@@ -1,0 +1,68 @@
+//! The ring of a part that is out: first how its holding is as it is lent, and then the holding as it comes home.
+ghost use Rattle.std.specs.Prelude.{◌≡◌, ◌<◌, [], None, Some, IfOk, IfSome};
+ghost use Rattle.rtrb.specs.Ring.{IsPair, known_free, known_items, received, sent};
+ghost use Rattle.holding.specs.Held.{HoldingState};
+ghost use Rattle.hlr_lent.specs.Rings.{MayComeHome, MayFollow, lent_as};
+
+use holding::Holding;
+use rtrb::{Consumer, Producer, Protocol, RingBuffer};
+use std::alloc::{AllocError, Global};
+use std::snapshot::Snapshot;
+
+/// What goes through the ring of a part that is out.
+#[derive(Drop)]
+pub enum Message {
+    /// How the holding is as it is lent. It has no bytes.
+    Lent(Snapshot<Holding>),
+    /// The holding as it comes home.
+    Home(Box<Holding>),
+}
+
+/// The rule of such a ring: what is lent comes home as jobs have made it.
+pub struct ReturnRule;
+
+impl Protocol<Message> for ReturnRule {
+    ghost allows = { MayFollow };
+}
+
+/// The end of the owner, who sends the holding home.
+pub type OwnerEnd = Producer<Message, Global, ReturnRule>;
+
+/// The end of the lender, who takes it in.
+pub type LenderEnd = Consumer<Message, Global, ReturnRule>;
+
+/// Makes a ring through which nothing has gone yet.
+pub(crate) fn ring(alloc: Global) -> Result<(OwnerEnd, LenderEnd), AllocError>
+    ensures pair { IfOk result (λ ends. IsPair ends.0 ends.1) }
+    ensures owner { IfOk result (λ ends. (sent ends.0 ≡ []) × (known_free ends.0 ≡ 2)) }
+    ensures lender { IfOk result (λ ends. (received ends.1 ≡ []) × (known_items ends.1 ≡ [])) }
+{
+    RingBuffer::with_protocol::<Global, ReturnRule>(alloc, 2)
+}
+
+/// Tells both ends how the holding is that is lent.
+pub(crate) fn tell(owner: &mut OwnerEnd, lender: &mut LenderEnd, holding: &Holding)
+    requires pair { IsPair owner.old lender.old }
+    requires owner { (sent owner.old ≡ []) × (known_free owner.old ≡ 2) }
+    requires lender { (received lender.old ≡ []) × (known_items lender.old ≡ []) }
+    ensures owner { lent_as (sent owner.new) ≡ Some holding.now }
+    ensures room { 0 < known_free owner.new }
+    ensures lender { lent_as (received lender.new) ≡ Some holding.now }
+{
+    owner.push_reserved(Message::Lent(Snapshot::of(holding)));
+    lender.slots_beside(owner);
+    let _lent = lender.pop_known();
+}
+
+/// Takes the holding out of the ring, if it has come.
+pub(crate) fn arrived(lender: &mut LenderEnd) -> Option<Box<Holding>>
+    requires { (lent : HoldingState) × (lent_as (received lender.old) ≡ Some lent) }
+    ensures come { IfSome result (λ holding. MayComeHome (received lender.old) holding.value) }
+    ensures none { result ≡ None → received lender.new ≡ received lender.old }
+{
+    match lender.pop() {
+        Ok(Message::Home(holding)) => Some(holding),
+        Ok(Message::Lent(_)) => unreachable!(),
+        Err(_) => None,
+    }
+}

@@ -1,0 +1,136 @@
+//! A part that is lent, what is answered meanwhile, and its way home: what no clause says. Each call that wants memory is
+//! tried again where it is refused.
+use crate::{Lender, Owner};
+use hlr_core::{Event, Number, Register, Reply, Subscriber};
+use std::alloc::Global;
+use std::num::NonZeroU32;
+use std::process::Abort;
+use tatp_actions::RowReply;
+use tatp_actions::edit::UpdateLocation;
+use tatp_rows::Refusal;
+
+/// A subscriber whose number is the s_id, at a location.
+fn row(s_id: u64, vlr_location: u64) -> Result<Subscriber, Refusal> {
+    Subscriber::try_new(
+        s_id,
+        Number::try_new(s_id)?,
+        [0; 10],
+        [0; 10],
+        [0; 10],
+        1,
+        vlr_location,
+    )
+}
+
+/// What adds subscriber 7 to the first part, or 70 to the second.
+fn adding(rt: &impl Abort, s_id: u64) -> Event {
+    Event::AddSubscriber(row(s_id, 1).expect(rt, "a row"))
+}
+
+/// What moves a subscriber to a location.
+fn moving(rt: &impl Abort, number: u64, vlr_location: u64) -> Event {
+    Event::UpdateLocation {
+        sub_nbr: Number::try_new(number).expect(rt, "a number"),
+        vlr_location,
+    }
+}
+
+/// What is answered to an event, at the second try where a growth was refused.
+fn answer(lender: &mut Lender, event: &Event) -> Option<Reply> {
+    match lender.ask(*event) {
+        Some(Reply::Refused(Refusal::Memory)) => lender.ask(*event),
+        told => told,
+    }
+}
+
+/// A lender over two parts, each of which has a subscriber.
+fn opened(rt: &impl Abort, alloc: Global) -> Lender {
+    let register = match Register::open(alloc, 2, 4) {
+        Err(Refusal::Memory) => Register::open(alloc, 2, 4),
+        opened => opened,
+    };
+    let mut lender = Lender::of(register.expect(rt, "a register"));
+    let done = Some(Reply::Rows(RowReply::Done));
+    let low = answer(&mut lender, &adding(rt, 7));
+    let high = answer(&mut lender, &adding(rt, 70));
+    assert!(rt; low == done && high == done);
+    lender
+}
+
+/// The owner of a part that is at home.
+fn lent(rt: &impl Abort, alloc: Global, lender: &mut Lender, part: u8) -> Box<Owner> {
+    if !lender.register().at_home(part) {
+        panic!(rt; "the part is out")
+    }
+    match lender.lend(alloc, part) {
+        Ok(owner) => owner,
+        Err(_) => lent_again(rt, alloc, lender, part),
+    }
+}
+
+/// The same at the second try: a lend that was refused has left the part at home.
+fn lent_again(rt: &impl Abort, alloc: Global, lender: &mut Lender, part: u8) -> Box<Owner> {
+    if !lender.register().at_home(part) {
+        panic!(rt; "a lend that was refused keeps the part")
+    }
+    lender.lend(alloc, part).expect(rt, "an owner")
+}
+
+/// An owner moves its subscriber 7 to location 9, and posts.
+fn work(rt: &impl Abort, owner: &mut Owner) {
+    if !owner.has(7) {
+        panic!(rt; "the part has the subscriber")
+    }
+    let edit = UpdateLocation {
+        s_id: 7,
+        vlr_location: NonZeroU32::new(268_435_456).expect(rt, "a location"),
+    };
+    let is_done = owner.edit(edit).is_ok();
+    let posted = owner.post(51);
+    assert!(rt; is_done && posted == Ok(2));
+}
+
+/// Asserts what is answered while the first part is out: what is known without it, and what the second one has.
+fn expect_beside(rt: &impl Abort, lender: &mut Lender) {
+    let told = [
+        answer(lender, &moving(rt, 7, 2)),
+        answer(lender, &moving(rt, 7, 0)),
+        answer(lender, &moving(rt, 9, 2)),
+        answer(lender, &moving(rt, 70, 2)),
+        answer(lender, &Event::Post { part: 0, limit: 1 }),
+        answer(lender, &Event::Post { part: 2, limit: 1 }),
+    ];
+    let wanted = [
+        None,
+        Some(Reply::Refused(Refusal::Field)),
+        Some(Reply::Refused(Refusal::NoNumber)),
+        Some(Reply::Rows(RowReply::Done)),
+        None,
+        Some(Reply::Refused(Refusal::NoPart)),
+    ];
+    assert!(rt; told == wanted);
+}
+
+#[test]
+fn part_comes_home_each_refused(rt: HostRuntime) {
+    let alloc = rt.alloc();
+    let mut lender = opened(&rt, alloc);
+    let mut owner = lent(&rt, alloc, &mut lender, 0);
+    expect_beside(&rt, &mut lender);
+    work(&rt, &mut owner);
+    let early = lender.back(0);
+    let owner = Box::into_inner(owner);
+    owner.send_home();
+    let backs = [lender.back(0), lender.back(0), lender.back(1)];
+    let read = lender.ask(Event::SubscriberData { s_id: 7 });
+    let moved = row(7, 268_435_456).expect(&rt, "a row");
+    assert_eq!(rt;
+        (early, backs, read),
+        (
+            false,
+            [true, false, false],
+            Some(Reply::Rows(RowReply::Row(moved)))
+        )
+    );
+    drop(lender);
+}
