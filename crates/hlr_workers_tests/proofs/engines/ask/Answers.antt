@@ -1,5 +1,0 @@
-use Rattle.hlr_core.proofs.HomeLemmas.{home_to_all}
-use Rattle.hlr_workers_tests.proofs.engines.ask.Goals as goal
-
-pub apply-requires : goal.apply-requires
-apply-requires c = home_to_all c.args.event c.args.register.now (c.all_at_home.ensures.0 c.if-all_at_home.true)

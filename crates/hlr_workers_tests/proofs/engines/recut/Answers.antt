@@ -1,5 +1,0 @@
-use Rattle.hlr_owners.proofs.HomeLemmas.{cut_home_of_all}
-use Rattle.hlr_workers_tests.proofs.engines.recut.Goals as goal
-
-pub recut_to-requires : goal.recut_to-requires
-recut_to-requires c = cut_home_of_all c.args.bounds.now c.args.register.now (c.all_at_home.ensures.0 c.if-all_at_home.true)
