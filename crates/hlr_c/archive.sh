@@ -3,6 +3,7 @@
 # crates/*/out. `rt lib --cpu x86-64` does so too, but it doesn't take those libraries, and proves all of them again.
 set -eu
 cd "$(dirname "$0")"
+mkdir -p out
 rm -f out/libhlr_c.a
 kit=$(dirname "$(rt doc)")
 words=(--crate-name hlr_c src/lib.rt --crate-type staticlib -L "dependency=$kit/rlibs")

@@ -13,6 +13,13 @@
  * All numbers are checked, whatever is handed in; they are 64 bits wide, so that nothing is cut off on the way. Letters
  * are ASCII codes, and have no 0 behind them.
  *
+ * A call that reads takes an hlr *, and no const hlr *: the handle is closed while a call works, and open again when it
+ * returns. So two reads at once are two calls at once.
+ *
+ * Most calls go down a tree or two, which takes a microsecond or less. hlr_views goes over all cells of each part, and
+ * hlr_recut is one give and one take for each bound that moves. hlr_give and hlr_divide count the rows that move, which
+ * takes 100 ms for 9 million. hlr_scan goes over all rows.
+ *
  * What C owes, since no prover sees it:
  *   - A handle is filled with zeros (HLR_CLOSED) before its first call. From then on only these calls write to it. A
  *     handle that was never filled may be anything, and then so may the calls.
@@ -22,8 +29,8 @@
  *   - An open handle is closed once, or its memory is never given back.
  *   - One call at a time works on a handle. It may go from thread to thread, where a lock, a thread's start or join, or
  *     an atomic step in one order for all (memory_order_seq_cst) stands between two calls.
- *   - Pointers aren't null and point to a value of their type, also where a call only writes it (so fill it before, as
- *     by = {0}); the things that one call is passed don't overlap.
+ *   - Pointers aren't null, also where a count is 0. They point to a value of their type, also where a call only writes
+ *     it (so fill it before, as by = {0}); the things that one call is passed don't overlap.
  *   - malloc, realloc and free are those of one allocator, and align a block to each power of two up to 16 that divides
  *     its size. No call is made from a signal handler, or in the forked child of a process with threads.
  *   - A call needs at most 64 KB of stack.
@@ -34,7 +41,13 @@
 #ifndef HLR_H
 #define HLR_H
 
+#include <stddef.h>
 #include <stdint.h>
+
+/* The version of this header and of its library. */
+#define HLR_VERSION_MAJOR 0
+#define HLR_VERSION_MINOR 3
+#define HLR_VERSION_PATCH 0
 
 #ifdef __cplusplus
 extern "C" {
@@ -48,12 +61,12 @@ typedef struct {
 
 #define HLR_CLOSED {0, 0}
 
-/* The codes. */
-enum {
+/* The codes. A call answers one as uint8_t; of a switch over (hlr_code)code compilers tell which cases are missing. */
+typedef enum {
     HLR_DONE = 0,
     HLR_MEMORY = 1,         /* no memory was left */
     HLR_FIELD = 2,          /* a number or a letter is out of its range */
-    HLR_NO_SUBSCRIBER = 3,  /* no subscriber row has this s_id */
+    HLR_NO_SUBSCRIBER = 3,  /* no subscriber row has this s_id, or one from there on */
     HLR_NO_NUMBER = 4,      /* no subscriber has this number */
     HLR_NO_ACCESS = 5,      /* no access row has this key, or there is no such subscriber */
     HLR_NO_FACILITY = 6,    /* no facility row has this key, or (hlr_set_active) there is no such subscriber */
@@ -71,7 +84,35 @@ enum {
     HLR_MANY_PARTS = 22,    /* sixteen parts are there */
     HLR_NOT_OPEN = 254,     /* the handle has no register */
     HLR_STILL_OPEN = 255    /* the handle of hlr_open has a register */
-};
+} hlr_code;
+
+/* The name of a code, as the program hlr prints refusals; "" of a number that is no code. */
+static inline const char *hlr_code_name(uint64_t code) {
+    switch (code) {
+    case HLR_DONE: return "Done";
+    case HLR_MEMORY: return "Memory";
+    case HLR_FIELD: return "Field";
+    case HLR_NO_SUBSCRIBER: return "NoSubscriber";
+    case HLR_NO_NUMBER: return "NoNumber";
+    case HLR_NO_ACCESS: return "NoAccess";
+    case HLR_NO_FACILITY: return "NoFacility";
+    case HLR_NO_FORWARDING: return "NoForwarding";
+    case HLR_NO_DESTINATION: return "NoDestination";
+    case HLR_EXISTS: return "Exists";
+    case HLR_NUMBER_TAKEN: return "NumberTaken";
+    case HLR_MOVING: return "Moving";
+    case HLR_NO_PART: return "NoPart";
+    case HLR_NO_PIECE: return "NoPiece";
+    case HLR_OUT_OF_RANGE: return "OutOfRange";
+    case HLR_NOT_ADJACENT: return "NotAdjacent";
+    case HLR_MANY_PIECES: return "ManyPieces";
+    case HLR_WORN: return "Worn";
+    case HLR_MANY_PARTS: return "ManyParts";
+    case HLR_NOT_OPEN: return "NotOpen";
+    case HLR_STILL_OPEN: return "StillOpen";
+    }
+    return "";
+}
 
 /*
  * Ranges: s_id 1..=16777216; sub_nbr and numberx below 10^15; ai_type and sf_type 1..=4; start_time 0, 8 or 16;
@@ -109,6 +150,20 @@ typedef struct {
     uint8_t data_b[5];    /* letters A to Z */
 } hlr_facility;
 
+/* Which access is asked for. */
+typedef struct {
+    uint64_t s_id;
+    uint64_t ai_type;
+} hlr_access_asked;
+
+/* Which call's numbers are asked for. */
+typedef struct {
+    uint64_t s_id;
+    uint64_t sf_type;
+    uint64_t start_time;
+    uint64_t end_time;
+} hlr_destination_asked;
+
 /* Numbers that calls are forwarded to. */
 typedef struct {
     uint64_t count;      /* 1..=3 */
@@ -125,24 +180,29 @@ typedef struct {
 
 /* Regions, in order. */
 typedef struct {
-    uint64_t count; /* 1..=32 */
-    hlr_region regions[32];
+    uint64_t count;         /* 1..=32 */
+    hlr_region regions[32]; /* all fields 0 in the places behind them */
 } hlr_region_list;
 
 /* Bounds between parts, in order: the first subscriber of each part but the first. */
 typedef struct {
-    uint64_t count; /* 0..=15 */
-    uint64_t bounds[15];
+    uint64_t count;      /* 0..=15 */
+    uint64_t bounds[15]; /* what hlr_propose tells has 0 in the places behind them; hlr_recut doesn't read those */
 } hlr_bounds;
 
-/* How many cells there are: forwardings of active facilities by hour 0..=23, subscribers by area 24..=39, rows of all
- * tables by zone 40..=71. */
+/*
+ * How many cells there are. Numbers are divided as C divides them.
+ *   - 0..=23, hours: cell h counts the forwardings of active facilities with start_time <= h and h < end_time.
+ *   - 24..=39, areas: cell 24 + a counts the subscribers with vlr_location / 268435456 == a.
+ *   - 40..=71, zones: cell 40 + z counts the rows of all four tables whose s_id lies in zone z. That is
+ *     (s_id - 1) / width, or 31 where this is more.
+ */
 #define HLR_CELLS 72
 
 /*
  * Opens an empty register in a closed handle. parts, 1..=16, share its subscribers, which lie in 32 zones of width
- * subscribers each, 1..=524288; the last zone has all that are left. After HLR_FIELD and HLR_MEMORY the handle is
- * closed.
+ * subscribers each, 1..=524288; the last zone has all that are left. Part p begins at s_id 1 + p * 32 / parts * width,
+ * and the last part has all that are left. After HLR_FIELD and HLR_MEMORY the handle is closed.
  * Refusals: STILL_OPEN, FIELD, MEMORY
  */
 uint8_t hlr_open(uint64_t parts, uint64_t width, hlr *handle);
@@ -172,6 +232,54 @@ uint8_t hlr_new_destination(hlr *handle, uint64_t s_id, uint64_t sf_type, uint64
  * Refusals: FIELD, MOVING, NO_ACCESS
  */
 uint8_t hlr_access_data(hlr *handle, uint64_t s_id, uint64_t ai_type, hlr_access *row);
+
+/*
+ * GET_SUBSCRIBER_DATA of many: codes[i] and rows[i] are what hlr_subscriber_data answers and writes for s_ids[i].
+ * HLR_FIELD where the three counts differ, and nothing is written then.
+ * Refusals: FIELD
+ */
+uint8_t hlr_subscriber_data_many(hlr *handle, const uint64_t *s_ids, size_t s_ids_count, hlr_subscriber *rows,
+                                 size_t rows_count, uint8_t *codes, size_t codes_count);
+
+/*
+ * GET_NEW_DESTINATION of many: the same by hlr_new_destination for asked[i].
+ * Refusals: FIELD
+ */
+uint8_t hlr_new_destination_many(hlr *handle, const hlr_destination_asked *asked, size_t asked_count,
+                                 hlr_numbers *numbers, size_t numbers_count, uint8_t *codes, size_t codes_count);
+
+/*
+ * GET_ACCESS_DATA of many: the same by hlr_access_data for asked[i].
+ * Refusals: FIELD
+ */
+uint8_t hlr_access_data_many(hlr *handle, const hlr_access_asked *asked, size_t asked_count, hlr_access *rows,
+                             size_t rows_count, uint8_t *codes, size_t codes_count);
+
+/*
+ * Tells the subscriber who has a number.
+ * Refusals: FIELD, NO_NUMBER
+ */
+uint8_t hlr_find(hlr *handle, uint64_t sub_nbr, uint64_t *s_id);
+
+/*
+ * Reads a row.
+ * Refusals: FIELD, MOVING, NO_FACILITY
+ */
+uint8_t hlr_facility_data(hlr *handle, uint64_t s_id, uint64_t sf_type, hlr_facility *row);
+
+/*
+ * Tells the end and the number of a facility's forwarding that starts at start_time.
+ * Refusals: FIELD, MOVING, NO_FORWARDING
+ */
+uint8_t hlr_forwarding(hlr *handle, uint64_t s_id, uint64_t sf_type, uint64_t start_time, uint64_t *end_time,
+                       uint64_t *numberx);
+
+/*
+ * Reads the first subscriber's row with an s_id from this one on, also of one who lies in a loose piece: so a loop that
+ * goes on from row.s_id + 1 reads all of them.
+ * Refusals: NO_SUBSCRIBER
+ */
+uint8_t hlr_next_subscriber(hlr *handle, uint64_t from, hlr_subscriber *row);
 
 /*
  * UPDATE_SUBSCRIBER_DATA: sets bit_1, 0 or 1, of the subscriber and data_a, 0..=255, of the facility, or neither.

@@ -83,6 +83,8 @@ enum class [[nodiscard]] code : std::uint8_t {
 using subscriber = hlr_subscriber;
 using access = hlr_access;
 using facility = hlr_facility;
+using access_asked = hlr_access_asked;
+using destination_asked = hlr_destination_asked;
 using numbers = hlr_numbers;
 using region = hlr_region;
 using region_list = hlr_region_list;
@@ -141,6 +143,29 @@ public:
         return code{hlr_access_data(&handle_, s_id, ai_type, &row)};
     }
 
+    code find(std::uint64_t sub_nbr, std::uint64_t &s_id) noexcept { return code{hlr_find(&handle_, sub_nbr, &s_id)}; }
+    code facility_data(std::uint64_t s_id, std::uint64_t sf_type, facility &row) noexcept {
+        return code{hlr_facility_data(&handle_, s_id, sf_type, &row)};
+    }
+    code forwarding(std::uint64_t s_id, std::uint64_t sf_type, std::uint64_t start_time, std::uint64_t &end_time,
+                    std::uint64_t &numberx) noexcept {
+        return code{hlr_forwarding(&handle_, s_id, sf_type, start_time, &end_time, &numberx)};
+    }
+    code next_subscriber(std::uint64_t from, subscriber &row) noexcept {
+        return code{hlr_next_subscriber(&handle_, from, &row)};
+    }
+
+    /* Many reads: of each array the first count elements. */
+    code subscriber_data_many(const std::uint64_t *s_ids, subscriber *rows, code *codes, std::size_t count) noexcept {
+        return code{hlr_subscriber_data_many(&handle_, s_ids, count, rows, count, bytes(codes), count)};
+    }
+    code new_destination_many(const destination_asked *asked, numbers *found, code *codes, std::size_t count) noexcept {
+        return code{hlr_new_destination_many(&handle_, asked, count, found, count, bytes(codes), count)};
+    }
+    code access_data_many(const access_asked *asked, access *rows, code *codes, std::size_t count) noexcept {
+        return code{hlr_access_data_many(&handle_, asked, count, rows, count, bytes(codes), count)};
+    }
+
     /* Changes. */
     code update_subscriber(std::uint64_t s_id, std::uint64_t sf_type, std::uint64_t bit_1, std::uint64_t data_a) noexcept {
         return code{hlr_update_subscriber(&handle_, s_id, sf_type, bit_1, data_a)};
@@ -186,6 +211,9 @@ public:
     code recut(const bounds &wanted, std::uint64_t &moved) noexcept { return code{hlr_recut(&handle_, &wanted, &moved)}; }
 
 private:
+    /* Codes, as hlr.h has them: a byte each. */
+    static std::uint8_t *bytes(code *codes) noexcept { return reinterpret_cast<std::uint8_t *>(codes); }
+
     /* Closes it, where it is open. */
     void shut() noexcept { hlr_close(&handle_); }
 

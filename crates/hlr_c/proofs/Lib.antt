@@ -1,3 +1,4 @@
 pub mod CrossingLemmas
 pub mod KeptSteps
+pub mod ManyLemmas
 pub mod RegisterCrossing

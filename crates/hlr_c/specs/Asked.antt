@@ -1,7 +1,7 @@
 -- What a call from C asks the register for, where its fields are in range.
 use Rattle.std.specs.Prelude.{ℕ, ◌==◌, nat_le, List, take, if◌then◌else◌, Result, Ok, Err}
 use Rattle.tatp_rows.specs.Number.{number_of}
-use Rattle.tatp_rows.specs.Rows.{SubscriberRow, AccessInfoRow, SpecialFacilityRow, is_between, subscriber_of, access_of, facility_of}
+use Rattle.tatp_rows.specs.Rows.{SubscriberRow, AccessInfoRow, SpecialFacilityRow, subscriber_of, access_of, facility_of}
 use Rattle.tatp_rows.specs.declared.refusal.Refusal.{Refusal}
 use Rattle.tatp_rows.specs.declared.refusal.Refusal.TheVariants.{Field}
 use Rattle.part_table.specs.declared.region.Side.{Side}
@@ -19,10 +19,6 @@ asks event (Err why) = Err why
 abbrev pub asks_both : {X Y : Type 0} → (X → Y → Event) → Result X Refusal → Result Y Refusal → Result Event Refusal
 asks_both event (Ok field) other = asks (event field) other
 asks_both event (Err why) other = Err why
-
--- a byte of a field
-abbrev pub byte_of : ℕ → Result ℕ Refusal
-byte_of value = if is_between 0 255 value then Ok value else Err Field
 
 -- UPDATE_LOCATION of a number
 abbrev pub location_asked : ℕ → ℕ → Result Event Refusal

@@ -1,6 +1,8 @@
 pub mod Asked
 pub mod Call
 pub mod Held
+pub mod Listing
+pub mod Many
 pub mod Opened
 pub mod Reports
 pub mod Rows

@@ -4,23 +4,16 @@ ghost use Rattle.tatp_rows.specs.Rows.{access_of, facility_of, subscriber_of};
 ghost use Rattle.hlr_owners.specs.Seats.{AllHome};
 ghost use Rattle.hlr_core.specs.Step.{edited_reply};
 ghost use Rattle.hlr_core.specs.declared.event.Event.TheVariants as event;
-ghost use Rattle.hlr_c.specs.Asked.{access_asked, byte_of, deletion_asked, facility_asked, insertion_asked, location_asked, number_asked, subscriber_asked};
+ghost use Rattle.hlr_c.specs.Asked.{access_asked, deletion_asked, facility_asked, insertion_asked, location_asked, number_asked, subscriber_asked};
 ghost use Rattle.hlr_c.specs.Call.{IsAnswer, IsCall, IsReply};
 ghost use Rattle.hlr_c.specs.Told.{code_told};
 ghost use Rattle.hlr_c.specs.declared.codes.TheConstants.{NOT_OPEN};
 
-use crate::codes::{NOT_OPEN, code_of_change};
-use crate::handle::Hlr;
+use crate::codes::code_of_change;
+use crate::handle::{Hlr, with_register};
 use crate::rows::{HlrAccess, HlrFacility, HlrSubscriber};
-use hlr_core::{Access, Facility, Letters, Number, Refusal, Register, Subscriber};
+use hlr_core::{Access, Facility, Letters, Number, Refusal, Register, Subscriber, byte};
 use std::alloc::Global;
-
-/// A byte; what is above 255 is `Field`.
-fn byte(value: u64) -> Result<u8, Refusal>
-    ensures { result ≡ byte_of value }
-{
-    u8::try_from(value).map_err(|_| Refusal::Field)
-}
 
 /// The row that C hands in, checked.
 fn subscriber_of(row: &HlrSubscriber) -> Result<Subscriber, Refusal>
@@ -155,12 +148,9 @@ pub extern "C" fn hlr_update_subscriber(
     ensures { IsCall NOT_OPEN (IsAnswer (Ok (event.UpdateSubscriber s_id sf_type bit_1 data_a)) code_told)
         handle.old.kept.register result handle.new.kept.register }
 {
-    let Some(mut register) = handle.take(alloc) else {
-        return NOT_OPEN;
-    };
-    let done = register.update_subscriber(s_id, sf_type, bit_1, data_a);
-    handle.put(register);
-    code_of_change(done)
+    with_register!(handle, alloc, |register| {
+        code_of_change(register.update_subscriber(s_id, sf_type, bit_1, data_a))
+    })
 }
 
 /// UPDATE_LOCATION (TATP, section 3.5): moves the subscriber with a number. `NOT_OPEN`, `Field` where sub_nbr isn't
@@ -175,12 +165,9 @@ pub extern "C" fn hlr_update_location(
     ensures { IsCall NOT_OPEN (IsAnswer (location_asked sub_nbr vlr_location) code_told)
         handle.old.kept.register result handle.new.kept.register }
 {
-    let Some(mut register) = handle.take(alloc) else {
-        return NOT_OPEN;
-    };
-    let done = update_location(&mut register, sub_nbr, vlr_location);
-    handle.put(register);
-    code_of_change(done)
+    with_register!(handle, alloc, |register| {
+        code_of_change(update_location(&mut register, sub_nbr, vlr_location))
+    })
 }
 
 /// INSERT_CALL_FORWARDING (TATP, section 3.6): adds a forwarding to a number. `NOT_OPEN`, `Field` where a number isn't
@@ -199,19 +186,16 @@ pub extern "C" fn hlr_insert_forwarding(
     ensures { IsCall NOT_OPEN (IsAnswer (insertion_asked sub_nbr sf_type start_time end_time numberx) code_told)
         handle.old.kept.register result handle.new.kept.register }
 {
-    let Some(mut register) = handle.take(alloc) else {
-        return NOT_OPEN;
-    };
-    let done = insert_forwarding(
-        &mut register,
-        sub_nbr,
-        sf_type,
-        start_time,
-        end_time,
-        numberx,
-    );
-    handle.put(register);
-    code_of_change(done)
+    with_register!(handle, alloc, |register| {
+        code_of_change(insert_forwarding(
+            &mut register,
+            sub_nbr,
+            sf_type,
+            start_time,
+            end_time,
+            numberx,
+        ))
+    })
 }
 
 /// DELETE_CALL_FORWARDING (TATP, section 3.7): takes a forwarding away. `NOT_OPEN`, `Field` where sub_nbr isn't below
@@ -227,12 +211,9 @@ pub extern "C" fn hlr_delete_forwarding(
     ensures { IsCall NOT_OPEN (IsAnswer (deletion_asked sub_nbr sf_type start_time) code_told)
         handle.old.kept.register result handle.new.kept.register }
 {
-    let Some(mut register) = handle.take(alloc) else {
-        return NOT_OPEN;
-    };
-    let done = delete_forwarding(&mut register, sub_nbr, sf_type, start_time);
-    handle.put(register);
-    code_of_change(done)
+    with_register!(handle, alloc, |register| {
+        code_of_change(delete_forwarding(&mut register, sub_nbr, sf_type, start_time))
+    })
 }
 
 /// Adds a Subscriber row. `NOT_OPEN`, `Field` where a field is out of its range, `Moving`, `Exists`, `NumberTaken`,
@@ -242,12 +223,9 @@ pub extern "C" fn hlr_add_subscriber(alloc: Global, handle: &mut Hlr, row: &HlrS
     ensures { IsCall NOT_OPEN (IsAnswer (subscriber_asked row.now) code_told)
         handle.old.kept.register result handle.new.kept.register }
 {
-    let Some(mut register) = handle.take(alloc) else {
-        return NOT_OPEN;
-    };
-    let done = add_subscriber(&mut register, row);
-    handle.put(register);
-    code_of_change(done)
+    with_register!(handle, alloc, |register| {
+        code_of_change(add_subscriber(&mut register, row))
+    })
 }
 
 /// Adds an Access_Info row. `NOT_OPEN`, `Field` where a field is out of its range, `Moving`, `NoSubscriber`, `Exists`,
@@ -257,12 +235,9 @@ pub extern "C" fn hlr_add_access(alloc: Global, handle: &mut Hlr, row: &HlrAcces
     ensures { IsCall NOT_OPEN (IsAnswer (access_asked row.now) code_told)
         handle.old.kept.register result handle.new.kept.register }
 {
-    let Some(mut register) = handle.take(alloc) else {
-        return NOT_OPEN;
-    };
-    let done = add_access(&mut register, row);
-    handle.put(register);
-    code_of_change(done)
+    with_register!(handle, alloc, |register| {
+        code_of_change(add_access(&mut register, row))
+    })
 }
 
 /// Adds a Special_Facility row. `NOT_OPEN`, `Field` where a field is out of its range, `Moving`, `NoSubscriber`,
@@ -272,12 +247,9 @@ pub extern "C" fn hlr_add_facility(alloc: Global, handle: &mut Hlr, row: &HlrFac
     ensures { IsCall NOT_OPEN (IsAnswer (facility_asked row.now) code_told)
         handle.old.kept.register result handle.new.kept.register }
 {
-    let Some(mut register) = handle.take(alloc) else {
-        return NOT_OPEN;
-    };
-    let done = add_facility(&mut register, row);
-    handle.put(register);
-    code_of_change(done)
+    with_register!(handle, alloc, |register| {
+        code_of_change(add_facility(&mut register, row))
+    })
 }
 
 /// Switches a facility on or off, and with it all its forwardings. `NOT_OPEN`, `Field` where s_id isn't in
@@ -293,12 +265,9 @@ pub extern "C" fn hlr_set_active(
     ensures { IsCall NOT_OPEN (IsAnswer (Ok (event.SetActive s_id sf_type is_active)) code_told)
         handle.old.kept.register result handle.new.kept.register }
 {
-    let Some(mut register) = handle.take(alloc) else {
-        return NOT_OPEN;
-    };
-    let done = register.set_active(s_id, sf_type, is_active);
-    handle.put(register);
-    code_of_change(done)
+    with_register!(handle, alloc, |register| {
+        code_of_change(register.set_active(s_id, sf_type, is_active))
+    })
 }
 
 /// Gives a subscriber another number; nothing changes where it is the one that stands. `NOT_OPEN`, `Field` where s_id
@@ -308,10 +277,7 @@ pub extern "C" fn hlr_set_number(alloc: Global, handle: &mut Hlr, s_id: u64, sub
     ensures { IsCall NOT_OPEN (IsAnswer (number_asked s_id sub_nbr) code_told)
         handle.old.kept.register result handle.new.kept.register }
 {
-    let Some(mut register) = handle.take(alloc) else {
-        return NOT_OPEN;
-    };
-    let done = set_number(&mut register, s_id, sub_nbr);
-    handle.put(register);
-    code_of_change(done)
+    with_register!(handle, alloc, |register| {
+        code_of_change(set_number(&mut register, s_id, sub_nbr))
+    })
 }

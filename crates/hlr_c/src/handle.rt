@@ -10,6 +10,23 @@ use hlr_core::Register;
 use std::alloc::Global;
 use std::mem;
 
+/// Works on the register of an open handle, which then has it again, and answers what the work does. Of a handle that
+/// isn't open it ends the call with `NOT_OPEN`.
+///
+/// It is a macro, since the work of each call has a contract of its own, and what it writes it writes by reference.
+macro_rules! with_register {
+    ($handle:ident, $alloc:ident, |$register:ident| $work:expr) => {{
+        let Some(mut $register) = $handle.take($alloc) else {
+            return $crate::codes::NOT_OPEN;
+        };
+        let answer = $work;
+        $handle.put($register);
+        answer
+    }};
+}
+
+pub(crate) use with_register;
+
 /// What the mark of an open handle is; any other mark is that of a closed one.
 pub const OPEN: u64 = 1;
 

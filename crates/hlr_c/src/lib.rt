@@ -12,7 +12,9 @@ mod changes;
 mod codes;
 mod handle;
 mod kept;
+mod listing;
 mod lists;
+mod many;
 mod moves;
 mod opening;
 mod reads;
@@ -24,5 +26,6 @@ mod tests;
 pub use codes::{DONE, NOT_OPEN, STILL_OPEN};
 pub use handle::Hlr;
 pub use rows::{
-    HlrAccess, HlrBounds, HlrFacility, HlrNumbers, HlrRegion, HlrRegions, HlrSubscriber,
+    HlrAccess, HlrAccessAsked, HlrBounds, HlrDestinationAsked, HlrFacility, HlrNumbers, HlrRegion,
+    HlrRegions, HlrSubscriber,
 };

@@ -7,8 +7,8 @@ ghost use Rattle.hlr_c.specs.Call.{IsAnswer, IsCall, IsRecutAnswer, IsRecutReply
 ghost use Rattle.hlr_c.specs.Told.{code_told, given_told, part_told, posted_told, recut_told};
 ghost use Rattle.hlr_c.specs.declared.codes.TheConstants.{NOT_OPEN};
 
-use crate::codes::{DONE, NOT_OPEN, code_of_reply};
-use crate::handle::Hlr;
+use crate::codes::{DONE, code_of_reply};
+use crate::handle::{Hlr, with_register};
 use crate::lists::{bounds_in, region_for_c};
 use crate::rows::{HlrBounds, HlrRegion};
 use hlr_core::{Event, Place, Refusal, Region, Register, Reply, Side};
@@ -115,12 +115,9 @@ pub extern "C" fn hlr_post(
     ensures { IsCall (NOT_OPEN, posted.old) (IsAnswer (Ok (event.Post part limit)) (posted_told posted.old))
         handle.old.kept.register (result, posted.new) handle.new.kept.register }
 {
-    let Some(mut register) = handle.take(alloc) else {
-        return NOT_OPEN;
-    };
-    let reply = register.post(part, limit);
-    handle.put(register);
-    tell_posted(&reply, posted)
+    with_register!(handle, alloc, |register| {
+        tell_posted(&register.post(part, limit), posted)
+    })
 }
 
 /// A part gives the stretch on one side of `at` away (`side` 0: below it, 1: from it on), which becomes a loose piece,
@@ -137,12 +134,9 @@ pub extern "C" fn hlr_give(
     ensures { IsCall (NOT_OPEN, given.old) (IsAnswer (give_asked part side at) (given_told given.old))
         handle.old.kept.register (result, given.new) handle.new.kept.register }
 {
-    let Some(mut register) = handle.take(alloc) else {
-        return NOT_OPEN;
-    };
-    let reply = give(&mut register, part, side, at);
-    handle.put(register);
-    tell_given(&reply, given)
+    with_register!(handle, alloc, |register| {
+        tell_given(&give(&mut register, part, side, at), given)
+    })
 }
 
 /// A part takes a loose piece that touches it. `NOT_OPEN`, `NoPiece`, `NoPart`, `NotAdjacent`, `Memory`.
@@ -151,12 +145,9 @@ pub extern "C" fn hlr_take(alloc: Global, handle: &mut Hlr, piece: u64, part: u6
     ensures { IsCall NOT_OPEN (IsAnswer (Ok (event.Take piece part)) code_told)
         handle.old.kept.register result handle.new.kept.register }
 {
-    let Some(mut register) = handle.take(alloc) else {
-        return NOT_OPEN;
-    };
-    let reply = register.apply(Event::Take { piece, part });
-    handle.put(register);
-    code_of_reply(&reply)
+    with_register!(handle, alloc, |register| {
+        code_of_reply(&register.apply(Event::Take { piece, part }))
+    })
 }
 
 /// Divides a part at a subscriber: it keeps what is below, and a new part with the next number has the rest; tells the
@@ -172,12 +163,9 @@ pub extern "C" fn hlr_divide(
     ensures { IsCall (NOT_OPEN, made.old) (IsAnswer (Ok (event.Divide part at)) (part_told made.old))
         handle.old.kept.register (result, made.new) handle.new.kept.register }
 {
-    let Some(mut register) = handle.take(alloc) else {
-        return NOT_OPEN;
-    };
-    let reply = register.apply(Event::Divide { part, at });
-    handle.put(register);
-    tell_part(&reply, made)
+    with_register!(handle, alloc, |register| {
+        tell_part(&register.apply(Event::Divide { part, at }), made)
+    })
 }
 
 /// Dissolves a part: the part in front has its rows, and later parts' numbers fall by one; tells the part in front, as
@@ -192,12 +180,9 @@ pub extern "C" fn hlr_dissolve(
     ensures { IsCall (NOT_OPEN, front.old) (IsAnswer (Ok (event.Dissolve part)) (part_told front.old))
         handle.old.kept.register (result, front.new) handle.new.kept.register }
 {
-    let Some(mut register) = handle.take(alloc) else {
-        return NOT_OPEN;
-    };
-    let reply = register.apply(Event::Dissolve { part });
-    handle.put(register);
-    tell_part(&reply, front)
+    with_register!(handle, alloc, |register| {
+        tell_part(&register.apply(Event::Dissolve { part }), front)
+    })
 }
 
 /// Moves the bounds between parts to these, the first subscriber of each part but the first, and tells how many were
@@ -214,10 +199,7 @@ pub extern "C" fn hlr_recut(
     ensures { IsCall (NOT_OPEN, moved.old) (IsRecutAnswer (bounds_in bounds.now) (recut_told moved.old))
         handle.old.kept.register (result, moved.new) handle.new.kept.register }
 {
-    let Some(mut register) = handle.take(alloc) else {
-        return NOT_OPEN;
-    };
-    let done = recut(&mut register, bounds);
-    handle.put(register);
-    tell_recut(done, moved)
+    with_register!(handle, alloc, |register| {
+        tell_recut(recut(&mut register, bounds), moved)
+    })
 }

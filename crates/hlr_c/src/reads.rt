@@ -7,14 +7,14 @@ ghost use Rattle.hlr_c.specs.Rows.{numbers_for_c};
 ghost use Rattle.hlr_c.specs.Told.{access_told, numbers_told, subscriber_told};
 ghost use Rattle.hlr_c.specs.declared.codes.TheConstants.{NOT_OPEN};
 
-use crate::codes::{DONE, NOT_OPEN};
-use crate::handle::Hlr;
+use crate::codes::DONE;
+use crate::handle::{Hlr, with_register};
 use crate::rows::{HlrAccess, HlrNumbers, HlrSubscriber};
 use hlr_core::{Access, ArrayVec, Number, Register, Subscriber};
 use std::alloc::Global;
 
 /// A row, as C has it.
-fn subscriber_for_c(row: &Subscriber) -> HlrSubscriber
+pub(crate) fn subscriber_for_c(row: &Subscriber) -> HlrSubscriber
     ensures { result ≡ row.now }
 {
     HlrSubscriber {
@@ -71,7 +71,7 @@ fn write_access(found: &Access, s_id: u64, ai_type: u64, row: &mut HlrAccess)
     };
 }
 
-fn read_subscriber(register: &Register, s_id: u64, row: &mut HlrSubscriber) -> u8
+pub(crate) fn read_subscriber(register: &Register, s_id: u64, row: &mut HlrSubscriber) -> u8
     requires { AllHome register.now.seats }
     ensures { IsAnswer (Ok (event.SubscriberData s_id)) (subscriber_told row.old) register.now (result, row.new) register.now }
 {
@@ -84,7 +84,7 @@ fn read_subscriber(register: &Register, s_id: u64, row: &mut HlrSubscriber) -> u
     }
 }
 
-fn read_access(register: &Register, s_id: u64, ai_type: u64, row: &mut HlrAccess) -> u8
+pub(crate) fn read_access(register: &Register, s_id: u64, ai_type: u64, row: &mut HlrAccess) -> u8
     requires { AllHome register.now.seats }
     ensures { IsAnswer (Ok (event.AccessData s_id ai_type)) (access_told s_id ai_type row.old) register.now (result, row.new) register.now }
 {
@@ -97,7 +97,7 @@ fn read_access(register: &Register, s_id: u64, ai_type: u64, row: &mut HlrAccess
     }
 }
 
-fn read_destinations(
+pub(crate) fn read_destinations(
     register: &Register,
     s_id: u64,
     sf_type: u64,
@@ -129,12 +129,9 @@ pub extern "C" fn hlr_subscriber_data(
     ensures { IsCall (NOT_OPEN, row.old) (IsAnswer (Ok (event.SubscriberData s_id)) (subscriber_told row.old))
         handle.old.kept.register (result, row.new) handle.new.kept.register }
 {
-    let Some(register) = handle.take(alloc) else {
-        return NOT_OPEN;
-    };
-    let code = read_subscriber(&register, s_id, row);
-    handle.put(register);
-    code
+    with_register!(handle, alloc, |register| {
+        read_subscriber(&register, s_id, row)
+    })
 }
 
 /// GET_ACCESS_DATA (TATP, section 3.3): the row of an access. `NOT_OPEN`, `Field` where s_id isn't in 1..=16,777,216 or
@@ -150,12 +147,9 @@ pub extern "C" fn hlr_access_data(
     ensures { IsCall (NOT_OPEN, row.old) (IsAnswer (Ok (event.AccessData s_id ai_type)) (access_told s_id ai_type row.old))
         handle.old.kept.register (result, row.new) handle.new.kept.register }
 {
-    let Some(register) = handle.take(alloc) else {
-        return NOT_OPEN;
-    };
-    let code = read_access(&register, s_id, ai_type, row);
-    handle.put(register);
-    code
+    with_register!(handle, alloc, |register| {
+        read_access(&register, s_id, ai_type, row)
+    })
 }
 
 /// GET_NEW_DESTINATION (TATP, section 3.2): the numbers that an active facility forwards to, of its forwardings that
@@ -174,10 +168,7 @@ pub extern "C" fn hlr_new_destination(
     ensures { IsCall (NOT_OPEN, numbers.old) (IsAnswer (Ok (event.NewDestination s_id sf_type start_time end_time)) (numbers_told numbers.old))
         handle.old.kept.register (result, numbers.new) handle.new.kept.register }
 {
-    let Some(register) = handle.take(alloc) else {
-        return NOT_OPEN;
-    };
-    let code = read_destinations(&register, s_id, sf_type, start_time, end_time, numbers);
-    handle.put(register);
-    code
+    with_register!(handle, alloc, |register| {
+        read_destinations(&register, s_id, sf_type, start_time, end_time, numbers)
+    })
 }

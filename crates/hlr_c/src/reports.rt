@@ -6,8 +6,8 @@ ghost use Rattle.hlr_c.specs.Call.{IsCall};
 ghost use Rattle.hlr_c.specs.Reports.{AreCounts, AreListed, AreProposed, AreViews, IsReport};
 ghost use Rattle.hlr_c.specs.declared.codes.TheConstants.{NOT_OPEN};
 
-use crate::codes::{DONE, NOT_OPEN};
-use crate::handle::Hlr;
+use crate::codes::DONE;
+use crate::handle::{Hlr, with_register};
 use crate::lists::{bounds_for_c, regions_for_c};
 use crate::rows::{HlrBounds, HlrRegions};
 use hlr_core::{CELLS, Cells, Register};
@@ -67,12 +67,10 @@ pub extern "C" fn hlr_views(
     ensures { IsCall (NOT_OPEN, (published.old, unposted.old)) (λ before. IsReport (AreViews before) before)
         handle.old.kept.register (result, (published.new, unposted.new)) handle.new.kept.register }
 {
-    let Some(register) = handle.take(alloc) else {
-        return NOT_OPEN;
-    };
-    write_views(&register, published, unposted);
-    handle.put(register);
-    DONE
+    with_register!(handle, alloc, |register| {
+        write_views(&register, published, unposted);
+        DONE
+    })
 }
 
 /// Each cell, counted anew by a walk over all rows. `NOT_OPEN`.
@@ -85,12 +83,10 @@ pub extern "C" fn hlr_scan(
     ensures { IsCall (NOT_OPEN, counts.old) (λ before. IsReport (AreCounts before) before)
         handle.old.kept.register (result, counts.new) handle.new.kept.register }
 {
-    let Some(register) = handle.take(alloc) else {
-        return NOT_OPEN;
-    };
-    write_counts(&register, counts);
-    handle.put(register);
-    DONE
+    with_register!(handle, alloc, |register| {
+        write_counts(&register, counts);
+        DONE
+    })
 }
 
 /// All regions in order, each of a part or of a loose piece. `NOT_OPEN`.
@@ -99,12 +95,10 @@ pub extern "C" fn hlr_regions(alloc: Global, handle: &mut Hlr, regions: &mut Hlr
     ensures { IsCall (NOT_OPEN, regions.old) (λ before. IsReport (AreListed before) before)
         handle.old.kept.register (result, regions.new) handle.new.kept.register }
 {
-    let Some(register) = handle.take(alloc) else {
-        return NOT_OPEN;
-    };
-    write_regions(&register, regions);
-    handle.put(register);
-    DONE
+    with_register!(handle, alloc, |register| {
+        write_regions(&register, regions);
+        DONE
+    })
 }
 
 /// The bounds between zones that would give each part about its share of the rows, by what is published of the zones.
@@ -114,10 +108,8 @@ pub extern "C" fn hlr_propose(alloc: Global, handle: &mut Hlr, bounds: &mut HlrB
     ensures { IsCall (NOT_OPEN, bounds.old) (λ before. IsReport (AreProposed before) before)
         handle.old.kept.register (result, bounds.new) handle.new.kept.register }
 {
-    let Some(register) = handle.take(alloc) else {
-        return NOT_OPEN;
-    };
-    write_proposal(&register, bounds);
-    handle.put(register);
-    DONE
+    with_register!(handle, alloc, |register| {
+        write_proposal(&register, bounds);
+        DONE
+    })
 }

@@ -131,6 +131,30 @@ impl Model for HlrFacility {
     } };
 }
 
+/// Which access is asked for.
+#[repr(C)]
+#[derive(Clone, Copy, Debug, PartialEq, Eq)]
+pub struct HlrAccessAsked {
+    /// The subscriber, 1..=16,777,216.
+    pub s_id: u64,
+    /// The type of the access, 1..=4.
+    pub ai_type: u64,
+}
+
+/// Which call's numbers are asked for.
+#[repr(C)]
+#[derive(Clone, Copy, Debug, PartialEq, Eq)]
+pub struct HlrDestinationAsked {
+    /// The subscriber, 1..=16,777,216.
+    pub s_id: u64,
+    /// The type of the facility, 1..=4.
+    pub sf_type: u64,
+    /// The hour by which forwardings start: 0, 8 or 16.
+    pub start_time: u64,
+    /// The hour after which they end, 1..=24.
+    pub end_time: u64,
+}
+
 /// Numbers that calls are forwarded to.
 #[repr(C)]
 #[derive(Clone, Copy, Debug, PartialEq, Eq)]
@@ -181,6 +205,10 @@ const _: () = prove!(size_of::<HlrSubscriber>() == 64);
 const _: () = prove!(size_of::<HlrAccess>() == 40);
 
 const _: () = prove!(size_of::<HlrFacility>() == 48);
+
+const _: () = prove!(size_of::<HlrAccessAsked>() == 16);
+
+const _: () = prove!(size_of::<HlrDestinationAsked>() == 32);
 
 const _: () = prove!(size_of::<HlrNumbers>() == 32);
 

@@ -1,0 +1,46 @@
+-- What C is told of rows that no event reads. The register stays as it is.
+use Rattle.std.specs.Prelude.{◌≡◌, ℕ, Result, Ok, Err, ok_or}
+use Rattle.tatp_rows.specs.Number.{number_of}
+use Rattle.tatp_rows.specs.Refusal.{code_of}
+use Rattle.tatp_rows.specs.Rows.{SubscriberRow, SpecialFacilityRow, CallForwardingRow}
+use Rattle.tatp_rows.specs.declared.refusal.Refusal.{Refusal}
+use Rattle.tatp_rows.specs.declared.refusal.Refusal.TheVariants.{NoSubscriber}
+use Rattle.tatp_actions.specs.Book.{first_subscriber}
+use Rattle.hlr_owners.specs.Seats.{Seating, book_in, store_in}
+use Rattle.hlr_core.specs.Rows.{bearer_answer, facility_read, forwarding_read}
+use Rattle.hlr_c.specs.declared.codes.TheConstants.{DONE}
+
+-- an answer that tells what is read, and the register stays
+abbrev pub IsRead : {R X : Type 0} → (Seating → Result R Refusal) → (Result R Refusal → X) → Seating → X → Seating → Type 0
+IsRead read told before answer after = (after ≡ before) × (answer ≡ told (read before))
+
+-- the code, and what was read; after a refusal that stays as it was
+abbrev pub value_told : {R : Type 0} → R → Result R Refusal → ℕ × R
+value_told before (Ok value) = (DONE, value)
+value_told before (Err why) = (code_of why, before)
+
+-- the code, and the end and the number of a forwarding
+abbrev pub forwarding_told : ℕ × ℕ → Result CallForwardingRow Refusal → ℕ × (ℕ × ℕ)
+forwarding_told before (Ok row) = (DONE, (row.end_time, row.numberx))
+forwarding_told before (Err why) = (code_of why, before)
+
+-- the row of a facility
+abbrev pub facility_in : ℕ → ℕ → Seating → Result SpecialFacilityRow Refusal
+facility_in s_id sf_type register = facility_read s_id sf_type (store_in register)
+
+-- the row of a forwarding
+abbrev pub forwarding_in : ℕ → ℕ → ℕ → Seating → Result CallForwardingRow Refusal
+forwarding_in s_id sf_type start_time register = forwarding_read s_id sf_type start_time (store_in register)
+
+-- the subscriber who has a number, if it is one
+abbrev pub bearer_found : Result ℕ Refusal → Seating → Result ℕ Refusal
+bearer_found (Ok number) register = bearer_answer number (store_in register)
+bearer_found (Err why) register = Err why
+
+-- the subscriber who has a number: Field where it is none, then NoNumber
+abbrev pub bearer_in : ℕ → Seating → Result ℕ Refusal
+bearer_in sub_nbr = bearer_found (number_of sub_nbr)
+
+-- the first subscriber from an s_id on, or NoSubscriber
+abbrev pub subscriber_from : ℕ → Seating → Result SubscriberRow Refusal
+subscriber_from from register = ok_or (first_subscriber from (book_in register.seats).subscribers) NoSubscriber

@@ -1,0 +1,43 @@
+-- What a call from C answers to many questions at once. It changes nothing of the register.
+use Rattle.std.specs.Prelude.{◌≡◌, ℕ, ◌<◌, List, length, slice_index, slice_index_or, Ok}
+use Rattle.tatp_rows.specs.Refusal.{code_of}
+use Rattle.tatp_rows.specs.Rows.{SubscriberRow, AccessInfoRow}
+use Rattle.tatp_rows.specs.declared.refusal.Refusal.TheVariants.{Field}
+use Rattle.hlr_owners.specs.Seats.{Seating}
+use Rattle.hlr_core.specs.declared.event.Event.TheVariants as event
+use Rattle.hlr_c.specs.Call.{IsAnswer}
+use Rattle.hlr_c.specs.Told.{access_told, numbers_told, subscriber_told}
+use Rattle.hlr_c.specs.declared.codes.TheConstants.{DONE}
+use Rattle.hlr_c.specs.declared.rows.HlrAccessAsked.{HlrAccessAsked}
+use Rattle.hlr_c.specs.declared.rows.HlrDestinationAsked.{HlrDestinationAsked}
+use Rattle.hlr_c.specs.declared.rows.HlrNumbers.{HlrNumbers}
+
+-- one read of a subscriber, whose row was this before: its code and the row
+abbrev pub IsSubscriberRead : ℕ → SubscriberRow → Seating → ℕ × SubscriberRow → Seating → Type 0
+IsSubscriberRead s_id row = IsAnswer (Ok (event.SubscriberData s_id)) (subscriber_told row)
+
+-- one of an access
+abbrev pub IsAccessRead : HlrAccessAsked → AccessInfoRow → Seating → ℕ × AccessInfoRow → Seating → Type 0
+IsAccessRead asked row = IsAnswer (Ok (event.AccessData asked.s_id asked.ai_type)) (access_told asked.s_id asked.ai_type row)
+
+-- one of the numbers that calls are forwarded to
+abbrev pub IsDestinationRead : HlrDestinationAsked → HlrNumbers → Seating → ℕ × HlrNumbers → Seating → Type 0
+IsDestinationRead asked numbers =
+    IsAnswer (Ok (event.NewDestination asked.s_id asked.sf_type asked.start_time asked.end_time)) (numbers_told numbers)
+
+-- there are as many rows and codes as questions
+abbrev pub AreAsMany : {Q X : Type 0} → List Q → List X × List ℕ → Type 0
+AreAsMany asked lists = (length lists.0 ≡ length asked) × (length lists.1 ≡ length asked)
+
+-- each place has what one read answers to the question there
+abbrev pub AreAnswered : {Q X : Type 0} → (Q → X → ℕ × X → Type 0) → List Q → List X → List X × List ℕ → Type 0
+AreAnswered {Q} {X} Answers asked before lists =
+    (at : ℕ) (question : Q) (row : X) → at < length asked
+    → Answers (slice_index_or asked at question) (slice_index_or before at row) (slice_index lists.1 at, slice_index_or lists.0 at row)
+
+-- Field, and nothing is written, where there aren't as many rows and codes as questions; else each is answered
+pub record IsManyRead {Q X : Type 0} (IsRead : Q → X → Seating → ℕ × X → Seating → Type 0) (asked : List Q) (lists : List X × List ℕ) (before : Seating) (answer : ℕ × (List X × List ℕ)) (after : Seating) : Type 0 where
+  pub same : after ≡ before
+  pub refused : ¬ (AreAsMany asked lists) → answer ≡ (code_of Field, lists)
+  pub answered : AreAsMany asked lists
+      → (answer.0 ≡ DONE) × AreAnswered (λ question row found. IsRead question row before found before) asked lists.0 answer.1

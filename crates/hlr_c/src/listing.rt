@@ -1,0 +1,158 @@
+//! Rows that no transaction reads: with these calls C can find who has a number, and write all rows out.
+ghost use Rattle.std.specs.Prelude.{◌≡◌};
+ghost use Rattle.hlr_owners.specs.Seats.{AllHome};
+ghost use Rattle.hlr_c.specs.Call.{IsCall};
+ghost use Rattle.hlr_c.specs.Listing.{IsRead, bearer_in, facility_in, forwarding_in, forwarding_told, subscriber_from, value_told};
+ghost use Rattle.hlr_c.specs.declared.codes.TheConstants.{NOT_OPEN};
+
+use crate::codes::DONE;
+use crate::handle::{Hlr, with_register};
+use crate::reads::subscriber_for_c;
+use crate::rows::{HlrFacility, HlrSubscriber};
+use hlr_core::{Facility, Number, Refusal, Register};
+use std::alloc::Global;
+
+/// A row, as C has it.
+fn facility_for_c(row: &Facility) -> HlrFacility
+    ensures { result ≡ row.now }
+{
+    HlrFacility {
+        s_id: u64::from(row.s_id()),
+        sf_type: u64::from(row.sf_type()),
+        is_active: u64::from(row.is_active()),
+        error_cntrl: u64::from(row.error_cntrl()),
+        data_a: u64::from(row.data_a()),
+        data_b: row.data_b().bytes(),
+    }
+}
+
+fn find(register: &Register, sub_nbr: u64) -> Result<u32, Refusal>
+    ensures { result ≡ bearer_in sub_nbr register.now }
+{
+    let sub_nbr = Number::try_new(sub_nbr)?;
+    register.find(sub_nbr)
+}
+
+fn write_bearer(register: &Register, sub_nbr: u64, s_id: &mut u64) -> u8
+    ensures { (result, s_id.new) ≡ value_told s_id.old (bearer_in sub_nbr register.now) }
+{
+    match find(register, sub_nbr) {
+        Ok(found) => {
+            *s_id = u64::from(found);
+            DONE
+        }
+        Err(why) => why.code(),
+    }
+}
+
+fn write_facility(register: &Register, s_id: u64, sf_type: u64, row: &mut HlrFacility) -> u8
+    requires { AllHome register.now.seats }
+    ensures { (result, row.new) ≡ value_told row.old (facility_in s_id sf_type register.now) }
+{
+    match register.facility_data(s_id, sf_type) {
+        Ok(found) => {
+            *row = facility_for_c(&found);
+            DONE
+        }
+        Err(why) => why.code(),
+    }
+}
+
+fn write_forwarding(
+    register: &Register,
+    s_id: u64,
+    sf_type: u64,
+    start_time: u64,
+    end_time: &mut u64,
+    numberx: &mut u64,
+) -> u8
+    requires { AllHome register.now.seats }
+    ensures { (result, (end_time.new, numberx.new)) ≡ forwarding_told (end_time.old, numberx.old) (forwarding_in s_id sf_type start_time register.now) }
+{
+    match register.forwarding(s_id, sf_type, start_time) {
+        Ok(found) => {
+            *end_time = u64::from(found.end_time());
+            *numberx = found.numberx().value();
+            DONE
+        }
+        Err(why) => why.code(),
+    }
+}
+
+fn write_next(register: &Register, from: u64, row: &mut HlrSubscriber) -> u8
+    requires { AllHome register.now.seats }
+    ensures { (result, row.new) ≡ value_told row.old (subscriber_from from register.now) }
+{
+    match register.next_subscriber(from) {
+        Some(found) => {
+            *row = subscriber_for_c(&found);
+            DONE
+        }
+        None => Refusal::NoSubscriber.code(),
+    }
+}
+
+/// The subscriber who has a number. `NOT_OPEN`, `Field` where sub_nbr isn't below 10^15, `NoNumber`.
+#[unsafe(no_mangle)]
+pub extern "C" fn hlr_find(alloc: Global, handle: &mut Hlr, sub_nbr: u64, s_id: &mut u64) -> u8
+    ensures { IsCall (NOT_OPEN, s_id.old) (IsRead (bearer_in sub_nbr) (value_told s_id.old))
+        handle.old.kept.register (result, s_id.new) handle.new.kept.register }
+{
+    with_register!(handle, alloc, |register| {
+        write_bearer(&register, sub_nbr, s_id)
+    })
+}
+
+/// The row of a facility. `NOT_OPEN`, `Field` where s_id isn't in 1..=16,777,216 or sf_type isn't in 1..=4, `Moving`,
+/// `NoFacility`.
+#[unsafe(no_mangle)]
+pub extern "C" fn hlr_facility_data(
+    alloc: Global,
+    handle: &mut Hlr,
+    s_id: u64,
+    sf_type: u64,
+    row: &mut HlrFacility,
+) -> u8
+    ensures { IsCall (NOT_OPEN, row.old) (IsRead (facility_in s_id sf_type) (value_told row.old))
+        handle.old.kept.register (result, row.new) handle.new.kept.register }
+{
+    with_register!(handle, alloc, |register| {
+        write_facility(&register, s_id, sf_type, row)
+    })
+}
+
+/// The end and the number of a facility's forwarding that starts at start_time. `NOT_OPEN`, `Field` where s_id isn't in
+/// 1..=16,777,216, sf_type isn't in 1..=4 or start_time isn't 0, 8 or 16, `Moving`, `NoForwarding`.
+#[unsafe(no_mangle)]
+pub extern "C" fn hlr_forwarding(
+    alloc: Global,
+    handle: &mut Hlr,
+    s_id: u64,
+    sf_type: u64,
+    start_time: u64,
+    end_time: &mut u64,
+    numberx: &mut u64,
+) -> u8
+    ensures { IsCall (NOT_OPEN, (end_time.old, numberx.old)) (IsRead (forwarding_in s_id sf_type start_time) (forwarding_told (end_time.old, numberx.old)))
+        handle.old.kept.register (result, (end_time.new, numberx.new)) handle.new.kept.register }
+{
+    with_register!(handle, alloc, |register| {
+        write_forwarding(&register, s_id, sf_type, start_time, end_time, numberx)
+    })
+}
+
+/// The first subscriber with an s_id from one on, also one in a loose piece. `NOT_OPEN`, `NoSubscriber`.
+#[unsafe(no_mangle)]
+pub extern "C" fn hlr_next_subscriber(
+    alloc: Global,
+    handle: &mut Hlr,
+    from: u64,
+    row: &mut HlrSubscriber,
+) -> u8
+    ensures { IsCall (NOT_OPEN, row.old) (IsRead (subscriber_from from) (value_told row.old))
+        handle.old.kept.register (result, row.new) handle.new.kept.register }
+{
+    with_register!(handle, alloc, |register| {
+        write_next(&register, from, row)
+    })
+}
