@@ -12,7 +12,7 @@ trap 'rm -rf "$room"' EXIT
 # a zone is a 32nd of the subscribers, rounded up, and all parts post before a proposal
 hlr=("$@" --parts 4 --zone 313)
 run() { "${hlr[@]}"; }
-python3 bench/tatp_load.py 6000 50000 2> /dev/null | grep -v -e views -e scan > "$room/day"
+python3 bench/tatp_load.py 6000 50000 2> /dev/null | grep -v views > "$room/day"
 printf 'post,%d,72\n' 0 1 2 3 >> "$room/day"
 
 bounds=$({ cat "$room/day"; echo propose; } | run | tail -n 1)

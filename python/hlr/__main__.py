@@ -1,8 +1,8 @@
-"""Prints the version, and which library is used: python3 -m hlr"""
+"""Prints the version, which library is used, and what that was built from: python3 -m hlr"""
 import sys
 
 from . import __version__
-from .library import library, path
+from .library import built, library, path
 
 print(f"hlr {__version__}")
 try:
@@ -10,3 +10,4 @@ try:
 except ImportError as fault:
     sys.exit(str(fault))
 print(f"library {path()}")
+print(built() or "what it was built from isn't told\n", end="")

@@ -1,8 +1,9 @@
 """The shared library: where it is found, and its calls and structures as hlr.h has them."""
 import ctypes
 import functools
+import hashlib
 import os
-from ctypes import POINTER, Structure, c_int64, c_uint8, c_uint64, c_void_p
+from ctypes import POINTER, Structure, c_int64, c_size_t, c_uint8, c_uint64, c_void_p
 
 NAME = "libhlr.so.1"
 CELLS = 72
@@ -27,6 +28,14 @@ class FacilityRow(Structure):
                 ("data_a", c_uint64), ("data_b", c_uint8 * 5)]
 
 
+class AccessAsked(Structure):
+    _fields_ = [("s_id", c_uint64), ("ai_type", c_uint64)]
+
+
+class DestinationAsked(Structure):
+    _fields_ = [("s_id", c_uint64), ("sf_type", c_uint64), ("start_time", c_uint64), ("end_time", c_uint64)]
+
+
 class Numbers(Structure):
     _fields_ = [("count", c_uint64), ("numbers", c_uint64 * 3)]
 
@@ -43,12 +52,21 @@ class Bounds(Structure):
     _fields_ = [("count", c_uint64), ("bounds", c_uint64 * 15)]
 
 
+_CODES = [POINTER(c_uint8), c_size_t]
+
 # What each call is passed behind the handle; hlr_open is passed it last.
 _CALLS = {
     "hlr_close": [],
     "hlr_subscriber_data": [c_uint64, POINTER(SubscriberRow)],
     "hlr_new_destination": [c_uint64, c_uint64, c_uint64, c_uint64, POINTER(Numbers)],
     "hlr_access_data": [c_uint64, c_uint64, POINTER(AccessRow)],
+    "hlr_subscriber_data_many": [POINTER(c_uint64), c_size_t, POINTER(SubscriberRow), c_size_t, *_CODES],
+    "hlr_new_destination_many": [POINTER(DestinationAsked), c_size_t, POINTER(Numbers), c_size_t, *_CODES],
+    "hlr_access_data_many": [POINTER(AccessAsked), c_size_t, POINTER(AccessRow), c_size_t, *_CODES],
+    "hlr_find": [c_uint64, POINTER(c_uint64)],
+    "hlr_facility_data": [c_uint64, c_uint64, POINTER(FacilityRow)],
+    "hlr_forwarding": [c_uint64, c_uint64, c_uint64, POINTER(c_uint64), POINTER(c_uint64)],
+    "hlr_next_subscriber": [c_uint64, POINTER(SubscriberRow)],
     "hlr_update_subscriber": [c_uint64, c_uint64, c_uint64, c_uint64],
     "hlr_update_location": [c_uint64, c_uint64],
     "hlr_insert_forwarding": [c_uint64, c_uint64, c_uint64, c_uint64, c_uint64],
@@ -78,6 +96,18 @@ def path() -> str:
     package = os.path.dirname(os.path.abspath(__file__))
     beside = [os.path.join(folder, NAME) for folder in (package, os.path.dirname(package))]
     return next(filter(os.path.exists, beside), NAME)
+
+
+def built() -> str:
+    """What the library was built from, in lines, as dist.sh wrote it down; nothing where the library is another one."""
+    try:
+        with open(path(), "rb") as file:
+            checksum = hashlib.sha256(file.read()).hexdigest()
+        with open(os.path.join(os.path.dirname(os.path.abspath(__file__)), "built.txt"), encoding="utf-8") as file:
+            told = file.read()
+    except OSError:
+        return ""
+    return told if told.startswith(f"{NAME} {checksum}\n") else ""
 
 
 @functools.lru_cache(maxsize=None)

@@ -4,10 +4,10 @@ import enum
 import threading
 from dataclasses import dataclass
 from operator import index
-from typing import Iterator, List, Optional, Sequence, Tuple
+from typing import Any, Iterator, List, Optional, Sequence, Tuple, Union
 
 from . import library as c
-from .refusals import Code, Field, NotOpen, refusal
+from .refusals import Code, Field, NotOpen, Refused, refusal
 
 #: How many cells there are.
 CELLS = c.CELLS
@@ -122,6 +122,25 @@ def _letters(text: str, count: int) -> "ctypes.Array[ctypes.c_uint8]":
     return (ctypes.c_uint8 * count)(*text.encode("ascii"))
 
 
+def _subscriber(row: c.SubscriberRow) -> Subscriber:
+    return Subscriber(row.s_id, row.sub_nbr, bytes(row.bits), bytes(row.hexes), bytes(row.bytes), row.msc_location,
+                      row.vlr_location)
+
+
+def _access(row: c.AccessRow) -> Access:
+    return Access(row.s_id, row.ai_type, row.data1, row.data2, bytes(row.data3).decode("ascii"),
+                  bytes(row.data4).decode("ascii"))
+
+
+def _facility(row: c.FacilityRow) -> Facility:
+    return Facility(row.s_id, row.sf_type, bool(row.is_active), row.error_cntrl, row.data_a,
+                    bytes(row.data_b).decode("ascii"))
+
+
+def _listed(numbers: c.Numbers) -> List[int]:
+    return list(numbers.numbers[:numbers.count])
+
+
 def _region(row: c.RegionRow) -> Region:
     return Region(row.lo, row.hi, bool(row.is_piece), row.number)
 
@@ -141,6 +160,8 @@ def _ready(value: object) -> object:
         if len(value) > 15:
             raise Field(f"{len(value)} bounds are too many")
         value = c.Bounds(len(value), (ctypes.c_uint64 * 15)(*map(_number, value)))
+    if isinstance(value, ctypes._Pointer):
+        return value
     if isinstance(value, (ctypes.Structure, ctypes.Array, ctypes.c_uint64)):
         return ctypes.byref(value)
     return _number(value)  # type: ignore[arg-type]
@@ -224,8 +245,7 @@ class Register:
         """
         row = c.SubscriberRow()
         self._call("subscriber_data", s_id, row)
-        return Subscriber(row.s_id, row.sub_nbr, bytes(row.bits), bytes(row.hexes), bytes(row.bytes),
-                          row.msc_location, row.vlr_location)
+        return _subscriber(row)
 
     def new_destination(self, s_id: int, sf_type: int, start_time: int, end_time: int) -> List[int]:
         """GET_NEW_DESTINATION: the numbers that an active facility forwards to, of its forwardings that start by
@@ -240,7 +260,7 @@ class Register:
         """
         numbers = c.Numbers()
         self._call("new_destination", s_id, sf_type, start_time, end_time, numbers)
-        return list(numbers.numbers[:numbers.count])
+        return _listed(numbers)
 
     def access_data(self, s_id: int, ai_type: int) -> Access:
         """GET_ACCESS_DATA: reads a row. Raises Field, Moving, NoAccess.
@@ -253,8 +273,73 @@ class Register:
         """
         row = c.AccessRow()
         self._call("access_data", s_id, ai_type, row)
-        return Access(row.s_id, row.ai_type, row.data1, row.data2, bytes(row.data3).decode("ascii"),
-                      bytes(row.data4).decode("ascii"))
+        return _access(row)
+
+    def find(self, sub_nbr: int) -> int:
+        """Tells the s_id of the subscriber who has a number. Raises Field, NoNumber."""
+        s_id = ctypes.c_uint64()
+        self._call("find", sub_nbr, s_id)
+        return s_id.value
+
+    def facility_data(self, s_id: int, sf_type: int) -> Facility:
+        """Reads a row. Raises Field, Moving, NoFacility."""
+        row = c.FacilityRow()
+        self._call("facility_data", s_id, sf_type, row)
+        return _facility(row)
+
+    def forwarding(self, s_id: int, sf_type: int, start_time: int) -> Tuple[int, int]:
+        """Tells the end_time and the numberx of a facility's forwarding. Raises Field, Moving, NoForwarding."""
+        end_time, numberx = ctypes.c_uint64(), ctypes.c_uint64()
+        self._call("forwarding", s_id, sf_type, start_time, end_time, numberx)
+        return end_time.value, numberx.value
+
+    def next_subscriber(self, s_id: int) -> Subscriber:
+        """Reads the first row with an s_id from this one on. Raises NoSubscriber.
+
+        >>> with Register() as register:
+        ...     register.add_subscriber(Subscriber(7, 77))
+        ...     register.next_subscriber(1).s_id
+        7
+        """
+        row = c.SubscriberRow()
+        self._call("next_subscriber", s_id, row)
+        return _subscriber(row)
+
+    def subscriber_data_many(self, s_ids: Sequence[int]) -> List[Union[Subscriber, Refused]]:
+        """Reads many rows in one call: for each s_id the row, or the exception that `subscriber_data` raises. None
+        is read where a number is negative or has no room in 64 bits. Raises Field.
+
+        >>> with Register() as register:
+        ...     register.add_subscriber(Subscriber(7, 77))
+        ...     rows = register.subscriber_data_many([7, 8])
+        >>> rows[0].sub_nbr, rows[1].code.name
+        (77, 'NO_SUBSCRIBER')
+        """
+        return self._many("subscriber_data", ctypes.c_uint64, [(s_id,) for s_id in s_ids], c.SubscriberRow, _subscriber)
+
+    def new_destination_many(self, asked: Sequence[Tuple[int, int, int, int]]) -> List[Union[List[int], Refused]]:
+        """Reads many numbers in one call: for each s_id, sf_type, start_time and end_time the numbers, or the exception
+        that `new_destination` raises. Raises Field."""
+        return self._many("new_destination", c.DestinationAsked, asked, c.Numbers, _listed)
+
+    def access_data_many(self, asked: Sequence[Tuple[int, int]]) -> List[Union[Access, Refused]]:
+        """Reads many rows in one call: for each s_id and ai_type the row, or the exception that `access_data` raises.
+        Raises Field."""
+        return self._many("access_data", c.AccessAsked, asked, c.AccessRow, _access)
+
+    def _many(self, name: str, question: Any, asked: Sequence[Tuple[int, ...]], answer: Any, told: Any) -> List[Any]:
+        """Has many questions answered in one call: each by what is told of its answer, or by its exception."""
+        many = name + "_many"
+        if self._handle is None:
+            raise refusal(Code.NOT_OPEN, many)
+        count = len(asked)
+        questions = (question * count)(*(question(*map(_number, each)) for each in asked))
+        answers, codes = (answer * count)(), (ctypes.c_uint8 * count)()
+        passed: List[Any] = []
+        for each in (questions, answers, codes):
+            passed += [ctypes.cast(each, ctypes.POINTER(each._type_)), count]
+        self._call(many, *passed)
+        return [refusal(code, name) if code else told(row) for code, row in zip(codes, answers)]
 
     def update_subscriber(self, s_id: int, sf_type: int, bit_1: int, data_a: int) -> None:
         """UPDATE_SUBSCRIBER_DATA: sets bit_1 of the subscriber and data_a of the facility, or neither. Raises Field,

@@ -2,6 +2,7 @@
 arguments, threads, many registers, and where the library is looked for."""
 import copy
 import doctest
+import hashlib
 import inspect
 import os
 import pathlib
@@ -25,6 +26,7 @@ PYTHON = pathlib.Path(__file__).resolve().parent.parent
 CRATES = PYTHON.parent / "crates"
 HEADER = CRATES / "hlr_c" / "hlr.h"
 END = 16777217
+UNTOLD = "what it was built from isn't told\n"
 
 
 def load_tests(_loader, tests, _pattern):
@@ -70,11 +72,13 @@ class Alike(unittest.TestCase):
         self.assertIsInstance(hlr.refusals.refusal(99, "post"), RuntimeError)
 
     def test_calls(self):
-        types = {"uint64_t": "c_ulong", "hlr_subscriber": "SubscriberRow", "hlr_access": "AccessRow",
+        types = {"uint64_t": "c_ulong", "size_t": "c_ulong", "uint8_t": "c_ubyte",
+                 "hlr_access_asked": "AccessAsked", "hlr_destination_asked": "DestinationAsked",
+                 "hlr_subscriber": "SubscriberRow", "hlr_access": "AccessRow",
                  "hlr_facility": "FacilityRow", "hlr_numbers": "Numbers", "hlr_region": "RegionRow",
                  "hlr_region_list": "RegionList", "hlr_bounds": "Bounds", "hlr": "Handle"}
         told = re.findall(r"^uint8_t (hlr_[a-z_]+)\(([^)]*)\);", HEADER.read_text(), re.M)
-        self.assertEqual(len(told), 24)
+        self.assertEqual(len(told), 31)
         library = hlr.library.library()
         for name, parameters in told:
             wanted = []
@@ -90,7 +94,7 @@ class Alike(unittest.TestCase):
 
     def test_refusals(self):
         told = re.findall(r"^ \* Refusals: ([A-Z_, ]+|none)\n \*/\nuint8_t hlr_([a-z_]+)\(", HEADER.read_text(), re.M)
-        self.assertEqual(len(told), 24)
+        self.assertEqual(len(told), 31)
         for refusals, name in told:
             if name != "open":
                 text = " ".join(inspect.getdoc(getattr(Register, name)).split())
@@ -137,6 +141,38 @@ class Calls(unittest.TestCase):
             self.assertRaises(hlr.NoDestination, register.new_destination, 7, 2, 8, 12)
             register.set_active(7, 2, True)
             self.assertEqual(register.new_destination(7, 2, 8, 12), [100])
+
+    def test_written(self):
+        with filled(parts=2, width=4) as register:
+            self.assertEqual((register.find(77), register.facility_data(7, 2), register.forwarding(7, 2, 8)),
+                             (7, Facility(7, 2), (16, 100)))
+            register.give(0, Side.HIGH, 5)
+            self.assertEqual(register.next_subscriber(0), Subscriber(7, 77, vlr_location=268435456))
+            self.assertRaises(hlr.NoSubscriber, register.next_subscriber, 8)
+            self.assertRaises(hlr.Moving, register.facility_data, 7, 2)
+            self.assertRaises(hlr.NoNumber, register.find, 78)
+
+    def test_many(self):
+        def one(call, *asked):
+            try:
+                return call(*asked)
+            except hlr.Refused as refused:
+                return type(refused), str(refused)
+
+        def same(many, call, asked):
+            told = [(type(it), str(it)) if isinstance(it, hlr.Refused) else it for it in many(asked)]
+            self.assertEqual(told, [one(call, *(it if isinstance(it, tuple) else (it,))) for it in asked])
+
+        with filled(parts=2, width=4) as register:
+            register.add_subscriber(Subscriber(70, 70))
+            register.give(1, Side.HIGH, 71)
+            same(register.subscriber_data_many, register.subscriber_data, [7, 0, 70, 71, 8, 7, 16777217])
+            same(register.access_data_many, register.access_data, [(7, 1), (7, 2), (7, 5), (0, 1), (71, 1)])
+            same(register.new_destination_many, register.new_destination, [(7, 2, 8, 12), (7, 2, 8, 16), (7, 2, 1, 9)])
+            self.assertEqual(register.subscriber_data_many([]), [])
+            self.assertRaises(hlr.Field, register.subscriber_data_many, [7, 1 << 64])
+            self.assertRaises(TypeError, register.subscriber_data_many, [7, "7"])
+            self.assertRaises(TypeError, register.access_data_many, [(7, 1, 1)])
 
     def test_counts(self):
         with filled(width=4) as register:
@@ -249,7 +285,8 @@ class Refusals(unittest.TestCase):
         with register as same:
             self.assertIs(same, register)
         calls = {"add_subscriber": (Subscriber(-1, 7),), "add_access": (Access(7, 1, data3=""),),
-                 "add_facility": (Facility(7, 1),), "recut": ([],)}
+                 "add_facility": (Facility(7, 1),), "recut": ([],), "subscriber_data_many": ([1 << 70],),
+                 "new_destination_many": ([(1 << 70, 1, 0, 1)],), "access_data_many": ([(1 << 70, 1)],)}
         for name, call in inspect.getmembers(register, inspect.ismethod):
             if not name.startswith("_"):
                 count = sum(each.default is each.empty for each in inspect.signature(call).parameters.values())
@@ -263,7 +300,8 @@ class Refusals(unittest.TestCase):
         for parts, width in ((0, 4), (17, 4), (1, 0), (1, 524289), (-1, 4), (1, (1 << 64) + 1)):
             self.refused(hlr.Field, Register, parts, width)
         self.assertRaises(TypeError, Register, "1")
-        calls = {"subscriber_data": (7,), "new_destination": (7, 2, 8, 12), "access_data": (7, 1),
+        calls = {"subscriber_data": (7,), "new_destination": (7, 2, 8, 12), "access_data": (7, 1), "find": (77,),
+                 "facility_data": (7, 2), "forwarding": (7, 2, 8),
                  "update_subscriber": (7, 2, 1, 1), "update_location": (77, 1), "insert_forwarding": (77, 2, 0, 9, 5),
                  "delete_forwarding": (77, 2, 8), "set_active": (7, 2, 1), "set_number": (7, 77), "post": (0, 0),
                  "give": (0, 1, 5), "take": (1, 1), "divide": (1, 100), "dissolve": (2,)}
@@ -408,19 +446,30 @@ class Found(unittest.TestCase):
 
     def test_by_name(self):
         library = os.environ["HLR_LIBRARY"]
-        self.assertEqual(python("-m", "hlr"), (0, f"hlr {hlr.__version__}\nlibrary {library}\n", ""))
+        self.assertEqual(python("-m", "hlr"), (0, f"hlr {hlr.__version__}\nlibrary {library}\n{UNTOLD}", ""))
 
     def test_beside(self):
         shutil.copytree(str(PYTHON / "hlr"), str(self.folder / "hlr"))
         for place in (self.folder, self.folder / "hlr"):
             shutil.copy(os.environ["HLR_LIBRARY"], str(place / "libhlr.so.1"))
             self.assertEqual(python("-m", "hlr", HLR_LIBRARY=None, PYTHONPATH=str(self.folder)),
-                             (0, f"hlr {hlr.__version__}\nlibrary {place / 'libhlr.so.1'}\n", ""))
+                             (0, f"hlr {hlr.__version__}\nlibrary {place / 'libhlr.so.1'}\n{UNTOLD}", ""))
 
     def test_by_loader(self):
         shutil.copy(os.environ["HLR_LIBRARY"], str(self.folder / "libhlr.so.1"))
         self.assertEqual(python("-m", "hlr", HLR_LIBRARY=None, LD_LIBRARY_PATH=str(self.folder)),
-                         (0, f"hlr {hlr.__version__}\nlibrary libhlr.so.1\n", ""))
+                         (0, f"hlr {hlr.__version__}\nlibrary libhlr.so.1\n{UNTOLD}", ""))
+
+    def test_built(self):
+        shutil.copytree(str(PYTHON / "hlr"), str(self.folder / "hlr"))
+        library = self.folder / "hlr" / "libhlr.so.1"
+        shutil.copy(os.environ["HLR_LIBRARY"], str(library))
+        checksum = hashlib.sha256(library.read_bytes()).hexdigest()
+        for one, is_told in ((checksum, True), ("0" * 64, False)):
+            told = f"libhlr.so.1 {one}\ncommit 7\n"
+            (self.folder / "hlr" / "built.txt").write_text(told)
+            self.assertEqual(python("-m", "hlr", HLR_LIBRARY=None, PYTHONPATH=str(self.folder)),
+                             (0, f"hlr {hlr.__version__}\nlibrary {library}\n{told if is_told else UNTOLD}", ""))
 
     def test_not_found(self):
         for wrong in ("/nowhere/libhlr.so.1", "", str(HEADER), "libc.so.6"):

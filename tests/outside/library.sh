@@ -8,7 +8,8 @@ in_library=tests/outside/library
 # client NAME WORD ..: compiles a client with the library.
 client() { compiled "$1" -std=c11 -pthread -Icrates/hlr_c "${@:2}" "$archive" "$(kit_archive)"; }
 
-# The header is read by C++, and has the library's layout, codes, parameters and refusals, as its sources have them.
+# The header is read by C++, and has the library's layout, codes, names of codes, parameters and refusals, as its sources
+# have them, and the program's version.
 headers() {
   if tool g++ 'hlr.h in C++'; then
     printf '#include "hlr.h"\nhlr handle = HLR_CLOSED;\n' > "$room/header.cc"
@@ -21,6 +22,10 @@ headers() {
   awk -f "$in_library/calls.awk" crates/hlr_c/src/*.rt | sort > "$room/wanted"
   is 'calls of hlr.h that are compared' "$(wc -l < "$room/declared")" "$(grep -c '^uint8_t ' "$header")"
   same "hlr.h has the library's calls" "$room/declared" "$room/wanted"
+  is 'the version of hlr.h' "$(sed -n 's/^#define HLR_VERSION_[A-Z]* //p' "$header" | paste -sd .)" \
+    "$(sed -n 's/^const VERSION: &str = "\(.*\)";$/\1/p' crates/hlr/src/options.rt)"
+  awk -f "$in_library/names.awk" crates/tatp_rows/src/refusal.rt > "$room/names"
+  if compiled names.run -std=c11 -Icrates/hlr_c "$in_library/names.c"; then ended 'names of codes' "$room/names" "$room/names.run"; fi
 }
 
 # A day in C: as it is, under valgrind, and in a thread with a small stack.
@@ -36,10 +41,29 @@ days() {
   ended 'a day in C with a small stack' "$day.stdout" "$room/small_stack"
 }
 
-# Each field comes back as it went in; and a handle that goes from thread to thread, which tells 1,000 rows in both cells.
+# Each field comes back as it went in; many questions are answered as one is; and a handle that goes from thread to thread,
+# which tells 1,000 rows in both cells.
 clients() {
   if client rows "$in_library/rows.c"; then ended 'rows go in and come back' /dev/null "$room/rows"; fi
+  if client many "$in_library/many.c"; then ended 'many questions in one call' /dev/null "$room/many"; fi
   if client handed "$in_library/handed.c"; then ended 'a handle that is handed over' <(echo 0 1000 1000 0 254) "$room/handed"; fi
+}
+
+# A register is saved as records, which the client itself and the program load again: each record is as it was.
+saved() {
+  tool python3 'a register that is saved' || return
+  client save examples/library/save.c || return
+  python3 bench/tatp_load.py 300 0 2> /dev/null | grep -E '^(sub|acc|fac|icf),' > "$room/records"
+  "$room/save" < "$room/records" > "$room/saved"
+  is 'a register is saved' "$?" 0
+  same 'what is saved' <(sort "$room/saved") <(sort "$room/records")
+  "$room/save" < "$room/saved" > "$room/again"
+  same 'what is saved again' "$room/again" "$room/saved"
+  program_built || return
+  { cat "$room/saved"; echo scan; } | "$hlr" | grep -v '^ok$' > "$room/scanned"
+  { cat "$room/records"; echo scan; } | "$hlr" | grep -v '^ok$' > "$room/wanted"
+  same 'the counts of what is saved' "$room/scanned" "$room/wanted"
+  [ -s "$room/scanned" ] || fail 'nothing is counted of what is saved'
 }
 
 # A day in Python, by the shared library.
@@ -55,5 +79,6 @@ headers
 archive_built || finish
 days
 clients
+saved
 python
 finish

@@ -23,6 +23,23 @@ static store opened(std::uint64_t parts, std::uint64_t width) {
     return made;
 }
 
+/* Two questions in one call, the second of which is refused. */
+static void many(store &day) {
+    const std::uint64_t s_ids[]{7, 8};
+    const hlrpp::access_asked accesses[]{{7, 1}, {7, 2}};
+    const hlrpp::destination_asked calls[]{{7, 2, 8, 9}, {7, 2, 8, 10}};
+    hlrpp::subscriber rows[2]{};
+    hlrpp::access found[2]{};
+    hlrpp::numbers numbers[2]{};
+    code codes[2]{};
+    told("read 7 and 8", day.subscriber_data_many(s_ids, rows, codes, 2));
+    std::printf("  %s, %" PRIu64 "; %s\n", hlrpp::name(codes[0]), rows[0].sub_nbr, hlrpp::name(codes[1]));
+    told("read two accesses", day.access_data_many(accesses, found, codes, 2));
+    std::printf("  %s, %" PRIu64 "; %s\n", hlrpp::name(codes[0]), found[0].data1, hlrpp::name(codes[1]));
+    told("two calls", day.new_destination_many(calls, numbers, codes, 2));
+    std::printf("  %s, %" PRIu64 "; %s\n", hlrpp::name(codes[0]), numbers[0].numbers[0], hlrpp::name(codes[1]));
+}
+
 static void views(store &day) {
     hlrpp::view now{};
     told("views", day.views(now));
@@ -58,6 +75,18 @@ int main() {
     hlrpp::numbers numbers{};
     told("a call", day.new_destination(7, 2, 8, 9, numbers));
     std::printf("  %" PRIu64 " number, %" PRIu64 "\n", numbers.count, numbers.numbers[0]);
+    many(day);
+    std::uint64_t found = 0, end_time = 0, numberx = 0;
+    told("find 77", day.find(77, found));
+    std::printf("  %" PRIu64 "\n", found);
+    hlrpp::facility facility{};
+    told("read a facility", day.facility_data(7, 2, facility));
+    std::printf("  %" PRIu64 ", %" PRIu64 ", %" PRIu64 ", %.5s\n", facility.is_active, facility.error_cntrl, facility.data_a, facility.data_b);
+    told("read a forwarding", day.forwarding(7, 2, 8, end_time, numberx));
+    std::printf("  to %" PRIu64 ", %" PRIu64 "\n", end_time, numberx);
+    told("from 1 on", day.next_subscriber(1, row));
+    told("from 8 on", day.next_subscriber(row.s_id + 1, row));
+    std::printf("  number %" PRIu64 "\n", row.sub_nbr);
     views(day);
 
     std::uint64_t count = 0;

@@ -94,7 +94,6 @@ static void access_of_seventy(void) {
     IS(hlr_access_data(&handle, 70, 2, &found) == HLR_NO_ACCESS);
 }
 
-/* no call reads a facility, so each field is told by what it refuses, and is_active by its forwardings too */
 static void facility(void) {
     hlr_facility row = {
         .s_id = 70,
@@ -104,7 +103,7 @@ static void facility(void) {
         .data_a = 104,
         .data_b = {'F', 'G', 'H', 'I', 'J'},
     };
-    hlr_facility in_range = row;
+    hlr_facility in_range = row, found;
     REFUSED(hlr_add_facility(&handle, &row), row, s_id, 16777217);
     REFUSED(hlr_add_facility(&handle, &row), row, sf_type, 5);
     REFUSED(hlr_add_facility(&handle, &row), row, is_active, 2);
@@ -112,6 +111,15 @@ static void facility(void) {
     REFUSED(hlr_add_facility(&handle, &row), row, data_a, 256);
     for (int place = 0; place < 5; place++) REFUSED(hlr_add_facility(&handle, &row), row, data_b[place], '[');
     DONE(hlr_add_facility(&handle, &row));
+    OTHER(found);
+    DONE(hlr_facility_data(&handle, 70, 2, &found));
+    SAME(row, s_id);
+    SAME(row, sf_type);
+    SAME(row, is_active);
+    SAME(row, error_cntrl);
+    SAME(row, data_a);
+    SAME(row, data_b);
+    IS(hlr_facility_data(&handle, 70, 3, &found) == HLR_NO_FACILITY);
     row.sf_type = 4;
     row.is_active = 0;
     DONE(hlr_add_facility(&handle, &row));
@@ -125,12 +133,19 @@ static void facility(void) {
 
 static void numbers(void) {
     hlr_numbers found;
-    uint64_t number = seventy.sub_nbr;
+    uint64_t number = seventy.sub_nbr, end_time = 0, numberx = 0;
     OTHER(found);
     DONE(hlr_insert_forwarding(&handle, number, 2, 8, 22, 800));
     DONE(hlr_insert_forwarding(&handle, number, 2, 0, 23, 999999999999999));
     DONE(hlr_insert_forwarding(&handle, number, 2, 16, 24, 1600));
     DONE(hlr_insert_forwarding(&handle, number, 4, 8, 24, 4));
+    DONE(hlr_forwarding(&handle, 70, 2, 8, &end_time, &numberx));
+    IS(end_time == 22 && numberx == 800);
+    IS(hlr_forwarding(&handle, 70, 4, 16, &end_time, &numberx) == HLR_NO_FORWARDING);
+    DONE(hlr_find(&handle, number, &numberx));
+    IS(numberx == 70);
+    IS(hlr_find(&handle, number + 1, &numberx) == HLR_NO_NUMBER);
+    IS(hlr_find(&handle, UINT64_C(1000000000000000), &numberx) == HLR_FIELD);
     IS(hlr_new_destination(&handle, 70, 4, 8, 12, &found) == HLR_NO_DESTINATION);
     DONE(hlr_new_destination(&handle, 70, 2, 16, 21, &found));
     IS(found.count == 3);
@@ -164,6 +179,7 @@ static void regions(void) {
     IS(is_region(list.regions[1], 33, 65, 1, 1));
     IS(is_region(list.regions[2], 65, 101, 1, 2));
     IS(is_region(list.regions[3], 101, 16777217, 0, 1));
+    for (int place = 4; place < 32; place++) IS(is_region(list.regions[place], 0, 0, 0, 0));
     DONE(hlr_take(&handle, 2, 1));
     DONE(hlr_take(&handle, 1, 0));
     DONE(hlr_divide(&handle, 1, 200, &found));
@@ -199,6 +215,7 @@ static void bounds(void) {
     OTHER(cuts);
     DONE(hlr_propose(&handle, &cuts));
     IS(cuts.count == 2 && 1 < cuts.bounds[0] && cuts.bounds[0] < cuts.bounds[1]);
+    for (int place = 2; place < 15; place++) IS(cuts.bounds[place] == 0);
     DONE(hlr_recut(&handle, &cuts, &moved));
     DONE(hlr_regions(&handle, &list));
     IS(list.regions[1].lo == cuts.bounds[0] && list.regions[2].lo == cuts.bounds[1]);

@@ -69,6 +69,34 @@ static int moved(void) {
     return 0;
 }
 
+/* Rows are read, one in a call and sixteen in a call. */
+static int read_out(void) {
+    static hlr_subscriber row, rows[16];
+    static hlr_facility facility;
+    static hlr_access access, accesses[16];
+    static hlr_numbers one, numbers[16];
+    static hlr_access_asked access_asked[16];
+    static hlr_destination_asked asked[16];
+    static uint64_t s_ids[16], s_id, end_time, numberx;
+    static uint8_t codes[16];
+    for (uint64_t i = 0; i < 16; i++) {
+        s_ids[i] = access_asked[i].s_id = asked[i].s_id = 1 + i * (ROWS / 16);
+        access_asked[i].ai_type = asked[i].sf_type = 1;
+        asked[i].end_time = 24;
+        DO(hlr_find(&many, s_ids[i], &s_id));
+        DO(hlr_next_subscriber(&many, s_id, &row));
+        DO(hlr_subscriber_data(&many, s_id, &row));
+        DO(hlr_access_data(&many, s_id, 1, &access));
+        DO(hlr_facility_data(&many, s_id, 1, &facility));
+        DO(hlr_forwarding(&many, s_id, 1, 16, &end_time, &numberx));
+        hlr_new_destination(&many, s_id, 1, 0, 24, &one);
+    }
+    DO(hlr_subscriber_data_many(&many, s_ids, 16, rows, 16, codes, 16));
+    DO(hlr_access_data_many(&many, access_asked, 16, accesses, 16, codes, 16));
+    DO(hlr_new_destination_many(&many, asked, 16, numbers, 16, codes, 16));
+    return 0;
+}
+
 /* Rows are taken away, numbers change, facilities are switched. */
 static int emptied(void) {
     for (uint64_t s_id = 1; s_id <= ROWS; s_id++) {
@@ -84,7 +112,7 @@ static int emptied(void) {
 static void *much(void *none) {
     int line;
     (void)none;
-    if ((line = filled()) != 0 || (line = moved()) != 0) return (void *)(intptr_t)line;
+    if ((line = filled()) != 0 || (line = moved()) != 0 || (line = read_out()) != 0) return (void *)(intptr_t)line;
     return (void *)(intptr_t)emptied();
 }
 
