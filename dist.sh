@@ -5,7 +5,7 @@
 #   PREFIX=/usr/local DESTDIR= ./dist.sh install  puts that tree below DESTDIR, to be used below PREFIX
 #
 # The tree works wherever it stands: bin/hlr, lib/libhlr.a, lib/libhlr.so.1, lib/pkgconfig/hlr.pc, include/hlr.h,
-# include/hlr.hpp, share/man/man1/hlr.1. Both packages come out byte for byte the same whenever they are made of the same
+# include/hlr.hpp, share/man/man1/hlr.1, the Python package in lib/python3/dist-packages, examples in share/doc/hlr. Both packages come out byte for byte the same whenever they are made of the same
 # files: their times are SOURCE_DATE_EPOCH, or else that of the last commit. It needs rt, gcc and binutils, and for the
 # Debian package dpkg-deb. CC may name another compiler.
 set -euo pipefail
@@ -23,17 +23,23 @@ program=crates/hlr/out/hlr
 library=crates/hlr_c/out/libhlr_c.a
 header=crates/hlr_c/hlr.h
 soname=libhlr.so.1
+package=lib/python3/dist-packages/hlr
+examples=share/doc/hlr/examples
 version=$(sed -n 's/^const VERSION: &str = "\(.*\)";$/\1/p' crates/hlr/src/options.rt)
 [ -n "$version" ] || stop 'crates/hlr/src/options.rt tells no VERSION'
 
 # files TO PREFIX: copies the tree to a folder, for use below PREFIX.
 files() {
-  install -d "$1/bin" "$1/include" "$1/lib/pkgconfig" "$1/share/man/man1"
+  install -d "$1/bin" "$1/include" "$1/lib/pkgconfig" "$1/share/man/man1" "$1/$package" "$1/$examples/live"
   install -m 755 "$dist/bin/hlr" "$1/bin/"
   install -m 644 "$dist/include/hlr.h" "$dist/include/hlr.hpp" "$1/include/"
   install -m 644 "$dist/lib/libhlr.a" "$dist/lib/$soname" "$1/lib/"
   ln -sf "$soname" "$1/lib/libhlr.so"
   install -m 644 "$dist/share/man/man1/hlr.1" "$1/share/man/man1/"
+  install -m 644 "$dist/$package"/*.py "$dist/$package/built.txt" "$1/$package/"
+  ln -sf "../../../$soname" "$1/$package/$soname"
+  install -m 644 "$dist/$examples"/day.* "$1/$examples/"
+  install -m 644 "$dist/$examples/live"/* "$1/$examples/live/"
   described "$2" > "$1/lib/pkgconfig/hlr.pc"
   chmod 644 "$1/lib/pkgconfig/hlr.pc"
 }
@@ -41,7 +47,7 @@ files() {
 # described PREFIX: prints hlr.pc.
 described() {
   printf 'prefix=%s\n' "$1"
-  printf '%s\n' "includedir=\${prefix}/include" "libdir=\${prefix}/lib" '' 'Name: hlr' \
+  printf '%s\n' "includedir=\${prefix}/include" "libdir=\${prefix}/lib" "pythondir=\${prefix}/${package%/hlr}" '' 'Name: hlr' \
     'Description: a home location register with live counts' "Version: $version" "Cflags: -I\${includedir}" \
     "Libs: -L\${libdir} -lhlr"
 }
@@ -77,10 +83,18 @@ linked() {
     -Wl,-z,defs -Wl,-z,relro -Wl,-z,now -Wl,-z,noexecstack -Wl,--build-id=none
 }
 
+# built: prints what the shared library was built from.
+built() {
+  local commit
+  commit=$(git describe --always --dirty --abbrev=40 --exclude='*' 2> /dev/null) || commit='that is not known'
+  printf '%s\n' "$soname $(sha256sum < "$dist/lib/$soname" | cut -d ' ' -f 1)" \
+    "${library##*/} $(sha256sum < "$library" | cut -d ' ' -f 1)" "commit $commit" "kit $(rt version)"
+}
+
 # tree: fills dist/ but for the packages.
 tree() {
   rm -rf "$dist"
-  install -d "$dist/bin" "$dist/include" "$dist/lib/pkgconfig" "$dist/share/man/man1"
+  install -d "$dist/bin" "$dist/include" "$dist/lib/pkgconfig" "$dist/share/man/man1" "$dist/$package" "$dist/$examples/live"
   install -m 755 "$program" "$dist/bin/hlr"
   install -m 644 "$header" crates/hlr_c/hlr.hpp "$dist/include/"
   linked
@@ -88,6 +102,11 @@ tree() {
   ln -s "$soname" "$dist/lib/libhlr.so"
   # shellcheck disable=SC2016
   described '${pcfiledir}/../..' > "$dist/lib/pkgconfig/hlr.pc"
+  install -m 644 python/hlr/*.py "$dist/$package/"
+  ln -s "../../../$soname" "$dist/$package/$soname"
+  built > "$dist/$package/built.txt"
+  install -m 644 examples/library/day.c tests/outside/library/day.cc examples/library/day.py "$dist/$examples/"
+  install -m 644 examples/live/* "$dist/$examples/live/"
   "$program" --help < /dev/null | awk -v version="$version" -v day="$(date -d "@$epoch" +%F)" -f tools/man.awk > "$dist/share/man/man1/hlr.1"
 }
 
@@ -107,9 +126,9 @@ package() {
   libc=$(readelf -VW "$dist/bin/hlr" "$dist/lib/$soname" | grep -o 'GLIBC_[0-9][0-9.]*' | sed 's/GLIBC_//' | sort -uV | tail -n 1)
   install -d "$root/DEBIAN"
   printf '%s\n' 'Package: hlr' "Version: $version" 'Architecture: amd64' 'Maintainer: nobody <nobody@localhost>' \
-    "Installed-Size: $bytes" "Depends: libc6 (>= $libc)" 'Section: database' 'Priority: optional' \
+    "Installed-Size: $bytes" "Depends: libc6 (>= $libc)" 'Suggests: python3' 'Section: database' 'Priority: optional' \
     'Description: home location register with live counts' \
-    ' The program hlr, and the register as a library for C and C++.' > "$root/DEBIAN/control"
+    ' The program hlr, and the register as a library for C, C++ and Python.' > "$root/DEBIAN/control"
   echo 'activate-noawait ldconfig' > "$root/DEBIAN/triggers"
   find "$root" -exec touch -h -d "@$epoch" {} +
   SOURCE_DATE_EPOCH=$epoch dpkg-deb --root-owner-group -Zgzip -z9 --build "$root" "$dist/hlr_${version}_amd64.deb" > /dev/null

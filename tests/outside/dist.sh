@@ -1,6 +1,6 @@
 #!/usr/bin/env bash
-# dist.sh: what it makes, twice alike, and what it installs; clients in C and C++ that are built against that by pkg-config,
-# with the archive and with the shared library; the names that both give out; the manual page; and what it refuses.
+# dist.sh: what it makes, twice alike, and what it installs; clients in C, C++ and Python by pkg-config, with the archive and
+# with the shared library; the names that both give out; the manual page; and what it refuses.
 . "$(dirname "$0")/lib.sh" || exit 1
 . tests/outside/c_lib.sh || exit 1
 in_library=tests/outside/library
@@ -11,7 +11,8 @@ unset SOURCE_DATE_EPOCH
 # copied NAME: what dist.sh reads of the repository, in a folder of its own.
 copied() {
   mkdir "$room/$1"
-  cp --parents dist.sh tools/man.awk crates/hlr/src/options.rt "$header" crates/hlr_c/hlr.hpp "$archive" crates/hlr/out/hlr "$room/$1"
+  cp --parents dist.sh tools/man.awk crates/hlr/src/options.rt "$header" crates/hlr_c/hlr.hpp "$archive" crates/hlr/out/hlr \
+    python/hlr/*.py examples/live/*.* examples/library/day.* "$in_library/day.cc" "$room/$1"
 }
 
 # alike NAME FOLDER FOLDER: both have the same files, with the same bytes and modes.
@@ -63,9 +64,12 @@ names() {
 
 # installed: to a folder, and below another one for use elsewhere.
 installed() {
-  local files='bin/hlr include/hlr.h include/hlr.hpp lib/libhlr.a lib/libhlr.so lib/libhlr.so.1 lib/pkgconfig/hlr.pc share/man/man1/hlr.1'
+  local python=lib/python3/dist-packages/hlr files
+  files=$(printf '%s\n' bin/hlr include/hlr.h include/hlr.hpp lib/libhlr.a lib/libhlr.so lib/libhlr.so.1 lib/pkgconfig/hlr.pc \
+    python/hlr/*.py $python/built.txt $python/libhlr.so.1 share/man/man1/hlr.1 share/doc/hlr/examples/day.{c,cc,py} \
+    examples/live/*.* | sed "s,^python/hlr,$python,; s,^examples,share/doc/hlr/&," | sort)
   is 'dist.sh install' "$(PREFIX=$room/prefix "$room/one/dist.sh" install 2>&1; echo "$?")" 0
-  is 'what it installs' "$(cd "$room/prefix" && find . ! -type d | sed 's/^..//' | sort | paste -sd ' ')" "$files"
+  is 'what it installs' "$(cd "$room/prefix" && find . ! -type d | sed 's/^..//' | sort)" "$files"
   is 'dist.sh install below a folder' "$(umask 077; PREFIX=/opt/hlr DESTDIR=$room/root "$room/one/dist.sh" install 2>&1; echo "$?")" 0
   has 'hlr.pc has the prefix' "$room/root/opt/hlr/lib/pkgconfig/hlr.pc" 'prefix=/opt/hlr'
   sed -i "s,^prefix=.*,prefix=$room/prefix," "$room/root/opt/hlr/lib/pkgconfig/hlr.pc"
@@ -83,6 +87,7 @@ clients() {
   export PKG_CONFIG_PATH=$tree/lib/pkgconfig
   is "$tree: version of hlr.pc" "$(pkg-config --modversion hlr)" "$version"
   read -ra words < <(pkg-config --cflags --libs hlr)
+  in_python "$tree"
   archived=('-Wl,-Bstatic' "${words[@]}" '-Wl,-Bdynamic')
   if compiled day -std=c11 examples/library/day.c "${words[@]}"; then
     ended "$tree: a day in C, shared" examples/library/day.stdout env LD_LIBRARY_PATH="$tree/lib" "$room/day"
@@ -104,6 +109,35 @@ clients() {
   printf '#include <hlr.hpp>\nint main() { hlrpp::store day; day.open(1, 1); }\n' > "$room/unread.cc"
   g++ -std=c++17 -fsyntax-only "$room/unread.cc" "${words[@]}" 2> "$room/err"
   has "$tree: a code that is left unread is told" "$room/err" '[-Wunused-result]'
+}
+
+# in_python TREE: the package and the example find the library of a tree.
+in_python() {
+  local folder
+  tool python3 "the Python package of the tree $1" || return
+  folder=$(realpath "$(pkg-config --variable=pythondir hlr)")
+  # shellcheck disable=SC2030
+  (cd / && unset HLR_LIBRARY && PYTHONPATH=$folder PYTHONDONTWRITEBYTECODE=1 python3 -m hlr) > "$room/out" 2>&1
+  is "$1: python3 -m hlr" "$(head -n 2 "$room/out")" "hlr $version"$'\n'"library $folder/hlr/libhlr.so.1"
+  is "$1: what the library was built from" "$(tail -n +3 "$room/out")" "libhlr.so.1 $(sha256sum < "$1/lib/libhlr.so.1" | cut -d ' ' -f 1)
+libhlr_c.a $(sha256sum < "$archive" | cut -d ' ' -f 1)
+commit that is not known
+kit $(rt version)"
+  python3 "$1/share/doc/hlr/examples/day.py" "$1/lib/libhlr.so.1" > "$room/out" 2>&1
+  is "$1: a day in Python" "$(tail -n 1 "$room/out")" 'hlr_close 254'
+  PYTHONPATH=$folder PYTHONDONTWRITEBYTECODE=1 timeout 60 python3 "$1/share/doc/hlr/examples/live" --minutes 0 --subscribers 100 > "$room/out" 2>&1
+  is "$1: examples/live" "$(cut -d ' ' -f 2- "$room/out")" 'for 0 minutes'
+}
+
+# lines_of_readme: what the README has typed in the tar ball's folder, with the page ended at once.
+lines_of_readme() {
+  local tree=$room/hlr-$version
+  tool g++ "the README's lines for the tar ball" && tool python3 "the README's lines for the tar ball" || return
+  sed -n '/^export LD_LIBRARY_PATH=/,/^```$/p' README.md | sed '/^```$/d; s,examples/live$,& --minutes 0,' > "$room/lines"
+  is "the README's lines" "$(wc -l < "$room/lines")" 4
+  (cd "$tree" && unset HLR_LIBRARY PKG_CONFIG_PATH && bash -e "$room/lines") 2>&1 | sed '$s/^http:[^ ]*/page/' > "$room/out"
+  { cat examples/library/day.stdout "$in_library/day.stdout"; echo 'page for 0 minutes'; } > "$room/want"
+  same "the README's lines" "$room/out" "$room/want"
 }
 
 # in_cpp NAME WORD ..: g++ with these words makes $room/day of the day in C++.
@@ -172,6 +206,7 @@ if tool pkg-config 'clients by hlr.pc'; then
   # the tar ball, unpacked anywhere
   tar -xzf "$room/one/dist/hlr-$version-x86_64-linux.tar.gz" -C "$room"
   clients "$room/hlr-$version"
+  lines_of_readme
 fi
 [ -z "$deb" ] || packaged
 manual

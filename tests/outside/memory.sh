@@ -2,7 +2,7 @@
 # How often calls ask for memory, and how much engines have.
 . "$(dirname "$0")/lib.sh" || exit 1
 . tests/outside/c_lib.sh || exit 1
-engine_tests=crates/hlr_workers_tests/out/hlr_workers_tests_tests
+engine_tests=crates/engine_tests/out/engine_tests_tests
 
 # asked COMMAND ..: how often a command asks for memory, given the script $room/in.
 asked() {
@@ -67,7 +67,7 @@ engines() {
 tool gcc 'what calls ask of memory, and what engines have' || finish
 probe_made || finish
 if program_built; then takes; fi
-if tests_built hlr_workers_tests; then
+if tests_built engine_tests; then
   sights
   engines
 fi

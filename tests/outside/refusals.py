@@ -18,7 +18,12 @@ CALLS = {
 }
 # No call lists the index, and these calls are of no command.
 NO_CALL = {"index"}
-NO_COMMAND = {"hlr_open": ["STILL_OPEN", "FIELD", "MEMORY"], "hlr_close": []}
+NO_COMMAND = {
+    "hlr_open": ["STILL_OPEN", "FIELD", "MEMORY"], "hlr_close": [],
+    "hlr_subscriber_data_many": ["FIELD"], "hlr_new_destination_many": ["FIELD"], "hlr_access_data_many": ["FIELD"],
+    "hlr_find": ["FIELD", "NO_NUMBER"], "hlr_facility_data": ["FIELD", "MOVING", "NO_FACILITY"],
+    "hlr_forwarding": ["FIELD", "MOVING", "NO_FORWARDING"], "hlr_next_subscriber": ["NO_SUBSCRIBER"],
+}
 # A record's number may have more than 64 bits, which is refused Field; a call's number can't.
 ANY_NUMBER = {"post", "take", "divide", "dissolve"}
 
