@@ -26,6 +26,7 @@ As the first register is opened, the library is looked for: at the path that the
 where that isn't set, as libhlr.so.1 in this package and in the folder that has it; and then where the system's loader
 finds libhlr.so.1. If it isn't found, ImportError is raised.
 """
+from .records import load, save
 from .refusals import (Code, Exists, Field, ManyParts, ManyPieces, Memory, Moving, NoAccess, NoDestination, NoFacility,
                        NoForwarding, NoNumber, NoPart, NoPiece, NoSubscriber, NotAdjacent, NotOpen, NumberTaken,
                        OutOfRange, Refused, StillOpen, Worn)
@@ -37,5 +38,5 @@ __all__ = [
     "CELLS", "Access", "Cell", "Code", "Exists", "Facility", "Field", "Kind", "ManyParts", "ManyPieces", "Memory",
     "Moving", "NoAccess", "NoDestination", "NoFacility", "NoForwarding", "NoNumber", "NoPart", "NoPiece",
     "NoSubscriber", "NotAdjacent", "NotOpen", "NumberTaken", "OutOfRange", "Refused", "Region", "Register", "Side",
-    "StillOpen", "Subscriber", "Worn",
+    "StillOpen", "Subscriber", "Worn", "load", "save",
 ]

@@ -4,7 +4,7 @@ import enum
 import threading
 from dataclasses import dataclass
 from operator import index
-from typing import Any, Iterator, List, Optional, Sequence, Tuple, Union
+from typing import Any, ContextManager, Iterator, List, Optional, Sequence, Tuple, Union
 
 from . import library as c
 from .refusals import Code, Field, NotOpen, Refused, refusal
@@ -215,6 +215,10 @@ class Register:
     def close(self) -> None:
         """Gives back all memory of the register."""
         self._call("close")
+
+    def held(self) -> ContextManager[Any]:
+        """Keeps the calls of other threads out, while its `with` lasts."""
+        return self._lock
 
     def __enter__(self) -> "Register":
         if self._handle is None:

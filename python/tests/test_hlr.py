@@ -4,6 +4,7 @@ import copy
 import doctest
 import hashlib
 import inspect
+import io
 import os
 import pathlib
 import random
@@ -18,6 +19,7 @@ import unittest
 
 import hlr
 import hlr.library
+import hlr.records
 import hlr.refusals
 import hlr.register
 from hlr import Access, Facility, Region, Register, Side, Subscriber
@@ -31,7 +33,7 @@ UNTOLD = "what it was built from isn't told\n"
 
 def load_tests(_loader, tests, _pattern):
     """The doctests belong to these tests."""
-    for module in (hlr, hlr.register):
+    for module in (hlr, hlr.records, hlr.register):
         tests.addTests(doctest.DocTestSuite(module))
     return tests
 
@@ -225,6 +227,63 @@ class Calls(unittest.TestCase):
                 except (hlr.Exists, hlr.NoForwarding, hlr.Field):
                     pass
             self.assertEqual([cell.published + cell.unposted for cell in register.cells()], register.scan())
+
+
+class Saved(unittest.TestCase):
+    """All rows as records, and back."""
+
+    RECORDS = """\
+sub,1,000000000000000,0000000000,0000000000,00000000000000000000,1,1
+sub,7,000000000000077,1010101010,0123456789,000102030405060708ff,4294967295,268435456
+acc,7,1,0,255,ABC,VWXYZ
+acc,7,4,1,2,AAA,AAAAA
+fac,7,1,1,0,0,AAAAA
+fac,7,2,0,255,3,ZZZZZ
+icf,000000000000077,2,0,1,000000000000100
+icf,000000000000077,2,8,24,999999999999999
+icf,000000000000077,2,16,9,000000000000000
+sub,16777216,999999999999999,1111111111,ffffffffff,ffffffffffffffffffff,1,4294967295
+"""
+
+    @staticmethod
+    def saved(register):
+        file = io.StringIO()
+        return hlr.save(register, file), file.getvalue()
+
+    def test_back(self):
+        with hlr.load(io.StringIO(self.RECORDS), parts=3, width=9) as register:
+            self.assertEqual(register.recut([10, 16777216]), 2)
+            self.assertEqual(self.saved(register), (10, self.RECORDS))
+            with hlr.load(io.StringIO(self.saved(register)[1]), width=9) as again:
+                self.assertEqual(again.scan(), register.scan())
+        with hlr.load([]) as register:
+            self.assertEqual(self.saved(register), (0, ""))
+
+    def test_spelled(self):
+        spelled = ['\n', '"sub",007,000000000000077,1000000000,0123456ABC,"000102030405060708FF",1,"2"\r\n', "\n"]
+        with hlr.load(spelled) as register:
+            self.assertEqual(self.saved(register),
+                             (1, "sub,7,000000000000077,1000000000,0123456abc,000102030405060708ff,1,2\n"))
+
+    def test_refused(self):
+        sub = "sub,7,000000000000077,1000000000,0123456789,000102030405060708ff,1,2\n"
+        for wrong, refused in (("acc,8,1,0,0,ABC,VWXYZ", hlr.NoSubscriber), ("acc,7,5,0,0,ABC,VWXYZ", hlr.Field),
+                               ("acc,7,+1,0,0,ABC,VWXYZ", hlr.Field), ("acc,7,1,0,0,ABCD,VWXYZ", hlr.Field),
+                               ("icf,77,1,0,1,000000000000100", hlr.Field), (sub, hlr.Exists),
+                               ("icf,000000000000077,1,0,1,000000000000100", hlr.NoFacility),
+                               (sub.replace("1000000000,", "1_00000000,"), hlr.Field),
+                               (sub.replace("1000000000,", "a000000000,"), hlr.Field),
+                               (sub.replace(",0001", ", 001"), hlr.Field), ("sub,7", ValueError), ("gsd,7", ValueError)):
+            with self.assertRaises(refused, msg=wrong) as caught:
+                hlr.load([sub, wrong])
+            self.assertRegex(str(caught.exception), "^line 2: ")
+
+    def test_loose(self):
+        with filled(parts=2, width=4) as register:
+            register.give(0, Side.HIGH, 5)
+            file = io.StringIO()
+            self.assertRaises(hlr.Moving, hlr.save, register, file)
+            self.assertEqual(file.getvalue(), "")
 
 
 class Refusals(unittest.TestCase):

@@ -1,0 +1,143 @@
+"""All rows of a register as records of the program hlr, and a register of such records."""
+import csv
+import re
+from typing import Callable, Dict, Iterable, Iterator, List, TextIO
+
+from .refusals import Code, Field, NoAccess, NoFacility, NoForwarding, NoSubscriber, Refused, refusal
+from .register import Access, Facility, Register, Subscriber
+
+_TYPES = range(1, 5)
+_STARTS = (0, 8, 16)
+
+
+def _subscribers(register: Register) -> Iterator[Subscriber]:
+    """All subscribers, in order."""
+    s_id = 1
+    while True:
+        try:
+            row = register.next_subscriber(s_id)
+        except NoSubscriber:
+            return
+        yield row
+        s_id = row.s_id + 1
+
+
+def _fields_of(register: Register, row: Subscriber) -> Iterator[List[object]]:
+    """The records of a subscriber and of all that is theirs."""
+    digits = "".join(map(str, row.bits)), "".join(f"{each:x}" for each in row.hexes), row.octets.hex()
+    yield ["sub", row.s_id, f"{row.sub_nbr:015}", *digits, row.msc_location, row.vlr_location]
+    for ai_type in _TYPES:
+        try:
+            access = register.access_data(row.s_id, ai_type)
+        except NoAccess:
+            continue
+        yield ["acc", row.s_id, ai_type, access.data1, access.data2, access.data3, access.data4]
+    for sf_type in _TYPES:
+        try:
+            facility = register.facility_data(row.s_id, sf_type)
+        except NoFacility:
+            continue
+        yield ["fac", row.s_id, sf_type, int(facility.is_active), facility.error_cntrl, facility.data_a, facility.data_b]
+        for start_time in _STARTS:
+            try:
+                end_time, numberx = register.forwarding(row.s_id, sf_type, start_time)
+            except NoForwarding:
+                continue
+            yield ["icf", f"{row.sub_nbr:015}", sf_type, start_time, end_time, f"{numberx:015}"]
+
+
+def save(register: Register, file: TextIO) -> int:
+    """Writes all rows as the records sub, acc, fac and icf, by subscriber, and tells how many records there are. No other
+    thread's call comes in between. Raises Moving where a piece is loose, before it writes anything.
+
+    >>> import io, sys
+    >>> register = load(io.StringIO("sub,7,000000000000077,1000000000,0123456789,000102030405060708ff,1,2\\n"))
+    >>> save(register, sys.stdout)
+    sub,7,000000000000077,1000000000,0123456789,000102030405060708ff,1,2
+    1
+    """
+    records = 0
+    with register.held():
+        if any(region.is_piece for region in register.regions()):
+            raise refusal(Code.MOVING, "save")
+        for row in _subscribers(register):
+            for fields in _fields_of(register, row):
+                print(*fields, sep=",", file=file)
+                records += 1
+    return records
+
+
+def _decimal(field: str) -> int:
+    if not (field.isascii() and field.isdigit()):
+        raise Field(f"{field!r} is no decimal number")
+    return int(field)
+
+
+def _called(field: str) -> int:
+    if len(field) != 15:
+        raise Field(f"{field!r} isn't 15 digits")
+    return _decimal(field)
+
+
+def _digits(field: str, each: int) -> bytes:
+    """Ten numbers, of so many hexadecimal digits each."""
+    if not re.fullmatch(f"[0-9A-Fa-f]{{{10 * each}}}", field):
+        raise Field(f"{field!r} isn't {10 * each} digits")
+    return bytes(int(field[at:at + each], 16) for at in range(0, len(field), each))
+
+
+def _add_subscriber(register: Register, fields: List[str]) -> None:
+    s_id, sub_nbr, bits, hexes, octets, msc_location, vlr_location = fields
+    register.add_subscriber(Subscriber(_decimal(s_id), _called(sub_nbr), _digits(bits, 1), _digits(hexes, 1),
+                                       _digits(octets, 2), _decimal(msc_location), _decimal(vlr_location)))
+
+
+def _add_access(register: Register, fields: List[str]) -> None:
+    s_id, ai_type, data1, data2, data3, data4 = fields
+    register.add_access(Access(_decimal(s_id), _decimal(ai_type), _decimal(data1), _decimal(data2), data3, data4))
+
+
+def _add_facility(register: Register, fields: List[str]) -> None:
+    s_id, sf_type, is_active, error_cntrl, data_a, data_b = fields
+    register.add_facility(Facility(_decimal(s_id), _decimal(sf_type), _decimal(is_active), _decimal(error_cntrl),
+                                   _decimal(data_a), data_b))
+
+
+def _insert_forwarding(register: Register, fields: List[str]) -> None:
+    sub_nbr, sf_type, start_time, end_time, numberx = fields
+    register.insert_forwarding(_called(sub_nbr), _decimal(sf_type), _decimal(start_time), _decimal(end_time),
+                               _called(numberx))
+
+
+_COMMANDS: Dict[str, Callable[[Register, List[str]], None]] = {
+    "sub": _add_subscriber,
+    "acc": _add_access,
+    "fac": _add_facility,
+    "icf": _insert_forwarding,
+}
+_FIELDS = {"sub": 7, "acc": 6, "fac": 6, "icf": 5}
+
+
+def load(file: Iterable[str], parts: int = 1, width: int = 524288) -> Register:
+    """Opens a register of so many parts and of this width, with the rows of records sub, acc, fac and icf. A record of
+    another kind, or with another number of fields, raises ValueError; one that is refused raises the exception of the
+    call that it asks for, with its line. Either closes the register.
+
+    >>> load(["sub,7,000000000000077,1000000000,0123456789,000102030405060708ff,1,2", "gsd,7"])
+    Traceback (most recent call last):
+    ValueError: line 2: no record sub, acc, fac or icf, or not as many fields as it has
+    """
+    register = Register(parts, width)
+    try:
+        reader = csv.reader(file)
+        for command, *fields in filter(None, reader):
+            if _FIELDS.get(command) != len(fields):
+                raise ValueError(f"line {reader.line_num}: no record sub, acc, fac or icf, or not as many fields as it has")
+            try:
+                _COMMANDS[command](register, fields)
+            except Refused as refused:
+                raise type(refused)(f"line {reader.line_num}: {refused}") from None
+    except BaseException:
+        register.close()
+        raise
+    return register
