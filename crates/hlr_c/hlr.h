@@ -18,7 +18,7 @@
  *
  * Most calls go down a tree or two, which takes a microsecond or less. hlr_views goes over all cells of each part, and
  * hlr_recut is one give and one take for each bound that moves. hlr_give and hlr_divide count the rows that move, which
- * takes 100 ms for 9 million. hlr_scan goes over all rows.
+ * takes some 20 ms for half a million. hlr_scan goes over all rows.
  *
  * What C owes, since no prover sees it:
  *   - A handle is filled with zeros (HLR_CLOSED) before its first call. From then on only these calls write to it. A
@@ -220,8 +220,8 @@ uint8_t hlr_close(hlr *handle);
 uint8_t hlr_subscriber_data(hlr *handle, uint64_t s_id, hlr_subscriber *row);
 
 /*
- * GET_NEW_DESTINATION: the numbers that an active facility forwards to, of its forwardings that start by start_time and
- * end after end_time, by their start.
+ * GET_NEW_DESTINATION: tells the numbers that an active facility forwards to, of its forwardings that start by
+ * start_time and end after end_time, by their start.
  * Refusals: FIELD, MOVING, NO_DESTINATION
  */
 uint8_t hlr_new_destination(hlr *handle, uint64_t s_id, uint64_t sf_type, uint64_t start_time, uint64_t end_time,
@@ -344,33 +344,34 @@ uint8_t hlr_set_number(hlr *handle, uint64_t s_id, uint64_t sub_nbr);
 uint8_t hlr_post(hlr *handle, uint64_t part, uint64_t limit, uint64_t *posted);
 
 /*
- * Each cell as published, and what isn't posted of it yet: they add up to the count over the rows now. No row is read.
+ * Tells each cell as published, and what isn't posted of it yet: they add up to the count over the rows now. No row is
+ * read.
  * Refusals: none
  */
 uint8_t hlr_views(hlr *handle, int64_t published[HLR_CELLS], int64_t unposted[HLR_CELLS]);
 
 /*
- * Each cell, counted anew by a walk over all rows.
+ * Counts each cell anew, by a walk over all rows.
  * Refusals: none
  */
 uint8_t hlr_scan(hlr *handle, uint64_t counts[HLR_CELLS]);
 
 /*
- * A part gives away its subscribers below at (side 0) or from at on (side 1), as a loose piece with the least free
- * number; while it is loose, its subscribers are answered HLR_MOVING. Tells the piece.
+ * Has a part give away its subscribers below at (side 0) or from at on (side 1), as a loose piece with the least free
+ * number. While it is loose, its subscribers are answered HLR_MOVING. Tells the piece. HLR_FIELD where side is neither.
  * Refusals: FIELD, NO_PART, OUT_OF_RANGE, MANY_PIECES, MEMORY
  */
 uint8_t hlr_give(hlr *handle, uint64_t part, uint64_t side, uint64_t at, hlr_region *given);
 
 /*
- * A part takes a loose piece that touches it.
+ * Has a part take a loose piece that touches it.
  * Refusals: NO_PIECE, NO_PART, NOT_ADJACENT, MEMORY
  */
 uint8_t hlr_take(hlr *handle, uint64_t piece, uint64_t part);
 
 /*
- * Divides a part at a subscriber: it keeps what is below at, and a new part with the next number has the rest, of which
- * nothing is published yet; later parts' numbers rise by one. Tells the new part.
+ * Divides a part at a subscriber: it keeps what is below at, and a new part with the next number has the rest. Nothing
+ * of the new part is published yet, and later parts' numbers rise by one. Tells the new part.
  * Refusals: NO_PART, OUT_OF_RANGE, MANY_PARTS, MEMORY
  */
 uint8_t hlr_divide(hlr *handle, uint64_t part, uint64_t at, hlr_region *made);
@@ -384,14 +385,14 @@ uint8_t hlr_divide(hlr *handle, uint64_t part, uint64_t at, hlr_region *made);
 uint8_t hlr_dissolve(hlr *handle, uint64_t part, hlr_region *front);
 
 /*
- * All regions, in order.
+ * Tells all regions, in order.
  * Refusals: none
  */
 uint8_t hlr_regions(hlr *handle, hlr_region_list *regions);
 
 /*
- * The bounds between zones that would give each part about its share of the rows, as they are published: post every
- * part first.
+ * Tells the bounds between zones that would give each part about its share of the rows, as they are published: post
+ * every part first.
  * Refusals: none
  */
 uint8_t hlr_propose(hlr *handle, hlr_bounds *bounds);

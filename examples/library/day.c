@@ -1,6 +1,6 @@
-/* A day of traffic in small, with the register as a library (the README's "For C" builds it): two subscribers in two
- * parts, a call that is forwarded, a move, what the counts say, rows on their way from part to part, a bound that goes to
- * where the rows are, and a third part for a while. */
+/* A day of traffic in small, with the register as a library (docs/LIBRARY.md tells how it is built): two subscribers in
+ * two parts, a call that is forwarded, a move, what the counts say, rows on their way from part to part, a bound that goes
+ * to where the rows are, and a third part for a while. */
 #include "hlr.h"
 #include <inttypes.h>
 #include <stdio.h>
