@@ -20,7 +20,7 @@ A refused call raises the exception of its code, which is a `Refused`:
 ...         register.subscriber_data(7)
 ...     except hlr.NoSubscriber as refused:
 ...         print(refused.code.name, int(refused.code), refused)
-NO_SUBSCRIBER 3 subscriber_data: no subscriber row has this s_id
+NO_SUBSCRIBER 3 subscriber_data: there is no such subscriber row
 
 As the first register is opened, the library is looked for: at the path that the environment variable HLR_LIBRARY has;
 where that isn't set, as libhlr.so.1 in this package and in the folder that has it; and then where the system's loader

@@ -48,7 +48,7 @@ class Field(Refused):
 
 
 class NoSubscriber(Refused):
-    """no subscriber row has this s_id"""
+    """there is no such subscriber row"""
 
     code = Code.NO_SUBSCRIBER
 

@@ -252,7 +252,7 @@ class Register:
         return _subscriber(row)
 
     def new_destination(self, s_id: int, sf_type: int, start_time: int, end_time: int) -> List[int]:
-        """GET_NEW_DESTINATION: the numbers that an active facility forwards to, of its forwardings that start by
+        """GET_NEW_DESTINATION: tells the numbers that an active facility forwards to, of its forwardings that start by
         start_time and end after end_time, by their start. Raises Field, Moving, NoDestination.
 
         >>> with Register() as register:
@@ -399,7 +399,7 @@ class Register:
         return posted.value
 
     def views(self) -> Tuple[List[int], List[int]]:
-        """Each cell as published, and what isn't posted of it yet. No row is read.
+        """Tells each cell as published, and what isn't posted of it yet. No row is read.
 
         >>> with Register() as register:
         ...     register.add_subscriber(Subscriber(7, 77))
@@ -412,7 +412,7 @@ class Register:
         return list(published), list(unposted)
 
     def cells(self) -> Iterator[Cell]:
-        """The cells of `views`, by their names.
+        """Tells the cells of `views`, by their names.
 
         >>> with Register() as register:
         ...     names = [cell.name for cell in register.cells()]
@@ -423,14 +423,14 @@ class Register:
         return (Cell(number, *_NAMES[number], published[number], unposted[number]) for number in range(CELLS))
 
     def scan(self) -> List[int]:
-        """Each cell, counted anew by a walk over all rows."""
+        """Counts each cell anew, by a walk over all rows."""
         counts = (ctypes.c_uint64 * CELLS)()
         self._call("scan", counts)
         return list(counts)
 
     def give(self, part: int, side: int, at: int) -> Region:
-        """A part gives away its subscribers below at (Side.LOW) or from at on (Side.HIGH), as a loose piece; while it
-        is loose, its subscribers are answered Moving. Raises Field, NoPart, OutOfRange, ManyPieces, Memory.
+        """Has a part give away its subscribers below at (Side.LOW) or from at on (Side.HIGH), as a loose piece. While
+        it is loose, its subscribers are answered Moving. Raises Field, NoPart, OutOfRange, ManyPieces, Memory.
 
         >>> with Register(parts=2, width=4) as register:
         ...     register.give(0, Side.HIGH, 5)
@@ -444,7 +444,7 @@ class Register:
         return _region(given)
 
     def take(self, piece: int, part: int) -> None:
-        """A part takes a loose piece that touches it. Raises NoPiece, NoPart, NotAdjacent, Memory."""
+        """Has a part take a loose piece that touches it. Raises NoPiece, NoPart, NotAdjacent, Memory."""
         self._call("take", piece, part)
 
     def divide(self, part: int, at: int) -> Region:
@@ -462,7 +462,7 @@ class Register:
         return _region(front)
 
     def regions(self) -> List[Region]:
-        """All regions, in order.
+        """Tells all regions, in order.
 
         >>> with Register() as register:
         ...     register.regions()
@@ -473,8 +473,8 @@ class Register:
         return [_region(row) for row in regions.regions[:regions.count]]
 
     def propose(self) -> List[int]:
-        """The bounds between zones that would give each part about its share of the rows, as they are published: post
-        every part first."""
+        """Tells the bounds between zones that would give each part about its share of the rows, as they are published:
+        post every part first."""
         bounds = c.Bounds()
         self._call("propose", bounds)
         return list(bounds.bounds[:bounds.count])
