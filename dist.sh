@@ -5,8 +5,9 @@
 #   PREFIX=/usr/local DESTDIR= ./dist.sh install  puts that tree below DESTDIR, to be used below PREFIX
 #
 # The tree works wherever it stands: bin/hlr, lib/libhlr.a, lib/libhlr.so.1, lib/pkgconfig/hlr.pc, include/hlr.h,
-# include/hlr.hpp, share/man/man1/hlr.1, the Python package in lib/python3/dist-packages, examples in share/doc/hlr. Both packages come out byte for byte the same whenever they are made of the same
-# files: their times are SOURCE_DATE_EPOCH, or else that of the last commit. It needs rt, gcc and binutils, and for the
+# include/hlr.hpp, share/man/man1/hlr.1, the Python package in lib/python3/dist-packages, examples in share/doc/hlr.
+# Both packages come out byte for byte the same whenever they are made of the same files: their times are
+# SOURCE_DATE_EPOCH, or else that of the last commit. It needs rt, gcc and binutils, and for the
 # Debian package dpkg-deb. CC may name another compiler.
 set -euo pipefail
 cd "$(dirname "$0")"
@@ -38,7 +39,7 @@ files() {
   install -m 644 "$dist/share/man/man1/hlr.1" "$1/share/man/man1/"
   install -m 644 "$dist/$package"/*.py "$dist/$package/built.txt" "$1/$package/"
   ln -sf "../../../$soname" "$1/$package/$soname"
-  install -m 644 "$dist/$examples"/day.* "$1/$examples/"
+  install -m 644 "$dist/$examples"/day.* "$dist/$examples/save.c" "$1/$examples/"
   install -m 644 "$dist/$examples/live"/* "$1/$examples/live/"
   described "$2" > "$1/lib/pkgconfig/hlr.pc"
   chmod 644 "$1/lib/pkgconfig/hlr.pc"
@@ -105,7 +106,7 @@ tree() {
   install -m 644 python/hlr/*.py "$dist/$package/"
   ln -s "../../../$soname" "$dist/$package/$soname"
   built > "$dist/$package/built.txt"
-  install -m 644 examples/library/day.c tests/outside/library/day.cc examples/library/day.py "$dist/$examples/"
+  install -m 644 examples/library/day.c examples/library/save.c tests/outside/library/day.cc examples/library/day.py "$dist/$examples/"
   install -m 644 examples/live/* "$dist/$examples/live/"
   "$program" --help < /dev/null | awk -v version="$version" -v day="$(date -d "@$epoch" +%F)" -f tools/man.awk > "$dist/share/man/man1/hlr.1"
 }

@@ -12,7 +12,7 @@ unset SOURCE_DATE_EPOCH
 copied() {
   mkdir "$room/$1"
   cp --parents dist.sh tools/man.awk crates/hlr/src/options.rt "$header" crates/hlr_c/hlr.hpp "$archive" crates/hlr/out/hlr \
-    python/hlr/*.py examples/live/*.* examples/library/day.* "$in_library/day.cc" "$room/$1"
+    python/hlr/*.py examples/live/*.* examples/library/day.* examples/library/save.c "$in_library/day.cc" "$room/$1"
 }
 
 # alike NAME FOLDER FOLDER: both have the same files, with the same bytes and modes.
@@ -66,7 +66,7 @@ names() {
 installed() {
   local python=lib/python3/dist-packages/hlr files
   files=$(printf '%s\n' bin/hlr include/hlr.h include/hlr.hpp lib/libhlr.a lib/libhlr.so lib/libhlr.so.1 lib/pkgconfig/hlr.pc \
-    python/hlr/*.py $python/built.txt $python/libhlr.so.1 share/man/man1/hlr.1 share/doc/hlr/examples/day.{c,cc,py} \
+    python/hlr/*.py $python/built.txt $python/libhlr.so.1 share/man/man1/hlr.1 share/doc/hlr/examples/{day.c,day.cc,day.py,save.c} \
     examples/live/*.* | sed "s,^python/hlr,$python,; s,^examples,share/doc/hlr/&," | sort)
   is 'dist.sh install' "$(PREFIX=$room/prefix "$room/one/dist.sh" install 2>&1; echo "$?")" 0
   is 'what it installs' "$(cd "$room/prefix" && find . ! -type d | sed 's/^..//' | sort)" "$files"
