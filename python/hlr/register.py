@@ -218,6 +218,8 @@ class Register:
 
     def held(self) -> ContextManager[Any]:
         """Keeps the calls of other threads out, while its `with` lasts."""
+        if self._handle is None:
+            raise refusal(Code.NOT_OPEN, "held")
         return self._lock
 
     def __enter__(self) -> "Register":
