@@ -5,7 +5,7 @@ use crate::engines::{
     unposted,
 };
 use crate::gates::Open;
-use hlr_core::{Event, NumberIndex, Register, Reply, WORDS};
+use hlr_core::{Event, NumberIndex, Register, Reply, Route, WORDS};
 use hlr_workers::Engine;
 use std::alloc::Global;
 use std::process::Abort;
@@ -27,6 +27,45 @@ const STEPS: u64 = 300;
 
 /// How many events there are whose replies don't depend on when they are settled.
 const EVENTS: u64 = 10_000;
+
+/// How many drawn jobs there are, and between how many of them at most the engine is settled.
+const JOBS: u64 = 20_000;
+
+const APART: u64 = 80;
+
+/// How many jobs a message has at most. All but the first job of a worker are held until there are so many.
+const MESSAGE: u64 = 16;
+
+/// A bit for each number of jobs that may be held while a queue has places: 0 to 15.
+const ALL_HELD: u64 = 65_535;
+
+/// How many jobs each of three parts has since the last settle, and a bit for each number that was held at one.
+#[derive(Clone, Copy, Default)]
+struct Held {
+    jobs: [u64; 3],
+    seen: u64,
+}
+
+impl Held {
+    /// Counts an event that goes there.
+    fn note(&mut self, route: &Route) {
+        if let Route::To(part, _) = route
+            && let Some(jobs) = self.jobs.get_mut(usize::from(*part))
+        {
+            *jobs = jobs.wrapping_add(1);
+        }
+    }
+
+    /// Notes how many are held: all but the first since the last full message.
+    fn settle(&mut self) {
+        for jobs in &mut self.jobs {
+            if let Some(behind) = jobs.checked_sub(1) {
+                self.seen |= 1u64.wrapping_shl((behind % MESSAGE) as u32);
+            }
+            *jobs = 0;
+        }
+    }
+}
 
 /// How many re-cuts moved a bound, how many parts came and how many went, and how many of both were refused.
 #[derive(Clone, Copy, Default)]
@@ -271,6 +310,31 @@ impl Double {
         }
         alike
     }
+
+    /// How many drawn jobs were taken and settled alike, with a settle after a drawn number of them each, and how many
+    /// jobs were held then.
+    fn jobs_alike<R: Threads + Wait + Abort + Copy + Send + Sync + 'static>(
+        &mut self,
+        rt: &R,
+        engine: &mut Engine<Open>,
+        draws: &mut Draws,
+    ) -> (u64, Held) {
+        let (mut alike, mut held) = (0u64, Held::default());
+        let mut left = draws.distance(APART);
+        for _ in 0..JOBS {
+            let event = draws.job(rt, self.register.regions());
+            held.note(&self.register.route(&event));
+            let mut is_alike = self.takes(rt, engine, &event);
+            left = left.wrapping_sub(1);
+            if left == 0 {
+                held.settle();
+                is_alike = self.settles(rt, engine) && is_alike;
+                left = draws.distance(APART);
+            }
+            alike = alike.wrapping_add(u64::from(is_alike));
+        }
+        (alike, held)
+    }
 }
 
 /// An engine of so many parts with subscribers in them, and a register of one thread.
@@ -350,4 +414,13 @@ fn settling_is_alike<R: Threads + Wait + Abort + Copy + Send + Sync + 'static>(
 fn replies_whenever_settled(rt: HostRuntime) {
     let alike = [1, 7, 4_096].map(|between| settling_is_alike(&rt, rt.alloc(), between));
     assert_eq!(rt; alike, [true; 3]);
+}
+
+// 16 are held only while a queue is full: `full_queue_holds_up_no_other_part` has them.
+#[test]
+fn replies_whatever_is_held(rt: HostRuntime) {
+    let (mut engine, mut double) = begun(&rt, rt.alloc(), 3);
+    let (alike, held) = double.jobs_alike(&rt, &mut engine, &mut Draws::new(11));
+    let ends_alike = ends_alike(&rt, engine, double);
+    assert_eq!(rt; (alike, held.seen, ends_alike), (JOBS, ALL_HELD, true));
 }

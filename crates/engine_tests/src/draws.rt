@@ -176,6 +176,14 @@ impl Draws {
         }
     }
 
+    /// A move of a subscriber.
+    fn location(&mut self, rt: &impl Abort) -> Event {
+        Event::UpdateLocation {
+            sub_nbr: self.number(rt),
+            vlr_location: self.random.below(4_294_967_296),
+        }
+    }
+
     /// A change of fields.
     fn update(&mut self, rt: &impl Abort) -> Event {
         let s_id = self.s_id();
@@ -190,10 +198,7 @@ impl Draws {
                 s_id,
                 sub_nbr: self.number(rt),
             },
-            2 => Event::UpdateLocation {
-                sub_nbr: self.number(rt),
-                vlr_location: self.random.below(4_294_967_296),
-            },
+            2 => self.location(rt),
             _ => Event::SetActive {
                 s_id,
                 sf_type: self.kind(),
@@ -277,6 +282,21 @@ impl Draws {
             28 | 29 => self.parting(regions),
             _ => self.posting(regions),
         }
+    }
+
+    /// An event that a part does alone, if any does.
+    pub fn job(&mut self, rt: &impl Abort, regions: &Regions) -> Event {
+        match self.random.below(8) {
+            0..=2 => self.read(),
+            3..=5 => self.forwarding(rt),
+            6 => self.location(rt),
+            _ => self.posting(regions),
+        }
+    }
+
+    /// How many jobs there are until the next settle: up to so many.
+    pub fn distance(&mut self, most: u64) -> u64 {
+        self.random.below(most).wrapping_add(1)
     }
 
     /// Bounds among the subscribers for as many parts as there are, now and then one too many.

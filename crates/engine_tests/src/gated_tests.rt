@@ -1,9 +1,9 @@
 //! What workers do at once, and which go on while the others come home: seen by gates.
 use crate::engines::{
-    DONE, are_replies, are_rows, engine_over, filled, has_posting, number, plain_row, read,
-    read_all, row, row_reply, submit,
+    DONE, are_replies, are_rows, closed, engine_over, filled, has_posting, number, open_gate,
+    plain_row, read, read_all, row, row_reply, submit,
 };
-use crate::gates::{Doors, Hold, Meeting, Turns};
+use crate::gates::{Doors, Hold, Meeting, Open, Second, Turns};
 use hlr_core::{Event, Reply};
 use hlr_workers::{Engine, Gate};
 use part_table::{END, Side};
@@ -87,8 +87,8 @@ fn done_beside<R: Threads + Wait + Copy + Send + Sync + 'static>(
     engine.settle(rt)
 }
 
-// One more read than the queue of a worker has places: its worker is held up at the first, and the others wait in the
-// queue.
+// As many reads as are taken without a wait while their worker is held up at the first: the others fill the queue, in
+// messages of 16.
 #[test]
 fn reads_wait_in_the_queue(rt: HostRuntime) {
     let gate = Arc::new(rt.alloc(), Hold::of(0)).expect(&rt, "a gate");
@@ -98,6 +98,24 @@ fn reads_wait_in_the_queue(rt: HostRuntime) {
     let (register, _none) = engine.close(&rt);
     drop(register);
     let found = (are_rows(&rt, &replies, &[1; 257]), gate.gave_up());
+    assert_eq!(rt; found, (true, false));
+}
+
+// The worker of the first part is held up until that of the second one is at its second job, which is held while the
+// first part's queue is full: who waits for a place pushes it, sleeps meanwhile, and is woken once there is a place.
+#[test]
+fn full_queue_holds_up_no_other_part(rt: HostRuntime) {
+    let mut s_ids = [1; 303];
+    for s_id in s_ids.iter_mut().skip(1).take(2) {
+        *s_id = 100;
+    }
+    let gate = Arc::new(rt.alloc(), Second::new()).expect(&rt, "a gate");
+    let register = filled(&rt, rt.alloc(), 2, &[1, 100]);
+    let mut engine = engine_over(&rt, rt.alloc(), register, &gate);
+    let replies = read_all(&rt, &mut engine, &s_ids);
+    let (register, _none) = engine.close(&rt);
+    drop(register);
+    let found = (are_rows(&rt, &replies, &s_ids), gate.gave_up());
     assert_eq!(rt; found, (true, false));
 }
 
@@ -305,6 +323,37 @@ fn posting_is_seen_at_once(rt: HostRuntime) {
     let wanted = [row_reply(&rt, 100), Reply::Posted(2)];
     let found = (is_seen, are_replies(&replies, &wanted), gate.gave_up());
     assert_eq!(rt; found, (true, true, false));
+}
+
+/// Whether a posting is seen, before it is settled, that is taken behind eight reads, of which all but the first are
+/// held; and the replies.
+fn posts_behind_held<R: Threads + Wait + Copy + Send + Sync + 'static>(
+    rt: &R,
+    engine: &mut Engine<Open>,
+) -> (bool, Vec<(u64, Reply)>) {
+    for _ in 0..8u32 {
+        let _read = submit(rt, engine, read(7));
+    }
+    let _posted = submit(rt, engine, Event::Post { part: 0, limit: 51 });
+    let is_seen = sees_posting(engine);
+    (is_seen, engine.settle(rt))
+}
+
+#[test]
+fn posting_behind_held_jobs_is_seen(rt: HostRuntime) {
+    let gate = open_gate(&rt, rt.alloc());
+    let register = filled(&rt, rt.alloc(), 1, &[7]);
+    let mut engine = engine_over(&rt, rt.alloc(), register, &gate);
+    let (is_seen, mut replies) = posts_behind_held(&rt, &mut engine);
+    let late = closed(&rt, engine);
+    let posted = replies.pop();
+    let found = (
+        is_seen,
+        posted == Some((8, Reply::Posted(2))),
+        are_rows(&rt, &replies, &[7; 8]),
+        late.len(),
+    );
+    assert_eq!(rt; found, (true, true, true, 0));
 }
 
 #[test]

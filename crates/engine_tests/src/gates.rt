@@ -102,6 +102,46 @@ impl Gate for Hold {
     fn after(&self, _part: u8, _seq: u64) {}
 }
 
+/// How often the second part looks away at its second job, before it lets the first one go.
+const PAUSE: u32 = 200_000;
+
+/// A gate that holds part 0 up until part 1 is at its second job, at which that one stays for a while first.
+#[derive(Drop)]
+pub struct Second {
+    first: Hold,
+    came: AtomicU64,
+}
+
+impl Second {
+    /// A gate to which nobody came.
+    pub fn new() -> Self {
+        Second {
+            first: Hold::of(0),
+            came: AtomicU64::new(0),
+        }
+    }
+
+    /// Whether part 0 gave up waiting.
+    pub fn gave_up(&self) -> bool {
+        self.first.gave_up()
+    }
+}
+
+impl Gate for Second {
+    fn before(&self, part: u8, seq: u64) {
+        self.first.before(part, seq);
+        if part != 1 || self.came.fetch_add(1, Ordering::SeqCst) != 1 {
+            return;
+        }
+        for _ in 0..PAUSE {
+            thread::yield_now();
+        }
+        self.first.let_go();
+    }
+
+    fn after(&self, _part: u8, _seq: u64) {}
+}
+
 /// A gate that counts the jobs that are done.
 #[derive(Drop)]
 pub struct Tally {
