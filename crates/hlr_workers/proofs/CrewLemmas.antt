@@ -1,6 +1,6 @@
 -- A part goes out to a worker, has jobs sent to it, and comes home.
 use Rattle.std.proofs.Common.{◌≡◌, ◌∙◌, refl, sym, ap, subst, ℕ, zero, suc, ◌<◌, List, [], ◌∷◌, ◌++◌, length, get_or, set, map, replicate, arith, true, false, Bool, Some, None, inl, inr}
-use Rattle.std.specs.Prelude.{Option, IsSome, IfSome, slice_get, if◌then◌else◌}
+use Rattle.std.specs.Prelude.{Option, IsSome, IfSome, is_some, slice_get, if◌then◌else◌}
 use Rattle.std.specs.List.{AllByRecursion, AllZip}
 use Rattle.std.proofs.Math.ListN.{get_or-map}
 use Rattle.std.proofs.lemmas.List.{get_or_past, length-map, length-replicate, map-set, set-get_or}
@@ -70,16 +70,19 @@ module _ (h : Seating) (are : AreSeated h) where
     pub home_is : (d : Bool) → get_or (homes_in h.seats) p d ≡ l.home
     home_is d = sym (at_number h are p i at.region (λ (o : Lodged). o.home) l at.seat d).1
 
-  -- a part that isn't at home is out
-  pub out_there : (p : ℕ) → p < length (outs_in h.seats) → get_or (homes_in h.seats) p false ≡ false → (lent : HoldingState) × (slice_get (outs_in h.seats) p ≡ Some (Some lent))
-  out_there p low away =
+  -- a part that isn't out is at home
+  pub home_there : (p : ℕ) → p < length (outs_in h.seats) → get_or (outs_in h.seats) p None ≡ None → get_or (homes_in h.seats) p false ≡ true
+  home_there p low none =
       let long = as_homes in
       let found = part_with_number h are p (omega arith) in
       let l = found.1 in
-      let gone : l.home ≡ false = sym (home_is p found.0 l found.2 false) ∙ away in
-      (l.holding, out_is p found.0 l found.2 ∙ ap (λ (b : Bool). Some (if b then None else Some l.holding)) gone)
+      let out : out_of l ≡ None = sym (get_or_from_slice_get (outs_in h.seats) p (out_of l) None (out_is p found.0 l found.2)) ∙ none in
+      home_is p found.0 l found.2 false ∙ here l out
+    where
+      here : (l : Lodged) → out_of l ≡ None → l.home ≡ true
+      here l none = by_test l.home (λ e. e) (λ e. absurd (none-some l.holding (sym none ∙ ap (λ (b : Bool). if b then None else Some l.holding) e)))
 
-  -- and one that is out sits there as it was lent
+  -- one that is out sits there as it was lent
   pub out_part : (p : ℕ) (lent : HoldingState) → slice_get (outs_in h.seats) p ≡ Some (Some lent) → (i : ℕ) × IsPartAt h p i (record { holding = lent; home = false })
   out_part p lent out =
       let long = as_homes in
@@ -155,6 +158,14 @@ module _ (outs : List (Option HoldingState)) (ws : List (Option Sent)) (each : A
           let two : HasWorker (Some lent) (Some w) = rw (e, is) at has in
           (lent, slice_get-get_or outs p None (low below) ∙ ap Some e, two.0, two.1)
 
+  -- a part that has a worker is out
+  pub worker_out : (p : ℕ) → is_some (get_or ws p None) ≡ true → (lent : HoldingState) × (slice_get outs p ≡ Some (Some lent))
+  worker_out p has = some (get_or ws p None) refl has
+    where
+      some : (w : Option Sent) → get_or ws p None ≡ w → is_some w ≡ true → (lent : HoldingState) × (slice_get outs p ≡ Some (Some lent))
+      some None e has = absurd cc
+      some (Some w) e has = let found = whose_worker p w e in (found.0, found.1)
+
   pub nobodys_worker : (p : ℕ) → get_or ws p None ≡ None → get_or outs p None ≡ None
   nobodys_worker p is = elim (cases_lt p (length outs)) [
     | inl below ↦ cases (get_or outs p None) refl (zip_at HasWorker outs ws p None None each below)
@@ -205,6 +216,16 @@ module _ (h : Seating) (are : AreSeated h) (ws : List (Option Sent)) (each : All
         there [] q o low = absurd (omega arith)
         there (x ∷ outs) zero o low = refl
         there (x ∷ outs) (suc q) o low = there outs q o (omega arith)
+
+  -- a part without a worker is at home
+  pub without_worker : p < length (map jobs_at ws) → is_some (get_or ws p None) ≡ false → get_or (homes_in h.seats) p false ≡ true
+  without_worker low none =
+      let long = as_outs (outs_in h.seats) ws each in
+      home_there h are p (omega arith) (nobodys_worker (outs_in h.seats) ws each p (no (get_or ws p None) none))
+    where
+      no : (w : Option Sent) → is_some w ≡ false → w ≡ None
+      no None e = refl
+      no (Some w) e = absurd cc
 
   -- a part that is out may be asked for its jobs
   pub may_send : (lent : HoldingState) → slice_get (outs_in h.seats) p ≡ Some (Some lent) → (job : Job) → IsJobOf h.regions p job → IsWithinJob lent job

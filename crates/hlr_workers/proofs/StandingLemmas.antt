@@ -64,6 +64,14 @@ module _ {A : Type 0} where
     | inr last ↦ inr (let here = last.0 in omega arith, last.1)
   ]
 
+  -- two places may be written in either order
+  set_apart : (xs : List A) (i j : ℕ) (x y : A) → (i ≡ j → ⊥) → set (set xs i x) j y ≡ set (set xs j y) i x
+  set_apart [] i j x y apart = refl
+  set_apart (z ∷ xs) zero zero x y apart = absurd (apart refl)
+  set_apart (z ∷ xs) zero (suc j) x y apart = refl
+  set_apart (z ∷ xs) (suc i) zero x y apart = refl
+  set_apart (z ∷ xs) (suc i) (suc j) x y apart = ap (λ (zs : List A). z ∷ zs) (set_apart xs i j x y (λ e. apart (ap suc e)))
+
   -- a place written again with what it has
   pub set_again : (xs : List A) (i : ℕ) (y : A) → slice_get xs i ≡ Some y → set xs i y ≡ xs
   set_again [] i y is = refl
@@ -86,6 +94,12 @@ numbered_set : (k : ℕ) (jobs : List (List (ℕ × Job))) (p : ℕ) (own : List
 numbered_set k [] p own low = absurd (omega arith)
 numbered_set k (js ∷ jobs) zero own low = omega arith
 numbered_set k (js ∷ jobs) (suc p) own low = let rest = numbered_set k jobs p own (omega arith) in omega arith
+
+-- no more than all
+numbered_there : (k : ℕ) (jobs : List (List (ℕ × Job))) (p : ℕ) (own : List (ℕ × Job)) → slice_get jobs p ≡ Some own → numbered k own ≤ numbered_in k jobs
+numbered_there k [] p own is = absurd (none-some own is)
+numbered_there k (js ∷ jobs) zero own is = let same = ap (numbered k) (same_Some js own is) in omega arith
+numbered_there k (js ∷ jobs) (suc p) own is = let rest = numbered_there k jobs p own is in omega arith
 
 -- a job more of a part
 sent_numbered : (k : ℕ) (jobs : List (List (ℕ × Job))) (p : ℕ) (job : ℕ × Job) → p < length jobs
@@ -410,6 +424,22 @@ module _ (outs : List (Option HoldingState)) (jobs : List (List (ℕ × Job))) (
             (λ apart. let was = order.few q there (sym (get_elsewhere jobs p q own apart) ∙ is) in omega arith);
       }
 
+-- a reply may be put before those of a session in which no job has its number
+land_first : (k : ℕ) (one : ℕ × Reply) (x y : HoldingState) (own : List (ℕ × Job)) (answers replies : List (ℕ × Reply)) → IsSession x own answers y → numbered k own ≡ 0
+    → land (set replies k one) answers ≡ set (land replies answers) k one
+land_first k one x y [] [] replies session none = refl
+land_first k one x y [] (a ∷ answers) replies session none = absurd session
+land_first k one x y (job ∷ own) [] replies session none = absurd session
+land_first k one x y (job ∷ own) (a ∷ answers) replies session none =
+    let apart : k ≡ a.0 → ⊥ = λ e. (let self = numbered_self k job.1 in let same = ap (λ (n : ℕ). numbered k ((n, job.1) ∷ [])) (e ∙ session.0) in absurd (omega arith)) in
+    ap (λ (l : List (ℕ × Reply)). set l a.0 a) (land_first k one session.1.0 y own answers replies session.1.2 (omega arith))
+    ∙ set_apart (land replies answers) k a.0 one a apart
+
+-- the last reply is put first
+pub land_last : (replies answers : List (ℕ × Reply)) (one : ℕ × Reply) → land replies (answers ++ one ∷ []) ≡ land (set replies one.0 one) answers
+land_last replies [] one = refl
+land_last replies (a ∷ answers) one = ap (λ (l : List (ℕ × Reply)). set l a.0 a) (land_last replies answers one)
+
 -- a part came home with its holding and its replies
 abbrev pub CameHome : List (Option HoldingState) → List (List (ℕ × Job)) → List (ℕ × Reply) → ℕ → List (ℕ × Reply) → HoldingState → Type 0
 CameHome outs jobs replies p answers y =
@@ -430,24 +460,30 @@ came_home outs jobs replies p (job ∷ own) (one ∷ answers) x y order out is s
     let jobs_now = set jobs p own in
     let outs_now = set outs p (Some m) in
     let replies_now = set replies job.0 (job.0, one.1) in
-    let numbered : one ≡ (job.0, one.1) = ap (λ (k : ℕ). (k, one.1)) session.0 in
     let low = slice_get_within jobs p (job ∷ own) is in
     let out_low = slice_get_within outs p (Some x) out in
     let order_now = order_landed outs jobs replies order p x m job.0 job.1 own one.1 out is in
     let rest = came_home outs_now jobs_now replies_now p own answers m y order_now (get_there outs p (Some m) out_low) (get_there jobs p own low) session.1.2 in
+    let numbered_one : numbered one.0 own ≡ 0 =
+    (let none = landed_none outs jobs replies order p x m job.0 job.1 own one.1 out is in
+    let some = numbered_there job.0 jobs_now p own (get_there jobs p own low) in
+    let same = ap (λ (k : ℕ). numbered k own) session.0 in
+    omega (arith, none, some, same)) in
     let same_replies : replies_now ≡ set replies one.0 one = λ i. set replies (sym session.0 i) (sym session.0 i, one.1) in
+    let landed : land replies_now answers ≡ set (land replies answers) one.0 one =
+    ap (λ (l : List (ℕ × Reply)). land l answers) same_replies ∙ land_first one.0 one m y own answers replies session.1.2 numbered_one in
     let same_jobs : set jobs_now p [] ≡ set jobs p [] = set-set jobs p own [] in
     let same_outs : set outs_now p (Some y) ≡ set outs p (Some y) = set-set outs p (Some m) (Some y) in (
-      subst (λ (z : List (List (ℕ × Job)) × List (ℕ × Reply)). InOrder z.0 (land z.1 answers)) (λ i. (same_jobs i, same_replies i)) rest.0,
+      subst (λ (z : List (List (ℕ × Job)) × List (ℕ × Reply)). InOrder z.0 z.1) (λ i. (same_jobs i, landed i)) rest.0,
       λ f before asked leads.
-          subst (λ (z : List (Option HoldingState) × List (List (ℕ × Job)) × List (ℕ × Reply)). Leads f z.0 z.1 (land z.2 answers) before asked) (λ i. (same_outs i, same_jobs i, same_replies i))
+          subst (λ (z : List (Option HoldingState) × List (List (ℕ × Job)) × List (ℕ × Reply)). Leads f z.0 z.1 z.2 before asked) (λ i. (same_outs i, same_jobs i, landed i))
           (rest.1 f before asked (leads_landed outs jobs replies order p x m job.0 job.1 own one.1 out is f before asked session.1.1 leads)),
     )
 
 -- as many places as before
 pub land-length : (replies answers : List (ℕ × Reply)) → length (land replies answers) ≡ length replies
 land-length replies [] = refl
-land-length replies (one ∷ answers) = land-length (set replies one.0 one) answers ∙ length-set replies one.0 one
+land-length replies (one ∷ answers) = length-set (land replies answers) one.0 one ∙ land-length replies answers
 
 -- nothing was asked for yet
 pub leads_new : (f : List HoldingState → Store) (outs : List (Option HoldingState)) (jobs : List (List (ℕ × Job))) (before : Store) → ((ends : List HoldingState) → f ends ≡ before)

@@ -1,5 +1,5 @@
 -- One message more of a worker, and all of them.
-use Rattle.std.proofs.Common.{◌≡◌, ◌∙◌, refl, sym, ap, subst, ℕ, ◌+◌, ◌<◌, ◌≤◌, true, false, List, [], ◌∷◌, ◌++◌, length, get_or, map, take, zero, suc, arith, length-append, append_assoc}
+use Rattle.std.proofs.Common.{◌≡◌, ◌∙◌, refl, sym, ap, ℕ, ◌+◌, ◌<◌, ◌≤◌, true, false, List, [], ◌∷◌, ◌++◌, length, get_or, map, take, zero, suc, arith, length-append, append_assoc}
 use Rattle.std.proofs.lemmas.List.{append-nil, length-map, map-append, take_more}
 use Rattle.arrayvec.specs.ArrayVec.{ArrayVec}
 use Rattle.holding.specs.Held.{HoldingState}
@@ -7,9 +7,8 @@ use Rattle.holding.specs.declared.job.Job.{Job}
 use Rattle.hlr_owners.specs.Seats.{IsSameOwner}
 use Rattle.hlr_core.specs.Session.{IsJobDone, IsWithinJob}
 use Rattle.hlr_core.specs.declared.event.Reply.{Reply}
-use Rattle.hlr_workers.specs.Finish.{HasDone, IsAtWork, IsSessionMore, MaySend, Sent, sent_with}
-use Rattle.hlr_workers.specs.Relay.{AreWithin, IsStarted, IsWellSent, job_pair, jobs_in, jobs_of, lent_of, log}
-use Rattle.hlr_workers.specs.Session.{IsSession}
+use Rattle.hlr_workers.specs.Finish.{HasDone, IsAtWork, IsSessionMore, MaySend, sent_with}
+use Rattle.hlr_workers.specs.Relay.{AreWithin, IsWellSent, job_pair, jobs_in, jobs_of, lent_of, log}
 use Rattle.hlr_workers.specs.declared.message.Log.{Log}
 use Rattle.hlr_workers.specs.declared.message.Message.{Message}
 use Rattle.hlr_workers.specs.declared.message.Message.TheVariants.{Do, Stop}

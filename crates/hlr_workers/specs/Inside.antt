@@ -1,25 +1,23 @@
 -- What calls inside the crate promise each other. No clause of a public call cites this.
 use Rattle.std.specs.Prelude.{◌≡◌, ◌<◌, ◌≤◌, ◌+◌, ◌++◌, ℕ, true, List, [], ◌∷◌, length, Option, Some, None, insert, position, remove, slice_get, slice_set, slice_index_or, ⊤, ◌⊎◌}
-use Rattle.std.specs.List.{AllByRecursion}
 use Rattle.part_table.specs.Region.{is_part}
 use Rattle.part_table.specs.declared.region.TheConstants.{MOST_PARTS}
 use Rattle.holding.specs.Held.{HoldingState}
 use Rattle.holding.specs.declared.job.Job.{Job}
 use Rattle.hlr_owners.specs.Out.{outs_in}
-use Rattle.hlr_owners.specs.Seats.{Seating, IsLent}
+use Rattle.hlr_owners.specs.Seats.{IsLent}
 use Rattle.hlr_owners.specs.declared.lodging.Seat.TheVariants.{Part}
 use Rattle.hlr_core.specs.declared.event.Reply.{Reply}
 use Rattle.hlr_core.specs.declared.event.Reply.TheVariants.{Divided, Dissolved}
 use Rattle.hlr_core.specs.declared.route.Parts.{Parts}
 use Rattle.hlr_workers.specs.Finish.{Sent}
 use Rattle.hlr_workers.specs.Kept.{Crewed}
-use Rattle.hlr_workers.specs.Session.{AreNumberless, IsSession}
-use Rattle.hlr_workers.specs.Standing.{AreNumbered, Engaged, numbered_in}
+use Rattle.hlr_workers.specs.Session.{IsSession}
 
--- replies by their numbers, each put at its place
+-- replies by their numbers, each put at its place, the last one first
 abbrev pub land : List (ℕ × Reply) → List (ℕ × Reply) → List (ℕ × Reply)
 land replies [] = replies
-land replies (one ∷ answers) = land (slice_set replies one.0 one) answers
+land replies (one ∷ answers) = slice_set (land replies answers) one.0 one
 
 -- a part was out before, or has gone out, with no job yet
 abbrev pub IsOut : ℕ → Crewed → Crewed → Type 0

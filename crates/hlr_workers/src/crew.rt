@@ -1,5 +1,5 @@
 //! A register with the workers of its parts that are out.
-ghost use Rattle.std.specs.Prelude.{◌≡◌, ◌<◌, ◌⊎◌, [], length, true, false, None, Some, IsSome, IfSome, IfOk, OnOk, OnErr, option_map, slice_get, slice_set, slice_index_or};
+ghost use Rattle.std.specs.Prelude.{◌≡◌, ◌<◌, ◌≤◌, ◌⊎◌, [], length, true, false, None, Some, IsSome, IfSome, IfOk, OnOk, OnErr, is_some, option_map, slice_get, slice_set, slice_index_or, vec_capacity};
 ghost use Rattle.std.specs.List.{AllByRecursion};
 ghost use Rattle.view_board.specs.Desks.{with_view};
 ghost use Rattle.view_board.specs.Views.{looked};
@@ -17,6 +17,7 @@ ghost use Rattle.hlr_workers.specs.declared.work.TheConstants.{MOST_PENDING};
 
 use crate::gate::Gate;
 use crate::message::MOST_JOBS;
+use crate::work::{EmptyList, MOST_PENDING};
 use crate::worker::{Idle, Worker};
 use arrayvec::ArrayVec;
 use crossbeam_utils::Backoff;
@@ -35,6 +36,8 @@ use view_board::Sight;
 pub(crate) struct Crew {
     register: Register,
     workers: ArrayVec<Option<Worker>, 16>,
+    // The lists that workers have had, for those that are started next.
+    lists: ArrayVec<Option<EmptyList>, 16>,
 }
 
 impl Model for Crew {
@@ -61,12 +64,37 @@ fn take_worker(workers: &mut ArrayVec<Option<Worker>, 16>, part: u8) -> Option<W
     workers.as_mut_slice()[usize::from(part)].take()
 }
 
+/// Tells whether a part has a worker.
+fn has_worker(workers: &ArrayVec<Option<Worker>, 16>, part: u8) -> bool
+    requires { part < length workers.now.items }
+    ensures { result ≡ is_some (slice_index_or workers.now.items part None) }
+{
+    workers.as_slice()[usize::from(part)].is_some()
+}
+
 /// Puts the worker of a part in its place.
 fn put_worker(workers: &mut ArrayVec<Option<Worker>, 16>, part: u8, worker: Worker)
     requires { part < length workers.old.items }
     ensures { workers.new.items ≡ slice_set workers.old.items part (Some worker) }
 {
     workers.as_mut_slice()[usize::from(part)] = Some(worker);
+}
+
+/// A list for the replies of a worker: one that another worker has had, or a new one. `Memory` where the growth for that
+/// was refused.
+fn list_for(
+    lists: &mut ArrayVec<Option<EmptyList>, 16>,
+    alloc: Global,
+) -> Result<EmptyList, Refusal>
+    ensures why { OnErr result (result ≡ Err Refusal.Memory) }
+{
+    if let Some(Some(list)) = lists.pop() {
+        return Ok(list);
+    }
+    let Ok(list) = Vec::with_capacity(alloc, MOST_PENDING) else {
+        return Err(Refusal::Memory);
+    };
+    Ok(EmptyList { list })
 }
 
 /// Sends a job to the worker of a part.
@@ -167,6 +195,7 @@ fn do_others_hold(workers: &ArrayVec<Option<Worker>, 16>, part: usize) -> bool {
 /// Pushes what all workers hold, where there is a place, until that of a part holds so many jobs at most, or no other one
 /// holds any: so nobody lacks a job that another part's gate may wait for, while the caller waits for a place. It may
 /// wait.
+#[inline(never)]
 fn offer_until<R: Wait>(
     rt: &R,
     workers: &mut ArrayVec<Option<Worker>, 16>,
@@ -185,6 +214,17 @@ fn offer_until<R: Wait>(
         backoff.snooze();
     }
     unreachable!()
+}
+
+/// Before one job more is sent to the worker of a part: where it holds a whole message, pushes what all workers hold, as
+/// above. It may wait.
+fn offer_before<R: Wait>(rt: &R, workers: &mut ArrayVec<Option<Worker>, 16>, part: usize)
+    requires { part < length workers.old.items }
+    ensures { workers.new.items ≡ workers.old.items }
+{
+    if count_held(workers, part) == MOST_JOBS {
+        offer_until(rt, workers, part, MOST_JOBS - 1);
+    }
 }
 
 /// Pushes what each worker holds, once there is a place in its queue. It may wait.
@@ -211,7 +251,11 @@ impl Crew {
         for _ in 0..register.regions().parts() {
             workers.push(None);
         }
-        Crew { register, workers }
+        Crew {
+            register,
+            workers,
+            lists: ArrayVec::new(),
+        }
     }
 
     /// The register, with the parts that are out as they were lent; a part that isn't out has no jobs.
@@ -233,12 +277,38 @@ impl Crew {
         let Crew {
             register,
             workers: _workers,
+            lists: _lists,
         } = self;
         register
     }
 
-    /// Has the holding of a part out: where it is at home, a worker is started, and has it. `Memory` or `Thread` where
-    /// no worker could be started.
+    /// Has the holding of a part out, which is at home: a worker is started, and has it. `Memory` or `Thread` where no
+    /// worker could be started.
+    #[inline(never)]
+    fn start<G: Gate + 'static, R: Threads + Wait + Copy + Send + Sync + 'static>(
+        &mut self,
+        rt: &R,
+        alloc: Global,
+        gate: &Arc<G>,
+        part: u8,
+    ) -> Result<(), Refusal>
+        requires there { part < length self.old.jobs }
+        requires home { slice_index_or (homes_in self.old.house.seats) part false ≡ true }
+        ensures out { OnOk result (IsOut part self.old self.new) }
+        ensures refused { OnErr result (self.new ≡ self.old) }
+        ensures why { OnErr result ((result ≡ Err Refusal.Memory) ⊎ (result ≡ Err Refusal.Thread)) }
+        ensures home { OnErr result (slice_index_or (homes_in self.old.house.seats) part false ≡ true) }
+    {
+        // For the prover: each region has its owner beside it.
+        let _board = self.register.board();
+        let list = list_for(&mut self.lists, alloc)?;
+        let idle = Idle::start(rt, alloc, gate, self.register.board(), part, list)?;
+        let worker = idle.begin(rt, self.register.lend(part));
+        put_worker(&mut self.workers, part, worker);
+        Ok(())
+    }
+
+    /// Has the holding of a part out, wherever it is. `Memory` or `Thread` where no worker could be started.
     fn call_out<G: Gate + 'static, R: Threads + Wait + Copy + Send + Sync + 'static>(
         &mut self,
         rt: &R,
@@ -254,16 +324,10 @@ impl Crew {
     {
         // For the prover: each region has its owner beside it.
         let _board = self.register.board();
-        if !self.register.at_home(part) {
+        if has_worker(&self.workers, part) {
             return Ok(());
         }
-        let idle = match Idle::start(rt, alloc, gate, self.register.board(), part) {
-            Ok(idle) => idle,
-            Err(why) => return Err(why),
-        };
-        let worker = idle.begin(rt, self.register.lend(part));
-        put_worker(&mut self.workers, part, worker);
-        Ok(())
+        self.start(rt, alloc, gate, part)
     }
 
     /// Sends a numbered job to the worker of a part, which is started for the first one. `Memory` or `Thread` where it
@@ -291,7 +355,7 @@ impl Crew {
         }
         // For the prover: each region has its owner beside it.
         let _board = self.register.board();
-        offer_until(rt, &mut self.workers, usize::from(part), MOST_JOBS - 1);
+        offer_before(rt, &mut self.workers, usize::from(part));
         send_to(rt, &mut self.workers, part, number, job);
         Ok(())
     }
@@ -347,7 +411,8 @@ impl Crew {
         gate: &Arc<G>,
         part: u8,
     ) -> Option<Vec<(u64, Reply)>>
-        ensures { IsHomeAgain part self.old (option_map (λ answers. answers.items) result) self.new }
+        ensures home { IsHomeAgain part self.old (option_map (λ answers. answers.items) result) self.new }
+        ensures room { IfSome result (λ answers. MOST_PENDING ≤ vec_capacity answers) }
     {
         // For the prover: each region has its owner beside it.
         let _board = self.register.board();
@@ -355,6 +420,13 @@ impl Crew {
         let (holding, answers) = worker.join(rt, &**gate, part);
         self.register.back(holding);
         Some(answers)
+    }
+
+    /// Keeps a list for the replies of the next worker.
+    pub(crate) fn keep(&mut self, list: EmptyList)
+        ensures { self.new ≡ self.old }
+    {
+        let _full = self.lists.try_push(Some(list));
     }
 
     /// Has the register do an event; the parts that it works on are at home. The workers stay with their parts.

@@ -16,7 +16,7 @@ ghost use Rattle.hlr_workers.specs.declared.work.TheConstants.{MOST_PENDING};
 
 use crate::crew::Crew;
 use crate::gate::Gate;
-use crate::work::MOST_PENDING;
+use crate::work::{EmptyList, MOST_PENDING};
 use hlr_core::{Event, Parts, Register, Reply, Route};
 use std::alloc::Global;
 use std::marker::Model;
@@ -49,6 +49,22 @@ impl<G: Gate + 'static> Model for Engine<G> {
     ghost invariant = { λ e. IsKept e.crew e.replies.items × (e.replies.items ≡ [] → NoneOut e.crew) × ((e.replies.items ≡ []) ⊎ (MOST_PENDING ≤ vec_capacity e.replies)) };
 }
 
+/// Makes room for the replies to come.
+#[inline(never)]
+fn grow(replies: &mut Vec<(u64, Reply)>, alloc: Global) -> Result<(), Refusal>
+    requires { replies.old.items ≡ [] }
+    ensures room { OnOk result (MOST_PENDING ≤ vec_capacity replies.new) }
+    ensures items { replies.new.items ≡ replies.old.items }
+    ensures err { OnErr result (result ≡ Err Refusal.Memory) }
+    ensures kept { OnErr result (replies.new ≡ replies.old) }
+{
+    let Ok(reserved) = Vec::with_capacity(alloc, MOST_PENDING) else {
+        return Err(Refusal::Memory);
+    };
+    *replies = reserved;
+    Ok(())
+}
+
 /// Makes room for the replies to come, where there is none.
 fn reserve(replies: &mut Vec<(u64, Reply)>, alloc: Global) -> Result<(), Refusal>
     requires { (replies.old.items ≡ []) ⊎ (MOST_PENDING ≤ vec_capacity replies.old) }
@@ -61,11 +77,7 @@ fn reserve(replies: &mut Vec<(u64, Reply)>, alloc: Global) -> Result<(), Refusal
     if replies.capacity() >= MOST_PENDING {
         return Ok(());
     }
-    let Ok(reserved) = Vec::with_capacity(alloc, MOST_PENDING) else {
-        return Err(Refusal::Memory);
-    };
-    *replies = reserved;
-    Ok(())
+    grow(replies, alloc)
 }
 
 /// What stands in the place of a reply until it comes.
@@ -73,16 +85,26 @@ fn blank() -> Reply {
     Reply::Rows(RowReply::Done)
 }
 
-/// Puts replies in their places.
-fn land(replies: &mut Vec<(u64, Reply)>, answers: Vec<(u64, Reply)>)
-    ensures items { replies.new.items ≡ land replies.old.items answers.items }
+/// Puts a reply in its place, if there is one.
+fn put(replies: &mut Vec<(u64, Reply)>, answer: (u64, Reply))
+    ensures items { replies.new.items ≡ slice_set replies.old.items answer.0 answer }
     ensures capacity { vec_capacity replies.new ≡ vec_capacity replies.old }
 {
-    for answer in answers {
-        let place = answer.0 as usize;
-        if place < replies.len() {
-            replies[place] = answer;
-        }
+    let place = answer.0 as usize;
+    if place < replies.len() {
+        replies[place] = answer;
+    }
+}
+
+/// Puts all replies of a list in their places.
+fn land(replies: &mut Vec<(u64, Reply)>, answers: &mut Vec<(u64, Reply)>)
+    ensures items { replies.new.items ≡ land replies.old.items answers.old.items }
+    ensures capacity { vec_capacity replies.new ≡ vec_capacity replies.old }
+    ensures none { answers.new.items ≡ [] }
+    ensures room { vec_capacity answers.new ≡ vec_capacity answers.old }
+{
+    while let Some(answer) = answers.pop() {
+        put(replies, answer);
     }
 }
 
@@ -104,8 +126,9 @@ fn join<G: Gate, R: Threads + Wait>(
 {
     // For the prover: each region has its owner beside it.
     let _register = crew.register();
-    if let Some(answers) = crew.bring_home(rt, gate, part) {
-        land(replies, answers);
+    if let Some(mut answers) = crew.bring_home(rt, gate, part) {
+        land(replies, &mut answers);
+        crew.keep(EmptyList { list: answers });
     }
 }
 
@@ -197,6 +220,7 @@ fn bring_workers_home<G: Gate, R: Threads + Wait>(
 
 /// Has the register itself do an event, which gives a number, moves regions, or has a part come or go: the parts that
 /// work on it come home first, the others go on.
+#[inline(never)]
 fn answer_here<G: Gate, R: Threads + Wait>(
     rt: &R,
     crew: &mut Crew,

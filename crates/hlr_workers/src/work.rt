@@ -5,6 +5,7 @@ ghost use Rattle.hlr_core.specs.Session.{IsJobDone, IsWithinJob};
 ghost use Rattle.hlr_workers.specs.Finish.{IsAtWork, IsSessionMore};
 ghost use Rattle.hlr_workers.specs.Relay.{AreWithin, jobs_in, log};
 ghost use Rattle.hlr_workers.specs.declared.message.Message.TheVariants.{Begin};
+ghost use Rattle.hlr_workers.specs.declared.work.TheConstants.{MOST_PENDING};
 
 use crate::gate::Gate;
 use crate::inbox::Inbox;
@@ -20,6 +21,14 @@ pub const MOST_PENDING: usize = 4_096;
 
 // The number that the condition of a submit means.
 const _: () = prove!(MOST_PENDING == 4_096);
+
+/// An empty list with room for the replies to as many events as may be pending.
+#[derive(Drop)]
+pub struct EmptyList {
+    pub list: Vec<(u64, Reply)>,
+    pub ghost none: { list.items ≡ [] },
+    pub ghost room: { MOST_PENDING ≤ vec_capacity list },
+}
 
 /// What the thread hands back: its pass, the holding as it is now, with its board, and the replies.
 #[derive(Drop)]

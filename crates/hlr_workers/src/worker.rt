@@ -14,7 +14,7 @@ use crate::gate::Gate;
 use crate::inbox::Inbox;
 use crate::message::{Batch, Lent, MOST_JOBS, Message, Numbered};
 use crate::rule::{Line, Port, Roles};
-use crate::work::{Finished, MOST_PENDING, do_batch, live};
+use crate::work::{EmptyList, Finished, do_batch, live};
 use arrayvec::ArrayVec;
 use crossbeam_utils::sync::EventCount;
 use hlr_core::Reply;
@@ -93,14 +93,15 @@ impl Model for Worker {
 }
 
 impl Idle {
-    /// Makes the queue, the list of replies and what the thread shares, and then starts the thread. `Memory` where a
-    /// growth was refused: no start was tried then. `Thread` where the start was refused.
+    /// Makes the queue and what the thread shares, and then starts the thread, which writes its replies into the list.
+    /// `Memory` where a growth was refused: no start was tried then. `Thread` where the start was refused.
     pub fn start<G: Gate + 'static, R: Threads + Wait + Copy + Send + Sync + 'static>(
         rt: &R,
         alloc: Global,
         gate: &Arc<G, Global>,
         board: &Arc<Board>,
         part: u8,
+        list: EmptyList,
     ) -> Result<Idle, Refusal>
         ensures board { IfOk result (λ idle. idle ≡ arc_value board.now) }
         ensures why { OnErr result ((result ≡ Err Refusal.Memory) ⊎ (result ≡ Err Refusal.Thread)) }
@@ -109,9 +110,7 @@ impl Idle {
             return Err(Refusal::Memory);
         };
         let theirs = line.another::<Roles>(&mut port);
-        let Ok(replies) = Vec::with_capacity(alloc, MOST_PENDING) else {
-            return Err(Refusal::Memory);
-        };
+        let EmptyList { list: replies } = list;
         let inbox = Inbox {
             line,
             pushes: EventCount::new(),
@@ -168,6 +167,7 @@ impl Idle {
 }
 
 /// Pushes the jobs that are held, once there is a place. It may wait.
+#[inline(never)]
 fn hand_on<R: Wait>(rt: &R, inbox: &Inbox, port: &mut Port, held: &mut Batch)
     requires port { IsPassOf inbox.now.line port.old }
     requires may { MaySend (view port.old) held.old }
@@ -213,6 +213,7 @@ fn hold<R: Wait>(rt: &R, inbox: &Inbox, port: &mut Port, held: &mut Batch, numbe
 }
 
 /// Pushes the jobs that are held, where there is a place.
+#[inline(never)]
 fn offer(inbox: &Inbox, port: &mut Port, held: &mut Batch)
     requires port { IsPassOf inbox.now.line port.old }
     requires may { MaySend (view port.old) held.old }
@@ -326,15 +327,16 @@ impl Worker {
         self.inbox.push(rt, &mut self.port, Message::Stop);
     }
 
-    /// Ends the worker, once it was told to stop: the holding, and the replies to all its jobs. What it has left undone
-    /// is done here. It may wait.
+    /// Ends the worker, once it was told to stop: the holding, and the replies to all its jobs, in the list that it had.
+    /// What it has left undone is done here. It may wait.
     pub fn join<G: Gate, R: Threads + Wait>(
         self,
         rt: &R,
         gate: &G,
         part: u8,
     ) -> (Box<Holding>, Vec<(u64, Reply)>)
-        ensures { IsSession self.lent self.jobs result.1.items result.0.value }
+        ensures session { IsSession self.lent self.jobs result.1.items result.0.value }
+        ensures room { MOST_PENDING ≤ vec_capacity result.1 }
     {
         let Worker {
             inbox,

@@ -3,5 +3,11 @@ use Rattle.hlr_workers.specs.Inside.{land}
 use Rattle.hlr_workers.proofs.engine.land.Given as goal
 
 abbrev pub invariant-loop-answer : goal.invariant-loop-answer
-invariant-loop-answer l =
-    (land l.replies.items l.answer-iterator.rest.items ≡ land l.initial.replies.items l.fn.answers.items) × (vec_capacity l.replies ≡ vec_capacity l.initial.replies)
+invariant-loop-answer l = record {
+  landed : land l.replies.items l.answers.items ≡ land l.initial.replies.items l.initial.answers.items;
+  capacity : vec_capacity l.replies ≡ vec_capacity l.initial.replies;
+  room : vec_capacity l.answers ≡ vec_capacity l.initial.answers;
+}
+
+abbrev pub decreases-loop-answer : goal.decreases-loop-answer
+decreases-loop-answer l = goal.left-loop-answer l

@@ -1,4 +1,4 @@
-use Rattle.std.proofs.Common.{◌≡◌, ◌<◌, ◌∙◌, refl, ap, arith, [], ◌∷◌, length, length-append}
+use Rattle.std.proofs.Common.{◌∙◌, refl, ap, arith, [], ◌∷◌, length, length-append}
 use Rattle.hlr_workers.proofs.SessionLemmas.{itself, job_same, same_twice, within_later}
 use Rattle.hlr_workers.proofs.WorkLemmas.{more_next, more_none, one_within}
 use Rattle.hlr_workers.proofs.work.do_batch.Goals as goal

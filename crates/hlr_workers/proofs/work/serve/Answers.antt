@@ -1,4 +1,4 @@
-use Rattle.std.proofs.Common.{◌∙◌, ap, sym, arith}
+use Rattle.std.proofs.Common.{arith}
 use Rattle.crossbeam_queue.specs.Passes.{view}
 use Rattle.hlr_workers.proofs.ShapeLemmas.{not_again}
 use Rattle.hlr_workers.proofs.WorkLemmas.{at_work, batch_done, room, stop_done, within}

@@ -1,4 +1,4 @@
-use Rattle.std.proofs.Common.{◌∙◌, arith}
+use Rattle.std.proofs.Common.{arith}
 use Rattle.hlr_workers.proofs.ShapeLemmas.{not_again}
 use Rattle.hlr_workers.proofs.WorkLemmas.{batch_done, room, stop_done, within}
 use Rattle.hlr_workers.proofs.worker.do_left.Goals as goal

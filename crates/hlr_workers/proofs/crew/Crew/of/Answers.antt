@@ -4,7 +4,7 @@ use Rattle.hlr_workers.proofs.CrewLemmas.{as_parts, none_each, none_long, none_s
 use Rattle.hlr_workers.proofs.crew.Crew.of.Goals as goal
 
 -- as many places were put in as there are parts
-all_parts : (c : goal.After-loop) → c.loop.counter ≡ length (outs_in c.args.register.seats)
+all_parts : (c : goal.After-new) → c.loop.counter ≡ length (outs_in c.args.register.seats)
 all_parts c =
     let count = as_parts c.args.register c.board-board.ensures.seated in
     let parts = c.parts-end.ensures.value in

@@ -1,4 +1,4 @@
-use Rattle.std.proofs.Common.{◌≡◌, ◌∙◌, ap, arith, refl, subst}
+use Rattle.std.proofs.Common.{ap, arith, refl, subst}
 use Rattle.crossbeam_queue.specs.Passes.{view}
 use Rattle.hlr_workers.specs.Finish.{HasDone, Sent}
 use Rattle.hlr_workers.specs.Relay.{jobs_of, lent_of}
@@ -31,9 +31,12 @@ do_batch-requires-clause-room g c κs lives =
     let places = c.do_rest.ensures.room in
     omega (arith, few, places)
 
-pub returns : goal.returns
-returns g c =
+pub returns-clause-session : goal.returns-clause-session
+returns-clause-session g c =
     let v = view c.self.inside.port in
     let done : HasDone v.sent c.do_rest.new.replies.items c.do_rest.new.holding = rw c.absorb.ensures.rule at c.do_rest.ensures.work in
     let more = rw c.deref_mut-2.ensures.value at c.do_batch.ensures.done in
     subst (λ (s : Sent). IsSession s.lent s.jobs c.do_batch.new.replies.items c.do_batch.new.holding) c.self.view_is (more (lent_of v.sent) (jobs_of v.sent) done.1)
+
+pub returns-clause-room : goal.returns-clause-room
+returns-clause-room g c = rw c.do_batch.ensures.capacity c.do_rest.ensures.room
