@@ -27,7 +27,7 @@ board_shared_send : IsSend (Arc.the_row Board.the_row Heap.the_row heap.ghosts)
 board_shared_send = Arc-send Board.the_row board_send board_sync
 
 -- what goes through a ring, and the owner's end of it
-message_send : IsSend Message.the_row
+pub message_send : IsSend Message.the_row
 message_send = let holding = boxed_send in search (sendable, crosses) depth 20
 
 ring_send : IsSend (Producer.the_row Message.the_row Heap.the_row ReturnRule.the_row heap.ghosts rule.ghosts)

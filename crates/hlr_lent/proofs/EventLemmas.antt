@@ -1,6 +1,6 @@
 -- Whether the parts are at home on which something works, and what an event leaves of who is out.
 use Rattle.std.proofs.Common.{◌≡◌, ◌∙◌, refl, sym, ap, ℕ, zero, suc, ◌<◌, ◌≤◌, ◌+◌, List, [], ◌∷◌, length, get_or, drop, arith, true, false, Bool, Some, None, Ok, Err, inl, inr}
-use Rattle.std.specs.Prelude.{Option, IfSome, ◌⊎◌, ◌-◌, insert, remove}
+use Rattle.std.specs.Prelude.{Option, IfSome, Result, ◌≢◌, ◌⊎◌, ◌-◌, insert, remove}
 use Rattle.std.specs.List.{AllByRecursion}
 use Rattle.std.proofs.lemmas.Bool.{cases_lt}
 use Rattle.std.proofs.lemmas.Bool.Decides.{nat_tests}
@@ -13,37 +13,35 @@ use Rattle.part_table.specs.Region.{lies_in}
 use Rattle.part_table.specs.Regions.{IsConsecutive, place_of}
 use Rattle.part_table.specs.declared.moves.CutMove.{CutMove}
 use Rattle.part_table.specs.declared.region.Region.{Region}
-use Rattle.part_table.specs.declared.region.TheConstants.{END}
+use Rattle.part_table.specs.declared.region.TheConstants.{END, MOST_PARTS}
+use Rattle.tatp_actions.specs.declared.action.Action.{Action}
+use Rattle.holding.specs.declared.job.Job.TheVariants.{Act, Post as Posting}
 use Rattle.hlr_owners.specs.Out.{outs_in, with_outs}
 use Rattle.hlr_owners.specs.Recut.{IsHomeToCut, IsHomeToMove}
-use Rattle.hlr_owners.specs.Seats.{AreSeated, IsHomeFor, IsHomeFrom, Seating, homes_in, store_in}
+use Rattle.hlr_owners.specs.Seats.{AllHome, AreSeated, IsHomeFor, IsHomeFrom, Seating, book_in, homes_in, store_in}
 use Rattle.hlr_owners.proofs.OwnerLemmas.{lies_within}
 use Rattle.hlr_core.specs.Beside.{IsStepBeside}
 use Rattle.hlr_core.specs.Home.{IsHomeTo, IsHouseAfter, IsSameHouse}
 use Rattle.hlr_core.specs.Route.{IsRightNow}
-use Rattle.hlr_core.specs.Step.{IsStep}
+use Rattle.hlr_core.specs.Step.{IsAskedStep, IsStep, action_for}
+use Rattle.hlr_core.proofs.HomeLemmas.{still_home}
 use Rattle.hlr_core.specs.declared.event.Event.{Event}
 use Rattle.hlr_core.specs.declared.event.Event.TheVariants.{SubscriberData, NewDestination, AccessData, UpdateSubscriber, UpdateLocation, InsertForwarding, DeleteForwarding}
 use Rattle.hlr_core.specs.declared.event.Event.TheVariants.{AddSubscriber, AddAccess, AddFacility, SetActive, SetNumber, Post, Give, Take, Divide, Dissolve}
 use Rattle.hlr_core.specs.declared.event.Reply.{Reply}
 use Rattle.hlr_core.specs.declared.event.Reply.TheVariants as reply
 use Rattle.hlr_core.proofs.LaterLemmas.{all_later_self}
+use Rattle.hlr_lent.specs.Away.{IsAsking}
 use Rattle.hlr_lent.specs.Rings.{HaveRings}
 use Rattle.hlr_lent.proofs.RingLemmas.{Ring, none_out}
 
 -- all parts from one on are at home where each is
-pub each_from : (homes : List Bool) (p : ℕ) → AllByRecursion (λ (home : Bool). home ≡ true) (drop p homes) → (q : ℕ) → p ≤ q → get_or homes q true ≡ true
+each_from : (homes : List Bool) (p : ℕ) → AllByRecursion (λ (home : Bool). home ≡ true) (drop p homes) → (q : ℕ) → p ≤ q → get_or homes q true ≡ true
 each_from [] p all q from = refl
 each_from (home ∷ homes) zero all zero from = all.0
 each_from (home ∷ homes) zero all (suc q) from = each_from homes zero all.1 q (omega arith)
 each_from (home ∷ homes) (suc p) all zero from = absurd (omega arith)
 each_from (home ∷ homes) (suc p) all (suc q) from = each_from homes p all q (omega arith)
-
-pub from_each : (homes : List Bool) (p : ℕ) → ((q : ℕ) → p ≤ q → get_or homes q true ≡ true) → AllByRecursion (λ (home : Bool). home ≡ true) (drop p homes)
-from_each [] zero each = tt
-from_each [] (suc p) each = tt
-from_each (home ∷ homes) zero each = (each 0 (omega arith), from_each homes zero (λ q from. each (suc q) (omega arith)))
-from_each (home ∷ homes) (suc p) each = from_each homes p (λ q from. each (suc q) (omega arith))
 
 -- nobody is out from a part on
 nobody_from : (p : ℕ) (h : Seating) → IsHomeFrom p h → (q : ℕ) → p ≤ q → get_or (outs_in h.seats) q None ≡ None
@@ -115,14 +113,45 @@ module _ (h g : Seating) where
   pub rings_after : (event : Event) (r : Reply) (rings : List (Option Ring)) → IsHomeTo event h → IsHouseAfter event r h g → HaveRings (outs_in h.seats) rings → HaveRings (outs_in g.seats) rings
   rings_after event r rings home house have q = rw (outs_after event r home house q) (have q)
 
--- what is known at once is right, and right beside the parts that are out
-pub right_here : (event : Event) (h : Seating) (o : Option Reply) → IfSome o (λ r. IsRightNow event h r) → IfSome o (λ r. IsStep event (store_in h) r (store_in h))
-right_here event h None right = tt
-right_here event h (Some r) right = right h.seats (all_later_self h.seats)
+  -- a change leaves them too, and all at home where all were
+  pub kept_after : (rings : List (Option Ring)) (lends : Bool) → IsSameHouse h g
+      → HaveRings (outs_in h.seats) rings × (length rings ≡ MOST_PARTS) × (lends ≡ false → AllHome h.seats)
+      → HaveRings (outs_in g.seats) rings × (length rings ≡ MOST_PARTS) × (lends ≡ false → AllHome g.seats)
+  kept_after rings lends house kept = (λ q. rw (same_outs house q) (kept.0 q), kept.1, λ none. still_home h g house (kept.2 none))
 
-pub right_beside : (event : Event) (h : Seating) (o : Option Reply) → IfSome o (λ r. IsRightNow event h r) → IfSome o (λ r. IsStepBeside event h r h)
-right_beside event h None right = tt
-right_beside event h (Some r) right = λ holdings later. right (with_outs h.seats holdings) later
+-- a refusal that is known at once is right
+pub right_here : (event : Event) (h : Seating) (r : Reply) → IsRightNow event h r → IsStep event (store_in h) r (store_in h)
+right_here event h r right = right h.seats (all_later_self h.seats)
+
+pub refused_here : (event : Event) (h : Seating) (r : Reply) (o : Option Refusal) → IsRightNow event h r → IfSome o (λ why. r ≡ reply.Refused why)
+    → IfSome o (λ why. IsStep event (store_in h) (reply.Refused why) (store_in h))
+refused_here event h r None right is = tt
+refused_here event h r (Some why) right is = right_here event h (reply.Refused why) (rw is at right)
+
+-- what isn't refused at once asks for a job
+module _ (h : Seating) (said : Reply) (done : (why : Refusal) → said ≢ reply.Refused why) where
+  asks_action : (event : Event) (asked : Result Action Refusal) → action_for event (book_in h.seats) ≡ asked → IsAskedStep asked (store_in h) said (store_in h) → IsAsking event h
+  asks_action event (Ok act) is step = inr (0, Act act, is)
+  asks_action event (Err why) is step = absurd (done why step.0)
+
+  pub asks_now : (event : Event) → IsStep event (store_in h) said (store_in h) → IsAsking event h
+  asks_now (SubscriberData s_id) step = asks_action (SubscriberData s_id) _ refl step
+  asks_now (NewDestination s_id t a e) step = asks_action (NewDestination s_id t a e) _ refl step
+  asks_now (AccessData s_id t) step = asks_action (AccessData s_id t) _ refl step
+  asks_now (UpdateSubscriber s_id t bit d) step = asks_action (UpdateSubscriber s_id t bit d) _ refl step
+  asks_now (UpdateLocation n v) step = asks_action (UpdateLocation n v) _ refl step
+  asks_now (InsertForwarding n t a e x) step = asks_action (InsertForwarding n t a e x) _ refl step
+  asks_now (DeleteForwarding n t a) step = asks_action (DeleteForwarding n t a) _ refl step
+  asks_now (AddSubscriber row) step = inl refl
+  asks_now (AddAccess row) step = asks_action (AddAccess row) _ refl step
+  asks_now (AddFacility row) step = asks_action (AddFacility row) _ refl step
+  asks_now (SetActive s_id t v) step = asks_action (SetActive s_id t v) _ refl step
+  asks_now (SetNumber s_id n) step = inl refl
+  asks_now (Post part limit) step = inr (part, Posting limit, refl)
+  asks_now (Give part side at) step = inl refl
+  asks_now (Take piece part) step = inl refl
+  asks_now (Divide part at) step = inl refl
+  asks_now (Dissolve part) step = inl refl
 
 -- a number out of range lies in no region, so nobody is out who has it
 regions_end : (from : ℕ) (regions : List Region) → IsConsecutive from regions → from ≤ END

@@ -1,17 +1,10 @@
 -- When an event isn't answered: a part on which it works is out, and no refusal is known without that part.
-use Rattle.std.specs.Prelude.{◌≡◌, ◌⊎◌, ℕ, Bool, true, false}
+use Rattle.std.specs.Prelude.{◌≡◌, ◌⊎◌, ℕ, true}
 use Rattle.holding.specs.declared.job.Job.{Job}
 use Rattle.hlr_owners.specs.Seats.{Seating}
 use Rattle.hlr_core.specs.Home.{IsHomeTo}
 use Rattle.hlr_core.specs.Route.{IsAskedJob, is_here}
 use Rattle.hlr_core.specs.declared.event.Event.{Event}
-use Rattle.hlr_core.specs.declared.event.Event.TheVariants.{Divide, Dissolve}
-
--- an event by which a part may come or go
-abbrev pub is_parting : Event → Bool
-is_parting (Divide part at) = true
-is_parting (Dissolve part) = true
-is_parting _ = false
 
 -- an event asks for a job, as it does where its fields are in range and its number is known, or for what the register
 -- itself does

@@ -1,11 +1,11 @@
 //! Whether the parts are at home on which something works.
 ghost use Rattle.std.specs.Prelude.{◌≡◌, ◌↔◌, IsTrue};
 ghost use Rattle.hlr_owners.specs.Recut.{IsHomeToCut};
-ghost use Rattle.hlr_owners.specs.Seats.{IsHomeFor, IsHomeFrom, IsPartHome};
-ghost use Rattle.hlr_core.specs.Home.{IsBearerHome, IsHomeTo};
+ghost use Rattle.hlr_owners.specs.Seats.{AllHome, IsHomeFor, IsPartHome};
+ghost use Rattle.hlr_core.specs.Home.{AreHome, IsBearerHome, IsHomeTo};
 
 use crate::lender::Lender;
-use hlr_core::{Event, Number, Place};
+use hlr_core::{Event, Number, Parts, Place};
 use part_table::MOST_PARTS;
 use tatp_rows::{LAST_SUBSCRIBER, in_range};
 
@@ -21,22 +21,23 @@ impl Lender {
         rings[part as usize].is_none()
     }
 
-    /// Whether all parts from one on are at home.
-    pub fn is_home_from(&self, part: u64) -> bool
-        ensures { IsTrue result ↔ IsHomeFrom part self.now }
+    /// Whether all parts are at home.
+    pub fn is_all_home(&self) -> bool
+        ensures { IsTrue result ↔ AllHome self.now.seats }
     {
-        // For the prover: there are as many rings as there may be parts.
-        let _ = &self.rings;
-        for later in part..u64::from(MOST_PARTS) {
-            if !self.is_part_home(later) {
-                return false;
-            }
-        }
-        true
+        !self.lends || self.register.all_at_home()
     }
 
     /// Whether whoever has a subscriber is at home, as nobody is out who has a number that is no s_id.
     pub fn is_home_for(&self, s_id: u64) -> bool
+        ensures { IsTrue result ↔ IsHomeFor s_id self.now }
+    {
+        !self.lends || self.is_place_home(s_id)
+    }
+
+    /// The same, by the subscriber's region.
+    #[inline(never)]
+    fn is_place_home(&self, s_id: u64) -> bool
         ensures { IsTrue result ↔ IsHomeFor s_id self.now }
     {
         // For the prover: each region has its owner beside it.
@@ -54,35 +55,37 @@ impl Lender {
     pub fn is_bearer_home(&self, sub_nbr: Number) -> bool
         ensures { IsTrue result ↔ IsBearerHome sub_nbr self.now }
     {
+        !self.lends || self.is_bearer_place_home(sub_nbr)
+    }
+
+    /// The same, by the index and the subscriber's region.
+    #[inline(never)]
+    fn is_bearer_place_home(&self, sub_nbr: Number) -> bool
+        ensures { IsTrue result ↔ IsBearerHome sub_nbr self.now }
+    {
         match self.register.bearer(sub_nbr) {
             Some(s_id) => self.is_home_for(u64::from(s_id)),
             None => true,
         }
     }
 
+    /// Whether each of some parts is at home.
+    fn are_home(&self, parts: Parts) -> bool
+        ensures { IsTrue result ↔ AreHome parts self.now }
+    {
+        for part in parts.first..parts.end {
+            if !self.is_part_home(u64::from(part)) {
+                return false;
+            }
+        }
+        true
+    }
+
     /// Whether the parts on which an event works are at home.
     pub fn is_home_to(&self, event: &Event) -> bool
         ensures { IsTrue result ↔ IsHomeTo event.now self.now }
     {
-        match *event {
-            Event::SubscriberData { s_id } => self.is_home_for(s_id),
-            Event::NewDestination { s_id, .. } => self.is_home_for(s_id),
-            Event::AccessData { s_id, .. } => self.is_home_for(s_id),
-            Event::UpdateSubscriber { s_id, .. } => self.is_home_for(s_id),
-            Event::UpdateLocation { sub_nbr, .. } => self.is_bearer_home(sub_nbr),
-            Event::InsertForwarding { sub_nbr, .. } => self.is_bearer_home(sub_nbr),
-            Event::DeleteForwarding { sub_nbr, .. } => self.is_bearer_home(sub_nbr),
-            Event::AddSubscriber(row) => self.is_home_for(u64::from(row.s_id())),
-            Event::AddAccess(row) => self.is_home_for(u64::from(row.s_id())),
-            Event::AddFacility(row) => self.is_home_for(u64::from(row.s_id())),
-            Event::SetActive { s_id, .. } => self.is_home_for(s_id),
-            Event::SetNumber { s_id, .. } => self.is_home_for(s_id),
-            Event::Post { part, .. } => self.is_part_home(part),
-            Event::Give { part, .. } => self.is_part_home(part),
-            Event::Take { part, .. } => self.is_part_home(part),
-            Event::Divide { part, .. } => self.is_home_from(part),
-            Event::Dissolve { part } => self.is_home_from(part.saturating_sub(1)),
-        }
+        self.are_home(self.register.parts_for(event))
     }
 
     /// Whether the parts are at home on both sides of each bound that a re-cut moves.

@@ -1,5 +1,5 @@
 //! A register that lends its parts.
-ghost use Rattle.std.specs.Prelude.{◌≡◌, ◌<◌, true, false, IsTrue, None, Some, IfOk, IfSome, OnErr, length, slice_index_or, slice_set};
+ghost use Rattle.std.specs.Prelude.{◌≡◌, ◌≢◌, ◌<◌, true, false, IsTrue, None, Some, IfOk, IfSome, OnErr, length, slice_index_or, slice_set};
 ghost use Rattle.view_board.specs.Desks.{with_view};
 ghost use Rattle.view_board.specs.Views.{looked};
 ghost use Rattle.hlr_owners.specs.Recut.{IsHomeToCut, IsRecut};
@@ -7,9 +7,9 @@ ghost use Rattle.hlr_owners.specs.Seats.{AllHome, AreSeated, IsLent, homes_in, s
 ghost use Rattle.hlr_owners.specs.Sight.{IsSightOf};
 ghost use Rattle.hlr_core.specs.Beside.{IsRecutBeside, IsStepBeside};
 ghost use Rattle.hlr_core.specs.Home.{IsHomeTo, IsHouseAfter, IsSameHouse};
-ghost use Rattle.hlr_core.specs.Route.{IsRightNow};
 ghost use Rattle.hlr_core.specs.Step.{IsStep};
-ghost use Rattle.hlr_lent.specs.Away.{IsAsking, IsAway, is_parting};
+ghost use Rattle.tatp_rows.specs.declared.refusal.Refusal.{Refusal as Refusals};
+ghost use Rattle.hlr_lent.specs.Away.{IsAsking, IsAway};
 ghost use Rattle.hlr_lent.specs.Jobs.{IsBack};
 
 use crate::owner::Owner;
@@ -28,20 +28,22 @@ pub struct Lender {
     pub(crate) register: Register,
     // By the numbers of the parts: at which ring a part that is out is waited for.
     pub(crate) rings: ArrayVec<Option<LenderEnd>, 16>,
+    // Where it is false no part is out, so that a call needs to look at no ring.
+    pub(crate) lends: bool,
 }
 
 impl Model for Lender {
-    ghost use Rattle.std.specs.Prelude.{◌≡◌, length};
+    ghost use Rattle.std.specs.Prelude.{◌≡◌, false, length};
     ghost use Rattle.part_table.specs.declared.region.TheConstants.{MOST_PARTS};
     ghost use Rattle.hlr_owners.specs.Out.{outs_in};
-    ghost use Rattle.hlr_owners.specs.Seats.{Seating};
+    ghost use Rattle.hlr_owners.specs.Seats.{AllHome, Seating};
     ghost use Rattle.hlr_lent.specs.Rings.{HaveRings};
 
     ghost Value = { Seating };
 
     ghost view = { λ l. l.register };
 
-    ghost invariant = { λ l. HaveRings (outs_in l.register.seats) l.rings.items × (length l.rings.items ≡ MOST_PARTS) };
+    ghost invariant = { λ l. HaveRings (outs_in l.register.seats) l.rings.items × (length l.rings.items ≡ MOST_PARTS) × (l.lends ≡ false → AllHome l.register.seats) };
 }
 
 /// Takes the ring of a part out of its place, if there is one.
@@ -63,11 +65,20 @@ fn put_ring(rings: &mut ArrayVec<Option<LenderEnd>, 16>, part: u8, ring: LenderE
     rings.as_mut_slice()[usize::from(part)] = Some(ring);
 }
 
-/// Whether a part may come or go by an event.
-fn is_parting(event: &Event) -> bool
-    ensures { result ≡ is_parting event.now }
+/// The refusal that a reply tells, if it does.
+fn refusal_in(reply: &Reply) -> Option<Refusal>
+    ensures refused { IfSome result (λ why. reply.now ≡ Reply.Refused why) }
+    ensures none { result ≡ None → (why : Refusals) → reply.now ≢ Reply.Refused why }
 {
-    matches!(event, Event::Divide { .. } | Event::Dissolve { .. })
+    match *reply {
+        Reply::Refused(why) => Some(why),
+        Reply::Rows(_)
+        | Reply::Posted(_)
+        | Reply::Given { .. }
+        | Reply::Taken { .. }
+        | Reply::Divided { .. }
+        | Reply::Dissolved { .. } => None,
+    }
 }
 
 impl Lender {
@@ -80,7 +91,11 @@ impl Lender {
         for _ in 0..MOST_PARTS {
             rings.push(None);
         }
-        Lender { register, rings }
+        Lender {
+            register,
+            rings,
+            lends: false,
+        }
     }
 
     /// The register, with the parts that are out as they were lent.
@@ -93,13 +108,14 @@ impl Lender {
         &self.register
     }
 
-    /// The register alone. A part that is out can't come home to it; `is_home_from(0)` tells whether one is.
+    /// The register alone. A part that is out can't come home to it; `is_all_home` tells whether none is.
     pub fn into_register(self) -> Register
         ensures { result ≡ self }
     {
         let Lender {
             register,
             rings: _rings,
+            lends: _lends,
         } = self;
         register
     }
@@ -124,6 +140,7 @@ impl Lender {
         match Box::new(alloc, Owner::of(holding, board, owner_end)) {
             Ok(owner) => {
                 put_ring(&mut self.rings, part, lender_end);
+                self.lends = true;
                 Ok(owner)
             }
             Err(refused) => {
@@ -147,6 +164,7 @@ impl Lender {
         match arrived(&mut ring) {
             Some(holding) => {
                 self.register.back(holding);
+                self.lends = !self.register.all_at_home();
                 true
             }
             None => {
@@ -167,23 +185,22 @@ impl Lender {
         self.register.apply(event)
     }
 
-    /// The reply to an event that is known without the parts that are out.
-    fn known(&self, event: &Event) -> Option<Reply>
-        ensures right { IfSome result (λ reply. IsRightNow event.now self.now reply) }
-        ensures house { IfSome result (λ reply. IsHouseAfter event.now reply self.now self.now) }
+    /// The refusal of an event that is known without the parts that are out: of an event on rows a field out of its range,
+    /// a number that nobody has, and a subscriber in a loose piece; of a posting a part that isn't there.
+    pub fn known(&self, event: &Event) -> Option<Refusal>
+        ensures step { IfSome result (λ why. IsStep event.now (store_in self.now) (Reply.Refused why) (store_in self.now)) }
+        ensures house { IfSome result (λ why. IsHouseAfter event.now (Reply.Refused why) self.now self.now) }
+        ensures beside { IfSome result (λ why. IsStepBeside event.now self.now (Reply.Refused why) self.now) }
         ensures asking { result ≡ None → IsAsking event.now self.now }
     {
-        if is_parting(event) {
-            return None;
-        }
         match self.register.route(event) {
-            Route::Now(reply) => Some(reply),
+            Route::Now(reply) => refusal_in(&reply),
             Route::To(..) | Route::Here => None,
         }
     }
 
-    /// Applies an event, or gives `None` where a part on which it works is out: then nothing is changed. Even then a field
-    /// out of its range of an event on rows is answered, a number that nobody has, and a posting of no part.
+    /// Applies an event, or gives `None` where a part on which it works is out: then nothing is changed. A refusal that is
+    /// `known` is answered even then.
     pub fn ask(&mut self, event: Event) -> Option<Reply>
         ensures step { IfSome result (λ reply. IsStep event (store_in self.old) reply (store_in self.new)) }
         ensures house { IfSome result (λ reply. IsHouseAfter event reply self.old self.new) }
@@ -192,7 +209,10 @@ impl Lender {
         ensures same { result ≡ None → self.new ≡ self.old }
     {
         if !self.is_home_to(&event) {
-            return self.known(&event);
+            return match self.known(&event) {
+                Some(why) => Some(Reply::Refused(why)),
+                None => None,
+            };
         }
         Some(self.apply(event))
     }

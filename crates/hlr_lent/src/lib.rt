@@ -6,6 +6,7 @@
 //! lent, so whatever comes out of it may take its seat again.
 #![tactic(auto)]
 
+mod changes;
 mod homes;
 mod lender;
 mod owner;

@@ -4,6 +4,7 @@ ghost use Rattle.std.specs.Arc.{arc_value};
 ghost use Rattle.rtrb.specs.Ring.{known_free, sent};
 ghost use Rattle.tatp_actions.specs.Action.{destinations, done_reply, s_id_of};
 ghost use Rattle.tatp_actions.specs.Book.{IsWithin, access_at, subscriber_at};
+ghost use Rattle.holding.specs.Held.{IsHolding};
 ghost use Rattle.holding.specs.declared.job.Job.TheVariants as job;
 ghost use Rattle.hlr_core.specs.Session.{IsJobDone};
 ghost use Rattle.hlr_core.specs.Step.{given_number, posted_reply, reply_of};
@@ -72,7 +73,8 @@ impl Owner {
 
     /// The first subscriber of the part, 1..=16,777,216. It stays the same while the part is out.
     pub fn lo(&self) -> u32
-        ensures { result ≡ self.now.part.lo }
+        ensures value { result ≡ self.now.part.lo }
+        ensures rules { IsHolding self.now }
     {
         self.holding.lo()
     }

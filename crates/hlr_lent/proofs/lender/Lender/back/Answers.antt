@@ -1,6 +1,7 @@
-use Rattle.std.proofs.Common.{◌∙◌, sym, None}
+use Rattle.std.proofs.Common.{◌≡◌, ◌∙◌, sym, true, false, None}
 use Rattle.std.specs.Prelude.{Option}
 use Rattle.std.proofs.lemmas.List.{length-set}
+use Rattle.tatp_rows.proofs.OrderedLemmas.{by_test}
 use Rattle.hlr_lent.proofs.ComeLemmas.{come_back, come_rings, come_with}
 use Rattle.hlr_lent.proofs.RingLemmas.{Ring}
 use Rattle.hlr_lent.proofs.lender.Lender.back.Goals as goal
@@ -19,8 +20,11 @@ invariant_of-self-in-Some-arrived c =
     let come = rw c.in-Some-arrived.is at c.arrived.ensures.come in
     let with = come_with h are rings c.self.invariant.0 c.args.part c.in-Some.ring is c.in-Some-arrived.holding.value come in
     let none : Option Ring = None in
-    rw (c.back.ensures with.0 with.1, c.take_ring.ensures.items)
-    (come_rings h are rings c.self.invariant.0 c.args.part c.in-Some.ring is c.in-Some-arrived.holding.value come, length-set rings c.args.part none ∙ c.self.invariant.1)
+    (
+      rw (c.back.ensures with.0 with.1, c.take_ring.ensures.items) (come_rings h are rings c.self.invariant.0 c.args.part c.in-Some.ring is c.in-Some-arrived.holding.value come),
+      rw (c.take_ring.ensures.items) (length-set rings c.args.part none ∙ c.self.invariant.1),
+      λ kept. c.all_at_home.ensures.0 (by_test c.all_at_home.result (λ yes. yes) (λ no. absurd (let clash : true ≡ false = rw no at kept in cc))),
+    )
 
 pub returns-in-Some-arrived-clause-come : goal.returns-in-Some-arrived-clause-come
 returns-in-Some-arrived-clause-come c =

@@ -27,6 +27,7 @@ invariant_of-self c =
     rw (c.put_ring.ensures, lent_outs h are c.args.part went.result.value went.new.self went.ensures.lent) (
       rings_put (outs_in h.seats) c.self.inside.rings.items c.self.invariant.0 c.args.part went.result.value c.tell.new.lender there short (rw c.deref.ensures at c.tell.ensures.lender),
       length-set c.self.inside.rings.items c.args.part (Some c.tell.new.lender) ∙ long,
+      λ no. absurd cc,
     )
 
 -- the box was refused: the holding that is taken back is the one that was lent

@@ -1,6 +1,6 @@
 use Rattle.std.proofs.Common.{◌∙◌, refl, sym}
 use Rattle.hlr_lent.proofs.EventLemmas.{nobody_home}
-use Rattle.hlr_lent.proofs.lender.Lender.is_home_for.Goals as goal
+use Rattle.hlr_lent.proofs.lender.Lender.is_place_home.Goals as goal
 
 pub returns-in_default : goal.returns-in_default
 returns-in_default c =

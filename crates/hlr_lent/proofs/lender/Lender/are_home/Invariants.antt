@@ -1,0 +1,6 @@
+use Rattle.std.proofs.Common.{◌<◌, ◌≤◌, ℕ}
+use Rattle.hlr_owners.specs.Seats.{IsPartHome}
+use Rattle.hlr_lent.proofs.lender.Lender.are_home.Given as goal
+
+abbrev pub invariant-loop-part : goal.invariant-loop-part
+invariant-loop-part l = (q : ℕ) → l.fn.parts.first ≤ q → q < l.part → IsPartHome q l.self
