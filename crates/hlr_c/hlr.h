@@ -7,8 +7,18 @@
  * Each call answers a code: HLR_DONE, or why it was refused. A refusal changes nothing, but for two that say so
  * (hlr_post, hlr_recut). What a call writes by reference it writes where it answers HLR_DONE, and else it leaves that
  * as it was. The last line on a call lists its refusals, by their codes' names without HLR_, in their order: of several
- * that apply, the first one is answered. Each call but hlr_open first answers HLR_NOT_OPEN where the handle isn't open,
- * so that isn't said again.
+ * that apply, the first one is answered. Each call but hlr_open first answers HLR_NOT_OPEN where its first handle isn't
+ * open, so that isn't said again.
+ *
+ * A part of a register can be lent to a handle of its own (hlr_lend), on which the calls hlr_part_.. work in whatever
+ * thread, with no lock and no waiting, until hlr_home. Meanwhile calls on the register answer HLR_AWAY and change nothing
+ * where they work on that part:
+ *   - by s_id or number: the part that has the subscriber, or would have the row that is added;
+ *   - hlr_post, hlr_give, hlr_take: the part;
+ *   - hlr_divide: the part and all later ones; hlr_dissolve: also the one in front of it;
+ *   - hlr_recut: the parts on both sides of each bound that moves;
+ *   - hlr_views, hlr_scan, hlr_propose, hlr_next_subscriber and the calls ..._many: any part.
+ * hlr_find, hlr_regions, hlr_look and hlr_close go on whichever parts are out.
  *
  * All numbers are checked, whatever is handed in; they are 64 bits wide, so that nothing is cut off on the way. Letters
  * are ASCII codes, and have no 0 behind them.
@@ -18,7 +28,8 @@
  *
  * Most calls go down a tree or two, which takes a microsecond or less. hlr_views goes over all cells of each part, and
  * hlr_recut is one give and one take for each bound that moves. hlr_give and hlr_divide count the rows that move, which
- * takes some 20 ms for half a million. hlr_scan goes over all rows.
+ * takes some 20 ms for half a million. hlr_scan goes over all rows. A part is lent, sent home and taken in within a
+ * microsecond.
  *
  * What C owes, since no prover sees it:
  *   - A handle is filled with zeros (HLR_CLOSED) before its first call. From then on only these calls write to it. A
@@ -26,9 +37,10 @@
  *   - An open handle may be moved as its bytes (as realloc moves an array of handles), if the old place isn't used as a
  *     handle again before it is filled with zeros. Two copies that are both used would have one register, which is gone
  *     under one of them once the other one is closed.
- *   - An open handle is closed once, or its memory is never given back.
+ *   - An open handle is closed once (that of a part by hlr_home), or its memory is never given back.
  *   - One call at a time works on a handle. It may go from thread to thread, where a lock, a thread's start or join, or
- *     an atomic step in one order for all (memory_order_seq_cst) stands between two calls.
+ *     an atomic step in one order for all (memory_order_seq_cst) stands between two calls. The handle of a part is one of
+ *     its own: nothing is owed between its calls and those on the register's, nor between hlr_home and hlr_back.
  *   - Pointers aren't null, also where a count is 0. They point to a value of their type, also where a call only writes
  *     it (so fill it before, as by = {0}); the things that one call is passed don't overlap.
  *   - malloc, realloc and free are those of one allocator, and align a block to each power of two up to 16 that divides
@@ -59,6 +71,13 @@ typedef struct {
     void *address;
 } hlr;
 
+/* A handle with a part that is out, or a closed one. Its fields are the library's own. */
+typedef struct {
+    uint64_t mark;
+    void *address;
+} hlr_part;
+
+/* A closed handle of either kind. */
 #define HLR_CLOSED {0, 0}
 
 /* The codes. A call answers one as uint8_t; of a switch over (hlr_code)code compilers tell which cases are missing. */
@@ -82,8 +101,10 @@ typedef enum {
     HLR_MANY_PIECES = 16,   /* sixteen pieces are loose */
     HLR_WORN = 17,          /* a word of the board is at its limit, 2^63 - 1 */
     HLR_MANY_PARTS = 22,    /* sixteen parts are there */
-    HLR_NOT_OPEN = 254,     /* the handle has no register */
-    HLR_STILL_OPEN = 255    /* the handle of hlr_open has a register */
+    HLR_ELSEWHERE = 252,    /* the subscriber isn't in the part's range */
+    HLR_AWAY = 253,         /* a part on which the call works is out; of hlr_back: it wasn't sent home yet */
+    HLR_NOT_OPEN = 254,     /* the handle has no register, or no part */
+    HLR_STILL_OPEN = 255    /* the handle of hlr_open has a register; that of hlr_lend, owner, has a part */
 } hlr_code;
 
 /* The name of a code, as the program hlr prints refusals; "" of a number that is no code. */
@@ -108,6 +129,8 @@ static inline const char *hlr_code_name(uint64_t code) {
     case HLR_MANY_PIECES: return "ManyPieces";
     case HLR_WORN: return "Worn";
     case HLR_MANY_PARTS: return "ManyParts";
+    case HLR_ELSEWHERE: return "Elsewhere";
+    case HLR_AWAY: return "Away";
     case HLR_NOT_OPEN: return "NotOpen";
     case HLR_STILL_OPEN: return "StillOpen";
     }
@@ -208,49 +231,50 @@ typedef struct {
 uint8_t hlr_open(uint64_t parts, uint64_t width, hlr *handle);
 
 /*
- * Closes a handle, and gives back all memory of its register.
+ * Closes a handle, and gives back all memory of its register. Parts that are out go on; each gives its memory back by
+ * hlr_home.
  * Refusals: none
  */
 uint8_t hlr_close(hlr *handle);
 
 /*
  * GET_SUBSCRIBER_DATA: reads a row.
- * Refusals: FIELD, MOVING, NO_SUBSCRIBER
+ * Refusals: FIELD, MOVING, AWAY, NO_SUBSCRIBER
  */
 uint8_t hlr_subscriber_data(hlr *handle, uint64_t s_id, hlr_subscriber *row);
 
 /*
  * GET_NEW_DESTINATION: tells the numbers that an active facility forwards to, of its forwardings that start by
  * start_time and end after end_time, by their start.
- * Refusals: FIELD, MOVING, NO_DESTINATION
+ * Refusals: FIELD, MOVING, AWAY, NO_DESTINATION
  */
 uint8_t hlr_new_destination(hlr *handle, uint64_t s_id, uint64_t sf_type, uint64_t start_time, uint64_t end_time,
                             hlr_numbers *numbers);
 
 /*
  * GET_ACCESS_DATA: reads a row.
- * Refusals: FIELD, MOVING, NO_ACCESS
+ * Refusals: FIELD, MOVING, AWAY, NO_ACCESS
  */
 uint8_t hlr_access_data(hlr *handle, uint64_t s_id, uint64_t ai_type, hlr_access *row);
 
 /*
  * GET_SUBSCRIBER_DATA of many: codes[i] and rows[i] are what hlr_subscriber_data answers and writes for s_ids[i].
  * HLR_FIELD where the three counts differ, and nothing is written then.
- * Refusals: FIELD
+ * Refusals: AWAY, FIELD
  */
 uint8_t hlr_subscriber_data_many(hlr *handle, const uint64_t *s_ids, size_t s_ids_count, hlr_subscriber *rows,
                                  size_t rows_count, uint8_t *codes, size_t codes_count);
 
 /*
  * GET_NEW_DESTINATION of many: the same by hlr_new_destination for asked[i].
- * Refusals: FIELD
+ * Refusals: AWAY, FIELD
  */
 uint8_t hlr_new_destination_many(hlr *handle, const hlr_destination_asked *asked, size_t asked_count,
                                  hlr_numbers *numbers, size_t numbers_count, uint8_t *codes, size_t codes_count);
 
 /*
  * GET_ACCESS_DATA of many: the same by hlr_access_data for asked[i].
- * Refusals: FIELD
+ * Refusals: AWAY, FIELD
  */
 uint8_t hlr_access_data_many(hlr *handle, const hlr_access_asked *asked, size_t asked_count, hlr_access *rows,
                              size_t rows_count, uint8_t *codes, size_t codes_count);
@@ -263,13 +287,13 @@ uint8_t hlr_find(hlr *handle, uint64_t sub_nbr, uint64_t *s_id);
 
 /*
  * Reads a row.
- * Refusals: FIELD, MOVING, NO_FACILITY
+ * Refusals: FIELD, MOVING, AWAY, NO_FACILITY
  */
 uint8_t hlr_facility_data(hlr *handle, uint64_t s_id, uint64_t sf_type, hlr_facility *row);
 
 /*
  * Tells the end and the number of a facility's forwarding that starts at start_time.
- * Refusals: FIELD, MOVING, NO_FORWARDING
+ * Refusals: FIELD, MOVING, AWAY, NO_FORWARDING
  */
 uint8_t hlr_forwarding(hlr *handle, uint64_t s_id, uint64_t sf_type, uint64_t start_time, uint64_t *end_time,
                        uint64_t *numberx);
@@ -277,102 +301,109 @@ uint8_t hlr_forwarding(hlr *handle, uint64_t s_id, uint64_t sf_type, uint64_t st
 /*
  * Reads the first subscriber's row with an s_id from this one on, also of one who lies in a loose piece: so a loop that
  * goes on from row.s_id + 1 reads all of them.
- * Refusals: NO_SUBSCRIBER
+ * Refusals: AWAY, NO_SUBSCRIBER
  */
 uint8_t hlr_next_subscriber(hlr *handle, uint64_t from, hlr_subscriber *row);
 
 /*
  * UPDATE_SUBSCRIBER_DATA: sets bit_1, 0 or 1, of the subscriber and data_a, 0..=255, of the facility, or neither.
- * Refusals: FIELD, MOVING, NO_SUBSCRIBER, NO_FACILITY
+ * Refusals: FIELD, MOVING, AWAY, NO_SUBSCRIBER, NO_FACILITY
  */
 uint8_t hlr_update_subscriber(hlr *handle, uint64_t s_id, uint64_t sf_type, uint64_t bit_1, uint64_t data_a);
 
 /*
  * UPDATE_LOCATION: moves the subscriber with a number.
- * Refusals: FIELD, NO_NUMBER, MOVING
+ * Refusals: FIELD, NO_NUMBER, MOVING, AWAY
  */
 uint8_t hlr_update_location(hlr *handle, uint64_t sub_nbr, uint64_t vlr_location);
 
 /*
  * INSERT_CALL_FORWARDING: adds a forwarding of the subscriber with a number, to the number numberx.
- * Refusals: FIELD, NO_NUMBER, MOVING, NO_FACILITY, EXISTS, MEMORY
+ * Refusals: FIELD, NO_NUMBER, MOVING, AWAY, NO_FACILITY, EXISTS, MEMORY
  */
 uint8_t hlr_insert_forwarding(hlr *handle, uint64_t sub_nbr, uint64_t sf_type, uint64_t start_time, uint64_t end_time,
                               uint64_t numberx);
 
 /*
  * DELETE_CALL_FORWARDING: takes a forwarding away from the subscriber with a number.
- * Refusals: FIELD, NO_NUMBER, MOVING, NO_FORWARDING
+ * Refusals: FIELD, NO_NUMBER, MOVING, AWAY, NO_FORWARDING
  */
 uint8_t hlr_delete_forwarding(hlr *handle, uint64_t sub_nbr, uint64_t sf_type, uint64_t start_time);
 
 /*
  * Adds a row.
- * Refusals: FIELD, MOVING, EXISTS, NUMBER_TAKEN, MEMORY
+ * Refusals: FIELD, MOVING, AWAY, EXISTS, NUMBER_TAKEN, MEMORY
  */
 uint8_t hlr_add_subscriber(hlr *handle, const hlr_subscriber *row);
 
 /*
  * Adds a row.
- * Refusals: FIELD, MOVING, NO_SUBSCRIBER, EXISTS, MEMORY
+ * Refusals: FIELD, MOVING, AWAY, NO_SUBSCRIBER, EXISTS, MEMORY
  */
 uint8_t hlr_add_access(hlr *handle, const hlr_access *row);
 
 /*
  * Adds a row.
- * Refusals: FIELD, MOVING, NO_SUBSCRIBER, EXISTS, MEMORY
+ * Refusals: FIELD, MOVING, AWAY, NO_SUBSCRIBER, EXISTS, MEMORY
  */
 uint8_t hlr_add_facility(hlr *handle, const hlr_facility *row);
 
 /*
  * Switches a facility on or off (is_active 1 or 0), and with it all its forwardings.
- * Refusals: FIELD, MOVING, NO_FACILITY
+ * Refusals: FIELD, MOVING, AWAY, NO_FACILITY
  */
 uint8_t hlr_set_active(hlr *handle, uint64_t s_id, uint64_t sf_type, uint64_t is_active);
 
 /*
  * Gives a subscriber another number; nothing changes where it is the one that stands.
- * Refusals: FIELD, MOVING, NO_SUBSCRIBER, NUMBER_TAKEN, MEMORY
+ * Refusals: FIELD, MOVING, AWAY, NO_SUBSCRIBER, NUMBER_TAKEN, MEMORY
  */
 uint8_t hlr_set_number(hlr *handle, uint64_t s_id, uint64_t sub_nbr);
 
 /*
  * Posts the first limit cells of a part that aren't posted, in ascending order, and tells how many were. After HLR_WORN
  * the cells that were posted before stand.
- * Refusals: NO_PART, WORN
+ * Refusals: NO_PART, AWAY, WORN
  */
 uint8_t hlr_post(hlr *handle, uint64_t part, uint64_t limit, uint64_t *posted);
 
 /*
  * Tells each cell as published, and what isn't posted of it yet: they add up to the count over the rows now. No row is
  * read.
- * Refusals: none
+ * Refusals: AWAY
  */
 uint8_t hlr_views(hlr *handle, int64_t published[HLR_CELLS], int64_t unposted[HLR_CELLS]);
 
 /*
- * Counts each cell anew, by a walk over all rows.
+ * Tells each cell as published now, whichever parts are out. It goes over all words of the board, 16 pairs a cell, and
+ * never waits. Parts post meanwhile, so the cells are of no one moment; but no look finds less of a word than one before.
  * Refusals: none
+ */
+uint8_t hlr_look(hlr *handle, int64_t published[HLR_CELLS]);
+
+/*
+ * Counts each cell anew, by a walk over all rows.
+ * Refusals: AWAY
  */
 uint8_t hlr_scan(hlr *handle, uint64_t counts[HLR_CELLS]);
 
 /*
  * Has a part give away its subscribers below at (side 0) or from at on (side 1), as a loose piece with the least free
  * number. While it is loose, its subscribers are answered HLR_MOVING. Tells the piece. HLR_FIELD where side is neither.
- * Refusals: FIELD, NO_PART, OUT_OF_RANGE, MANY_PIECES, MEMORY
+ * Refusals: FIELD, NO_PART, AWAY, OUT_OF_RANGE, MANY_PIECES, MEMORY
  */
 uint8_t hlr_give(hlr *handle, uint64_t part, uint64_t side, uint64_t at, hlr_region *given);
 
 /*
  * Has a part take a loose piece that touches it.
- * Refusals: NO_PIECE, NO_PART, NOT_ADJACENT, MEMORY
+ * Refusals: AWAY, NO_PIECE, NO_PART, NOT_ADJACENT, MEMORY
  */
 uint8_t hlr_take(hlr *handle, uint64_t piece, uint64_t part);
 
 /*
  * Divides a part at a subscriber: it keeps what is below at, and a new part with the next number has the rest. Nothing
  * of the new part is published yet, and later parts' numbers rise by one. Tells the new part.
- * Refusals: NO_PART, OUT_OF_RANGE, MANY_PARTS, MEMORY
+ * Refusals: NO_PART, AWAY, OUT_OF_RANGE, MANY_PARTS, MEMORY
  */
 uint8_t hlr_divide(hlr *handle, uint64_t part, uint64_t at, hlr_region *made);
 
@@ -380,7 +411,7 @@ uint8_t hlr_divide(hlr *handle, uint64_t part, uint64_t at, hlr_region *made);
  * Dissolves a part: the part in front has its rows, what it had published is taken back, and later parts' numbers fall
  * by one. Tells the part in front as it is then. HLR_NOT_ADJACENT where it is the first part, or a loose piece lies in
  * front of it.
- * Refusals: NO_PART, NOT_ADJACENT, MEMORY
+ * Refusals: AWAY, NO_PART, NOT_ADJACENT, MEMORY
  */
 uint8_t hlr_dissolve(hlr *handle, uint64_t part, hlr_region *front);
 
@@ -393,7 +424,7 @@ uint8_t hlr_regions(hlr *handle, hlr_region_list *regions);
 /*
  * Tells the bounds between zones that would give each part about its share of the rows, as they are published: post
  * every part first.
- * Refusals: none
+ * Refusals: AWAY
  */
 uint8_t hlr_propose(hlr *handle, hlr_bounds *bounds);
 
@@ -401,9 +432,95 @@ uint8_t hlr_propose(hlr *handle, hlr_bounds *bounds);
  * Moves the bounds between parts to these, and tells how many were moved. HLR_FIELD where they aren't strictly rising
  * ones in 2..=16777216, one less than there are parts; HLR_MOVING where a piece is loose. After HLR_MEMORY the moves
  * that were done stand, and the piece of the next one may be loose.
- * Refusals: FIELD, MOVING, MEMORY
+ * Refusals: FIELD, MOVING, AWAY, MEMORY
  */
 uint8_t hlr_recut(hlr *handle, const hlr_bounds *bounds, uint64_t *moved);
+
+/*
+ * Lends a part to a closed handle, which then may go to whatever thread. Takes memory for the handle alone.
+ * Refusals: STILL_OPEN, NO_PART, AWAY, MEMORY
+ */
+uint8_t hlr_lend(hlr *handle, uint64_t part, hlr_part *owner);
+
+/*
+ * Takes a part in that was sent home. HLR_DONE also where the part is at home already. It takes no memory, and never
+ * waits.
+ * Refusals: NO_PART, AWAY
+ */
+uint8_t hlr_back(hlr *handle, uint64_t part);
+
+/*
+ * Sends a part home, from whatever thread has it, and closes its handle. It takes no memory, and never waits. Once the
+ * register is closed it gives back the part's memory.
+ * Refusals: none
+ */
+uint8_t hlr_home(hlr_part *owner);
+
+/*
+ * Tells a part's range, which stays while it is out: the first subscriber, and the number behind the last one.
+ * Refusals: none
+ */
+uint8_t hlr_part_range(hlr_part *owner, uint64_t *lo, uint64_t *hi);
+
+/*
+ * The calls on a part do what those of the same name on a register do. Those that have a number there have an s_id here,
+ * which hlr_find tells: numbers are given by the register alone.
+ * Refusals: FIELD, ELSEWHERE, NO_SUBSCRIBER
+ */
+uint8_t hlr_part_subscriber_data(hlr_part *owner, uint64_t s_id, hlr_subscriber *row);
+
+/*
+ * Refusals: FIELD, ELSEWHERE, NO_DESTINATION
+ */
+uint8_t hlr_part_new_destination(hlr_part *owner, uint64_t s_id, uint64_t sf_type, uint64_t start_time,
+                                 uint64_t end_time, hlr_numbers *numbers);
+
+/*
+ * Refusals: FIELD, ELSEWHERE, NO_ACCESS
+ */
+uint8_t hlr_part_access_data(hlr_part *owner, uint64_t s_id, uint64_t ai_type, hlr_access *row);
+
+/*
+ * Refusals: FIELD, ELSEWHERE, NO_SUBSCRIBER, NO_FACILITY
+ */
+uint8_t hlr_part_update_subscriber(hlr_part *owner, uint64_t s_id, uint64_t sf_type, uint64_t bit_1, uint64_t data_a);
+
+/*
+ * Refusals: FIELD, ELSEWHERE, NO_SUBSCRIBER
+ */
+uint8_t hlr_part_update_location(hlr_part *owner, uint64_t s_id, uint64_t vlr_location);
+
+/*
+ * Refusals: FIELD, ELSEWHERE, NO_FACILITY, EXISTS, MEMORY
+ */
+uint8_t hlr_part_insert_forwarding(hlr_part *owner, uint64_t s_id, uint64_t sf_type, uint64_t start_time,
+                                   uint64_t end_time, uint64_t numberx);
+
+/*
+ * Refusals: FIELD, ELSEWHERE, NO_FORWARDING
+ */
+uint8_t hlr_part_delete_forwarding(hlr_part *owner, uint64_t s_id, uint64_t sf_type, uint64_t start_time);
+
+/*
+ * Refusals: FIELD, ELSEWHERE, NO_FACILITY
+ */
+uint8_t hlr_part_set_active(hlr_part *owner, uint64_t s_id, uint64_t sf_type, uint64_t is_active);
+
+/*
+ * Refusals: FIELD, ELSEWHERE, NO_SUBSCRIBER, EXISTS, MEMORY
+ */
+uint8_t hlr_part_add_access(hlr_part *owner, const hlr_access *row);
+
+/*
+ * Refusals: FIELD, ELSEWHERE, NO_SUBSCRIBER, EXISTS, MEMORY
+ */
+uint8_t hlr_part_add_facility(hlr_part *owner, const hlr_facility *row);
+
+/*
+ * After HLR_WORN the cells that were posted before stand.
+ * Refusals: WORN
+ */
+uint8_t hlr_part_post(hlr_part *owner, uint64_t limit, uint64_t *posted);
 
 #ifdef __cplusplus
 }

@@ -5,11 +5,12 @@
  *     if (store.open(1, 524288) == hlrpp::code::done) { ... }     // it closes itself
  *
  * A store has a register, or is closed. It can be moved and not copied; a store that was moved from is closed. A store
- * that goes out of scope closes itself.
+ * that goes out of scope closes itself. A part that the store lends is the same: it has a part, and sends it home as it
+ * goes out of scope.
  *
  * Each call answers a code, which mustn't be left unread. Nothing throws. hlr.h tells what each call does, which codes
  * it answers, and what its caller owes; a call has the same name there, with hlr_ before it. In short:
- *   - One call at a time works on a store, so no call is const.
+ *   - One call at a time works on a store, and one on a part, so no call is const.
  *   - What a call writes by reference it writes where it answers code::done. Give it a value first, as
  *     hlrpp::subscriber row{}, and hand no call the same thing twice.
  *
@@ -47,6 +48,8 @@ enum class [[nodiscard]] code : std::uint8_t {
     many_pieces = HLR_MANY_PIECES,
     worn = HLR_WORN,
     many_parts = HLR_MANY_PARTS,
+    elsewhere = HLR_ELSEWHERE,
+    away = HLR_AWAY,
     not_open = HLR_NOT_OPEN,
     still_open = HLR_STILL_OPEN
 };
@@ -73,6 +76,8 @@ enum class [[nodiscard]] code : std::uint8_t {
     case code::many_pieces: return "ManyPieces";
     case code::worn: return "Worn";
     case code::many_parts: return "ManyParts";
+    case code::elsewhere: return "Elsewhere";
+    case code::away: return "Away";
     case code::not_open: return "NotOpen";
     case code::still_open: return "StillOpen";
     }
@@ -103,6 +108,74 @@ struct view {
 
 /* Which end store::give gives away: the subscribers below a number, or those from it on. */
 enum class side : std::uint64_t { low = 0, high = 1 };
+
+/* A part that is out, or a closed handle. */
+class part {
+public:
+    constexpr part() noexcept = default;
+    ~part() { leave(); }
+
+    part(const part &) = delete;
+    part &operator=(const part &) = delete;
+
+    part(part &&other) noexcept : handle_(other.handle_) { other.handle_ = HLR_CLOSED; }
+    part &operator=(part &&other) noexcept {
+        if (this != &other) {
+            leave();
+            handle_ = other.handle_;
+            other.handle_ = HLR_CLOSED;
+        }
+        return *this;
+    }
+
+    /* The handle, for calls of hlr.h. */
+    [[nodiscard]] hlr_part *handle() noexcept { return &handle_; }
+
+    code home() noexcept { return code{hlr_home(&handle_)}; }
+    code range(std::uint64_t &lo, std::uint64_t &hi) noexcept { return code{hlr_part_range(&handle_, &lo, &hi)}; }
+
+    /* Reads. */
+    code subscriber_data(std::uint64_t s_id, subscriber &row) noexcept {
+        return code{hlr_part_subscriber_data(&handle_, s_id, &row)};
+    }
+    code new_destination(std::uint64_t s_id, std::uint64_t sf_type, std::uint64_t start_time, std::uint64_t end_time,
+                         numbers &found) noexcept {
+        return code{hlr_part_new_destination(&handle_, s_id, sf_type, start_time, end_time, &found)};
+    }
+    code access_data(std::uint64_t s_id, std::uint64_t ai_type, access &row) noexcept {
+        return code{hlr_part_access_data(&handle_, s_id, ai_type, &row)};
+    }
+
+    /* Changes. */
+    code update_subscriber(std::uint64_t s_id, std::uint64_t sf_type, std::uint64_t bit_1, std::uint64_t data_a) noexcept {
+        return code{hlr_part_update_subscriber(&handle_, s_id, sf_type, bit_1, data_a)};
+    }
+    code update_location(std::uint64_t s_id, std::uint64_t vlr_location) noexcept {
+        return code{hlr_part_update_location(&handle_, s_id, vlr_location)};
+    }
+    code insert_forwarding(std::uint64_t s_id, std::uint64_t sf_type, std::uint64_t start_time, std::uint64_t end_time,
+                           std::uint64_t numberx) noexcept {
+        return code{hlr_part_insert_forwarding(&handle_, s_id, sf_type, start_time, end_time, numberx)};
+    }
+    code delete_forwarding(std::uint64_t s_id, std::uint64_t sf_type, std::uint64_t start_time) noexcept {
+        return code{hlr_part_delete_forwarding(&handle_, s_id, sf_type, start_time)};
+    }
+    code set_active(std::uint64_t s_id, std::uint64_t sf_type, std::uint64_t is_active) noexcept {
+        return code{hlr_part_set_active(&handle_, s_id, sf_type, is_active)};
+    }
+    code add_access(const access &row) noexcept { return code{hlr_part_add_access(&handle_, &row)}; }
+    code add_facility(const facility &row) noexcept { return code{hlr_part_add_facility(&handle_, &row)}; }
+
+    code post(std::uint64_t limit, std::uint64_t &posted) noexcept {
+        return code{hlr_part_post(&handle_, limit, &posted)};
+    }
+
+private:
+    /* Sends it home, where it is open. */
+    void leave() noexcept { hlr_home(&handle_); }
+
+    hlr_part handle_ = HLR_CLOSED;
+};
 
 class store {
 public:
@@ -195,6 +268,9 @@ public:
         return code{hlr_post(&handle_, part, limit, &posted)};
     }
     code views(view &now) noexcept { return code{hlr_views(&handle_, now.published.data(), now.unposted.data())}; }
+    code look(std::array<std::int64_t, cells> &published) noexcept {
+        return code{hlr_look(&handle_, published.data())};
+    }
     code scan(counts &found) noexcept { return code{hlr_scan(&handle_, found.data())}; }
 
     /* Parts. */
@@ -209,6 +285,10 @@ public:
     code regions(region_list &all) noexcept { return code{hlr_regions(&handle_, &all)}; }
     code propose(bounds &proposed) noexcept { return code{hlr_propose(&handle_, &proposed)}; }
     code recut(const bounds &wanted, std::uint64_t &moved) noexcept { return code{hlr_recut(&handle_, &wanted, &moved)}; }
+
+    /* Parts that are out. */
+    code lend(std::uint64_t number, part &owner) noexcept { return code{hlr_lend(&handle_, number, owner.handle())}; }
+    code back(std::uint64_t number) noexcept { return code{hlr_back(&handle_, number)}; }
 
 private:
     /* Codes, as hlr.h has them: a byte each. */

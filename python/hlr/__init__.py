@@ -27,16 +27,16 @@ where that isn't set, as libhlr.so.1 in this package and in the folder that has 
 finds libhlr.so.1. If it isn't found, ImportError is raised.
 """
 from .records import load, save
-from .refusals import (Code, Exists, Field, ManyParts, ManyPieces, Memory, Moving, NoAccess, NoDestination, NoFacility,
-                       NoForwarding, NoNumber, NoPart, NoPiece, NoSubscriber, NotAdjacent, NotOpen, NumberTaken,
-                       OutOfRange, Refused, StillOpen, Worn)
-from .register import CELLS, Access, Cell, Facility, Kind, Region, Register, Side, Subscriber
+from .refusals import (Away, Code, Elsewhere, Exists, Field, ManyParts, ManyPieces, Memory, Moving, NoAccess,
+                       NoDestination, NoFacility, NoForwarding, NoNumber, NoPart, NoPiece, NoSubscriber, NotAdjacent,
+                       NotOpen, NumberTaken, OutOfRange, Refused, StillOpen, Worn)
+from .register import CELLS, Access, Cell, Facility, Kind, Part, Region, Register, Side, Subscriber
 
 __version__ = "0.3.0"
 
 __all__ = [
-    "CELLS", "Access", "Cell", "Code", "Exists", "Facility", "Field", "Kind", "ManyParts", "ManyPieces", "Memory",
-    "Moving", "NoAccess", "NoDestination", "NoFacility", "NoForwarding", "NoNumber", "NoPart", "NoPiece",
-    "NoSubscriber", "NotAdjacent", "NotOpen", "NumberTaken", "OutOfRange", "Refused", "Region", "Register", "Side",
-    "StillOpen", "Subscriber", "Worn", "load", "save",
+    "CELLS", "Access", "Away", "Cell", "Code", "Elsewhere", "Exists", "Facility", "Field", "Kind", "ManyParts",
+    "ManyPieces", "Memory", "Moving", "NoAccess", "NoDestination", "NoFacility", "NoForwarding", "NoNumber", "NoPart",
+    "NoPiece", "NoSubscriber", "NotAdjacent", "NotOpen", "NumberTaken", "OutOfRange", "Part", "Refused", "Region",
+    "Register", "Side", "StillOpen", "Subscriber", "Worn", "load", "save",
 ]

@@ -13,6 +13,10 @@ class Handle(Structure):
     _fields_ = [("mark", c_uint64), ("address", c_void_p)]
 
 
+class PartHandle(Structure):
+    _fields_ = [("mark", c_uint64), ("address", c_void_p)]
+
+
 class SubscriberRow(Structure):
     _fields_ = [("s_id", c_uint64), ("sub_nbr", c_uint64), ("bits", c_uint8 * 10), ("hexes", c_uint8 * 10),
                 ("bytes", c_uint8 * 10), ("msc_location", c_uint64), ("vlr_location", c_uint64)]
@@ -78,6 +82,7 @@ _CALLS = {
     "hlr_set_number": [c_uint64, c_uint64],
     "hlr_post": [c_uint64, c_uint64, POINTER(c_uint64)],
     "hlr_views": [POINTER(c_int64 * CELLS), POINTER(c_int64 * CELLS)],
+    "hlr_look": [POINTER(c_int64 * CELLS)],
     "hlr_scan": [POINTER(c_uint64 * CELLS)],
     "hlr_give": [c_uint64, c_uint64, c_uint64, POINTER(RegionRow)],
     "hlr_take": [c_uint64, c_uint64],
@@ -86,6 +91,25 @@ _CALLS = {
     "hlr_regions": [POINTER(RegionList)],
     "hlr_propose": [POINTER(Bounds)],
     "hlr_recut": [POINTER(Bounds), POINTER(c_uint64)],
+    "hlr_lend": [c_uint64, POINTER(PartHandle)],
+    "hlr_back": [c_uint64],
+}
+
+# What each call on a part is passed behind its handle.
+_PART_CALLS = {
+    "hlr_home": [],
+    "hlr_part_range": [POINTER(c_uint64), POINTER(c_uint64)],
+    "hlr_part_subscriber_data": [c_uint64, POINTER(SubscriberRow)],
+    "hlr_part_new_destination": [c_uint64, c_uint64, c_uint64, c_uint64, POINTER(Numbers)],
+    "hlr_part_access_data": [c_uint64, c_uint64, POINTER(AccessRow)],
+    "hlr_part_update_subscriber": [c_uint64, c_uint64, c_uint64, c_uint64],
+    "hlr_part_update_location": [c_uint64, c_uint64],
+    "hlr_part_insert_forwarding": [c_uint64, c_uint64, c_uint64, c_uint64, c_uint64],
+    "hlr_part_delete_forwarding": [c_uint64, c_uint64, c_uint64],
+    "hlr_part_set_active": [c_uint64, c_uint64, c_uint64],
+    "hlr_part_add_access": [POINTER(AccessRow)],
+    "hlr_part_add_facility": [POINTER(FacilityRow)],
+    "hlr_part_post": [c_uint64, POINTER(c_uint64)],
 }
 
 
@@ -119,7 +143,9 @@ def library() -> ctypes.CDLL:
         loaded.hlr_open.argtypes = [c_uint64, c_uint64, POINTER(Handle)]
         for name, passed in _CALLS.items():
             getattr(loaded, name).argtypes = [POINTER(Handle), *passed]
-        for name in ("hlr_open", *_CALLS):
+        for name, passed in _PART_CALLS.items():
+            getattr(loaded, name).argtypes = [POINTER(PartHandle), *passed]
+        for name in ("hlr_open", *_CALLS, *_PART_CALLS):
             getattr(loaded, name).restype = c_uint8
     except (OSError, AttributeError) as fault:
         raise ImportError(f"hlr finds no library that it can use at {where!r} ({fault}): "

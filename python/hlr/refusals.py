@@ -25,6 +25,8 @@ class Code(enum.IntEnum):
     MANY_PIECES = 16
     WORN = 17
     MANY_PARTS = 22
+    ELSEWHERE = 252
+    AWAY = 253
     NOT_OPEN = 254
     STILL_OPEN = 255
 
@@ -143,8 +145,20 @@ class ManyParts(Refused):
     code = Code.MANY_PARTS
 
 
+class Elsewhere(Refused):
+    """the subscriber isn't in the part's range"""
+
+    code = Code.ELSEWHERE
+
+
+class Away(Refused):
+    """a part on which the call works is out; of back: it wasn't sent home yet"""
+
+    code = Code.AWAY
+
+
 class NotOpen(Refused):
-    """the register is closed"""
+    """the register is closed, or the part was sent home"""
 
     code = Code.NOT_OPEN
 

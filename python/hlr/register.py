@@ -1,4 +1,4 @@
-"""A register, its rows and its cells."""
+"""A register, its rows and its cells, and the parts that it lends."""
 import ctypes
 import enum
 import threading
@@ -167,13 +167,60 @@ def _ready(value: object) -> object:
     return _number(value)  # type: ignore[arg-type]
 
 
-class Register:
+class _Open:
+    """What has a handle of the library. A lock lets one call at a time through."""
+
+    _closing = "close"
+
+    def __init__(self) -> None:
+        self._lock = threading.RLock()
+        self._library = c.library()
+        self._handle: Any = None
+
+    def _named(self, name: str) -> str:
+        """What hlr.h names a call."""
+        return "hlr_" + name
+
+    def _call(self, name: str, *passed: object) -> None:
+        with self._lock:
+            handle = self._handle
+            if handle is None:
+                raise refusal(Code.NOT_OPEN, name)
+            try:
+                code = getattr(self._library, self._named(name))(handle, *map(_ready, passed))
+            except ctypes.ArgumentError:
+                raise TypeError(f"{name}: an argument is of another type than its hint") from None
+            if name == self._closing:
+                self._handle = None
+        if code != Code.DONE:
+            raise refusal(code, name)
+
+    def _enter(self) -> None:
+        if self._handle is None:
+            raise refusal(Code.NOT_OPEN, "with")
+
+    def __exit__(self, *_: object) -> None:
+        try:
+            self._call(self._closing)
+        except NotOpen:
+            pass
+
+    def __del__(self) -> None:
+        if getattr(self, "_handle", None) is not None:
+            self._call(self._closing)
+
+    def __reduce__(self) -> str:
+        raise TypeError("a register or a part can't be copied or pickled")
+
+
+class Register(_Open):
     """A register. `parts`, 1 to 16, share its subscribers, in 32 zones of `width` subscribers each, 1 to 524288.
 
     It is closed by `close`, or as its `with` ends; each call on a closed one raises NotOpen.
 
     Threads may share a register: a lock lets one call at a time through. What doesn't call it runs on meanwhile, as a
-    call lets go of the interpreter's lock.
+    call lets go of the interpreter's lock. `lend` gives a thread a part for itself; a call on the register that works
+    on that part raises Away then.
 
     Each call tells what it raises; of several that apply, it is the first one. A number that is negative or has no room
     in 64 bits is refused with Field by each call, as is one out of its range: s_id 1 to 16777216; sub_nbr and numberx
@@ -184,36 +231,20 @@ class Register:
     >>> register.close()
     >>> register.scan()
     Traceback (most recent call last):
-    hlr.refusals.NotOpen: scan: the register is closed
+    hlr.refusals.NotOpen: scan: the register is closed, or the part was sent home
     """
 
     def __init__(self, parts: int = 1, width: int = 524288) -> None:
         """Opens an empty register. Raises Field or Memory."""
-        self._lock = threading.RLock()
-        self._library = c.library()
-        self._handle: Optional[c.Handle] = None
+        super().__init__()
         handle = c.Handle()
         code = self._library.hlr_open(_number(parts), _number(width), handle)
         if code != Code.DONE:
             raise refusal(code, "open")
         self._handle = handle
 
-    def _call(self, name: str, *passed: object) -> None:
-        with self._lock:
-            handle = self._handle
-            if handle is None:
-                raise refusal(Code.NOT_OPEN, name)
-            try:
-                code = getattr(self._library, "hlr_" + name)(handle, *map(_ready, passed))
-            except ctypes.ArgumentError:
-                raise TypeError(f"{name}: an argument is of another type than its hint") from None
-            if name == "close":
-                self._handle = None
-        if code != Code.DONE:
-            raise refusal(code, name)
-
     def close(self) -> None:
-        """Gives back all memory of the register."""
+        """Gives back all memory of the register. Parts that are out go on."""
         self._call("close")
 
     def held(self) -> ContextManager[Any]:
@@ -223,25 +254,11 @@ class Register:
         return self._lock
 
     def __enter__(self) -> "Register":
-        if self._handle is None:
-            raise refusal(Code.NOT_OPEN, "with")
+        self._enter()
         return self
 
-    def __exit__(self, *_: object) -> None:
-        try:
-            self.close()
-        except NotOpen:
-            pass
-
-    def __del__(self) -> None:
-        if getattr(self, "_handle", None) is not None:
-            self.close()
-
-    def __reduce__(self) -> str:
-        raise TypeError("a register can't be copied or pickled")
-
     def subscriber_data(self, s_id: int) -> Subscriber:
-        """GET_SUBSCRIBER_DATA: reads a row. Raises Field, Moving, NoSubscriber.
+        """GET_SUBSCRIBER_DATA: reads a row. Raises Field, Moving, Away, NoSubscriber.
 
         >>> with Register() as register:
         ...     register.add_subscriber(Subscriber(7, 77, bits=bytes([1, 0, 0, 0, 0, 0, 0, 0, 0, 1])))
@@ -255,7 +272,7 @@ class Register:
 
     def new_destination(self, s_id: int, sf_type: int, start_time: int, end_time: int) -> List[int]:
         """GET_NEW_DESTINATION: tells the numbers that an active facility forwards to, of its forwardings that start by
-        start_time and end after end_time, by their start. Raises Field, Moving, NoDestination.
+        start_time and end after end_time, by their start. Raises Field, Moving, Away, NoDestination.
 
         >>> with Register() as register:
         ...     register.add_subscriber(Subscriber(7, 77))
@@ -269,7 +286,7 @@ class Register:
         return _listed(numbers)
 
     def access_data(self, s_id: int, ai_type: int) -> Access:
-        """GET_ACCESS_DATA: reads a row. Raises Field, Moving, NoAccess.
+        """GET_ACCESS_DATA: reads a row. Raises Field, Moving, Away, NoAccess.
 
         >>> with Register() as register:
         ...     register.add_subscriber(Subscriber(7, 77))
@@ -288,19 +305,20 @@ class Register:
         return s_id.value
 
     def facility_data(self, s_id: int, sf_type: int) -> Facility:
-        """Reads a row. Raises Field, Moving, NoFacility."""
+        """Reads a row. Raises Field, Moving, Away, NoFacility."""
         row = c.FacilityRow()
         self._call("facility_data", s_id, sf_type, row)
         return _facility(row)
 
     def forwarding(self, s_id: int, sf_type: int, start_time: int) -> Tuple[int, int]:
-        """Tells the end_time and the numberx of a facility's forwarding. Raises Field, Moving, NoForwarding."""
+        """Tells the end_time and the numberx of a facility's forwarding. Raises Field, Moving, Away,
+        NoForwarding."""
         end_time, numberx = ctypes.c_uint64(), ctypes.c_uint64()
         self._call("forwarding", s_id, sf_type, start_time, end_time, numberx)
         return end_time.value, numberx.value
 
     def next_subscriber(self, s_id: int) -> Subscriber:
-        """Reads the first row with an s_id from this one on. Raises NoSubscriber.
+        """Reads the first row with an s_id from this one on. Raises Away, NoSubscriber.
 
         >>> with Register() as register:
         ...     register.add_subscriber(Subscriber(7, 77))
@@ -313,7 +331,7 @@ class Register:
 
     def subscriber_data_many(self, s_ids: Sequence[int]) -> List[Union[Subscriber, Refused]]:
         """Reads many rows in one call: for each s_id the row, or the exception that `subscriber_data` raises. None
-        is read where a number is negative or has no room in 64 bits. Raises Field.
+        is read where a number is negative or has no room in 64 bits, or any part is out. Raises Away, Field.
 
         >>> with Register() as register:
         ...     register.add_subscriber(Subscriber(7, 77))
@@ -325,12 +343,12 @@ class Register:
 
     def new_destination_many(self, asked: Sequence[Tuple[int, int, int, int]]) -> List[Union[List[int], Refused]]:
         """Reads many numbers in one call: for each s_id, sf_type, start_time and end_time the numbers, or the exception
-        that `new_destination` raises. Raises Field."""
+        that `new_destination` raises. Raises Away, Field."""
         return self._many("new_destination", c.DestinationAsked, asked, c.Numbers, _listed)
 
     def access_data_many(self, asked: Sequence[Tuple[int, int]]) -> List[Union[Access, Refused]]:
         """Reads many rows in one call: for each s_id and ai_type the row, or the exception that `access_data` raises.
-        Raises Field."""
+        Raises Away, Field."""
         return self._many("access_data", c.AccessAsked, asked, c.AccessRow, _access)
 
     def _many(self, name: str, question: Any, asked: Sequence[Tuple[int, ...]], answer: Any, told: Any) -> List[Any]:
@@ -349,47 +367,48 @@ class Register:
 
     def update_subscriber(self, s_id: int, sf_type: int, bit_1: int, data_a: int) -> None:
         """UPDATE_SUBSCRIBER_DATA: sets bit_1 of the subscriber and data_a of the facility, or neither. Raises Field,
-        Moving, NoSubscriber, NoFacility."""
+        Moving, Away, NoSubscriber, NoFacility."""
         self._call("update_subscriber", s_id, sf_type, bit_1, data_a)
 
     def update_location(self, sub_nbr: int, vlr_location: int) -> None:
-        """UPDATE_LOCATION: moves the subscriber with a number. Raises Field, NoNumber, Moving."""
+        """UPDATE_LOCATION: moves the subscriber with a number. Raises Field, NoNumber, Moving, Away."""
         self._call("update_location", sub_nbr, vlr_location)
 
     def insert_forwarding(self, sub_nbr: int, sf_type: int, start_time: int, end_time: int, numberx: int) -> None:
         """INSERT_CALL_FORWARDING: adds a forwarding of the subscriber with a number, to numberx. Raises Field,
-        NoNumber, Moving, NoFacility, Exists, Memory."""
+        NoNumber, Moving, Away, NoFacility, Exists, Memory."""
         self._call("insert_forwarding", sub_nbr, sf_type, start_time, end_time, numberx)
 
     def delete_forwarding(self, sub_nbr: int, sf_type: int, start_time: int) -> None:
         """DELETE_CALL_FORWARDING: takes a forwarding away from the subscriber with a number. Raises Field, NoNumber,
-        Moving, NoForwarding."""
+        Moving, Away, NoForwarding."""
         self._call("delete_forwarding", sub_nbr, sf_type, start_time)
 
     def add_subscriber(self, row: Subscriber) -> None:
-        """Adds a row. Raises Field, Moving, Exists, NumberTaken, Memory."""
+        """Adds a row. Raises Field, Moving, Away, Exists, NumberTaken, Memory."""
         self._call("add_subscriber", row)
 
     def add_access(self, row: Access) -> None:
-        """Adds a row. Raises Field, Moving, NoSubscriber, Exists, Memory."""
+        """Adds a row. Raises Field, Moving, Away, NoSubscriber, Exists, Memory."""
         self._call("add_access", row)
 
     def add_facility(self, row: Facility) -> None:
-        """Adds a row. Raises Field, Moving, NoSubscriber, Exists, Memory."""
+        """Adds a row. Raises Field, Moving, Away, NoSubscriber, Exists, Memory."""
         self._call("add_facility", row)
 
     def set_active(self, s_id: int, sf_type: int, is_active: bool) -> None:
-        """Switches a facility on or off, and with it all its forwardings. Raises Field, Moving, NoFacility."""
+        """Switches a facility on or off, and with it all its forwardings. Raises Field, Moving, Away,
+        NoFacility."""
         self._call("set_active", s_id, sf_type, is_active)
 
     def set_number(self, s_id: int, sub_nbr: int) -> None:
         """Gives a subscriber another number; nothing changes where it is the one that stands. Raises Field, Moving,
-        NoSubscriber, NumberTaken, Memory."""
+        Away, NoSubscriber, NumberTaken, Memory."""
         self._call("set_number", s_id, sub_nbr)
 
     def post(self, part: int, limit: int = CELLS) -> int:
-        """Posts the first limit cells of a part that aren't posted, and tells how many were. Raises NoPart, Worn; after
-        Worn the cells that were posted before stand.
+        """Posts the first limit cells of a part that aren't posted, and tells how many were. Raises NoPart, Away, Worn;
+        after Worn the cells that were posted before stand.
 
         >>> with Register() as register:
         ...     register.add_subscriber(Subscriber(7, 77))
@@ -401,7 +420,7 @@ class Register:
         return posted.value
 
     def views(self) -> Tuple[List[int], List[int]]:
-        """Tells each cell as published, and what isn't posted of it yet. No row is read.
+        """Tells each cell as published, and what isn't posted of it yet. No row is read. Raises Away.
 
         >>> with Register() as register:
         ...     register.add_subscriber(Subscriber(7, 77))
@@ -414,7 +433,7 @@ class Register:
         return list(published), list(unposted)
 
     def cells(self) -> Iterator[Cell]:
-        """Tells the cells of `views`, by their names.
+        """Tells the cells of `views`, by their names. Raises Away.
 
         >>> with Register() as register:
         ...     names = [cell.name for cell in register.cells()]
@@ -424,15 +443,31 @@ class Register:
         published, unposted = self.views()
         return (Cell(number, *_NAMES[number], published[number], unposted[number]) for number in range(CELLS))
 
+    def look(self) -> List[int]:
+        """Tells each cell as published now, whichever parts are out. Parts post meanwhile, so the cells are of no one moment.
+
+        >>> with Register() as register:
+        ...     register.add_subscriber(Subscriber(7, 77))
+        ...     with register.lend(0) as part:
+        ...         part.post()
+        ...         register.look()[24]
+        2
+        1
+        """
+        published = (ctypes.c_int64 * CELLS)()
+        self._call("look", published)
+        return list(published)
+
     def scan(self) -> List[int]:
-        """Counts each cell anew, by a walk over all rows."""
+        """Counts each cell anew, by a walk over all rows. Raises Away."""
         counts = (ctypes.c_uint64 * CELLS)()
         self._call("scan", counts)
         return list(counts)
 
     def give(self, part: int, side: int, at: int) -> Region:
         """Has a part give away its subscribers below at (Side.LOW) or from at on (Side.HIGH), as a loose piece. While
-        it is loose, its subscribers are answered Moving. Raises Field, NoPart, OutOfRange, ManyPieces, Memory.
+        it is loose, its subscribers are answered Moving. Raises Field, NoPart, Away, OutOfRange, ManyPieces,
+        Memory.
 
         >>> with Register(parts=2, width=4) as register:
         ...     register.give(0, Side.HIGH, 5)
@@ -446,19 +481,19 @@ class Register:
         return _region(given)
 
     def take(self, piece: int, part: int) -> None:
-        """Has a part take a loose piece that touches it. Raises NoPiece, NoPart, NotAdjacent, Memory."""
+        """Has a part take a loose piece that touches it. Raises Away, NoPiece, NoPart, NotAdjacent, Memory."""
         self._call("take", piece, part)
 
     def divide(self, part: int, at: int) -> Region:
         """Divides a part: it keeps what is below at, and a new part with the next number has the rest. Later parts'
-        numbers rise by one. Tells the new part. Raises NoPart, OutOfRange, ManyParts, Memory."""
+        numbers rise by one. Tells the new part. Raises NoPart, Away, OutOfRange, ManyParts, Memory."""
         made = c.RegionRow()
         self._call("divide", part, at, made)
         return _region(made)
 
     def dissolve(self, part: int) -> Region:
         """Dissolves a part: the part in front has its rows. Later parts' numbers fall by one. Tells the part in front
-        as it is then. Raises NoPart, NotAdjacent, Memory."""
+        as it is then. Raises Away, NoPart, NotAdjacent, Memory."""
         front = c.RegionRow()
         self._call("dissolve", part, front)
         return _region(front)
@@ -476,15 +511,15 @@ class Register:
 
     def propose(self) -> List[int]:
         """Tells the bounds between zones that would give each part about its share of the rows, as they are published:
-        post every part first."""
+        post every part first. Raises Away."""
         bounds = c.Bounds()
         self._call("propose", bounds)
         return list(bounds.bounds[:bounds.count])
 
     def recut(self, bounds: Sequence[int]) -> int:
         """Moves the bounds between parts to these, and tells how many were moved. A bound is the first subscriber of a
-        part but the first. Raises Field, Moving, Memory; after Memory the moves that were done stand, and the piece of
-        the next one may be loose.
+        part but the first. Raises Field, Moving, Away, Memory; after Memory the moves that were done stand, and the
+        piece of the next one may be loose.
 
         >>> with Register(parts=2, width=4) as register:
         ...     register.recut([9]), register.recut([9])
@@ -493,3 +528,109 @@ class Register:
         moved = ctypes.c_uint64()
         self._call("recut", list(bounds), moved)
         return moved.value
+
+    def lend(self, part: int) -> "Part":
+        """Lends a part, which then works in whatever thread. Raises NoPart, Away, Memory.
+
+        >>> with Register(parts=2) as register:
+        ...     register.add_subscriber(Subscriber(7, 77))
+        ...     with register.lend(0) as part:
+        ...         part.update_location(7, 268435456)
+        ...     register.back(0)
+        ...     register.subscriber_data(7).vlr_location
+        268435456
+        """
+        handle = c.PartHandle()
+        self._call("lend", part, handle)
+        return Part(handle)
+
+    def back(self, part: int) -> None:
+        """Takes a part in that was sent home; nothing is done where it is at home already. Raises NoPart, Away."""
+        self._call("back", part)
+
+
+class Part(_Open):
+    """A part that is out, as `Register.lend` gives it: the calls on its rows, by s_id, for whatever thread.
+
+    It is sent home by `home`, or as its `with` ends; each call on it raises NotOpen then. The register may be closed
+    before. Numbers and rows are refused as a register refuses them.
+    """
+
+    _closing = "home"
+
+    def __init__(self, handle: c.PartHandle) -> None:
+        """Has a part that a register lent."""
+        super().__init__()
+        self._handle = handle
+
+    def _named(self, name: str) -> str:
+        return "hlr_home" if name == "home" else "hlr_part_" + name
+
+    def __enter__(self) -> "Part":
+        self._enter()
+        return self
+
+    def home(self) -> None:
+        """Sends the part home, where `Register.back` takes it in."""
+        self._call("home")
+
+    def range(self) -> Tuple[int, int]:
+        """The first subscriber of the part, and the number behind the last one. They stay while it is out."""
+        lo, hi = ctypes.c_uint64(), ctypes.c_uint64()
+        self._call("range", lo, hi)
+        return lo.value, hi.value
+
+    def subscriber_data(self, s_id: int) -> Subscriber:
+        """GET_SUBSCRIBER_DATA: reads a row. Raises Field, Elsewhere, NoSubscriber."""
+        row = c.SubscriberRow()
+        self._call("subscriber_data", s_id, row)
+        return _subscriber(row)
+
+    def new_destination(self, s_id: int, sf_type: int, start_time: int, end_time: int) -> List[int]:
+        """GET_NEW_DESTINATION: the numbers that an active facility forwards to. Raises Field, Elsewhere,
+        NoDestination."""
+        numbers = c.Numbers()
+        self._call("new_destination", s_id, sf_type, start_time, end_time, numbers)
+        return _listed(numbers)
+
+    def access_data(self, s_id: int, ai_type: int) -> Access:
+        """GET_ACCESS_DATA: reads a row. Raises Field, Elsewhere, NoAccess."""
+        row = c.AccessRow()
+        self._call("access_data", s_id, ai_type, row)
+        return _access(row)
+
+    def update_subscriber(self, s_id: int, sf_type: int, bit_1: int, data_a: int) -> None:
+        """UPDATE_SUBSCRIBER_DATA: sets bit_1 of the subscriber and data_a of the facility, or neither. Raises Field,
+        Elsewhere, NoSubscriber, NoFacility."""
+        self._call("update_subscriber", s_id, sf_type, bit_1, data_a)
+
+    def update_location(self, s_id: int, vlr_location: int) -> None:
+        """UPDATE_LOCATION: moves a subscriber. Raises Field, Elsewhere, NoSubscriber."""
+        self._call("update_location", s_id, vlr_location)
+
+    def insert_forwarding(self, s_id: int, sf_type: int, start_time: int, end_time: int, numberx: int) -> None:
+        """INSERT_CALL_FORWARDING: adds a forwarding to numberx. Raises Field, Elsewhere, NoFacility, Exists, Memory."""
+        self._call("insert_forwarding", s_id, sf_type, start_time, end_time, numberx)
+
+    def delete_forwarding(self, s_id: int, sf_type: int, start_time: int) -> None:
+        """DELETE_CALL_FORWARDING: takes a forwarding away. Raises Field, Elsewhere, NoForwarding."""
+        self._call("delete_forwarding", s_id, sf_type, start_time)
+
+    def set_active(self, s_id: int, sf_type: int, is_active: bool) -> None:
+        """Switches a facility on or off, and with it all its forwardings. Raises Field, Elsewhere, NoFacility."""
+        self._call("set_active", s_id, sf_type, is_active)
+
+    def add_access(self, row: Access) -> None:
+        """Adds a row. Raises Field, Elsewhere, NoSubscriber, Exists, Memory."""
+        self._call("add_access", row)
+
+    def add_facility(self, row: Facility) -> None:
+        """Adds a row. Raises Field, Elsewhere, NoSubscriber, Exists, Memory."""
+        self._call("add_facility", row)
+
+    def post(self, limit: int = CELLS) -> int:
+        """Posts the first limit cells of the part that aren't posted, and tells how many were. Raises Worn; after it
+        the cells that were posted before stand."""
+        posted = ctypes.c_uint64()
+        self._call("post", limit, posted)
+        return posted.value

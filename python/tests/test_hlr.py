@@ -22,7 +22,7 @@ import hlr.library
 import hlr.records
 import hlr.refusals
 import hlr.register
-from hlr import Access, Facility, Region, Register, Side, Subscriber
+from hlr import Access, Facility, Part, Region, Register, Side, Subscriber
 
 PYTHON = pathlib.Path(__file__).resolve().parent.parent
 CRATES = PYTHON.parent / "crates"
@@ -57,6 +57,13 @@ def filled(**options):
     return register
 
 
+def method(name):
+    """The method of a call of hlr.h, by its name there without hlr_."""
+    if name == "home":
+        return Part.home
+    return getattr(Part, name[len("part_"):]) if name.startswith("part_") else getattr(Register, name)
+
+
 class Alike(unittest.TestCase):
     """What the package says again is what its sources say."""
 
@@ -78,9 +85,10 @@ class Alike(unittest.TestCase):
                  "hlr_access_asked": "AccessAsked", "hlr_destination_asked": "DestinationAsked",
                  "hlr_subscriber": "SubscriberRow", "hlr_access": "AccessRow",
                  "hlr_facility": "FacilityRow", "hlr_numbers": "Numbers", "hlr_region": "RegionRow",
-                 "hlr_region_list": "RegionList", "hlr_bounds": "Bounds", "hlr": "Handle"}
+                 "hlr_region_list": "RegionList", "hlr_bounds": "Bounds", "hlr": "Handle",
+                 "hlr_part": "PartHandle"}
         told = re.findall(r"^uint8_t (hlr_[a-z_]+)\(([^)]*)\);", HEADER.read_text(), re.M)
-        self.assertEqual(len(told), 31)
+        self.assertEqual(len(told), 47)
         library = hlr.library.library()
         for name, parameters in told:
             wanted = []
@@ -92,20 +100,22 @@ class Alike(unittest.TestCase):
                     wanted.append(("LP_" if star else "") + types[base])
             self.assertEqual([each.__name__ for each in getattr(library, name).argtypes], wanted, name)
             if name not in ("hlr_open", "hlr_close"):
-                self.assertTrue(callable(getattr(Register, name[len("hlr_"):])))
+                self.assertTrue(callable(method(name[len("hlr_"):])))
 
     def test_refusals(self):
         told = re.findall(r"^ \* Refusals: ([A-Z_, ]+|none)\n \*/\nuint8_t hlr_([a-z_]+)\(", HEADER.read_text(), re.M)
-        self.assertEqual(len(told), 31)
+        self.assertEqual(len(told), 47)
         for refusals, name in told:
             if name != "open":
-                text = " ".join(inspect.getdoc(getattr(Register, name)).split())
+                text = " ".join(inspect.getdoc(method(name)).split())
                 said = re.search(r"Raises ((?:\w+, )*\w+)[.;]", text)
                 names = [getattr(hlr, each).code.name for each in said.group(1).split(", ")] if said else ["none"]
+                if name == "lend":
+                    refusals = refusals.replace("STILL_OPEN, ", "")  # each lend makes a handle
                 self.assertEqual(", ".join(names), refusals, name)
 
     def test_hints(self):
-        for name, call in vars(Register).items():
+        for name, call in [*vars(Register).items(), *vars(Part).items()]:
             if not name.startswith("_"):
                 self.assertTrue(inspect.getdoc(call), name)
                 self.assertEqual(set(typing.get_type_hints(call)) - {"return"},
@@ -206,6 +216,35 @@ class Calls(unittest.TestCase):
             self.assertEqual(register.propose(), [9])
             self.assertEqual(register.recut((9,)), 1)
             self.assertEqual(register.regions(), [Region(1, 9, False, 0), Region(9, END, False, 1)])
+
+    def test_lent(self):
+        with filled(parts=2, width=4) as register:
+            register.add_subscriber(Subscriber(70, 70))
+            with register.lend(0) as part:
+                self.assertEqual(part.range(), (1, 65))
+                part.add_access(Access(7, 2))
+                part.add_facility(Facility(7, 3))
+                part.insert_forwarding(7, 3, 0, 24, 5)
+                part.update_subscriber(7, 3, 1, 9)
+                part.update_location(7, 1)
+                part.set_active(7, 2, False)
+                part.delete_forwarding(7, 2, 8)
+                self.assertEqual(part.access_data(7, 2), Access(7, 2))
+                self.assertEqual(part.new_destination(7, 3, 8, 12), [5])
+                self.assertEqual(part.subscriber_data(7).vlr_location, 1)
+                self.assertEqual(register.look(), [0] * 72)
+                part.post()
+                register.update_location(70, 1 << 28)
+                self.assertEqual(register.look()[:26], [1] * 24 + [1, 0])
+            self.assertRaises(hlr.NotOpen, part.post)
+            self.assertRaises(hlr.Away, register.subscriber_data, 7)
+            register.back(0)
+            register.back(0)
+            self.assertEqual(register.subscriber_data(7).vlr_location, 1)
+            self.assertEqual([sum(both) for both in zip(*register.views())], register.scan())
+            left = register.lend(1)
+        self.assertEqual(left.subscriber_data(70).vlr_location, 1 << 28)
+        del left
 
     def test_mixed(self):
         chance = random.Random(7)
@@ -323,6 +362,27 @@ class Refusals(unittest.TestCase):
         with Register(parts=16) as r:
             self.refused(hlr.ManyParts, r.divide, 0, 2)
 
+    def test_away(self):
+        with filled(parts=2, width=4) as r, r.lend(0) as part:
+            self.refused(hlr.Away, r.back, 0)
+            self.refused(hlr.NoPart, r.back, 2)
+            self.refused(hlr.Away, r.lend, 0)
+            self.refused(hlr.NoPart, r.lend, 2)
+            self.refused(hlr.Field, r.access_data, 7, 5)
+            self.refused(hlr.NoNumber, r.update_location, 78, 1)
+            for call, asked in ((r.subscriber_data, (7,)), (r.update_location, (77, 1)), (r.facility_data, (7, 2)),
+                                (r.add_subscriber, (Subscriber(8, 8),)), (r.set_number, (7, 8)), (r.post, (0,)),
+                                (r.give, (0, 1, 5)), (r.take, (1, 0)), (r.divide, (0, 5)), (r.dissolve, (1,)),
+                                (r.recut, ([5],)), (r.views, ()), (r.scan, ()), (r.propose, ()),
+                                (r.next_subscriber, (1,)), (r.subscriber_data_many, ([70],))):
+                self.refused(hlr.Away, call, *asked)
+            self.assertEqual(r.find(77), 7)
+            self.refused(hlr.Elsewhere, part.subscriber_data, 65)
+            self.refused(hlr.Field, part.access_data, 65, 5)
+            self.refused(hlr.Elsewhere, part.update_location, 65, 1)
+            self.refused(hlr.Field, part.update_location, 65, 0)
+            self.refused(hlr.NoSubscriber, part.update_location, 64, 1)
+
     def test_memory(self):
         status, out, err = python("-c", """if True:
             import resource, hlr
@@ -346,11 +406,15 @@ class Refusals(unittest.TestCase):
         calls = {"add_subscriber": (Subscriber(-1, 7),), "add_access": (Access(7, 1, data3=""),),
                  "add_facility": (Facility(7, 1),), "recut": ([],), "subscriber_data_many": ([1 << 70],),
                  "new_destination_many": ([(1 << 70, 1, 0, 1)],), "access_data_many": ([(1 << 70, 1)],)}
-        for name, call in inspect.getmembers(register, inspect.ismethod):
-            if not name.startswith("_"):
-                count = sum(each.default is each.empty for each in inspect.signature(call).parameters.values())
-                self.refused(hlr.NotOpen, call, *calls.get(name, [1 << 70] * count))
-        self.refused(hlr.NotOpen, register.__enter__)
+        with Register() as other:
+            part = other.lend(0)
+            part.home()
+        for closed in (register, part):
+            for name, call in inspect.getmembers(closed, inspect.ismethod):
+                if not name.startswith("_"):
+                    count = sum(each.default is each.empty for each in inspect.signature(call).parameters.values())
+                    self.refused(hlr.NotOpen, call, *calls.get(name, [1 << 70] * count))
+            self.refused(hlr.NotOpen, closed.__enter__)
         with Register() as register:
             register.close()
             self.refused(hlr.NotOpen, register.close)
@@ -447,6 +511,38 @@ class Many(unittest.TestCase):
             self.assertEqual(faults, [])
             self.assertEqual(register.scan()[24:40], [250] * 16)
             self.assertEqual([sum(both) for both in zip(*register.views())], register.scan())
+
+    def test_lent(self):
+        faults = []
+
+        def work(part, first):
+            try:
+                with part:
+                    for _ in range(200):
+                        for s_id in range(first, first + 4):
+                            before = part.subscriber_data(s_id).vlr_location
+                            part.update_location(s_id, (before + (1 << 28)) % (1 << 32))
+                        part.post()
+            except Exception as fault:
+                faults.append(fault)
+
+        with Register(parts=4, width=4) as register:
+            for at in range(16):
+                s_id = 1 + at // 4 * 32 + at % 4
+                register.add_subscriber(Subscriber(s_id, s_id))
+            threads = [threading.Thread(target=work, args=(register.lend(number), 1 + number * 32))
+                       for number in range(4)]
+            for thread in threads:
+                thread.start()
+            while any(thread.is_alive() for thread in threads):
+                register.look()
+            for thread in threads:
+                thread.join()
+            for number in range(4):
+                register.back(number)
+            self.assertEqual(faults, [])
+            self.assertEqual([sum(both) for both in zip(*register.views())], register.scan())
+            self.assertEqual(sum(register.scan()[24:40]), 16)
 
     def test_closed_beside(self):
         for _ in range(20):

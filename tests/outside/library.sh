@@ -15,7 +15,7 @@ headers() {
     printf '#include "hlr.h"\nhlr handle = HLR_CLOSED;\n' > "$room/header.cc"
     is 'hlr.h is read by C++' "$(g++ -Wall -Wextra -Werror -fsyntax-only -Icrates/hlr_c "$room/header.cc" 2>&1; echo "$?")" 0
   fi
-  awk -f "$in_library/layout.awk" crates/hlr_c/src/{rows,kept,handle,codes}.rt crates/tatp_rows/src/refusal.rt \
+  awk -f "$in_library/layout.awk" crates/hlr_c/src/{rows,kept,kept_part,handle,part,codes}.rt crates/tatp_rows/src/refusal.rt \
     crates/tatp_actions/src/cells.rt > "$room/layout.h"
   is "hlr.h has the library's layout" "$(gcc -std=c11 -Wall -Wextra -Werror -fsyntax-only -I"$room" -Icrates/hlr_c "$in_library/layout.c" 2>&1; echo "$?")" 0
   awk -f "$in_library/calls.awk" "$header" | sort > "$room/declared"
@@ -49,6 +49,15 @@ clients() {
   if client handed "$in_library/handed.c"; then ended 'a handle that is handed over' <(echo 0 1000 1000 0 254) "$room/handed"; fi
 }
 
+# Parts that are lent to threads, by two registers, and without memory: as it is, and under valgrind.
+lent() {
+  client lent "$in_library/lent.c" -Wl,--wrap=malloc,--wrap=realloc || return
+  ended 'parts that are lent' /dev/null "$room/lent"
+  if tool valgrind 'parts that are lent under it'; then
+    ended 'parts that are lent under valgrind' /dev/null valgrind -q --leak-check=full --error-exitcode=9 "$room/lent"
+  fi
+}
+
 # A register is saved as records, which the client itself and the program load again: each record is as it was.
 saved() {
   tool python3 'a register that is saved' || return
@@ -79,6 +88,7 @@ headers
 archive_built || finish
 days
 clients
+lent
 saved
 python
 finish

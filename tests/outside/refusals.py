@@ -23,7 +23,20 @@ NO_COMMAND = {
     "hlr_subscriber_data_many": ["FIELD"], "hlr_new_destination_many": ["FIELD"], "hlr_access_data_many": ["FIELD"],
     "hlr_find": ["FIELD", "NO_NUMBER"], "hlr_facility_data": ["FIELD", "MOVING", "NO_FACILITY"],
     "hlr_forwarding": ["FIELD", "MOVING", "NO_FORWARDING"], "hlr_next_subscriber": ["NO_SUBSCRIBER"],
+    "hlr_look": [], "hlr_lend": ["STILL_OPEN", "NO_PART", "MEMORY"], "hlr_back": ["NO_PART"], "hlr_home": [],
+    "hlr_part_range": [],
 }
+# The program lends no part. Of a call that works on one that may be out, AWAY comes behind these, where it has them.
+BEFORE_AWAY = {"STILL_OPEN", "FIELD", "NO_NUMBER", "NO_PART", "MOVING"}
+# These two ask for a part that may be out beside one that isn't there, and the calls of many for all parts.
+AWAY_FIRST = {"hlr_take", "hlr_dissolve", "hlr_subscriber_data_many", "hlr_new_destination_many", "hlr_access_data_many"}
+NEVER_AWAY = {"hlr_open", "hlr_close", "hlr_find", "hlr_look", "hlr_regions", "hlr_home", "hlr_part_range"}
+# The calls on a part, each with that on a register of which it has the refusals but for these, and ELSEWHERE behind FIELD.
+NOT_OF_PARTS = {"NO_NUMBER", "MOVING", "AWAY", "NO_PART"}
+PART_CALLS = ["subscriber_data", "new_destination", "access_data", "update_subscriber", "update_location",
+              "insert_forwarding", "delete_forwarding", "set_active", "add_access", "add_facility", "post"]
+# Codes of calls alone.
+OWN_CODES = {"ELSEWHERE", "AWAY", "NOT_OPEN", "STILL_OPEN"}
 # A record's number may have more than 64 bits, which is refused Field; a call's number can't.
 ANY_NUMBER = {"post", "take", "divide", "dissolve"}
 
@@ -55,6 +68,27 @@ def expect(what, found, wanted):
         wrong.append(f"{what}: {found}, and not {wanted}")
 
 
+def without_away(call, order):
+    """A call's refusals without AWAY, which stands where it ought to."""
+    if (call in NEVER_AWAY) != ("AWAY" not in order):
+        wrong.append(f"{call} tells AWAY, or doesn't, in hlr.h")
+    behind = [it for it in order if it in BEFORE_AWAY]
+    if "AWAY" in order and order.index("AWAY") != (0 if call in AWAY_FIRST else len(behind)):
+        wrong.append(f"{call} tells AWAY elsewhere in hlr.h: {order}")
+    return [it for it in order if it != "AWAY"]
+
+
+def expect_parts(calls):
+    """The refusals of the calls on parts are those of a register's calls."""
+    for name in PART_CALLS:
+        wanted = [it for it in calls["hlr_" + name] if it not in NOT_OF_PARTS]
+        if "FIELD" in wanted:
+            wanted.insert(1, "ELSEWHERE")
+        if name == "update_location":
+            wanted.append("NO_SUBSCRIBER")
+        expect(f"the refusals of hlr_part_{name} in hlr.h", calls.pop("hlr_part_" + name, None), wanted)
+
+
 def main():
     records, header, said = (open(it, encoding="utf-8").read() for it in sys.argv[1:])
     orders, calls = orders_of_records(records), orders_of_calls(header)
@@ -63,9 +97,10 @@ def main():
         left_out = {"Syntax", "Field"} if command in ANY_NUMBER else {"Syntax"}
         wanted[call] = [snake(it) for it in orders.get(command, []) if it not in left_out]
     expect("the commands of RECORDS.md", sorted(orders), sorted([*CALLS, *NO_CALL]))
+    expect_parts(calls)
     expect("the calls of hlr.h", sorted(calls), sorted(wanted))
     for call in sorted(set(calls) & set(wanted)):
-        expect(f"the refusals of {call} in hlr.h", calls[call], wanted[call])
+        expect(f"the refusals of {call} in hlr.h", without_away(call, calls[call]), wanted[call])
     listed = set(re.findall(r"^  ([a-z]+)(?:,\S*)?  +\S", said, re.M))
     expect("the commands of --help", sorted(listed), sorted(orders))
     numbers = {snake(name): code for code, name in re.findall(r"(?<!\S)(\d+) ([A-Z][A-Za-z]+)(?!\S)", said)}
@@ -74,7 +109,7 @@ def main():
     expect("refusals that RECORDS.md has and --help hasn't", sorted(names - set(numbers)), [])
     for name in sorted(set(numbers) & set(codes)):
         expect(f"the code of {name} in --help", numbers[name], codes[name])
-    expect("refusals of hlr.h that RECORDS.md hasn't", sorted(set(codes) - names - {"DONE", "NOT_OPEN", "STILL_OPEN"}), [])
+    expect("refusals of hlr.h that RECORDS.md hasn't", sorted(set(codes) - names - {"DONE", *OWN_CODES}), [])
     print(*wrong, sep="\n", end="\n" if wrong else "")
     return bool(wrong)
 

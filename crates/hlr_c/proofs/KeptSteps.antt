@@ -19,7 +19,7 @@ use denote.Struct.Struct.{within}
 use Rattle.std.specs.Box.Ownership.{box_owns}
 use Rattle.std.specs.contracts.impls.GlobalAllocator.TheImpl.{ghosts as of_global}
 use Rattle.std.specs.declared.alloc.Global.{Global}
-use Rattle.hlr_core.specs.contracts.register.Register.{the_row as Register}
+use Rattle.hlr_lent.specs.contracts.lender.Lender.{the_row as Lender}
 use Rattle.hlr_c.specs.Held.{held}
 use Rattle.hlr_c.specs.contracts.kept.Kept as kept
 
@@ -33,24 +33,24 @@ abbrev pub word : Val → Val
 word address = vstruct (vcons address vnil)
 
 -- a register at an address, with the right to free its block, which whoever asks the heap has
-abbrev pub block : Global → Ptr → Register.Denot → Fml
-block alloc p x = box_owns (of_global.dealloc_token alloc) Register p x
+abbrev pub block : Global → Ptr → Lender.Denot → Fml
+block alloc p x = box_owns (of_global.dealloc_token alloc) Lender p x
 
 module _ {M : Type 1} {𝓤 : Ura M} {𝓛 : Logic 𝓤} {K : Type 0} {Γ : List (Item 𝓤)} {G : Goal 𝓤 𝓛.H} where
   -- a kept register taken apart: the block, and which word it is
-  pub kept_out : K → (d : kept.the_row.Denot) (x : Register.Denot) → d.register ≡ Some x → (vs : List Val)
+  pub kept_out : K → (d : kept.the_row.Denot) (x : Lender.Denot) → d.register ≡ Some x → (vs : List Val)
       → ((alloc : Global) (b o : ℕ) → vs ≡ word (vptr b o) ∷ [] → Seq K 𝓛 (‵ (block alloc (block_ptr b o) x) ∷ Γ) G)
       → Seq K 𝓛 (‵ (kept.the_row.own_val d vs) ∷ Γ) G
   kept_out k d x is vs rest =
       fsplit k $ fpick k (λ words. fsplit k $ feq_l k (λ is_struct. fsplit k $ feq_l k (λ is_address. drop k $
-      rewrite k 0 (λ (held_here : Option Register.Denot). ‵ (held Register d.address held_here)) is refl $ fpick k (λ alloc.
-      let null_free = fst∗ 𝓤 (never 𝓤) (sem 𝓛 (of_global.dealloc_token alloc (bare (lone Register.mir)) null_ptr)) in
+      rewrite k 0 (λ (held_here : Option Lender.Denot). ‵ (held Lender d.address held_here)) is refl $ fpick k (λ alloc.
+      let null_free = fst∗ 𝓤 (never 𝓤) (sem 𝓛 (of_global.dealloc_token alloc (bare (lone Lender.mir)) null_ptr)) in
       in_a_block k d.address (λ p. block alloc p x) null_free (λ b o is_block.
       let spelled : words.0 ≡ vptr b o ∷ [] = is_address ∙ ap (λ (p : Ptr). ptr_val p ∷ []) is_block in
       rest alloc b o (is_struct ∙ ap (λ (us : List Val). vstruct (of_list (us ++ [])) ∷ []) spelled))))))
 
   -- and put together again
-  pub kept_in : K → (alloc : Global) (b o : ℕ) (x : Register.Denot)
+  pub kept_in : K → (alloc : Global) (b o : ℕ) (x : Lender.Denot)
       → Step K 𝓛 (‵ (kept.the_row.own_val (record { address = block_ptr b o; register = Some x }) (word (vptr b o) ∷ [])) ∷ Γ) G
       (‵ (block alloc (block_ptr b o) x) ∷ Γ) G
   kept_in k alloc b o x = step (λ rest.

@@ -1,4 +1,7 @@
+pub mod AnswerLemmas
 pub mod CrossingLemmas
+pub mod KeptPartSteps
 pub mod KeptSteps
+pub mod LenderCrossing
 pub mod ManyLemmas
-pub mod RegisterCrossing
+pub mod PartLemmas

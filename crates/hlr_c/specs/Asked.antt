@@ -4,16 +4,18 @@ use Rattle.tatp_rows.specs.Number.{number_of}
 use Rattle.tatp_rows.specs.Rows.{SubscriberRow, AccessInfoRow, SpecialFacilityRow, subscriber_of, access_of, facility_of}
 use Rattle.tatp_rows.specs.declared.refusal.Refusal.{Refusal}
 use Rattle.tatp_rows.specs.declared.refusal.Refusal.TheVariants.{Field}
+use Rattle.tatp_actions.specs.declared.action.Action.{Action}
+use Rattle.tatp_actions.specs.declared.action.Action.TheVariants as action
 use Rattle.part_table.specs.declared.region.Side.{Side}
 use Rattle.part_table.specs.declared.region.Side.TheVariants.{Low, High}
 use Rattle.hlr_core.specs.declared.event.Event.{Event}
 use Rattle.hlr_core.specs.declared.event.Event.TheVariants as event
 use Rattle.hlr_c.specs.declared.rows.HlrBounds.{HlrBounds}
 
--- the event of a field that is in range, or the refusal
-abbrev pub asks : {X : Type 0} → (X → Event) → Result X Refusal → Result Event Refusal
-asks event (Ok field) = Ok (event field)
-asks event (Err why) = Err why
+-- what a field that is in range makes, an event or an action; or the refusal
+abbrev pub asks : {X Y : Type 0} → (X → Y) → Result X Refusal → Result Y Refusal
+asks make (Ok field) = Ok (make field)
+asks make (Err why) = Err why
 
 -- the event of two such fields
 abbrev pub asks_both : {X Y : Type 0} → (X → Y → Event) → Result X Refusal → Result Y Refusal → Result Event Refusal
@@ -60,3 +62,18 @@ give_asked part side at = asks (λ to. event.Give part to at) (side_of side)
 -- the bounds that are handed in: as many as their count says, at most 15
 abbrev pub bounds_in : HlrBounds → Result (List ℕ) Refusal
 bounds_in bounds = if nat_le bounds.count 15 then Ok (take bounds.count bounds.bounds) else Err Field
+
+-- a forwarding to a number, of a part's facility
+abbrev pub part_insertion_asked : ℕ → ℕ → ℕ → ℕ → ℕ → Result Action Refusal
+part_insertion_asked s_id sf_type start_time end_time numberx =
+    asks
+    (λ to. action.InsertForwarding (record { s_id = s_id; sf_type = sf_type; start_time = start_time; end_time = end_time; numberx = to }))
+    (number_of numberx)
+
+-- an access that is added to a part
+abbrev pub part_access_asked : AccessInfoRow → Result Action Refusal
+part_access_asked row = asks action.AddAccess (access_of row)
+
+-- a facility that is added to a part
+abbrev pub part_facility_asked : SpecialFacilityRow → Result Action Refusal
+part_facility_asked row = asks action.AddFacility (facility_of row)

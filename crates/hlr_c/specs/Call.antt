@@ -1,35 +1,77 @@
 -- What a call from C does to the handle that it is passed, and answers.
-use Rattle.std.specs.Prelude.{◌≡◌, List, ℕ, Option, Some, None, Result, Ok, Err}
+use Rattle.std.specs.Prelude.{◌≡◌, ◌⊎◌, List, ℕ, Option, Some, None, Result, Ok, Err}
+use Rattle.tatp_rows.specs.Refusal.{code_of}
 use Rattle.tatp_rows.specs.declared.refusal.Refusal.{Refusal}
-use Rattle.hlr_owners.specs.Recut.{IsRecut}
-use Rattle.hlr_owners.specs.Seats.{Seating, store_in}
+use Rattle.hlr_owners.specs.Recut.{IsHomeToCut, IsRecut}
+use Rattle.hlr_owners.specs.Seats.{AllHome, Seating, store_in}
+use Rattle.hlr_core.specs.Beside.{IsRecutBeside, IsStepBeside}
+use Rattle.hlr_core.specs.Home.{IsHouseAfter, IsSameHouse}
 use Rattle.hlr_core.specs.Step.{IsStep}
 use Rattle.hlr_core.specs.declared.event.Event.{Event}
 use Rattle.hlr_core.specs.declared.event.Reply.{Reply}
 use Rattle.hlr_core.specs.declared.event.Reply.TheVariants as reply
+use Rattle.hlr_lent.specs.Away.{IsAway}
+use Rattle.hlr_c.specs.declared.codes.TheConstants.{AWAY}
 
--- a call on a handle: one that isn't open stays so, and the answer is one of its own; to the register of an open one
--- it does what it is to do, and the register stays in the handle
-abbrev pub IsCall : {X : Type 0} → X → (Seating → X → Seating → Type 0) → Option Seating → X → Option Seating → Type 0
+-- a call on a handle: one that isn't open stays so, and the answer is one of its own; to the register or the part of an
+-- open one it does what it is to do, and that stays in the handle
+abbrev pub IsCall : {S X : Type 0} → X → (S → X → S → Type 0) → Option S → X → Option S → Type 0
 IsCall closed Does None answer after = (answer ≡ closed) × (after ≡ None)
-IsCall closed Does (Some register) answer None = ⊥
-IsCall closed Does (Some register) answer (Some next) = Does register answer next
+IsCall closed Does (Some kept) answer None = ⊥
+IsCall closed Does (Some kept) answer (Some next) = Does kept answer next
+
+-- a right step of a register: of the store that it is seen as, and whatever jobs have done to the parts that are out,
+-- which stay out
+pub record IsRegisterStep (event : Event) (before : Seating) (said : Reply) (after : Seating) : Type 0 where
+  pub step : IsStep event (store_in before) said (store_in after)
+  pub house : IsHouseAfter event said before after
+  pub beside : IsStepBeside event before said after
 
 -- a reply to what is asked for: a right step of the event; or the refusal of a field, and nothing changes
 abbrev pub IsReply : Result Event Refusal → Seating → Reply → Seating → Type 0
-IsReply (Ok event) before said after = IsStep event (store_in before) said (store_in after)
+IsReply (Ok event) before said after = IsRegisterStep event before said after
 IsReply (Err why) before said after = (said ≡ reply.Refused why) × (after ≡ before)
 
--- an answer that tells such a reply
-abbrev pub IsAnswer : {X : Type 0} → Result Event Refusal → (Reply → X) → Seating → X → Seating → Type 0
-IsAnswer asked told before answer after = (said : Reply) × IsReply asked before said after × (answer ≡ told said)
+-- what is asked for waits for a part that is out
+abbrev pub IsWaiting : Result Event Refusal → Seating → Type 0
+IsWaiting (Ok event) register = IsAway event register
+IsWaiting (Err why) register = ⊥
+
+-- an answer that tells such a reply; or that it waits, and nothing changes
+abbrev pub IsAnswer : {X : Type 0} → Result Event Refusal → (Reply → X) → X → Seating → X → Seating → Type 0
+IsAnswer asked told away before answer after =
+    ((answer ≡ away) × IsWaiting asked before × (after ≡ before))
+    ⊎ ((said : Reply) × IsReply asked before said after × (answer ≡ told said))
+
+-- the code of an event of which a part is out: that of a refusal that is known without it, or AWAY
+abbrev pub IsAwayCode : Event → Seating → ℕ → Type 0
+IsAwayCode event register code =
+    ((code ≡ AWAY) × IsAway event register)
+    ⊎ ((why : Refusal) × IsRegisterStep event register (reply.Refused why) register × (code ≡ code_of why))
+
+-- a right re-cut of a register, in the same way
+pub record IsRegisterRecut (bounds : List ℕ) (before : Seating) (done : Result ℕ Refusal) (after : Seating) : Type 0 where
+  pub recut : IsRecut bounds (store_in before) done (store_in after)
+  pub house : IsSameHouse before after
+  pub beside : IsRecutBeside bounds before done after
 
 -- a re-cut to bounds, or the refusal of what they were handed in as
 abbrev pub IsRecutReply : Result (List ℕ) Refusal → Seating → Result ℕ Refusal → Seating → Type 0
-IsRecutReply (Ok bounds) before done after = IsRecut bounds (store_in before) done (store_in after)
+IsRecutReply (Ok bounds) before done after = IsRegisterRecut bounds before done after
 IsRecutReply (Err why) before done after = (done ≡ Err why) × (after ≡ before)
 
--- an answer that tells what a re-cut did
-abbrev pub IsRecutAnswer : {X : Type 0} → Result (List ℕ) Refusal → (Result ℕ Refusal → X) → Seating → X → Seating → Type 0
-IsRecutAnswer asked told before answer after =
-    (done : Result ℕ Refusal) × IsRecutReply asked before done after × (answer ≡ told done)
+-- a bound between parts would move, one of which is out
+abbrev pub IsCutWaiting : Result (List ℕ) Refusal → Seating → Type 0
+IsCutWaiting (Ok bounds) register = ¬ (IsHomeToCut bounds register)
+IsCutWaiting (Err why) register = ⊥
+
+-- an answer that tells what a re-cut did; or that it waits, and nothing changes
+abbrev pub IsRecutAnswer : {X : Type 0} → Result (List ℕ) Refusal → (Result ℕ Refusal → X) → X → Seating → X → Seating → Type 0
+IsRecutAnswer asked told away before answer after =
+    ((answer ≡ away) × IsCutWaiting asked before × (after ≡ before))
+    ⊎ ((done : Result ℕ Refusal) × IsRecutReply asked before done after × (answer ≡ told done))
+
+-- what is done with all parts at home; where one is out the answer says so, and nothing changes
+abbrev pub IsAtHome : {X : Type 0} → X → (Seating → X → Seating → Type 0) → Seating → X → Seating → Type 0
+IsAtHome away Does before answer after =
+    ((answer ≡ away) × ¬ (AllHome before.seats) × (after ≡ before)) ⊎ (AllHome before.seats × Does before answer after)

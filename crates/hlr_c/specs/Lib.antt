@@ -4,6 +4,7 @@ pub mod Held
 pub mod Listing
 pub mod Many
 pub mod Opened
+pub mod Parts
 pub mod Reports
 pub mod Rows
 pub mod Told

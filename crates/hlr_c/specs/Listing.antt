@@ -1,18 +1,35 @@
 -- What C is told of rows that no event reads. The register stays as it is.
-use Rattle.std.specs.Prelude.{◌≡◌, ℕ, Result, Ok, Err, ok_or}
+use Rattle.std.specs.Prelude.{◌≡◌, ◌⊎◌, ◌&&◌, ℕ, Bool, true, List, Result, Ok, Err, ok_or}
 use Rattle.tatp_rows.specs.Number.{number_of}
 use Rattle.tatp_rows.specs.Refusal.{code_of}
-use Rattle.tatp_rows.specs.Rows.{SubscriberRow, SpecialFacilityRow, CallForwardingRow}
+use Rattle.tatp_rows.specs.Rows.{SubscriberRow, SpecialFacilityRow, CallForwardingRow, is_start_time}
 use Rattle.tatp_rows.specs.declared.refusal.Refusal.{Refusal}
 use Rattle.tatp_rows.specs.declared.refusal.Refusal.TheVariants.{NoSubscriber}
+use Rattle.tatp_actions.specs.Action.{is_typed}
 use Rattle.tatp_actions.specs.Book.{first_subscriber}
-use Rattle.hlr_owners.specs.Seats.{Seating, book_in, store_in}
+use Rattle.holding.specs.Held.{HoldingState}
+use Rattle.hlr_owners.specs.Out.{with_outs}
+use Rattle.hlr_owners.specs.Seats.{Seating, IsHomeFor, book_in, store_in}
+use Rattle.hlr_core.specs.Beside.{beside}
+use Rattle.hlr_core.specs.Later.{AreLater}
 use Rattle.hlr_core.specs.Rows.{bearer_answer, facility_read, forwarding_read}
 use Rattle.hlr_c.specs.declared.codes.TheConstants.{DONE}
 
 -- an answer that tells what is read, and the register stays
 abbrev pub IsRead : {R X : Type 0} → (Seating → Result R Refusal) → (Result R Refusal → X) → Seating → X → Seating → Type 0
 IsRead read told before answer after = (after ≡ before) × (answer ≡ told (read before))
+
+-- the same, whatever jobs have done to the parts that are out
+pub record IsReadBeside {R X : Type 0} (read : Seating → Result R Refusal) (told : Result R Refusal → X) (before : Seating) (answer : X) (after : Seating) : Type 0 where
+  pub here : IsRead read told before answer after
+  pub beside : (holdings : List HoldingState) → AreLater before.seats (with_outs before.seats holdings)
+      → answer ≡ told (read (beside before holdings))
+
+-- the same of rows of a subscriber; or, where the fields are in range, that the part is out that has the subscriber
+abbrev pub IsReadAt : {R X : Type 0} → ℕ → Bool → (Seating → Result R Refusal) → (Result R Refusal → X) → X → Seating → X → Seating → Type 0
+IsReadAt s_id fits read told away before answer after =
+    ((answer ≡ away) × (fits ≡ true) × ¬ (IsHomeFor s_id before) × (after ≡ before))
+    ⊎ IsReadBeside read told before answer after
 
 -- the code, and what was read; after a refusal that stays as it was
 abbrev pub value_told : {R : Type 0} → R → Result R Refusal → ℕ × R
@@ -27,6 +44,10 @@ forwarding_told before (Err why) = (code_of why, before)
 -- the row of a facility
 abbrev pub facility_in : ℕ → ℕ → Seating → Result SpecialFacilityRow Refusal
 facility_in s_id sf_type register = facility_read s_id sf_type (store_in register)
+
+-- the fields of a forwarding's key are in range
+abbrev pub has_key : ℕ → ℕ → ℕ → Bool
+has_key s_id sf_type start_time = is_typed s_id sf_type && is_start_time start_time
 
 -- the row of a forwarding
 abbrev pub forwarding_in : ℕ → ℕ → ℕ → Seating → Result CallForwardingRow Refusal

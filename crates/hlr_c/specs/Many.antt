@@ -7,23 +7,23 @@ use Rattle.hlr_owners.specs.Seats.{Seating}
 use Rattle.hlr_core.specs.declared.event.Event.TheVariants as event
 use Rattle.hlr_c.specs.Call.{IsAnswer}
 use Rattle.hlr_c.specs.Told.{access_told, numbers_told, subscriber_told}
-use Rattle.hlr_c.specs.declared.codes.TheConstants.{DONE}
+use Rattle.hlr_c.specs.declared.codes.TheConstants.{AWAY, DONE}
 use Rattle.hlr_c.specs.declared.rows.HlrAccessAsked.{HlrAccessAsked}
 use Rattle.hlr_c.specs.declared.rows.HlrDestinationAsked.{HlrDestinationAsked}
 use Rattle.hlr_c.specs.declared.rows.HlrNumbers.{HlrNumbers}
 
 -- one read of a subscriber, whose row was this before: its code and the row
 abbrev pub IsSubscriberRead : ℕ → SubscriberRow → Seating → ℕ × SubscriberRow → Seating → Type 0
-IsSubscriberRead s_id row = IsAnswer (Ok (event.SubscriberData s_id)) (subscriber_told row)
+IsSubscriberRead s_id row = IsAnswer (Ok (event.SubscriberData s_id)) (subscriber_told row) (AWAY, row)
 
 -- one of an access
 abbrev pub IsAccessRead : HlrAccessAsked → AccessInfoRow → Seating → ℕ × AccessInfoRow → Seating → Type 0
-IsAccessRead asked row = IsAnswer (Ok (event.AccessData asked.s_id asked.ai_type)) (access_told asked.s_id asked.ai_type row)
+IsAccessRead asked row = IsAnswer (Ok (event.AccessData asked.s_id asked.ai_type)) (access_told asked.s_id asked.ai_type row) (AWAY, row)
 
 -- one of the numbers that calls are forwarded to
 abbrev pub IsDestinationRead : HlrDestinationAsked → HlrNumbers → Seating → ℕ × HlrNumbers → Seating → Type 0
 IsDestinationRead asked numbers =
-    IsAnswer (Ok (event.NewDestination asked.s_id asked.sf_type asked.start_time asked.end_time)) (numbers_told numbers)
+    IsAnswer (Ok (event.NewDestination asked.s_id asked.sf_type asked.start_time asked.end_time)) (numbers_told numbers) (AWAY, numbers)
 
 -- there are as many rows and codes as questions
 abbrev pub AreAsMany : {Q X : Type 0} → List Q → List X × List ℕ → Type 0

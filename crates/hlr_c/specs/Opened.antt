@@ -1,20 +1,50 @@
--- Opening and closing.
-use Rattle.std.specs.Prelude.{◌≡◌, ◌⊎◌, ℕ, Option, Some, None}
+-- Opening and closing, and the parts that come and go between handles.
+use Rattle.std.specs.Prelude.{◌≡◌, ◌⊎◌, ◌≤◌, ℕ, length, Option, Some, None}
 use Rattle.tatp_rows.specs.Refusal.{code_of}
-use Rattle.tatp_rows.specs.declared.refusal.Refusal.TheVariants.{Field, Memory}
-use Rattle.hlr_owners.specs.Seats.{Seating, store_in}
+use Rattle.tatp_rows.specs.declared.refusal.Refusal.TheVariants.{Field, Memory, NoPart}
+use Rattle.part_table.specs.Regions.{parts_of}
+use Rattle.holding.specs.Held.{HoldingState}
+use Rattle.hlr_owners.specs.Seats.{AllHome, IsLent, IsPartHome, Seating, store_in}
 use Rattle.hlr_owners.specs.Store.{HasOpening, opening}
-use Rattle.hlr_c.specs.declared.codes.TheConstants.{DONE, NOT_OPEN, STILL_OPEN}
+use Rattle.hlr_lent.specs.Jobs.{IsBack}
+use Rattle.hlr_c.specs.declared.codes.TheConstants.{AWAY, DONE, NOT_OPEN, STILL_OPEN}
 
 -- a handle that is open stays as it is, and the answer says so; else it has an empty register, or stays closed:
 -- Field exactly where no register can be opened with so many parts and this width, or Memory
 abbrev pub IsOpening : ℕ → ℕ → Option Seating → ℕ → Option Seating → Type 0
 IsOpening parts width (Some register) code after = (code ≡ STILL_OPEN) × (after ≡ Some register)
-IsOpening parts width None code (Some register) = (code ≡ DONE) × HasOpening parts width × (store_in register ≡ opening parts width)
+IsOpening parts width None code (Some register) =
+    (code ≡ DONE) × HasOpening parts width × (store_in register ≡ opening parts width) × AllHome register.seats
 IsOpening parts width None code None =
     ((code ≡ code_of Field) × ¬ (HasOpening parts width)) ⊎ ((code ≡ code_of Memory) × HasOpening parts width)
 
--- no register is left, and the answer says whether there was one
-abbrev pub IsClosing : Option Seating → ℕ → Option Seating → Type 0
+-- no register or part is left, and the answer says whether there was one
+abbrev pub IsClosing : {S : Type 0} → Option S → ℕ → Option S → Type 0
 IsClosing None code after = (code ≡ NOT_OPEN) × (after ≡ None)
-IsClosing (Some register) code after = (code ≡ DONE) × (after ≡ None)
+IsClosing (Some kept) code after = (code ≡ DONE) × (after ≡ None)
+
+-- there is no such part
+abbrev pub IsNoPart : ℕ → Seating → Type 0
+IsNoPart part register = length (parts_of register.regions) ≤ part
+
+-- why a part isn't lent: there is none, it is out, or memory is wanted
+abbrev pub IsKept : ℕ → Seating → ℕ → Type 0
+IsKept part register code =
+    ((code ≡ code_of NoPart) × IsNoPart part register)
+    ⊎ (((code ≡ AWAY) × ¬ (IsPartHome part register)) ⊎ ((code ≡ code_of Memory) × IsPartHome part register))
+
+-- a part goes out of an open handle into a closed one; or neither changes, and the answer says why
+abbrev pub IsLending : ℕ → Option Seating × Option HoldingState → ℕ → Option Seating × Option HoldingState → Type 0
+IsLending part (None, owner) code after = (code ≡ NOT_OPEN) × (after ≡ (None, owner))
+IsLending part (Some register, Some other) code after = (code ≡ STILL_OPEN) × (after ≡ (Some register, Some other))
+IsLending part (Some register, None) code (None, owner) = ⊥
+IsLending part (Some register, None) code (Some next, None) = (next ≡ register) × IsKept part register code
+IsLending part (Some register, None) code (Some next, Some lent) = (code ≡ DONE) × IsLent part register lent next
+
+-- a part is at home: it was, or it was sent home; or it isn't, or there is none, and nothing changes
+abbrev pub IsComing : ℕ → Seating → ℕ → Seating → Type 0
+IsComing part before code after =
+    ((code ≡ DONE) × IsBack part before after)
+    ⊎ ((after ≡ before)
+    × (((code ≡ code_of NoPart) × IsNoPart part before)
+    ⊎ (((code ≡ DONE) × IsPartHome part before) ⊎ ((code ≡ AWAY) × ¬ (IsPartHome part before)))))

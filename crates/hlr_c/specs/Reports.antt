@@ -1,9 +1,14 @@
 -- What the reports tell C. They change nothing.
-use Rattle.std.specs.Prelude.{◌≡◌, ℕ, ◌<◌, List, length, map, take, ℤ, pos, slice_index_or}
+use Rattle.std.specs.Int.{int_max, int_min}
+use Rattle.std.specs.Prelude.{◌≡◌, ℕ, ◌<◌, List, length, map, take, ℤ, pos, negsuc, slice_index_or}
 use Rattle.tatp_actions.specs.Cell.{cell}
 use Rattle.tatp_actions.specs.declared.cells.TheConstants.{CELLS}
 use Rattle.part_table.specs.Proposal.{proposal}
+use Rattle.view_board.specs.Desks.{with_view}
+use Rattle.view_board.specs.Nets.{net_of}
+use Rattle.view_board.specs.Views.{first_view, looked}
 use Rattle.hlr_owners.specs.Seats.{Seating, book_in, store_in, unposted}
+use Rattle.hlr_owners.specs.Sight.{IsSightOf}
 use Rattle.hlr_owners.specs.Store.{parts_in, published, unpublished}
 use Rattle.hlr_core.specs.Weights.{published_weights}
 use Rattle.hlr_c.specs.declared.codes.TheConstants.{DONE}
@@ -40,3 +45,16 @@ proposal_for register = proposal (published_weights (store_in register)) (parts_
 abbrev pub AreProposed : Seating → HlrBounds → Type 0
 AreProposed register bounds =
     (bounds.count ≡ length (proposal_for register)) × (take bounds.count bounds.bounds ≡ proposal_for register)
+
+-- the integer of 64 bits that is nearest
+abbrev pub nearest : ℤ → ℤ
+nearest n = int_max (negsuc 9223372036854775807) (int_min (pos 9223372036854775807) n)
+
+-- a right sight of the register's words, which it has seen then; of each cell what is published by them, or of 64 bits
+-- what is nearest, since a sight is no moment of all words
+pub record IsLook (before : Seating) (answer : ℕ × List ℤ) (after : Seating) : Type 0 where
+  pub words : List ℕ
+  pub sight : IsSightOf (store_in before) words
+  pub seen : after ≡ record before { spare = with_view before.spare (looked before.spare.view words) }
+  pub code : answer.0 ≡ DONE
+  pub told : (c : ℕ) → c < CELLS → slice_index_or answer.1 c (pos 0) ≡ nearest (net_of (first_view words) c)

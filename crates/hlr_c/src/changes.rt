@@ -1,18 +1,17 @@
 //! The calls that change rows.
 ghost use Rattle.std.specs.Prelude.{◌≡◌, Ok};
 ghost use Rattle.tatp_rows.specs.Rows.{access_of, facility_of, subscriber_of};
-ghost use Rattle.hlr_owners.specs.Seats.{AllHome};
-ghost use Rattle.hlr_core.specs.Step.{edited_reply};
 ghost use Rattle.hlr_core.specs.declared.event.Event.TheVariants as event;
 ghost use Rattle.hlr_c.specs.Asked.{access_asked, deletion_asked, facility_asked, insertion_asked, location_asked, number_asked, subscriber_asked};
-ghost use Rattle.hlr_c.specs.Call.{IsAnswer, IsCall, IsReply};
+ghost use Rattle.hlr_c.specs.Call.{IsAnswer, IsCall};
 ghost use Rattle.hlr_c.specs.Told.{code_told};
-ghost use Rattle.hlr_c.specs.declared.codes.TheConstants.{NOT_OPEN};
+ghost use Rattle.hlr_c.specs.declared.codes.TheConstants.{AWAY, NOT_OPEN};
 
-use crate::codes::code_of_change;
+use crate::codes::{code_away, code_of_change};
 use crate::handle::{Hlr, with_register};
 use crate::rows::{HlrAccess, HlrFacility, HlrSubscriber};
-use hlr_core::{Access, Facility, Letters, Number, Refusal, Register, Subscriber, byte};
+use hlr_core::{Access, Event, Facility, Letters, Number, Refusal, Subscriber, byte};
+use hlr_lent::Lender;
 use std::alloc::Global;
 
 /// The row that C hands in, checked.
@@ -31,7 +30,7 @@ fn subscriber_of(row: &HlrSubscriber) -> Result<Subscriber, Refusal>
     )
 }
 
-fn access_of(row: &HlrAccess) -> Result<Access, Refusal>
+pub(crate) fn access_of(row: &HlrAccess) -> Result<Access, Refusal>
     ensures { result ≡ access_of row.now }
 {
     let data1 = byte(row.data1)?;
@@ -41,7 +40,7 @@ fn access_of(row: &HlrAccess) -> Result<Access, Refusal>
     Access::try_new(row.s_id, row.ai_type, data1, data2, data3, data4)
 }
 
-fn facility_of(row: &HlrFacility) -> Result<Facility, Refusal>
+pub(crate) fn facility_of(row: &HlrFacility) -> Result<Facility, Refusal>
     ensures { result ≡ facility_of row.now }
 {
     let error_cntrl = byte(row.error_cntrl)?;
@@ -57,85 +56,175 @@ fn facility_of(row: &HlrFacility) -> Result<Facility, Refusal>
     )
 }
 
-fn update_location(register: &mut Register, sub_nbr: u64, vlr_location: u64) -> Result<(), Refusal>
-    requires { AllHome register.old.seats }
-    ensures reply { IsReply (location_asked sub_nbr vlr_location) register.old (edited_reply result) register.new }
-    ensures home { AllHome register.new.seats }
+fn update_subscriber(
+    register: &mut Lender,
+    s_id: u64,
+    sf_type: u64,
+    bit_1: u64,
+    data_a: u64,
+) -> u8
+    ensures { IsAnswer (Ok (event.UpdateSubscriber s_id sf_type bit_1 data_a)) code_told AWAY register.old result register.new }
 {
-    let sub_nbr = Number::try_new(sub_nbr)?;
-    register.update_location(sub_nbr, vlr_location)
+    if !register.is_home_for(s_id) {
+        let event = Event::UpdateSubscriber {
+            s_id,
+            sf_type,
+            bit_1,
+            data_a,
+        };
+        return code_away(register, &event);
+    }
+    code_of_change(register.update_subscriber(s_id, sf_type, bit_1, data_a))
+}
+
+fn update_location(register: &mut Lender, sub_nbr: u64, vlr_location: u64) -> u8
+    ensures { IsAnswer (location_asked sub_nbr vlr_location) code_told AWAY register.old result register.new }
+{
+    let sub_nbr = match Number::try_new(sub_nbr) {
+        Ok(sub_nbr) => sub_nbr,
+        Err(why) => return why.code(),
+    };
+    if !register.is_bearer_home(sub_nbr) {
+        let event = Event::UpdateLocation {
+            sub_nbr,
+            vlr_location,
+        };
+        return code_away(register, &event);
+    }
+    code_of_change(register.update_location(sub_nbr, vlr_location))
+}
+
+/// Adds a forwarding of a number to a number.
+fn insert_checked(
+    register: &mut Lender,
+    sub_nbr: Number,
+    sf_type: u64,
+    start_time: u64,
+    end_time: u64,
+    numberx: Number,
+) -> u8
+    ensures { IsAnswer (Ok (event.InsertForwarding sub_nbr sf_type start_time end_time numberx)) code_told AWAY register.old result register.new }
+{
+    if !register.is_bearer_home(sub_nbr) {
+        let event = Event::InsertForwarding {
+            sub_nbr,
+            sf_type,
+            start_time,
+            end_time,
+            numberx,
+        };
+        return code_away(register, &event);
+    }
+    code_of_change(register.insert_forwarding(sub_nbr, sf_type, start_time, end_time, numberx))
 }
 
 fn insert_forwarding(
-    register: &mut Register,
+    register: &mut Lender,
     sub_nbr: u64,
     sf_type: u64,
     start_time: u64,
     end_time: u64,
     numberx: u64,
-) -> Result<(), Refusal>
-    requires { AllHome register.old.seats }
-    ensures reply { IsReply (insertion_asked sub_nbr sf_type start_time end_time numberx) register.old (edited_reply result) register.new }
-    ensures home { AllHome register.new.seats }
+) -> u8
+    ensures { IsAnswer (insertion_asked sub_nbr sf_type start_time end_time numberx) code_told AWAY register.old result register.new }
 {
-    let sub_nbr = Number::try_new(sub_nbr)?;
-    let numberx = Number::try_new(numberx)?;
-    register.insert_forwarding(sub_nbr, sf_type, start_time, end_time, numberx)
+    let sub_nbr = match Number::try_new(sub_nbr) {
+        Ok(sub_nbr) => sub_nbr,
+        Err(why) => return why.code(),
+    };
+    match Number::try_new(numberx) {
+        Ok(numberx) => insert_checked(register, sub_nbr, sf_type, start_time, end_time, numberx),
+        Err(why) => why.code(),
+    }
 }
 
-fn delete_forwarding(
-    register: &mut Register,
-    sub_nbr: u64,
-    sf_type: u64,
-    start_time: u64,
-) -> Result<(), Refusal>
-    requires { AllHome register.old.seats }
-    ensures reply { IsReply (deletion_asked sub_nbr sf_type start_time) register.old (edited_reply result) register.new }
-    ensures home { AllHome register.new.seats }
+fn delete_forwarding(register: &mut Lender, sub_nbr: u64, sf_type: u64, start_time: u64) -> u8
+    ensures { IsAnswer (deletion_asked sub_nbr sf_type start_time) code_told AWAY register.old result register.new }
 {
-    let sub_nbr = Number::try_new(sub_nbr)?;
-    register.delete_forwarding(sub_nbr, sf_type, start_time)
+    let sub_nbr = match Number::try_new(sub_nbr) {
+        Ok(sub_nbr) => sub_nbr,
+        Err(why) => return why.code(),
+    };
+    if !register.is_bearer_home(sub_nbr) {
+        let event = Event::DeleteForwarding {
+            sub_nbr,
+            sf_type,
+            start_time,
+        };
+        return code_away(register, &event);
+    }
+    code_of_change(register.delete_forwarding(sub_nbr, sf_type, start_time))
 }
 
-fn add_subscriber(register: &mut Register, row: &HlrSubscriber) -> Result<(), Refusal>
-    requires { AllHome register.old.seats }
-    ensures reply { IsReply (subscriber_asked row.now) register.old (edited_reply result) register.new }
-    ensures home { AllHome register.new.seats }
+fn add_subscriber(register: &mut Lender, row: &HlrSubscriber) -> u8
+    ensures { IsAnswer (subscriber_asked row.now) code_told AWAY register.old result register.new }
 {
-    let row = subscriber_of(row)?;
-    register.add_subscriber(row)
+    let row = match subscriber_of(row) {
+        Ok(row) => row,
+        Err(why) => return why.code(),
+    };
+    if !register.is_home_for(u64::from(row.s_id())) {
+        return code_away(register, &Event::AddSubscriber(row));
+    }
+    code_of_change(register.add_subscriber(row))
 }
 
-fn add_access(register: &mut Register, row: &HlrAccess) -> Result<(), Refusal>
-    requires { AllHome register.old.seats }
-    ensures reply { IsReply (access_asked row.now) register.old (edited_reply result) register.new }
-    ensures home { AllHome register.new.seats }
+fn add_access(register: &mut Lender, row: &HlrAccess) -> u8
+    ensures { IsAnswer (access_asked row.now) code_told AWAY register.old result register.new }
 {
-    let row = access_of(row)?;
-    register.add_access(row)
+    let row = match access_of(row) {
+        Ok(row) => row,
+        Err(why) => return why.code(),
+    };
+    if !register.is_home_for(u64::from(row.s_id())) {
+        return code_away(register, &Event::AddAccess(row));
+    }
+    code_of_change(register.add_access(row))
 }
 
-fn add_facility(register: &mut Register, row: &HlrFacility) -> Result<(), Refusal>
-    requires { AllHome register.old.seats }
-    ensures reply { IsReply (facility_asked row.now) register.old (edited_reply result) register.new }
-    ensures home { AllHome register.new.seats }
+fn add_facility(register: &mut Lender, row: &HlrFacility) -> u8
+    ensures { IsAnswer (facility_asked row.now) code_told AWAY register.old result register.new }
 {
-    let row = facility_of(row)?;
-    register.add_facility(row)
+    let row = match facility_of(row) {
+        Ok(row) => row,
+        Err(why) => return why.code(),
+    };
+    if !register.is_home_for(u64::from(row.s_id())) {
+        return code_away(register, &Event::AddFacility(row));
+    }
+    code_of_change(register.add_facility(row))
 }
 
-fn set_number(register: &mut Register, s_id: u64, sub_nbr: u64) -> Result<(), Refusal>
-    requires { AllHome register.old.seats }
-    ensures reply { IsReply (number_asked s_id sub_nbr) register.old (edited_reply result) register.new }
-    ensures home { AllHome register.new.seats }
+fn set_active(register: &mut Lender, s_id: u64, sf_type: u64, is_active: u64) -> u8
+    ensures { IsAnswer (Ok (event.SetActive s_id sf_type is_active)) code_told AWAY register.old result register.new }
 {
-    let sub_nbr = Number::try_new(sub_nbr)?;
-    register.set_number(s_id, sub_nbr)
+    if !register.is_home_for(s_id) {
+        let event = Event::SetActive {
+            s_id,
+            sf_type,
+            is_active,
+        };
+        return code_away(register, &event);
+    }
+    code_of_change(register.set_active(s_id, sf_type, is_active))
+}
+
+fn set_number(register: &mut Lender, s_id: u64, sub_nbr: u64) -> u8
+    ensures { IsAnswer (number_asked s_id sub_nbr) code_told AWAY register.old result register.new }
+{
+    let sub_nbr = match Number::try_new(sub_nbr) {
+        Ok(sub_nbr) => sub_nbr,
+        Err(why) => return why.code(),
+    };
+    if !register.is_home_for(s_id) {
+        return code_away(register, &Event::SetNumber { s_id, sub_nbr });
+    }
+    code_of_change(register.set_number(s_id, sub_nbr))
 }
 
 /// UPDATE_SUBSCRIBER_DATA (TATP, section 3.4): sets bit_1 of the subscriber and data_a of the facility, or neither.
 /// `NOT_OPEN`, `Field` where s_id isn't in 1..=16,777,216, sf_type in 1..=4, bit_1 in 0..=1 or data_a in 0..=255,
-/// `Moving`, `NoSubscriber`, `NoFacility`.
+/// `Moving`, `AWAY` where the part is out that has the subscriber, `NoSubscriber`, `NoFacility`.
 #[unsafe(no_mangle)]
 pub extern "C" fn hlr_update_subscriber(
     alloc: Global,
@@ -145,16 +234,16 @@ pub extern "C" fn hlr_update_subscriber(
     bit_1: u64,
     data_a: u64,
 ) -> u8
-    ensures { IsCall NOT_OPEN (IsAnswer (Ok (event.UpdateSubscriber s_id sf_type bit_1 data_a)) code_told)
+    ensures { IsCall NOT_OPEN (IsAnswer (Ok (event.UpdateSubscriber s_id sf_type bit_1 data_a)) code_told AWAY)
         handle.old.kept.register result handle.new.kept.register }
 {
     with_register!(handle, alloc, |register| {
-        code_of_change(register.update_subscriber(s_id, sf_type, bit_1, data_a))
+        update_subscriber(&mut register, s_id, sf_type, bit_1, data_a)
     })
 }
 
 /// UPDATE_LOCATION (TATP, section 3.5): moves the subscriber with a number. `NOT_OPEN`, `Field` where sub_nbr isn't
-/// below 10^15 or vlr_location isn't in 1..=4,294,967,295, `NoNumber`, `Moving`.
+/// below 10^15 or vlr_location isn't in 1..=4,294,967,295, `NoNumber`, `Moving`, `AWAY`.
 #[unsafe(no_mangle)]
 pub extern "C" fn hlr_update_location(
     alloc: Global,
@@ -162,17 +251,17 @@ pub extern "C" fn hlr_update_location(
     sub_nbr: u64,
     vlr_location: u64,
 ) -> u8
-    ensures { IsCall NOT_OPEN (IsAnswer (location_asked sub_nbr vlr_location) code_told)
+    ensures { IsCall NOT_OPEN (IsAnswer (location_asked sub_nbr vlr_location) code_told AWAY)
         handle.old.kept.register result handle.new.kept.register }
 {
     with_register!(handle, alloc, |register| {
-        code_of_change(update_location(&mut register, sub_nbr, vlr_location))
+        update_location(&mut register, sub_nbr, vlr_location)
     })
 }
 
 /// INSERT_CALL_FORWARDING (TATP, section 3.6): adds a forwarding to a number. `NOT_OPEN`, `Field` where a number isn't
 /// below 10^15, sf_type isn't in 1..=4, start_time isn't 0, 8 or 16 or end_time isn't in 1..=24, `NoNumber`, `Moving`,
-/// `NoFacility`, `Exists`, `Memory`.
+/// `AWAY`, `NoFacility`, `Exists`, `Memory`.
 #[unsafe(no_mangle)]
 pub extern "C" fn hlr_insert_forwarding(
     alloc: Global,
@@ -183,23 +272,24 @@ pub extern "C" fn hlr_insert_forwarding(
     end_time: u64,
     numberx: u64,
 ) -> u8
-    ensures { IsCall NOT_OPEN (IsAnswer (insertion_asked sub_nbr sf_type start_time end_time numberx) code_told)
+    ensures { IsCall NOT_OPEN (IsAnswer (insertion_asked sub_nbr sf_type start_time end_time numberx) code_told AWAY)
         handle.old.kept.register result handle.new.kept.register }
 {
     with_register!(handle, alloc, |register| {
-        code_of_change(insert_forwarding(
+        insert_forwarding(
             &mut register,
             sub_nbr,
             sf_type,
             start_time,
             end_time,
             numberx,
-        ))
+        )
     })
 }
 
 /// DELETE_CALL_FORWARDING (TATP, section 3.7): takes a forwarding away. `NOT_OPEN`, `Field` where sub_nbr isn't below
-/// 10^15, sf_type isn't in 1..=4 or start_time isn't 0, 8 or 16, `NoNumber`, `Moving`, `NoForwarding`.
+/// 10^15, sf_type isn't in 1..=4 or start_time isn't 0, 8 or 16, `NoNumber`, `Moving`, `AWAY`,
+/// `NoForwarding`.
 #[unsafe(no_mangle)]
 pub extern "C" fn hlr_delete_forwarding(
     alloc: Global,
@@ -208,52 +298,52 @@ pub extern "C" fn hlr_delete_forwarding(
     sf_type: u64,
     start_time: u64,
 ) -> u8
-    ensures { IsCall NOT_OPEN (IsAnswer (deletion_asked sub_nbr sf_type start_time) code_told)
+    ensures { IsCall NOT_OPEN (IsAnswer (deletion_asked sub_nbr sf_type start_time) code_told AWAY)
         handle.old.kept.register result handle.new.kept.register }
 {
     with_register!(handle, alloc, |register| {
-        code_of_change(delete_forwarding(&mut register, sub_nbr, sf_type, start_time))
+        delete_forwarding(&mut register, sub_nbr, sf_type, start_time)
     })
 }
 
-/// Adds a Subscriber row. `NOT_OPEN`, `Field` where a field is out of its range, `Moving`, `Exists`, `NumberTaken`,
-/// `Memory`.
+/// Adds a Subscriber row. `NOT_OPEN`, `Field` where a field is out of its range, `Moving`, `AWAY` where the part is out
+/// that would have it, `Exists`, `NumberTaken`, `Memory`.
 #[unsafe(no_mangle)]
 pub extern "C" fn hlr_add_subscriber(alloc: Global, handle: &mut Hlr, row: &HlrSubscriber) -> u8
-    ensures { IsCall NOT_OPEN (IsAnswer (subscriber_asked row.now) code_told)
+    ensures { IsCall NOT_OPEN (IsAnswer (subscriber_asked row.now) code_told AWAY)
         handle.old.kept.register result handle.new.kept.register }
 {
     with_register!(handle, alloc, |register| {
-        code_of_change(add_subscriber(&mut register, row))
+        add_subscriber(&mut register, row)
     })
 }
 
-/// Adds an Access_Info row. `NOT_OPEN`, `Field` where a field is out of its range, `Moving`, `NoSubscriber`, `Exists`,
-/// `Memory`.
-#[unsafe(no_mangle)]
-pub extern "C" fn hlr_add_access(alloc: Global, handle: &mut Hlr, row: &HlrAccess) -> u8
-    ensures { IsCall NOT_OPEN (IsAnswer (access_asked row.now) code_told)
-        handle.old.kept.register result handle.new.kept.register }
-{
-    with_register!(handle, alloc, |register| {
-        code_of_change(add_access(&mut register, row))
-    })
-}
-
-/// Adds a Special_Facility row. `NOT_OPEN`, `Field` where a field is out of its range, `Moving`, `NoSubscriber`,
+/// Adds an Access_Info row. `NOT_OPEN`, `Field` where a field is out of its range, `Moving`, `AWAY`, `NoSubscriber`,
 /// `Exists`, `Memory`.
 #[unsafe(no_mangle)]
-pub extern "C" fn hlr_add_facility(alloc: Global, handle: &mut Hlr, row: &HlrFacility) -> u8
-    ensures { IsCall NOT_OPEN (IsAnswer (facility_asked row.now) code_told)
+pub extern "C" fn hlr_add_access(alloc: Global, handle: &mut Hlr, row: &HlrAccess) -> u8
+    ensures { IsCall NOT_OPEN (IsAnswer (access_asked row.now) code_told AWAY)
         handle.old.kept.register result handle.new.kept.register }
 {
     with_register!(handle, alloc, |register| {
-        code_of_change(add_facility(&mut register, row))
+        add_access(&mut register, row)
+    })
+}
+
+/// Adds a Special_Facility row. `NOT_OPEN`, `Field` where a field is out of its range, `Moving`, `AWAY`,
+/// `NoSubscriber`, `Exists`, `Memory`.
+#[unsafe(no_mangle)]
+pub extern "C" fn hlr_add_facility(alloc: Global, handle: &mut Hlr, row: &HlrFacility) -> u8
+    ensures { IsCall NOT_OPEN (IsAnswer (facility_asked row.now) code_told AWAY)
+        handle.old.kept.register result handle.new.kept.register }
+{
+    with_register!(handle, alloc, |register| {
+        add_facility(&mut register, row)
     })
 }
 
 /// Switches a facility on or off, and with it all its forwardings. `NOT_OPEN`, `Field` where s_id isn't in
-/// 1..=16,777,216, sf_type in 1..=4 or is_active in 0..=1, `Moving`, `NoFacility`.
+/// 1..=16,777,216, sf_type in 1..=4 or is_active in 0..=1, `Moving`, `AWAY`, `NoFacility`.
 #[unsafe(no_mangle)]
 pub extern "C" fn hlr_set_active(
     alloc: Global,
@@ -262,22 +352,23 @@ pub extern "C" fn hlr_set_active(
     sf_type: u64,
     is_active: u64,
 ) -> u8
-    ensures { IsCall NOT_OPEN (IsAnswer (Ok (event.SetActive s_id sf_type is_active)) code_told)
+    ensures { IsCall NOT_OPEN (IsAnswer (Ok (event.SetActive s_id sf_type is_active)) code_told AWAY)
         handle.old.kept.register result handle.new.kept.register }
 {
     with_register!(handle, alloc, |register| {
-        code_of_change(register.set_active(s_id, sf_type, is_active))
+        set_active(&mut register, s_id, sf_type, is_active)
     })
 }
 
 /// Gives a subscriber another number; nothing changes where it is the one that stands. `NOT_OPEN`, `Field` where s_id
-/// isn't in 1..=16,777,216 or sub_nbr isn't below 10^15, `Moving`, `NoSubscriber`, `NumberTaken`, `Memory`.
+/// isn't in 1..=16,777,216 or sub_nbr isn't below 10^15, `Moving`, `AWAY`, `NoSubscriber`, `NumberTaken`,
+/// `Memory`.
 #[unsafe(no_mangle)]
 pub extern "C" fn hlr_set_number(alloc: Global, handle: &mut Hlr, s_id: u64, sub_nbr: u64) -> u8
-    ensures { IsCall NOT_OPEN (IsAnswer (number_asked s_id sub_nbr) code_told)
+    ensures { IsCall NOT_OPEN (IsAnswer (number_asked s_id sub_nbr) code_told AWAY)
         handle.old.kept.register result handle.new.kept.register }
 {
     with_register!(handle, alloc, |register| {
-        code_of_change(set_number(&mut register, s_id, sub_nbr))
+        set_number(&mut register, s_id, sub_nbr)
     })
 }

@@ -1,12 +1,10 @@
 //! The handle of a register, as C has it.
-ghost use Rattle.std.specs.Prelude.{◌≡◌, ◌≢◌, ◌↔◌, Option, None, Some, IfSome, IsTrue, MatchOption};
-ghost use Rattle.std.proofs.Props.{props};
-ghost use Rattle.hlr_owners.specs.Seats.{AllHome, Seating};
+ghost use Rattle.std.specs.Prelude.{◌≡◌, ◌≢◌, ◌↔◌, Option, None, Some, IsTrue, MatchOption};
 ghost use Rattle.hlr_c.specs.declared.handle.TheConstants.{OPEN};
 
 use crate::kept::Kept;
 use c_handle::BoxParts;
-use hlr_core::Register;
+use hlr_lent::Lender;
 use std::alloc::Global;
 use std::mem;
 
@@ -25,7 +23,26 @@ macro_rules! with_register {
     }};
 }
 
+/// Works on the register of an open handle where all its parts are at home, as `with_register`. Where one is out it ends
+/// the call with `AWAY`.
+macro_rules! with_register_at_home {
+    ($handle:ident, $alloc:ident, |$register:ident| $work:expr) => {{
+        let Some(lender) = $handle.take($alloc) else {
+            return $crate::codes::NOT_OPEN;
+        };
+        if !lender.is_all_home() {
+            $handle.put(lender);
+            return $crate::codes::AWAY;
+        }
+        let $register = lender.register();
+        let answer = $work;
+        $handle.put(lender);
+        answer
+    }};
+}
+
 pub(crate) use with_register;
+pub(crate) use with_register_at_home;
 
 /// What the mark of an open handle is; any other mark is that of a closed one.
 pub const OPEN: u64 = 1;
@@ -33,8 +50,8 @@ pub const OPEN: u64 = 1;
 // Definitions name this constant, so its number is proved here.
 const _: () = prove!(OPEN == 1);
 
-/// A handle, as C has it: it is open and has a register whose parts are all at home, or it is closed. One that C fills
-/// with zeros is closed.
+/// A handle, as C has it: it is open and has a register, whose parts may be out, or it is closed. One that C fills with
+/// zeros is closed.
 #[repr(C)]
 pub struct Hlr {
     /// Whether it is open: `OPEN`.
@@ -42,7 +59,6 @@ pub struct Hlr {
     /// The register, where it is open.
     pub kept: Kept,
     ghost marked: { mark ≡ OPEN ↔ kept.register ≢ None },
-    ghost home: { IfSome kept.register (λ register. AllHome register.seats) } by { Prim.hlevel props },
 }
 
 // hlr.h declares it for C, where it has the same size.
@@ -67,8 +83,8 @@ impl Hlr {
     }
 
     /// Takes the register out, if the handle is open; it is closed then.
-    pub(crate) fn take(&mut self, alloc: Global) -> Option<Box<Register>>
-        ensures taken { MatchOption result (self.old.kept.register ≡ None) (λ register. (self.old.kept.register ≡ Some register.value) × AllHome register.value.seats) }
+    pub(crate) fn take(&mut self, alloc: Global) -> Option<Box<Lender>>
+        ensures taken { MatchOption result (self.old.kept.register ≡ None) (λ register. self.old.kept.register ≡ Some register.value) }
         ensures closed { self.new.kept.register ≡ None }
     {
         if !self.is_open() {
@@ -79,9 +95,8 @@ impl Hlr {
     }
 
     /// Puts a register into a closed handle, which is open then.
-    pub(crate) fn put(&mut self, register: Box<Register>)
-        requires closed { self.old.kept.register ≡ None }
-        requires home { AllHome register.value.seats }
+    pub(crate) fn put(&mut self, register: Box<Lender>)
+        requires { self.old.kept.register ≡ None }
         ensures { self.new.kept.register ≡ Some register.value }
     {
         let open = Hlr {

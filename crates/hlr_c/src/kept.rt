@@ -1,11 +1,11 @@
 //! The address of a register, with no type, as a handle keeps it.
 ghost use Rattle.std.specs.Prelude.{◌≡◌, ◌≢◌, Option, None, Some};
 ghost use Rattle.hlr_owners.specs.Seats.{Seating};
-ghost use Rattle.hlr_core.specs.contracts.register.Register.{the_row};
+ghost use Rattle.hlr_lent.specs.contracts.lender.Lender.{the_row};
 ghost use Rattle.hlr_c.specs.Held.{held};
 
 use c_handle::BoxParts;
-use hlr_core::Register;
+use hlr_lent::Lender;
 use std::alloc::Global;
 use std::marker::Model;
 use std::ptr;
@@ -45,7 +45,7 @@ impl Kept {
     }
 
     /// Takes the type from the address of a register.
-    pub(crate) fn seal(parts: BoxParts<Register, Global>) -> Kept
+    pub(crate) fn seal(parts: BoxParts<Lender, Global>) -> Kept
         ensures { result.register ≡ Some parts.value }
     {
         let BoxParts { address, alloc: _ } = parts;
@@ -55,13 +55,13 @@ impl Kept {
     }
 
     /// Gives the address of a register its type again.
-    pub(crate) fn unseal(self, alloc: Global) -> BoxParts<Register, Global>
+    pub(crate) fn unseal(self, alloc: Global) -> BoxParts<Lender, Global>
         requires { self.register ≢ None }
         ensures { self.register ≡ Some result.value }
     {
         let Kept { address } = self;
         BoxParts {
-            address: address as *mut Register,
+            address: address as *mut Lender,
             alloc,
         }
     }

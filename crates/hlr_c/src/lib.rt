@@ -1,30 +1,39 @@
-//! The register as a library for C: a handle with a register, and a call for each thing that can be asked of it.
+//! The register as a library for C: a handle with a register, and a call for each thing that can be asked of it. A part
+//! of the register can go out into a handle of its own, which has calls too, for whatever thread.
 //!
-//! All calls take a handle, `Hlr`, by reference, and answer a code: `DONE`, a refusal's (`Refusal::code`), or one of
-//! their own: `STILL_OPEN` of `hlr_open`, where the handle has a register, and `NOT_OPEN` of all others, where it has
-//! none. Every number that C hands in is checked. What a call reads it writes by reference, and only where its code is
-//! `DONE`.
+//! All calls take a handle, `Hlr` or `HlrPart`, by reference, and answer a code: `DONE`, a refusal's (`Refusal::code`), or
+//! one of their own: `STILL_OPEN` of `hlr_open` and `hlr_lend`, where the handle to be opened has something, `NOT_OPEN` of
+//! all others, where the handle has nothing, `AWAY` where a part is out on which a call works, and `ELSEWHERE` of a part's
+//! calls, where the subscriber isn't its own. Every number that C hands in is checked. What a call reads it writes by
+//! reference, and only where its code is `DONE`.
 //!
 //! `hlr.h`, beside the crate's folder `src`, declares them for C, and says what C owes.
 #![tactic(auto)]
 
 mod changes;
 mod codes;
+mod fields;
 mod handle;
 mod kept;
+mod kept_part;
+mod lending;
 mod listing;
 mod lists;
 mod many;
 mod moves;
 mod opening;
+mod part;
+mod part_changes;
+mod part_reads;
 mod reads;
 mod reports;
 mod rows;
 #[cfg(test)]
 mod tests;
 
-pub use codes::{DONE, NOT_OPEN, STILL_OPEN};
+pub use codes::{AWAY, DONE, ELSEWHERE, NOT_OPEN, STILL_OPEN};
 pub use handle::Hlr;
+pub use part::HlrPart;
 pub use rows::{
     HlrAccess, HlrAccessAsked, HlrBounds, HlrDestinationAsked, HlrFacility, HlrNumbers, HlrRegion,
     HlrRegions, HlrSubscriber,

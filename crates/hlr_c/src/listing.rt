@@ -1,16 +1,20 @@
 //! Rows that no transaction reads: with these calls C can find who has a number, and write all rows out.
 ghost use Rattle.std.specs.Prelude.{◌≡◌};
+ghost use Rattle.tatp_actions.specs.Action.{is_typed};
 ghost use Rattle.hlr_owners.specs.Seats.{AllHome};
-ghost use Rattle.hlr_c.specs.Call.{IsCall};
-ghost use Rattle.hlr_c.specs.Listing.{IsRead, bearer_in, facility_in, forwarding_in, forwarding_told, subscriber_from, value_told};
-ghost use Rattle.hlr_c.specs.declared.codes.TheConstants.{NOT_OPEN};
+ghost use Rattle.hlr_c.specs.Call.{IsAtHome, IsCall};
+ghost use Rattle.hlr_c.specs.Listing.{IsRead, IsReadAt, IsReadBeside, bearer_in, facility_in, forwarding_in, forwarding_told, has_key, subscriber_from, value_told};
+ghost use Rattle.hlr_c.specs.declared.codes.TheConstants.{AWAY, NOT_OPEN};
 
-use crate::codes::DONE;
-use crate::handle::{Hlr, with_register};
+use crate::codes::{AWAY, DONE};
+use crate::fields::is_typed;
+use crate::handle::{Hlr, with_register, with_register_at_home};
 use crate::reads::subscriber_for_c;
 use crate::rows::{HlrFacility, HlrSubscriber};
 use hlr_core::{Facility, Number, Refusal, Register};
+use hlr_lent::Lender;
 use std::alloc::Global;
+use tatp_rows::is_start_time;
 
 /// A row, as C has it.
 fn facility_for_c(row: &Facility) -> HlrFacility
@@ -27,14 +31,14 @@ fn facility_for_c(row: &Facility) -> HlrFacility
 }
 
 fn find(register: &Register, sub_nbr: u64) -> Result<u32, Refusal>
-    ensures { result ≡ bearer_in sub_nbr register.now }
+    ensures { IsReadBeside (bearer_in sub_nbr) (λ found. found) register.now result register.now }
 {
     let sub_nbr = Number::try_new(sub_nbr)?;
     register.find(sub_nbr)
 }
 
 fn write_bearer(register: &Register, sub_nbr: u64, s_id: &mut u64) -> u8
-    ensures { (result, s_id.new) ≡ value_told s_id.old (bearer_in sub_nbr register.now) }
+    ensures { IsReadBeside (bearer_in sub_nbr) (value_told s_id.old) register.now (result, s_id.new) register.now }
 {
     match find(register, sub_nbr) {
         Ok(found) => {
@@ -45,11 +49,16 @@ fn write_bearer(register: &Register, sub_nbr: u64, s_id: &mut u64) -> u8
     }
 }
 
-fn write_facility(register: &Register, s_id: u64, sf_type: u64, row: &mut HlrFacility) -> u8
-    requires { AllHome register.now.seats }
-    ensures { (result, row.new) ≡ value_told row.old (facility_in s_id sf_type register.now) }
+fn write_facility(register: &Lender, s_id: u64, sf_type: u64, row: &mut HlrFacility) -> u8
+    ensures { IsReadAt s_id (is_typed s_id sf_type) (facility_in s_id sf_type) (value_told row.old) (AWAY, row.old) register.now (result, row.new) register.now }
 {
-    match register.facility_data(s_id, sf_type) {
+    if !register.is_home_for(s_id) {
+        if !is_typed(s_id, sf_type) {
+            return Refusal::Field.code();
+        }
+        return AWAY;
+    }
+    match register.register().facility_data(s_id, sf_type) {
         Ok(found) => {
             *row = facility_for_c(&found);
             DONE
@@ -59,17 +68,25 @@ fn write_facility(register: &Register, s_id: u64, sf_type: u64, row: &mut HlrFac
 }
 
 fn write_forwarding(
-    register: &Register,
+    register: &Lender,
     s_id: u64,
     sf_type: u64,
     start_time: u64,
     end_time: &mut u64,
     numberx: &mut u64,
 ) -> u8
-    requires { AllHome register.now.seats }
-    ensures { (result, (end_time.new, numberx.new)) ≡ forwarding_told (end_time.old, numberx.old) (forwarding_in s_id sf_type start_time register.now) }
+    ensures { IsReadAt s_id (has_key s_id sf_type start_time) (forwarding_in s_id sf_type start_time) (forwarding_told (end_time.old, numberx.old)) (AWAY, (end_time.old, numberx.old)) register.now (result, (end_time.new, numberx.new)) register.now }
 {
-    match register.forwarding(s_id, sf_type, start_time) {
+    if !register.is_home_for(s_id) {
+        if !is_typed(s_id, sf_type) || !is_start_time(start_time) {
+            return Refusal::Field.code();
+        }
+        return AWAY;
+    }
+    match register
+        .register()
+        .forwarding(s_id, sf_type, start_time)
+    {
         Ok(found) => {
             *end_time = u64::from(found.end_time());
             *numberx = found.numberx().value();
@@ -81,7 +98,7 @@ fn write_forwarding(
 
 fn write_next(register: &Register, from: u64, row: &mut HlrSubscriber) -> u8
     requires { AllHome register.now.seats }
-    ensures { (result, row.new) ≡ value_told row.old (subscriber_from from register.now) }
+    ensures { IsRead (subscriber_from from) (value_told row.old) register.now (result, row.new) register.now }
 {
     match register.next_subscriber(from) {
         Some(found) => {
@@ -92,19 +109,20 @@ fn write_next(register: &Register, from: u64, row: &mut HlrSubscriber) -> u8
     }
 }
 
-/// The subscriber who has a number. `NOT_OPEN`, `Field` where sub_nbr isn't below 10^15, `NoNumber`.
+/// The subscriber who has a number, whoever is out, as a part gives no number. `NOT_OPEN`, `Field` where sub_nbr isn't
+/// below 10^15, `NoNumber`.
 #[unsafe(no_mangle)]
 pub extern "C" fn hlr_find(alloc: Global, handle: &mut Hlr, sub_nbr: u64, s_id: &mut u64) -> u8
-    ensures { IsCall (NOT_OPEN, s_id.old) (IsRead (bearer_in sub_nbr) (value_told s_id.old))
+    ensures { IsCall (NOT_OPEN, s_id.old) (IsReadBeside (bearer_in sub_nbr) (value_told s_id.old))
         handle.old.kept.register (result, s_id.new) handle.new.kept.register }
 {
     with_register!(handle, alloc, |register| {
-        write_bearer(&register, sub_nbr, s_id)
+        write_bearer(register.register(), sub_nbr, s_id)
     })
 }
 
 /// The row of a facility. `NOT_OPEN`, `Field` where s_id isn't in 1..=16,777,216 or sf_type isn't in 1..=4, `Moving`,
-/// `NoFacility`.
+/// `AWAY`, `NoFacility`.
 #[unsafe(no_mangle)]
 pub extern "C" fn hlr_facility_data(
     alloc: Global,
@@ -113,7 +131,7 @@ pub extern "C" fn hlr_facility_data(
     sf_type: u64,
     row: &mut HlrFacility,
 ) -> u8
-    ensures { IsCall (NOT_OPEN, row.old) (IsRead (facility_in s_id sf_type) (value_told row.old))
+    ensures { IsCall (NOT_OPEN, row.old) (IsReadAt s_id (is_typed s_id sf_type) (facility_in s_id sf_type) (value_told row.old) (AWAY, row.old))
         handle.old.kept.register (result, row.new) handle.new.kept.register }
 {
     with_register!(handle, alloc, |register| {
@@ -122,7 +140,7 @@ pub extern "C" fn hlr_facility_data(
 }
 
 /// The end and the number of a facility's forwarding that starts at start_time. `NOT_OPEN`, `Field` where s_id isn't in
-/// 1..=16,777,216, sf_type isn't in 1..=4 or start_time isn't 0, 8 or 16, `Moving`, `NoForwarding`.
+/// 1..=16,777,216, sf_type isn't in 1..=4 or start_time isn't 0, 8 or 16, `Moving`, `AWAY`, `NoForwarding`.
 #[unsafe(no_mangle)]
 pub extern "C" fn hlr_forwarding(
     alloc: Global,
@@ -133,7 +151,7 @@ pub extern "C" fn hlr_forwarding(
     end_time: &mut u64,
     numberx: &mut u64,
 ) -> u8
-    ensures { IsCall (NOT_OPEN, (end_time.old, numberx.old)) (IsRead (forwarding_in s_id sf_type start_time) (forwarding_told (end_time.old, numberx.old)))
+    ensures { IsCall (NOT_OPEN, (end_time.old, numberx.old)) (IsReadAt s_id (has_key s_id sf_type start_time) (forwarding_in s_id sf_type start_time) (forwarding_told (end_time.old, numberx.old)) (AWAY, (end_time.old, numberx.old)))
         handle.old.kept.register (result, (end_time.new, numberx.new)) handle.new.kept.register }
 {
     with_register!(handle, alloc, |register| {
@@ -141,7 +159,8 @@ pub extern "C" fn hlr_forwarding(
     })
 }
 
-/// The first subscriber with an s_id from one on, also one in a loose piece. `NOT_OPEN`, `NoSubscriber`.
+/// The first subscriber with an s_id from one on, also one in a loose piece. `NOT_OPEN`, `AWAY` where any part is out,
+/// `NoSubscriber`.
 #[unsafe(no_mangle)]
 pub extern "C" fn hlr_next_subscriber(
     alloc: Global,
@@ -149,10 +168,10 @@ pub extern "C" fn hlr_next_subscriber(
     from: u64,
     row: &mut HlrSubscriber,
 ) -> u8
-    ensures { IsCall (NOT_OPEN, row.old) (IsRead (subscriber_from from) (value_told row.old))
+    ensures { IsCall (NOT_OPEN, row.old) (IsAtHome (AWAY, row.old) (IsRead (subscriber_from from) (value_told row.old)))
         handle.old.kept.register (result, row.new) handle.new.kept.register }
 {
-    with_register!(handle, alloc, |register| {
-        write_next(&register, from, row)
+    with_register_at_home!(handle, alloc, |register| {
+        write_next(register, from, row)
     })
 }

@@ -1,12 +1,12 @@
 //! The three transactions that read, each of many questions in one call.
 ghost use Rattle.std.specs.Prelude.{◌≡◌, length};
 ghost use Rattle.hlr_owners.specs.Seats.{AllHome};
-ghost use Rattle.hlr_c.specs.Call.{IsCall};
+ghost use Rattle.hlr_c.specs.Call.{IsAtHome, IsCall};
 ghost use Rattle.hlr_c.specs.Many.{AreAnswered, AreAsMany, IsAccessRead, IsDestinationRead, IsManyRead, IsSubscriberRead};
-ghost use Rattle.hlr_c.specs.declared.codes.TheConstants.{NOT_OPEN};
+ghost use Rattle.hlr_c.specs.declared.codes.TheConstants.{AWAY, NOT_OPEN};
 
 use crate::codes::DONE;
-use crate::handle::{Hlr, with_register};
+use crate::handle::{Hlr, with_register_at_home};
 use crate::reads::{read_access, read_destinations, read_subscriber};
 use crate::rows::{HlrAccess, HlrAccessAsked, HlrDestinationAsked, HlrNumbers, HlrSubscriber};
 use hlr_core::{Refusal, Register};
@@ -120,7 +120,7 @@ fn answer_destinations(
 }
 
 /// GET_SUBSCRIBER_DATA of many subscribers: writes in each place the code and the row that the call for one answers.
-/// `NOT_OPEN`, `Field` where there aren't as many rows and codes as s_ids, and nothing is written.
+/// `NOT_OPEN`, `AWAY` where any part is out, `Field` where there aren't as many rows and codes as s_ids: nothing is written.
 #[unsafe(no_mangle)]
 pub extern "C" fn hlr_subscriber_data_many(
     alloc: Global,
@@ -129,16 +129,16 @@ pub extern "C" fn hlr_subscriber_data_many(
     rows: &mut [HlrSubscriber],
     codes: &mut [u8],
 ) -> u8
-    ensures { IsCall (NOT_OPEN, (rows.old, codes.old)) (IsManyRead IsSubscriberRead s_ids.now (rows.old, codes.old))
+    ensures { IsCall (NOT_OPEN, (rows.old, codes.old)) (IsAtHome (AWAY, (rows.old, codes.old)) (IsManyRead IsSubscriberRead s_ids.now (rows.old, codes.old)))
         handle.old.kept.register (result, (rows.new, codes.new)) handle.new.kept.register }
 {
-    with_register!(handle, alloc, |register| {
-        answer_subscribers(&register, s_ids, rows, codes)
+    with_register_at_home!(handle, alloc, |register| {
+        answer_subscribers(register, s_ids, rows, codes)
     })
 }
 
 /// GET_ACCESS_DATA of many accesses: writes in each place the code and the row that the call for one answers. `NOT_OPEN`,
-/// `Field` where there aren't as many rows and codes as accesses, and nothing is written.
+/// `AWAY` where any part is out, `Field` where there aren't as many rows and codes as accesses: nothing is written.
 #[unsafe(no_mangle)]
 pub extern "C" fn hlr_access_data_many(
     alloc: Global,
@@ -147,16 +147,16 @@ pub extern "C" fn hlr_access_data_many(
     rows: &mut [HlrAccess],
     codes: &mut [u8],
 ) -> u8
-    ensures { IsCall (NOT_OPEN, (rows.old, codes.old)) (IsManyRead IsAccessRead asked.now (rows.old, codes.old))
+    ensures { IsCall (NOT_OPEN, (rows.old, codes.old)) (IsAtHome (AWAY, (rows.old, codes.old)) (IsManyRead IsAccessRead asked.now (rows.old, codes.old)))
         handle.old.kept.register (result, (rows.new, codes.new)) handle.new.kept.register }
 {
-    with_register!(handle, alloc, |register| {
-        answer_accesses(&register, asked, rows, codes)
+    with_register_at_home!(handle, alloc, |register| {
+        answer_accesses(register, asked, rows, codes)
     })
 }
 
 /// GET_NEW_DESTINATION of many: writes in each place the code and the numbers that the call for one answers. `NOT_OPEN`,
-/// `Field` where there aren't as many numbers and codes as questions, and nothing is written.
+/// `AWAY` where any part is out, `Field` where there aren't as many numbers and codes as questions: nothing is written.
 #[unsafe(no_mangle)]
 pub extern "C" fn hlr_new_destination_many(
     alloc: Global,
@@ -165,10 +165,10 @@ pub extern "C" fn hlr_new_destination_many(
     numbers: &mut [HlrNumbers],
     codes: &mut [u8],
 ) -> u8
-    ensures { IsCall (NOT_OPEN, (numbers.old, codes.old)) (IsManyRead IsDestinationRead asked.now (numbers.old, codes.old))
+    ensures { IsCall (NOT_OPEN, (numbers.old, codes.old)) (IsAtHome (AWAY, (numbers.old, codes.old)) (IsManyRead IsDestinationRead asked.now (numbers.old, codes.old)))
         handle.old.kept.register (result, (numbers.new, codes.new)) handle.new.kept.register }
 {
-    with_register!(handle, alloc, |register| {
-        answer_destinations(&register, asked, numbers, codes)
+    with_register_at_home!(handle, alloc, |register| {
+        answer_destinations(register, asked, numbers, codes)
     })
 }

@@ -1,17 +1,17 @@
 //! The calls that post, that move bounds between parts, and by which parts come and go.
 ghost use Rattle.std.specs.Prelude.{◌≡◌, Ok};
-ghost use Rattle.hlr_owners.specs.Seats.{AllHome};
 ghost use Rattle.hlr_core.specs.declared.event.Event.TheVariants as event;
 ghost use Rattle.hlr_c.specs.Asked.{bounds_in, give_asked, side_of};
-ghost use Rattle.hlr_c.specs.Call.{IsAnswer, IsCall, IsRecutAnswer, IsRecutReply, IsReply};
+ghost use Rattle.hlr_c.specs.Call.{IsAnswer, IsCall, IsRecutAnswer};
 ghost use Rattle.hlr_c.specs.Told.{code_told, given_told, part_told, posted_told, recut_told};
-ghost use Rattle.hlr_c.specs.declared.codes.TheConstants.{NOT_OPEN};
+ghost use Rattle.hlr_c.specs.declared.codes.TheConstants.{AWAY, NOT_OPEN};
 
-use crate::codes::{DONE, code_of_reply};
+use crate::codes::{AWAY, DONE, code_away, code_of_reply};
 use crate::handle::{Hlr, with_register};
 use crate::lists::{bounds_in, region_for_c};
 use crate::rows::{HlrBounds, HlrRegion};
-use hlr_core::{Event, Place, Refusal, Region, Register, Reply, Side};
+use hlr_core::{Event, Place, Refusal, Region, Reply, Side};
+use hlr_lent::Lender;
 use std::alloc::Global;
 
 /// The side of a number: 0 is the low one, 1 the high one, and all else is `Field`.
@@ -82,28 +82,70 @@ fn tell_recut(done: Result<u8, Refusal>, moved: &mut u64) -> u8
     }
 }
 
-fn give(register: &mut Register, part: u64, side: u64, at: u64) -> Reply
-    requires { AllHome register.old.seats }
-    ensures reply { IsReply (give_asked part side at) register.old result register.new }
-    ensures home { AllHome register.new.seats }
+fn post(register: &mut Lender, part: u64, limit: u64, posted: &mut u64) -> u8
+    ensures { IsAnswer (Ok (event.Post part limit)) (posted_told posted.old) (AWAY, posted.old) register.old (result, posted.new) register.new }
 {
-    match side_of(side) {
-        Ok(side) => register.apply(Event::Give { part, side, at }),
-        Err(why) => Reply::Refused(why),
+    if !register.is_part_home(part) {
+        return code_away(register, &Event::Post { part, limit });
+    }
+    tell_posted(&register.post(part, limit), posted)
+}
+
+fn give(register: &mut Lender, part: u64, side: u64, at: u64, given: &mut HlrRegion) -> u8
+    ensures { IsAnswer (give_asked part side at) (given_told given.old) (AWAY, given.old) register.old (result, given.new) register.new }
+{
+    let side = match side_of(side) {
+        Ok(side) => side,
+        Err(why) => return why.code(),
+    };
+    match register.ask(Event::Give { part, side, at }) {
+        Some(reply) => tell_given(&reply, given),
+        None => AWAY,
     }
 }
 
-fn recut(register: &mut Register, bounds: &HlrBounds) -> Result<u8, Refusal>
-    requires { AllHome register.old.seats }
-    ensures recut { IsRecutReply (bounds_in bounds.now) register.old result register.new }
-    ensures home { AllHome register.new.seats }
+fn take(register: &mut Lender, piece: u64, part: u64) -> u8
+    ensures { IsAnswer (Ok (event.Take piece part)) code_told AWAY register.old result register.new }
 {
-    let bounds = bounds_in(bounds)?;
-    register.recut_to(bounds)
+    match register.ask(Event::Take { piece, part }) {
+        Some(reply) => code_of_reply(&reply),
+        None => AWAY,
+    }
+}
+
+fn divide(register: &mut Lender, part: u64, at: u64, made: &mut HlrRegion) -> u8
+    ensures { IsAnswer (Ok (event.Divide part at)) (part_told made.old) (AWAY, made.old) register.old (result, made.new) register.new }
+{
+    match register.ask(Event::Divide { part, at }) {
+        Some(reply) => tell_part(&reply, made),
+        None => AWAY,
+    }
+}
+
+fn dissolve(register: &mut Lender, part: u64, front: &mut HlrRegion) -> u8
+    ensures { IsAnswer (Ok (event.Dissolve part)) (part_told front.old) (AWAY, front.old) register.old (result, front.new) register.new }
+{
+    match register.ask(Event::Dissolve { part }) {
+        Some(reply) => tell_part(&reply, front),
+        None => AWAY,
+    }
+}
+
+fn recut(register: &mut Lender, bounds: &HlrBounds, moved: &mut u64) -> u8
+    ensures { IsRecutAnswer (bounds_in bounds.now) (recut_told moved.old) (AWAY, moved.old) register.old (result, moved.new) register.new }
+{
+    let bounds = match bounds_in(bounds) {
+        Ok(bounds) => bounds,
+        Err(why) => return why.code(),
+    };
+    if !register.is_home_to_cut(bounds) {
+        return AWAY;
+    }
+    tell_recut(register.recut_to(bounds), moved)
 }
 
 /// Posts the first `limit` cells of a part that aren't posted, in ascending order, and tells how many were. `NOT_OPEN`,
-/// `NoPart`, `Worn`, after which the cells that were posted before stand.
+/// `NoPart`, `AWAY` where it is out, `Worn`, after which the cells that were posted before stand.
 #[unsafe(no_mangle)]
 pub extern "C" fn hlr_post(
     alloc: Global,
@@ -112,16 +154,17 @@ pub extern "C" fn hlr_post(
     limit: u64,
     posted: &mut u64,
 ) -> u8
-    ensures { IsCall (NOT_OPEN, posted.old) (IsAnswer (Ok (event.Post part limit)) (posted_told posted.old))
+    ensures { IsCall (NOT_OPEN, posted.old) (IsAnswer (Ok (event.Post part limit)) (posted_told posted.old) (AWAY, posted.old))
         handle.old.kept.register (result, posted.new) handle.new.kept.register }
 {
     with_register!(handle, alloc, |register| {
-        tell_posted(&register.post(part, limit), posted)
+        post(&mut register, part, limit, posted)
     })
 }
 
 /// A part gives the stretch on one side of `at` away (`side` 0: below it, 1: from it on), which becomes a loose piece,
-/// and tells it. `NOT_OPEN`, `Field` where side isn't 0 or 1, `NoPart`, `OutOfRange`, `ManyPieces`, `Memory`.
+/// and tells it. `NOT_OPEN`, `Field` where side isn't 0 or 1, `NoPart`, `AWAY`, `OutOfRange`, `ManyPieces`,
+/// `Memory`.
 #[unsafe(no_mangle)]
 pub extern "C" fn hlr_give(
     alloc: Global,
@@ -131,27 +174,29 @@ pub extern "C" fn hlr_give(
     at: u64,
     given: &mut HlrRegion,
 ) -> u8
-    ensures { IsCall (NOT_OPEN, given.old) (IsAnswer (give_asked part side at) (given_told given.old))
+    ensures { IsCall (NOT_OPEN, given.old) (IsAnswer (give_asked part side at) (given_told given.old) (AWAY, given.old))
         handle.old.kept.register (result, given.new) handle.new.kept.register }
 {
     with_register!(handle, alloc, |register| {
-        tell_given(&give(&mut register, part, side, at), given)
+        give(&mut register, part, side, at, given)
     })
 }
 
-/// A part takes a loose piece that touches it. `NOT_OPEN`, `NoPiece`, `NoPart`, `NotAdjacent`, `Memory`.
+/// A part takes a loose piece that touches it. `NOT_OPEN`, `AWAY` where the part is out, `NoPiece`, `NoPart`,
+/// `NotAdjacent`, `Memory`.
 #[unsafe(no_mangle)]
 pub extern "C" fn hlr_take(alloc: Global, handle: &mut Hlr, piece: u64, part: u64) -> u8
-    ensures { IsCall NOT_OPEN (IsAnswer (Ok (event.Take piece part)) code_told)
+    ensures { IsCall NOT_OPEN (IsAnswer (Ok (event.Take piece part)) code_told AWAY)
         handle.old.kept.register result handle.new.kept.register }
 {
     with_register!(handle, alloc, |register| {
-        code_of_reply(&register.apply(Event::Take { piece, part }))
+        take(&mut register, piece, part)
     })
 }
 
 /// Divides a part at a subscriber: it keeps what is below, and a new part with the next number has the rest; tells the
-/// new part. Later parts' numbers rise by one. `NOT_OPEN`, `NoPart`, `OutOfRange`, `ManyParts`, `Memory`.
+/// new part. Later parts' numbers rise by one. `NOT_OPEN`, `NoPart`, `AWAY` where it or a later one is
+/// out, `OutOfRange`, `ManyParts`, `Memory`.
 #[unsafe(no_mangle)]
 pub extern "C" fn hlr_divide(
     alloc: Global,
@@ -160,16 +205,16 @@ pub extern "C" fn hlr_divide(
     at: u64,
     made: &mut HlrRegion,
 ) -> u8
-    ensures { IsCall (NOT_OPEN, made.old) (IsAnswer (Ok (event.Divide part at)) (part_told made.old))
+    ensures { IsCall (NOT_OPEN, made.old) (IsAnswer (Ok (event.Divide part at)) (part_told made.old) (AWAY, made.old))
         handle.old.kept.register (result, made.new) handle.new.kept.register }
 {
     with_register!(handle, alloc, |register| {
-        tell_part(&register.apply(Event::Divide { part, at }), made)
+        divide(&mut register, part, at, made)
     })
 }
 
 /// Dissolves a part: the part in front has its rows, and later parts' numbers fall by one; tells the part in front, as
-/// it is then. `NOT_OPEN`, `NoPart`, `NotAdjacent` where it is the first part or a loose piece lies between, `Memory`.
+/// it is then. `NOT_OPEN`, `AWAY` where the part in front, it or a later one is out, `NoPart`, `NotAdjacent` where it is the first part or a loose piece lies between, `Memory`.
 #[unsafe(no_mangle)]
 pub extern "C" fn hlr_dissolve(
     alloc: Global,
@@ -177,17 +222,17 @@ pub extern "C" fn hlr_dissolve(
     part: u64,
     front: &mut HlrRegion,
 ) -> u8
-    ensures { IsCall (NOT_OPEN, front.old) (IsAnswer (Ok (event.Dissolve part)) (part_told front.old))
+    ensures { IsCall (NOT_OPEN, front.old) (IsAnswer (Ok (event.Dissolve part)) (part_told front.old) (AWAY, front.old))
         handle.old.kept.register (result, front.new) handle.new.kept.register }
 {
     with_register!(handle, alloc, |register| {
-        tell_part(&register.apply(Event::Dissolve { part }), front)
+        dissolve(&mut register, part, front)
     })
 }
 
 /// Moves the bounds between parts to these, the first subscriber of each part but the first, and tells how many were
 /// moved. `NOT_OPEN`, `Field` where the bounds aren't strictly rising ones in 2..=16,777,216, one less than there are
-/// parts, `Moving` where a piece is loose, `Memory`, after which the moves that were done stand, and the piece of the
+/// parts, `Moving` where a piece is loose, `AWAY` where a bound would move between parts one of which is out, `Memory`, after which the moves that were done stand, and the piece of the
 /// move that was refused may be loose.
 #[unsafe(no_mangle)]
 pub extern "C" fn hlr_recut(
@@ -196,10 +241,10 @@ pub extern "C" fn hlr_recut(
     bounds: &HlrBounds,
     moved: &mut u64,
 ) -> u8
-    ensures { IsCall (NOT_OPEN, moved.old) (IsRecutAnswer (bounds_in bounds.now) (recut_told moved.old))
+    ensures { IsCall (NOT_OPEN, moved.old) (IsRecutAnswer (bounds_in bounds.now) (recut_told moved.old) (AWAY, moved.old))
         handle.old.kept.register (result, moved.new) handle.new.kept.register }
 {
     with_register!(handle, alloc, |register| {
-        tell_recut(recut(&mut register, bounds), moved)
+        recut(&mut register, bounds, moved)
     })
 }

@@ -8,10 +8,11 @@ ghost use Rattle.hlr_c.specs.Opened.{IsClosing, IsOpening};
 use crate::codes::{DONE, NOT_OPEN, STILL_OPEN};
 use crate::handle::Hlr;
 use hlr_core::{Refusal, Register};
+use hlr_lent::Lender;
 use std::alloc::Global;
 
-/// An empty register in a box. `Field` where parts isn't in 1..=16 or the width isn't in 1..=524,288; `Memory`.
-fn open_boxed(alloc: Global, parts: u64, width: u64) -> Result<Box<Register>, Refusal>
+/// An empty register in a box, all of whose parts are at home. `Field` where parts isn't in 1..=16 or the width isn't in 1..=524,288; `Memory`.
+fn open_boxed(alloc: Global, parts: u64, width: u64) -> Result<Box<Lender>, Refusal>
     ensures ok { IfOk result (λ register. HasOpening parts width × (store_in register.value ≡ opening parts width)) }
     ensures home { IfOk result (λ register. AllHome register.value.seats) }
     ensures err { IfErr result (λ why. ((why ≡ refusal.Field) × ¬ (HasOpening parts width)) ⊎ ((why ≡ refusal.Memory) × HasOpening parts width)) }
@@ -20,7 +21,7 @@ fn open_boxed(alloc: Global, parts: u64, width: u64) -> Result<Box<Register>, Re
         return Err(Refusal::Field);
     };
     let register = Register::open(alloc, parts, width)?;
-    Ok(Box::new(alloc, register)?)
+    Ok(Box::new(alloc, Lender::of(register))?)
 }
 
 /// Opens an empty register in a closed handle: `parts` parts, 1..=16, share its subscribers, in zones of `width`,
@@ -41,7 +42,8 @@ pub extern "C" fn hlr_open(alloc: Global, parts: u64, width: u64, handle: &mut H
     }
 }
 
-/// Closes a handle, and gives back all memory of its register. `NOT_OPEN` where it has none.
+/// Closes a handle, and gives back all memory of its register but that of parts that are out, which go on. `NOT_OPEN`
+/// where it has none.
 #[unsafe(no_mangle)]
 pub extern "C" fn hlr_close(alloc: Global, handle: &mut Hlr) -> u8
     ensures { IsClosing handle.old.kept.register result handle.new.kept.register }

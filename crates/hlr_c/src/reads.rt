@@ -1,16 +1,17 @@
 //! The three transactions that read.
 ghost use Rattle.std.specs.Prelude.{◌≡◌, Ok, slice_index_or};
-ghost use Rattle.hlr_owners.specs.Seats.{AllHome};
+ghost use Rattle.hlr_core.specs.Home.{IsHomeTo};
 ghost use Rattle.hlr_core.specs.declared.event.Event.TheVariants as event;
 ghost use Rattle.hlr_c.specs.Call.{IsAnswer, IsCall};
 ghost use Rattle.hlr_c.specs.Rows.{numbers_for_c};
 ghost use Rattle.hlr_c.specs.Told.{access_told, numbers_told, subscriber_told};
-ghost use Rattle.hlr_c.specs.declared.codes.TheConstants.{NOT_OPEN};
+ghost use Rattle.hlr_c.specs.declared.codes.TheConstants.{AWAY, NOT_OPEN};
 
-use crate::codes::DONE;
+use crate::codes::{DONE, code_away};
 use crate::handle::{Hlr, with_register};
 use crate::rows::{HlrAccess, HlrNumbers, HlrSubscriber};
-use hlr_core::{Access, ArrayVec, Number, Register, Subscriber};
+use hlr_core::{Access, ArrayVec, Event, Number, Register, Subscriber};
+use hlr_lent::Lender;
 use std::alloc::Global;
 
 /// A row, as C has it.
@@ -40,7 +41,7 @@ fn number_at(numbers: &[Number], place: usize) -> u64
 }
 
 /// Numbers, as C has them.
-fn numbers_for_c(numbers: &ArrayVec<Number, 3>) -> HlrNumbers
+pub(crate) fn numbers_for_c(numbers: &ArrayVec<Number, 3>) -> HlrNumbers
     ensures { result ≡ numbers_for_c numbers.now.items }
 {
     let list = numbers.as_slice();
@@ -51,7 +52,7 @@ fn numbers_for_c(numbers: &ArrayVec<Number, 3>) -> HlrNumbers
 }
 
 /// What was read of an access, as C has it.
-fn write_access(found: &Access, s_id: u64, ai_type: u64, row: &mut HlrAccess)
+pub(crate) fn write_access(found: &Access, s_id: u64, ai_type: u64, row: &mut HlrAccess)
     ensures { row.new ≡ record {
       s_id = s_id;
       ai_type = ai_type;
@@ -72,8 +73,8 @@ fn write_access(found: &Access, s_id: u64, ai_type: u64, row: &mut HlrAccess)
 }
 
 pub(crate) fn read_subscriber(register: &Register, s_id: u64, row: &mut HlrSubscriber) -> u8
-    requires { AllHome register.now.seats }
-    ensures { IsAnswer (Ok (event.SubscriberData s_id)) (subscriber_told row.old) register.now (result, row.new) register.now }
+    requires { IsHomeTo (event.SubscriberData s_id) register.now }
+    ensures { IsAnswer (Ok (event.SubscriberData s_id)) (subscriber_told row.old) (AWAY, row.old) register.now (result, row.new) register.now }
 {
     match register.lend_subscriber(s_id) {
         Ok(found) => {
@@ -85,8 +86,8 @@ pub(crate) fn read_subscriber(register: &Register, s_id: u64, row: &mut HlrSubsc
 }
 
 pub(crate) fn read_access(register: &Register, s_id: u64, ai_type: u64, row: &mut HlrAccess) -> u8
-    requires { AllHome register.now.seats }
-    ensures { IsAnswer (Ok (event.AccessData s_id ai_type)) (access_told s_id ai_type row.old) register.now (result, row.new) register.now }
+    requires { IsHomeTo (event.AccessData s_id ai_type) register.now }
+    ensures { IsAnswer (Ok (event.AccessData s_id ai_type)) (access_told s_id ai_type row.old) (AWAY, row.old) register.now (result, row.new) register.now }
 {
     match register.lend_access(s_id, ai_type) {
         Ok(found) => {
@@ -105,8 +106,8 @@ pub(crate) fn read_destinations(
     end_time: u64,
     numbers: &mut HlrNumbers,
 ) -> u8
-    requires { AllHome register.now.seats }
-    ensures { IsAnswer (Ok (event.NewDestination s_id sf_type start_time end_time)) (numbers_told numbers.old) register.now (result, numbers.new) register.now }
+    requires { IsHomeTo (event.NewDestination s_id sf_type start_time end_time) register.now }
+    ensures { IsAnswer (Ok (event.NewDestination s_id sf_type start_time end_time)) (numbers_told numbers.old) (AWAY, numbers.old) register.now (result, numbers.new) register.now }
 {
     match register.destinations(s_id, sf_type, start_time, end_time) {
         Ok(found) => {
@@ -117,8 +118,55 @@ pub(crate) fn read_destinations(
     }
 }
 
+fn ask_subscriber(register: &Lender, s_id: u64, row: &mut HlrSubscriber) -> u8
+    ensures { IsAnswer (Ok (event.SubscriberData s_id)) (subscriber_told row.old) (AWAY, row.old) register.now (result, row.new) register.now }
+{
+    if !register.is_home_for(s_id) {
+        return code_away(register, &Event::SubscriberData { s_id });
+    }
+    read_subscriber(register.register(), s_id, row)
+}
+
+fn ask_access(register: &Lender, s_id: u64, ai_type: u64, row: &mut HlrAccess) -> u8
+    ensures { IsAnswer (Ok (event.AccessData s_id ai_type)) (access_told s_id ai_type row.old) (AWAY, row.old) register.now (result, row.new) register.now }
+{
+    if !register.is_home_for(s_id) {
+        return code_away(register, &Event::AccessData { s_id, ai_type });
+    }
+    read_access(register.register(), s_id, ai_type, row)
+}
+
+fn ask_destinations(
+    register: &Lender,
+    s_id: u64,
+    sf_type: u64,
+    start_time: u64,
+    end_time: u64,
+    numbers: &mut HlrNumbers,
+) -> u8
+    ensures { IsAnswer (Ok (event.NewDestination s_id sf_type start_time end_time)) (numbers_told numbers.old) (AWAY, numbers.old) register.now (result, numbers.new) register.now }
+{
+    if !register.is_home_for(s_id) {
+        let event = Event::NewDestination {
+            s_id,
+            sf_type,
+            start_time,
+            end_time,
+        };
+        return code_away(register, &event);
+    }
+    read_destinations(
+        register.register(),
+        s_id,
+        sf_type,
+        start_time,
+        end_time,
+        numbers,
+    )
+}
+
 /// GET_SUBSCRIBER_DATA (TATP, section 3.1): the row of a subscriber. `NOT_OPEN`, `Field` where s_id isn't in
-/// 1..=16,777,216, `Moving`, `NoSubscriber`.
+/// 1..=16,777,216, `Moving`, `AWAY` where the part is out that has the subscriber, `NoSubscriber`.
 #[unsafe(no_mangle)]
 pub extern "C" fn hlr_subscriber_data(
     alloc: Global,
@@ -126,16 +174,16 @@ pub extern "C" fn hlr_subscriber_data(
     s_id: u64,
     row: &mut HlrSubscriber,
 ) -> u8
-    ensures { IsCall (NOT_OPEN, row.old) (IsAnswer (Ok (event.SubscriberData s_id)) (subscriber_told row.old))
+    ensures { IsCall (NOT_OPEN, row.old) (IsAnswer (Ok (event.SubscriberData s_id)) (subscriber_told row.old) (AWAY, row.old))
         handle.old.kept.register (result, row.new) handle.new.kept.register }
 {
     with_register!(handle, alloc, |register| {
-        read_subscriber(&register, s_id, row)
+        ask_subscriber(&register, s_id, row)
     })
 }
 
 /// GET_ACCESS_DATA (TATP, section 3.3): the row of an access. `NOT_OPEN`, `Field` where s_id isn't in 1..=16,777,216 or
-/// ai_type isn't in 1..=4, `Moving`, `NoAccess`.
+/// ai_type isn't in 1..=4, `Moving`, `AWAY`, `NoAccess`.
 #[unsafe(no_mangle)]
 pub extern "C" fn hlr_access_data(
     alloc: Global,
@@ -144,17 +192,17 @@ pub extern "C" fn hlr_access_data(
     ai_type: u64,
     row: &mut HlrAccess,
 ) -> u8
-    ensures { IsCall (NOT_OPEN, row.old) (IsAnswer (Ok (event.AccessData s_id ai_type)) (access_told s_id ai_type row.old))
+    ensures { IsCall (NOT_OPEN, row.old) (IsAnswer (Ok (event.AccessData s_id ai_type)) (access_told s_id ai_type row.old) (AWAY, row.old))
         handle.old.kept.register (result, row.new) handle.new.kept.register }
 {
     with_register!(handle, alloc, |register| {
-        read_access(&register, s_id, ai_type, row)
+        ask_access(&register, s_id, ai_type, row)
     })
 }
 
 /// GET_NEW_DESTINATION (TATP, section 3.2): the numbers that an active facility forwards to, of its forwardings that
 /// start by start_time and end after end_time. `NOT_OPEN`, `Field` where s_id isn't in 1..=16,777,216, sf_type isn't in
-/// 1..=4, start_time isn't 0, 8 or 16 or end_time isn't in 1..=24, `Moving`, `NoDestination`.
+/// 1..=4, start_time isn't 0, 8 or 16 or end_time isn't in 1..=24, `Moving`, `AWAY`, `NoDestination`.
 #[unsafe(no_mangle)]
 pub extern "C" fn hlr_new_destination(
     alloc: Global,
@@ -165,10 +213,10 @@ pub extern "C" fn hlr_new_destination(
     end_time: u64,
     numbers: &mut HlrNumbers,
 ) -> u8
-    ensures { IsCall (NOT_OPEN, numbers.old) (IsAnswer (Ok (event.NewDestination s_id sf_type start_time end_time)) (numbers_told numbers.old))
+    ensures { IsCall (NOT_OPEN, numbers.old) (IsAnswer (Ok (event.NewDestination s_id sf_type start_time end_time)) (numbers_told numbers.old) (AWAY, numbers.old))
         handle.old.kept.register (result, numbers.new) handle.new.kept.register }
 {
     with_register!(handle, alloc, |register| {
-        read_destinations(&register, s_id, sf_type, start_time, end_time, numbers)
+        ask_destinations(&register, s_id, sf_type, start_time, end_time, numbers)
     })
 }

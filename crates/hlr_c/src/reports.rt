@@ -1,16 +1,19 @@
 //! The reports.
-ghost use Rattle.std.specs.Prelude.{◌≡◌, ◌<◌, ◌≤◌, ℕ, length, slice_index, slice_index_or};
+ghost use Rattle.std.specs.Prelude.{◌≡◌, ◌<◌, ◌≤◌, ℕ, length, pos, slice_index, slice_index_or};
+ghost use Rattle.view_board.specs.Nets.{net_of};
+ghost use Rattle.view_board.specs.Views.{first_view};
 ghost use Rattle.hlr_owners.specs.Seats.{AllHome};
 ghost use Rattle.tatp_actions.specs.declared.cells.TheConstants.{CELLS};
-ghost use Rattle.hlr_c.specs.Call.{IsCall};
-ghost use Rattle.hlr_c.specs.Reports.{AreCounts, AreListed, AreProposed, AreViews, IsReport};
-ghost use Rattle.hlr_c.specs.declared.codes.TheConstants.{NOT_OPEN};
+ghost use Rattle.hlr_c.specs.Call.{IsAtHome, IsCall};
+ghost use Rattle.hlr_c.specs.Reports.{AreCounts, AreListed, AreProposed, AreViews, IsLook, IsReport, nearest};
+ghost use Rattle.hlr_c.specs.declared.codes.TheConstants.{AWAY, NOT_OPEN};
 
 use crate::codes::DONE;
-use crate::handle::{Hlr, with_register};
+use crate::handle::{Hlr, with_register, with_register_at_home};
 use crate::lists::{bounds_for_c, regions_for_c};
 use crate::rows::{HlrBounds, HlrRegions};
-use hlr_core::{CELLS, Cells, Register};
+use hlr_core::{CELLS, Cells, Register, Sight};
+use hlr_lent::Lender;
 use std::alloc::Global;
 
 /// The counts of all cells.
@@ -22,6 +25,35 @@ fn counts_of(cells: &Cells) -> [u64; CELLS as usize]
         counts[usize::from(cell)] = cells.get(cell);
     }
     counts
+}
+
+/// What a sight has published of a cell; where that has no room in 64 bits, what is nearest.
+fn published_of(sight: &Sight, cell: u8) -> i64
+    requires { cell < CELLS }
+    ensures { result ≡ nearest (net_of (first_view sight.now.words) cell) }
+{
+    let published = sight.published(cell);
+    published
+        .min(i128::from(i64::MAX))
+        .max(i128::from(i64::MIN)) as i64
+}
+
+/// What a sight has published of each cell.
+fn cells_of(sight: &Sight) -> [i64; CELLS as usize]
+    ensures { (c : ℕ) → c < CELLS → slice_index_or result c (pos 0) ≡ nearest (net_of (first_view sight.now.words) c) }
+{
+    let mut published = [0; CELLS as usize];
+    for cell in 0..CELLS {
+        published[usize::from(cell)] = published_of(sight, cell);
+    }
+    published
+}
+
+fn look(register: &mut Lender, published: &mut [i64; CELLS as usize]) -> u8
+    ensures { IsLook register.old (result, published.new) register.new }
+{
+    *published = cells_of(&register.look());
+    DONE
 }
 
 fn write_views(
@@ -56,7 +88,8 @@ fn write_proposal(register: &Register, bounds: &mut HlrBounds)
     *bounds = bounds_for_c(register.propose().list());
 }
 
-/// Each cell as published, and what is not posted yet of it, which add up to the count over the rows now. `NOT_OPEN`.
+/// Each cell as published, and what is not posted yet of it, which add up to the count over the rows now. `NOT_OPEN`,
+/// `AWAY` where any part is out.
 #[unsafe(no_mangle)]
 pub extern "C" fn hlr_views(
     alloc: Global,
@@ -64,27 +97,42 @@ pub extern "C" fn hlr_views(
     published: &mut [i64; CELLS as usize],
     unposted: &mut [i64; CELLS as usize],
 ) -> u8
-    ensures { IsCall (NOT_OPEN, (published.old, unposted.old)) (λ before. IsReport (AreViews before) before)
+    ensures { IsCall (NOT_OPEN, (published.old, unposted.old)) (IsAtHome (AWAY, (published.old, unposted.old)) (λ before. IsReport (AreViews before) before))
         handle.old.kept.register (result, (published.new, unposted.new)) handle.new.kept.register }
 {
-    with_register!(handle, alloc, |register| {
-        write_views(&register, published, unposted);
+    with_register_at_home!(handle, alloc, |register| {
+        write_views(register, published, unposted);
         DONE
     })
 }
 
-/// Each cell, counted anew by a walk over all rows. `NOT_OPEN`.
+/// Each cell as published now, whoever is out: the words of the board are loaded one after another, so it is no moment of
+/// all of them, and a word never falls behind an earlier look. `NOT_OPEN`.
+#[unsafe(no_mangle)]
+pub extern "C" fn hlr_look(
+    alloc: Global,
+    handle: &mut Hlr,
+    published: &mut [i64; CELLS as usize],
+) -> u8
+    ensures { IsCall (NOT_OPEN, published.old) IsLook handle.old.kept.register (result, published.new) handle.new.kept.register }
+{
+    with_register!(handle, alloc, |register| {
+        look(&mut register, published)
+    })
+}
+
+/// Each cell, counted anew by a walk over all rows. `NOT_OPEN`, `AWAY` where any part is out.
 #[unsafe(no_mangle)]
 pub extern "C" fn hlr_scan(
     alloc: Global,
     handle: &mut Hlr,
     counts: &mut [u64; CELLS as usize],
 ) -> u8
-    ensures { IsCall (NOT_OPEN, counts.old) (λ before. IsReport (AreCounts before) before)
+    ensures { IsCall (NOT_OPEN, counts.old) (IsAtHome (AWAY, counts.old) (λ before. IsReport (AreCounts before) before))
         handle.old.kept.register (result, counts.new) handle.new.kept.register }
 {
-    with_register!(handle, alloc, |register| {
-        write_counts(&register, counts);
+    with_register_at_home!(handle, alloc, |register| {
+        write_counts(register, counts);
         DONE
     })
 }
@@ -96,20 +144,20 @@ pub extern "C" fn hlr_regions(alloc: Global, handle: &mut Hlr, regions: &mut Hlr
         handle.old.kept.register (result, regions.new) handle.new.kept.register }
 {
     with_register!(handle, alloc, |register| {
-        write_regions(&register, regions);
+        write_regions(register.register(), regions);
         DONE
     })
 }
 
 /// The bounds between zones that would give each part about its share of the rows, by what is published of the zones.
-/// `NOT_OPEN`.
+/// `NOT_OPEN`, `AWAY` where any part is out.
 #[unsafe(no_mangle)]
 pub extern "C" fn hlr_propose(alloc: Global, handle: &mut Hlr, bounds: &mut HlrBounds) -> u8
-    ensures { IsCall (NOT_OPEN, bounds.old) (λ before. IsReport (AreProposed before) before)
+    ensures { IsCall (NOT_OPEN, bounds.old) (IsAtHome (AWAY, bounds.old) (λ before. IsReport (AreProposed before) before))
         handle.old.kept.register (result, bounds.new) handle.new.kept.register }
 {
-    with_register!(handle, alloc, |register| {
-        write_proposal(&register, bounds);
+    with_register_at_home!(handle, alloc, |register| {
+        write_proposal(register, bounds);
         DONE
     })
 }

@@ -15,11 +15,13 @@ use crate::rows::{
     HlrAccess, HlrBounds, HlrFacility, HlrNumbers, HlrRegion, HlrRegions, HlrSubscriber,
 };
 use hlr_core::{CELLS, LIMIT, Refusal, Register, WORDS};
+use hlr_lent::Lender;
 use std::alloc::Global;
 use std::process::Abort;
 use std::test::Fail;
 
 mod drawn;
+mod lent;
 
 const NO_ROW: HlrSubscriber = HlrSubscriber {
     s_id: 0,
@@ -254,7 +256,8 @@ fn opened_worn(alloc: Global) -> Result<Hlr, Refusal> {
     let mut words = [0; WORDS];
     words[41] = LIMIT;
     words[usize::from(CELLS) + 41] = LIMIT;
-    let register = Box::new(alloc, Register::open_from(alloc, 2, 4, &words)?)?;
+    let register = Lender::of(Register::open_from(alloc, 2, 4, &words)?);
+    let register = Box::new(alloc, register)?;
     let mut handle = Hlr::closed();
     handle.put(register);
     Ok(handle)

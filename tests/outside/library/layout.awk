@@ -1,5 +1,5 @@
 # What hlr.h has to agree with, as lines for layout.c: the layout of each struct that C is passed, each code, and how
-# many cells there are. Reads rows.rt, kept.rt, handle.rt and codes.rt of crates/hlr_c/src, refusal.rt of
+# many cells there are. Reads rows.rt, kept.rt, kept_part.rt, handle.rt, part.rt and codes.rt of crates/hlr_c/src, refusal.rt of
 # crates/tatp_rows/src and cells.rt of crates/tatp_actions/src, in this order.
 #
 # The structs are `#[repr(C)]`, so they lie as C's: each field stands in the order of the source, at the next multiple
@@ -8,7 +8,7 @@
 BEGIN {
   size["u8"] = align["u8"] = 1
   size["u64"] = align["u64"] = size["*mut u8"] = align["*mut u8"] = 8
-  structs = split("Hlr HlrSubscriber HlrAccess HlrFacility HlrAccessAsked HlrDestinationAsked HlrNumbers HlrRegion HlrRegions HlrBounds", list, " ")
+  structs = split("Hlr HlrPart HlrSubscriber HlrAccess HlrFacility HlrAccessAsked HlrDestinationAsked HlrNumbers HlrRegion HlrRegions HlrBounds", list, " ")
   for (i in list) name[list[i]] = snake(list[i])
   name["HlrRegions"] = "hlr_region_list"
 }
@@ -49,7 +49,7 @@ struct && /^}/ {
   if (proved in name) { print "SIZE(" name[proved] ", " $(NF) + 0 ", " align[proved] ")"; sized++ }
 }
 
-/^pub const (DONE|NOT_OPEN|STILL_OPEN|CELLS): u8 = [0-9]+;/ {
+/^pub const (DONE|ELSEWHERE|AWAY|NOT_OPEN|STILL_OPEN|CELLS): u8 = [0-9]+;/ {
   sub(/:/, "", $3)
   print "IS(" $3 ", " $NF + 0 ")"; numbers++
 }
@@ -61,5 +61,5 @@ struct && /^}/ {
 }
 END {
   if (laid != structs || sized != structs) unknown("layout of " structs " structs")
-  if (numbers != 22) unknown("21 codes and the cells")
+  if (numbers != 24) unknown("23 codes and the cells")
 }

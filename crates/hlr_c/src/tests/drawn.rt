@@ -18,7 +18,7 @@ use std::test::Fail;
 
 /// What is asked for, by the numbers that C would hand in.
 #[derive(Clone, Copy)]
-enum Asked {
+pub(super) enum Asked {
     Subscriber(u64),
     Access(u64, u64),
     Destination(u64, u64, u64, u64),
@@ -65,7 +65,7 @@ const ANSWERED: [&[usize]; CALLS] = [
 
 /// What a call answers: what it wrote, where it was done, else its code.
 #[derive(PartialEq, Debug, Clone, Copy)]
-enum Answer {
+pub(super) enum Answer {
     Code(u8),
     Row(HlrSubscriber),
     Access(HlrAccess),
@@ -76,12 +76,12 @@ enum Answer {
 
 /// Numbers that look random (xorshift).
 #[derive(Drop)]
-struct Draws {
-    seed: u64,
+pub(super) struct Draws {
+    pub(super) seed: u64,
 }
 
 impl Draws {
-    fn next(&mut self) -> u64 {
+    pub(super) fn next(&mut self) -> u64 {
         let mut next = self.seed;
         next ^= next << 13;
         next ^= next >> 7;
@@ -91,7 +91,7 @@ impl Draws {
     }
 
     /// One of 0..count, and now and then what is far above all ranges.
-    fn below(&mut self, count: u64) -> u64 {
+    pub(super) fn below(&mut self, count: u64) -> u64 {
         let value = self.next() % count.max(1);
         if self.next() % 64 == 0 {
             value.wrapping_add(1 << 60)
@@ -163,7 +163,7 @@ impl Draws {
         }
     }
 
-    fn asked(&mut self) -> Asked {
+    pub(super) fn asked(&mut self) -> Asked {
         match self.next() % 16 {
             0..=3 => self.read(),
             4..=7 => self.addition(),
@@ -343,7 +343,7 @@ fn wanted(register: &mut Register, asked: &Asked) -> Answer {
 }
 
 /// What a call answered: what it wrote, where it was done.
-fn wrote(code: u8, written: Answer) -> Answer {
+pub(super) fn wrote(code: u8, written: Answer) -> Answer {
     if code == DONE {
         written
     } else {
@@ -406,7 +406,7 @@ fn moved(alloc: Global, handle: &mut Hlr, asked: &Asked) -> Answer {
 }
 
 /// What the call answers that asks for it.
-fn called(alloc: Global, handle: &mut Hlr, asked: &Asked) -> Answer {
+pub(super) fn called(alloc: Global, handle: &mut Hlr, asked: &Asked) -> Answer {
     Answer::Code(match *asked {
         Asked::UpdateSubscriber(s_id, sf_type, bit_1, data_a) => {
             hlr_update_subscriber(alloc, handle, s_id, sf_type, bit_1, data_a)

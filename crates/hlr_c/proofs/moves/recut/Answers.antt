@@ -1,5 +1,5 @@
-use Rattle.hlr_owners.proofs.HomeLemmas.{cut_home_of_all}
+use Rattle.std.proofs.Common.{Err, ap, inr, refl}
 use Rattle.hlr_c.proofs.moves.recut.Goals as goal
 
-pub recut_to-requires : goal.recut_to-requires
-recut_to-requires c = cut_home_of_all c.in_ok-bounds.bounds.now c.args.register.now c.requires
+pub returns-in-Err : goal.returns-in-Err
+returns-in-Err c = rw (rw c.in-Err.is at c.bounds_in.ensures.err) (inr (Err c.in-Err.why, (refl, refl), ap (λ n. (n, c.args.moved.now)) c.code.ensures))

@@ -8,16 +8,16 @@ use denote.Param.Send.{IsSend, owning_send, part_keyless, sendable}
 use denote.RawPtr.{Ptr, block_ptr, null_ptr}
 use Rattle.std.specs.Prelude.{Option, None, Some}
 use Rattle.std.proofs.Crossing.{frees}
-use Rattle.hlr_c.proofs.RegisterCrossing.{register_send}
-use Rattle.hlr_core.specs.contracts.register.Register.{the_row as Register}
+use Rattle.hlr_c.proofs.LenderCrossing.{lender_send}
+use Rattle.hlr_lent.specs.contracts.lender.Lender.{the_row as Lender}
 use Rattle.hlr_c.specs.Held.{held}
 use Rattle.hlr_c.specs.contracts.kept.Kept.{the_row, the_type}
 
-held_keyless : (p : Ptr) (o : Option Register.Denot) → Keyless (held Register p o)
+held_keyless : (p : Ptr) (o : Option Lender.Denot) → Keyless (held Lender p o)
 held_keyless p None = tt
-held_keyless null_ptr (Some x) = λ alloc. (tt, frees.frees alloc (bare (lone Register.mir)) null_ptr)
+held_keyless null_ptr (Some x) = λ alloc. (tt, frees.frees alloc (bare (lone Lender.mir)) null_ptr)
 held_keyless (block_ptr b o) (Some x) =
-    λ alloc. (part_keyless Register register_send full_share x b o, frees.frees alloc (bare (lone Register.mir)) (block_ptr b o))
+    λ alloc. (part_keyless Lender lender_send full_share x b o, frees.frees alloc (bare (lone Lender.mir)) (block_ptr b o))
 
 address_send : IsSend RawPtr
 address_send = search sendable

@@ -22,7 +22,7 @@ use Rattle.std.proofs.alloc.Global.TheLaws.{the_row_laws as global_laws}
 use Rattle.std.proofs.raw_atomic.Walks.{leaves, proved_at}
 use Rattle.std.specs.contracts.alloc.Global.{the_row as Global}
 use Rattle.std.specs.contracts.impls.GlobalAllocator.TheImpl.{ghosts as of_global}
-use Rattle.hlr_core.specs.contracts.register.Register.{the_row as Register}
+use Rattle.hlr_lent.specs.contracts.lender.Lender.{the_row as Lender}
 use Rattle.c_handle.proofs.PartsSteps.{allocator, pair, pair_fits, parts_in}
 use Rattle.hlr_c.proofs.KeptSteps.{found, kept_out, word}
 use Rattle.hlr_c.proofs.kept.Kept.unseal.Code as code
@@ -48,9 +48,9 @@ unseal_spec 𝓤 𝓛 𝓜 𝓡 wired =
     let is_kept = fact_i 𝓤 (kept.register ≡ Some x) (emp 𝓤) is in
     split ! $ move ! (1 ∷ []) $ fsplit ! $ kept_out ! kept x is z.0.4.0 (λ heap b o words.
     move ! (1 ∷ []) $ fsplit ! $
-    handle_tells (allocator Register Global global_laws of_global) ! a z.0.4.1.0 (λ h is_alloc fits. move ! (2 ∷ 0 ∷ []) $
+    handle_tells (allocator Lender Global global_laws of_global) ! a z.0.4.1.0 (λ h is_alloc fits. move ! (2 ∷ 0 ∷ []) $
     -- [the block; the allocator]
-    let made : Val = pair (vptr b o) h in let typed = pair_fits Register Global global_laws of_global b o h fits in
+    let made : Val = pair (vptr b o) h in let typed = pair_fits Lender Global global_laws of_global b o h fits in
     let passed : List Val = word (vptr b o) ∷ h ∷ [] in
     suffices ! (Run passed) (subst (λ (us : List Val). ent 𝓤 (Run passed) (Run us)) (sym (λ i. words i ++ (is_alloc i ++ []))) (id⊢ 𝓤 (Run passed))) $
     enter ! 𝓣.C 𝓣.Λ code.function passed Post $ alloc_all ! (λ l. pass_all ! refl ((tt, (tt, tt)), (fits, tt)) $
@@ -58,7 +58,7 @@ unseal_spec 𝓤 𝓛 𝓜 𝓡 wired =
     sets ! (of_opd ! (get_in ! (fld ! refl (stop !)) (sub ! 0 refl (whole !)))) refl (tt, tt) $
     sets ! (of_opd ! (get ! refl)) refl (tt, tt) $
     sets ! (agg ! (and_then ! (get ! refl) (and_then ! (get ! refl) (no_more !)))) refl typed $
-    parts_in Register Global global_laws of_global ! b o h a x $
+    parts_in Lender Global global_laws of_global ! b o h a x $
     use0 𝓛 (raw (fact 𝓤 (kept.register ≡ Some x))) is_kept $ nothing ! $ nothing ! $ fjoin ! $ nothing ! $ fjoin ! $
     returns ! (look_at ! 0 refl) $ free_all ! refl $ keep ! (4 ∷ 0 ∷ 2 ∷ 1 ∷ []) $
     by ! (leaves 𝓛 f.ended stays c z made (record { address = block_ptr b o; alloc = a; value = x }) (tt, (tt, tt)) (tt, (tt, tt))))))))

@@ -1,12 +1,15 @@
--- A register may go to another thread.
+-- A register that lends its parts may go to another thread.
 use denote.Param.Send.{IsSend, sendable}
 use denote.Struct.Field.{u32-field}
-use Rattle.std.proofs.Crossing.{Arc-send, Box-send, Vec-send, crosses, send as heap_send}
+use Rattle.std.proofs.Crossing.{Arc-send, Box-send, Vec-send, crosses, frees, send as heap_send}
 use Rattle.std.specs.contracts.alloc.Global as Heap
 use Rattle.std.specs.contracts.boxed.Box as Box
 use Rattle.std.specs.contracts.impls.GlobalAllocator.TheImpl as heap
+use Rattle.std.specs.contracts.option.Option as Option
 use Rattle.std.specs.contracts.sync.Arc as Arc
 use Rattle.std.specs.contracts.vec.Vec as Vec
+use Rattle.rtrb.proofs.consumer.Consumer.TheSendSync.{the_send as consumer_send}
+use Rattle.rtrb.specs.contracts.consumer.Consumer as Consumer
 use Rattle.tatp_actions.specs.contracts.trees.Trees as Trees
 use Rattle.tatp_actions.specs.contracts.trees.TreesRows.TheImpl.{ghosts}
 use Rattle.mr_subtree.proofs.CrossingLemmas.{tree_send}
@@ -23,6 +26,11 @@ use Rattle.hlr_owners.specs.contracts.lodging.Seat as Seat
 use Rattle.hlr_owners.specs.contracts.prepared.Rooms as Rooms
 use Rattle.hlr_owners.specs.contracts.seats.Seats as Seats
 use Rattle.hlr_core.specs.contracts.register.Register as Register
+use Rattle.hlr_lent.proofs.CrossingLemmas.{message_send}
+use Rattle.hlr_lent.specs.contracts.lender.Lender as Lender
+use Rattle.hlr_lent.specs.contracts.ring.Message as Message
+use Rattle.hlr_lent.specs.contracts.ring.ReturnRule as ReturnRule
+use Rattle.hlr_lent.specs.contracts.ring.ReturnRuleProtocolMessage.TheImpl as rule
 
 boxed_holding_send : IsSend (Box.the_row (Holding.the_row Trees.the_row ghosts) Heap.the_row heap.ghosts)
 boxed_holding_send = Box-send (Holding.the_row Trees.the_row ghosts) holding_send
@@ -56,6 +64,15 @@ seats_send =
 index_send : IsSend NumberIndex.the_row
 index_send = let tree = tree_send u32-field.row (search sendable) in search sendable depth 20
 
-pub register_send : IsSend Register.the_row
+register_send : IsSend Register.the_row
 register_send =
     let seats = seats_send in let index = index_send in let alloc = heap_send in search sendable depth 20
+
+-- the register's end of a ring, where there is one
+ring_send : IsSend (Option.the_row (Consumer.the_row Message.the_row Heap.the_row ReturnRule.the_row heap.ghosts rule.ghosts))
+ring_send =
+    let end = consumer_send Message.the_row Heap.the_row ReturnRule.the_row heap.ghosts rule.ghosts message_send heap_send frees in
+    search sendable depth 20
+
+pub lender_send : IsSend Lender.the_row
+lender_send = let register = register_send in let ring = ring_send in search (sendable, crosses) depth 20

@@ -1,0 +1,50 @@
+-- What a part that is out is asked for.
+use Rattle.std.proofs.Common.{◌≡◌, ◌∙◌, ◌<◌, refl, ℕ, arith, length, get_or, Bool, true, false, Ok, Err, inl}
+use Rattle.std.proofs.lemmas.List.{get_or_default}
+use Rattle.std.specs.Prelude.{Result}
+use Rattle.tatp_rows.specs.Refusal.{code_of}
+use Rattle.tatp_rows.specs.declared.refusal.Refusal.{Refusal}
+use Rattle.tatp_rows.specs.declared.refusal.Refusal.TheVariants.{Field}
+use Rattle.tatp_rows.proofs.OrderedLemmas.{by_test}
+use Rattle.tatp_actions.specs.Action.{is_in_range, s_id_of}
+use Rattle.tatp_actions.specs.declared.action.Action.{Action}
+use Rattle.tatp_actions.specs.declared.action.RowReply.TheVariants as row_reply
+use Rattle.part_table.specs.Regions.{parts_of}
+use Rattle.holding.specs.Held.{HoldingState, IsHolding}
+use Rattle.holding.specs.declared.job.Job.TheVariants.{Act}
+use Rattle.hlr_owners.specs.Lodged.{Lodged}
+use Rattle.hlr_owners.specs.Seats.{AreSeated, IsPartHome, Seating, homes_in}
+use Rattle.hlr_owners.proofs.PartLemmas.{count_parts}
+use Rattle.hlr_core.specs.Inside.Asked.{IsAskedAlone}
+use Rattle.hlr_core.specs.Session.{IsJobDone}
+use Rattle.hlr_core.specs.declared.event.Reply.TheVariants as reply
+use Rattle.hlr_c.specs.Parts.{IsPartEdit, IsPartStep, has}
+
+-- a field out of its range is refused as a job of the part would refuse it
+field_job : (act : Action) (h : HoldingState) → IsHolding h → is_in_range act ≡ false → IsJobDone (Act act) h (reply.Refused Field) h
+field_job act h rules misfit = record {
+  rows = row_reply.Refused Field;
+  outcome = inl (misfit, refl, refl);
+  answered = refl;
+  range = (refl, refl, refl);
+  desk = (refl, refl);
+  rules = rules;
+}
+
+refused_step : (here : Bool) (act : Action) (h g : HoldingState) (code : ℕ) → IsHolding h → is_in_range act ≡ false → code ≡ code_of Field → g ≡ h → IsPartStep here act h code g
+refused_step true act h g code rules misfit is same = (reply.Refused Field, rw same (field_job act h rules misfit), is)
+refused_step false act h g code rules misfit is same = (rw misfit is, same)
+
+-- so a change is answered that asks by numbers, whether these have room or not
+pub asked_edit : (act : Action) (asked : Result Action Refusal) (h : HoldingState) (code : ℕ) (g : HoldingState) → IsHolding h → IsAskedAlone act asked
+    → IsPartEdit asked h code g → IsPartEdit (Ok act) h code g
+asked_edit act (Ok other) h code g rules is done = let same : act ≡ other = (let one = is.0 in cc) in rw same done
+asked_edit act (Err why) h code g rules is done = by_test (is_in_range act)
+    (λ fits. absurd (rw fits at is))
+    (λ misfit. let field : why ≡ Field = rw misfit at is in refused_step (has (s_id_of act) h) act h g code rules misfit (rw field at done.0) done.1)
+
+-- a part that is there and counts as at home is at home
+pub home_there : (h : Seating) → AreSeated h → (p : ℕ) → p < length (parts_of h.regions) → IsPartHome p h → get_or (homes_in h.seats) p false ≡ true
+home_there h are p below home =
+    let count = count_parts (λ (o : Lodged). o.home) h.width h.regions h.seats are.each in
+    get_or_default (homes_in h.seats) p false true (omega arith) ∙ home

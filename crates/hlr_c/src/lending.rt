@@ -1,0 +1,91 @@
+//! Parts go out into handles of their own, and come home.
+ghost use Rattle.std.specs.Prelude.{◌≡◌, IfErr, IfOk};
+ghost use Rattle.hlr_owners.specs.Seats.{IsLent};
+ghost use Rattle.hlr_c.specs.Call.{IsCall};
+ghost use Rattle.hlr_c.specs.Opened.{IsClosing, IsComing, IsKept, IsLending};
+ghost use Rattle.hlr_c.specs.declared.codes.TheConstants.{NOT_OPEN};
+
+use crate::codes::{AWAY, DONE, NOT_OPEN, STILL_OPEN};
+use crate::handle::{Hlr, with_register};
+use crate::part::HlrPart;
+use hlr_core::Refusal;
+use hlr_lent::{Lender, Owner};
+use std::alloc::Global;
+
+/// Lends a part, or gives the code why it isn't lent.
+fn lend(alloc: Global, register: &mut Lender, part: u64) -> Result<Box<Owner>, u8>
+    ensures lent { IfOk result (λ owner. IsLent part register.old owner.value register.new) }
+    ensures kept { IfErr result (λ code. (register.new ≡ register.old) × IsKept part register.old code) }
+{
+    if part >= u64::from(register.register().regions().parts()) {
+        return Err(Refusal::NoPart.code());
+    }
+    if !register.is_part_home(part) {
+        return Err(AWAY);
+    }
+    match register.lend(alloc, part as u8) {
+        Ok(owner) => Ok(owner),
+        Err(why) => Err(why.code()),
+    }
+}
+
+fn back(register: &mut Lender, part: u64) -> u8
+    ensures { IsComing part register.old result register.new }
+{
+    if part >= u64::from(register.register().regions().parts()) {
+        return Refusal::NoPart.code();
+    }
+    if register.is_part_home(part) || register.back(part as u8) {
+        return DONE;
+    }
+    AWAY
+}
+
+/// Lends a part to a closed handle, for whatever thread. `NOT_OPEN`, `STILL_OPEN` where that handle has a part, `NoPart`,
+/// `AWAY` where the part is out, `Memory`: each changes nothing.
+#[unsafe(no_mangle)]
+pub extern "C" fn hlr_lend(alloc: Global, handle: &mut Hlr, part: u64, owner: &mut HlrPart) -> u8
+    ensures { IsLending part (handle.old.kept.register, owner.old.kept.part) result (handle.new.kept.register, owner.new.kept.part) }
+{
+    let Some(mut register) = handle.take(alloc) else {
+        return NOT_OPEN;
+    };
+    if owner.is_open() {
+        handle.put(register);
+        return STILL_OPEN;
+    }
+    let lent = lend(alloc, &mut register, part);
+    handle.put(register);
+    match lent {
+        Ok(out) => {
+            owner.put(out);
+            DONE
+        }
+        Err(code) => code,
+    }
+}
+
+/// Takes a part in that was sent home. It is done also where the part is at home. `NOT_OPEN`, `NoPart`, `AWAY` where it
+/// wasn't sent home yet.
+#[unsafe(no_mangle)]
+pub extern "C" fn hlr_back(alloc: Global, handle: &mut Hlr, part: u64) -> u8
+    ensures { IsCall NOT_OPEN (IsComing part) handle.old.kept.register result handle.new.kept.register }
+{
+    with_register!(handle, alloc, |register| {
+        back(&mut register, part)
+    })
+}
+
+/// Sends a part home, from whatever thread has it, and closes its handle. `NOT_OPEN`.
+#[unsafe(no_mangle)]
+pub extern "C" fn hlr_home(alloc: Global, owner: &mut HlrPart) -> u8
+    ensures { IsClosing owner.old.kept.part result owner.new.kept.part }
+{
+    match owner.take(alloc) {
+        None => NOT_OPEN,
+        Some(out) => {
+            Box::into_inner(out).send_home();
+            DONE
+        }
+    }
+}

@@ -1,0 +1,328 @@
+//! The calls that change rows of a part that is out, and the one that posts what is pending of it.
+ghost use Rattle.std.specs.Prelude.{◌≡◌, true, false, None, Ok, IfOk, OnErr};
+ghost use Rattle.tatp_rows.specs.Rows.{is_between};
+ghost use Rattle.tatp_actions.specs.declared.action.Action.TheVariants as action;
+ghost use Rattle.holding.specs.Held.{IsHolding};
+ghost use Rattle.hlr_core.specs.Inside.Asked.{IsAskedAlone, action_asked};
+ghost use Rattle.hlr_core.specs.Step.{given_number, posted_reply};
+ghost use Rattle.hlr_c.specs.Asked.{part_access_asked, part_facility_asked, part_insertion_asked};
+ghost use Rattle.hlr_c.specs.Call.{IsCall};
+ghost use Rattle.hlr_c.specs.Parts.{IsPartEdit, IsPartPost, code_elsewhere};
+ghost use Rattle.hlr_c.specs.Told.{posted_told};
+ghost use Rattle.hlr_c.specs.declared.codes.TheConstants.{NOT_OPEN};
+
+use crate::changes::{access_of, facility_of};
+use crate::codes::{DONE, ELSEWHERE, code_of_change};
+use crate::part::{HlrPart, with_part};
+use crate::part_reads::has;
+use crate::rows::{HlrAccess, HlrFacility};
+use hlr_core::{Forwarding, Number, Refusal, byte};
+use hlr_lent::Owner;
+use std::alloc::Global;
+use std::num::NonZeroU32;
+use tatp_actions::Edit;
+use tatp_actions::edit::{
+    AddAccess, AddFacility, DeleteForwarding, InsertForwarding, SetActive, UpdateLocation,
+    UpdateSubscriber,
+};
+use tatp_rows::{LAST_SUBSCRIBER, in_range};
+
+fn subscriber_update(
+    s_id: u64,
+    sf_type: u64,
+    bit_1: u64,
+    data_a: u64,
+) -> Result<UpdateSubscriber, Refusal>
+    ensures { IsAskedAlone (action.UpdateSubscriber s_id sf_type bit_1 data_a) (action_asked ⟦<UpdateSubscriber as Edit>⟧.action result) }
+{
+    Ok(UpdateSubscriber {
+        s_id: in_range(s_id, LAST_SUBSCRIBER)?,
+        sf_type: byte(sf_type)?,
+        bit_1: byte(bit_1)?,
+        data_a: byte(data_a)?,
+    })
+}
+
+/// A location. 0, and what is above 4,294,967,295, is out of its range.
+fn location(value: u64) -> Result<NonZeroU32, Refusal>
+    ensures ok { IfOk result (λ location. (location.value ≡ value) × (is_between 1 4294967295 value ≡ true)) }
+    ensures err { OnErr result ((is_between 1 4294967295 value ≡ false) × (result ≡ Err Refusal.Field)) }
+{
+    let small = u32::try_from(value).map_err(|_| Refusal::Field)?;
+    NonZeroU32::new(small).ok_or(Refusal::Field)
+}
+
+fn location_update(s_id: u64, vlr_location: u64) -> Result<UpdateLocation, Refusal>
+    ensures { IsAskedAlone (action.UpdateLocation s_id vlr_location) (action_asked ⟦<UpdateLocation as Edit>⟧.action result) }
+{
+    Ok(UpdateLocation {
+        s_id: in_range(s_id, LAST_SUBSCRIBER)?,
+        vlr_location: location(vlr_location)?,
+    })
+}
+
+fn insertion(
+    s_id: u64,
+    sf_type: u64,
+    start_time: u64,
+    end_time: u64,
+    numberx: Number,
+) -> Result<InsertForwarding, Refusal>
+    ensures { IsAskedAlone (action.InsertForwarding (record { s_id = s_id; sf_type = sf_type; start_time = start_time; end_time = end_time; numberx = numberx })) (action_asked ⟦<InsertForwarding as Edit>⟧.action result) }
+{
+    let row = Forwarding::try_new(s_id, sf_type, start_time, end_time, numberx)?;
+    Ok(InsertForwarding { row })
+}
+
+fn deletion(s_id: u64, sf_type: u64, start_time: u64) -> Result<DeleteForwarding, Refusal>
+    ensures { IsAskedAlone (action.DeleteForwarding s_id sf_type start_time) (action_asked ⟦<DeleteForwarding as Edit>⟧.action result) }
+{
+    Ok(DeleteForwarding {
+        s_id: in_range(s_id, LAST_SUBSCRIBER)?,
+        sf_type: byte(sf_type)?,
+        start_time: byte(start_time)?,
+    })
+}
+
+fn activation(s_id: u64, sf_type: u64, is_active: u64) -> Result<SetActive, Refusal>
+    ensures { IsAskedAlone (action.SetActive s_id sf_type is_active) (action_asked ⟦<SetActive as Edit>⟧.action result) }
+{
+    Ok(SetActive {
+        s_id: in_range(s_id, LAST_SUBSCRIBER)?,
+        sf_type: byte(sf_type)?,
+        is_active: byte(is_active)?,
+    })
+}
+
+/// The code of a change of a subscriber who isn't the part's.
+#[inline(never)]
+fn code_elsewhere<E: Edit>(edit: E) -> u8
+    ensures { result ≡ code_elsewhere (E.action edit) }
+{
+    if edit.to_action().is_in_range() {
+        ELSEWHERE
+    } else {
+        Refusal::Field.code()
+    }
+}
+
+/// Does what asks for a change that gives no number.
+fn edit<E: Edit>(part: &mut Owner, asked: Result<E, Refusal>) -> u8
+    requires { IfOk asked (λ edit. given_number (E.action edit) ≡ None) }
+    ensures edit { IsPartEdit (action_asked E.action asked) part.old result part.new }
+    ensures rules { IsHolding part.old }
+{
+    // For the prover: a part keeps the rules, as its range tells.
+    let _lo = part.lo();
+    let edit = match asked {
+        Ok(edit) => edit,
+        Err(why) => return why.code(),
+    };
+    if !has(part, u64::from(edit.s_id())) {
+        return code_elsewhere(edit);
+    }
+    code_of_change(part.edit(edit))
+}
+
+fn update_subscriber(part: &mut Owner, s_id: u64, sf_type: u64, bit_1: u64, data_a: u64) -> u8
+    ensures { IsPartEdit (Ok (action.UpdateSubscriber s_id sf_type bit_1 data_a)) part.old result part.new }
+{
+    edit(part, subscriber_update(s_id, sf_type, bit_1, data_a))
+}
+
+fn update_location(part: &mut Owner, s_id: u64, vlr_location: u64) -> u8
+    ensures { IsPartEdit (Ok (action.UpdateLocation s_id vlr_location)) part.old result part.new }
+{
+    edit(part, location_update(s_id, vlr_location))
+}
+
+fn insert_forwarding(
+    part: &mut Owner,
+    s_id: u64,
+    sf_type: u64,
+    start_time: u64,
+    end_time: u64,
+    numberx: u64,
+) -> u8
+    ensures { IsPartEdit (part_insertion_asked s_id sf_type start_time end_time numberx) part.old result part.new }
+{
+    match Number::try_new(numberx) {
+        Ok(numberx) => edit(part, insertion(s_id, sf_type, start_time, end_time, numberx)),
+        Err(why) => why.code(),
+    }
+}
+
+fn delete_forwarding(part: &mut Owner, s_id: u64, sf_type: u64, start_time: u64) -> u8
+    ensures { IsPartEdit (Ok (action.DeleteForwarding s_id sf_type start_time)) part.old result part.new }
+{
+    edit(part, deletion(s_id, sf_type, start_time))
+}
+
+fn set_active(part: &mut Owner, s_id: u64, sf_type: u64, is_active: u64) -> u8
+    ensures { IsPartEdit (Ok (action.SetActive s_id sf_type is_active)) part.old result part.new }
+{
+    edit(part, activation(s_id, sf_type, is_active))
+}
+
+fn add_access(part: &mut Owner, row: &HlrAccess) -> u8
+    ensures { IsPartEdit (part_access_asked row.now) part.old result part.new }
+{
+    match access_of(row) {
+        Ok(row) => edit(part, Ok(AddAccess { row })),
+        Err(why) => why.code(),
+    }
+}
+
+fn add_facility(part: &mut Owner, row: &HlrFacility) -> u8
+    ensures { IsPartEdit (part_facility_asked row.now) part.old result part.new }
+{
+    match facility_of(row) {
+        Ok(row) => edit(part, Ok(AddFacility { row })),
+        Err(why) => why.code(),
+    }
+}
+
+fn post(part: &mut Owner, limit: u64, posted: &mut u64) -> u8
+    ensures { IsPartPost limit posted.old part.old (result, posted.new) part.new }
+{
+    match part.post(limit) {
+        Ok(count) => {
+            *posted = u64::from(count);
+            DONE
+        }
+        Err(why) => why.code(),
+    }
+}
+
+/// UPDATE_SUBSCRIBER_DATA (TATP, section 3.4) of a part that is out. `NOT_OPEN`, `Field` where s_id isn't in
+/// 1..=16,777,216, sf_type in 1..=4, bit_1 in 0..=1 or data_a in 0..=255, `ELSEWHERE` where s_id isn't in the part's range,
+/// `NoSubscriber`, `NoFacility`.
+#[unsafe(no_mangle)]
+pub extern "C" fn hlr_part_update_subscriber(
+    alloc: Global,
+    owner: &mut HlrPart,
+    s_id: u64,
+    sf_type: u64,
+    bit_1: u64,
+    data_a: u64,
+) -> u8
+    ensures { IsCall NOT_OPEN (IsPartEdit (Ok (action.UpdateSubscriber s_id sf_type bit_1 data_a)))
+        owner.old.kept.part result owner.new.kept.part }
+{
+    with_part!(owner, alloc, |part| {
+        update_subscriber(&mut part, s_id, sf_type, bit_1, data_a)
+    })
+}
+
+/// UPDATE_LOCATION (TATP, section 3.5) of a part that is out, by s_id. `NOT_OPEN`, `Field` where s_id isn't in
+/// 1..=16,777,216 or vlr_location isn't in 1..=4,294,967,295, `ELSEWHERE`, `NoSubscriber`.
+#[unsafe(no_mangle)]
+pub extern "C" fn hlr_part_update_location(
+    alloc: Global,
+    owner: &mut HlrPart,
+    s_id: u64,
+    vlr_location: u64,
+) -> u8
+    ensures { IsCall NOT_OPEN (IsPartEdit (Ok (action.UpdateLocation s_id vlr_location)))
+        owner.old.kept.part result owner.new.kept.part }
+{
+    with_part!(owner, alloc, |part| {
+        update_location(&mut part, s_id, vlr_location)
+    })
+}
+
+/// INSERT_CALL_FORWARDING (TATP, section 3.6) of a part that is out, by s_id. `NOT_OPEN`, `Field` where s_id isn't in
+/// 1..=16,777,216, sf_type isn't in 1..=4, start_time isn't 0, 8 or 16, end_time isn't in 1..=24 or numberx isn't below
+/// 10^15, `ELSEWHERE`, `NoFacility`, `Exists`, `Memory`.
+#[unsafe(no_mangle)]
+pub extern "C" fn hlr_part_insert_forwarding(
+    alloc: Global,
+    owner: &mut HlrPart,
+    s_id: u64,
+    sf_type: u64,
+    start_time: u64,
+    end_time: u64,
+    numberx: u64,
+) -> u8
+    ensures { IsCall NOT_OPEN (IsPartEdit (part_insertion_asked s_id sf_type start_time end_time numberx))
+        owner.old.kept.part result owner.new.kept.part }
+{
+    with_part!(owner, alloc, |part| {
+        insert_forwarding(&mut part, s_id, sf_type, start_time, end_time, numberx)
+    })
+}
+
+/// DELETE_CALL_FORWARDING (TATP, section 3.7) of a part that is out, by s_id. `NOT_OPEN`, `Field` where s_id isn't in
+/// 1..=16,777,216, sf_type isn't in 1..=4 or start_time isn't 0, 8 or 16, `ELSEWHERE`, `NoForwarding`.
+#[unsafe(no_mangle)]
+pub extern "C" fn hlr_part_delete_forwarding(
+    alloc: Global,
+    owner: &mut HlrPart,
+    s_id: u64,
+    sf_type: u64,
+    start_time: u64,
+) -> u8
+    ensures { IsCall NOT_OPEN (IsPartEdit (Ok (action.DeleteForwarding s_id sf_type start_time)))
+        owner.old.kept.part result owner.new.kept.part }
+{
+    with_part!(owner, alloc, |part| {
+        delete_forwarding(&mut part, s_id, sf_type, start_time)
+    })
+}
+
+/// Switches a facility of a part that is out on or off, and with it all its forwardings. `NOT_OPEN`, `Field` where s_id
+/// isn't in 1..=16,777,216, sf_type in 1..=4 or is_active in 0..=1, `ELSEWHERE`, `NoFacility`.
+#[unsafe(no_mangle)]
+pub extern "C" fn hlr_part_set_active(
+    alloc: Global,
+    owner: &mut HlrPart,
+    s_id: u64,
+    sf_type: u64,
+    is_active: u64,
+) -> u8
+    ensures { IsCall NOT_OPEN (IsPartEdit (Ok (action.SetActive s_id sf_type is_active)))
+        owner.old.kept.part result owner.new.kept.part }
+{
+    with_part!(owner, alloc, |part| {
+        set_active(&mut part, s_id, sf_type, is_active)
+    })
+}
+
+/// Adds an Access_Info row to a part that is out. `NOT_OPEN`, `Field` where a field is out of its range, `ELSEWHERE`,
+/// `NoSubscriber`, `Exists`, `Memory`.
+#[unsafe(no_mangle)]
+pub extern "C" fn hlr_part_add_access(alloc: Global, owner: &mut HlrPart, row: &HlrAccess) -> u8
+    ensures { IsCall NOT_OPEN (IsPartEdit (part_access_asked row.now))
+        owner.old.kept.part result owner.new.kept.part }
+{
+    with_part!(owner, alloc, |part| { add_access(&mut part, row) })
+}
+
+/// Adds a Special_Facility row to a part that is out. `NOT_OPEN`, `Field` where a field is out of its range, `ELSEWHERE`,
+/// `NoSubscriber`, `Exists`, `Memory`.
+#[unsafe(no_mangle)]
+pub extern "C" fn hlr_part_add_facility(
+    alloc: Global,
+    owner: &mut HlrPart,
+    row: &HlrFacility,
+) -> u8
+    ensures { IsCall NOT_OPEN (IsPartEdit (part_facility_asked row.now))
+        owner.old.kept.part result owner.new.kept.part }
+{
+    with_part!(owner, alloc, |part| { add_facility(&mut part, row) })
+}
+
+/// Posts the first `limit` cells of a part that is out that aren't posted, in ascending order, and tells how many were.
+/// `NOT_OPEN`, `Worn`, after which the cells that were posted before stand.
+#[unsafe(no_mangle)]
+pub extern "C" fn hlr_part_post(
+    alloc: Global,
+    owner: &mut HlrPart,
+    limit: u64,
+    posted: &mut u64,
+) -> u8
+    ensures { IsCall (NOT_OPEN, posted.old) (IsPartPost limit posted.old)
+        owner.old.kept.part (result, posted.new) owner.new.kept.part }
+{
+    with_part!(owner, alloc, |part| { post(&mut part, limit, posted) })
+}

@@ -1,0 +1,160 @@
+//! The calls that read a part that is out.
+ghost use Rattle.std.specs.Prelude.{◌≡◌};
+ghost use Rattle.tatp_actions.specs.declared.action.Action.TheVariants as action;
+ghost use Rattle.hlr_c.specs.Call.{IsCall};
+ghost use Rattle.hlr_c.specs.Parts.{IsPartRange, IsPartRead, has};
+ghost use Rattle.hlr_c.specs.Told.{access_told, found_told, numbers_told, subscriber_told};
+ghost use Rattle.hlr_c.specs.declared.codes.TheConstants.{ELSEWHERE, NOT_OPEN};
+
+use crate::codes::{DONE, ELSEWHERE};
+use crate::fields::{is_between, is_subscriber, is_typed};
+use crate::part::{HlrPart, with_part};
+use crate::reads::{numbers_for_c, subscriber_for_c, write_access};
+use crate::rows::{HlrAccess, HlrNumbers, HlrSubscriber};
+use hlr_core::{ArrayVec, Number, Refusal};
+use hlr_lent::Owner;
+use std::alloc::Global;
+use tatp_rows::is_start_time;
+
+/// Whether a subscriber lies in a part.
+pub(crate) fn has(part: &Owner, s_id: u64) -> bool
+    ensures { result ≡ has s_id part.now }
+{
+    u64::from(part.lo()) <= s_id && s_id < u64::from(part.hi())
+}
+
+fn read_subscriber(part: &Owner, s_id: u64, row: &mut HlrSubscriber) -> u8
+    ensures { IsPartRead (action.SubscriberData s_id) (subscriber_told row.old) (ELSEWHERE, row.old) part.now (result, row.new) part.now }
+{
+    if !is_subscriber(s_id) {
+        return Refusal::Field.code();
+    }
+    if !has(part, s_id) {
+        return ELSEWHERE;
+    }
+    match part.lend_subscriber(s_id as u32) {
+        Some(found) => {
+            *row = subscriber_for_c(found);
+            DONE
+        }
+        None => Refusal::NoSubscriber.code(),
+    }
+}
+
+fn read_access(part: &Owner, s_id: u64, ai_type: u64, row: &mut HlrAccess) -> u8
+    ensures { IsPartRead (action.AccessData s_id ai_type) (access_told s_id ai_type row.old) (ELSEWHERE, row.old) part.now (result, row.new) part.now }
+{
+    if !is_typed(s_id, ai_type) {
+        return Refusal::Field.code();
+    }
+    if !has(part, s_id) {
+        return ELSEWHERE;
+    }
+    match part.lend_access(s_id as u32, ai_type as u8) {
+        Some(found) => {
+            write_access(found, s_id, ai_type, row);
+            DONE
+        }
+        None => Refusal::NoAccess.code(),
+    }
+}
+
+fn write_numbers(found: &ArrayVec<Number, 3>, numbers: &mut HlrNumbers) -> u8
+    ensures { (result, numbers.new) ≡ found_told numbers.old found.now.items }
+{
+    if found.is_empty() {
+        return Refusal::NoDestination.code();
+    }
+    *numbers = numbers_for_c(found);
+    DONE
+}
+
+fn read_destinations(
+    part: &Owner,
+    s_id: u64,
+    sf_type: u64,
+    start_time: u64,
+    end_time: u64,
+    numbers: &mut HlrNumbers,
+) -> u8
+    ensures { IsPartRead (action.NewDestination s_id sf_type start_time end_time) (numbers_told numbers.old) (ELSEWHERE, numbers.old) part.now (result, numbers.new) part.now }
+{
+    if !is_typed(s_id, sf_type) || !is_start_time(start_time) || !is_between(end_time, 1, 24) {
+        return Refusal::Field.code();
+    }
+    if !has(part, s_id) {
+        return ELSEWHERE;
+    }
+    let found = part.destinations(s_id as u32, sf_type as u8, start_time as u8, end_time as u8);
+    write_numbers(&found, numbers)
+}
+
+/// The range of a part: the first subscriber, and the number behind the last one. It stays while the part is out.
+/// `NOT_OPEN`.
+#[unsafe(no_mangle)]
+pub extern "C" fn hlr_part_range(
+    alloc: Global,
+    owner: &mut HlrPart,
+    lo: &mut u64,
+    hi: &mut u64,
+) -> u8
+    ensures { IsCall (NOT_OPEN, (lo.old, hi.old)) IsPartRange
+        owner.old.kept.part (result, (lo.new, hi.new)) owner.new.kept.part }
+{
+    with_part!(owner, alloc, |part| {
+        *lo = u64::from(part.lo());
+        *hi = u64::from(part.hi());
+        DONE
+    })
+}
+
+/// GET_SUBSCRIBER_DATA (TATP, section 3.1) of a part that is out. `NOT_OPEN`, `Field` where s_id isn't in 1..=16,777,216,
+/// `ELSEWHERE` where it isn't in the part's range, `NoSubscriber`.
+#[unsafe(no_mangle)]
+pub extern "C" fn hlr_part_subscriber_data(
+    alloc: Global,
+    owner: &mut HlrPart,
+    s_id: u64,
+    row: &mut HlrSubscriber,
+) -> u8
+    ensures { IsCall (NOT_OPEN, row.old) (IsPartRead (action.SubscriberData s_id) (subscriber_told row.old) (ELSEWHERE, row.old))
+        owner.old.kept.part (result, row.new) owner.new.kept.part }
+{
+    with_part!(owner, alloc, |part| { read_subscriber(&part, s_id, row) })
+}
+
+/// GET_ACCESS_DATA (TATP, section 3.3) of a part that is out. `NOT_OPEN`, `Field` where s_id isn't in 1..=16,777,216 or
+/// ai_type isn't in 1..=4, `ELSEWHERE`, `NoAccess`.
+#[unsafe(no_mangle)]
+pub extern "C" fn hlr_part_access_data(
+    alloc: Global,
+    owner: &mut HlrPart,
+    s_id: u64,
+    ai_type: u64,
+    row: &mut HlrAccess,
+) -> u8
+    ensures { IsCall (NOT_OPEN, row.old) (IsPartRead (action.AccessData s_id ai_type) (access_told s_id ai_type row.old) (ELSEWHERE, row.old))
+        owner.old.kept.part (result, row.new) owner.new.kept.part }
+{
+    with_part!(owner, alloc, |part| { read_access(&part, s_id, ai_type, row) })
+}
+
+/// GET_NEW_DESTINATION (TATP, section 3.2) of a part that is out. `NOT_OPEN`, `Field` where s_id isn't in 1..=16,777,216,
+/// sf_type isn't in 1..=4, start_time isn't 0, 8 or 16 or end_time isn't in 1..=24, `ELSEWHERE`, `NoDestination`.
+#[unsafe(no_mangle)]
+pub extern "C" fn hlr_part_new_destination(
+    alloc: Global,
+    owner: &mut HlrPart,
+    s_id: u64,
+    sf_type: u64,
+    start_time: u64,
+    end_time: u64,
+    numbers: &mut HlrNumbers,
+) -> u8
+    ensures { IsCall (NOT_OPEN, numbers.old) (IsPartRead (action.NewDestination s_id sf_type start_time end_time) (numbers_told numbers.old) (ELSEWHERE, numbers.old))
+        owner.old.kept.part (result, numbers.new) owner.new.kept.part }
+{
+    with_part!(owner, alloc, |part| {
+        read_destinations(&part, s_id, sf_type, start_time, end_time, numbers)
+    })
+}
