@@ -14,7 +14,7 @@ use csv::ByteRecord;
 use hlr_core::Register;
 use tatp_rows::{Access, Number, Refusal, Subscriber};
 
-/// The row that `gsd,S` reads: `Syntax`, `Field`, `Moving`, `NoSubscriber`.
+/// Finds the row that `gsd,S` reads: `Syntax`, `Field`, `Moving`, `NoSubscriber`.
 fn find_subscriber<'a>(row: &ByteRecord, register: &'a Register) -> Result<&'a Subscriber, Refusal>
     requires { AllHome register.now.seats }
     ensures found { IfOk result (λ found. CommandText (fields_of row.now) (command_named (Some word.Gsd) (fields_of row.now)) (store_in register.now) (subscriber_line found.now) (store_in register.now)) }
@@ -23,7 +23,7 @@ fn find_subscriber<'a>(row: &ByteRecord, register: &'a Register) -> Result<&'a S
     register.lend_subscriber(read_gsd(row)?)
 }
 
-/// The row that `gad,S,ai_type` reads: `Syntax`, `Field`, `Moving`, `NoAccess`.
+/// Finds the row that `gad,S,ai_type` reads: `Syntax`, `Field`, `Moving`, `NoAccess`.
 fn find_access<'a>(row: &ByteRecord, register: &'a Register) -> Result<&'a Access, Refusal>
     requires { AllHome register.now.seats }
     ensures found { IfOk result (λ found. CommandText (fields_of row.now) (command_named (Some word.Gad) (fields_of row.now)) (store_in register.now)
@@ -34,7 +34,7 @@ fn find_access<'a>(row: &ByteRecord, register: &'a Register) -> Result<&'a Acces
     register.lend_access(s_id, ai_type)
 }
 
-/// The numbers that `gnd,S,sf_type,start_time,end_time` reads: `Syntax`, `Field`, `Moving`, `NoDestination`.
+/// Finds the numbers that `gnd,S,sf_type,start_time,end_time` reads: `Syntax`, `Field`, `Moving`, `NoDestination`.
 fn find_numbers(row: &ByteRecord, register: &Register) -> Result<ArrayVec<Number, 3>, Refusal>
     requires { AllHome register.now.seats }
     ensures found { IfOk result (λ found. CommandText (fields_of row.now) (command_named (Some word.Gnd) (fields_of row.now)) (store_in register.now) (numbers_line found.items) (store_in register.now)) }

@@ -185,7 +185,7 @@ pub fn read_post(row: &ByteRecord) -> Result<(u64, u64), Refusal>
     Ok((part, limit))
 }
 
-/// The event that a record of the word `gsd` asks for.
+/// Makes the event that a record of the word `gsd` asks for.
 fn gsd_event(row: &ByteRecord) -> Result<Event, Refusal>
     ensures { command_named (Some word.Gsd) (fields_of row.now) ≡ asks (λ e. e) result }
 {
@@ -193,7 +193,7 @@ fn gsd_event(row: &ByteRecord) -> Result<Event, Refusal>
     Ok(Event::SubscriberData { s_id })
 }
 
-/// The event that a record of the word `gnd` asks for.
+/// Makes the event that a record of the word `gnd` asks for.
 fn gnd_event(row: &ByteRecord) -> Result<Event, Refusal>
     ensures { command_named (Some word.Gnd) (fields_of row.now) ≡ asks (λ e. e) result }
 {
@@ -206,7 +206,7 @@ fn gnd_event(row: &ByteRecord) -> Result<Event, Refusal>
     })
 }
 
-/// The event that a record of the word `gad` asks for.
+/// Makes the event that a record of the word `gad` asks for.
 fn gad_event(row: &ByteRecord) -> Result<Event, Refusal>
     ensures { command_named (Some word.Gad) (fields_of row.now) ≡ asks (λ e. e) result }
 {
@@ -214,7 +214,7 @@ fn gad_event(row: &ByteRecord) -> Result<Event, Refusal>
     Ok(Event::AccessData { s_id, ai_type })
 }
 
-/// The event that a record of the word `usd` asks for.
+/// Makes the event that a record of the word `usd` asks for.
 fn usd_event(row: &ByteRecord) -> Result<Event, Refusal>
     ensures { command_named (Some word.Usd) (fields_of row.now) ≡ asks (λ e. e) result }
 {
@@ -227,7 +227,7 @@ fn usd_event(row: &ByteRecord) -> Result<Event, Refusal>
     })
 }
 
-/// The event that a record of the word `ul` asks for.
+/// Makes the event that a record of the word `ul` asks for.
 fn ul_event(row: &ByteRecord) -> Result<Event, Refusal>
     ensures { command_named (Some word.Ul) (fields_of row.now) ≡ asks (λ e. e) result }
 {
@@ -238,7 +238,7 @@ fn ul_event(row: &ByteRecord) -> Result<Event, Refusal>
     })
 }
 
-/// The event that a record of the word `icf` asks for.
+/// Makes the event that a record of the word `icf` asks for.
 fn icf_event(row: &ByteRecord) -> Result<Event, Refusal>
     ensures { command_named (Some word.Icf) (fields_of row.now) ≡ asks (λ e. e) result }
 {
@@ -252,7 +252,7 @@ fn icf_event(row: &ByteRecord) -> Result<Event, Refusal>
     })
 }
 
-/// The event that a record of the word `dcf` asks for.
+/// Makes the event that a record of the word `dcf` asks for.
 fn dcf_event(row: &ByteRecord) -> Result<Event, Refusal>
     ensures { command_named (Some word.Dcf) (fields_of row.now) ≡ asks (λ e. e) result }
 {
@@ -264,7 +264,7 @@ fn dcf_event(row: &ByteRecord) -> Result<Event, Refusal>
     })
 }
 
-/// The event that a record of the word `active` asks for.
+/// Makes the event that a record of the word `active` asks for.
 fn active_event(row: &ByteRecord) -> Result<Event, Refusal>
     ensures { command_named (Some word.Active) (fields_of row.now) ≡ asks (λ e. e) result }
 {
@@ -276,7 +276,7 @@ fn active_event(row: &ByteRecord) -> Result<Event, Refusal>
     })
 }
 
-/// The event that a record of the word `number` asks for.
+/// Makes the event that a record of the word `number` asks for.
 fn number_event(row: &ByteRecord) -> Result<Event, Refusal>
     ensures { command_named (Some word.Number) (fields_of row.now) ≡ asks (λ e. e) result }
 {
@@ -284,7 +284,7 @@ fn number_event(row: &ByteRecord) -> Result<Event, Refusal>
     Ok(Event::SetNumber { s_id, sub_nbr })
 }
 
-/// The event that a record of the word `post` asks for.
+/// Makes the event that a record of the word `post` asks for.
 fn post_event(row: &ByteRecord) -> Result<Event, Refusal>
     ensures { command_named (Some word.Post) (fields_of row.now) ≡ asks (λ e. e) result }
 {
@@ -292,7 +292,7 @@ fn post_event(row: &ByteRecord) -> Result<Event, Refusal>
     Ok(Event::Post { part, limit })
 }
 
-/// The event that a record of the word `give` asks for: `give,part,side,at`.
+/// Makes the event that a record of the word `give` asks for: `give,part,side,at`.
 fn give_event(row: &ByteRecord) -> Result<Event, Refusal>
     ensures { command_named (Some word.Give) (fields_of row.now) ≡ asks (λ e. e) result }
 {
@@ -303,7 +303,7 @@ fn give_event(row: &ByteRecord) -> Result<Event, Refusal>
     Ok(Event::Give { part, side, at })
 }
 
-/// The event that a record of the word `take` asks for: `take,piece,part`.
+/// Makes the event that a record of the word `take` asks for: `take,piece,part`.
 fn take_event(row: &ByteRecord) -> Result<Event, Refusal>
     ensures { command_named (Some word.Take) (fields_of row.now) ≡ asks (λ e. e) result }
 {
@@ -313,7 +313,7 @@ fn take_event(row: &ByteRecord) -> Result<Event, Refusal>
     Ok(Event::Take { piece, part })
 }
 
-/// The event that a record of the word `divide` asks for: `divide,part,at`.
+/// Makes the event that a record of the word `divide` asks for: `divide,part,at`.
 fn divide_event(row: &ByteRecord) -> Result<Event, Refusal>
     ensures { command_named (Some word.Divide) (fields_of row.now) ≡ asks (λ e. e) result }
 {
@@ -323,7 +323,7 @@ fn divide_event(row: &ByteRecord) -> Result<Event, Refusal>
     Ok(Event::Divide { part, at })
 }
 
-/// The event that a record of the word `dissolve` asks for: `dissolve,part`.
+/// Makes the event that a record of the word `dissolve` asks for: `dissolve,part`.
 fn dissolve_event(row: &ByteRecord) -> Result<Event, Refusal>
     ensures { command_named (Some word.Dissolve) (fields_of row.now) ≡ asks (λ e. e) result }
 {
@@ -332,28 +332,28 @@ fn dissolve_event(row: &ByteRecord) -> Result<Event, Refusal>
     Ok(Event::Dissolve { part })
 }
 
-/// The event that a record of the word `sub` asks for.
+/// Makes the event that a record of the word `sub` asks for.
 fn sub_event(row: &ByteRecord) -> Result<Event, Refusal>
     ensures { command_named (Some word.Sub) (fields_of row.now) ≡ asks (λ e. e) result }
 {
     Ok(Event::AddSubscriber(read_sub(row)?))
 }
 
-/// The event that a record of the word `acc` asks for.
+/// Makes the event that a record of the word `acc` asks for.
 fn acc_event(row: &ByteRecord) -> Result<Event, Refusal>
     ensures { command_named (Some word.Acc) (fields_of row.now) ≡ asks (λ e. e) result }
 {
     Ok(Event::AddAccess(read_acc(row)?))
 }
 
-/// The event that a record of the word `fac` asks for.
+/// Makes the event that a record of the word `fac` asks for.
 fn fac_event(row: &ByteRecord) -> Result<Event, Refusal>
     ensures { command_named (Some word.Fac) (fields_of row.now) ≡ asks (λ e. e) result }
 {
     Ok(Event::AddFacility(read_fac(row)?))
 }
 
-/// The event that a record asks for whose word asks for one.
+/// Makes the event that a record asks for whose word asks for one.
 pub fn event_of(word: Word, row: &ByteRecord) -> Result<Event, Refusal>
     requires { kind_of word ≡ kind.Event }
     ensures { command_named (Some word) (fields_of row.now) ≡ asks (λ e. e) result }

@@ -27,7 +27,7 @@ pub enum Fault {
 }
 
 impl Fault {
-    /// The number of the fault: 1, 2, 18, 20 or 21.
+    /// Gives the number of the fault: 1, 2, 18, 20 or 21.
     pub fn code(self) -> u8
         ensures { result ≡ fault_code self }
     {
@@ -40,7 +40,7 @@ impl Fault {
         }
     }
 
-    /// What the program says of the fault.
+    /// Gives what the program says of the fault.
     pub fn words(self) -> &'static str
         ensures { result.now ≡ fault_words self }
     {
@@ -54,7 +54,7 @@ impl Fault {
     }
 }
 
-/// The fault that a failed read of a record is: `Memory` where memory was wanted, else `Read`.
+/// Tells which fault a failed read of a record is: `Memory` where memory was wanted, else `Read`.
 pub fn read_fault(error: csv::Error) -> Fault
     ensures { result ≡ read_fault_of (error_kind error) }
 {

@@ -7,7 +7,7 @@ ghost use Rattle.hlr.specs.Fields.{number_field, byte_field, digits_field, bytes
 
 use tatp_rows::Refusal;
 
-/// The number that a field of any length spells, as `parse_number`.
+/// Reads the number that a field of any length spells, as `parse_number` does.
 #[cold]
 #[inline(never)]
 fn parse_long(text: &[u8]) -> Result<u64, Refusal>
@@ -28,7 +28,7 @@ fn parse_long(text: &[u8]) -> Result<u64, Refusal>
     Ok(value)
 }
 
-/// The number that a field spells: one or more ASCII digits, leading zeros allowed, with a value of at most
+/// Reads the number that a field spells: one or more ASCII digits, leading zeros allowed, with a value of at most
 /// 2^64 - 1. A sign, a space, any other byte or an empty field is `Field`.
 pub fn parse_number(text: &[u8]) -> Result<u64, Refusal>
     ensures { result ≡ number_field text.now }
@@ -51,7 +51,7 @@ pub fn parse_number(text: &[u8]) -> Result<u64, Refusal>
     Ok(value)
 }
 
-/// The byte that a field spells: a number of at most 255. Anything else is `Field`.
+/// Reads the byte that a field spells: a number of at most 255. Anything else is `Field`.
 pub fn parse_byte(text: &[u8]) -> Result<u8, Refusal>
     ensures { result ≡ byte_field text.now }
 {
@@ -61,7 +61,7 @@ pub fn parse_byte(text: &[u8]) -> Result<u8, Refusal>
     }
 }
 
-/// The value of a digit or a letter, from 0 for `0` to 35 for `z` and `Z`, and 36 for any other byte.
+/// Gives the value of a digit or a letter, from 0 for `0` to 35 for `z` and `Z`, and 36 for any other byte.
 fn digit_value(byte: u8) -> u8
     ensures { result ≡ digit_value byte }
 {
@@ -76,7 +76,7 @@ fn digit_value(byte: u8) -> u8
     }
 }
 
-/// The `N` digits that a field spells, each below `limit`; the digits above 9 are letters of either case. Another
+/// Reads the `N` digits that a field spells, each below `limit`; the digits above 9 are letters of either case. Another
 /// length or any other byte is `Field`.
 pub fn parse_digits<const N: usize>(text: &[u8], limit: u8) -> Result<[u8; N], Refusal>
     ensures { result ≡ digits_field limit N text.now }
@@ -95,7 +95,7 @@ pub fn parse_digits<const N: usize>(text: &[u8], limit: u8) -> Result<[u8; N], R
     Ok(digits)
 }
 
-/// The ten bytes of twenty hexadecimal digits.
+/// Makes ten bytes of twenty hexadecimal digits.
 fn pair_digits(digits: &[u8; 20]) -> [u8; 10]
     requires { (k : ℕ) → k < 20 → slice_index digits.now k < 16 }
     ensures { result ≡ bytes_of digits.now }
@@ -107,7 +107,7 @@ fn pair_digits(digits: &[u8; 20]) -> [u8; 10]
     bytes
 }
 
-/// The ten bytes that a field spells in twenty hexadecimal digits of either case; anything else is `Field`.
+/// Reads the ten bytes that a field spells in twenty hexadecimal digits of either case; anything else is `Field`.
 pub fn parse_bytes(text: &[u8]) -> Result<[u8; 10], Refusal>
     ensures { result ≡ bytes_field text.now }
 {

@@ -40,7 +40,7 @@ impl Model for Line {
     ghost invariant = { λ l. l.start ≤ LINE_ROOM };
 }
 
-/// An empty line.
+/// Makes an empty line.
 pub fn empty_line() -> Line
     ensures { result.items ≡ [] }
 {
@@ -51,7 +51,7 @@ pub fn empty_line() -> Line
 }
 
 impl Line {
-    /// What was put.
+    /// Gives what was put.
     #[inline(always)]
     pub fn as_slice(&self) -> &[u8]
         ensures value { result.now ≡ self.now.items }
@@ -143,7 +143,7 @@ impl Line {
     }
 }
 
-/// The hexadecimal digit of a byte's lowest four bits, in lower case.
+/// Gives the hexadecimal digit of a byte's lowest four bits, in lower case.
 fn hex_digit(byte: u8) -> u8
     ensures { result ≡ hex_digit byte }
 {

@@ -53,7 +53,7 @@ fn refuse<R: Print + Eprint>(rt: &R, error: &clap::Error) -> ExitCode {
     }
 }
 
-/// The words that the program was started with.
+/// Reads the words that the program was started with.
 #[inline(never)]
 fn words_of<R: Env + AllocGlobal + Eprint>(rt: &R) -> Result<Vec<String>, ExitCode> {
     match env::args(rt) {
@@ -68,7 +68,7 @@ fn words_of<R: Env + AllocGlobal + Eprint>(rt: &R) -> Result<Vec<String>, ExitCo
     }
 }
 
-/// The options that the words ask for.
+/// Reads the options that the words ask for.
 #[inline(never)]
 fn options_of<R: AllocGlobal + Print + Eprint>(
     rt: &R,

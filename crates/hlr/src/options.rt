@@ -91,7 +91,7 @@ pub struct Options {
     pub threads: bool,
 }
 
-/// `--parts N`.
+/// Makes the option `--parts N`.
 fn parts_arg<'a>(alloc: Global) -> Arg<'a>
     ensures rule { rule_of result ≡ parts_rule }
     ensures local { result.global ≡ false }
@@ -104,7 +104,7 @@ fn parts_arg<'a>(alloc: Global) -> Arg<'a>
         .default_value("1")
 }
 
-/// `--zone W`.
+/// Makes the option `--zone W`.
 fn zone_arg<'a>(alloc: Global) -> Arg<'a>
     ensures rule { rule_of result ≡ zone_rule }
     ensures local { result.global ≡ false }
@@ -117,7 +117,7 @@ fn zone_arg<'a>(alloc: Global) -> Arg<'a>
         .default_value("524288")
 }
 
-/// `--threads`.
+/// Makes the option `--threads`.
 fn threads_arg<'a>(alloc: Global) -> Arg<'a>
     ensures rule { rule_of result ≡ threads_rule }
     ensures local { result.global ≡ false }
@@ -128,7 +128,7 @@ fn threads_arg<'a>(alloc: Global) -> Arg<'a>
         .action(ArgAction::SetTrue)
 }
 
-/// The program with its options.
+/// Makes the program with its options.
 fn program_command<'a>(alloc: Global) -> Result<Command<'a>, AllocError>
     ensures { IfOk result (λ command. app_of command ≡ program) }
 {
@@ -141,29 +141,29 @@ fn program_command<'a>(alloc: Global) -> Result<Command<'a>, AllocError>
         .arg(threads_arg(alloc))
 }
 
-/// The number that `--parts` spells.
+/// Reads the number that `--parts` spells.
 fn read_parts(matches: &ArgMatches<'_>) -> Option<u8>
     ensures { IfSome result (Spells (one_of (codes "parts") (rows_of (found_of matches.now)))) }
 {
     matches.get_one::<u8>("parts")
 }
 
-/// The number that `--zone` spells.
+/// Reads the number that `--zone` spells.
 fn read_zone(matches: &ArgMatches<'_>) -> Option<u32>
     ensures { IfSome result (Spells (one_of (codes "zone") (rows_of (found_of matches.now)))) }
 {
     matches.get_one::<u32>("zone")
 }
 
-/// Whether `--threads` is given.
+/// Tells whether `--threads` is given.
 fn read_threads(matches: &ArgMatches<'_>) -> Option<bool>
     ensures { IfSome result (Tells (one_of (codes "threads") (rows_of (found_of matches.now)))) }
 {
     matches.get_one::<bool>("threads")
 }
 
-/// The options that the program's words ask for, of which the first is the program's name. An error has one of the
-/// kinds that the words call for, which is a request for help or the version too, or `OutOfMemory`.
+/// Reads the options that the program's words ask for, of which the first is the program's name. An error has one of
+/// the kinds that the words call for, which is a request for help or the version too, or `OutOfMemory`.
 pub fn read_options<'a>(alloc: Global, words: &'a [&'a str]) -> Result<Options, Error>
     ensures range { IfOk result InRange }
     ensures words { IfOk result (OptionsOf (matches_of program (map (λ word. word.now) words.now))) }

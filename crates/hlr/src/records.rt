@@ -93,7 +93,7 @@ pub enum Kind {
     Recut,
 }
 
-/// What the records of this word ask for.
+/// Tells what the records of this word ask for.
 pub fn kind_of(word: Word) -> Kind
     ensures { result ≡ kind_of word }
 {
@@ -108,7 +108,7 @@ pub fn kind_of(word: Word) -> Kind
     }
 }
 
-/// The word that a text is, in lower case exactly.
+/// Finds the word that a text is, in lower case exactly.
 #[inline(always)]
 #[tactic(auto, unfolding(crate::specs::Records::word_named))]
 pub fn word_of(text: &[u8]) -> Option<Word>
@@ -142,7 +142,7 @@ pub fn word_of(text: &[u8]) -> Option<Word>
     })
 }
 
-/// `Syntax` unless a record has so many fields.
+/// Checks that a record has so many fields: `Syntax` where it hasn't.
 pub fn check_len(row: &ByteRecord, len: usize) -> Result<(), Refusal>
     ensures { result ≡ (if length (fields_of row.now) == len then Ok tt else Err Refusal.Syntax) }
 {
@@ -152,14 +152,14 @@ pub fn check_len(row: &ByteRecord, len: usize) -> Result<(), Refusal>
     Err(Refusal::Syntax)
 }
 
-/// The field at a place, which is empty where there is none.
+/// Gives the field at a place, which is empty where there is none.
 pub fn field(row: &ByteRecord, i: usize) -> &[u8]
     ensures { result.now ≡ field (fields_of row.now) i }
 {
     row.get(i).unwrap_or(&[])
 }
 
-/// The side of a part that a text names, `low` or `high`: any other text is `Syntax`.
+/// Finds the side of a part that a text names, `low` or `high`: any other text is `Syntax`.
 #[tactic(auto, unfolding(crate::specs::Records::side_named))]
 pub fn side_named(text: &[u8]) -> Result<Side, Refusal>
     ensures { result ≡ side_named text.now }
@@ -171,7 +171,7 @@ pub fn side_named(text: &[u8]) -> Result<Side, Refusal>
     }
 }
 
-/// The bounds of `recut,b1,..`: `Field` where one is no number, or there are more than 15.
+/// Reads the bounds of `recut,b1,..`: `Field` where one is no number, or there are more than 15.
 pub fn read_bounds(row: &ByteRecord) -> Result<ArrayVec<u64, MOST_BOUNDS>, Refusal>
     ensures { result ≡ bounds_of (fields_of row.now) }
 {

@@ -34,7 +34,7 @@ pub enum Counts<'a> {
     Rows(&'a Cells),
 }
 
-/// The count of a cell.
+/// Gives the count of a cell.
 fn count_at(counts: &[i64; CELLS as usize], cell: u8) -> i64
     requires { cell < CELLS }
     ensures { result ≡ slice_index_or counts.now cell (pos 0) }
@@ -42,7 +42,7 @@ fn count_at(counts: &[i64; CELLS as usize], cell: u8) -> i64
     counts[usize::from(cell)]
 }
 
-/// Whether something is published or unposted.
+/// Tells whether something is published or unposted.
 #[inline(always)]
 fn stands(published: i64, unposted: i64) -> bool
     ensures { result ≡ not (is_zero published && is_zero unposted) }
@@ -106,7 +106,7 @@ fn build_cells(counts: &Counts<'_>, line: &mut Line) -> u64
     }
 }
 
-/// The word of a report of the cells, with which its last line begins.
+/// Gives the word of a report of the cells, with which its last line begins.
 fn total_word(counts: &Counts<'_>) -> &'static [u8]
     ensures word { result.now ≡ total_word counts.now }
     ensures short { length result.now ≤ 6 }
@@ -185,7 +185,7 @@ fn write_page<S: Sink>(page: &Page, line: &mut Line, sink: &mut S) -> Result<(),
     put_all(sink, line.as_slice())
 }
 
-/// The number after that of the last pair.
+/// Gives the number after that of the last pair.
 fn after_last(pairs: &[(u64, u32)]) -> u64
     requires { 0 < length pairs.now }
     ensures { result ≡ min (2 ^ 64 - 1) ((slice_index_or pairs.now (length pairs.now - 1) (0, 0)).0 + 1) }

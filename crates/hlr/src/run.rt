@@ -249,8 +249,8 @@ fn finish<S: Sink>(sink: &mut S, done: Result<(), Fault>) -> Result<(), Fault>
     }
 }
 
-/// The records of a reader: those of CSV with no header row, with any number of fields. An error where there is no
-/// memory for a block.
+/// Makes the records of a reader: those of CSV with no header row, with any number of fields. An error where there is
+/// no memory for a block.
 fn records_of<R: Read + Drop>(alloc: Global, reader: R) -> io::Result<Reader<WholeRecords<R>>>
     ensures trims { IfOk result (λ records. reader_trim records ≡ trim.None) }
     ensures ready { IfOk result Ready }

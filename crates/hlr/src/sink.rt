@@ -49,7 +49,7 @@ pub struct Out<W: Write + Drop> {
 }
 
 impl<W: Write + Drop> Out<W> {
-    /// The sink over this writer, of which it isn't known that it is flushed.
+    /// Makes the sink over this writer, of which it isn't known that it is flushed.
     pub fn new(writer: W) -> Self
         ensures writer { result.writer ≡ writer }
         ensures quiet { result.stalled ≡ false }
@@ -102,7 +102,7 @@ impl<W: Write + Drop> Sink for Out<W> {
     }
 }
 
-/// The fault that a writer's error is.
+/// Tells which fault a writer's error is.
 fn put_fault(error: io::Error) -> PutFault {
     if error.kind() == ErrorKind::Interrupted {
         PutFault::Interrupted

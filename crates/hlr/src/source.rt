@@ -33,7 +33,7 @@ pub trait Source {
         ensures failed { IfErr result (λ why. fails self.old self.new why) }
         ensures fault { IfErr result (λ why. (why ≡ fault.Memory) ⊎ (why ≡ fault.Read)) };
 
-    /// Whether a whole record is there that was not read yet, so that the next read waits for nothing.
+    /// Tells whether a whole record is there that was not read yet, so that the next read waits for nothing.
     fn has_record(&self) -> bool;
 }
 

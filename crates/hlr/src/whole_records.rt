@@ -26,7 +26,7 @@ enum TextState {
     Closing,
 }
 
-/// The state after a quote.
+/// Gives the state after a quote.
 fn state_after_quote(state: TextState) -> TextState {
     match state {
         TextState::Quoted => TextState::Closing,
@@ -35,7 +35,7 @@ fn state_after_quote(state: TextState) -> TextState {
     }
 }
 
-/// The state after a byte that is no quote, no comma and no line end, outside quotes.
+/// Gives the state after a byte that is no quote, no comma and no line end, outside quotes.
 fn state_after_letter(state: TextState, byte: u8) -> TextState {
     match (state, byte) {
         (_, 0..=0x7f) => TextState::Plain,
@@ -46,7 +46,7 @@ fn state_after_letter(state: TextState, byte: u8) -> TextState {
     }
 }
 
-/// The state after a further byte.
+/// Gives the state after a further byte.
 fn state_after(state: TextState, byte: u8) -> TextState {
     match byte {
         b'"' => state_after_quote(state),
@@ -57,12 +57,12 @@ fn state_after(state: TextState, byte: u8) -> TextState {
     }
 }
 
-/// Whether a byte ends a line.
+/// Tells whether a byte ends a line.
 fn ends_line(byte: u8) -> bool {
     byte == b'\n' || byte == b'\r'
 }
 
-/// Whether a record ended between a state and the next one.
+/// Tells whether a record ended between a state and the next one.
 fn is_end(state: TextState, next: TextState) -> bool {
     next == TextState::Record
         && match state {
@@ -71,7 +71,7 @@ fn is_end(state: TextState, next: TextState) -> bool {
         }
 }
 
-/// The end of the last line of a block that has a byte before its end.
+/// Finds the end of the last line of a block that has a byte before its end.
 fn last_line_end(block: &[u8]) -> Option<usize> {
     let mut is_ended = false;
     for i in (0..block.len()).rev() {
@@ -143,14 +143,14 @@ pub struct WholeRecords<R> {
 }
 
 impl<R> WholeRecords<R> {
-    /// Whether a whole record was read from this byte on, which follows a record.
+    /// Tells whether a whole record was read from this byte on, which follows a record.
     pub fn has_record_from(&self, at: u64) -> bool {
         at < self.seen.whole
     }
 }
 
 impl<R: Read + Drop> WholeRecords<R> {
-    /// The reader over this one, of which nothing was read; an error where there is no memory for a block.
+    /// Makes the reader over this one, of which nothing was read; an error where there is no memory for a block.
     pub fn new(alloc: Global, reader: R) -> io::Result<Self>
         ensures { IfOk result (λ whole. inner_remaining R.remaining whole ≡ R.remaining reader) }
     {
