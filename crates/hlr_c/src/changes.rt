@@ -56,13 +56,7 @@ pub(crate) fn facility_of(row: &HlrFacility) -> Result<Facility, Refusal>
     )
 }
 
-fn update_subscriber(
-    register: &mut Lender,
-    s_id: u64,
-    sf_type: u64,
-    bit_1: u64,
-    data_a: u64,
-) -> u8
+fn update_subscriber(register: &mut Lender, s_id: u64, sf_type: u64, bit_1: u64, data_a: u64) -> u8
     ensures { IsAnswer (Ok (event.UpdateSubscriber s_id sf_type bit_1 data_a)) code_told AWAY register.old result register.new }
 {
     if !register.is_home_for(s_id) {
@@ -325,9 +319,7 @@ pub extern "C" fn hlr_add_access(alloc: Global, handle: &mut Hlr, row: &HlrAcces
     ensures { IsCall NOT_OPEN (IsAnswer (access_asked row.now) code_told AWAY)
         handle.old.kept.register result handle.new.kept.register }
 {
-    with_register!(handle, alloc, |register| {
-        add_access(&mut register, row)
-    })
+    with_register!(handle, alloc, |register| { add_access(&mut register, row) })
 }
 
 /// Adds a Special_Facility row. `NOT_OPEN`, `Field` where a field is out of its range, `Moving`, `AWAY`,

@@ -71,9 +71,7 @@ pub extern "C" fn hlr_lend(alloc: Global, handle: &mut Hlr, part: u64, owner: &m
 pub extern "C" fn hlr_back(alloc: Global, handle: &mut Hlr, part: u64) -> u8
     ensures { IsCall NOT_OPEN (IsComing part) handle.old.kept.register result handle.new.kept.register }
 {
-    with_register!(handle, alloc, |register| {
-        back(&mut register, part)
-    })
+    with_register!(handle, alloc, |register| { back(&mut register, part) })
 }
 
 /// Sends a part home, from whatever thread has it, and closes its handle. `NOT_OPEN`.

@@ -83,10 +83,7 @@ fn write_forwarding(
         }
         return AWAY;
     }
-    match register
-        .register()
-        .forwarding(s_id, sf_type, start_time)
-    {
+    match register.register().forwarding(s_id, sf_type, start_time) {
         Ok(found) => {
             *end_time = u64::from(found.end_time());
             *numberx = found.numberx().value();

@@ -147,7 +147,10 @@ fn insert_forwarding(
     ensures { IsPartEdit (part_insertion_asked s_id sf_type start_time end_time numberx) part.old result part.new }
 {
     match Number::try_new(numberx) {
-        Ok(numberx) => edit(part, insertion(s_id, sf_type, start_time, end_time, numberx)),
+        Ok(numberx) => edit(
+            part,
+            insertion(s_id, sf_type, start_time, end_time, numberx),
+        ),
         Err(why) => why.code(),
     }
 }
@@ -301,11 +304,7 @@ pub extern "C" fn hlr_part_add_access(alloc: Global, owner: &mut HlrPart, row: &
 /// Adds a Special_Facility row to a part that is out. `NOT_OPEN`, `Field` where a field is out of its range, `ELSEWHERE`,
 /// `NoSubscriber`, `Exists`, `Memory`.
 #[unsafe(no_mangle)]
-pub extern "C" fn hlr_part_add_facility(
-    alloc: Global,
-    owner: &mut HlrPart,
-    row: &HlrFacility,
-) -> u8
+pub extern "C" fn hlr_part_add_facility(alloc: Global, owner: &mut HlrPart, row: &HlrFacility) -> u8
     ensures { IsCall NOT_OPEN (IsPartEdit (part_facility_asked row.now))
         owner.old.kept.part result owner.new.kept.part }
 {

@@ -136,7 +136,9 @@ pub extern "C" fn hlr_part_access_data(
     ensures { IsCall (NOT_OPEN, row.old) (IsPartRead (action.AccessData s_id ai_type) (access_told s_id ai_type row.old) (ELSEWHERE, row.old))
         owner.old.kept.part (result, row.new) owner.new.kept.part }
 {
-    with_part!(owner, alloc, |part| { read_access(&part, s_id, ai_type, row) })
+    with_part!(owner, alloc, |part| {
+        read_access(&part, s_id, ai_type, row)
+    })
 }
 
 /// GET_NEW_DESTINATION (TATP, section 3.2) of a part that is out. `NOT_OPEN`, `Field` where s_id isn't in 1..=16,777,216,

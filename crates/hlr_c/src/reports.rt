@@ -116,9 +116,7 @@ pub extern "C" fn hlr_look(
 ) -> u8
     ensures { IsCall (NOT_OPEN, published.old) IsLook handle.old.kept.register (result, published.new) handle.new.kept.register }
 {
-    with_register!(handle, alloc, |register| {
-        look(&mut register, published)
-    })
+    with_register!(handle, alloc, |register| { look(&mut register, published) })
 }
 
 /// Each cell, counted anew by a walk over all rows. `NOT_OPEN`, `AWAY` where any part is out.

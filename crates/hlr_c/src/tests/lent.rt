@@ -80,7 +80,10 @@ fn parts_of_closed_handles(rt: HostRuntime) -> Result<(), Fail> {
     );
     assert_eq!(rt;
         (codes, opened_again),
-        ([DONE, STILL_OPEN, AWAY, DONE, NOT_OPEN, NOT_OPEN, DONE], DONE)
+        (
+            [DONE, STILL_OPEN, AWAY, DONE, NOT_OPEN, NOT_OPEN, DONE],
+            DONE
+        )
     );
     Ok(())
 }
@@ -173,7 +176,9 @@ fn part_is_lent(rt: HostRuntime) -> Result<(), Fail> {
     );
     assert_eq!(rt;
         worked,
-        [DONE, DONE, DONE, DONE, DONE, DONE, DONE, DONE, DONE, ELSEWHERE, 2, DONE]
+        [
+            DONE, DONE, DONE, DONE, DONE, DONE, DONE, DONE, DONE, ELSEWHERE, 2, DONE
+        ]
     );
     assert!(rt; away == [AWAY; 13] && known == [DONE, DONE, DONE, 2, 2, 12]);
     assert!(rt; codes == [DONE; 6] && found == moved && data == access(7, 4, 1));
@@ -262,7 +267,13 @@ fn read(alloc: Global, owner: &mut HlrPart, asked: &Asked) -> Answer {
         }
         Asked::Destination(s_id, sf_type, start, end) => {
             let code = hlr_part_new_destination(
-                alloc, owner, s_id, sf_type, start, end, &mut numbers,
+                alloc,
+                owner,
+                s_id,
+                sf_type,
+                start,
+                end,
+                &mut numbers,
             );
             wrote(code, Answer::Numbers(numbers))
         }
@@ -374,7 +385,16 @@ fn drawn_events_while_parts_are_out(rt: HostRuntime) -> Result<(), Fail> {
     let (wanted, unposted_wanted, _) = cells(alloc, &mut plain);
     closed(&rt, alloc, plain);
     closed(&rt, alloc, handle);
-    let (Lent { owner: low, part: _ }, Lent { owner: high, part: _ }) = lent;
+    let (
+        Lent {
+            owner: low,
+            part: _,
+        },
+        Lent {
+            owner: high,
+            part: _,
+        },
+    ) = lent;
     let_go(&rt, low);
     let_go(&rt, high);
     assert_eq!(rt; (differs, code), (None, DONE));

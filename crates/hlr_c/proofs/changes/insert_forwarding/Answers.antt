@@ -12,5 +12,5 @@ returns-in-Err c =
 pub returns-in-Err-try_new : goal.returns-in-Err-try_new
 returns-in-Err-try_new c =
     rw (sym c.try_new.ensures ∙ c.in-Ok.is) (
-      refused_code _ c.in-Err-try_new.why c.args.register.now c.code-in-Err-try_new.result
-      (ap (asks (InsertForwarding c.in-Ok.sub_nbr c.args.sf_type c.args.start_time c.args.end_time)) (sym c.try_new-2.ensures ∙ c.in-Err-try_new.is)) c.code-in-Err-try_new.ensures)
+    refused_code _ c.in-Err-try_new.why c.args.register.now c.code-in-Err-try_new.result
+    (ap (asks (InsertForwarding c.in-Ok.sub_nbr c.args.sf_type c.args.start_time c.args.end_time)) (sym c.try_new-2.ensures ∙ c.in-Err-try_new.is)) c.code-in-Err-try_new.ensures)

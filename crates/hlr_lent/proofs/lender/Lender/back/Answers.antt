@@ -19,8 +19,7 @@ invariant_of-self-in-Some-arrived c =
     let is = sym c.take_ring.ensures.ring ∙ c.in-Some.is in
     let come = rw c.in-Some-arrived.is at c.arrived.ensures.come in
     let with = come_with h are rings c.self.invariant.0 c.args.part c.in-Some.ring is c.in-Some-arrived.holding.value come in
-    let none : Option Ring = None in
-    (
+    let none : Option Ring = None in (
       rw (c.back.ensures with.0 with.1, c.take_ring.ensures.items) (come_rings h are rings c.self.invariant.0 c.args.part c.in-Some.ring is c.in-Some-arrived.holding.value come),
       rw (c.take_ring.ensures.items) (length-set rings c.args.part none ∙ c.self.invariant.1),
       λ kept. c.all_at_home.ensures.0 (by_test c.all_at_home.result (λ yes. yes) (λ no. absurd (let clash : true ≡ false = rw no at kept in cc))),
