@@ -1,5 +1,7 @@
 //! Parts that are lent: what each of their calls does where memory is there, and drawn events while parts go out and come
 //! home, beside a register that lends none.
+ghost use Rattle.std.specs.Prelude.{◌<◌};
+
 use super::drawn::{Answer, Asked, Draws, called, wrote};
 use super::{
     NO_ACCESS, NO_NUMBERS, NO_REGION, NO_ROW, access, closed, facility, filled, opened, row,
@@ -306,8 +308,8 @@ fn bring_home(alloc: Global, handle: &mut Hlr, low: &mut Lent, high: &mut Lent) 
 }
 
 /// A part has to do it, or nobody did.
-fn is_undone(answer: Answer) -> bool {
-    match answer {
+fn is_undone(answer: &Answer) -> bool {
+    match *answer {
         Answer::Code(code) => code == AWAY || code == ELSEWHERE || code == NOT_OPEN,
         _ => false,
     }
@@ -316,7 +318,38 @@ fn is_undone(answer: Answer) -> bool {
 /// How often a register answered for itself, one part or another did, and all had to come home.
 type Counts = [u32; 3];
 
-/// What a register with parts that are out answers, or the part that is out; or all come home.
+/// Counts one of the ways in which an event is answered.
+fn count(counts: &mut Counts, way: usize)
+    requires { way < 3 }
+{
+    counts[way] = counts[way].wrapping_add(1);
+}
+
+/// What a part that is out answers, or all come home and the register does.
+fn answer_by_parts(
+    alloc: Global,
+    handle: &mut Hlr,
+    lent: &mut (Lent, Lent),
+    asked: &Asked,
+    counts: &mut Counts,
+) -> Answer {
+    let s_id = subscriber_of(alloc, handle, asked);
+    let low = lent.0.called(alloc, asked, s_id);
+    if !is_undone(&low) {
+        count(counts, 1);
+        return low;
+    }
+    let high = lent.1.called(alloc, asked, s_id);
+    if !is_undone(&high) {
+        count(counts, 1);
+        return high;
+    }
+    count(counts, 2);
+    bring_home(alloc, handle, &mut lent.0, &mut lent.1);
+    called(alloc, handle, asked)
+}
+
+/// What a register with parts that are out answers, or who does it in its place.
 fn answer(
     alloc: Global,
     handle: &mut Hlr,
@@ -324,23 +357,12 @@ fn answer(
     asked: &Asked,
     counts: &mut Counts,
 ) -> Answer {
-    let mut answer = called(alloc, handle, asked);
-    if !is_undone(answer) {
-        counts[0] = counts[0].wrapping_add(1);
-        return answer;
+    let answer = called(alloc, handle, asked);
+    if is_undone(&answer) {
+        return answer_by_parts(alloc, handle, lent, asked, counts);
     }
-    let s_id = subscriber_of(alloc, handle, asked);
-    answer = lent.0.called(alloc, asked, s_id);
-    if is_undone(answer) {
-        answer = lent.1.called(alloc, asked, s_id);
-    }
-    if !is_undone(answer) {
-        counts[1] = counts[1].wrapping_add(1);
-        return answer;
-    }
-    counts[2] = counts[2].wrapping_add(1);
-    bring_home(alloc, handle, &mut lent.0, &mut lent.1);
-    called(alloc, handle, asked)
+    count(counts, 0);
+    answer
 }
 
 /// The first of 20,000 drawn events that a register answers otherwise which lends parts than one that doesn't.
