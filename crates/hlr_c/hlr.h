@@ -4,15 +4,15 @@
  *     hlr handle = HLR_CLOSED;
  *     if (hlr_open(1, 524288, &handle) == HLR_DONE) { ... hlr_close(&handle); }
  *
- * Each call answers a code: HLR_DONE, or why it was refused. A refusal changes nothing, but for two that say so
- * (hlr_post, hlr_recut). What a call writes by reference it writes where it answers HLR_DONE, and else it leaves that
- * as it was. The last line on a call lists its refusals, by their codes' names without HLR_, in their order: of several
- * that apply, the first one is answered. Each call but hlr_open first answers HLR_NOT_OPEN where its first handle isn't
- * open, so that isn't said again.
+ * Each call answers a code: HLR_DONE, or why it was refused. A refusal changes nothing, but for three that say so
+ * (hlr_post, hlr_part_post, hlr_recut). What a call writes by reference it writes where it answers HLR_DONE, and else
+ * it leaves that as it was. The last line on a call lists its refusals, by their codes' names without HLR_, in their
+ * order: of several that apply, the first one is answered. Each call but hlr_open first answers HLR_NOT_OPEN where its
+ * first handle isn't open, so that isn't said again.
  *
  * A part of a register can be lent to a handle of its own (hlr_lend), on which the calls hlr_part_.. work in whatever
- * thread, with no lock and no waiting, until hlr_home. Meanwhile calls on the register answer HLR_AWAY and change nothing
- * where they work on that part:
+ * thread, with no lock and no waiting, until hlr_home. Meanwhile calls on the register answer HLR_AWAY and change
+ * nothing where they work on that part:
  *   - by s_id or number: the part that has the subscriber, or would have the row that is added;
  *   - hlr_post, hlr_give, hlr_take: the part;
  *   - hlr_divide: the part and all later ones; hlr_dissolve: also the one in front of it;
@@ -39,13 +39,15 @@
  *     under one of them once the other one is closed.
  *   - An open handle is closed once (that of a part by hlr_home), or its memory is never given back.
  *   - One call at a time works on a handle. It may go from thread to thread, where a lock, a thread's start or join, or
- *     an atomic step in one order for all (memory_order_seq_cst) stands between two calls. The handle of a part is one of
- *     its own: nothing is owed between its calls and those on the register's, nor between hlr_home and hlr_back.
+ *     an atomic step in one order for all (memory_order_seq_cst) stands between two calls. The handle of a part is one
+ *     of its own: nothing is owed between its calls and those on the register's, nor between hlr_home and hlr_back. To
+ *     lend again to the handle that hlr_home closed is a call on that handle.
  *   - Pointers aren't null, also where a count is 0. They point to a value of their type, also where a call only writes
  *     it (so fill it before, as by = {0}); the things that one call is passed don't overlap.
  *   - malloc, realloc and free are those of one allocator, and align a block to each power of two up to 16 that divides
- *     its size. No call is made from a signal handler, or in the forked child of a process with threads.
- *   - A call needs at most 64 KB of stack.
+ *     its size. Threads that have parts call them at the same time, and free what other threads allocated. No call is
+ *     made from a signal handler, or in the forked child of a process with threads.
+ *   - A call needs at most 64 KB of stack, but hlr_look 128 KB.
  *
  * Link libhlr_c.a and then liblibc_c.a of the kit, which has what the library asks of malloc and free. What dist.sh
  * installs has both in one: link what `pkg-config --libs hlr` prints.
@@ -376,7 +378,8 @@ uint8_t hlr_views(hlr *handle, int64_t published[HLR_CELLS], int64_t unposted[HL
 
 /*
  * Tells each cell as published now, whichever parts are out. It goes over all words of the board, 16 pairs a cell, and
- * never waits. Parts post meanwhile, so the cells are of no one moment; but no look finds less of a word than one before.
+ * never waits. Parts post meanwhile, so the cells are of no one moment; but what a part has posted is never seen less of
+ * than by a look before. A cell past 64 bits is told as the nearest number of 64 bits.
  * Refusals: none
  */
 uint8_t hlr_look(hlr *handle, int64_t published[HLR_CELLS]);
@@ -437,7 +440,8 @@ uint8_t hlr_propose(hlr *handle, hlr_bounds *bounds);
 uint8_t hlr_recut(hlr *handle, const hlr_bounds *bounds, uint64_t *moved);
 
 /*
- * Lends a part to a closed handle, which then may go to whatever thread. Takes memory for the handle alone.
+ * Lends a part to a closed handle, which then may go to whatever thread. It takes memory for the handle and for the way
+ * home, which is given back once the part is home and taken in, or both handles are closed.
  * Refusals: STILL_OPEN, NO_PART, AWAY, MEMORY
  */
 uint8_t hlr_lend(hlr *handle, uint64_t part, hlr_part *owner);

@@ -48,6 +48,21 @@ static void views(store &day) {
             std::printf("  cell %zu: %" PRId64 ", %" PRId64 "\n", cell, now.published[cell], now.unposted[cell]);
 }
 
+/* A part goes from hand to hand, and home as it goes out of scope. */
+static void lent(store &day, hlrpp::subscriber &row) {
+    {
+        hlrpp::part owner;
+        told("lend", day.lend(1, owner));
+        hlrpp::part next = std::move(owner);
+        owner = std::move(next);
+        told("read 7 of its part", owner.subscriber_data(7, row));
+        told("read 7 while it is out", day.subscriber_data(7, row));
+        told("back too early", day.back(1));
+    }
+    told("back", day.back(1));
+    told("read 7", day.subscriber_data(7, row));
+}
+
 int main() {
     store day = opened(2, 4);
     told("open again", day.open(2, 4));
@@ -119,6 +134,8 @@ int main() {
     for (std::uint64_t i = 0; i < regions.count; i++)
         std::printf("  part %" PRIu64 " from %" PRIu64 "\n", regions.regions[i].number, regions.regions[i].lo);
     told("dissolve", day.dissolve(2, region));
+
+    lent(day, row);
 
     store other = std::move(day);
     std::printf("day is %s, other is %s\n", day.is_open() ? "open" : "closed", other.is_open() ? "open" : "closed");

@@ -156,6 +156,7 @@ static void memory(void) {
     expect(code == HLR_DONE && piece > 2, "a lend takes memory more than once, and each time it may be refused");
     left = 0;
     expect(hlr_home(&owner) == HLR_DONE && hlr_back(&handle, 0) == HLR_DONE, "a part comes home without memory");
+    expect(left == 0, "a part that comes home asks for no memory");
     left = -1;
     expect(hlr_close(&handle) == HLR_DONE, "a register with refused lends is closed");
 }

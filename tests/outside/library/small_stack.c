@@ -1,6 +1,6 @@
 /* Calls in threads with a stack of STACK_KB and no byte more: a page that can't be touched lies below it. The first one
  * has a day of examples/library/day.c, whose main is day_main here; the second one a register whose trees are three levels
- * high, and each call that changes many rows. The C library keeps what it knows of a thread in its stack too. */
+ * high, each call that changes many rows, and a part that is lent; the third one looks, with LOOK_STACK_KB. The C library keeps what it knows of a thread in its stack too. */
 #define _GNU_SOURCE
 #include "hlr.h"
 #include <pthread.h>
@@ -10,12 +10,14 @@
 #include <unistd.h>
 
 #define STACK_KB 64
+#define LOOK_STACK_KB 128
 #define ROWS 100000
 
 int day_main(void);
 
 /* What the second thread works on; none of it lies in its stack. */
 static hlr many = HLR_CLOSED;
+static hlr_part owner = HLR_CLOSED;
 static hlr_region region;
 static hlr_bounds bounds;
 static uint64_t told, counts[HLR_CELLS];
@@ -97,6 +99,31 @@ static int read_out(void) {
     return 0;
 }
 
+/* A part is lent, reads and changes rows, posts, and comes home. */
+static int lent(void) {
+    static hlr_subscriber row;
+    static hlr_access access = {.s_id = 1, .ai_type = 2, .data3 = "ABC", .data4 = {'A', 'B', 'C', 'D', 'E'}};
+    static hlr_facility facility = {.s_id = 1, .sf_type = 2, .is_active = 1, .data_b = {'A', 'B', 'C', 'D', 'E'}};
+    static hlr_numbers numbers;
+    static uint64_t lo, hi;
+    DO(hlr_lend(&many, 0, &owner));
+    DO(hlr_part_range(&owner, &lo, &hi));
+    DO(hlr_part_add_access(&owner, &access));
+    DO(hlr_part_add_facility(&owner, &facility));
+    DO(hlr_part_set_active(&owner, 1, 2, 0));
+    DO(hlr_part_update_subscriber(&owner, 1, 2, 1, 7));
+    DO(hlr_part_update_location(&owner, 1, 8));
+    DO(hlr_part_delete_forwarding(&owner, 1, 1, 16));
+    DO(hlr_part_insert_forwarding(&owner, 1, 1, 16, 24, 9));
+    DO(hlr_part_subscriber_data(&owner, 1, &row));
+    DO(hlr_part_access_data(&owner, 1, 2, &access));
+    DO(hlr_part_new_destination(&owner, 1, 1, 16, 20, &numbers));
+    DO(hlr_part_post(&owner, HLR_CELLS, &told));
+    DO(hlr_home(&owner));
+    DO(hlr_back(&many, 0));
+    return 0;
+}
+
 /* Rows are taken away, numbers change, facilities are switched. */
 static int emptied(void) {
     for (uint64_t s_id = 1; s_id <= ROWS; s_id++) {
@@ -105,7 +132,6 @@ static int emptied(void) {
         DO(hlr_update_location(&many, ROWS + s_id, 7));
         for (uint64_t hour = 0; hour < 24; hour += 8) DO(hlr_delete_forwarding(&many, ROWS + s_id, 1, hour));
     }
-    DO(hlr_close(&many));
     return 0;
 }
 
@@ -113,12 +139,28 @@ static void *much(void *none) {
     int line;
     (void)none;
     if ((line = filled()) != 0 || (line = moved()) != 0 || (line = read_out()) != 0) return (void *)(intptr_t)line;
+    if ((line = lent()) != 0) return (void *)(intptr_t)line;
     return (void *)(intptr_t)emptied();
 }
 
-/* What a thread with the small stack answers. */
-static int in_thread(void *(*work)(void *)) {
-    size_t page = (size_t)sysconf(_SC_PAGESIZE), size = STACK_KB * 1024;
+/* A look at what is published, beside a part that is out. */
+static int looked(void) {
+    DO(hlr_lend(&many, 1, &owner));
+    DO(hlr_look(&many, published));
+    DO(hlr_home(&owner));
+    DO(hlr_back(&many, 1));
+    DO(hlr_close(&many));
+    return 0;
+}
+
+static void *look(void *none) {
+    (void)none;
+    return (void *)(intptr_t)looked();
+}
+
+/* What a thread with so small a stack answers. */
+static int in_thread(void *(*work)(void *), size_t kilobytes) {
+    size_t page = (size_t)sysconf(_SC_PAGESIZE), size = kilobytes * 1024;
     char *stack = mmap(NULL, page + size, PROT_READ | PROT_WRITE, MAP_PRIVATE | MAP_ANONYMOUS | MAP_STACK, -1, 0);
     pthread_attr_t how;
     pthread_t thread;
@@ -130,9 +172,10 @@ static int in_thread(void *(*work)(void *)) {
 }
 
 int main(void) {
-    int status = in_thread(day);
+    int status = in_thread(day, STACK_KB);
     if (status != 0) return status;
-    status = in_thread(much);
+    status = in_thread(much, STACK_KB);
+    if (status == 0) status = in_thread(look, LOOK_STACK_KB);
     if (status != 0) fprintf(stderr, "line %d\n", status);
     return status != 0;
 }
