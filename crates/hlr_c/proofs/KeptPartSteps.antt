@@ -1,10 +1,10 @@
 -- A kept part in the machine: one word, its address, which owns what `held` says.
 use Rattle.std.proofs.Common.{◌≡◌, ◌∙◌, ap, ℕ, List, [], ◌∷◌, ◌++◌, refl}
-use Rattle.std.specs.Prelude.{Option, Some, None, ◌≢◌}
+use Rattle.std.specs.Prelude.{Option, Some, None}
 use seplogic.Ra.Ura.{Ura}
 use mir.Raw.{raw as bare}
 use mir.Syntax.{w64}
-use mir.Val.{Val, of_list, vcons, vint, vnil, vptr, vstruct}
+use mir.Val.{Val, of_list, vint, vptr, vstruct}
 use base.Fml.{Fml}
 use base.Logic.{fst∗, never}
 use types.Logic.{Logic, sem}

@@ -16,11 +16,10 @@ use Rattle.part_table.specs.declared.region.Region.{Region}
 use Rattle.part_table.specs.declared.region.TheConstants.{END, MOST_PARTS}
 use Rattle.tatp_actions.specs.declared.action.Action.{Action}
 use Rattle.holding.specs.declared.job.Job.TheVariants.{Act, Post as Posting}
-use Rattle.hlr_owners.specs.Out.{outs_in, with_outs}
+use Rattle.hlr_owners.specs.Out.{outs_in}
 use Rattle.hlr_owners.specs.Recut.{IsHomeToCut, IsHomeToMove}
 use Rattle.hlr_owners.specs.Seats.{AllHome, AreSeated, IsHomeFor, IsHomeFrom, Seating, book_in, homes_in, store_in}
 use Rattle.hlr_owners.proofs.OwnerLemmas.{lies_within}
-use Rattle.hlr_core.specs.Beside.{IsStepBeside}
 use Rattle.hlr_core.specs.Home.{IsHomeTo, IsHouseAfter, IsSameHouse}
 use Rattle.hlr_core.specs.Route.{IsRightNow}
 use Rattle.hlr_core.specs.Step.{IsAskedStep, IsStep, action_for}
