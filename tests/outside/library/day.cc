@@ -52,14 +52,14 @@ static void views(store &day) {
 static void lent(store &day, hlrpp::subscriber &row) {
     {
         hlrpp::part owner;
-        told("lend", day.lend(1, owner));
+        told("lend", day.lend(0, owner));
         hlrpp::part next = std::move(owner);
         owner = std::move(next);
         told("read 7 of its part", owner.subscriber_data(7, row));
         told("read 7 while it is out", day.subscriber_data(7, row));
-        told("back too early", day.back(1));
+        told("back too early", day.back(0));
     }
-    told("back", day.back(1));
+    told("back", day.back(0));
     told("read 7", day.subscriber_data(7, row));
 }
 
