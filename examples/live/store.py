@@ -1,9 +1,11 @@
-"""The register of the demonstration: its subscribers, the threads that call it, and what the page's buttons do."""
+"""The register of the demonstration: its subscribers, the threads that own its parts, and what the page's buttons do."""
 import bisect
+import collections
+import contextlib
 import random
 import threading
 import time
-from typing import Any, Callable, Dict, List, Tuple
+from typing import Any, Callable, Dict, Iterator, List, Optional, Tuple, Union
 
 import hlr
 
@@ -37,8 +39,9 @@ def _populate(register: hlr.Register, chance: random.Random, s_id: int) -> None:
             register.insert_forwarding(s_id, sf_type, start, start + chance.randint(1, 8), chance.randrange(10 ** 15))
 
 
-def _call(register: hlr.Register, chance: random.Random, s_id: int) -> None:
-    """A transaction of TATP's mix. Subscribers go where most go now, an area further on each four seconds."""
+def _call(register: Union[hlr.Part, hlr.Register], chance: random.Random, s_id: int) -> None:
+    """A transaction of TATP's mix, by an s_id, which is the number too. Subscribers go where most go now, an area further
+    on each four seconds."""
     roll = chance.randrange(100)
     sf_type, start = chance.randint(1, 4), chance.choice((0, 8, 16))
     if roll < 35:
@@ -59,16 +62,18 @@ def _call(register: hlr.Register, chance: random.Random, s_id: int) -> None:
 
 
 class Store:
-    """A register in parts, with a thread for each part that calls it for the part's subscribers.
+    """A register in parts, each with a thread that is lent the part at each of its turns, and works on it alone.
 
-    All threads share one handle: whoever works on the register has `lock`. While a piece is loose, the thread of the
-    part beside it goes on to call for its subscribers, and is refused with Moving.
+    Whoever works on the register has `lock`; calls on a part that is out need none. While a piece is loose, the thread of
+    the part beside it goes on to call for its subscribers, and is refused with Moving.
     """
 
     def __init__(self, parts: int, subscribers: int, pace: int, seed: int) -> None:
         chance = random.Random(seed)
         self.lock = threading.RLock()
         self.news = threading.Condition(self.lock)
+        self.came_home = threading.Condition(self.lock)
+        self.out = self.wanted = 0  # how many parts are out, and how many calls wait for them
         self.ending = threading.Event()
         self.pace, self.seed, self.is_running = pace, seed, True
         self.width, self.subscribers = _subscribers(chance, subscribers)
@@ -125,22 +130,63 @@ class Store:
                 if part >= len(self.served):
                     self.threads.remove(threading.current_thread())
                     return
-                due += self.pace * TICK * len(self.served[part]) / len(self.subscribers)
-            for _ in range(int(due)):
-                self._call(part, chance)
+                served = self.served[part]
+                owner = self._lent(part) if served else None
+            due += self.pace * TICK * len(served) / len(self.subscribers)
+            if owner is not None:
+                self._take_turn(owner, part, [self.subscribers[chance.choice(served)] for _ in range(int(due))], chance)
             due -= int(due)
 
-    def _call(self, part: int, chance: random.Random) -> None:
+    def _lent(self, part: int) -> Optional[hlr.Part]:
+        """The part, unless no calls are made, or somebody waits until all parts are at home."""
+        if not self.is_running or self.wanted:
+            return None
+        owner = self.register.lend(part)
+        self.out += 1
+        return owner
+
+    def _take_turn(self, owner: hlr.Part, part: int, s_ids: List[int], chance: random.Random) -> None:
+        """Calls for subscribers, and then sends the part home, where it is taken in."""
+        with owner:
+            ended = collections.Counter(self._call(owner, chance, s_id) for s_id in s_ids)
         with self.lock:
-            if not self.is_running or part >= len(self.served) or not self.served[part]:
-                return
-            self.calls += 1
+            self.register.back(part)
+            self.out -= 1
+            self.calls += len(s_ids)
+            self.moving += ended["moving"]
+            self.refused += ended["refused"]
+            self.came_home.notify_all()
+
+    def _call(self, owner: hlr.Part, chance: random.Random, s_id: int) -> str:
+        """How a call for a subscriber ends. Whoever isn't in the part is in a loose piece, as the register knows."""
+        try:
+            _call(owner, chance, s_id)
+        except hlr.Elsewhere:
+            with self.lock:
+                return self._call_register(chance, s_id)
+        except hlr.Refused:
+            return "refused"
+        return "done"
+
+    def _call_register(self, chance: random.Random, s_id: int) -> str:
+        try:
+            _call(self.register, chance, s_id)
+        except hlr.Moving:
+            return "moving"
+        except hlr.Refused:
+            return "refused"
+        return "done"
+
+    @contextlib.contextmanager
+    def _all_home(self) -> Iterator[None]:
+        """Has the lock, and all parts at home, where they stay."""
+        with self.lock:
+            self.wanted += 1
             try:
-                _call(self.register, chance, self.subscribers[chance.choice(self.served[part])])
-            except hlr.Moving:
-                self.moving += 1
-            except hlr.Refused:
-                self.refused += 1
+                self.came_home.wait_for(lambda: self.out == 0)
+                yield
+            finally:
+                self.wanted -= 1
 
     def _tell(self) -> None:
         """The thread that has the page told four times a second."""
@@ -163,7 +209,7 @@ class Store:
 
     def state(self) -> Dict[str, Any]:
         """The counts and the regions now."""
-        with self.lock:
+        with self._all_home():
             published, unposted = self.register.views()
             regions = [{"lo": region.lo, "hi": region.hi, "is_piece": region.is_piece, "number": region.number,
                         "subscribers": self._between(region.lo, region.hi)} for region in self.register.regions()]
@@ -179,7 +225,7 @@ class Store:
 
     def act(self, action: str, part: int) -> str:
         """Does what a button says, for the part that is chosen."""
-        with self.lock:
+        with self._all_home():
             try:
                 said = ACTIONS[action](self, part)
             except hlr.Refused as refused:
