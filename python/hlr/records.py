@@ -3,52 +3,28 @@ import csv
 import re
 from typing import Callable, Dict, Iterable, Iterator, List, TextIO
 
-from .refusals import Code, Field, NoAccess, NoFacility, NoForwarding, NoSubscriber, Refused, refusal
+from .refusals import Code, Field, Refused, refusal
 from .register import Access, Facility, Register, Subscriber
-
-_TYPES = range(1, 5)
-_STARTS = (0, 8, 16)
-
-
-def _subscribers(register: Register) -> Iterator[Subscriber]:
-    """All subscribers, in order."""
-    s_id = 1
-    while True:
-        try:
-            row = register.next_subscriber(s_id)
-        except NoSubscriber:
-            return
-        yield row
-        s_id = row.s_id + 1
 
 
 def _fields_of(register: Register, row: Subscriber) -> Iterator[List[object]]:
     """The records of a subscriber and of all that is theirs."""
+    s_id, sub_nbr = row.s_id, f"{row.sub_nbr:015}"
     digits = "".join(map(str, row.bits)), "".join(f"{each:x}" for each in row.hexes), row.octets.hex()
-    yield ["sub", row.s_id, f"{row.sub_nbr:015}", *digits, row.msc_location, row.vlr_location]
-    for ai_type in _TYPES:
-        try:
-            access = register.access_data(row.s_id, ai_type)
-        except NoAccess:
-            continue
-        yield ["acc", row.s_id, ai_type, access.data1, access.data2, access.data3, access.data4]
-    for sf_type in _TYPES:
-        try:
-            facility = register.facility_data(row.s_id, sf_type)
-        except NoFacility:
-            continue
-        yield ["fac", row.s_id, sf_type, int(facility.is_active), facility.error_cntrl, facility.data_a, facility.data_b]
-        for start_time in _STARTS:
-            try:
-                end_time, numberx = register.forwarding(row.s_id, sf_type, start_time)
-            except NoForwarding:
-                continue
-            yield ["icf", f"{row.sub_nbr:015}", sf_type, start_time, end_time, f"{numberx:015}"]
+    yield ["sub", s_id, sub_nbr, *digits, row.msc_location, row.vlr_location]
+    for access in register.accesses(s_id):
+        yield ["acc", s_id, access.ai_type, access.data1, access.data2, access.data3, access.data4]
+    for facility in register.facilities(s_id):
+        yield ["fac", s_id, facility.sf_type, int(facility.is_active), facility.error_cntrl, facility.data_a,
+               facility.data_b]
+        for start_time, end_time, numberx in register.forwardings(s_id, facility.sf_type):
+            yield ["icf", sub_nbr, facility.sf_type, start_time, end_time, f"{numberx:015}"]
 
 
 def save(register: Register, file: TextIO) -> int:
-    """Writes all rows as the records sub, acc, fac and icf, by subscriber, and tells how many records there are. No other
-    thread's call comes in between. Raises Moving where a piece is loose, before it writes anything.
+    """Writes all rows as the records sub, acc, fac and icf, by subscriber, and tells how many records there are. No
+    other thread's call comes in between. Raises Moving where a piece is loose, or Away where a part is out, before it
+    writes anything.
 
     >>> import io, sys
     >>> register = load(io.StringIO("sub,7,000000000000077,1000000000,0123456789,000102030405060708ff,1,2\\n"))
@@ -60,7 +36,7 @@ def save(register: Register, file: TextIO) -> int:
     with register.held():
         if any(region.is_piece for region in register.regions()):
             raise refusal(Code.MOVING, "save")
-        for row in _subscribers(register):
+        for row in register.subscribers():
             for fields in _fields_of(register, row):
                 print(*fields, sep=",", file=file)
                 records += 1
@@ -125,14 +101,14 @@ def load(file: Iterable[str], parts: int = 1, width: int = 524288) -> Register:
 
     >>> load(["sub,7,000000000000077,1000000000,0123456789,000102030405060708ff,1,2", "gsd,7"])
     Traceback (most recent call last):
-    ValueError: line 2: no record sub, acc, fac or icf, or not as many fields as it has
+    ValueError: line 2: no record sub, acc, fac or icf, or not all of its fields
     """
     register = Register(parts, width)
     try:
         reader = csv.reader(file)
         for command, *fields in filter(None, reader):
             if _FIELDS.get(command) != len(fields):
-                raise ValueError(f"line {reader.line_num}: no record sub, acc, fac or icf, or not as many fields as it has")
+                raise ValueError(f"line {reader.line_num}: no record sub, acc, fac or icf, or not all of its fields")
             try:
                 _COMMANDS[command](register, fields)
             except Refused as refused:

@@ -4,10 +4,10 @@ import enum
 import threading
 from dataclasses import dataclass
 from operator import index
-from typing import Any, ContextManager, Iterator, List, Optional, Sequence, Tuple, Union
+from typing import Any, Callable, ContextManager, Iterable, Iterator, List, Optional, Sequence, Tuple, Type, Union
 
 from . import library as c
-from .refusals import Code, Field, NotOpen, Refused, refusal
+from .refusals import Code, Field, NoAccess, NoFacility, NoForwarding, NoSubscriber, NotOpen, Refused, refusal
 
 #: How many cells there are.
 CELLS = c.CELLS
@@ -167,6 +167,17 @@ def _ready(value: object) -> object:
     return _number(value)  # type: ignore[arg-type]
 
 
+def _found(read: Callable[..., Any], missing: Type[Refused], asked: Iterable[Tuple[int, ...]]) -> List[Any]:
+    """What is read for each question, but for those that are answered by this exception."""
+    rows = []
+    for each in asked:
+        try:
+            rows.append(read(*each))
+        except missing:
+            pass
+    return rows
+
+
 class _Open:
     """What has a handle of the library. A lock lets one call at a time through."""
 
@@ -195,9 +206,9 @@ class _Open:
         if code != Code.DONE:
             raise refusal(code, name)
 
-    def _enter(self) -> None:
+    def _check_open(self, name: str) -> None:
         if self._handle is None:
-            raise refusal(Code.NOT_OPEN, "with")
+            raise refusal(Code.NOT_OPEN, name)
 
     def __exit__(self, *_: object) -> None:
         try:
@@ -249,12 +260,11 @@ class Register(_Open):
 
     def held(self) -> ContextManager[Any]:
         """Keeps the calls of other threads out, while its `with` lasts."""
-        if self._handle is None:
-            raise refusal(Code.NOT_OPEN, "held")
+        self._check_open("held")
         return self._lock
 
     def __enter__(self) -> "Register":
-        self._enter()
+        self._check_open("with")
         return self
 
     def subscriber_data(self, s_id: int) -> Subscriber:
@@ -329,6 +339,50 @@ class Register(_Open):
         self._call("next_subscriber", s_id, row)
         return _subscriber(row)
 
+    def subscribers(self, s_id: int = 1) -> Iterator[Subscriber]:
+        """Reads all rows with an s_id from this one on, in order, each as it is asked for. Raises Away.
+
+        >>> with Register() as register:
+        ...     register.add_subscriber(Subscriber(70, 70))
+        ...     register.add_subscriber(Subscriber(7, 77))
+        ...     [row.s_id for row in register.subscribers()]
+        [7, 70]
+        """
+        self._check_open("subscribers")
+        return self._subscribers_from(s_id)
+
+    def _subscribers_from(self, s_id: int) -> Iterator[Subscriber]:
+        while True:
+            try:
+                row = self.next_subscriber(s_id)
+            except NoSubscriber:
+                return
+            yield row
+            s_id = row.s_id + 1
+
+    def accesses(self, s_id: int) -> List[Access]:
+        """Reads a subscriber's accesses, by ai_type. Raises Field, Moving, Away."""
+        return _found(self.access_data, NoAccess, [(s_id, ai_type) for ai_type in range(1, 5)])
+
+    def facilities(self, s_id: int) -> List[Facility]:
+        """Reads a subscriber's facilities, by sf_type. Raises Field, Moving, Away."""
+        return _found(self.facility_data, NoFacility, [(s_id, sf_type) for sf_type in range(1, 5)])
+
+    def forwardings(self, s_id: int, sf_type: int) -> List[Tuple[int, int, int]]:
+        """Tells the start_time, the end_time and the numberx of a facility's forwardings, by start_time. Raises Field,
+        Moving, Away.
+
+        >>> with Register() as register:
+        ...     register.add_subscriber(Subscriber(7, 77))
+        ...     register.add_facility(Facility(7, 2))
+        ...     register.insert_forwarding(77, 2, 8, 16, 100)
+        ...     register.forwardings(7, 2), register.forwardings(7, 1)
+        ([(8, 16, 100)], [])
+        """
+        def read(start_time: int) -> Tuple[int, int, int]:
+            return (start_time, *self.forwarding(s_id, sf_type, start_time))
+        return _found(read, NoForwarding, [(0,), (8,), (16,)])
+
     def subscriber_data_many(self, s_ids: Sequence[int]) -> List[Union[Subscriber, Refused]]:
         """Reads many rows in one call: for each s_id the row, or the exception that `subscriber_data` raises. None
         is read where a number is negative or has no room in 64 bits, or any part is out. Raises Away, Field.
@@ -354,8 +408,7 @@ class Register(_Open):
     def _many(self, name: str, question: Any, asked: Sequence[Tuple[int, ...]], answer: Any, told: Any) -> List[Any]:
         """Has many questions answered in one call: each by what is told of its answer, or by its exception."""
         many = name + "_many"
-        if self._handle is None:
-            raise refusal(Code.NOT_OPEN, many)
+        self._check_open(many)
         count = len(asked)
         questions = (question * count)(*(question(*map(_number, each)) for each in asked))
         answers, codes = (answer * count)(), (ctypes.c_uint8 * count)()
@@ -444,7 +497,8 @@ class Register(_Open):
         return (Cell(number, *_NAMES[number], published[number], unposted[number]) for number in range(CELLS))
 
     def look(self) -> List[int]:
-        """Tells each cell as published now, whichever parts are out. Parts post meanwhile, so the cells are of no one moment.
+        """Tells each cell as published now, whichever parts are out. Parts post meanwhile, so the cells are of no one
+        moment.
 
         >>> with Register() as register:
         ...     register.add_subscriber(Subscriber(7, 77))
@@ -567,7 +621,7 @@ class Part(_Open):
         return "hlr_home" if name == "home" else "hlr_part_" + name
 
     def __enter__(self) -> "Part":
-        self._enter()
+        self._check_open("with")
         return self
 
     def home(self) -> None:

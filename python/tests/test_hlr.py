@@ -163,6 +163,25 @@ class Calls(unittest.TestCase):
             self.assertRaises(hlr.NoSubscriber, register.next_subscriber, 8)
             self.assertRaises(hlr.Moving, register.facility_data, 7, 2)
             self.assertRaises(hlr.NoNumber, register.find, 78)
+            self.assertRaises(hlr.Moving, register.accesses, 7)
+
+    def test_listed(self):
+        with filled(parts=2, width=4) as register:
+            register.add_subscriber(Subscriber(16777216, 1))
+            register.add_access(Access(7, 4))
+            register.insert_forwarding(77, 2, 16, 17, 101)
+            self.assertEqual([row.s_id for row in register.subscribers()], [7, 16777216])
+            self.assertEqual([row.s_id for row in register.subscribers(8)], [16777216])
+            self.assertEqual(register.accesses(7), [Access(7, 1), Access(7, 4)])
+            self.assertEqual(register.facilities(7), [Facility(7, 2)])
+            self.assertEqual(register.forwardings(7, 2), [(8, 16, 100), (16, 17, 101)])
+            self.assertEqual((register.accesses(8), register.facilities(8), register.forwardings(7, 1)), ([], [], []))
+            self.assertRaises(hlr.Field, register.accesses, 0)
+            with register.lend(0):
+                self.assertRaises(hlr.Away, list, register.subscribers())
+                file = io.StringIO()
+                self.assertRaises(hlr.Away, hlr.save, register, file)
+                self.assertEqual(file.getvalue(), "")
 
     def test_many(self):
         def one(call, *asked):
@@ -312,7 +331,8 @@ sub,16777216,999999999999999,1111111111,ffffffffff,ffffffffffffffffffff,1,429496
                                ("icf,000000000000077,1,0,1,000000000000100", hlr.NoFacility),
                                (sub.replace("1000000000,", "1_00000000,"), hlr.Field),
                                (sub.replace("1000000000,", "a000000000,"), hlr.Field),
-                               (sub.replace(",0001", ", 001"), hlr.Field), ("sub,7", ValueError), ("gsd,7", ValueError)):
+                               (sub.replace(",0001", ", 001"), hlr.Field), ("sub,7", ValueError),
+                               ("gsd,7", ValueError)):
             with self.assertRaises(refused, msg=wrong) as caught:
                 hlr.load([sub, wrong])
             self.assertRegex(str(caught.exception), "^line 2: ")
