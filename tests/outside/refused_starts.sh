@@ -7,8 +7,9 @@
 
 # Where a run with threads ends whose workers only read: after how many answers, with which fault, and how often. The
 # third record starts the first worker, and the fourth the second one; the report brings them home, and the last two
-# records start them again. A start wants a worker's queue, its list of replies and what it shares, and a piece for the thread
-# itself; before the first record and the one behind the report the engine makes room for its replies too.
+# records start them again. A start wants a worker's queue, its list of replies and what it shares, and a piece for the
+# thread itself; before the first record and the one behind the report the engine makes room for its replies too. The lists
+# of workers that came home are kept, so behind the report a start wants one piece less.
 starts_refused() {
   local command=("$hlr" --threads --parts 2 --zone 4) call=0 status lines all each
   begin
@@ -36,13 +37,13 @@ starts_refused() {
   [ "$each" -gt 2 ] || fail "only $each growths of a worker's start were refused"
   for lines in 2 3 $((all - 2)) $((all - 1)); do
     call=$each
-    if [ "$lines" = $((all - 2)) ]; then call=$((each + 1)); fi
+    if [ "$lines" = $((all - 1)) ]; then call=$((each - 1)); fi
     [ "$(grep -c "^$lines: hlr: no memory$" "$room/ends")" = "$call" ] || fail "growths of a worker's start after $lines answers"
     [ "$(grep -c "^$lines: hlr: no thread$" "$room/ends")" = 1 ] || fail "the memory of a thread after $lines answers"
   done
   ! grep -qvE "^(0|2|3|$((all - 2))|$((all - 1))): " "$room/ends" || fail 'a run of an engine ended elsewhere'
   right
-  echo "hlr --threads: each of four starts of a worker ended $each times with no memory, and once with no thread"
+  echo "hlr --threads: a first start of a worker ended $each times with no memory, a later one $((each - 1)) times, and each once with no thread"
 }
 
 program_built || finish
