@@ -37,6 +37,16 @@ module _ {V : Type 0} where
     | inr le ↦ le
   ]
 
+  -- a key that the array has at a place is the leaf's
+  pub there_at : (key i : ℕ) (leaf : Leaf V) → IsLeaf leaf → length leaf.keys ≡ 32 → (i < 32) × (get_or leaf.keys i 0 ≡ key) × (key < no_key) → IsThere key i leaf
+  there_at key i leaf h long at = record {
+    within = elim (cases_lt i (length leaf.values.items)) [
+      | inl lt ↦ lt
+      | inr past ↦ absurd (omega (arith, at.1, at.2, run_behind (length leaf.values.items) i leaf.keys leaf.values.items h.run past (omega (arith, long, at.0))))
+    ];
+    same = at.1;
+  }
+
   below_at : (key : ℕ) (a : List (ℕ × V)) (p : ℕ × V) (b : List (ℕ × V)) → IsOrderedBy key_of_pair (a ++ (p ∷ b)) → p.0 < key → KeysBelow key (a ++ (p ∷ []))
   below_at key a p b o lt =
       each-append (λ q. q.0 < key) a (p ∷ []) (below-weaker key_of_pair p.0 key a (omega arith) (ordered_front key_of_pair a p b o)) (lt, tt)

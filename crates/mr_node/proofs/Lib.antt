@@ -4,6 +4,7 @@ pub mod MoveLemmas
 pub mod ShareLemmas
 pub mod FrontLemmas
 pub mod SearchLemmas
+pub mod GuessLemmas
 pub mod EntryLemmas
 pub mod KidLemmas
 pub mod SizeLemmas

@@ -139,3 +139,14 @@ kid_placed key least n r ks ps long some run ordered below e stop =
             omega (arith, stop.here (omega (arith, none, long)), front, e, run_below n 0 ks ps run below some, run_rises n ks ps run ordered below 0 (r - 1 + 1) (omega arith) (omega (arith, more, run.fits, long)))
       ];
     }
+
+-- and from the least keys on both sides
+pub kid_between : {X : Type 0} (key n i : ℕ) (ks : List ℕ) (ps : List (Option X)) → length ks ≡ 32 → IsRun n ks ps → (i < 31) × (get_or ks i 0 ≤ key) × (key < get_or ks (i + 1) 0) → IsKidPlace key i n ks
+kid_between key n i ks ps long run at = record {
+  within = elim (cases_lt i n) [
+    | inl lt ↦ lt
+    | inr past ↦ absurd (omega (arith, at.1, at.2, run_behind n i ks ps run past (omega (arith, long, at.0)), run_behind n (i + 1) ks ps run (omega (arith, past)) (omega (arith, long, at.0))))
+  ];
+  here = λ front. at.1;
+  next = λ more. at.2;
+}

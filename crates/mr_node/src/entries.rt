@@ -10,7 +10,7 @@ ghost use Rattle.mr_node.specs.Pages.{IsPage};
 ghost use Rattle.mr_node.specs.Revisions.{revised_at, spent_at};
 ghost use Rattle.mr_node.specs.Growth.{IsGrown, IsRoomAnswer, is_done};
 
-use crate::keys::{NO_KEY, count_below, put_key, take_key};
+use crate::keys::{NO_KEY, count_below, is_at, put_key, take_key};
 use crate::{Leaf, Revise, Room};
 use arrayvec::ArrayVec;
 
@@ -62,6 +62,27 @@ pub(crate) fn find_entry<V>(leaf: &Leaf<V>, key: u64) -> Option<&V>
     }
 }
 
+/// `find_entry`, in a function of its own.
+#[inline(never)]
+fn find_far<V>(leaf: &Leaf<V>, key: u64) -> Option<&V>
+    requires { IsLeaf leaf.now }
+    ensures { option_map (λ r. r.now) result ≡ value_at key (pairs_of leaf.now) }
+{
+    find_entry(leaf, key)
+}
+
+/// The value at a key of a leaf, looked for at a guess of its place first.
+#[inline(always)]
+pub(crate) fn find_entry_at<V>(leaf: &Leaf<V>, key: u64, guess: usize) -> Option<&V>
+    requires { IsLeaf leaf.now }
+    ensures { option_map (λ r. r.now) result ≡ value_at key (pairs_of leaf.now) }
+{
+    if is_at(&leaf.keys, guess, key) {
+        return value_in(&leaf.values.as_slice()[guess]);
+    }
+    find_far(leaf, key)
+}
+
 /// Changes the value in a used place.
 fn revise_value<V, E: Revise<V>>(place: &mut Option<V>, edit: &mut E)
     requires { IsSome place.old }
@@ -100,6 +121,41 @@ pub(crate) fn revise_entry<V, E: Revise<V>>(leaf: &mut Leaf<V>, key: u64, edit: 
         }
         Err(_) => false,
     }
+}
+
+/// `revise_entry`, in a function of its own.
+#[inline(never)]
+fn revise_far<V, E: Revise<V>>(leaf: &mut Leaf<V>, key: u64, edit: &mut E) -> bool
+    requires { IsLeaf leaf.old }
+    ensures rows { pairs_of leaf.new ≡ revised_at key (E.revised edit.old) (pairs_of leaf.old) }
+    ensures len { length leaf.new.values.items ≡ length leaf.old.values.items }
+    ensures leaf { IsLeaf leaf.new }
+    ensures spent { edit.new ≡ spent_at key E.spent edit.old (pairs_of leaf.old) }
+    ensures found { result ≡ is_some (value_at key (pairs_of leaf.old)) }
+{
+    revise_entry(leaf, key, edit)
+}
+
+/// Changes the value at a key of a leaf, looked for at a guess of its place first: false where the key isn't there.
+#[inline(always)]
+pub(crate) fn revise_entry_at<V, E: Revise<V>>(
+    leaf: &mut Leaf<V>,
+    key: u64,
+    guess: usize,
+    edit: &mut E,
+) -> bool
+    requires { IsLeaf leaf.old }
+    ensures rows { pairs_of leaf.new ≡ revised_at key (E.revised edit.old) (pairs_of leaf.old) }
+    ensures len { length leaf.new.values.items ≡ length leaf.old.values.items }
+    ensures leaf { IsLeaf leaf.new }
+    ensures spent { edit.new ≡ spent_at key E.spent edit.old (pairs_of leaf.old) }
+    ensures found { result ≡ is_some (value_at key (pairs_of leaf.old)) }
+{
+    if is_at(&leaf.keys, guess, key) {
+        revise_in(&mut leaf.values, guess, edit);
+        return true;
+    }
+    revise_far(leaf, key, edit)
 }
 
 /// Puts an entry into a leaf with room, at the place of its key.

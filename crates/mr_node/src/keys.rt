@@ -1,5 +1,5 @@
 //! The keys of a node: a plain array of 32 in rising order, with the greatest number behind the last key.
-ghost use Rattle.std.specs.Prelude.{◌≡◌, ◌+◌, ◌-◌, ◌*◌, ◌<◌, ◌≤◌, [], ◌∷◌, ◌++◌, insert, remove, take, drop, replicate, slice_index_or, slice_set, nat_lt, if◌then◌else◌};
+ghost use Rattle.std.specs.Prelude.{◌≡◌, ◌+◌, ◌-◌, ◌*◌, ◌<◌, ◌≤◌, [], ◌∷◌, ◌++◌, insert, remove, take, drop, replicate, slice_index_or, slice_set, nat_lt, true, false, if◌then◌else◌};
 ghost use Rattle.mr_node.specs.Runs.{no_key};
 ghost use Rattle.mr_node.specs.Search.{IsRising, IsStop};
 
@@ -42,6 +42,23 @@ pub(crate) fn count_below(keys: &[u64; 32], key: u64) -> usize
         + is_less(keys, low + 1, key)
         + is_less(keys, low + 2, key)
         + is_less(keys, low + 3, key)
+}
+
+/// Whether a key stands at a place: what stands behind the last key is no key.
+#[inline(always)]
+pub(crate) fn is_at(keys: &[u64; 32], place: usize, key: u64) -> bool
+    ensures there { result ≡ true → (place < 32) × (slice_index_or keys.now place 0 ≡ key) × (key < no_key) }
+    ensures other { result ≡ false → place < 32 → key < no_key → slice_index_or keys.now place 0 ≡ key → ⊥ }
+{
+    place < 32 && keys[place] == key && key != NO_KEY
+}
+
+/// Whether a key is at least the one at a place, and less than the next one. Of the last place it is false.
+#[inline(always)]
+pub(crate) fn is_between(keys: &[u64; 32], place: usize, key: u64) -> bool
+    ensures { result ≡ true → (place < 31) × (slice_index_or keys.now place 0 ≤ key) × (key < slice_index_or keys.now (place + 1) 0) }
+{
+    place < 31 && keys[place] <= key && key < keys[place + 1]
 }
 
 /// Puts a key among the others; what stands in the last place is let go.

@@ -6,7 +6,7 @@ ghost use Rattle.tatp_rows.specs.Ordered.{IsOrderedBy};
 ghost use Rattle.mr_node.specs.Rows.{key_of_pair, key_limit, KeysBelow};
 ghost use Rattle.mr_node.specs.Levels.{IsKidPlace};
 
-use crate::keys::{NO_KEY, count_below, put_key, take_key};
+use crate::keys::{NO_KEY, count_below, is_between, put_key, take_key};
 use crate::places::{last_to, move_to_end};
 use crate::{Branch, Kid};
 
@@ -45,6 +45,33 @@ pub fn kid_place<B>(branch: &Branch<B>, key: u64) -> usize
     ensures { IsKidPlace key result branch.now.len branch.now.leasts }
 {
     count_below(&branch.leasts, key.saturating_add(1)).saturating_sub(1)
+}
+
+/// `kid_place`, in a function of its own.
+#[inline(never)]
+fn kid_place_far<B>(branch: &Branch<B>, key: u64) -> usize
+    requires some { 0 < branch.now.len }
+    requires run { IsRun branch.now.len branch.now.leasts branch.now.kids }
+    requires ordered { IsOrderedBy key_of_pair (entries branch.now.leasts branch.now.kids) }
+    requires below { KeysBelow key_limit (entries branch.now.leasts branch.now.kids) }
+    ensures { IsKidPlace key result branch.now.len branch.now.leasts }
+{
+    kid_place(branch, key)
+}
+
+/// The place of the child to which a key belongs, looked for at a guess of it first.
+#[inline(always)]
+pub(crate) fn kid_place_at<B>(branch: &Branch<B>, key: u64, guess: usize) -> usize
+    requires some { 0 < branch.now.len }
+    requires run { IsRun branch.now.len branch.now.leasts branch.now.kids }
+    requires ordered { IsOrderedBy key_of_pair (entries branch.now.leasts branch.now.kids) }
+    requires below { KeysBelow key_limit (entries branch.now.leasts branch.now.kids) }
+    ensures { IsKidPlace key result branch.now.len branch.now.leasts }
+{
+    if is_between(&branch.leasts, guess, key) {
+        return guess;
+    }
+    kid_place_far(branch, key)
 }
 
 /// The count of the child at a place, or 0 where there is none.

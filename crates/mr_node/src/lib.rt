@@ -5,6 +5,7 @@
 mod body;
 mod cuts;
 mod entries;
+mod guess;
 mod keys;
 mod kids;
 mod mending;

@@ -12,7 +12,7 @@ use crate::{Branch, Kid, Meter, Node, Stock};
 /// A full child gives to the one before it where that one has so many at most,
 const GIVEN_FROM: usize = 24;
 /// until it has so many: room is left in both, and rows that come in rising order leave nearly full nodes behind.
-const GIVEN_TO: usize = 29;
+pub(crate) const GIVEN_TO: usize = 29;
 
 /// The width of the child at a place.
 fn kid_width<V>(kids: &[Option<Kid<Box<Node<V>>>>; 32], place: usize) -> usize

@@ -15,10 +15,11 @@ ghost use Rattle.mr_node.specs.Parts.{IsHung};
 ghost use Rattle.mr_node.specs.Steps.{after_steps, IsRoomMade};
 
 use crate::entries::{
-    find_entry, first_entry, fold_entries, insert_entry, insert_new, no_leaf, page_entries,
-    remove_entry, revise_entry, walk_entries,
+    find_entry, find_entry_at, first_entry, fold_entries, insert_entry, insert_new, no_leaf,
+    page_entries, remove_entry, revise_entry, revise_entry_at, walk_entries,
 };
-use crate::kids::{kid_place, no_branch, put_kid, sum_counts, take_kid};
+use crate::guess::{kid_behind, rows_before};
+use crate::kids::{kid_place, kid_place_at, no_branch, put_kid, sum_counts, take_kid};
 use crate::mending::{make_room, mend};
 use crate::revise::Swap;
 use crate::runs::{even, low_of, share};
@@ -115,6 +116,31 @@ impl<V> Node<V> {
                 let place = kid_place(branch, key);
                 match &branch.kids[place] {
                     Some(kid) => kid.node.find(key),
+                    None => unreachable!(),
+                }
+            }
+        }
+    }
+
+    /// `find`, quick in a dense tree: one whose keys are 2^`shift` apart, and came in rising order. It looks first where
+    /// the key is in such a tree.
+    pub fn find_by_guess(&self, key: u64, shift: u32) -> Option<&V>
+        ensures { option_map (λ r. r.now) result ≡ value_at key self.now.rows }
+    {
+        self.find_near(key, shift, self.least())
+    }
+
+    /// The same of a node of such a tree, given its least key, or any number.
+    fn find_near(&self, key: u64, shift: u32, least: u64) -> Option<&V>
+        ensures { option_map (λ r. r.now) result ≡ value_at key self.now.rows }
+    {
+        let rows = rows_before(key, least, shift);
+        match &self.body {
+            Body::Leaf(leaf) => find_entry_at(leaf, key, rows as usize),
+            Body::Inner(branch) => {
+                let place = kid_place_at(branch, key, kid_behind(rows, branch.height));
+                match &branch.kids[place] {
+                    Some(kid) => kid.node.find_near(key, shift, branch.leasts[place]),
                     None => unreachable!(),
                 }
             }
@@ -269,6 +295,47 @@ impl<V: Drop> Node<V> {
                     Some(kid) => {
                         let node = &mut *kid.node;
                         node.revise(key, edit)
+                    }
+                    None => unreachable!(),
+                }
+            }
+        }
+    }
+
+    /// `revise`, quick in a dense tree as `find_by_guess` is.
+    pub fn revise_by_guess<E: Revise<V>>(&mut self, key: u64, shift: u32, edit: &mut E) -> bool
+        ensures rows { self.new ≡ record self.old { rows = revised_at key (E.revised edit.old) self.old.rows } }
+        ensures well { IsWell self.new }
+        ensures spent { edit.new ≡ spent_at key E.spent edit.old self.old.rows }
+        ensures found { result ≡ is_some (value_at key self.old.rows) }
+    {
+        let least = self.least();
+        self.revise_near(key, shift, least, edit)
+    }
+
+    /// The same of a node of such a tree, given its least key, or any number.
+    fn revise_near<E: Revise<V>>(
+        &mut self,
+        key: u64,
+        shift: u32,
+        least: u64,
+        edit: &mut E,
+    ) -> bool
+        ensures rows { self.new ≡ record self.old { rows = revised_at key (E.revised edit.old) self.old.rows } }
+        ensures well { IsWell self.new }
+        ensures spent { edit.new ≡ spent_at key E.spent edit.old self.old.rows }
+        ensures found { result ≡ is_some (value_at key self.old.rows) }
+    {
+        let rows = rows_before(key, least, shift);
+        match &mut self.body {
+            Body::Leaf(leaf) => revise_entry_at(leaf, key, rows as usize, edit),
+            Body::Inner(branch) => {
+                let place = kid_place_at(branch, key, kid_behind(rows, branch.height));
+                let kid_least = branch.leasts[place];
+                match &mut branch.kids[place] {
+                    Some(kid) => {
+                        let node = &mut *kid.node;
+                        node.revise_near(key, shift, kid_least, edit)
                     }
                     None => unreachable!(),
                 }

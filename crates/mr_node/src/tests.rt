@@ -27,12 +27,12 @@ fn fill(rt: &impl Abort, node: &mut Node<u64>) {
     let mut value = Some(0);
     assert!(rt; matches!(node.insert_room(7, &mut value), Room::Exists));
     assert_eq!(rt; value, Some(0));
-    assert_eq!(rt; node.find(7), Some(&14));
+    assert_eq!(rt; [node.find(7), node.find_by_guess(7, 0)], [Some(&14); 2]);
     assert_eq!(rt; node.replace(7, 15).ok(), Some(14));
     assert_eq!(rt; node.replace(77, 15).err(), Some(15));
     let mut raise = Raise { by: 100, seen: 0 };
     assert_eq!(rt;
-        [node.revise(77, &mut raise), node.revise(8, &mut raise)],
+        [node.revise(77, &mut raise), node.revise_by_guess(8, 0, &mut raise)],
         [false, true]
     );
     assert_eq!(rt; (raise.seen, node.find(8)), (16, Some(&116)));

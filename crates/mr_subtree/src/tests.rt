@@ -1,10 +1,11 @@
 //! What no clause says: that insertions succeed and what each call answers then, for values of several sizes, and what
 //! stands where a growth is refused.
-ghost use Rattle.std.specs.Prelude.{◌<◌, ◌≤◌, length};
+ghost use Rattle.std.specs.Prelude.{◌+◌, ◌%◌, ◌^◌, ◌<◌, ◌≤◌, length};
 ghost use Rattle.mr_node.specs.Rows.{key_limit};
 
 use super::*;
 use arrayvec::ArrayVec;
+use mr_node::Revise;
 use std::alloc::Global;
 use std::process::Abort;
 use tatp_rows::Refusal;
@@ -481,4 +482,109 @@ fn looks_side_by_side(rt: HostRuntime) {
     let same = found.as_slice() == wanted.as_slice();
     let empty = many(&tree, &[]);
     assert_eq!(rt; (done, same, empty.len()), (true, true, 0));
+}
+
+// Trees that are looked into by guess: the first key, how far the keys are apart as a power of two, what a key is drawn
+// from behind its place, and how many of eight rows go again.
+const TREES: [(u64, u32, u64, u64); 6] = [
+    (0, 0, 1, 0),
+    (0, 0, 1, 3),
+    (65_536, 16, 1, 0),
+    (65_536, 16, 1, 5),
+    (18_446_744_073_709_549_614, 0, 1, 2),
+    (77, 52, 4_503_599_627_370_496, 2),
+];
+
+// The key with this number in such a tree.
+fn key_in(tree: &(u64, u32, u64, u64), number: u32) -> u64
+    ensures { result < key_limit }
+{
+    let turn = u64::from(number);
+    let place = tree.0.wrapping_add(turn.wrapping_shl(tree.1));
+    let behind = drawn(turn).checked_rem(tree.2).unwrap_or(0);
+    place.wrapping_add(behind).min(u64::MAX - 2)
+}
+
+// Such a tree of 2,000 rows in rising order, of which drawn ones go again.
+fn drill(tree: &mut SubTree<u32>, kind: &(u64, u32, u64, u64)) -> bool {
+    let mut done = true;
+    for number in 0..2000u32 {
+        done &= added(tree, key_in(kind, number), number).is_none();
+    }
+    for number in 0..2000u32 {
+        if drawn(u64::from(number)) % 8 < kind.3 {
+            done &= removed(tree, key_in(kind, number)) == Some(number);
+        }
+    }
+    done
+}
+
+// What a look by guess answers, in numbers.
+fn guessed(tree: &SubTree<u32>, key: u64, shift: u32) -> Option<u32> {
+    let value = tree.get_by_guess(key, shift)?;
+    Some(value.number())
+}
+
+// Whether looks at a key by guesses answer as the one without.
+fn is_alike(tree: &SubTree<u32>, key: u64) -> bool {
+    let plain = found(tree, key);
+    [0, 16, 52, 64].iter().all(|shift| guessed(tree, key, *shift) == plain)
+}
+
+// How many rows are there by the keys of such a tree; None where looks at a key or beside it aren't alike.
+fn count_alike(tree: &SubTree<u32>, kind: &(u64, u32, u64, u64)) -> Option<u64> {
+    let mut count = 0u64;
+    for number in 0..2000u32 {
+        let key = key_in(kind, number);
+        if !is_alike(tree, key.wrapping_sub(1)) || !is_alike(tree, key) || !is_alike(tree, key + 1)
+        {
+            return None;
+        }
+        count = count.wrapping_add(u64::from(found(tree, key).is_some()));
+    }
+    Some(count)
+}
+
+// Adds to a value.
+#[derive(Drop)]
+struct Raise {
+    by: u32,
+}
+
+impl Revise<u32> for Raise {
+    ghost revised = { λ raise value. (value + raise.by) % 2 ^ 32 };
+
+    ghost spent = { λ raise value. raise };
+
+    fn revise(&mut self, value: &mut u32) {
+        *value = value.wrapping_add(self.by);
+    }
+}
+
+// Raises each value of such a tree by guess, and tells how many there were.
+fn raise_all(tree: &mut SubTree<u32>, kind: &(u64, u32, u64, u64)) -> u64 {
+    let mut count = 0u64;
+    for number in 0..2000u32 {
+        let mut raise = Raise { by: 1 };
+        let is_raised = tree.revise_by_guess(key_in(kind, number), kind.1, &mut raise);
+        count = count.wrapping_add(u64::from(is_raised));
+    }
+    count
+}
+
+// Looks and changes by guess do what those without do, in dense trees, in sparse ones, with holes, and at both ends.
+fn compare_guesses(rt: &impl Abort, tree: &mut SubTree<u32>, kind: &(u64, u32, u64, u64)) {
+    let done = drill(tree, kind);
+    let (rows, sum) = (tree.len(), sum_of(tree));
+    let ends = is_alike(tree, 0) && is_alike(tree, u64::MAX - 1) && is_alike(tree, u64::MAX);
+    let counts = (count_alike(tree, kind), raise_all(tree, kind), sum_of(tree).wrapping_sub(sum));
+    assert_eq!(rt; (done, ends, counts), (true, true, (Some(rows), rows, rows)));
+}
+
+#[test]
+fn guesses(rt: HostRuntime) {
+    for kind in &TREES {
+        let mut tree = SubTree::new(rt.alloc()).expect(&rt, "a tree");
+        compare_guesses(&rt, &mut tree, kind);
+    }
 }

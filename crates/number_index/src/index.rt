@@ -47,7 +47,8 @@ impl NumberIndex {
     pub fn find(&self, number: Number) -> Option<u32>
         ensures { result ≡ bearer_in number self.now }
     {
-        self.tree.get(number.value()).copied()
+        // The guess is right where numbers follow one another.
+        self.tree.get_by_guess(number.value(), 0).copied()
     }
 
     /// The number of pairs.

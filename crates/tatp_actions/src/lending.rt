@@ -5,6 +5,7 @@ ghost use Rattle.tatp_actions.specs.Book.{subscriber_at, access_at, facility_at,
 
 use crate::destinations::find_destinations;
 use crate::part::Part;
+use crate::trees::KEY_SHIFT;
 use arrayvec::ArrayVec;
 use tatp_rows::{Access, Facility, Forwarding, Number, Subscriber, row_key, subscriber_key};
 
@@ -13,7 +14,9 @@ impl Part {
     pub fn lend_subscriber(&self, s_id: u32) -> Option<&Subscriber>
         ensures { option_copied result ≡ subscriber_at self.now.book s_id }
     {
-        self.rows.subscribers.get(subscriber_key(s_id))
+        self.rows
+            .subscribers
+            .get_by_guess(subscriber_key(s_id), KEY_SHIFT)
     }
 
     /// Lends the Access_Info row of a subscriber's access, where there is one.

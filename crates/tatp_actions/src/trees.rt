@@ -9,6 +9,9 @@ use mr_subtree::SubTree;
 use std::alloc::Global;
 use tatp_rows::{Access, Back, Facility, Forwarding, Refusal, Subscriber};
 
+/// The keys of two subscribers that follow one another are 2^16 apart.
+pub(crate) const KEY_SHIFT: u32 = 16;
+
 /// The rows of a part, each of the four tables in a tree of its own, and how often they were asked.
 #[derive(Drop)]
 pub struct Trees {
@@ -79,7 +82,7 @@ impl Rows for Trees {
 
     fn get_s(&mut self, key: u64) -> Option<&Subscriber> {
         self.ask();
-        self.subscribers.get(key)
+        self.subscribers.get_by_guess(key, KEY_SHIFT)
     }
 
     fn replace_s(&mut self, key: u64, value: Subscriber) -> Result<Subscriber, Subscriber> {
@@ -89,7 +92,7 @@ impl Rows for Trees {
 
     fn revise_s<E: Revise<Subscriber>>(&mut self, key: u64, edit: &mut E) -> bool {
         self.ask();
-        self.subscribers.revise(key, edit)
+        self.subscribers.revise_by_guess(key, KEY_SHIFT, edit)
     }
 
     fn insert_s(&mut self, key: u64, value: Subscriber) -> Result<(), Back<Subscriber>> {

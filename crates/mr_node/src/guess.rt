@@ -1,0 +1,38 @@
+//! Where a key is to be expected in a dense tree: its keys are 2^`shift` apart, and came in rising order. In other trees
+//! the guess is any number, so whoever uses it looks first whether it is right.
+ghost use Rattle.std.specs.Prelude.{◌≡◌, ℕ, ◌+◌, ◌*◌, ◌/◌, ◌^◌, ◌<◌, ◌≤◌};
+
+use crate::mending::GIVEN_TO;
+
+/// How many entries or children a node is left with where rows come in rising order.
+const FILLED: u64 = GIVEN_TO as u64;
+
+/// By the height of a node, 2^40 over the rows below a child of it, rounded up.
+static RATES: [u64; 8] = [
+    0,
+    (1 << 40) / FILLED + 1,
+    (1 << 40) / (FILLED * FILLED) + 1,
+    (1 << 40) / (FILLED * FILLED * FILLED) + 1,
+    (1 << 40) / (FILLED * FILLED * FILLED * FILLED) + 1,
+    (1 << 40) / (FILLED * FILLED * FILLED * FILLED * FILLED) + 1,
+    (1 << 40) / (FILLED * FILLED * FILLED * FILLED * FILLED * FILLED) + 1,
+    (1 << 40) / (FILLED * FILLED * FILLED * FILLED * FILLED * FILLED * FILLED) + 1,
+];
+
+/// How many rows of a node stand in front of a key, counted from its least key.
+#[inline(always)]
+pub(crate) fn rows_before(key: u64, least: u64, shift: u32) -> u64
+    ensures { shift < 64 → (n : ℕ) → key ≡ least + n * 2 ^ shift → result ≡ n }
+{
+    key.wrapping_sub(least).wrapping_shr(shift)
+}
+
+/// The place of the child of a node that has the row behind so many. Above height 3 it may be off by one.
+#[inline(always)]
+pub(crate) fn kid_behind(rows: u64, height: u64) -> usize
+    ensures low { height ≡ 1 → rows < 29 ^ 2 → result ≡ rows / 29 }
+    ensures middle { height ≡ 2 → rows < 29 ^ 3 → result ≡ rows / 29 ^ 2 }
+    ensures high { height ≡ 3 → rows < 29 ^ 4 → result ≡ rows / 29 ^ 3 }
+{
+    (rows.wrapping_mul(RATES[(height % 8) as usize]) >> 40) as usize
+}
