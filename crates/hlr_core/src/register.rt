@@ -335,6 +335,15 @@ impl Register {
         self.seats.look()
     }
 
+    /// What `look` answers, into a sight that the caller has: its 18 KB aren't moved.
+    pub fn look_into(&mut self, sight: &mut Sight)
+        ensures right { IsSightOf (store_in self.old) sight.new.words }
+        ensures seen { store_in self.new ≡ record (store_in self.old) { sight = sight.new.words } }
+        ensures same { self.new ≡ record self.old { spare = with_view self.old.spare (looked self.old.spare.view sight.new.words) } }
+    {
+        self.seats.look_into(sight);
+    }
+
     /// What is not posted yet of each cell, which is what the owners keep as pending, added up: with what is published,
     /// it is the cell counted over the rows now.
     pub fn unposted(&self) -> [i64; CELLS as usize]

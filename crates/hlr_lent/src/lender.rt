@@ -236,4 +236,13 @@ impl Lender {
     {
         self.register.look()
     }
+
+    /// What `look` answers, into a sight that the caller has: its 18 KB aren't moved.
+    pub fn look_into(&mut self, sight: &mut Sight)
+        ensures right { IsSightOf (store_in self.old) sight.new.words }
+        ensures seen { store_in self.new ≡ record (store_in self.old) { sight = sight.new.words } }
+        ensures same { self.new ≡ record self.old { spare = with_view self.old.spare (looked self.old.spare.view sight.new.words) } }
+    {
+        self.register.look_into(sight);
+    }
 }

@@ -25,7 +25,7 @@ use std::marker::Model;
 use std::sync::Arc;
 use tatp_actions::{Action, Edit};
 use tatp_rows::{LAST_SUBSCRIBER, Number, Refusal};
-use view_board::{Board, Desk, Sight};
+use view_board::{Board, Desk, Sight, WORDS};
 
 /// The regions, one seat beside each, in their order, and the board that the parts post to, with the desk of the slots
 /// that no part has.
@@ -189,7 +189,18 @@ impl Seats {
         ensures seen { store_in self.new ≡ record (store_in self.old) { sight = result.words } }
         ensures same { self.new ≡ record self.old { spare = with_view self.old.spare (looked self.old.spare.view result.words) } }
     {
+        let mut sight = Sight { words: [0; WORDS] };
+        self.look_into(&mut sight);
+        sight
+    }
+
+    /// What `look` answers, into a sight that the caller has: its 18 KB aren't moved.
+    pub fn look_into(&mut self, sight: &mut Sight)
+        ensures right { IsSightOf (store_in self.old) sight.new.words }
+        ensures seen { store_in self.new ≡ record (store_in self.old) { sight = sight.new.words } }
+        ensures same { self.new ≡ record self.old { spare = with_view self.old.spare (looked self.old.spare.view sight.new.words) } }
+    {
         let board: &Board = &self.board;
-        board.look(&mut self.spare)
+        board.look_into(&mut self.spare, sight);
     }
 }

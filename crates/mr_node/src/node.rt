@@ -314,13 +314,7 @@ impl<V: Drop> Node<V> {
     }
 
     /// The same of a node of such a tree, given its least key, or any number.
-    fn revise_near<E: Revise<V>>(
-        &mut self,
-        key: u64,
-        shift: u32,
-        least: u64,
-        edit: &mut E,
-    ) -> bool
+    fn revise_near<E: Revise<V>>(&mut self, key: u64, shift: u32, least: u64, edit: &mut E) -> bool
         ensures rows { self.new ≡ record self.old { rows = revised_at key (E.revised edit.old) self.old.rows } }
         ensures well { IsWell self.new }
         ensures spent { edit.new ≡ spent_at key E.spent edit.old self.old.rows }

@@ -32,7 +32,10 @@ fn fill(rt: &impl Abort, node: &mut Node<u64>) {
     assert_eq!(rt; node.replace(77, 15).err(), Some(15));
     let mut raise = Raise { by: 100, seen: 0 };
     assert_eq!(rt;
-        [node.revise(77, &mut raise), node.revise_by_guess(8, 0, &mut raise)],
+        [
+            node.revise(77, &mut raise),
+            node.revise_by_guess(8, 0, &mut raise)
+        ],
         [false, true]
     );
     assert_eq!(rt; (raise.seen, node.find(8)), (16, Some(&116)));

@@ -528,7 +528,9 @@ fn guessed(tree: &SubTree<u32>, key: u64, shift: u32) -> Option<u32> {
 // Whether looks at a key by guesses answer as the one without.
 fn is_alike(tree: &SubTree<u32>, key: u64) -> bool {
     let plain = found(tree, key);
-    [0, 16, 52, 64].iter().all(|shift| guessed(tree, key, *shift) == plain)
+    [0, 16, 52, 64]
+        .iter()
+        .all(|shift| guessed(tree, key, *shift) == plain)
 }
 
 // How many rows are there by the keys of such a tree; None where looks at a key or beside it aren't alike.
@@ -536,7 +538,9 @@ fn count_alike(tree: &SubTree<u32>, kind: &(u64, u32, u64, u64)) -> Option<u64> 
     let mut count = 0u64;
     for number in 0..2000u32 {
         let key = key_in(kind, number);
-        if !is_alike(tree, key.wrapping_sub(1)) || !is_alike(tree, key) || !is_alike(tree, key + 1)
+        if !is_alike(tree, key.wrapping_sub(1))
+            || !is_alike(tree, key)
+            || !is_alike(tree, key + 1)
         {
             return None;
         }
@@ -577,8 +581,15 @@ fn compare_guesses(rt: &impl Abort, tree: &mut SubTree<u32>, kind: &(u64, u32, u
     let done = drill(tree, kind);
     let (rows, sum) = (tree.len(), sum_of(tree));
     let ends = is_alike(tree, 0) && is_alike(tree, u64::MAX - 1) && is_alike(tree, u64::MAX);
-    let counts = (count_alike(tree, kind), raise_all(tree, kind), sum_of(tree).wrapping_sub(sum));
-    assert_eq!(rt; (done, ends, counts), (true, true, (Some(rows), rows, rows)));
+    let counts = (
+        count_alike(tree, kind),
+        raise_all(tree, kind),
+        sum_of(tree).wrapping_sub(sum),
+    );
+    assert_eq!(rt;
+        (done, ends, counts),
+        (true, true, (Some(rows), rows, rows))
+    );
 }
 
 #[test]

@@ -125,11 +125,20 @@ impl Board {
         ensures right { IsRightSight desk.old.view result.words }
         ensures seen { desk.new ≡ with_view desk.old (looked desk.old.view result.words) }
     {
-        let mut words = [0; WORDS];
+        let mut sight = Sight { words: [0; WORDS] };
+        self.look_into(desk, &mut sight);
+        sight
+    }
+
+    /// Looks at all words as `look` does, into a sight that the caller has: its 18 KB aren't moved.
+    pub fn look_into(&self, desk: &mut Desk, sight: &mut Sight)
+        requires { desk.old.board ≡ self.now }
+        ensures right { IsRightSight desk.old.view sight.new.words }
+        ensures seen { desk.new ≡ with_view desk.old (looked desk.old.view sight.new.words) }
+    {
         for word in 0..WORDS {
-            words[word] = self.table.shared.load::<Looks>(&mut desk.seat, word);
+            sight.words[word] = self.table.shared.load::<Looks>(&mut desk.seat, word);
         }
-        Sight { words }
     }
 
     /// Splits an own slot off: a new desk owns it, and has seen what this one has seen. It may be the last one; a desk

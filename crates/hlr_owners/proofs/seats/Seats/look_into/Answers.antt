@@ -1,11 +1,11 @@
 use Rattle.std.proofs.Common.{refl}
 use Rattle.hlr_owners.proofs.SightLemmas.{spare_word, desks_looked, words_looked}
 use Rattle.hlr_owners.specs.Seats.{desks_in}
-use Rattle.hlr_owners.proofs.seats.Seats.look.Goals as goal
+use Rattle.hlr_owners.proofs.seats.Seats.look_into.Goals as goal
 
 pub returns-clause-right : goal.returns-clause-right
 returns-clause-right c =
-    let right = c.look.ensures.right in
+    let right = c.look_into.ensures.right in
     rw (← c.self.view_is) (record {
       wide = right.wide;
       own = λ w below none. spare_word _ _ _ c.self.invariant.1 _ w right below none;
@@ -14,8 +14,8 @@ returns-clause-right c =
     })
 
 pub returns-clause-seen : goal.returns-clause-seen
-returns-clause-seen c = rw (← c.self.view_is, c.look.ensures.seen) (rw (words_looked c.self.inside.spare (desks_in c.self.inside.seats.items) c.look.result.words) refl)
+returns-clause-seen c = rw (← c.self.view_is, c.look_into.ensures.seen) (rw (words_looked c.self.inside.spare (desks_in c.self.inside.seats.items) c.look_into.sight.words) refl)
 
 pub invariant_of-self : goal.invariant_of-self
 invariant_of-self c =
-    (record { are = c.self.invariant.0.are; each = c.self.invariant.0.each; zones = c.self.invariant.0.zones }, rw c.look.ensures.seen (desks_looked _ _ _ c.self.invariant.1 _ c.look.ensures.right), c.self.invariant.2)
+    (record { are = c.self.invariant.0.are; each = c.self.invariant.0.each; zones = c.self.invariant.0.zones }, rw c.look_into.ensures.seen (desks_looked _ _ _ c.self.invariant.1 _ c.look_into.ensures.right), c.self.invariant.2)
