@@ -1,11 +1,16 @@
 /* Calls a second of a library with the calls of hlr.h, over so many subscribers: library SUBSCRIBERS CALLS. Each line is
- * a call, how often it was made, and how often a second. Subscribers and fields are drawn by numbers that look random. */
+ * a call, how often it was made, and how often a second. Subscribers and fields are drawn by numbers that look random. Calls
+ * for many ask 16 questions, each of which counts. mix is TATP's: of 100 35 subscriber_data, 10 new_destination, 35
+ * access_data, 2 update_subscriber, 14 update_location, 2 insert_forwarding and 2 delete_forwarding; facilities may be
+ * switched off, and forwardings there already, or gone. */
 #define _POSIX_C_SOURCE 200809L
 #include "hlr.h"
 #include <inttypes.h>
 #include <stdio.h>
 #include <stdlib.h>
 #include <time.h>
+
+enum { MANY = 16 };
 
 static hlr handle = HLR_CLOSED;
 static uint64_t seed = 88172645463325252u, subscribers, others, sum;
@@ -57,7 +62,7 @@ static uint8_t access_data(uint64_t turn) {
     return code;
 }
 static uint8_t new_destination(uint64_t turn) {
-    hlr_numbers numbers;
+    hlr_numbers numbers = {0, {0, 0, 0}};
     uint8_t code = hlr_new_destination(&handle, drawn() % subscribers + 1, 1, 8, 12, &numbers);
     sum += numbers.numbers[0] + turn;
     return code;
@@ -69,6 +74,42 @@ static uint8_t set_number(uint64_t turn) {
     uint64_t s_id = turn / 2 % subscribers + 1;
     return hlr_set_number(&handle, s_id, turn & 1 ? number(s_id) : 999000000000000u);
 }
+static uint8_t subscriber_data_many(uint64_t turn) {
+    uint64_t s_ids[MANY];
+    hlr_subscriber rows[MANY];
+    uint8_t codes[MANY], refused = 0;
+    for (int i = 0; i < MANY; i++) s_ids[i] = drawn() % subscribers + 1;
+    uint8_t code = hlr_subscriber_data_many(&handle, s_ids, MANY, rows, MANY, codes, MANY);
+    for (int i = 0; i < MANY; i++) sum += rows[i].vlr_location + turn, refused |= codes[i];
+    return code | refused;
+}
+static uint8_t access_data_many(uint64_t turn) {
+    hlr_access_asked asked[MANY];
+    hlr_access rows[MANY];
+    uint8_t codes[MANY], refused = 0;
+    for (int i = 0; i < MANY; i++) asked[i].s_id = drawn() % subscribers + 1, asked[i].ai_type = 1;
+    uint8_t code = hlr_access_data_many(&handle, asked, MANY, rows, MANY, codes, MANY);
+    for (int i = 0; i < MANY; i++) sum += rows[i].data3[0] + turn, refused |= codes[i];
+    return code | refused;
+}
+static uint8_t mix(uint64_t turn) {
+    uint64_t kind = drawn() % 100;
+    uint8_t code;
+    if (kind < 35) return subscriber_data(turn);
+    if (kind < 45) {
+        code = new_destination(turn);
+        return code == HLR_NO_DESTINATION ? HLR_DONE : code;
+    }
+    if (kind < 80) return access_data(turn);
+    if (kind < 82) return update_subscriber(turn);
+    if (kind < 96) return update_location(turn);
+    if (kind < 98) {
+        code = hlr_insert_forwarding(&handle, number(drawn() % subscribers + 1), 1, 16, 24, 100);
+        return code == HLR_EXISTS ? HLR_DONE : code;
+    }
+    code = hlr_delete_forwarding(&handle, number(drawn() % subscribers + 1), 1, 16);
+    return code == HLR_NO_FORWARDING ? HLR_DONE : code;
+}
 static uint8_t views(uint64_t turn) {
     int64_t published[HLR_CELLS], unposted[HLR_CELLS];
     uint8_t code = hlr_views(&handle, published, unposted);
@@ -76,11 +117,13 @@ static uint8_t views(uint64_t turn) {
     return code;
 }
 
-static void timed(const char *name, uint8_t (*call)(uint64_t), uint64_t calls) {
+/* each call answers so many questions */
+static void timed_many(const char *name, uint8_t (*call)(uint64_t), uint64_t calls, uint64_t questions) {
     double begun = now();
     for (uint64_t turn = 0; turn < calls; turn++) others += call(turn) != HLR_DONE;
-    printf("%s %" PRIu64 " %.0f\n", name, calls, calls / (now() - begun));
+    printf("%s %" PRIu64 " %.0f\n", name, calls, calls * questions / (now() - begun));
 }
+static void timed(const char *name, uint8_t (*call)(uint64_t), uint64_t calls) { timed_many(name, call, calls, 1); }
 
 int main(int argc, char **argv) {
     if (argc < 3) return 2;
@@ -98,6 +141,9 @@ int main(int argc, char **argv) {
     timed("update_location", update_location, calls);
     timed("set_number", set_number, calls / 2 * 2);
     timed("set_active", set_active, calls);
+    timed_many("subscriber_data_many", subscriber_data_many, calls / MANY, MANY);
+    timed_many("access_data_many", access_data_many, calls / MANY, MANY);
+    timed("mix", mix, calls);
     timed("delete_forwarding", delete_forwarding, subscribers);
     hlr_post(&handle, 0, HLR_CELLS, &posted);
     timed("views", views, calls / 4);

@@ -1,9 +1,9 @@
 #!/usr/bin/env bash
 # Measures what docs/SPEED.md has in seconds, in some five minutes on a machine with nothing beside: programs side by side,
-# parts, an engine, the program with threads and the library for C.
+# parts, an engine, the program with threads, the library for C and owners of its parts.
 #
 #   bash bench/measure.sh write      builds the programs to measure beside, and writes the loads; once, before
-#   bash bench/measure.sh [NAME ..]  measures: beside, parts, engine, threads, library; without a name all of them
+#   bash bench/measure.sh [NAME ..]  measures: beside, parts, engine, threads, library, owners; without a name all of them
 #
 # At the repository's top, once `rt run` ran in crates/hlr and `rt lib --cpu x86-64` in crates/hlr_c; it works in /tmp/bench (ROOM). HLR is
 # another program, ENGINE an engine_bench that is built (bench/engine/run.sh builds it).
@@ -28,7 +28,8 @@ measure() {
     parts) python3 bench/tatp.py parts "$hlr" 1,4,16 5 ;;
     engine) PROGRAM=$engine bash bench/engine/run.sh 5 ;;
     threads) python3 bench/threads.py "$hlr" 3 3 ;;
-    library) bash bench/library.sh 4 ;;
+    library) python3 bench/library.py calls 5 ;;
+    owners) python3 bench/library.py owners 5 ;;
   esac
 }
 
@@ -36,7 +37,7 @@ if [ "${1:-}" = write ]; then
   write
   exit
 fi
-for name in "${@:-beside parts engine threads library}"; do
+for name in "${@:-beside parts engine threads library owners}"; do
   for one in $name; do
     echo "$one, at $(date +%T), $(cut -d' ' -f1 /proc/loadavg) programs ready:"
     measure "$one" || echo "$one failed"

@@ -1,0 +1,108 @@
+#!/usr/bin/env python3
+"""Millions of calls a second from C of libhlr_c.a, and how many times as fast it is as other stores behind the same calls: four
+maps of C++ (bench/library_plain.cc) and SQLite in memory (bench/library_sqlite.c). Medians of some rounds in turns; SQLite makes
+a tenth of the calls. A call for many answers 16 questions, each of which counts.
+usage: library.py calls [ROUNDS [SUBSCRIBERS ..]]     5 rounds with 1,000, 100,000 and 1,000,000 subscribers
+       library.py owners [ROUNDS [SUBSCRIBERS ..]]    threads that each have a part, and threads that share a handle by a lock
+
+At the repository's top, once `rt lib --cpu x86-64` ran in crates/hlr_c; LIBRARY is another libhlr_c.a. The maps of absl want
+Debian's libabsl-dev, and SQLite libsqlite3-dev: without them these columns are named as skipped."""
+import os
+import statistics
+import subprocess
+import sys
+import tempfile
+
+HERE = os.path.dirname(os.path.abspath(__file__))
+HEADER = f"-I{HERE}/../crates/hlr_c"
+LIBRARY = os.environ.get("LIBRARY", f"{HERE}/../crates/hlr_c/out/libhlr_c.a")
+MAPS = {"std::map": [], "absl::btree_map": [], "std::unordered_map": [],
+        "absl::flat_hash_map": ["-labsl_raw_hash_set", "-labsl_hash", "-labsl_city", "-labsl_low_level_hash", "-labsl_hashtablez_sampler"]}
+CALLS = 1_000_000
+
+
+def run(*words):
+    subprocess.run(words, check=True, stderr=subprocess.DEVNULL)
+
+
+def build_over_hlr(source, program):
+    """Builds a program of C over the library."""
+    kit = os.path.dirname(subprocess.check_output(["rt", "doc"], text=True).strip())
+    run("gcc", "-O2", HEADER, source, LIBRARY, f"{kit}/c/liblibc_c.a", "-lpthread", "-o", program)
+    return program
+
+
+def build_all(room):
+    """The programs that could be built, by the names of their stores."""
+    programs = {"hlr": build_over_hlr(f"{HERE}/library.c", f"{room}/hlr")}
+    run("gcc", "-O2", HEADER, "-c", f"{HERE}/library.c", "-o", f"{room}/calls.o")
+    wanted = {name: ["g++", "-std=c++17", "-O3", f"-DMAP={place}", f"{HERE}/library_plain.cc", f"{room}/calls.o", *libraries]
+              for place, (name, libraries) in enumerate(MAPS.items(), 1)}
+    wanted["SQLite"] = ["gcc", "-O2", f"{HERE}/library_sqlite.c", f"{room}/calls.o", "-lsqlite3"]
+    for name, words in wanted.items():
+        program = f"{room}/{name.replace(':', '_')}"
+        try:
+            run(*words, HEADER, "-o", program)
+            programs[name] = program
+        except subprocess.CalledProcessError:
+            print(f"{name} is skipped: its library isn't there")
+    return programs
+
+
+def speeds_of(program, subscribers, calls):
+    """Calls a second by the name of the call, and the sum of what was answered."""
+    told = subprocess.run([program, str(subscribers), str(calls)], check=True, capture_output=True, text=True)
+    return {call: float(speed) for call, _, speed in map(str.split, told.stdout.splitlines())}, told.stderr
+
+
+def measure(programs, subscribers, rounds):
+    """The medians of all rounds, by store and call."""
+    taken = {name: {} for name in programs}
+    for turn in range(rounds):
+        sums = set()
+        for name, program in programs.items():
+            if name == "SQLite" and turn > 0:
+                continue
+            speeds, told = speeds_of(program, subscribers, CALLS // 10 if name == "SQLite" else CALLS)
+            if name != "SQLite":
+                sums.add(told)
+            for call, speed in speeds.items():
+                taken[name].setdefault(call, []).append(speed)
+        assert len(sums) == 1, "the answers differ"
+    return {name: {call: statistics.median(speeds) for call, speeds in calls.items()} for name, calls in taken.items()}
+
+
+def compare(room, subscribers, rounds):
+    """Prints each call's speed, and how many times that of each other store it is."""
+    programs = build_all(room)
+    for size in subscribers:
+        medians = measure(programs, size, rounds)
+        others = [name for name in programs if name != "hlr"]
+        print(f"\n| {size:,} subscribers | hlr, millions a second | " + " | ".join(f"`{name}`" for name in others) + " |")
+        print("|---" * (len(others) + 2) + "|")
+        for call, speed in medians["hlr"].items():
+            print(f"| `{call}` | {speed / 1e6:.2f} | " + " | ".join(f"{speed / medians[name][call]:.2f}" for name in others) + " |")
+
+
+def compare_owners(room, subscribers, rounds):
+    """Prints the speeds of owners, and of threads that share a handle, beside that of one thread with the handle alone."""
+    program = build_over_hlr(f"{HERE}/owners.c", f"{room}/owners")
+    print("| subscribers, load | threads | owners, millions a second | times one handle | by a lock |\n|---|---|---|---|---|")
+    for size in subscribers:
+        taken = {}
+        for _ in range(rounds):
+            told = subprocess.run([program, str(size), str(4 * CALLS), "4"], check=True, capture_output=True, text=True).stdout
+            for load, threads, owners, shared in map(str.split, told.splitlines()):
+                taken.setdefault((load, int(threads)), []).append((float(owners), float(shared)))
+        medians = {key: [statistics.median(speeds) for speeds in zip(*pairs)] for key, pairs in taken.items()}
+        for (load, threads), (owners, shared) in sorted(medians.items()):
+            print(f"| {size:,}, {load} | {threads} | {owners / 1e6:.1f} | {owners / medians[load, 1][1]:.2f} | {shared / 1e6:.1f} |")
+
+
+def main(what, rounds="5", *sizes):
+    subscribers = [int(size) for size in sizes or ("1000", "100000", "1000000")]
+    with tempfile.TemporaryDirectory() as room:
+        {"calls": compare, "owners": compare_owners}[what](room, subscribers, int(rounds))
+
+
+main(*sys.argv[1:])
