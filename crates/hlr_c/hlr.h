@@ -17,8 +17,9 @@
  *   - hlr_post, hlr_give, hlr_take: the part;
  *   - hlr_divide: the part and all later ones; hlr_dissolve: also the one in front of it;
  *   - hlr_recut: the parts on both sides of each bound that moves;
- *   - hlr_views, hlr_scan, hlr_propose, hlr_next_subscriber and the calls ..._many: any part.
- * hlr_find, hlr_regions, hlr_look and hlr_close go on whichever parts are out.
+ *   - hlr_views, hlr_scan, hlr_propose and hlr_next_subscriber: any part.
+ * The calls ..._many answer it in the places of such questions alone. hlr_find, hlr_regions, hlr_look and hlr_close go
+ * on whichever parts are out.
  *
  * All numbers are checked, whatever is handed in; they are 64 bits wide, so that nothing is cut off on the way. Letters
  * are ASCII codes, and have no 0 behind them.
@@ -262,21 +263,21 @@ uint8_t hlr_access_data(hlr *handle, uint64_t s_id, uint64_t ai_type, hlr_access
 /*
  * GET_SUBSCRIBER_DATA of many: codes[i] and rows[i] are what hlr_subscriber_data answers and writes for s_ids[i].
  * HLR_FIELD where the three counts differ, and nothing is written then.
- * Refusals: AWAY, FIELD
+ * Refusals: FIELD
  */
 uint8_t hlr_subscriber_data_many(hlr *handle, const uint64_t *s_ids, size_t s_ids_count, hlr_subscriber *rows,
                                  size_t rows_count, uint8_t *codes, size_t codes_count);
 
 /*
  * GET_NEW_DESTINATION of many: the same by hlr_new_destination for asked[i].
- * Refusals: AWAY, FIELD
+ * Refusals: FIELD
  */
 uint8_t hlr_new_destination_many(hlr *handle, const hlr_destination_asked *asked, size_t asked_count,
                                  hlr_numbers *numbers, size_t numbers_count, uint8_t *codes, size_t codes_count);
 
 /*
  * GET_ACCESS_DATA of many: the same by hlr_access_data for asked[i].
- * Refusals: AWAY, FIELD
+ * Refusals: FIELD
  */
 uint8_t hlr_access_data_many(hlr *handle, const hlr_access_asked *asked, size_t asked_count, hlr_access *rows,
                              size_t rows_count, uint8_t *codes, size_t codes_count);

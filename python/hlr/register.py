@@ -385,7 +385,7 @@ class Register(_Open):
 
     def subscriber_data_many(self, s_ids: Sequence[int]) -> List[Union[Subscriber, Refused]]:
         """Reads many rows in one call: for each s_id the row, or the exception that `subscriber_data` raises. None
-        is read where a number is negative or has no room in 64 bits, or any part is out. Raises Away, Field.
+        is read where a number is negative or has no room in 64 bits. Raises Field.
 
         >>> with Register() as register:
         ...     register.add_subscriber(Subscriber(7, 77))
@@ -397,12 +397,12 @@ class Register(_Open):
 
     def new_destination_many(self, asked: Sequence[Tuple[int, int, int, int]]) -> List[Union[List[int], Refused]]:
         """Reads many numbers in one call: for each s_id, sf_type, start_time and end_time the numbers, or the exception
-        that `new_destination` raises. Raises Away, Field."""
+        that `new_destination` raises. Raises Field."""
         return self._many("new_destination", c.DestinationAsked, asked, c.Numbers, _listed)
 
     def access_data_many(self, asked: Sequence[Tuple[int, int]]) -> List[Union[Access, Refused]]:
         """Reads many rows in one call: for each s_id and ai_type the row, or the exception that `access_data` raises.
-        Raises Away, Field."""
+        Raises Field."""
         return self._many("access_data", c.AccessAsked, asked, c.AccessRow, _access)
 
     def _many(self, name: str, question: Any, asked: Sequence[Tuple[int, ...]], answer: Any, told: Any) -> List[Any]:

@@ -394,8 +394,10 @@ class Refusals(unittest.TestCase):
                                 (r.add_subscriber, (Subscriber(8, 8),)), (r.set_number, (7, 8)), (r.post, (0,)),
                                 (r.give, (0, 1, 5)), (r.take, (1, 0)), (r.divide, (0, 5)), (r.dissolve, (1,)),
                                 (r.recut, ([5],)), (r.views, ()), (r.scan, ()), (r.propose, ()),
-                                (r.next_subscriber, (1,)), (r.subscriber_data_many, ([70],))):
+                                (r.next_subscriber, (1,))):
                 self.refused(hlr.Away, call, *asked)
+            self.assertEqual([type(row) for row in r.subscriber_data_many([7, 70, 0])],
+                             [hlr.Away, hlr.NoSubscriber, hlr.Field])
             self.assertEqual(r.find(77), 7)
             self.refused(hlr.Elsewhere, part.subscriber_data, 65)
             self.refused(hlr.Field, part.access_data, 65, 5)

@@ -28,9 +28,11 @@ NO_COMMAND = {
 }
 # The program lends no part. Of a call that works on one that may be out, AWAY comes behind these, where it has them.
 BEFORE_AWAY = {"STILL_OPEN", "FIELD", "NO_NUMBER", "NO_PART", "MOVING"}
-# These two ask for a part that may be out beside one that isn't there, and the calls of many for all parts.
-AWAY_FIRST = {"hlr_take", "hlr_dissolve", "hlr_subscriber_data_many", "hlr_new_destination_many", "hlr_access_data_many"}
-NEVER_AWAY = {"hlr_open", "hlr_close", "hlr_find", "hlr_look", "hlr_regions", "hlr_home", "hlr_part_range"}
+# These two ask for a part that may be out beside one that isn't there.
+AWAY_FIRST = {"hlr_take", "hlr_dissolve"}
+# The calls of many answer AWAY in places alone.
+NEVER_AWAY = {"hlr_open", "hlr_close", "hlr_find", "hlr_look", "hlr_regions", "hlr_home", "hlr_part_range",
+              "hlr_subscriber_data_many", "hlr_new_destination_many", "hlr_access_data_many"}
 # The calls on a part, each with that on a register of which it has the refusals but for these, and ELSEWHERE behind FIELD.
 NOT_OF_PARTS = {"NO_NUMBER", "MOVING", "AWAY", "NO_PART"}
 PART_CALLS = ["subscriber_data", "new_destination", "access_data", "update_subscriber", "update_location",

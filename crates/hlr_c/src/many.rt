@@ -1,39 +1,37 @@
 //! The three transactions that read, each of many questions in one call.
-ghost use Rattle.std.specs.Prelude.{◌≡◌, length};
-ghost use Rattle.hlr_owners.specs.Seats.{AllHome};
-ghost use Rattle.hlr_c.specs.Call.{IsAtHome, IsCall};
+ghost use Rattle.std.specs.Prelude.{◌≡◌};
+ghost use Rattle.hlr_c.specs.Call.{IsCall};
 ghost use Rattle.hlr_c.specs.Many.{AreAnswered, AreAsMany, IsAccessRead, IsDestinationRead, IsManyRead, IsSubscriberRead};
-ghost use Rattle.hlr_c.specs.declared.codes.TheConstants.{AWAY, NOT_OPEN};
+ghost use Rattle.hlr_c.specs.declared.codes.TheConstants.{NOT_OPEN};
 
 use crate::codes::DONE;
-use crate::handle::{Hlr, with_register_at_home};
-use crate::reads::{read_access, read_destinations, read_subscriber};
+use crate::handle::{Hlr, with_register};
+use crate::reads::{ask_access, ask_destinations, ask_subscriber};
 use crate::rows::{HlrAccess, HlrAccessAsked, HlrDestinationAsked, HlrNumbers, HlrSubscriber};
-use hlr_core::{Refusal, Register};
+use hlr_core::Refusal;
+use hlr_lent::Lender;
 use std::alloc::Global;
 
 fn read_subscribers(
-    register: &Register,
+    register: &Lender,
     s_ids: &[u64],
     rows: &mut [HlrSubscriber],
     codes: &mut [u8],
 )
-    requires home { AllHome register.now.seats }
-    requires as_many { AreAsMany s_ids.now (rows.old, codes.old) }
+    requires { AreAsMany s_ids.now (rows.old, codes.old) }
     ensures { AreAnswered (λ s_id row found. IsSubscriberRead s_id row register.now found register.now) s_ids.now rows.old (rows.new, codes.new) }
 {
     for at in 0..s_ids.len() {
-        codes[at] = read_subscriber(register, s_ids[at], &mut rows[at]);
+        codes[at] = ask_subscriber(register, s_ids[at], &mut rows[at]);
     }
 }
 
 fn answer_subscribers(
-    register: &Register,
+    register: &Lender,
     s_ids: &[u64],
     rows: &mut [HlrSubscriber],
     codes: &mut [u8],
 ) -> u8
-    requires { AllHome register.now.seats }
     ensures { IsManyRead IsSubscriberRead s_ids.now (rows.old, codes.old) register.now (result, (rows.new, codes.new)) register.now }
 {
     if rows.len() != s_ids.len() || codes.len() != s_ids.len() {
@@ -44,28 +42,26 @@ fn answer_subscribers(
 }
 
 fn read_accesses(
-    register: &Register,
+    register: &Lender,
     asked: &[HlrAccessAsked],
     rows: &mut [HlrAccess],
     codes: &mut [u8],
 )
-    requires home { AllHome register.now.seats }
-    requires as_many { AreAsMany asked.now (rows.old, codes.old) }
+    requires { AreAsMany asked.now (rows.old, codes.old) }
     ensures { AreAnswered (λ question row found. IsAccessRead question row register.now found register.now) asked.now rows.old (rows.new, codes.new) }
 {
     for at in 0..asked.len() {
         let HlrAccessAsked { s_id, ai_type } = asked[at];
-        codes[at] = read_access(register, s_id, ai_type, &mut rows[at]);
+        codes[at] = ask_access(register, s_id, ai_type, &mut rows[at]);
     }
 }
 
 fn answer_accesses(
-    register: &Register,
+    register: &Lender,
     asked: &[HlrAccessAsked],
     rows: &mut [HlrAccess],
     codes: &mut [u8],
 ) -> u8
-    requires { AllHome register.now.seats }
     ensures { IsManyRead IsAccessRead asked.now (rows.old, codes.old) register.now (result, (rows.new, codes.new)) register.now }
 {
     if rows.len() != asked.len() || codes.len() != asked.len() {
@@ -76,13 +72,12 @@ fn answer_accesses(
 }
 
 fn read_all_destinations(
-    register: &Register,
+    register: &Lender,
     asked: &[HlrDestinationAsked],
     numbers: &mut [HlrNumbers],
     codes: &mut [u8],
 )
-    requires home { AllHome register.now.seats }
-    requires as_many { AreAsMany asked.now (numbers.old, codes.old) }
+    requires { AreAsMany asked.now (numbers.old, codes.old) }
     ensures { AreAnswered (λ question row found. IsDestinationRead question row register.now found register.now) asked.now numbers.old (numbers.new, codes.new) }
 {
     for at in 0..asked.len() {
@@ -92,7 +87,7 @@ fn read_all_destinations(
             start_time,
             end_time,
         } = asked[at];
-        codes[at] = read_destinations(
+        codes[at] = ask_destinations(
             register,
             s_id,
             sf_type,
@@ -104,12 +99,11 @@ fn read_all_destinations(
 }
 
 fn answer_destinations(
-    register: &Register,
+    register: &Lender,
     asked: &[HlrDestinationAsked],
     numbers: &mut [HlrNumbers],
     codes: &mut [u8],
 ) -> u8
-    requires { AllHome register.now.seats }
     ensures { IsManyRead IsDestinationRead asked.now (numbers.old, codes.old) register.now (result, (numbers.new, codes.new)) register.now }
 {
     if numbers.len() != asked.len() || codes.len() != asked.len() {
@@ -120,7 +114,7 @@ fn answer_destinations(
 }
 
 /// GET_SUBSCRIBER_DATA of many subscribers: writes in each place the code and the row that the call for one answers.
-/// `NOT_OPEN`, `AWAY` where any part is out, `Field` where there aren't as many rows and codes as s_ids: nothing is written.
+/// `NOT_OPEN`, `Field` where there aren't as many rows and codes as s_ids: nothing is written.
 #[unsafe(no_mangle)]
 pub extern "C" fn hlr_subscriber_data_many(
     alloc: Global,
@@ -129,16 +123,16 @@ pub extern "C" fn hlr_subscriber_data_many(
     rows: &mut [HlrSubscriber],
     codes: &mut [u8],
 ) -> u8
-    ensures { IsCall (NOT_OPEN, (rows.old, codes.old)) (IsAtHome (AWAY, (rows.old, codes.old)) (IsManyRead IsSubscriberRead s_ids.now (rows.old, codes.old)))
+    ensures { IsCall (NOT_OPEN, (rows.old, codes.old)) (IsManyRead IsSubscriberRead s_ids.now (rows.old, codes.old))
         handle.old.kept.register (result, (rows.new, codes.new)) handle.new.kept.register }
 {
-    with_register_at_home!(handle, alloc, |register| {
-        answer_subscribers(register, s_ids, rows, codes)
+    with_register!(handle, alloc, |register| {
+        answer_subscribers(&register, s_ids, rows, codes)
     })
 }
 
 /// GET_ACCESS_DATA of many accesses: writes in each place the code and the row that the call for one answers. `NOT_OPEN`,
-/// `AWAY` where any part is out, `Field` where there aren't as many rows and codes as accesses: nothing is written.
+/// `Field` where there aren't as many rows and codes as accesses: nothing is written.
 #[unsafe(no_mangle)]
 pub extern "C" fn hlr_access_data_many(
     alloc: Global,
@@ -147,16 +141,16 @@ pub extern "C" fn hlr_access_data_many(
     rows: &mut [HlrAccess],
     codes: &mut [u8],
 ) -> u8
-    ensures { IsCall (NOT_OPEN, (rows.old, codes.old)) (IsAtHome (AWAY, (rows.old, codes.old)) (IsManyRead IsAccessRead asked.now (rows.old, codes.old)))
+    ensures { IsCall (NOT_OPEN, (rows.old, codes.old)) (IsManyRead IsAccessRead asked.now (rows.old, codes.old))
         handle.old.kept.register (result, (rows.new, codes.new)) handle.new.kept.register }
 {
-    with_register_at_home!(handle, alloc, |register| {
-        answer_accesses(register, asked, rows, codes)
+    with_register!(handle, alloc, |register| {
+        answer_accesses(&register, asked, rows, codes)
     })
 }
 
 /// GET_NEW_DESTINATION of many: writes in each place the code and the numbers that the call for one answers. `NOT_OPEN`,
-/// `AWAY` where any part is out, `Field` where there aren't as many numbers and codes as questions: nothing is written.
+/// `Field` where there aren't as many numbers and codes as questions: nothing is written.
 #[unsafe(no_mangle)]
 pub extern "C" fn hlr_new_destination_many(
     alloc: Global,
@@ -165,10 +159,10 @@ pub extern "C" fn hlr_new_destination_many(
     numbers: &mut [HlrNumbers],
     codes: &mut [u8],
 ) -> u8
-    ensures { IsCall (NOT_OPEN, (numbers.old, codes.old)) (IsAtHome (AWAY, (numbers.old, codes.old)) (IsManyRead IsDestinationRead asked.now (numbers.old, codes.old)))
+    ensures { IsCall (NOT_OPEN, (numbers.old, codes.old)) (IsManyRead IsDestinationRead asked.now (numbers.old, codes.old))
         handle.old.kept.register (result, (numbers.new, codes.new)) handle.new.kept.register }
 {
-    with_register_at_home!(handle, alloc, |register| {
-        answer_destinations(register, asked, numbers, codes)
+    with_register!(handle, alloc, |register| {
+        answer_destinations(&register, asked, numbers, codes)
     })
 }

@@ -72,7 +72,7 @@ pub(crate) fn write_access(found: &Access, s_id: u64, ai_type: u64, row: &mut Hl
     };
 }
 
-pub(crate) fn read_subscriber(register: &Register, s_id: u64, row: &mut HlrSubscriber) -> u8
+fn read_subscriber(register: &Register, s_id: u64, row: &mut HlrSubscriber) -> u8
     requires { IsHomeTo (event.SubscriberData s_id) register.now }
     ensures { IsAnswer (Ok (event.SubscriberData s_id)) (subscriber_told row.old) (AWAY, row.old) register.now (result, row.new) register.now }
 {
@@ -85,7 +85,7 @@ pub(crate) fn read_subscriber(register: &Register, s_id: u64, row: &mut HlrSubsc
     }
 }
 
-pub(crate) fn read_access(register: &Register, s_id: u64, ai_type: u64, row: &mut HlrAccess) -> u8
+fn read_access(register: &Register, s_id: u64, ai_type: u64, row: &mut HlrAccess) -> u8
     requires { IsHomeTo (event.AccessData s_id ai_type) register.now }
     ensures { IsAnswer (Ok (event.AccessData s_id ai_type)) (access_told s_id ai_type row.old) (AWAY, row.old) register.now (result, row.new) register.now }
 {
@@ -98,7 +98,7 @@ pub(crate) fn read_access(register: &Register, s_id: u64, ai_type: u64, row: &mu
     }
 }
 
-pub(crate) fn read_destinations(
+fn read_destinations(
     register: &Register,
     s_id: u64,
     sf_type: u64,
@@ -118,7 +118,7 @@ pub(crate) fn read_destinations(
     }
 }
 
-fn ask_subscriber(register: &Lender, s_id: u64, row: &mut HlrSubscriber) -> u8
+pub(crate) fn ask_subscriber(register: &Lender, s_id: u64, row: &mut HlrSubscriber) -> u8
     ensures { IsAnswer (Ok (event.SubscriberData s_id)) (subscriber_told row.old) (AWAY, row.old) register.now (result, row.new) register.now }
 {
     if !register.is_home_for(s_id) {
@@ -127,7 +127,7 @@ fn ask_subscriber(register: &Lender, s_id: u64, row: &mut HlrSubscriber) -> u8
     read_subscriber(register.register(), s_id, row)
 }
 
-fn ask_access(register: &Lender, s_id: u64, ai_type: u64, row: &mut HlrAccess) -> u8
+pub(crate) fn ask_access(register: &Lender, s_id: u64, ai_type: u64, row: &mut HlrAccess) -> u8
     ensures { IsAnswer (Ok (event.AccessData s_id ai_type)) (access_told s_id ai_type row.old) (AWAY, row.old) register.now (result, row.new) register.now }
 {
     if !register.is_home_for(s_id) {
@@ -136,7 +136,7 @@ fn ask_access(register: &Lender, s_id: u64, ai_type: u64, row: &mut HlrAccess) -
     read_access(register.register(), s_id, ai_type, row)
 }
 
-fn ask_destinations(
+pub(crate) fn ask_destinations(
     register: &Lender,
     s_id: u64,
     sf_type: u64,

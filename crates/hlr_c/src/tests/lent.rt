@@ -4,7 +4,8 @@ ghost use Rattle.std.specs.Prelude.{◌<◌};
 
 use super::drawn::{Answer, Asked, Draws, called, wrote};
 use super::{
-    NO_ACCESS, NO_NUMBERS, NO_REGION, NO_ROW, access, closed, facility, filled, opened, row,
+    HlrSubscriber, NO_ACCESS, NO_NUMBERS, NO_REGION, NO_ROW, access, closed, facility, filled, opened,
+    row,
 };
 use crate::codes::{AWAY, DONE, ELSEWHERE, NOT_OPEN, STILL_OPEN};
 use crate::handle::Hlr;
@@ -111,7 +112,7 @@ fn work(alloc: Global, owner: &mut HlrPart) -> [u8; 12] {
 }
 
 /// What a register answers that has its first part out: the codes of calls that work on that part, and of others.
-fn asked_beside(alloc: Global, handle: &mut Hlr) -> ([u8; 13], [u8; 6]) {
+fn asked_beside(alloc: Global, handle: &mut Hlr) -> ([u8; 12], [u8; 6]) {
     let (mut found, mut data, mut region) = (NO_ROW, facility(0, 0, 0), NO_REGION);
     let (mut bounds, mut regions) = (super::NO_BOUNDS, super::NO_REGIONS);
     let (mut left, mut right) = ([9; CELLS as usize], [9; CELLS as usize]);
@@ -121,7 +122,6 @@ fn asked_beside(alloc: Global, handle: &mut Hlr) -> ([u8; 13], [u8; 6]) {
         hlr_facility_data(alloc, handle, 7, 2, &mut data),
         hlr_forwarding(alloc, handle, 7, 2, 8, &mut end, &mut number),
         hlr_next_subscriber(alloc, handle, 66, &mut found),
-        hlr_subscriber_data_many(alloc, handle, &[70], &mut [NO_ROW], &mut [9]),
         hlr_give(alloc, handle, 0, 1, 5, &mut region),
         hlr_take(alloc, handle, 1, 0),
         hlr_divide(alloc, handle, 0, 5, &mut region),
@@ -143,6 +143,17 @@ fn asked_beside(alloc: Global, handle: &mut Hlr) -> ([u8; 13], [u8; 6]) {
     (away, known)
 }
 
+/// What the call for many subscribers answers of one of the first part, one of the second, and none, and where it is
+/// handed too few codes; then the code of each, and the rows.
+fn many_beside(alloc: Global, handle: &mut Hlr) -> ([u8; 2], [u8; 3], [HlrSubscriber; 3]) {
+    let (mut rows, mut codes) = ([NO_ROW; 3], [9; 3]);
+    let done = [
+        hlr_subscriber_data_many(alloc, handle, &[7, 70, 0], &mut rows, &mut codes),
+        hlr_subscriber_data_many(alloc, handle, &[7, 70, 0], &mut rows, &mut [9; 2]),
+    ];
+    (done, codes, rows)
+}
+
 #[test]
 fn part_is_lent(rt: HostRuntime) -> Result<(), Fail> {
     let alloc = rt.alloc();
@@ -155,6 +166,7 @@ fn part_is_lent(rt: HostRuntime) -> Result<(), Fail> {
     let range = hlr_part_range(alloc, &mut owner, &mut lo, &mut hi);
     let worked = work(alloc, &mut owner);
     let (away, known) = asked_beside(alloc, &mut handle);
+    let (done, each, rows) = many_beside(alloc, &mut handle);
     let codes = [
         hlr_look(alloc, &mut handle, &mut published),
         hlr_home(alloc, &mut owner),
@@ -165,7 +177,7 @@ fn part_is_lent(rt: HostRuntime) -> Result<(), Fail> {
     ];
     closed(&rt, alloc, handle);
     let_go(&rt, owner);
-    let moved = super::HlrSubscriber {
+    let moved = HlrSubscriber {
         bits: [0, 0, 1, 1, 0, 0, 0, 1, 0, 1],
         ..row(7, 77, 1)
     };
@@ -182,7 +194,9 @@ fn part_is_lent(rt: HostRuntime) -> Result<(), Fail> {
             DONE, DONE, DONE, DONE, DONE, DONE, DONE, DONE, DONE, ELSEWHERE, 2, DONE
         ]
     );
-    assert!(rt; away == [AWAY; 13] && known == [DONE, DONE, DONE, 2, 2, 12]);
+    assert!(rt; away == [AWAY; 12] && known == [DONE, DONE, DONE, 2, 2, 12]);
+    assert_eq!(rt; (done, each), ([DONE, 2], [AWAY, DONE, 2]));
+    assert!(rt; rows == [NO_ROW, row(70, 700, 1), NO_ROW]);
     assert!(rt; codes == [DONE; 6] && found == moved && data == access(7, 4, 1));
     assert!(rt; published == want, "the cells are those of the board");
     Ok(())
