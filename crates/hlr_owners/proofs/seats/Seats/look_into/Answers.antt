@@ -14,7 +14,7 @@ returns-clause-right c =
     })
 
 pub returns-clause-seen : goal.returns-clause-seen
-returns-clause-seen c = rw (← c.self.view_is, c.look_into.ensures.seen) (rw (words_looked c.self.inside.spare (desks_in c.self.inside.seats.items) c.look_into.sight.words) refl)
+returns-clause-seen c = rw (← c.self.view_is, c.look_into.ensures.seen) (rw (words_looked c.self.inside.spare (desks_in c.self.inside.seats.items) c.look_into.new.sight.words) refl)
 
 pub invariant_of-self : goal.invariant_of-self
 invariant_of-self c =
