@@ -112,7 +112,7 @@ back_there (Piece b ∷ seats) zero k back = absurd back
 back_there (s ∷ seats) (suc i) k back = let rest = back_there seats i k back in let lt = rest.2 in (rest.0, rest.1, omega arith, rest.3, rest.4)
 
 -- an s_id lies in one region
-lies_once : (from s_id : ℕ) (regions : List Region) (i j : ℕ) → IsConsecutive from regions → i < length regions → j < length regions
+pub lies_once : (from s_id : ℕ) (regions : List Region) (i j : ℕ) → IsConsecutive from regions → i < length regions → j < length regions
     → lies_in s_id (get_or regions i blank) ≡ true → lies_in s_id (get_or regions j blank) ≡ true → i ≡ j
 lies_once from s_id [] i j consecutive lt below one two = absurd (omega arith)
 lies_once from s_id (r ∷ regions) zero zero consecutive lt below one two = refl

@@ -17,6 +17,7 @@ pub mod IndexedLemmas
 pub mod IntSumLemmas
 pub mod LendLemmas
 pub mod ListingLemmas
+pub mod ManyLemmas
 pub mod MayGatherLemmas
 pub mod OpenLemmas
 pub mod OpenedLemmas

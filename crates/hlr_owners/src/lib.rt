@@ -13,6 +13,7 @@ mod lending;
 mod lent;
 mod listing;
 mod lodging;
+mod many;
 mod moving;
 mod opening;
 mod owner;

@@ -1,0 +1,53 @@
+//! The part that has several subscribers, so that their rows can be looked for side by side.
+ghost use Rattle.std.specs.Prelude.{◌≡◌, ◌+◌, IfSome};
+ghost use Rattle.std.specs.List.{All, list_all};
+ghost use Rattle.tatp_rows.specs.declared.ranges.TheConstants.{LAST_SUBSCRIBER};
+ghost use Rattle.part_table.specs.Region.{lies_in};
+ghost use Rattle.tatp_actions.specs.Book.{IsWithin};
+ghost use Rattle.hlr_owners.specs.Beside.{HasRowsBeside};
+ghost use Rattle.hlr_owners.specs.Read.{HasRowsOf};
+ghost use Rattle.hlr_owners.specs.Seats.{IsHomeFor, store_in};
+
+use crate::lodging::Seat;
+use crate::seats::Seats;
+use holding::Holding;
+use part_table::Region;
+
+/// Whether a subscriber lies in a region.
+fn lies_in(region: &Region, s_id: u32) -> bool
+    ensures { result ≡ lies_in s_id region.now }
+{
+    region.lo <= s_id && s_id < region.hi
+}
+
+/// Whether all of these do.
+fn all_lie_in(region: &Region, s_ids: &[u32]) -> bool
+    ensures { result ≡ list_all (λ s_id. lies_in s_id region.now) s_ids.now }
+{
+    for s_id in s_ids {
+        if !lies_in(region, *s_id) {
+            return false;
+        }
+    }
+    true
+}
+
+impl Seats {
+    /// The holding of all of these subscribers, to be read, where one part has them all. It takes no memory.
+    pub fn holding_of_all(&self, s_ids: &[u32]) -> Option<&Holding>
+        requires within { All (IsWithin 1 (LAST_SUBSCRIBER + 1)) s_ids.now }
+        requires home { All (λ s_id. IsHomeFor s_id self.now) s_ids.now }
+        ensures home { IfSome result (λ holding. All (λ s_id. HasRowsOf s_id (store_in self.now) holding.now) s_ids.now) }
+        ensures beside { IfSome result (λ holding. All (λ s_id. HasRowsBeside s_id self.now holding.now) s_ids.now) }
+    {
+        let i = self.seat_of(*s_ids.first()?);
+        let region = self.regions.list()[i];
+        if !all_lie_in(&region, s_ids) {
+            return None;
+        }
+        match &self.seats[i] {
+            Seat::Part(lodging) => Some(lodging.holding()),
+            Seat::Piece(_) => None,
+        }
+    }
+}
