@@ -11,8 +11,6 @@ mod homes;
 mod lender;
 mod owner;
 mod ring;
-#[cfg(test)]
-mod tests;
 
 pub use lender::Lender;
 pub use owner::Owner;

@@ -1,5 +1,5 @@
-//! Tests of holdings and of the register, by public calls alone: what no clause says. They are a crate of their own, so
-//! that neither library is proved a second time with them.
+//! Tests of holdings, of the register and of its lender, by public calls alone: what no clause says. They are a crate of
+//! their own, so that none of these libraries is proved a second time with them.
 #![tactic(auto)]
 
 #[cfg(test)]
@@ -10,6 +10,8 @@ mod gather_tests;
 mod holding_parting_tests;
 #[cfg(test)]
 mod holding_tests;
+#[cfg(test)]
+mod lender_tests;
 #[cfg(test)]
 mod lent_tests;
 #[cfg(test)]

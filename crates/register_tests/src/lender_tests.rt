@@ -1,7 +1,8 @@
-//! A part that is lent, what is answered meanwhile, and its way home: what no clause says. Each call that wants memory is
-//! tried again where it is refused.
-use crate::{Lender, Owner};
-use hlr_core::{Event, Number, Register, Reply, Subscriber};
+//! A part that a lender lends, what is answered meanwhile, and its way home. Each call that wants memory is tried again
+//! where it is refused.
+use crate::tests::{DONE, FIELD, NO_NUMBER, NO_PART, moved, number, posting, read, row};
+use hlr_core::{Event, Register, Reply};
+use hlr_lent::{Lender, Owner};
 use std::alloc::Global;
 use std::num::NonZeroU32;
 use std::process::Abort;
@@ -9,30 +10,14 @@ use tatp_actions::RowReply;
 use tatp_actions::edit::UpdateLocation;
 use tatp_rows::Refusal;
 
-/// A subscriber whose number is the s_id, at a location.
-fn row(s_id: u64, vlr_location: u64) -> Result<Subscriber, Refusal> {
-    Subscriber::try_new(
-        s_id,
-        Number::try_new(s_id)?,
-        [0; 10],
-        [0; 10],
-        [0; 10],
-        1,
-        vlr_location,
-    )
-}
-
-/// What adds subscriber 7 to the first part, or 70 to the second.
+/// What adds a subscriber whose number is the s_id.
 fn adding(rt: &impl Abort, s_id: u64) -> Event {
-    Event::AddSubscriber(row(s_id, 1).expect(rt, "a row"))
+    Event::AddSubscriber(row(s_id, s_id, 1).expect(rt, "a row"))
 }
 
 /// What moves a subscriber to a location.
-fn moving(rt: &impl Abort, number: u64, vlr_location: u64) -> Event {
-    Event::UpdateLocation {
-        sub_nbr: Number::try_new(number).expect(rt, "a number"),
-        vlr_location,
-    }
+fn moving(rt: &impl Abort, sub_nbr: u64, vlr_location: u64) -> Event {
+    moved(number(sub_nbr).expect(rt, "a number"), vlr_location)
 }
 
 /// What is answered to an event, at the second try where a growth was refused.
@@ -50,10 +35,9 @@ fn opened(rt: &impl Abort, alloc: Global) -> Lender {
         opened => opened,
     };
     let mut lender = Lender::of(register.expect(rt, "a register"));
-    let done = Some(Reply::Rows(RowReply::Done));
     let low = answer(&mut lender, &adding(rt, 7));
     let high = answer(&mut lender, &adding(rt, 70));
-    assert!(rt; low == done && high == done);
+    assert!(rt; low == Some(DONE) && high == Some(DONE));
     lender
 }
 
@@ -97,16 +81,16 @@ fn expect_beside(rt: &impl Abort, lender: &mut Lender) {
         answer(lender, &moving(rt, 7, 0)),
         answer(lender, &moving(rt, 9, 2)),
         answer(lender, &moving(rt, 70, 2)),
-        answer(lender, &Event::Post { part: 0, limit: 1 }),
-        answer(lender, &Event::Post { part: 2, limit: 1 }),
+        answer(lender, &posting(0, 1)),
+        answer(lender, &posting(2, 1)),
     ];
     let wanted = [
         None,
-        Some(Reply::Refused(Refusal::Field)),
-        Some(Reply::Refused(Refusal::NoNumber)),
-        Some(Reply::Rows(RowReply::Done)),
+        Some(FIELD),
+        Some(NO_NUMBER),
+        Some(DONE),
         None,
-        Some(Reply::Refused(Refusal::NoPart)),
+        Some(NO_PART),
     ];
     assert!(rt; told == wanted);
 }
@@ -122,8 +106,8 @@ fn part_comes_home_each_refused(rt: HostRuntime) {
     let owner = Box::into_inner(owner);
     owner.send_home();
     let backs = [lender.back(0), lender.back(0), lender.back(1)];
-    let read = lender.ask(Event::SubscriberData { s_id: 7 });
-    let moved = row(7, 268_435_456).expect(&rt, "a row");
+    let read = lender.ask(read(7));
+    let moved = row(7, 7, 268_435_456).expect(&rt, "a row");
     assert_eq!(rt;
         (early, backs, read),
         (
