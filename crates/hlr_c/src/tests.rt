@@ -21,6 +21,7 @@ use std::process::Abort;
 use std::test::Fail;
 
 mod drawn;
+mod drawn_lending;
 mod lent;
 
 const NO_ROW: HlrSubscriber = HlrSubscriber {

@@ -15,6 +15,7 @@ use hlr_core::{
 };
 use std::alloc::Global;
 use std::test::Fail;
+use tests_common::Random;
 
 /// What is asked for, by the numbers that C would hand in.
 #[derive(Clone, Copy)]
@@ -74,25 +75,26 @@ pub(super) enum Answer {
     Region(HlrRegion),
 }
 
-/// Numbers that look random (xorshift).
+/// Draws of what is asked for.
 #[derive(Drop)]
 pub(super) struct Draws {
-    pub(super) seed: u64,
+    random: Random,
 }
 
 impl Draws {
+    pub(super) fn new(seed: u64) -> Draws {
+        Draws {
+            random: Random::new(seed),
+        }
+    }
+
     pub(super) fn next(&mut self) -> u64 {
-        let mut next = self.seed;
-        next ^= next << 13;
-        next ^= next >> 7;
-        next ^= next << 17;
-        self.seed = next;
-        next >> 16
+        self.random.next()
     }
 
     /// One of 0..count, and now and then what is far above all ranges.
-    pub(super) fn below(&mut self, count: u64) -> u64 {
-        let value = self.next() % count.max(1);
+    fn below(&mut self, count: u64) -> u64 {
+        let value = self.random.below(count);
         if self.next() % 64 == 0 {
             value.wrapping_add(1 << 60)
         } else {
@@ -334,7 +336,7 @@ fn told(asked: &Asked, reply: &Reply) -> Answer {
 }
 
 /// What the register replies, told as a call is to tell it.
-fn wanted(register: &mut Register, asked: &Asked) -> Answer {
+pub(super) fn wanted(register: &mut Register, asked: &Asked) -> Answer {
     match event_of(asked) {
         Ok(event) if register.all_at_home() => told(asked, &register.apply(event)),
         Ok(_) => Answer::Code(255),
@@ -471,9 +473,7 @@ fn difference(
     register: &mut Register,
     answered: &mut [[bool; 23]; CALLS],
 ) -> Option<u32> {
-    let mut draws = Draws {
-        seed: 88_172_645_463_325_252,
-    };
+    let mut draws = Draws::new(88_172_645_463_325_252);
     for step in 0..20_000u32 {
         let asked = draws.asked();
         let want = wanted(register, &asked);
