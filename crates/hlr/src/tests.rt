@@ -408,13 +408,8 @@ fn answers_come_before_a_read_may_wait(rt: HostRuntime) {
                 let mut tape = Tape::new(&pending);
                 let feed = Feed::new(&pending, text, stride);
                 let done = answer_feed(&rt, feed, &mut tape, threads);
-                assert_eq!(rt; done, Ok(()), "{stride} bytes at a time");
-                assert_eq!(rt; tape.text(), wanted);
-                assert!(rt;
-                    stride < 24 || tape.flushes == flushes,
-                    "{flushes} flushes, not {}",
-                    tape.flushes
-                );
+                let found = if stride < 24 { flushes } else { tape.flushes };
+                assert_eq!(rt; (done, tape.text(), found), (Ok(()), wanted, flushes));
             }
         }
     }
@@ -457,11 +452,8 @@ fn expect_flushes<R: Abort + AllocGlobal + Threads + Wait + Copy + Send + Sync +
         let mut tape = Tape::new(&pending);
         let feed = Feed::new(&pending, &text[..len.min(text.len())], stride);
         let done = answer_feed(rt, feed, &mut tape, threads);
-        assert_eq!(rt;
-            (done, tape.taken, tape.flushes),
-            (Ok(()), (len as u64 / 16).wrapping_mul(18), flushes),
-            "{len} bytes, {stride} at a time"
-        );
+        let taken = (len as u64 / 16).wrapping_mul(18);
+        assert_eq!(rt; (done, tape.taken, tape.flushes), (Ok(()), taken, flushes));
     }
 }
 
@@ -528,13 +520,11 @@ fn readers_may_fail(rt: HostRuntime) {
             let mut feed = Feed::new(&pending, &SCRIPT[..left], 7);
             feed.rest = Rest::Fails;
             let done = answer_feed(&rt, feed, &mut tape, threads);
-            assert_eq!(rt; done, Err(Fault::Read));
+            let wanted = &ANSWERS[..ENDS[records % 36].min(ANSWERS.len())];
             assert_eq!(rt;
-                tape.text(),
-                &ANSWERS[..ENDS[records % 36].min(ANSWERS.len())],
-                "at byte {left}"
+                (done, tape.text(), pending.get()),
+                (Err(Fault::Read), wanted, false)
             );
-            assert!(rt; !pending.get());
             records = records.saturating_add(usize::from(*byte == b'\n'));
         }
     }
@@ -551,10 +541,12 @@ fn writers_may_be_slow_and_fail(rt: HostRuntime) {
                 tape.room = room;
                 tape.ending = ending;
                 let done = answer_feed(&rt, Feed::new(&pending, SCRIPT, 8192), &mut tape, threads);
-                assert_eq!(rt; done.is_ok(), room == ANSWERS.len());
-                assert!(rt; done.is_ok() || done == Err(Fault::Write));
-                assert_eq!(rt; tape.text(), &ANSWERS[..room], "after {room} bytes");
-                assert_eq!(rt; tape.flushes > 0, done.is_ok());
+                let is_whole = room == ANSWERS.len();
+                let wanted = if is_whole { Ok(()) } else { Err(Fault::Write) };
+                assert_eq!(rt;
+                    (done, tape.text(), tape.flushes > 0),
+                    (wanted, &ANSWERS[..room], is_whole)
+                );
             }
         }
     }
@@ -608,8 +600,7 @@ fn each_command_is_answered(rt: HostRuntime) {
     for threads in WAYS {
         let mut tape = Tape::new(&pending);
         let done = answer_feed(&rt, Feed::new(&pending, COMMANDS, 8192), &mut tape, threads);
-        assert_eq!(rt; done, Ok(()));
-        assert_eq!(rt; tape.text(), DONE);
+        assert_eq!(rt; (done, tape.text()), (Ok(()), DONE));
     }
 }
 
@@ -663,8 +654,8 @@ fn regions_are_cut_and_shown(rt: HostRuntime) {
             let mut tape = Tape::new(&pending);
             tape.room = room;
             let done = answer_feed(&rt, Feed::new(&pending, REGIONS, 8192), &mut tape, threads);
-            assert_eq!(rt; done.is_ok(), room == MOVED.len());
-            assert_eq!(rt; tape.text(), &MOVED[..room]);
+            let is_whole = room == MOVED.len();
+            assert_eq!(rt; (done.is_ok(), tape.text()), (is_whole, &MOVED[..room]));
         }
     }
 }
@@ -684,9 +675,9 @@ fn sixteen_parts_have_sixteen_regions(rt: HostRuntime) {
             4,
             threads,
         );
-        assert_eq!(rt; done, Ok(()));
-        assert!(rt; tape.text().starts_with(b"part,0,1,9\npart,1,9,17\n"));
-        assert!(rt; tape.text().ends_with(b"part,15,121,16777217\nregions,16\n"));
+        let begins = tape.text().starts_with(b"part,0,1,9\npart,1,9,17\n");
+        let ends = tape.text().ends_with(b"part,15,121,16777217\nregions,16\n");
+        assert_eq!(rt; (done, begins, ends), (Ok(()), true, true));
     }
 }
 
@@ -706,8 +697,7 @@ fn a_writer_may_fail_in_a_report(rt: HostRuntime) {
             let mut tape = Tape::new(&pending);
             tape.room = room;
             let done = answer_feed(&rt, Feed::new(&pending, text, 8192), &mut tape, threads);
-            assert_eq!(rt; done, Err(Fault::Write));
-            assert_eq!(rt; tape.text(), wanted);
+            assert_eq!(rt; (done, tape.text()), (Err(Fault::Write), wanted));
         }
     }
 }
@@ -721,8 +711,8 @@ fn interrupted_writes_are_tried_again(rt: HostRuntime) {
             tape.stride = 1;
             tape.interrupts = interrupts;
             let feed = Feed::new(&pending, SCRIPT, 8192);
-            assert_eq!(rt; answer_feed(&rt, feed, &mut tape, threads), done);
-            assert_eq!(rt; tape.text(), wanted);
+            let found = answer_feed(&rt, feed, &mut tape, threads);
+            assert_eq!(rt; (found, tape.text()), (done, wanted));
         }
     }
 }
@@ -744,9 +734,10 @@ fn a_failed_flush_is_a_fault_of_the_writer(rt: HostRuntime) {
             let mut feed = Feed::new(&pending, text, 84);
             feed.rest = rest;
             let done = answer_feed(&rt, feed, &mut tape, threads);
-            assert_eq!(rt; done, Err(Fault::Write));
-            assert_eq!(rt; tape.text(), &ANSWERS[..wanted]);
-            assert_eq!(rt; tape.flushes, flush_limit + 1);
+            assert_eq!(rt;
+                (done, tape.text(), tape.flushes),
+                (Err(Fault::Write), &ANSWERS[..wanted], flush_limit + 1)
+            );
         }
     }
 }
@@ -767,9 +758,7 @@ fn options_out_of_range_write_nothing(rt: HostRuntime) {
                 width,
                 threads,
             );
-            assert_eq!(rt; done, Err(Fault::Field));
-            assert_eq!(rt; tape.taken, 0);
-            assert_eq!(rt; tape.flushes, 0);
+            assert_eq!(rt; (done, tape.taken, tape.flushes), (Err(Fault::Field), 0, 0));
         }
     }
 }
@@ -786,11 +775,12 @@ fn a_run_ends_after_a_million_records(rt: HostRuntime) {
         feed.rest = Rest::Repeats;
         let mut tape = Tape::new(&pending);
         let done = answer_feed(&rt, feed, &mut tape, threads);
-        assert_eq!(rt; done, Err(Fault::Read));
-        assert_eq!(rt; tape.taken, 18 * 1_048_576);
-        assert!(rt;
-            tape.text()
-                .starts_with(b"refused,19,Syntax\nrefused,19,Syntax\n")
+        let begins = tape
+            .text()
+            .starts_with(b"refused,19,Syntax\nrefused,19,Syntax\n");
+        assert_eq!(rt;
+            (done, tape.taken, begins),
+            (Err(Fault::Read), 18 * 1_048_576, true)
         );
     }
 }
@@ -802,13 +792,12 @@ fn memory_is_told_each_refused(rt: HostRuntime) {
     for threads in WAYS {
         let mut tape = Tape::new(&pending);
         let done = answer_feed(&rt, Feed::new(&pending, SCRIPT, 8192), &mut tape, threads);
-        let is_thread = threads && done == Err(Fault::Thread);
-        assert!(rt; done == Ok(()) || done == Err(Fault::Memory) || is_thread);
-        assert!(rt; !pending.get());
+        let is_refused = done == Err(Fault::Memory) || (threads && done == Err(Fault::Thread));
         let text = tape.text();
         let lines = text.iter().filter(|byte| **byte == b'\n').count();
-        assert!(rt; done.is_err() || lines >= 35);
-        assert!(rt; text.is_empty() || text.last() == Some(&b'\n'));
+        let is_whole = text.is_empty() || text.last() == Some(&b'\n');
+        assert!(rt; is_refused || (done == Ok(()) && lines >= 35));
+        assert!(rt; is_whole && !pending.get());
     }
 }
 
@@ -817,24 +806,35 @@ fn lines_and_fields_are_as_told(rt: HostRuntime) {
     let mut line = empty_line();
     put_cell(&mut line, 71, i64::MIN, -1);
     put_counted(&mut line, 71, u64::MAX);
-    assert_eq!(rt;
-        line.as_slice(),
-        b"cell,71,18446744073709551615\ncell,71,-9223372036854775808,-1\n".as_slice()
-    );
+    let mut are_told = line.as_slice()
+        == b"cell,71,18446744073709551615\ncell,71,-9223372036854775808,-1\n".as_slice();
     build_total(&mut line, b"views,", 72);
-    assert_eq!(rt; line.as_slice(), b"views,72\n".as_slice());
+    are_told &= line.as_slice() == b"views,72\n".as_slice();
     build_reply(&mut line, &Reply::Refused(Refusal::Worn));
-    assert_eq!(rt; line.as_slice(), b"refused,17,Worn\n".as_slice());
+    are_told &= line.as_slice() == b"refused,17,Worn\n".as_slice();
     build_recut(&mut line, Ok(15));
-    assert_eq!(rt; line.as_slice(), b"recut,15\n".as_slice());
-    assert_eq!(rt; word_of(b"recut"), Some(Word::Recut));
-    assert_eq!(rt; word_of(b"dissolve"), Some(Word::Dissolve));
-    assert_eq!(rt; parse_byte(b"00255"), Ok(255));
-    assert_eq!(rt; parse_byte(b"256"), Err(Refusal::Field));
-    assert_eq!(rt; parse_digits::<3>(b"aF0", 16), Ok([10, 15, 0]));
+    are_told &= line.as_slice() == b"recut,15\n".as_slice();
+    assert!(rt; are_told);
     assert_eq!(rt;
-        parse_bytes(b"00ff10A0000000000001"),
-        Ok([0, 255, 16, 160, 0, 0, 0, 0, 0, 1])
+        (
+            word_of(b"recut"),
+            word_of(b"dissolve"),
+            parse_byte(b"00255"),
+            parse_byte(b"256")
+        ),
+        (
+            Some(Word::Recut),
+            Some(Word::Dissolve),
+            Ok(255),
+            Err(Refusal::Field)
+        )
+    );
+    assert_eq!(rt;
+        (
+            parse_digits::<3>(b"aF0", 16),
+            parse_bytes(b"00ff10A0000000000001")
+        ),
+        (Ok([10, 15, 0]), Ok([0, 255, 16, 160, 0, 0, 0, 0, 0, 1]))
     );
 }
 
@@ -883,8 +883,7 @@ fn pieces_and_reports_are_put(rt: HostRuntime) {
     let pending = Cell::new(false);
     let mut tape = Tape::new(&pending);
     let mut sink = Out::new(&mut tape);
-    assert_eq!(rt; sink.put(b"ab"), Ok(2));
-    assert_eq!(rt; put_all(&mut sink, b"cd"), Ok(()));
+    let put = (sink.put(b"ab"), put_all(&mut sink, b"cd"));
     let mut published = [0i64; CELLS as usize];
     published[usize::from(CELLS) - 1] = -3;
     let mut line = empty_line();
@@ -892,24 +891,33 @@ fn pieces_and_reports_are_put(rt: HostRuntime) {
         published: &published,
         unposted: &[0; CELLS as usize],
     };
-    assert_eq!(rt; write_cells(&counts, &mut line, &mut sink), Ok(()));
-    assert_eq!(rt; sink.flush(), Ok(()));
-    assert_eq!(rt; tape.text(), b"abcdcell,71,-3,0\nviews,1\n".as_slice());
+    let written = (write_cells(&counts, &mut line, &mut sink), sink.flush());
+    assert_eq!(rt;
+        (put, written, tape.text()),
+        (
+            (Ok(2), Ok(())),
+            (Ok(()), Ok(())),
+            b"abcdcell,71,-3,0\nviews,1\n".as_slice()
+        )
+    );
     let mut tape = Tape::new(&pending);
     tape.interrupts = 1;
     tape.room = 0;
     let mut sink = Out::new(&mut tape);
-    assert_eq!(rt; sink.put(b"ab"), Err(PutFault::Interrupted));
-    assert_eq!(rt; sink.put(b"ab"), Err(PutFault::Failed));
+    assert_eq!(rt;
+        [sink.put(b"ab"), sink.put(b"ab")],
+        [Err(PutFault::Interrupted), Err(PutFault::Failed)]
+    );
 }
 
 #[test]
 fn faults_have_codes_and_words(rt: HostRuntime) {
     let fault = Fault::Read;
-    assert_eq!(rt; fault.code(), 20);
-    assert_eq!(rt; fault.words(), "read fault");
-    let shown = format!(in rt.alloc(); "{fault}");
-    assert_eq!(rt; shown.map(|text| text.as_str() == "read fault"), Ok(true));
+    let shown = format!(in rt.alloc(); "{fault}").map(|text| text.as_str() == "read fault");
+    assert_eq!(rt;
+        (fault.code(), fault.words(), shown),
+        (20, "read fault", Ok(true))
+    );
 }
 
 #[test]
@@ -961,12 +969,10 @@ fn options_are_read(rt: HostRuntime) {
         (&["hlr", "--version"], OptionFault::DisplayVersion, false),
     ];
     for (words, kind, is_mistake) in refused {
-        match read_options(rt.alloc(), words) {
-            Ok(_) => assert!(rt; false, "read"),
-            Err(error) => {
-                assert_eq!(rt; error.kind(), kind);
-                assert_eq!(rt; error.use_stderr(), is_mistake);
-            }
-        }
+        let found = match read_options(rt.alloc(), words) {
+            Ok(_) => None,
+            Err(error) => Some((error.kind(), error.use_stderr())),
+        };
+        assert_eq!(rt; found, Some((kind, is_mistake)));
     }
 }

@@ -283,8 +283,7 @@ fn expect_alike<R: Abort + AllocGlobal + Threads + Wait + Copy + Send + Sync + '
     for way in OTHERS {
         let mut tape = Tape::new(&pending);
         let done = answer_by(rt, input, seed, way, &mut tape);
-        assert_eq!(rt; done, wanted, "seed {seed}");
-        assert_eq!(rt; tape.text(), plain.text(), "seed {seed}");
+        assert_eq!(rt; (done, tape.text()), (wanted, plain.text()), "seed {seed}");
     }
 }
 
