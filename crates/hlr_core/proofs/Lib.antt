@@ -7,6 +7,7 @@ pub mod HomeLemmas
 pub mod IndexLemmas
 pub mod LaterLemmas
 pub mod LentLemmas
+pub mod ManyLemmas
 mod NotedLemmas
 pub mod NumbersLemmas
 pub mod PairsLemmas

@@ -1,12 +1,20 @@
--- What is read of rows by a call of its own, and by no event: a facility, a forwarding, and who has a number.
-use Rattle.std.specs.Prelude.{ℕ, ◌&&◌, Result, Err, if◌then◌else◌, ok_or}
-use Rattle.tatp_rows.specs.Rows.{SpecialFacilityRow, CallForwardingRow, is_start_time}
+-- What is read of rows by a call of its own, and by no event: a facility, a forwarding, and who has a number; and rows of
+-- many subscribers at once.
+use Rattle.std.specs.Prelude.{◌≡◌, ℕ, ◌<◌, ◌&&◌, List, length, Option, Some, None, Result, Err, if◌then◌else◌, ok_or, slice_index_or}
+use Rattle.tatp_rows.specs.Rows.{SubscriberRow, AccessInfoRow, SpecialFacilityRow, CallForwardingRow, is_start_time}
 use Rattle.tatp_rows.specs.declared.refusal.Refusal.{Refusal}
-use Rattle.tatp_rows.specs.declared.refusal.Refusal.TheVariants.{Field, NoNumber}
+use Rattle.tatp_rows.specs.declared.refusal.Refusal.TheVariants.{Field, NoAccess, NoNumber, NoSubscriber}
 use Rattle.tatp_actions.specs.Action.{is_typed}
+use Rattle.tatp_actions.specs.declared.action.RowReply.TheVariants as row_reply
 use Rattle.hlr_owners.specs.Read.{facility_answer, forwarding_answer}
+use Rattle.hlr_owners.specs.Seats.{Seating, store_in}
 use Rattle.hlr_owners.specs.Store.{Store}
+use Rattle.hlr_core.specs.Beside.{IsStepBeside}
 use Rattle.hlr_core.specs.Numbers.{bearer_id}
+use Rattle.hlr_core.specs.Step.{IsStep}
+use Rattle.hlr_core.specs.declared.event.Event.{Event}
+use Rattle.hlr_core.specs.declared.event.Reply.{Reply}
+use Rattle.hlr_core.specs.declared.event.Reply.TheVariants as reply
 
 -- the row of a facility: Field where a field is out of range, then Moving, then NoFacility
 abbrev pub facility_read : ℕ → ℕ → Store → Result SpecialFacilityRow Refusal
@@ -20,3 +28,22 @@ forwarding_read s_id sf_type start_time store =
 -- the subscriber who has a number, or NoNumber
 abbrev pub bearer_answer : ℕ → Store → Result ℕ Refusal
 bearer_answer sub_nbr store = ok_or (bearer_id store.book.subscribers sub_nbr) NoNumber
+
+-- the reply that carries a subscriber's row, or the refusal of none
+abbrev pub subscriber_reply : Option SubscriberRow → Reply
+subscriber_reply (Some row) = reply.Rows (row_reply.Row row)
+subscriber_reply None = reply.Refused NoSubscriber
+
+-- the reply that carries an access, or the refusal of none
+abbrev pub access_reply : Option AccessInfoRow → Reply
+access_reply (Some row) = reply.Rows (row_reply.AccessRow row.data1 row.data2 row.data3 row.data4)
+access_reply None = reply.Refused NoAccess
+
+-- what was found for each question is the reply to its event: a right step that changes nothing, whatever jobs have done
+-- to the holdings that are out
+pub record AreFound {Q R : Type 0} (event : Q → Event) (told : Option R → Reply) (h : Seating) (asked : List Q) (found : List (Option R)) : Type 0 where
+  pub as_many : length found ≡ length asked
+  pub steps : (at : ℕ) (question : Q) (row : Option R) → at < length asked
+      → IsStep (event (slice_index_or asked at question)) (store_in h) (told (slice_index_or found at row)) (store_in h)
+  pub beside : (at : ℕ) (question : Q) (row : Option R) → at < length asked
+      → IsStepBeside (event (slice_index_or asked at question)) h (told (slice_index_or found at row)) h

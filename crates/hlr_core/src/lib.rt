@@ -15,6 +15,7 @@ mod event;
 mod lent;
 mod level;
 mod listing;
+mod many;
 mod numbers;
 mod order;
 mod register;

@@ -1,0 +1,109 @@
+-- Rows of many subscribers at once.
+use Rattle.std.proofs.Common.{◌≡◌, ◌∙◌, refl, sym, ap, ℕ, suc, ◌+◌, ◌<◌, List, [], ◌∷◌, ◌++◌, length, get_or, map, take, arith, inl, inr, true}
+use Rattle.std.specs.Prelude.{Option, Some, None, Ok}
+use Rattle.std.specs.List.{All}
+use Rattle.std.proofs.Math.Seq.{take-suc}
+use Rattle.std.proofs.lemmas.Bool.{cases_eq}
+use Rattle.std.proofs.lemmas.List.{get_or-map, get_or_default, length-map}
+use Rattle.tatp_rows.proofs.RowLemmas.{between_is, between_ok, both_from}
+use Rattle.tatp_rows.specs.Rows.{SubscriberRow, AccessInfoRow, between, is_between}
+use Rattle.tatp_rows.specs.declared.ranges.TheConstants.{LAST_SUBSCRIBER}
+use Rattle.tatp_rows.specs.declared.refusal.Refusal.TheVariants as refusal
+use Rattle.tatp_actions.specs.Action.{access_data, subscriber_data}
+use Rattle.tatp_actions.specs.Book.{IsWithin, access_at, subscriber_at}
+use Rattle.tatp_actions.specs.declared.action.Action.TheVariants as action
+use Rattle.tatp_actions.specs.declared.action.RowReply.TheVariants as row_reply
+use Rattle.holding.specs.Held.{HoldingState}
+use Rattle.hlr_owners.specs.Beside.{HasRowsBeside}
+use Rattle.hlr_owners.specs.Out.{with_outs}
+use Rattle.hlr_owners.specs.Read.{HasRowsOf}
+use Rattle.hlr_owners.specs.Seats.{Seating, store_in}
+use Rattle.hlr_owners.specs.Store.{Store}
+use Rattle.hlr_owners.proofs.ReadLemmas.{is_read, subscriber_fits}
+use Rattle.hlr_core.specs.Beside.{IsStepBeside, beside}
+use Rattle.hlr_core.specs.Rows.{AreFound, access_reply, subscriber_reply}
+use Rattle.hlr_core.specs.Step.{IsStep}
+use Rattle.hlr_core.specs.declared.event.Event.{Event}
+use Rattle.hlr_core.specs.declared.event.Event.TheVariants as event
+use Rattle.hlr_core.specs.declared.event.Reply.{Reply}
+use Rattle.hlr_core.proofs.LaterLemmas.{each_seat}
+use Rattle.hlr_core.proofs.LentLemmas.{read_step}
+
+module _ (store : Store) (holding : HoldingState) where
+  -- what is found in the part that has a subscriber is what is read of them
+  subscriber_read : (s_id : ℕ) → IsWithin 1 (LAST_SUBSCRIBER + 1) s_id → HasRowsOf s_id store holding → (o : Option SubscriberRow) → o ≡ subscriber_at holding.part.book s_id
+      → IsStep (event.SubscriberData s_id) store (subscriber_reply o) store
+  subscriber_read s_id within has (Some row) is =
+      read_step (action.SubscriberData s_id) store (row_reply.Row row) refl
+      (is_read (action.SubscriberData s_id) store holding has (subscriber_fits s_id within) (row_reply.Row row) (ap (subscriber_data holding.part.book) (sym is)))
+  subscriber_read s_id within has None is =
+      read_step (action.SubscriberData s_id) store (row_reply.Refused refusal.NoSubscriber) refl
+      (is_read (action.SubscriberData s_id) store holding has (subscriber_fits s_id within) (row_reply.Refused refusal.NoSubscriber) (ap (subscriber_data holding.part.book) (sym is)))
+
+  access_read : (s_id t : ℕ) → IsWithin 1 (LAST_SUBSCRIBER + 1) s_id → is_between 1 4 t ≡ true → HasRowsOf s_id store holding → (o : Option AccessInfoRow) → o ≡ access_at holding.part.book s_id t
+      → IsStep (event.AccessData s_id t) store (access_reply o) store
+  access_read s_id t within kind has (Some row) is =
+      read_step (action.AccessData s_id t) store (row_reply.AccessRow row.data1 row.data2 row.data3 row.data4) refl
+      (is_read (action.AccessData s_id t) store holding has (both_from _ _ (subscriber_fits s_id within) kind) (row_reply.AccessRow row.data1 row.data2 row.data3 row.data4) (ap (access_data holding.part.book) (sym is)))
+  access_read s_id t within kind has None is =
+      read_step (action.AccessData s_id t) store (row_reply.Refused refusal.NoAccess) refl
+      (is_read (action.AccessData s_id t) store holding has (both_from _ _ (subscriber_fits s_id within) kind) (row_reply.Refused refusal.NoAccess) (ap (access_data holding.part.book) (sym is)))
+
+-- what is found for each question is the reply to its event, if the reply to each event is what is found for it
+module _ {Q R : Type 0} (asks : Q → Event) (told : Option R → Reply) (find : Q → Option R) (h : Seating) where
+  pub all_found : (asked : List Q) (rows : List (Option R)) → rows ≡ map find asked
+      → All (λ q. IsStep (asks q) (store_in h) (told (find q)) (store_in h)) asked → All (λ q. IsStepBeside (asks q) h (told (find q)) h) asked → AreFound asks told h asked rows
+  all_found asked rows found steps besides = record {
+    as_many = rw found (length-map asked find);
+    steps = λ at question row below. rw (found, get_or-map find asked at question row below) (steps at question below);
+    beside = λ at question row below. rw (found, get_or-map find asked at question row below) (besides at question below);
+  }
+
+-- one more access that is in range, behind those that were looked at
+module _ (asked : List (ℕ × ℕ)) (n s_id t : ℕ) (below : n < length asked) where
+  pub one_more_taken : (accesses more : List (ℕ × ℕ)) → accesses ≡ take n asked → more ≡ accesses ++ (s_id, t) ∷ [] → Ok s_id ≡ between 1 LAST_SUBSCRIBER (get_or asked n (0, 0)).0 → Ok t ≡ between 1 4 (get_or asked n (0, 0)).1
+      → more ≡ take (n + 1) asked
+  one_more_taken accesses more so_far pushed id kind =
+      let one = (between_ok 1 LAST_SUBSCRIBER (get_or asked n (0, 0)).0 s_id id).0 in
+      let two = (between_ok 1 4 (get_or asked n (0, 0)).1 t kind).0 in
+      let next : n + 1 ≡ suc n = omega arith in
+      pushed ∙ rw (so_far, one, two, next) (sym (take-suc asked n (0, 0) below))
+
+  pub one_access_within : ((at : ℕ) (a : ℕ × ℕ) → at < n → IsWithin 1 (LAST_SUBSCRIBER + 1) (get_or asked at a).0 × (is_between 1 4 (get_or asked at a).1 ≡ true)) → Ok s_id ≡ between 1 LAST_SUBSCRIBER (get_or asked n (0, 0)).0 → Ok t ≡ between 1 4 (get_or asked n (0, 0)).1
+      → (at : ℕ) (a : ℕ × ℕ) → at < n + 1 → IsWithin 1 (LAST_SUBSCRIBER + 1) (get_or asked at a).0 × (is_between 1 4 (get_or asked at a).1 ≡ true)
+  one_access_within so_far id kind at a near = elim (cases_eq at n) [
+    | inl same ↦
+        let holds = (between_ok 1 LAST_SUBSCRIBER (get_or asked n (0, 0)).0 s_id id).1 in
+        let range = between_is 1 LAST_SUBSCRIBER (get_or asked n (0, 0)).0 holds in
+        let above : (get_or asked n (0, 0)).0 < LAST_SUBSCRIBER + 1 = omega (arith, range) in
+        rw (same, get_or_default asked n a (0, 0) below) ((range.0, above), (between_ok 1 4 (get_or asked n (0, 0)).1 t kind).1)
+    | inr other ↦ so_far at a (omega arith)
+  ]
+
+-- what holds of the first ones of pairs
+pub all_firsts : (P : ℕ → Type 0) (asked : List (ℕ × ℕ)) → All (λ a. P a.0) asked → All P (map (λ a. a.0) asked)
+all_firsts P asked all = λ at n below.
+    let within : at < length asked = omega (arith, below, length-map asked (λ (a : ℕ × ℕ). a.0)) in
+    rw (get_or-map (λ (a : ℕ × ℕ). a.0) asked at (n, 0) n within) (all at (n, 0) within)
+
+-- so it is with what is found in the part that has all of these subscribers
+module _ (h : Seating) (holding : HoldingState) where
+  pub subscribers_found : (s_ids : List ℕ) (rows : List (Option SubscriberRow)) → All (IsWithin 1 (LAST_SUBSCRIBER + 1)) s_ids → All (λ s_id. HasRowsOf s_id (store_in h) holding) s_ids → All (λ s_id. HasRowsBeside s_id h holding) s_ids
+      → rows ≡ map (subscriber_at holding.part.book) s_ids → AreFound event.SubscriberData subscriber_reply h s_ids rows
+  subscribers_found s_ids rows within have beside_have found =
+      all_found event.SubscriberData subscriber_reply (subscriber_at holding.part.book) h s_ids rows found
+      (λ at d below. subscriber_read (store_in h) holding (get_or s_ids at d) (within at d below) (have at d below) (subscriber_at holding.part.book (get_or s_ids at d)) refl)
+      (λ at d below ks later. subscriber_read (store_in (beside h ks)) holding (get_or s_ids at d) (within at d below) (beside_have at d below ks (each_seat h.seats (with_outs h.seats ks) later)) (subscriber_at holding.part.book (get_or s_ids at d)) refl)
+
+  pub accesses_found : (asked : List (ℕ × ℕ)) (rows : List (Option AccessInfoRow)) → All (λ a. IsWithin 1 (LAST_SUBSCRIBER + 1) a.0 × (is_between 1 4 a.1 ≡ true)) asked
+      → All (λ s_id. HasRowsOf s_id (store_in h) holding) (map (λ a. a.0) asked) → All (λ s_id. HasRowsBeside s_id h holding) (map (λ a. a.0) asked)
+      → rows ≡ map (λ a. access_at holding.part.book a.0 a.1) asked → AreFound (λ a. event.AccessData a.0 a.1) access_reply h asked rows
+  accesses_found asked rows within have beside_have found =
+      all_found (λ a. event.AccessData a.0 a.1) access_reply (λ a. access_at holding.part.book a.0 a.1) h asked rows found
+      (λ at d below. let a = get_or asked at d in let fits = within at d below in
+      access_read (store_in h) holding a.0 a.1 fits.0 fits.1 (all_at (λ s_id. HasRowsOf s_id (store_in h) holding) asked have at d below) (access_at holding.part.book a.0 a.1) refl)
+      (λ at d below ks later. let a = get_or asked at d in let fits = within at d below in
+      access_read (store_in (beside h ks)) holding a.0 a.1 fits.0 fits.1 (all_at (λ s_id. HasRowsBeside s_id h holding) asked beside_have at d below ks (each_seat h.seats (with_outs h.seats ks) later)) (access_at holding.part.book a.0 a.1) refl)
+    where
+      all_at : (P : ℕ → Type 0) (asked : List (ℕ × ℕ)) → All P (map (λ a. a.0) asked) → All (λ a. P a.0) asked
+      all_at P asked all = λ at question below. rw (get_or-map (λ (a : ℕ × ℕ). a.0) asked at question 0 below) at (all at 0 (omega (arith, below, length-map asked (λ (a : ℕ × ℕ). a.0))))
