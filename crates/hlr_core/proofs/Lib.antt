@@ -18,4 +18,5 @@ pub mod RenamedLemmas
 pub mod RouteLemmas
 pub mod RunLemmas
 pub mod SentLemmas
+pub mod TaskLemmas
 pub mod WeightLemmas

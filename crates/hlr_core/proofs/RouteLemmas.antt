@@ -1,5 +1,5 @@
 -- Where an event goes: what it asks for, and what may be answered to it at once, are the same whatever jobs are done.
-use Rattle.std.proofs.Common.{◌≡◌, ◌∙◌, refl, sym, ap, ℕ, ◌<◌, ◌≤◌, arith, List, [], ◌∷◌, length, map, Bool, true, false, Option, Some, None, Result, Ok, Err}
+use Rattle.std.proofs.Common.{◌≡◌, ◌∙◌, refl, sym, ℕ, ◌<◌, ◌≤◌, arith, List, [], ◌∷◌, length, map, true, false, Option, Some, None, Ok, Err}
 use Rattle.std.specs.Prelude.{position}
 use Rattle.std.specs.List.{list_any}
 use Rattle.std.proofs.lemmas.List.{length-map}
@@ -17,6 +17,7 @@ use Rattle.part_table.specs.declared.region.Place.TheVariants as place
 use Rattle.part_table.specs.declared.region.Region.{Region}
 use Rattle.part_table.proofs.FirstLemmas.{none_passes}
 use Rattle.part_table.proofs.IndexLemmas.{is_part_there}
+use Rattle.holding.specs.declared.job.Job.{Job}
 use Rattle.holding.specs.declared.job.Job.TheVariants as jobs
 use Rattle.hlr_owners.specs.Desks.{AreDesks, slots_in}
 use Rattle.hlr_owners.specs.Lodged.{Lodged}
@@ -26,13 +27,12 @@ use Rattle.hlr_owners.specs.declared.lodging.Seat.{Seat}
 use Rattle.hlr_owners.specs.declared.lodging.Seat.TheVariants.{Part}
 use Rattle.hlr_owners.proofs.LendLemmas.{desks_later}
 use Rattle.hlr_owners.proofs.PartLemmas.{at_number, count_parts, part_lodged}
-use Rattle.hlr_core.specs.Inside.Asked.{IsAsked}
-use Rattle.hlr_core.specs.Inside.Routed.{AsksFor, IsSendable}
+use Rattle.hlr_core.specs.Inside.Routed.{AsksFor, IsOn}
 use Rattle.hlr_core.specs.Kept.{is_on_rows}
 use Rattle.hlr_core.specs.Later.{AreLater, with_seats}
 use Rattle.hlr_core.specs.Numbers.{bearer_id}
 use Rattle.hlr_core.specs.Route.{IsRouted}
-use Rattle.hlr_core.specs.Step.{IsAskedStep, IsStep, action_for, checked}
+use Rattle.hlr_core.specs.Step.{IsAskedStep, IsStep, action_for, given_number}
 use Rattle.hlr_core.specs.declared.event.Event.{Event}
 use Rattle.hlr_core.specs.declared.event.Event.TheVariants.{SubscriberData, NewDestination, AccessData, UpdateSubscriber}
 use Rattle.hlr_core.specs.declared.event.Event.TheVariants.{UpdateLocation, InsertForwarding, DeleteForwarding}
@@ -43,26 +43,6 @@ use Rattle.hlr_core.specs.declared.event.Reply.TheVariants as reply
 use Rattle.hlr_core.specs.declared.route.Route.TheVariants.{Now, To}
 use Rattle.hlr_core.proofs.LaterLemmas.{all_seated_later, bearer_later, each_seat}
 use Rattle.hlr_core.proofs.SentLemmas.{acted_sent, posted_sent}
-
--- an event that asks for an action asks so before its fields are tested
-pub asks_for : (fits : Bool) (act : Option Action) (asked : Result Action Refusal) → IsAsked fits act asked → AsksFor (checked fits act) asked
-asks_for fits act asked is = (fits, act, refl, is)
-
--- once they are, it is what the event asks for
-fitting_err : (fits : Bool) (act : Option Action) (why : Refusal) → IsAsked fits act (Err why) → Err why ≡ checked fits act
-fitting_err false act why is = ap Err is
-fitting_err true None why is = ap Err is
-fitting_err true (Some act) why is = absurd is
-
-fitting_ok : (fits : Bool) (wanted : Option Action) (act : Action) → IsAsked fits wanted (Ok act) → is_in_range act ≡ true → Ok act ≡ checked fits wanted
-fitting_ok fits wanted act is in_range = rw (is.1 ∙ in_range, is.0) refl
-
-fitting_field : (fits : Bool) (wanted : Option Action) (act : Action) → IsAsked fits wanted (Ok act) → is_in_range act ≡ false → Err refusal.Field ≡ checked fits wanted
-fitting_field fits wanted act is out = rw (is.1 ∙ out) refl
-
-module _ (wanted : Result Action Refusal) where
-  pub fits_err : (why : Refusal) → AsksFor wanted (Err why) → Err why ≡ wanted
-  fits_err why asks = fitting_err asks.0 asks.1 why asks.3 ∙ sym asks.2
 
 -- a right step of what an event on rows asks for is one of the event
 pub step_asked : (event : Event) (before : Store) (answer : Reply) (after : Store) → is_on_rows event ≡ true → IsAskedStep (action_for event before.book) before answer after → IsStep event before answer after
@@ -143,22 +123,32 @@ module _ (event : Event) (h : Seating) (rows : is_on_rows event ≡ true) where
 
   module _ (act : Action) (asked : action_for event (book_in h.seats) ≡ Ok act) where
     -- its subscriber lies in a loose piece
-    pub now_moving : (n : ℕ) → place_of (s_id_of act) h.regions ≡ Some (place.Piece n) → IsRouted event h (Now (reply.Refused refusal.Moving))
+    now_moving : (n : ℕ) → place_of (s_id_of act) h.regions ≡ Some (place.Piece n) → IsRouted event h (Now (reply.Refused refusal.Moving))
     now_moving n placed = λ ks later.
         step_asked event (store_in (with_seats h ks)) (reply.Refused refusal.Moving) (store_in (with_seats h ks)) rows (rw (asks_later ks later, asked, placed) (refl, refl))
 
     -- the part of its subscriber does the action
-    pub to_part : (p : ℕ) → AreSeated h → IsSendable act → place_of (s_id_of act) h.regions ≡ Some (place.Part p) → IsRouted event h (To p (jobs.Act act))
-    to_part p are sendable placed = (
+    to_part : (p : ℕ) → AreSeated h → given_number act ≡ None → is_in_range act ≡ true → place_of (s_id_of act) h.regions ≡ Some (place.Part p) → IsRouted event h (To p (jobs.Act act))
+    to_part p are gives fits placed = (
       (let there = part_index (s_id_of act) p h.regions placed in part_low h are p there.0 there.1),
-      (placed, sendable.0.1),
+      (placed, gives),
       asked,
       λ ks after answer later done.
           step_asked event (store_in (with_seats h ks)) answer (store_in (with_seats h after)) rows
           (rw (asks_later ks later, asked, done.is)
           (acted_sent (with_seats h ks) (all_seated_later h ks are later) p done.index done.region done.lodged (record done.lodged { holding = done.holding })
-          (sym (get_or_from_slice_get ks done.index (Part done.lodged) (Part done.lodged) done.seat)) act placed answer sendable.0.1 sendable.1 done.done)),
+          (sym (get_or_from_slice_get ks done.index (Part done.lodged) (Part done.lodged) done.seat)) act placed answer gives fits done.done)),
     )
+
+  -- so it is of the job that it asks for
+  module _ (s_id : ℕ) where
+    pub job_to : (job : Job) → AsksFor (action_for event (book_in h.seats)) job → IsOn s_id job → (p : ℕ) → AreSeated h → place_of s_id h.regions ≡ Some (place.Part p) → IsRouted event h (To p job)
+    job_to (jobs.Act act) asks on p are placed = to_part act asks.0 p are asks.1.1 asks.2 (rw on at placed)
+    job_to (jobs.Post limit) asks on p are placed = absurd asks
+
+    pub job_moving : (job : Job) → AsksFor (action_for event (book_in h.seats)) job → IsOn s_id job → (n : ℕ) → place_of s_id h.regions ≡ Some (place.Piece n) → IsRouted event h (Now (reply.Refused refusal.Moving))
+    job_moving (jobs.Act act) asks on n placed = now_moving act asks.0 n (rw on at placed)
+    job_moving (jobs.Post limit) asks on n placed = absurd asks
 
 -- a posting goes to its part, if there is such a part
 pub post_to : (h : Seating) (are : AreSeated h) (board : TableId) → AreDesks board h.spare (desks_in h.seats) → (p limit : ℕ) → p < length (parts_of h.regions)

@@ -11,4 +11,5 @@ pub mod Rows
 pub mod Run
 pub mod Session
 pub mod Step
+pub mod Tasks
 pub mod Weights

@@ -69,6 +69,7 @@ pub(crate) fn update_location(
 ) -> Result<UpdateLocation, Refusal>
     requires { (s_id : ℕ) → bearer_id ≡ Some s_id → IsWithin 1 (LAST_SUBSCRIBER + 1) s_id }
     ensures action { IfOk result (λ edit. IsRowAction (⟦<UpdateLocation as Edit>⟧.action edit)) }
+    ensures fit { IfOk result (λ edit. is_in_range (⟦<UpdateLocation as Edit>⟧.action edit) ≡ true) }
     ensures asked { IsAsked (is_between 1 4294967295 vlr_location) (option_map (λ s_id. action.UpdateLocation s_id vlr_location) bearer_id) (action_asked ⟦<UpdateLocation as Edit>⟧.action result) }
 {
     let vlr_location = location(vlr_location)?;
@@ -85,6 +86,7 @@ pub(crate) fn insert_forwarding(
 ) -> Result<InsertForwarding, Refusal>
     requires { (s_id : ℕ) → bearer_id ≡ Some s_id → IsWithin 1 (LAST_SUBSCRIBER + 1) s_id }
     ensures action { IfOk result (λ edit. IsRowAction (⟦<InsertForwarding as Edit>⟧.action edit)) }
+    ensures fit { IfOk result (λ edit. is_in_range (⟦<InsertForwarding as Edit>⟧.action edit) ≡ true) }
     ensures asked { IsAsked (has_forwarding_key sf_type start_time && is_between 1 24 end_time)
         (option_map (λ s_id. action.InsertForwarding (record { s_id = s_id; sf_type = sf_type; start_time = start_time; end_time = end_time; numberx = numberx })) bearer_id) (action_asked ⟦<InsertForwarding as Edit>⟧.action result) }
 {
@@ -104,6 +106,7 @@ pub(crate) fn delete_forwarding(
 ) -> Result<DeleteForwarding, Refusal>
     requires { (s_id : ℕ) → bearer_id ≡ Some s_id → IsWithin 1 (LAST_SUBSCRIBER + 1) s_id }
     ensures action { IfOk result (λ edit. IsRowAction (⟦<DeleteForwarding as Edit>⟧.action edit)) }
+    ensures fit { IfOk result (λ edit. is_in_range (⟦<DeleteForwarding as Edit>⟧.action edit) ≡ true) }
     ensures asked { IsAsked (has_forwarding_key sf_type start_time) (option_map (λ s_id. action.DeleteForwarding s_id sf_type start_time) bearer_id) (action_asked ⟦<DeleteForwarding as Edit>⟧.action result) }
 {
     let sf_type = byte(sf_type)?;

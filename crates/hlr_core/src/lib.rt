@@ -20,6 +20,8 @@ mod numbers;
 mod order;
 mod register;
 mod route;
+mod task;
+mod tasks;
 mod transactions;
 mod weights;
 
@@ -27,7 +29,8 @@ pub use checked::byte;
 pub use event::{Event, Reply};
 pub use order::{Answer, Order, no_reply_but_moving};
 pub use register::Register;
-pub use route::{Parts, Route};
+pub use route::{Parts, Route, TaskRoute};
+pub use task::Task;
 
 // What the register's calls take and give, so that a caller needs no other crate's name.
 pub use arrayvec::ArrayVec;

@@ -65,7 +65,7 @@ impl Model for Register {
     ghost invariant = { λ r. IsRegister (book_in r.seats.seats) r.index };
 }
 
-fn row_reply(lent: Result<&Subscriber, Refusal>) -> Reply
+pub(crate) fn row_reply(lent: Result<&Subscriber, Refusal>) -> Reply
     ensures { MatchResult lent.entry (λ row. result ≡ Reply.Rows (RowReply.Row row.now)) (λ why. result ≡ Reply.Refused why) }
 {
     match lent {
@@ -74,7 +74,7 @@ fn row_reply(lent: Result<&Subscriber, Refusal>) -> Reply
     }
 }
 
-fn access_reply(lent: Result<&Access, Refusal>) -> Reply
+pub(crate) fn access_reply(lent: Result<&Access, Refusal>) -> Reply
     ensures { MatchResult lent.entry (λ row. result ≡ Reply.Rows (RowReply.AccessRow row.now.data1 row.now.data2 row.now.data3 row.now.data4)) (λ why. result ≡ Reply.Refused why) }
 {
     match lent {
@@ -97,7 +97,7 @@ fn numbers_reply(found: Result<ArrayVec<Number, 3>, Refusal>) -> Reply
     }
 }
 
-fn edited_reply(done: Result<(), Refusal>) -> Reply
+pub(crate) fn edited_reply(done: Result<(), Refusal>) -> Reply
     ensures { result ≡ edited_reply done }
 {
     match done {

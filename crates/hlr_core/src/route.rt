@@ -1,29 +1,25 @@
 //! Where an event goes: what is known of its reply at once, what a part's holding does wherever it is, and what the
 //! register itself does.
-ghost use Rattle.std.specs.Prelude.{◌≡◌, ◌↔◌, ◌≤◌, IfOk, Result, true, false, length};
+ghost use Rattle.std.specs.Prelude.{◌≡◌, ◌↔◌, ◌≤◌, Result, true, false, length};
 ghost use Rattle.hlr_core.specs.Home.{AreHome, IsBearerHome, WorksOn, is_by_number};
-ghost use Rattle.hlr_core.specs.Inside.Asked.{IsAskedAlone, IsRowAction, action_asked};
-ghost use Rattle.hlr_core.specs.Inside.Routed.{AsksFor, IsSendable, makes_change};
+ghost use Rattle.hlr_core.specs.Inside.Routed.{IsTaskFor, makes_change};
 ghost use Rattle.hlr_core.specs.Kept.{is_on_rows};
 ghost use Rattle.hlr_core.specs.Route.{IsRouted};
 ghost use Rattle.hlr_core.specs.Step.{action_for};
+ghost use Rattle.hlr_core.specs.Tasks.{route_of};
 ghost use Rattle.hlr_core.specs.declared.event.Event.{Event as Events};
 ghost use Rattle.hlr_core.specs.declared.event.Event.TheVariants as event;
 ghost use Rattle.part_table.specs.Regions.{parts_of};
 ghost use Rattle.hlr_owners.specs.Seats.{AreSeated, IsHomeFor, IsHomeFrom, IsPartHome, Seating, book_in};
 ghost use Rattle.tatp_actions.specs.declared.action.Action.{Action as Actions};
-ghost use Rattle.tatp_actions.specs.declared.action.Action.TheVariants as action;
 ghost use Rattle.tatp_rows.specs.declared.refusal.Refusal.{Refusal as Refusals};
 
-use crate::checked::{
-    add_access, add_facility, byte, delete_forwarding, insert_forwarding, set_active,
-    update_location, update_subscriber,
-};
 use crate::event::{Event, Reply};
 use crate::register::Register;
+use crate::task::Task;
+use crate::tasks;
 use holding::Job;
 use part_table::Place;
-use tatp_actions::{Action, Edit};
 use tatp_rows::{LAST_SUBSCRIBER, Number, Refusal, in_range};
 
 /// Where an event goes.
@@ -33,6 +29,17 @@ pub enum Route {
     Now(Reply),
     /// To the holding of a part, as this job.
     To(u8, Job),
+    /// To the register itself: it gives a number, moves regions, or has a part come or go.
+    Here,
+}
+
+/// Where an event goes, with a task in place of a job, in few bytes.
+#[derive(Clone, Copy, Debug, PartialEq, Eq)]
+pub enum TaskRoute {
+    /// It is refused so, and changes nothing.
+    Refused(Refusal),
+    /// To the holding of a part, as this task.
+    To(u8, Task),
     /// To the register itself: it gives a number, moves regions, or has a part come or go.
     Here,
 }
@@ -51,59 +58,17 @@ impl Parts {
     const NONE: Parts = Parts { first: 0, end: 0 };
 }
 
-fn subscriber_data(s_id: u64) -> Result<Action, Refusal>
-    ensures action { IfOk result IsRowAction }
-    ensures asked { IsAskedAlone (action.SubscriberData s_id) result }
-{
-    let s_id = in_range(s_id, LAST_SUBSCRIBER)?;
-    Ok(Action::SubscriberData { s_id })
-}
-
-fn new_destination(
-    s_id: u64,
-    sf_type: u64,
-    start_time: u64,
-    end_time: u64,
-) -> Result<Action, Refusal>
-    ensures action { IfOk result IsRowAction }
-    ensures asked { IsAskedAlone (action.NewDestination s_id sf_type start_time end_time) result }
-{
-    Ok(Action::NewDestination {
-        s_id: in_range(s_id, LAST_SUBSCRIBER)?,
-        sf_type: byte(sf_type)?,
-        start_time: byte(start_time)?,
-        end_time: byte(end_time)?,
-    })
-}
-
-fn access_data(s_id: u64, ai_type: u64) -> Result<Action, Refusal>
-    ensures action { IfOk result IsRowAction }
-    ensures asked { IsAskedAlone (action.AccessData s_id ai_type) result }
-{
-    Ok(Action::AccessData {
-        s_id: in_range(s_id, LAST_SUBSCRIBER)?,
-        ai_type: byte(ai_type)?,
-    })
-}
-
-/// The action of an edit that was asked for.
-fn action_of<E: Edit>(asked: Result<E, Refusal>) -> Result<Action, Refusal>
-    ensures { result ≡ action_asked E.action asked }
-{
-    Ok(asked?.to_action())
-}
-
-/// An action that was asked for, or `Field` where one of its fields is out of its range.
-fn fitting(asked: Result<Action, Refusal>) -> Result<Action, Refusal>
-    requires { IfOk asked IsRowAction }
-    ensures sendable { IfOk result IsSendable }
-    ensures asked { (wanted : Result Actions Refusals) → AsksFor wanted asked → result ≡ wanted }
-{
-    let action = asked?;
-    if !action.is_in_range() {
-        return Err(Refusal::Field);
+impl TaskRoute {
+    /// Makes the route whose job the task is.
+    pub fn to_route(&self) -> Route
+        ensures { result ≡ route_of self.now }
+    {
+        match self {
+            TaskRoute::Refused(why) => Route::Now(Reply::Refused(*why)),
+            TaskRoute::To(part, task) => Route::To(*part, task.to_job()),
+            TaskRoute::Here => Route::Here,
+        }
     }
-    Ok(action)
 }
 
 impl Register {
@@ -202,16 +167,25 @@ impl Register {
     pub fn route(&self, event: &Event) -> Route
         ensures { IsRouted event.now self.now result }
     {
+        self.route_task(event).to_route()
+    }
+
+    /// The same with a task in place of the job, which holds no room for a whole row of a subscriber.
+    pub fn route_task(&self, event: &Event) -> TaskRoute
+        ensures { IsRouted event.now self.now (route_of result) }
+    {
         let asked = *event;
         match asked {
-            Event::SubscriberData { s_id } => self.route_asked(subscriber_data(s_id)),
+            Event::SubscriberData { s_id } => self.route_asked(tasks::subscriber_data(s_id)),
             Event::NewDestination {
                 s_id,
                 sf_type,
                 start_time,
                 end_time,
-            } => self.route_asked(new_destination(s_id, sf_type, start_time, end_time)),
-            Event::AccessData { s_id, ai_type } => self.route_asked(access_data(s_id, ai_type)),
+            } => self.route_asked(tasks::new_destination(s_id, sf_type, start_time, end_time)),
+            Event::AccessData { s_id, ai_type } => {
+                self.route_asked(tasks::access_data(s_id, ai_type))
+            }
             Event::Post { part, limit } => self.route_post(part, limit),
             _ => self.route_change(event),
         }
@@ -219,9 +193,9 @@ impl Register {
 
     /// Where an event goes that changes rows, regions or parts: to the part whose rows it changes alone, and any other
     /// one to the register itself.
-    fn route_change(&self, event: &Event) -> Route
+    fn route_change(&self, event: &Event) -> TaskRoute
         requires { makes_change event.now ≡ true }
-        ensures { IsRouted event.now self.now result }
+        ensures { IsRouted event.now self.now (route_of result) }
     {
         let event = *event;
         match event {
@@ -230,11 +204,11 @@ impl Register {
                 sf_type,
                 bit_1,
                 data_a,
-            } => self.route_edit(update_subscriber(s_id, sf_type, bit_1, data_a)),
+            } => self.route_asked(tasks::update_subscriber(s_id, sf_type, bit_1, data_a)),
             Event::UpdateLocation {
                 sub_nbr,
                 vlr_location,
-            } => self.route_edit(update_location(self.bearer(sub_nbr), vlr_location)),
+            } => self.route_asked(tasks::update_location(self.bearer(sub_nbr), vlr_location)),
             Event::InsertForwarding {
                 sub_nbr,
                 sf_type,
@@ -243,66 +217,54 @@ impl Register {
                 numberx,
             } => {
                 let s_id = self.bearer(sub_nbr);
-                self.route_edit(insert_forwarding(s_id, sf_type, start_time, end_time, numberx))
+                self.route_asked(tasks::insert_forwarding(
+                    s_id, sf_type, start_time, end_time, numberx,
+                ))
             }
             Event::DeleteForwarding {
                 sub_nbr,
                 sf_type,
                 start_time,
-            } => self.route_edit(delete_forwarding(self.bearer(sub_nbr), sf_type, start_time)),
-            Event::AddAccess(row) => self.route_edit(add_access(row)),
-            Event::AddFacility(row) => self.route_edit(add_facility(row)),
+            } => {
+                let s_id = self.bearer(sub_nbr);
+                self.route_asked(tasks::delete_forwarding(s_id, sf_type, start_time))
+            }
+            Event::AddAccess(row) => self.route_asked(tasks::add_access(row)),
+            Event::AddFacility(row) => self.route_asked(tasks::add_facility(row)),
             Event::SetActive {
                 s_id,
                 sf_type,
                 is_active,
-            } => self.route_edit(set_active(s_id, sf_type, is_active)),
-            _ => Route::Here,
+            } => self.route_asked(tasks::set_active(s_id, sf_type, is_active)),
+            _ => TaskRoute::Here,
         }
     }
 
     /// A posting goes to its part, if there is such a part.
-    fn route_post(&self, part: u64, limit: u64) -> Route
-        ensures { IsRouted (event.Post part limit) self.now result }
+    fn route_post(&self, part: u64, limit: u64) -> TaskRoute
+        ensures { IsRouted (event.Post part limit) self.now (route_of result) }
     {
         // For the prover: each region has its owner beside it, and the desks share the board's slots.
         let _board = self.seats.board();
         if part >= u64::from(self.seats.regions().parts()) {
-            return Route::Now(Reply::Refused(Refusal::NoPart));
+            return TaskRoute::Refused(Refusal::NoPart);
         }
-        Route::To(part as u8, Job::Post(limit))
+        TaskRoute::To(part as u8, Task::Post(limit))
     }
 
-    /// What asks for an action is refused, or goes where the action does. A field of the action may still be out of its
-    /// range.
-    fn route_asked(&self, asked: Result<Action, Refusal>) -> Route
-        requires { IfOk asked IsRowAction }
-        ensures { (event : Events) → is_on_rows event ≡ true → AsksFor (action_for event (book_in self.now.seats)) asked → IsRouted event self.now result }
-    {
-        match fitting(asked) {
-            Ok(action) => self.route_action(action),
-            Err(why) => Route::Now(Reply::Refused(why)),
-        }
-    }
-
-    /// The same of what asks for an edit.
-    fn route_edit<E: Edit>(&self, asked: Result<E, Refusal>) -> Route
-        requires { IfOk asked (λ edit. IsRowAction (E.action edit)) }
-        ensures { (event : Events) → is_on_rows event ≡ true → AsksFor (action_for event (book_in self.now.seats)) (action_asked E.action asked) → IsRouted event self.now result }
-    {
-        self.route_asked(action_of(asked))
-    }
-
-    /// An action goes to the part that has its subscriber, and is refused where a loose piece has them.
-    fn route_action(&self, action: Action) -> Route
-        requires { IsSendable action }
-        ensures { (event : Events) → is_on_rows event ≡ true → action_for event (book_in self.now.seats) ≡ Ok action → IsRouted event self.now result }
+    /// What an event asks for goes to the part that has its subscriber, and is refused where a loose piece has them.
+    fn route_asked(&self, asked: Result<Task, Refusal>) -> TaskRoute
+        requires { (wanted : Result Actions Refusals) × IsTaskFor wanted asked }
+        ensures { (event : Events) → is_on_rows event ≡ true → IsTaskFor (action_for event (book_in self.now.seats)) asked → IsRouted event self.now (route_of result) }
     {
         // For the prover: each region has its owner beside it.
         let _board = self.seats.board();
-        match self.seats.regions().place(action.s_id()) {
-            Place::Part(part) => Route::To(part, Job::Act(action)),
-            Place::Piece(_) => Route::Now(Reply::Refused(Refusal::Moving)),
+        match asked {
+            Ok(task) => match self.seats.regions().place(task.s_id()) {
+                Place::Part(part) => TaskRoute::To(part, task),
+                Place::Piece(_) => TaskRoute::Refused(Refusal::Moving),
+            },
+            Err(why) => TaskRoute::Refused(why),
         }
     }
 }

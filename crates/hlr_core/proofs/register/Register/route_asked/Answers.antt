@@ -1,15 +1,24 @@
-use Rattle.std.proofs.Common.{◌∙◌, sym}
-use Rattle.hlr_owners.specs.Seats.{book_in}
-use Rattle.hlr_core.specs.Step.{action_for}
-use Rattle.hlr_core.proofs.RouteLemmas.{now_refused}
+use Rattle.std.proofs.Common.{◌≡◌, Some, sym}
+use Rattle.part_table.specs.Regions.{place_of}
+use Rattle.part_table.specs.declared.region.Place.TheVariants as place
+use Rattle.hlr_core.specs.Tasks.{job_of}
+use Rattle.hlr_core.proofs.RouteLemmas.{job_moving, job_to, now_refused}
 use Rattle.hlr_core.proofs.register.Register.route_asked.Goals as goal
 
-pub returns-in-Ok : goal.returns-in-Ok
-returns-in-Ok c = λ event rows asks.
-    let asked = c.fitting.ensures.asked (action_for event (book_in c.args.self.now.seats)) asks in
-    c.route_action.ensures event rows (sym asked ∙ c.in-Ok.is)
+pub s_id-requires : goal.s_id-requires
+s_id-requires c = (c.requires.0, rw c.in-Ok.is at c.requires.1)
+
+pub returns-in-Part : goal.returns-in-Part
+returns-in-Part c =
+    let placed : place_of c.s_id.result c.self.inside.seats.regions ≡ Some (place.Part c.in-Part.part) =
+    rw (← c.regions.ensures.value) (sym c.in-Part.ensures.value) in
+    rw (← c.self.view_is) (λ event rows asks. job_to event c.self.inside.seats rows c.s_id.result (job_of c.in-Ok.task) (rw c.in-Ok.is at asks) c.s_id.ensures c.in-Part.part c.board-board.ensures.seated placed)
+
+pub returns-in-Piece : goal.returns-in-Piece
+returns-in-Piece c =
+    let placed : place_of c.s_id.result c.self.inside.seats.regions ≡ Some (place.Piece c.in-Piece.field-0) =
+    rw (← c.regions.ensures.value) (sym c.in-Piece.ensures.value) in
+    rw (← c.self.view_is) (λ event rows asks. job_moving event c.self.inside.seats rows c.s_id.result (job_of c.in-Ok.task) (rw c.in-Ok.is at asks) c.s_id.ensures c.in-Piece.field-0 placed)
 
 pub returns-in-Err : goal.returns-in-Err
-returns-in-Err c = λ event rows asks.
-    let asked = c.fitting.ensures.asked (action_for event (book_in c.args.self.now.seats)) asks in
-    now_refused event c.args.self.now rows c.in-Err.why (sym asked ∙ c.in-Err.is)
+returns-in-Err c = λ event rows asks. now_refused event c.args.self.now rows c.in-Err.why (rw c.in-Err.is at asks)

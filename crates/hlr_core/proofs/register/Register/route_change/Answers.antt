@@ -1,25 +1,24 @@
 use Rattle.std.proofs.Common.{refl}
 use Rattle.hlr_core.specs.declared.event.Event.TheVariants as event
-use Rattle.hlr_core.proofs.RouteLemmas.{asks_for}
 use Rattle.hlr_core.proofs.register.Register.route_change.Goals as goal
 
 pub returns-in-UpdateSubscriber : goal.returns-in-UpdateSubscriber
-returns-in-UpdateSubscriber c = rw c.in-UpdateSubscriber.is (c.route_edit.ensures (event.UpdateSubscriber c.in-UpdateSubscriber.s_id c.in-UpdateSubscriber.sf_type c.in-UpdateSubscriber.bit_1 c.in-UpdateSubscriber.data_a) refl (asks_for _ _ _ c.update_subscriber.ensures.asked))
+returns-in-UpdateSubscriber c = rw c.in-UpdateSubscriber.is (c.route_asked.ensures (event.UpdateSubscriber c.in-UpdateSubscriber.s_id c.in-UpdateSubscriber.sf_type c.in-UpdateSubscriber.bit_1 c.in-UpdateSubscriber.data_a) refl c.update_subscriber.ensures)
 
 pub returns-in-UpdateLocation : goal.returns-in-UpdateLocation
-returns-in-UpdateLocation c = rw c.in-UpdateLocation.is (c.route_edit-in-UpdateLocation.ensures (event.UpdateLocation c.in-UpdateLocation.sub_nbr c.in-UpdateLocation.vlr_location) refl (rw (← c.bearer.ensures.value) (asks_for _ _ _ c.update_location.ensures.asked)))
+returns-in-UpdateLocation c = rw c.in-UpdateLocation.is (c.route_asked-in-UpdateLocation.ensures (event.UpdateLocation c.in-UpdateLocation.sub_nbr c.in-UpdateLocation.vlr_location) refl (rw (← c.bearer.ensures.value) c.update_location.ensures))
 
 pub returns-in-InsertForwarding : goal.returns-in-InsertForwarding
-returns-in-InsertForwarding c = rw c.in-InsertForwarding.is (c.route_edit-in-InsertForwarding.ensures (event.InsertForwarding c.in-InsertForwarding.sub_nbr c.in-InsertForwarding.sf_type c.in-InsertForwarding.start_time c.in-InsertForwarding.end_time c.in-InsertForwarding.numberx) refl (rw (← c.bearer-s_id.ensures.value) (asks_for _ _ _ c.insert_forwarding.ensures.asked)))
+returns-in-InsertForwarding c = rw c.in-InsertForwarding.is (c.route_asked-in-InsertForwarding.ensures (event.InsertForwarding c.in-InsertForwarding.sub_nbr c.in-InsertForwarding.sf_type c.in-InsertForwarding.start_time c.in-InsertForwarding.end_time c.in-InsertForwarding.numberx) refl (rw (← c.bearer-s_id.ensures.value) c.insert_forwarding.ensures))
 
 pub returns-in-DeleteForwarding : goal.returns-in-DeleteForwarding
-returns-in-DeleteForwarding c = rw c.in-DeleteForwarding.is (c.route_edit-in-DeleteForwarding.ensures (event.DeleteForwarding c.in-DeleteForwarding.sub_nbr c.in-DeleteForwarding.sf_type c.in-DeleteForwarding.start_time) refl (rw (← c.bearer-in-DeleteForwarding.ensures.value) (asks_for _ _ _ c.delete_forwarding.ensures.asked)))
+returns-in-DeleteForwarding c = rw c.in-DeleteForwarding.is (c.route_asked-in-DeleteForwarding.ensures (event.DeleteForwarding c.in-DeleteForwarding.sub_nbr c.in-DeleteForwarding.sf_type c.in-DeleteForwarding.start_time) refl (rw (← c.bearer-s_id-in-DeleteForwarding.ensures.value) c.delete_forwarding.ensures))
 
 pub returns-in-AddAccess : goal.returns-in-AddAccess
-returns-in-AddAccess c = rw c.in-AddAccess.is (c.route_edit-in-AddAccess.ensures (event.AddAccess c.in-AddAccess.row) refl (asks_for _ _ _ c.add_access.ensures.asked))
+returns-in-AddAccess c = rw c.in-AddAccess.is (c.route_asked-in-AddAccess.ensures (event.AddAccess c.in-AddAccess.row) refl c.add_access.ensures)
 
 pub returns-in-AddFacility : goal.returns-in-AddFacility
-returns-in-AddFacility c = rw c.in-AddFacility.is (c.route_edit-in-AddFacility.ensures (event.AddFacility c.in-AddFacility.row) refl (asks_for _ _ _ c.add_facility.ensures.asked))
+returns-in-AddFacility c = rw c.in-AddFacility.is (c.route_asked-in-AddFacility.ensures (event.AddFacility c.in-AddFacility.row) refl c.add_facility.ensures)
 
 pub returns-in-SetActive : goal.returns-in-SetActive
-returns-in-SetActive c = rw c.in-SetActive.is (c.route_edit-in-SetActive.ensures (event.SetActive c.in-SetActive.s_id c.in-SetActive.sf_type c.in-SetActive.is_active) refl (asks_for _ _ _ c.set_active.ensures.asked))
+returns-in-SetActive c = rw c.in-SetActive.is (c.route_asked-in-SetActive.ensures (event.SetActive c.in-SetActive.s_id c.in-SetActive.sf_type c.in-SetActive.is_active) refl c.set_active.ensures)

@@ -1,0 +1,328 @@
+//! What the holding of a part is asked to do, in few bytes.
+ghost use Rattle.std.specs.Prelude.{◌≡◌, true, Result};
+ghost use Rattle.holding.specs.declared.job.Job.TheVariants as job;
+ghost use Rattle.tatp_actions.specs.Action.{s_id_of};
+ghost use Rattle.tatp_actions.specs.Book.{IsWithin};
+ghost use Rattle.tatp_actions.specs.declared.action.Action.{Action as Actions};
+ghost use Rattle.tatp_actions.specs.declared.action.Action.TheVariants as action;
+ghost use Rattle.tatp_rows.specs.declared.refusal.Refusal.{Refusal as Refusals};
+ghost use Rattle.hlr_core.specs.Inside.Routed.{AsksFor, IsOn, changes_rows};
+ghost use Rattle.hlr_core.specs.Session.{IsActed, IsJobDone, IsWithinJob};
+ghost use Rattle.hlr_core.specs.Tasks.{job_of};
+
+use crate::event::Reply;
+use crate::register::{access_reply, edited_reply, row_reply};
+use holding::{Holding, Job};
+use std::mem::size_of;
+use std::num::NonZeroU32;
+use tatp_actions::edit::{
+    AddAccess, AddFacility, DeleteForwarding, InsertForwarding, SetActive, UpdateLocation,
+    UpdateSubscriber,
+};
+use tatp_actions::{Action, Edit, RowReply};
+use tatp_rows::{Access, Facility, Forwarding, Refusal, is_between, is_start_time};
+use view_board::Board;
+
+/// What the holding of a part is asked to do: an action that gives no number, or a posting. It takes 24 bytes, and a
+/// `Job`, which has room for a Subscriber row, 72.
+#[derive(Clone, Copy, Debug, PartialEq, Eq)]
+pub enum Task {
+    /// GET_SUBSCRIBER_DATA (TATP, section 3.1): reads the row.
+    SubscriberData {
+        /// The subscriber.
+        s_id: u32,
+    },
+    /// GET_NEW_DESTINATION (TATP, section 3.2): reads the numbers of the forwardings of an active facility that start
+    /// by one hour and end after another.
+    NewDestination {
+        /// The subscriber.
+        s_id: u32,
+        /// The type of the facility, 1..=4.
+        sf_type: u8,
+        /// The hour by which the forwardings start: 0, 8 or 16.
+        start_time: u8,
+        /// The hour after which they end, 1..=24.
+        end_time: u8,
+    },
+    /// GET_ACCESS_DATA (TATP, section 3.3): reads data1 to data4.
+    AccessData {
+        /// The subscriber.
+        s_id: u32,
+        /// The type of the access, 1..=4.
+        ai_type: u8,
+    },
+    /// UPDATE_SUBSCRIBER_DATA (TATP, section 3.4): sets bit_1 of the subscriber and data_a of the facility, or neither.
+    UpdateSubscriber {
+        /// The subscriber.
+        s_id: u32,
+        /// The type of the facility, 1..=4.
+        sf_type: u8,
+        /// The new bit_1, 0 or 1.
+        bit_1: u8,
+        /// The new data_a.
+        data_a: u8,
+    },
+    /// The body of UPDATE_LOCATION (TATP, section 3.5): sets vlr_location.
+    UpdateLocation {
+        /// The subscriber.
+        s_id: u32,
+        /// The new location.
+        vlr_location: NonZeroU32,
+    },
+    /// The body of INSERT_CALL_FORWARDING (TATP, section 3.6): adds a Call_Forwarding row.
+    InsertForwarding(Forwarding),
+    /// The body of DELETE_CALL_FORWARDING (TATP, section 3.7): takes a Call_Forwarding row away.
+    DeleteForwarding {
+        /// The subscriber.
+        s_id: u32,
+        /// The type of the facility, 1..=4.
+        sf_type: u8,
+        /// The hour at which the forwarding starts: 0, 8 or 16.
+        start_time: u8,
+    },
+    /// Adds an Access_Info row.
+    AddAccess(Access),
+    /// Adds a Special_Facility row.
+    AddFacility(Facility),
+    /// Switches a facility on or off.
+    SetActive {
+        /// The subscriber.
+        s_id: u32,
+        /// The type of the facility, 1..=4.
+        sf_type: u8,
+        /// The new is_active, 0 or 1.
+        is_active: u8,
+    },
+    /// Posts at most so many cells.
+    Post(u64),
+}
+
+const _: () = prove!(size_of::<Task>() == 24);
+
+/// What a read answers of the Subscriber row of one of the holding's subscribers.
+fn read_subscriber(holding: &Holding, s_id: u32) -> Reply
+    requires { IsWithin holding.now.part.lo holding.now.part.hi s_id }
+    ensures { IsActed (action.SubscriberData s_id) holding.now result holding.now }
+{
+    // For the prover: the holding keeps its rules.
+    let _lo = holding.lo();
+    row_reply(holding.lend_subscriber(s_id).ok_or(Refusal::NoSubscriber))
+}
+
+/// The same of a subscriber's access: `Field` where ai_type isn't in 1..=4.
+fn read_access(holding: &Holding, s_id: u32, ai_type: u8) -> Reply
+    requires { IsWithin holding.now.part.lo holding.now.part.hi s_id }
+    ensures { IsActed (action.AccessData s_id ai_type) holding.now result holding.now }
+{
+    // For the prover: the holding keeps its rules.
+    let _lo = holding.lo();
+    if !is_between(ai_type, 1, 4) {
+        return Reply::Refused(Refusal::Field);
+    }
+    access_reply(holding.lend_access(s_id, ai_type).ok_or(Refusal::NoAccess))
+}
+
+/// The same of the numbers to which a subscriber's facility forwards a call: `Field` where sf_type isn't in 1..=4, or of
+/// the hours start_time isn't 0, 8 or 16 or end_time isn't in 1..=24.
+fn read_destinations(
+    holding: &Holding,
+    s_id: u32,
+    sf_type: u8,
+    start_time: u8,
+    end_time: u8,
+) -> Reply
+    requires { IsWithin holding.now.part.lo holding.now.part.hi s_id }
+    ensures { IsActed (action.NewDestination s_id sf_type start_time end_time) holding.now result holding.now }
+{
+    // For the prover: the holding keeps its rules.
+    let _lo = holding.lo();
+    if !is_between(sf_type, 1, 4)
+        || !is_start_time(u64::from(start_time))
+        || !is_between(end_time, 1, 24)
+    {
+        return Reply::Refused(Refusal::Field);
+    }
+    let numbers = holding.destinations(s_id, sf_type, start_time, end_time);
+    if numbers.is_empty() {
+        return Reply::Refused(Refusal::NoDestination);
+    }
+    Reply::Rows(RowReply::Numbers(numbers))
+}
+
+/// What an edit of the holding's rows answers.
+fn edited<E: Edit>(holding: &mut Holding, edit: E) -> Reply
+    requires { IsWithin holding.old.part.lo holding.old.part.hi (s_id_of (E.action edit)) }
+    ensures { IsActed (E.action edit) holding.old result holding.new }
+{
+    edited_reply(holding.edit(edit))
+}
+
+impl Task {
+    /// Makes the job that it is.
+    pub fn to_job(&self) -> Job
+        ensures { result ≡ job_of self.now }
+    {
+        match *self {
+            Task::SubscriberData { s_id } => Job::Act(Action::SubscriberData { s_id }),
+            Task::NewDestination {
+                s_id,
+                sf_type,
+                start_time,
+                end_time,
+            } => Job::Act(Action::NewDestination {
+                s_id,
+                sf_type,
+                start_time,
+                end_time,
+            }),
+            Task::AccessData { s_id, ai_type } => Job::Act(Action::AccessData { s_id, ai_type }),
+            Task::Post(limit) => Job::Post(limit),
+            _ => Job::Act(self.to_change()),
+        }
+    }
+
+    /// Makes the action of a task that changes rows.
+    fn to_change(&self) -> Action
+        requires { changes_rows self.now ≡ true }
+        ensures { job.Act result ≡ job_of self.now }
+    {
+        match *self {
+            Task::UpdateSubscriber {
+                s_id,
+                sf_type,
+                bit_1,
+                data_a,
+            } => Action::UpdateSubscriber {
+                s_id,
+                sf_type,
+                bit_1,
+                data_a,
+            },
+            Task::UpdateLocation { s_id, vlr_location } => Action::UpdateLocation {
+                s_id,
+                vlr_location: vlr_location.get(),
+            },
+            Task::InsertForwarding(row) => Action::InsertForwarding(row),
+            Task::DeleteForwarding {
+                s_id,
+                sf_type,
+                start_time,
+            } => Action::DeleteForwarding {
+                s_id,
+                sf_type,
+                start_time,
+            },
+            Task::AddAccess(row) => Action::AddAccess(row),
+            Task::AddFacility(row) => Action::AddFacility(row),
+            Task::SetActive {
+                s_id,
+                sf_type,
+                is_active,
+            } => Action::SetActive {
+                s_id,
+                sf_type,
+                is_active,
+            },
+            // No other task changes rows.
+            _ => unreachable!(),
+        }
+    }
+
+    /// The subscriber whose rows an action is on.
+    pub(crate) fn s_id(&self) -> u32
+        requires { (wanted : Result Actions Refusals) × AsksFor wanted (job_of self.now) }
+        ensures { IsOn result (job_of self.now) }
+    {
+        match *self {
+            Task::SubscriberData { s_id }
+            | Task::NewDestination { s_id, .. }
+            | Task::AccessData { s_id, .. }
+            | Task::UpdateSubscriber { s_id, .. }
+            | Task::UpdateLocation { s_id, .. }
+            | Task::DeleteForwarding { s_id, .. }
+            | Task::SetActive { s_id, .. } => s_id,
+            Task::InsertForwarding(row) => row.s_id(),
+            Task::AddAccess(row) => row.s_id(),
+            Task::AddFacility(row) => row.s_id(),
+            Task::Post(_) => unreachable!(),
+        }
+    }
+
+    /// Has a holding do it, as the job that it is, and replies to it. `Field` comes first, where a field is out of its
+    /// range, then the refusals of the rows; `Memory` comes only where a row is added, and `Worn` from a posting. After
+    /// another refusal than `Worn` the holding is as before.
+    pub fn carry_out(self, holding: &mut Holding, board: &Board) -> Reply
+        requires board { holding.old.desk.board ≡ board.now }
+        requires within { IsWithinJob holding.old (job_of self) }
+        ensures { IsJobDone (job_of self) holding.old result holding.new }
+    {
+        match self {
+            Task::SubscriberData { s_id } => read_subscriber(holding, s_id),
+            Task::NewDestination {
+                s_id,
+                sf_type,
+                start_time,
+                end_time,
+            } => read_destinations(holding, s_id, sf_type, start_time, end_time),
+            Task::AccessData { s_id, ai_type } => read_access(holding, s_id, ai_type),
+            Task::Post(limit) => Reply::of_posting(holding.post(board, limit)),
+            _ => self.change(holding),
+        }
+    }
+
+    /// The same of a task that changes rows.
+    fn change(self, holding: &mut Holding) -> Reply
+        requires rows { changes_rows self ≡ true }
+        requires within { IsWithinJob holding.old (job_of self) }
+        ensures { IsJobDone (job_of self) holding.old result holding.new }
+    {
+        match self {
+            Task::UpdateSubscriber {
+                s_id,
+                sf_type,
+                bit_1,
+                data_a,
+            } => {
+                let edit = UpdateSubscriber {
+                    s_id,
+                    sf_type,
+                    bit_1,
+                    data_a,
+                };
+                edited(holding, edit)
+            }
+            Task::UpdateLocation { s_id, vlr_location } => {
+                edited(holding, UpdateLocation { s_id, vlr_location })
+            }
+            Task::InsertForwarding(row) => edited(holding, InsertForwarding { row }),
+            Task::DeleteForwarding {
+                s_id,
+                sf_type,
+                start_time,
+            } => {
+                let edit = DeleteForwarding {
+                    s_id,
+                    sf_type,
+                    start_time,
+                };
+                edited(holding, edit)
+            }
+            Task::AddAccess(row) => edited(holding, AddAccess { row }),
+            Task::AddFacility(row) => edited(holding, AddFacility { row }),
+            Task::SetActive {
+                s_id,
+                sf_type,
+                is_active,
+            } => {
+                let edit = SetActive {
+                    s_id,
+                    sf_type,
+                    is_active,
+                };
+                edited(holding, edit)
+            }
+            // No other task changes rows.
+            _ => unreachable!(),
+        }
+    }
+}
