@@ -394,20 +394,20 @@ uint8_t hlr_scan(hlr *handle, uint64_t counts[HLR_CELLS]);
 /*
  * Has a part give away its subscribers below at (side 0) or from at on (side 1), as a loose piece with the least free
  * number. While it is loose, its subscribers are answered HLR_MOVING. Tells the piece. HLR_FIELD where side is neither.
- * Refusals: FIELD, NO_PART, AWAY, OUT_OF_RANGE, MANY_PIECES, MEMORY
+ * Refusals: FIELD, NO_PART, OUT_OF_RANGE, MANY_PIECES, AWAY, MEMORY
  */
 uint8_t hlr_give(hlr *handle, uint64_t part, uint64_t side, uint64_t at, hlr_region *given);
 
 /*
  * Has a part take a loose piece that touches it.
- * Refusals: AWAY, NO_PIECE, NO_PART, NOT_ADJACENT, MEMORY
+ * Refusals: NO_PIECE, NO_PART, NOT_ADJACENT, AWAY, MEMORY
  */
 uint8_t hlr_take(hlr *handle, uint64_t piece, uint64_t part);
 
 /*
  * Divides a part at a subscriber: it keeps what is below at, and a new part with the next number has the rest. Nothing
  * of the new part is published yet, and later parts' numbers rise by one. Tells the new part.
- * Refusals: NO_PART, AWAY, OUT_OF_RANGE, MANY_PARTS, MEMORY
+ * Refusals: NO_PART, OUT_OF_RANGE, MANY_PARTS, AWAY, MEMORY
  */
 uint8_t hlr_divide(hlr *handle, uint64_t part, uint64_t at, hlr_region *made);
 
@@ -415,7 +415,7 @@ uint8_t hlr_divide(hlr *handle, uint64_t part, uint64_t at, hlr_region *made);
  * Dissolves a part: the part in front has its rows, what it had published is taken back, and later parts' numbers fall
  * by one. Tells the part in front as it is then. HLR_NOT_ADJACENT where it is the first part, or a loose piece lies in
  * front of it.
- * Refusals: AWAY, NO_PART, NOT_ADJACENT, MEMORY
+ * Refusals: NO_PART, NOT_ADJACENT, AWAY, MEMORY
  */
 uint8_t hlr_dissolve(hlr *handle, uint64_t part, hlr_region *front);
 

@@ -520,7 +520,7 @@ class Register(_Open):
 
     def give(self, part: int, side: int, at: int) -> Region:
         """Has a part give away its subscribers below at (Side.LOW) or from at on (Side.HIGH), as a loose piece. While
-        it is loose, its subscribers are answered Moving. Raises Field, NoPart, Away, OutOfRange, ManyPieces,
+        it is loose, its subscribers are answered Moving. Raises Field, NoPart, OutOfRange, ManyPieces, Away,
         Memory.
 
         >>> with Register(parts=2, width=4) as register:
@@ -535,19 +535,19 @@ class Register(_Open):
         return _region(given)
 
     def take(self, piece: int, part: int) -> None:
-        """Has a part take a loose piece that touches it. Raises Away, NoPiece, NoPart, NotAdjacent, Memory."""
+        """Has a part take a loose piece that touches it. Raises NoPiece, NoPart, NotAdjacent, Away, Memory."""
         self._call("take", piece, part)
 
     def divide(self, part: int, at: int) -> Region:
         """Divides a part: it keeps what is below at, and a new part with the next number has the rest. Later parts'
-        numbers rise by one. Tells the new part. Raises NoPart, Away, OutOfRange, ManyParts, Memory."""
+        numbers rise by one. Tells the new part. Raises NoPart, OutOfRange, ManyParts, Away, Memory."""
         made = c.RegionRow()
         self._call("divide", part, at, made)
         return _region(made)
 
     def dissolve(self, part: int) -> Region:
         """Dissolves a part: the part in front has its rows. Later parts' numbers fall by one. Tells the part in front
-        as it is then. Raises Away, NoPart, NotAdjacent, Memory."""
+        as it is then. Raises NoPart, NotAdjacent, Away, Memory."""
         front = c.RegionRow()
         self._call("dissolve", part, front)
         return _region(front)

@@ -392,12 +392,14 @@ class Refusals(unittest.TestCase):
             self.refused(hlr.NoNumber, r.update_location, 78, 1)
             for call, asked in ((r.subscriber_data, (7,)), (r.update_location, (77, 1)), (r.facility_data, (7, 2)),
                                 (r.add_subscriber, (Subscriber(8, 8),)), (r.set_number, (7, 8)), (r.post, (0,)),
-                                (r.give, (0, 1, 5)), (r.take, (1, 0)), (r.divide, (0, 5)), (r.dissolve, (1,)),
+                                (r.give, (0, 1, 5)), (r.divide, (0, 5)), (r.dissolve, (1,)),
                                 (r.recut, ([5],)), (r.views, ()), (r.scan, ()), (r.propose, ()),
                                 (r.next_subscriber, (1,))):
                 self.refused(hlr.Away, call, *asked)
             self.assertEqual([type(row) for row in r.subscriber_data_many([7, 70, 0])],
                              [hlr.Away, hlr.NoSubscriber, hlr.Field])
+            self.refused(hlr.NoPiece, r.take, 1, 0)
+            self.refused(hlr.NoPart, r.dissolve, 2)
             self.assertEqual(r.find(77), 7)
             self.refused(hlr.Elsewhere, part.subscriber_data, 65)
             self.refused(hlr.Field, part.access_data, 65, 5)

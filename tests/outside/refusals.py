@@ -27,9 +27,8 @@ NO_COMMAND = {
     "hlr_part_range": [],
 }
 # The program lends no part. Of a call that works on one that may be out, AWAY comes behind these, where it has them.
-BEFORE_AWAY = {"STILL_OPEN", "FIELD", "NO_NUMBER", "NO_PART", "MOVING"}
-# These two ask for a part that may be out beside one that isn't there.
-AWAY_FIRST = {"hlr_take", "hlr_dissolve"}
+BEFORE_AWAY = {"STILL_OPEN", "FIELD", "NO_NUMBER", "NO_PART", "MOVING", "OUT_OF_RANGE", "MANY_PIECES", "MANY_PARTS",
+               "NO_PIECE", "NOT_ADJACENT"}
 # The calls of many answer AWAY in places alone.
 NEVER_AWAY = {"hlr_open", "hlr_close", "hlr_find", "hlr_look", "hlr_regions", "hlr_home", "hlr_part_range",
               "hlr_subscriber_data_many", "hlr_new_destination_many", "hlr_access_data_many"}
@@ -75,7 +74,7 @@ def without_away(call, order):
     if (call in NEVER_AWAY) != ("AWAY" not in order):
         wrong.append(f"{call} tells AWAY, or doesn't, in hlr.h")
     behind = [it for it in order if it in BEFORE_AWAY]
-    if "AWAY" in order and order.index("AWAY") != (0 if call in AWAY_FIRST else len(behind)):
+    if "AWAY" in order and order.index("AWAY") != len(behind):
         wrong.append(f"{call} tells AWAY elsewhere in hlr.h: {order}")
     return [it for it in order if it != "AWAY"]
 

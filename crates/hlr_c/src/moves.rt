@@ -163,7 +163,7 @@ pub extern "C" fn hlr_post(
 }
 
 /// A part gives the stretch on one side of `at` away (`side` 0: below it, 1: from it on), which becomes a loose piece,
-/// and tells it. `NOT_OPEN`, `Field` where side isn't 0 or 1, `NoPart`, `AWAY`, `OutOfRange`, `ManyPieces`,
+/// and tells it. `NOT_OPEN`, `Field` where side isn't 0 or 1, `NoPart`, `OutOfRange`, `ManyPieces`, `AWAY`,
 /// `Memory`.
 #[unsafe(no_mangle)]
 pub extern "C" fn hlr_give(
@@ -182,8 +182,8 @@ pub extern "C" fn hlr_give(
     })
 }
 
-/// A part takes a loose piece that touches it. `NOT_OPEN`, `AWAY` where the part is out, `NoPiece`, `NoPart`,
-/// `NotAdjacent`, `Memory`.
+/// A part takes a loose piece that touches it. `NOT_OPEN`, `NoPiece`, `NoPart`, `NotAdjacent`, `AWAY` where the part is
+/// out, `Memory`.
 #[unsafe(no_mangle)]
 pub extern "C" fn hlr_take(alloc: Global, handle: &mut Hlr, piece: u64, part: u64) -> u8
     ensures { IsCall NOT_OPEN (IsAnswer (Ok (event.Take piece part)) code_told AWAY)
@@ -195,8 +195,8 @@ pub extern "C" fn hlr_take(alloc: Global, handle: &mut Hlr, piece: u64, part: u6
 }
 
 /// Divides a part at a subscriber: it keeps what is below, and a new part with the next number has the rest; tells the
-/// new part. Later parts' numbers rise by one. `NOT_OPEN`, `NoPart`, `AWAY` where it or a later one is
-/// out, `OutOfRange`, `ManyParts`, `Memory`.
+/// new part. Later parts' numbers rise by one. `NOT_OPEN`, `NoPart`, `OutOfRange`, `ManyParts`,
+/// `AWAY` where it or a later one is out, `Memory`.
 #[unsafe(no_mangle)]
 pub extern "C" fn hlr_divide(
     alloc: Global,
@@ -214,7 +214,8 @@ pub extern "C" fn hlr_divide(
 }
 
 /// Dissolves a part: the part in front has its rows, and later parts' numbers fall by one; tells the part in front, as
-/// it is then. `NOT_OPEN`, `AWAY` where the part in front, it or a later one is out, `NoPart`, `NotAdjacent` where it is the first part or a loose piece lies between, `Memory`.
+/// it is then. `NOT_OPEN`, `NoPart`, `NotAdjacent` where it is the first part or a loose piece lies between, `AWAY` where
+/// the part in front, it or a later one is out, `Memory`.
 #[unsafe(no_mangle)]
 pub extern "C" fn hlr_dissolve(
     alloc: Global,

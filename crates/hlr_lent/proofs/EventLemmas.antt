@@ -2,6 +2,7 @@
 use Rattle.std.proofs.Common.{◌≡◌, ◌∙◌, refl, sym, ap, ℕ, zero, suc, ◌<◌, ◌≤◌, ◌+◌, List, [], ◌∷◌, length, get_or, drop, arith, true, false, Bool, Some, None, Ok, Err, inl, inr}
 use Rattle.std.specs.Prelude.{Option, IfSome, Result, ◌≢◌, ◌⊎◌, ◌-◌, insert, remove}
 use Rattle.std.specs.List.{AllByRecursion}
+use Rattle.std.specs.Result.{result_err}
 use Rattle.std.proofs.lemmas.Bool.{cases_lt}
 use Rattle.std.proofs.lemmas.Bool.Decides.{nat_tests}
 use Rattle.tatp_rows.proofs.OrderedLemmas.{by_test}
@@ -16,13 +17,15 @@ use Rattle.part_table.specs.declared.region.Region.{Region}
 use Rattle.part_table.specs.declared.region.TheConstants.{END, MOST_PARTS}
 use Rattle.tatp_actions.specs.declared.action.Action.{Action}
 use Rattle.holding.specs.declared.job.Job.TheVariants.{Act, Post as Posting}
+use Rattle.hlr_owners.specs.Answered.{MayAnswer}
 use Rattle.hlr_owners.specs.Out.{outs_in}
 use Rattle.hlr_owners.specs.Recut.{IsHomeToCut, IsHomeToMove}
 use Rattle.hlr_owners.specs.Seats.{AllHome, AreSeated, IsHomeFor, IsHomeFrom, Seating, book_in, homes_in, store_in}
+use Rattle.hlr_owners.specs.Store.{Store}
 use Rattle.hlr_owners.proofs.OwnerLemmas.{lies_within}
 use Rattle.hlr_core.specs.Home.{IsHomeTo, IsHouseAfter, IsSameHouse}
-use Rattle.hlr_core.specs.Route.{IsRightNow}
-use Rattle.hlr_core.specs.Step.{IsAskedStep, IsStep, action_for}
+use Rattle.hlr_core.specs.Route.{IsRightNow, is_here}
+use Rattle.hlr_core.specs.Step.{IsAskedStep, IsStep, action_for, dissolved_reply, divided_reply, given_reply, taken_reply}
 use Rattle.hlr_core.proofs.HomeLemmas.{still_home}
 use Rattle.hlr_core.specs.declared.event.Event.{Event}
 use Rattle.hlr_core.specs.declared.event.Event.TheVariants.{SubscriberData, NewDestination, AccessData, UpdateSubscriber, UpdateLocation, InsertForwarding, DeleteForwarding}
@@ -30,7 +33,7 @@ use Rattle.hlr_core.specs.declared.event.Event.TheVariants.{AddSubscriber, AddAc
 use Rattle.hlr_core.specs.declared.event.Reply.{Reply}
 use Rattle.hlr_core.specs.declared.event.Reply.TheVariants as reply
 use Rattle.hlr_core.proofs.LaterLemmas.{all_later_self}
-use Rattle.hlr_lent.specs.Away.{IsAsking}
+use Rattle.hlr_lent.specs.Away.{IsAsking, allowed, refusal_of}
 use Rattle.hlr_lent.specs.Rings.{HaveRings}
 use Rattle.hlr_lent.proofs.RingLemmas.{Ring, none_out}
 
@@ -133,6 +136,12 @@ module _ (h : Seating) (said : Reply) (done : (why : Refusal) → said ≢ reply
   asks_action event (Ok act) is step = inr (0, Act act, is)
   asks_action event (Err why) is step = absurd (done why step.0)
 
+  -- what the regions did they allow
+  lets : {A : Type 0} (wanted did : Result A Refusal) (told : Result A Refusal → Reply) → said ≡ told did → ((why : Refusal) → told (Err why) ≡ reply.Refused why) → MayAnswer wanted did
+      → refusal_of wanted ≡ Ok tt
+  lets (Ok x) did told is tells may = refl
+  lets (Err why) did told is tells may = absurd (done why (is ∙ ap told may ∙ tells why))
+
   pub asks_now : (event : Event) → IsStep event (store_in h) said (store_in h) → IsAsking event h
   asks_now (SubscriberData s_id) step = asks_action (SubscriberData s_id) _ refl step
   asks_now (NewDestination s_id t a e) step = asks_action (NewDestination s_id t a e) _ refl step
@@ -141,16 +150,61 @@ module _ (h : Seating) (said : Reply) (done : (why : Refusal) → said ≢ reply
   asks_now (UpdateLocation n v) step = asks_action (UpdateLocation n v) _ refl step
   asks_now (InsertForwarding n t a e x) step = asks_action (InsertForwarding n t a e x) _ refl step
   asks_now (DeleteForwarding n t a) step = asks_action (DeleteForwarding n t a) _ refl step
-  asks_now (AddSubscriber row) step = inl refl
+  asks_now (AddSubscriber row) step = inl (refl, refl)
   asks_now (AddAccess row) step = asks_action (AddAccess row) _ refl step
   asks_now (AddFacility row) step = asks_action (AddFacility row) _ refl step
   asks_now (SetActive s_id t v) step = asks_action (SetActive s_id t v) _ refl step
-  asks_now (SetNumber s_id n) step = inl refl
+  asks_now (SetNumber s_id n) step = inl (refl, refl)
   asks_now (Post part limit) step = inr (part, Posting limit, refl)
-  asks_now (Give part side at) step = inl refl
-  asks_now (Take piece part) step = inl refl
-  asks_now (Divide part at) step = inl refl
-  asks_now (Dissolve part) step = inl refl
+  asks_now (Give part side at) step = inl (refl, lets _ step.0 given_reply step.2 (λ why. refl) step.1)
+  asks_now (Take piece part) step = inl (refl, lets _ step.0 (taken_reply piece part) step.2 (λ why. refl) step.1)
+  asks_now (Divide part at) step = inl (refl, lets _ step.0 divided_reply step.2 (λ why. refl) step.1)
+  asks_now (Dissolve part) step = inl (refl, lets _ step.0 dissolved_reply step.2 (λ why. refl) step.1)
+
+-- what the regions refuse is a right step, which changes nothing
+barred_by : {A : Type 0} (wanted : Result A Refusal) (why : Refusal) → refusal_of wanted ≡ Err why → MayAnswer wanted (Err why)
+barred_by (Ok done) why is = absurd (let clash : Ok tt ≡ Err why = is in cc)
+barred_by (Err other) why is = let same : other ≡ why = cc in ap Err (sym same)
+
+module _ (h : Seating) (why : Refusal) where
+  abbrev pub IsBarred : Event → Type 0
+  IsBarred event = ((s : Store) → s.regions ≡ h.regions → IsStep event s (reply.Refused why) s) × IsHouseAfter event (reply.Refused why) h h
+
+  same_house : IsSameHouse h h
+  same_house = record { homes = refl; outs = refl; spare = refl }
+
+  not_barred : {B : Type 0} (r : Result (Unit {0}) Refusal) → r ≡ Ok tt → r ≡ Err why → B
+  not_barred r allows refuses = absurd (let clash = sym allows ∙ refuses in cc)
+
+  pub barred : (event : Event) → allowed event h.regions ≡ Err why → IsBarred event
+  barred (Give part side at) is = (λ s same. (Err why, rw same (barred_by _ why is), refl, refl), same_house)
+  barred (Take piece part) is = (λ s same. (Err why, rw same (barred_by _ why is), refl, refl), same_house)
+  barred (Divide part at) is = (λ s same. (Err why, rw same (barred_by _ why is), refl, refl), same_house)
+  barred (Dissolve part) is = (λ s same. (Err why, rw same (barred_by _ why is), refl, refl), same_house)
+  barred (SubscriberData s_id) is = not_barred _ refl is
+  barred (NewDestination s_id t a e) is = not_barred _ refl is
+  barred (AccessData s_id t) is = not_barred _ refl is
+  barred (UpdateSubscriber s_id t bit d) is = not_barred _ refl is
+  barred (UpdateLocation n v) is = not_barred _ refl is
+  barred (InsertForwarding n t a e x) is = not_barred _ refl is
+  barred (DeleteForwarding n t a) is = not_barred _ refl is
+  barred (AddSubscriber row) is = not_barred _ refl is
+  barred (AddAccess row) is = not_barred _ refl is
+  barred (AddFacility row) is = not_barred _ refl is
+  barred (SetActive s_id t v) is = not_barred _ refl is
+  barred (SetNumber s_id n) is = not_barred _ refl is
+  barred (Post part limit) is = not_barred _ refl is
+
+-- so is the refusal of the regions, if they refuse; else the event asks for what the register does
+module _ (h : Seating) (event : Event) where
+  pub here_barred : {P : Refusal → Type 0} (r : Result (Unit {0}) Refusal) → r ≡ allowed event h.regions → ((why : Refusal) → IsBarred h why event → P why)
+      → IfSome (result_err r) P
+  here_barred (Ok done) is gives = tt
+  here_barred (Err why) is gives = gives why (barred h why event (sym is))
+
+  pub here_asks : (r : Result (Unit {0}) Refusal) → r ≡ allowed event h.regions → is_here event ≡ true → result_err r ≡ None → IsAsking event h
+  here_asks (Ok done) is here none = inl (here, sym is)
+  here_asks (Err why) is here none = absurd (let clash : Some why ≡ None = none in cc)
 
 -- a number out of range lies in no region, so nobody is out who has it
 regions_end : (from : ℕ) (regions : List Region) → IsConsecutive from regions → from ≤ END

@@ -1,15 +1,35 @@
 -- When an event isn't answered: a part on which it works is out, and no refusal is known without that part.
-use Rattle.std.specs.Prelude.{◌≡◌, ◌⊎◌, ℕ, true}
+use Rattle.std.specs.Prelude.{◌≡◌, ◌⊎◌, ℕ, true, List, Result, Ok, Err}
+use Rattle.tatp_rows.specs.declared.refusal.Refusal.{Refusal}
+use Rattle.part_table.specs.Dissolve.{dissolve_answer}
+use Rattle.part_table.specs.Divide.{divide_answer}
+use Rattle.part_table.specs.Give.{give_answer}
+use Rattle.part_table.specs.Take.{take_answer}
+use Rattle.part_table.specs.declared.region.Region.{Region}
 use Rattle.holding.specs.declared.job.Job.{Job}
 use Rattle.hlr_owners.specs.Seats.{Seating}
 use Rattle.hlr_core.specs.Home.{IsHomeTo}
 use Rattle.hlr_core.specs.Route.{IsAskedJob, is_here}
 use Rattle.hlr_core.specs.declared.event.Event.{Event}
+use Rattle.hlr_core.specs.declared.event.Event.TheVariants.{Give, Take, Divide, Dissolve}
+
+-- the refusal that an answer tells, if it does
+abbrev pub refusal_of : {A : Type 0} → Result A Refusal → Result (Unit {0}) Refusal
+refusal_of (Ok done) = Ok tt
+refusal_of (Err why) = Err why
+
+-- what the regions refuse of an event that moves them, or has a part come or go
+abbrev pub allowed : Event → List Region → Result (Unit {0}) Refusal
+allowed (Give part side at) regions = refusal_of (give_answer part side at regions)
+allowed (Take piece part) regions = refusal_of (take_answer piece part regions)
+allowed (Divide part at) regions = refusal_of (divide_answer part at regions)
+allowed (Dissolve part) regions = refusal_of (dissolve_answer part regions)
+allowed event regions = Ok tt
 
 -- an event asks for a job, as it does where its fields are in range and its number is known, or for what the register
--- itself does
+-- itself does and the regions allow
 abbrev pub IsAsking : Event → Seating → Type 0
-IsAsking event h = (is_here event ≡ true) ⊎ ((part : ℕ) × (job : Job) × IsAskedJob event h part job)
+IsAsking event h = ((is_here event ≡ true) × (allowed event h.regions ≡ Ok tt)) ⊎ ((part : ℕ) × (job : Job) × IsAskedJob event h part job)
 
 -- an event waits for a part that is out
 pub record IsAway (event : Event) (h : Seating) : Type 0 where

@@ -9,13 +9,13 @@ ghost use Rattle.hlr_core.specs.Beside.{IsRecutBeside, IsStepBeside};
 ghost use Rattle.hlr_core.specs.Home.{IsHomeTo, IsHouseAfter, IsSameHouse};
 ghost use Rattle.hlr_core.specs.Step.{IsStep};
 ghost use Rattle.tatp_rows.specs.declared.refusal.Refusal.{Refusal as Refusals};
-ghost use Rattle.hlr_lent.specs.Away.{IsAsking, IsAway};
+ghost use Rattle.hlr_lent.specs.Away.{IsAsking, IsAway, allowed};
 ghost use Rattle.hlr_lent.specs.Jobs.{IsBack};
 
 use crate::owner::Owner;
 use crate::ring::{LenderEnd, arrived, ring, tell};
 use arrayvec::ArrayVec;
-use hlr_core::{Event, Register, Reply, Route, Sight};
+use hlr_core::{Event, Regions, Register, Reply, Route, Sight};
 use part_table::MOST_PARTS;
 use std::alloc::Global;
 use std::marker::Model;
@@ -79,6 +79,28 @@ fn refusal_in(reply: &Reply) -> Option<Refusal>
         | Reply::Divided { .. }
         | Reply::Dissolved { .. } => None,
     }
+}
+
+/// Whether the regions allow an event that moves them, or has a part come or go; they tell why they don't.
+fn allowed(regions: &Regions, event: &Event) -> Result<(), Refusal>
+    ensures { result ≡ allowed event.now regions.now }
+{
+    match *event {
+        Event::Give { part, side, at } => {
+            regions.give_answer(part, side, at)?;
+        }
+        Event::Take { piece, part } => {
+            regions.take_answer(piece, part)?;
+        }
+        Event::Divide { part, at } => {
+            regions.dividing(part, at)?;
+        }
+        Event::Dissolve { part } => {
+            regions.dissolving(part)?;
+        }
+        _ => {}
+    }
+    Ok(())
 }
 
 impl Lender {
@@ -186,7 +208,8 @@ impl Lender {
     }
 
     /// The refusal of an event that is known without the parts that are out: of an event on rows a field out of its range,
-    /// a number that nobody has, and a subscriber in a loose piece; of a posting a part that isn't there.
+    /// a number that nobody has, and a subscriber in a loose piece; of a posting a part that isn't there; and whatever the
+    /// regions refuse.
     pub fn known(&self, event: &Event) -> Option<Refusal>
         ensures step { IfSome result (λ why. IsStep event.now (store_in self.now) (Reply.Refused why) (store_in self.now)) }
         ensures house { IfSome result (λ why. IsHouseAfter event.now (Reply.Refused why) self.now self.now) }
@@ -195,7 +218,8 @@ impl Lender {
     {
         match self.register.route(event) {
             Route::Now(reply) => refusal_in(&reply),
-            Route::To(..) | Route::Here => None,
+            Route::Here => allowed(self.register.regions(), event).err(),
+            Route::To(..) => None,
         }
     }
 

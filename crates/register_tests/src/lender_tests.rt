@@ -1,7 +1,9 @@
 //! A part that a lender lends, what is answered meanwhile, and its way home. Each call that wants memory is tried again
 //! where it is refused.
-use crate::tests::{DONE, FIELD, NO_NUMBER, NO_PART, moved, number, posting, read, row};
-use hlr_core::{Event, Register, Reply};
+use crate::tests::{
+    DONE, FIELD, NOT_ADJACENT, NO_NUMBER, NO_PART, NO_PIECE, OUT_OF_RANGE, moved, number, posting, read, row,
+};
+use hlr_core::{Event, Register, Reply, Side};
 use hlr_lent::{Lender, Owner};
 use std::alloc::Global;
 use std::num::NonZeroU32;
@@ -74,6 +76,45 @@ fn work(rt: &impl Abort, owner: &mut Owner) {
     assert!(rt; is_done && posted == Ok(2));
 }
 
+/// Asserts what is refused by the regions while the first part is out, and what isn't.
+fn expect_barred(rt: &impl Abort, lender: &mut Lender) {
+    let told = [
+        answer(
+            lender,
+            &Event::Give {
+                part: 0,
+                side: Side::Low,
+                at: 1,
+            },
+        ),
+        answer(
+            lender,
+            &Event::Give {
+                part: 0,
+                side: Side::Low,
+                at: 7,
+            },
+        ),
+        answer(lender, &Event::Take { piece: 1, part: 0 }),
+        answer(lender, &Event::Divide { part: 0, at: 65 }),
+        answer(lender, &Event::Divide { part: 0, at: 7 }),
+        answer(lender, &Event::Dissolve { part: 0 }),
+        answer(lender, &Event::Dissolve { part: 1 }),
+        answer(lender, &Event::Dissolve { part: 2 }),
+    ];
+    let wanted = [
+        Some(OUT_OF_RANGE),
+        None,
+        Some(NO_PIECE),
+        Some(OUT_OF_RANGE),
+        None,
+        Some(NOT_ADJACENT),
+        None,
+        Some(NO_PART),
+    ];
+    assert!(rt; told == wanted);
+}
+
 /// Asserts what is answered while the first part is out: what is known without it, and what the second one has.
 fn expect_beside(rt: &impl Abort, lender: &mut Lender) {
     let told = [
@@ -101,6 +142,7 @@ fn part_comes_home_each_refused(rt: HostRuntime) {
     let mut lender = opened(&rt, alloc);
     let mut owner = lent(&rt, alloc, &mut lender, 0);
     expect_beside(&rt, &mut lender);
+    expect_barred(&rt, &mut lender);
     work(&rt, &mut owner);
     let early = lender.back(0);
     let owner = Box::into_inner(owner);

@@ -1,7 +1,7 @@
 //! Parts that are lent: what each of their calls does where memory is there.
 use super::{
-    HlrSubscriber, NO_ACCESS, NO_NUMBERS, NO_REGION, NO_ROW, access, closed, facility, filled, opened,
-    row,
+    HlrSubscriber, NO_ACCESS, NO_NUMBERS, NO_REGION, NO_ROW, access, closed, facility, filled,
+    opened, row,
 };
 use crate::codes::{AWAY, DONE, ELSEWHERE, NOT_OPEN, STILL_OPEN};
 use crate::handle::Hlr;
@@ -108,8 +108,8 @@ fn work(alloc: Global, owner: &mut HlrPart) -> [u8; 12] {
 }
 
 /// What a register answers that has its first part out: the codes of calls that work on that part, and of others.
-fn asked_beside(alloc: Global, handle: &mut Hlr) -> ([u8; 12], [u8; 6]) {
-    let (mut found, mut data, mut region) = (NO_ROW, facility(0, 0, 0), NO_REGION);
+fn asked_beside(alloc: Global, handle: &mut Hlr) -> ([u8; 8], [u8; 6]) {
+    let (mut found, mut data) = (NO_ROW, facility(0, 0, 0));
     let (mut bounds, mut regions) = (super::NO_BOUNDS, super::NO_REGIONS);
     let (mut left, mut right) = ([9; CELLS as usize], [9; CELLS as usize]);
     let mut counted = [9; CELLS as usize];
@@ -118,10 +118,6 @@ fn asked_beside(alloc: Global, handle: &mut Hlr) -> ([u8; 12], [u8; 6]) {
         hlr_facility_data(alloc, handle, 7, 2, &mut data),
         hlr_forwarding(alloc, handle, 7, 2, 8, &mut end, &mut number),
         hlr_next_subscriber(alloc, handle, 66, &mut found),
-        hlr_give(alloc, handle, 0, 1, 5, &mut region),
-        hlr_take(alloc, handle, 1, 0),
-        hlr_divide(alloc, handle, 0, 5, &mut region),
-        hlr_dissolve(alloc, handle, 1, &mut region),
         hlr_recut(alloc, handle, &super::from_nine(1), &mut number),
         hlr_views(alloc, handle, &mut left, &mut right),
         hlr_scan(alloc, handle, &mut counted),
@@ -137,6 +133,24 @@ fn asked_beside(alloc: Global, handle: &mut Hlr) -> ([u8; 12], [u8; 6]) {
         hlr_back(alloc, handle, 2),
     ];
     (away, known)
+}
+
+/// What is answered to moves between parts while the first part is out, also of the piece that the second one gives.
+fn moved_beside(alloc: Global, handle: &mut Hlr) -> [u8; 11] {
+    let mut region = NO_REGION;
+    [
+        hlr_divide(alloc, handle, 0, 5, &mut region),
+        hlr_divide(alloc, handle, 0, 1, &mut region),
+        hlr_dissolve(alloc, handle, 1, &mut region),
+        hlr_dissolve(alloc, handle, 2, &mut region),
+        hlr_dissolve(alloc, handle, 0, &mut region),
+        hlr_give(alloc, handle, 0, 1, 5, &mut region),
+        hlr_give(alloc, handle, 0, 1, 65, &mut region),
+        hlr_take(alloc, handle, 1, 0),
+        hlr_give(alloc, handle, 1, 0, 66, &mut region),
+        hlr_take(alloc, handle, 1, 0),
+        hlr_take(alloc, handle, 1, 1),
+    ]
 }
 
 /// What the call for many subscribers answers of one of the first part, one of the second, and none, and where it is
@@ -163,6 +177,7 @@ fn part_is_lent(rt: HostRuntime) -> Result<(), Fail> {
     let worked = work(alloc, &mut owner);
     let (away, known) = asked_beside(alloc, &mut handle);
     let (done, each, rows) = many_beside(alloc, &mut handle);
+    let moves = moved_beside(alloc, &mut handle);
     let codes = [
         hlr_look(alloc, &mut handle, &mut published),
         hlr_home(alloc, &mut owner),
@@ -190,8 +205,12 @@ fn part_is_lent(rt: HostRuntime) -> Result<(), Fail> {
             DONE, DONE, DONE, DONE, DONE, DONE, DONE, DONE, DONE, ELSEWHERE, 2, DONE
         ]
     );
-    assert!(rt; away == [AWAY; 12] && known == [DONE, DONE, DONE, 2, 2, 12]);
+    assert!(rt; away == [AWAY; 8] && known == [DONE, DONE, DONE, 2, 2, 12]);
     assert_eq!(rt; (done, each), ([DONE, 2], [AWAY, DONE, 2]));
+    assert_eq!(rt;
+        moves,
+        [AWAY, 14, AWAY, 12, 15, AWAY, 14, 13, DONE, AWAY, DONE]
+    );
     assert!(rt; rows == [NO_ROW, row(70, 700, 1), NO_ROW]);
     assert!(rt; codes == [DONE; 6] && found == moved && data == access(7, 4, 1));
     assert!(rt; published == want, "the cells are those of the board");

@@ -1,4 +1,6 @@
-use Rattle.hlr_lent.proofs.EventLemmas.{asks_now, refused_here, right_here}
+use Rattle.std.proofs.Common.{◌≡◌, ◌∙◌, ap, refl, sym}
+use Rattle.hlr_lent.specs.Away.{allowed}
+use Rattle.hlr_lent.proofs.EventLemmas.{asks_now, here_asks, here_barred, refused_here, right_here}
 use Rattle.hlr_lent.proofs.lender.Lender.known.Goals as goal
 
 pub returns-in-Now-clause-step : goal.returns-in-Now-clause-step
@@ -9,3 +11,24 @@ pub returns-in-Now-clause-asking : goal.returns-in-Now-clause-asking
 returns-in-Now-clause-asking c = λ none.
     let h = c.self.inside.register in
     rw (← c.self.view_is) (asks_now h c.in-Now.reply (c.refusal_in.ensures.none none) c.args.event.now (right_here c.args.event.now h c.in-Now.reply (rw c.in-Now.is at c.route.ensures)))
+
+-- what the regions say
+told : (c : goal.After-err) → c.allowed.result ≡ allowed c.args.event.now c.self.inside.register.regions
+told c = c.allowed.ensures ∙ ap (allowed c.args.event.now) c.regions.ensures.value
+
+pub returns-in-Here-clause-step : goal.returns-in-Here-clause-step
+returns-in-Here-clause-step c =
+    rw (c.err.ensures.value, ← c.self.view_is) (here_barred c.self.inside.register c.args.event.now c.allowed.result (told c) (λ why is. is.0 _ refl))
+
+pub returns-in-Here-clause-house : goal.returns-in-Here-clause-house
+returns-in-Here-clause-house c =
+    rw (c.err.ensures.value, ← c.self.view_is) (here_barred c.self.inside.register c.args.event.now c.allowed.result (told c) (λ why is. is.1))
+
+pub returns-in-Here-clause-beside : goal.returns-in-Here-clause-beside
+returns-in-Here-clause-beside c =
+    rw (c.err.ensures.value, ← c.self.view_is) (here_barred c.self.inside.register c.args.event.now c.allowed.result (told c) (λ why is. λ holdings later. is.0 _ refl))
+
+pub returns-in-Here-clause-asking : goal.returns-in-Here-clause-asking
+returns-in-Here-clause-asking c = λ none.
+    rw (← c.self.view_is)
+    (here_asks c.self.inside.register c.args.event.now c.allowed.result (told c) (rw c.in-Here.is at c.route.ensures) (sym c.err.ensures.value ∙ none))
