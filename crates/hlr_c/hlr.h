@@ -48,7 +48,7 @@
  *   - malloc, realloc and free are those of one allocator, and align a block to each power of two up to 16 that divides
  *     its size. Threads that have parts call them at the same time, and free what other threads allocated. No call is
  *     made from a signal handler, or in the forked child of a process with threads.
- *   - A call needs at most 64 KB of stack, but hlr_look 128 KB.
+ *   - A call needs at most 64 KB of stack.
  *
  * Link libhlr_c.a and then liblibc_c.a of the kit, which has what the library asks of malloc and free. What dist.sh
  * installs has both in one: link what `pkg-config --libs hlr` prints.

@@ -12,7 +12,7 @@ use crate::codes::DONE;
 use crate::handle::{Hlr, with_register, with_register_at_home};
 use crate::lists::{bounds_for_c, regions_for_c};
 use crate::rows::{HlrBounds, HlrRegions};
-use hlr_core::{CELLS, Cells, Register, Sight};
+use hlr_core::{CELLS, Cells, Register, Sight, WORDS};
 use hlr_lent::Lender;
 use std::alloc::Global;
 
@@ -52,7 +52,9 @@ fn cells_of(sight: &Sight) -> [i64; CELLS as usize]
 fn look(register: &mut Lender, published: &mut [i64; CELLS as usize]) -> u8
     ensures { IsLook register.old (result, published.new) register.new }
 {
-    *published = cells_of(&register.look());
+    let mut sight = Sight { words: [0; WORDS] };
+    register.look_into(&mut sight);
+    *published = cells_of(&sight);
     DONE
 }
 

@@ -1,6 +1,7 @@
 /* Calls in threads with a stack of STACK_KB and no byte more: a page that can't be touched lies below it. The first one
  * has a day of examples/library/day.c, whose main is day_main here; the second one a register whose trees are three levels
- * high, each call that changes many rows, and a part that is lent; the third one looks, with LOOK_STACK_KB. The C library keeps what it knows of a thread in its stack too. */
+ * high, each call that changes many rows, a part that is lent, and a look. The C library keeps what it knows of a thread in
+ * its stack too. */
 #define _GNU_SOURCE
 #include "hlr.h"
 #include <pthread.h>
@@ -10,7 +11,6 @@
 #include <unistd.h>
 
 #define STACK_KB 64
-#define LOOK_STACK_KB 128
 #define ROWS 100000
 
 int day_main(void);
@@ -135,14 +135,6 @@ static int emptied(void) {
     return 0;
 }
 
-static void *much(void *none) {
-    int line;
-    (void)none;
-    if ((line = filled()) != 0 || (line = moved()) != 0 || (line = read_out()) != 0) return (void *)(intptr_t)line;
-    if ((line = lent()) != 0) return (void *)(intptr_t)line;
-    return (void *)(intptr_t)emptied();
-}
-
 /* A look at what is published, beside a part that is out. */
 static int looked(void) {
     DO(hlr_lend(&many, 1, &owner));
@@ -153,14 +145,17 @@ static int looked(void) {
     return 0;
 }
 
-static void *look(void *none) {
+static void *much(void *none) {
+    int line;
     (void)none;
+    if ((line = filled()) != 0 || (line = moved()) != 0 || (line = read_out()) != 0) return (void *)(intptr_t)line;
+    if ((line = lent()) != 0 || (line = emptied()) != 0) return (void *)(intptr_t)line;
     return (void *)(intptr_t)looked();
 }
 
 /* What a thread with so small a stack answers. */
-static int in_thread(void *(*work)(void *), size_t kilobytes) {
-    size_t page = (size_t)sysconf(_SC_PAGESIZE), size = kilobytes * 1024;
+static int in_thread(void *(*work)(void *)) {
+    size_t page = (size_t)sysconf(_SC_PAGESIZE), size = STACK_KB * 1024;
     char *stack = mmap(NULL, page + size, PROT_READ | PROT_WRITE, MAP_PRIVATE | MAP_ANONYMOUS | MAP_STACK, -1, 0);
     pthread_attr_t how;
     pthread_t thread;
@@ -172,10 +167,9 @@ static int in_thread(void *(*work)(void *), size_t kilobytes) {
 }
 
 int main(void) {
-    int status = in_thread(day, STACK_KB);
+    int status = in_thread(day);
     if (status != 0) return status;
-    status = in_thread(much, STACK_KB);
-    if (status == 0) status = in_thread(look, LOOK_STACK_KB);
+    status = in_thread(much);
     if (status != 0) fprintf(stderr, "line %d\n", status);
     return status != 0;
 }
