@@ -486,6 +486,25 @@ uint8_t hlr_part_new_destination(hlr_part *owner, uint64_t s_id, uint64_t sf_typ
 uint8_t hlr_part_access_data(hlr_part *owner, uint64_t s_id, uint64_t ai_type, hlr_access *row);
 
 /*
+ * Many reads: codes[i] is what the call for one on the part answers, as with hlr_subscriber_data_many.
+ * Refusals: FIELD
+ */
+uint8_t hlr_part_subscriber_data_many(hlr_part *owner, const uint64_t *s_ids, size_t s_ids_count, hlr_subscriber *rows,
+                                      size_t rows_count, uint8_t *codes, size_t codes_count);
+
+/*
+ * Refusals: FIELD
+ */
+uint8_t hlr_part_new_destination_many(hlr_part *owner, const hlr_destination_asked *asked, size_t asked_count,
+                                      hlr_numbers *numbers, size_t numbers_count, uint8_t *codes, size_t codes_count);
+
+/*
+ * Refusals: FIELD
+ */
+uint8_t hlr_part_access_data_many(hlr_part *owner, const hlr_access_asked *asked, size_t asked_count,
+                                  hlr_access *rows, size_t rows_count, uint8_t *codes, size_t codes_count);
+
+/*
  * Refusals: FIELD, ELSEWHERE, NO_SUBSCRIBER, NO_FACILITY
  */
 uint8_t hlr_part_update_subscriber(hlr_part *owner, uint64_t s_id, uint64_t sf_type, uint64_t bit_1, uint64_t data_a);

@@ -109,6 +109,9 @@ struct view {
 /* Which end store::give gives away: the subscribers below a number, or those from it on. */
 enum class side : std::uint64_t { low = 0, high = 1 };
 
+/* Codes, as hlr.h has them: a byte each. */
+inline std::uint8_t *bytes(code *codes) noexcept { return reinterpret_cast<std::uint8_t *>(codes); }
+
 /* A part that is out, or a closed handle. */
 class part {
 public:
@@ -144,6 +147,17 @@ public:
     }
     code access_data(std::uint64_t s_id, std::uint64_t ai_type, access &row) noexcept {
         return code{hlr_part_access_data(&handle_, s_id, ai_type, &row)};
+    }
+
+    /* Many reads: of each array the first count elements. */
+    code subscriber_data_many(const std::uint64_t *s_ids, subscriber *rows, code *codes, std::size_t count) noexcept {
+        return code{hlr_part_subscriber_data_many(&handle_, s_ids, count, rows, count, bytes(codes), count)};
+    }
+    code new_destination_many(const destination_asked *asked, numbers *found, code *codes, std::size_t count) noexcept {
+        return code{hlr_part_new_destination_many(&handle_, asked, count, found, count, bytes(codes), count)};
+    }
+    code access_data_many(const access_asked *asked, access *rows, code *codes, std::size_t count) noexcept {
+        return code{hlr_part_access_data_many(&handle_, asked, count, rows, count, bytes(codes), count)};
     }
 
     /* Changes. */
@@ -291,9 +305,6 @@ public:
     code back(std::uint64_t number) noexcept { return code{hlr_back(&handle_, number)}; }
 
 private:
-    /* Codes, as hlr.h has them: a byte each. */
-    static std::uint8_t *bytes(code *codes) noexcept { return reinterpret_cast<std::uint8_t *>(codes); }
-
     /* Closes it, where it is open. */
     void shut() noexcept { hlr_close(&handle_); }
 

@@ -57,6 +57,9 @@ class Bounds(Structure):
 
 
 _CODES = [POINTER(c_uint8), c_size_t]
+_SUBSCRIBERS = [POINTER(c_uint64), c_size_t, POINTER(SubscriberRow), c_size_t, *_CODES]
+_DESTINATIONS = [POINTER(DestinationAsked), c_size_t, POINTER(Numbers), c_size_t, *_CODES]
+_ACCESSES = [POINTER(AccessAsked), c_size_t, POINTER(AccessRow), c_size_t, *_CODES]
 
 # What each call is passed behind the handle; hlr_open is passed it last.
 _CALLS = {
@@ -64,9 +67,9 @@ _CALLS = {
     "hlr_subscriber_data": [c_uint64, POINTER(SubscriberRow)],
     "hlr_new_destination": [c_uint64, c_uint64, c_uint64, c_uint64, POINTER(Numbers)],
     "hlr_access_data": [c_uint64, c_uint64, POINTER(AccessRow)],
-    "hlr_subscriber_data_many": [POINTER(c_uint64), c_size_t, POINTER(SubscriberRow), c_size_t, *_CODES],
-    "hlr_new_destination_many": [POINTER(DestinationAsked), c_size_t, POINTER(Numbers), c_size_t, *_CODES],
-    "hlr_access_data_many": [POINTER(AccessAsked), c_size_t, POINTER(AccessRow), c_size_t, *_CODES],
+    "hlr_subscriber_data_many": _SUBSCRIBERS,
+    "hlr_new_destination_many": _DESTINATIONS,
+    "hlr_access_data_many": _ACCESSES,
     "hlr_find": [c_uint64, POINTER(c_uint64)],
     "hlr_facility_data": [c_uint64, c_uint64, POINTER(FacilityRow)],
     "hlr_forwarding": [c_uint64, c_uint64, c_uint64, POINTER(c_uint64), POINTER(c_uint64)],
@@ -102,6 +105,9 @@ _PART_CALLS = {
     "hlr_part_subscriber_data": [c_uint64, POINTER(SubscriberRow)],
     "hlr_part_new_destination": [c_uint64, c_uint64, c_uint64, c_uint64, POINTER(Numbers)],
     "hlr_part_access_data": [c_uint64, c_uint64, POINTER(AccessRow)],
+    "hlr_part_subscriber_data_many": _SUBSCRIBERS,
+    "hlr_part_new_destination_many": _DESTINATIONS,
+    "hlr_part_access_data_many": _ACCESSES,
     "hlr_part_update_subscriber": [c_uint64, c_uint64, c_uint64, c_uint64],
     "hlr_part_update_location": [c_uint64, c_uint64],
     "hlr_part_insert_forwarding": [c_uint64, c_uint64, c_uint64, c_uint64, c_uint64],

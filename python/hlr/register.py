@@ -210,6 +210,19 @@ class _Open:
         if self._handle is None:
             raise refusal(Code.NOT_OPEN, name)
 
+    def _many(self, name: str, question: Any, asked: Sequence[Tuple[int, ...]], answer: Any, told: Any) -> List[Any]:
+        """Has many questions answered in one call: each by what is told of its answer, or by its exception."""
+        many = name + "_many"
+        self._check_open(many)
+        count = len(asked)
+        questions = (question * count)(*(question(*map(_number, each)) for each in asked))
+        answers, codes = (answer * count)(), (ctypes.c_uint8 * count)()
+        passed: List[Any] = []
+        for each in (questions, answers, codes):
+            passed += [ctypes.cast(each, ctypes.POINTER(each._type_)), count]
+        self._call(many, *passed)
+        return [refusal(code, name) if code else told(row) for code, row in zip(codes, answers)]
+
     def __exit__(self, *_: object) -> None:
         try:
             self._call(self._closing)
@@ -404,19 +417,6 @@ class Register(_Open):
         """Reads many rows in one call: for each s_id and ai_type the row, or the exception that `access_data` raises.
         Raises Field."""
         return self._many("access_data", c.AccessAsked, asked, c.AccessRow, _access)
-
-    def _many(self, name: str, question: Any, asked: Sequence[Tuple[int, ...]], answer: Any, told: Any) -> List[Any]:
-        """Has many questions answered in one call: each by what is told of its answer, or by its exception."""
-        many = name + "_many"
-        self._check_open(many)
-        count = len(asked)
-        questions = (question * count)(*(question(*map(_number, each)) for each in asked))
-        answers, codes = (answer * count)(), (ctypes.c_uint8 * count)()
-        passed: List[Any] = []
-        for each in (questions, answers, codes):
-            passed += [ctypes.cast(each, ctypes.POINTER(each._type_)), count]
-        self._call(many, *passed)
-        return [refusal(code, name) if code else told(row) for code, row in zip(codes, answers)]
 
     def update_subscriber(self, s_id: int, sf_type: int, bit_1: int, data_a: int) -> None:
         """UPDATE_SUBSCRIBER_DATA: sets bit_1 of the subscriber and data_a of the facility, or neither. Raises Field,
@@ -652,6 +652,24 @@ class Part(_Open):
         row = c.AccessRow()
         self._call("access_data", s_id, ai_type, row)
         return _access(row)
+
+    def subscriber_data_many(self, s_ids: Sequence[int]) -> List[Union[Subscriber, Refused]]:
+        """Reads many rows in one call, as `Register.subscriber_data_many`: some may be Elsewhere. Raises Field.
+
+        >>> with Register(parts=2, width=4) as register:
+        ...     with register.lend(0) as part:
+        ...         [row.code.name for row in part.subscriber_data_many([7, 65])]
+        ['NO_SUBSCRIBER', 'ELSEWHERE']
+        """
+        return self._many("subscriber_data", ctypes.c_uint64, [(s_id,) for s_id in s_ids], c.SubscriberRow, _subscriber)
+
+    def new_destination_many(self, asked: Sequence[Tuple[int, int, int, int]]) -> List[Union[List[int], Refused]]:
+        """Reads many numbers in one call, as `Register.new_destination_many`. Raises Field."""
+        return self._many("new_destination", c.DestinationAsked, asked, c.Numbers, _listed)
+
+    def access_data_many(self, asked: Sequence[Tuple[int, int]]) -> List[Union[Access, Refused]]:
+        """Reads many rows in one call, as `Register.access_data_many`. Raises Field."""
+        return self._many("access_data", c.AccessAsked, asked, c.AccessRow, _access)
 
     def update_subscriber(self, s_id: int, sf_type: int, bit_1: int, data_a: int) -> None:
         """UPDATE_SUBSCRIBER_DATA: sets bit_1 of the subscriber and data_a of the facility, or neither. Raises Field,

@@ -204,6 +204,11 @@ class Calls(unittest.TestCase):
             self.assertRaises(hlr.Field, register.subscriber_data_many, [7, 1 << 64])
             self.assertRaises(TypeError, register.subscriber_data_many, [7, "7"])
             self.assertRaises(TypeError, register.access_data_many, [(7, 1, 1)])
+            with register.lend(0) as part:
+                same(part.subscriber_data_many, part.subscriber_data, [7, 0, 70, 71, 8, 7, 16777217])
+                same(part.access_data_many, part.access_data, [(7, 1), (7, 2), (7, 5), (0, 1), (71, 1)])
+                same(part.new_destination_many, part.new_destination, [(7, 2, 8, 12), (7, 2, 8, 16), (7, 2, 1, 9)])
+                self.assertRaises(hlr.Field, part.subscriber_data_many, [7, -1])
 
     def test_counts(self):
         with filled(width=4) as register:

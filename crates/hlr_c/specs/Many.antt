@@ -1,13 +1,16 @@
--- What a call from C answers to many questions at once. It changes nothing of the register.
+-- What a call from C answers to many questions at once, of a register or of a part. It changes nothing of either.
 use Rattle.std.specs.Prelude.{◌≡◌, ℕ, ◌<◌, List, length, slice_index, slice_index_or, Ok}
 use Rattle.tatp_rows.specs.Refusal.{code_of}
 use Rattle.tatp_rows.specs.Rows.{SubscriberRow, AccessInfoRow}
 use Rattle.tatp_rows.specs.declared.refusal.Refusal.TheVariants.{Field}
 use Rattle.hlr_owners.specs.Seats.{Seating}
+use Rattle.tatp_actions.specs.declared.action.Action.TheVariants as action
+use Rattle.holding.specs.Held.{HoldingState}
 use Rattle.hlr_core.specs.declared.event.Event.TheVariants as event
 use Rattle.hlr_c.specs.Call.{IsAnswer}
+use Rattle.hlr_c.specs.Parts.{IsPartRead}
 use Rattle.hlr_c.specs.Told.{access_told, numbers_told, subscriber_told}
-use Rattle.hlr_c.specs.declared.codes.TheConstants.{AWAY, DONE}
+use Rattle.hlr_c.specs.declared.codes.TheConstants.{AWAY, DONE, ELSEWHERE}
 use Rattle.hlr_c.specs.declared.rows.HlrAccessAsked.{HlrAccessAsked}
 use Rattle.hlr_c.specs.declared.rows.HlrDestinationAsked.{HlrDestinationAsked}
 use Rattle.hlr_c.specs.declared.rows.HlrNumbers.{HlrNumbers}
@@ -25,6 +28,20 @@ abbrev pub IsDestinationRead : HlrDestinationAsked → HlrNumbers → Seating �
 IsDestinationRead asked numbers =
     IsAnswer (Ok (event.NewDestination asked.s_id asked.sf_type asked.start_time asked.end_time)) (numbers_told numbers) (AWAY, numbers)
 
+-- one of a subscriber of a part that is out
+abbrev pub IsPartSubscriberRead : ℕ → SubscriberRow → HoldingState → ℕ × SubscriberRow → HoldingState → Type 0
+IsPartSubscriberRead s_id row = IsPartRead (action.SubscriberData s_id) (subscriber_told row) (ELSEWHERE, row)
+
+-- one of an access there
+abbrev pub IsPartAccessRead : HlrAccessAsked → AccessInfoRow → HoldingState → ℕ × AccessInfoRow → HoldingState → Type 0
+IsPartAccessRead asked row =
+    IsPartRead (action.AccessData asked.s_id asked.ai_type) (access_told asked.s_id asked.ai_type row) (ELSEWHERE, row)
+
+-- one of the numbers there that calls are forwarded to
+abbrev pub IsPartDestinationRead : HlrDestinationAsked → HlrNumbers → HoldingState → ℕ × HlrNumbers → HoldingState → Type 0
+IsPartDestinationRead asked numbers =
+    IsPartRead (action.NewDestination asked.s_id asked.sf_type asked.start_time asked.end_time) (numbers_told numbers) (ELSEWHERE, numbers)
+
 -- there are as many rows and codes as questions
 abbrev pub AreAsMany : {Q X : Type 0} → List Q → List X × List ℕ → Type 0
 AreAsMany asked lists = (length lists.0 ≡ length asked) × (length lists.1 ≡ length asked)
@@ -36,7 +53,7 @@ AreAnswered {Q} {X} Answers asked before lists =
     → Answers (slice_index_or asked at question) (slice_index_or before at row) (slice_index lists.1 at, slice_index_or lists.0 at row)
 
 -- Field, and nothing is written, where there aren't as many rows and codes as questions; else each is answered
-pub record IsManyRead {Q X : Type 0} (IsRead : Q → X → Seating → ℕ × X → Seating → Type 0) (asked : List Q) (lists : List X × List ℕ) (before : Seating) (answer : ℕ × (List X × List ℕ)) (after : Seating) : Type 0 where
+pub record IsManyRead {S Q X : Type 0} (IsRead : Q → X → S → ℕ × X → S → Type 0) (asked : List Q) (lists : List X × List ℕ) (before : S) (answer : ℕ × (List X × List ℕ)) (after : S) : Type 0 where
   pub same : after ≡ before
   pub refused : ¬ (AreAsMany asked lists) → answer ≡ (code_of Field, lists)
   pub answered : AreAsMany asked lists

@@ -10,6 +10,7 @@
 //! `hlr.h`, beside the crate's folder `src`, declares them for C, and says what C owes.
 #![tactic(auto)]
 
+mod asking;
 mod changes;
 mod codes;
 mod fields;
@@ -24,6 +25,7 @@ mod moves;
 mod opening;
 mod part;
 mod part_changes;
+mod part_many;
 mod part_reads;
 mod reads;
 mod reports;

@@ -23,7 +23,7 @@ pub(crate) fn has(part: &Owner, s_id: u64) -> bool
     u64::from(part.lo()) <= s_id && s_id < u64::from(part.hi())
 }
 
-fn read_subscriber(part: &Owner, s_id: u64, row: &mut HlrSubscriber) -> u8
+pub(crate) fn read_subscriber(part: &Owner, s_id: u64, row: &mut HlrSubscriber) -> u8
     ensures { IsPartRead (action.SubscriberData s_id) (subscriber_told row.old) (ELSEWHERE, row.old) part.now (result, row.new) part.now }
 {
     if !is_subscriber(s_id) {
@@ -41,7 +41,7 @@ fn read_subscriber(part: &Owner, s_id: u64, row: &mut HlrSubscriber) -> u8
     }
 }
 
-fn read_access(part: &Owner, s_id: u64, ai_type: u64, row: &mut HlrAccess) -> u8
+pub(crate) fn read_access(part: &Owner, s_id: u64, ai_type: u64, row: &mut HlrAccess) -> u8
     ensures { IsPartRead (action.AccessData s_id ai_type) (access_told s_id ai_type row.old) (ELSEWHERE, row.old) part.now (result, row.new) part.now }
 {
     if !is_typed(s_id, ai_type) {
@@ -69,7 +69,7 @@ fn write_numbers(found: &ArrayVec<Number, 3>, numbers: &mut HlrNumbers) -> u8
     DONE
 }
 
-fn read_destinations(
+pub(crate) fn read_destinations(
     part: &Owner,
     s_id: u64,
     sf_type: u64,

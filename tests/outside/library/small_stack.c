@@ -105,7 +105,8 @@ static int lent(void) {
     static hlr_access access = {.s_id = 1, .ai_type = 2, .data3 = "ABC", .data4 = {'A', 'B', 'C', 'D', 'E'}};
     static hlr_facility facility = {.s_id = 1, .sf_type = 2, .is_active = 1, .data_b = {'A', 'B', 'C', 'D', 'E'}};
     static hlr_numbers numbers;
-    static uint64_t lo, hi;
+    static uint64_t lo, hi, s_id = 1;
+    static uint8_t code;
     DO(hlr_lend(&many, 0, &owner));
     DO(hlr_part_range(&owner, &lo, &hi));
     DO(hlr_part_add_access(&owner, &access));
@@ -116,6 +117,7 @@ static int lent(void) {
     DO(hlr_part_delete_forwarding(&owner, 1, 1, 16));
     DO(hlr_part_insert_forwarding(&owner, 1, 1, 16, 24, 9));
     DO(hlr_part_subscriber_data(&owner, 1, &row));
+    DO(hlr_part_subscriber_data_many(&owner, &s_id, 1, &row, 1, &code, 1));
     DO(hlr_part_access_data(&owner, 1, 2, &access));
     DO(hlr_part_new_destination(&owner, 1, 1, 16, 20, &numbers));
     DO(hlr_part_post(&owner, HLR_CELLS, &told));

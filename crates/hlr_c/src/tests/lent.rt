@@ -16,11 +16,15 @@ use crate::part_changes::{
     hlr_part_insert_forwarding, hlr_part_post, hlr_part_set_active, hlr_part_update_location,
     hlr_part_update_subscriber,
 };
+use crate::part_many::{
+    hlr_part_access_data_many, hlr_part_new_destination_many, hlr_part_subscriber_data_many,
+};
 use crate::part_reads::{
     hlr_part_access_data, hlr_part_new_destination, hlr_part_range, hlr_part_subscriber_data,
 };
 use crate::reads::{hlr_access_data, hlr_subscriber_data};
 use crate::reports::{hlr_look, hlr_propose, hlr_regions, hlr_scan, hlr_views};
+use crate::rows::{HlrAccess, HlrAccessAsked, HlrDestinationAsked, HlrNumbers};
 use hlr_core::CELLS;
 use std::alloc::Global;
 use std::process::Abort;
@@ -34,7 +38,7 @@ pub(super) fn let_go(rt: &impl Abort, handle: HlrPart) {
 }
 
 /// All calls on a part's handle that isn't open.
-fn asked_home(alloc: Global, owner: &mut HlrPart) -> [u8; 13] {
+fn asked_home(alloc: Global, owner: &mut HlrPart) -> [u8; 16] {
     let (mut found, mut data, mut numbers) = (NO_ROW, NO_ACCESS, NO_NUMBERS);
     let (mut lo, mut hi) = (0, 0);
     [
@@ -43,6 +47,9 @@ fn asked_home(alloc: Global, owner: &mut HlrPart) -> [u8; 13] {
         hlr_part_subscriber_data(alloc, owner, 0, &mut found),
         hlr_part_access_data(alloc, owner, 0, 0, &mut data),
         hlr_part_new_destination(alloc, owner, 0, 0, 1, 0, &mut numbers),
+        hlr_part_subscriber_data_many(alloc, owner, &[0], &mut [], &mut []),
+        hlr_part_access_data_many(alloc, owner, &[], &mut [NO_ACCESS], &mut []),
+        hlr_part_new_destination_many(alloc, owner, &[], &mut [], &mut [9]),
         hlr_part_update_subscriber(alloc, owner, 0, 0, 2, 256),
         hlr_part_update_location(alloc, owner, 0, 0),
         hlr_part_insert_forwarding(alloc, owner, 0, 0, 1, 0, u64::MAX),
@@ -74,7 +81,7 @@ fn parts_of_closed_handles(rt: HostRuntime) -> Result<(), Fail> {
     closed(&rt, alloc, handle);
     let_go(&rt, owner);
     assert!(rt;
-        before == [NOT_OPEN; 13] && after == [NOT_OPEN; 13],
+        before == [NOT_OPEN; 16] && after == [NOT_OPEN; 16],
         "a closed handle says so"
     );
     assert_eq!(rt;
@@ -105,6 +112,47 @@ fn work(alloc: Global, owner: &mut HlrPart) -> [u8; 12] {
         hlr_part_access_data(alloc, owner, 65, 5, &mut data),
         hlr_part_post(alloc, owner, 72, &mut posted),
     ]
+}
+
+/// What the calls for many answer of the first part, which has subscriber 7, and where they are handed too few codes;
+/// then the code of each question, the first row that is read, the first access and the first numbers.
+fn many_of_part(
+    alloc: Global,
+    owner: &mut HlrPart,
+) -> (
+    [u8; 6],
+    [[u8; 3]; 3],
+    (HlrSubscriber, HlrAccess, HlrNumbers),
+) {
+    let (mut rows, mut data, mut numbers) = ([NO_ROW; 3], [NO_ACCESS; 3], [NO_NUMBERS; 3]);
+    let mut codes = [[9; 3]; 3];
+    let s_ids = [7, 70, 0];
+    let accesses = [asked(7, 4), asked(70, 4), asked(7, 5)];
+    let calls = [calling(7, 8), calling(70, 8), calling(7, 9)];
+    let done = [
+        hlr_part_subscriber_data_many(alloc, owner, &s_ids, &mut rows, &mut codes[0]),
+        hlr_part_access_data_many(alloc, owner, &accesses, &mut data, &mut codes[1]),
+        hlr_part_new_destination_many(alloc, owner, &calls, &mut numbers, &mut codes[2]),
+        hlr_part_subscriber_data_many(alloc, owner, &s_ids, &mut rows, &mut [9; 2]),
+        hlr_part_access_data_many(alloc, owner, &accesses, &mut data, &mut [9; 2]),
+        hlr_part_new_destination_many(alloc, owner, &calls, &mut numbers, &mut [9; 2]),
+    ];
+    (done, codes, (rows[0], data[0], numbers[0]))
+}
+
+/// A question for an access.
+fn asked(s_id: u64, ai_type: u64) -> HlrAccessAsked {
+    HlrAccessAsked { s_id, ai_type }
+}
+
+/// A question for the numbers of facility 3 at an hour.
+fn calling(s_id: u64, start_time: u64) -> HlrDestinationAsked {
+    HlrDestinationAsked {
+        s_id,
+        sf_type: 3,
+        start_time,
+        end_time: 9,
+    }
 }
 
 /// What a register answers that has its first part out: the codes of calls that work on that part, and of others.
@@ -175,6 +223,7 @@ fn part_is_lent(rt: HostRuntime) -> Result<(), Fail> {
     let mut published = [9; CELLS as usize];
     let range = hlr_part_range(alloc, &mut owner, &mut lo, &mut hi);
     let worked = work(alloc, &mut owner);
+    let (asked, told, first) = many_of_part(alloc, &mut owner);
     let (away, known) = asked_beside(alloc, &mut handle);
     let (done, each, rows) = many_beside(alloc, &mut handle);
     let moves = moved_beside(alloc, &mut handle);
@@ -206,6 +255,11 @@ fn part_is_lent(rt: HostRuntime) -> Result<(), Fail> {
         ]
     );
     assert!(rt; away == [AWAY; 8] && known == [DONE, DONE, DONE, 2, 2, 12]);
+    assert_eq!(rt;
+        (asked, told),
+        ([DONE, DONE, DONE, 2, 2, 2], [[DONE, ELSEWHERE, 2]; 3])
+    );
+    assert!(rt; first.0 == moved && first.1 == access(7, 4, 1) && first.2.numbers == [5, 0, 0]);
     assert_eq!(rt; (done, each), ([DONE, 2], [AWAY, DONE, 2]));
     assert_eq!(rt;
         moves,
