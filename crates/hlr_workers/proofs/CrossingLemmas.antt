@@ -25,7 +25,7 @@ use Rattle.tatp_actions.specs.contracts.trees.TreesRows.TheImpl.{ghosts}
 use Rattle.view_board.proofs.board.Board.TheSendSync.{the_send as board_send, the_sync as board_sync}
 use Rattle.view_board.specs.contracts.board.Board as Board
 use Rattle.holding.proofs.CrossingLemmas.{holding_send}
-use Rattle.holding.proofs.job.Job.TheSendSync.{the_field_send as job_field_send}
+use Rattle.hlr_core.proofs.task.Task.TheSendSync.{the_field_send as task_field_send}
 use Rattle.holding.specs.contracts.holding.Holding as Holding
 use Rattle.hlr_core.proofs.event.Reply.TheSendSync.{the_send as reply_send}
 use Rattle.hlr_core.specs.contracts.event.Reply as Reply
@@ -48,7 +48,7 @@ lent_send : IsSend (Lent.the_field).row
 lent_send = let holding = boxed_send in let board = board_shared_send in search sendable depth 20
 
 message_send : IsSend Message.the_row
-message_send = let lent = lent_send in let job = job_field_send in search sendable depth 20
+message_send = let lent = lent_send in let task = task_field_send in search sendable depth 20
 
 option_send : IsSend (Option.the_row Message.the_row)
 option_send = let message = message_send in search sendable depth 20

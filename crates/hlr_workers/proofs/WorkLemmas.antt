@@ -6,7 +6,9 @@ use Rattle.holding.specs.Held.{HoldingState}
 use Rattle.holding.specs.declared.job.Job.{Job}
 use Rattle.hlr_owners.specs.Seats.{IsSameOwner}
 use Rattle.hlr_core.specs.Session.{IsJobDone, IsWithinJob}
+use Rattle.hlr_core.specs.Tasks.{job_of}
 use Rattle.hlr_core.specs.declared.event.Reply.{Reply}
+use Rattle.hlr_core.specs.declared.task.Task.{Task}
 use Rattle.hlr_workers.specs.Finish.{HasDone, IsAtWork, IsSessionMore, MaySend, sent_with}
 use Rattle.hlr_workers.specs.Relay.{AreWithin, IsWellSent, job_pair, jobs_in, jobs_of, lent_of, log}
 use Rattle.hlr_workers.specs.declared.message.Log.{Log}
@@ -23,14 +25,14 @@ all_later a b same [] within = tt
 all_later a b same (job ∷ jobs) within = (within_later a b job.1 same within.0, all_later a b same jobs within.1)
 
 -- and so one of them
-pub one_within : (a : HoldingState) (items : List Numbered) (i : ℕ) (one : Numbered) → AreWithin a (map job_pair items) → i < length items → one ≡ get_or items i one → IsWithinJob a one.job
+pub one_within : (a : HoldingState) (items : List Numbered) (i : ℕ) (one : Numbered) → AreWithin a (map job_pair items) → i < length items → one ≡ get_or items i one → IsWithinJob a (job_of one.task)
 one_within a [] i one within low is = absurd (omega arith)
 one_within a (own ∷ items) zero one within low is = rw is within.0
 one_within a (own ∷ items) (suc i) one within low is = one_within a items i one within.1 (omega arith) is
 
 -- one job more of a message
 pub more_next : (items : List Numbered) (i : ℕ) (one : Numbered) (answers answers' answers'' : List (ℕ × Reply)) (reply : Reply) (a b c : HoldingState) → i < length items → one ≡ get_or items i one
-    → IsSessionMore (map job_pair (take i items)) answers a answers' b → IsJobDone one.job b reply c → answers'' ≡ answers' ++ (one.number, reply) ∷ []
+    → IsSessionMore (map job_pair (take i items)) answers a answers' b → IsJobDone (job_of one.task) b reply c → answers'' ≡ answers' ++ (one.number, reply) ∷ []
     → IsSessionMore (map job_pair (take (i + 1) items)) answers a answers'' c
 more_next items i one answers answers' answers'' reply a b c low is so_far done grew = λ lent jobs session.
     let front = map job_pair (take i items) in
@@ -140,26 +142,26 @@ module _ (v : Log) (held : ArrayVec Numbered) (may : MaySend v held) where
     stop_same = rw (lent_still, jobs_still) refl
 
   -- one job more is held
-  module _ (number : ℕ) (job : Job) (held' : ArrayVec Numbered) (grew : held'.items ≡ held.items ++ record { number = number; job = job } ∷ []) where
-    more_in : jobs_in held' ≡ jobs_in held ++ (number, job) ∷ []
-    more_in = ap (λ (items : List Numbered). map job_pair items) grew ∙ map-append job_pair held.items (record { number = number; job = job } ∷ [])
+  module _ (number : ℕ) (task : Task) (held' : ArrayVec Numbered) (grew : held'.items ≡ held.items ++ record { number = number; task = task } ∷ []) where
+    more_in : jobs_in held' ≡ jobs_in held ++ (number, job_of task) ∷ []
+    more_in = ap (λ (items : List Numbered). map job_pair items) grew ∙ map-append job_pair held.items (record { number = number; task = task } ∷ [])
 
-    more_jobs : jobs_of v.sent ++ jobs_in held' ≡ (jobs_of v.sent ++ jobs_in held) ++ (number, job) ∷ []
-    more_jobs = ap (λ (l : List (ℕ × Job)). jobs_of v.sent ++ l) more_in ∙ sym (append_assoc (jobs_of v.sent) (jobs_in held) ((number, job) ∷ []))
+    more_jobs : jobs_of v.sent ++ jobs_in held' ≡ (jobs_of v.sent ++ jobs_in held) ++ (number, job_of task) ∷ []
+    more_jobs = ap (λ (l : List (ℕ × Job)). jobs_of v.sent ++ l) more_in ∙ sym (append_assoc (jobs_of v.sent) (jobs_in held) ((number, job_of task) ∷ []))
 
-    pub held_may : IsWithinJob (lent_of v.sent) job → length (jobs_of v.sent ++ jobs_in held) < MOST_PENDING → MaySend v held'
+    pub held_may : IsWithinJob (lent_of v.sent) (job_of task) → length (jobs_of v.sent ++ jobs_in held) < MOST_PENDING → MaySend v held'
     held_may within few = record {
       log = may.log;
       started = may.started;
       within = rw more_in (all_more (lent_of v.sent) (jobs_in held) may.within within);
-      room = rw more_jobs (let long = length-append (jobs_of v.sent ++ jobs_in held) ((number, job) ∷ []) in omega (arith, long, few));
+      room = rw more_jobs (let long = length-append (jobs_of v.sent ++ jobs_in held) ((number, job_of task) ∷ []) in omega (arith, long, few));
     }
       where
-        all_more : (a : HoldingState) (jobs : List (ℕ × Job)) → AreWithin a jobs → IsWithinJob a job → AreWithin a (jobs ++ (number, job) ∷ [])
+        all_more : (a : HoldingState) (jobs : List (ℕ × Job)) → AreWithin a jobs → IsWithinJob a (job_of task) → AreWithin a (jobs ++ (number, job_of task) ∷ [])
         all_more a [] are one = (one, tt)
         all_more a (own ∷ jobs) are one = (are.0, all_more a jobs are.1 one)
 
-    pub held_more : sent_with v held' ≡ record { lent = lent_of v.sent; jobs = (jobs_of v.sent ++ jobs_in held) ++ (number, job) ∷ [] }
+    pub held_more : sent_with v held' ≡ record { lent = lent_of v.sent; jobs = (jobs_of v.sent ++ jobs_in held) ++ (number, job_of task) ∷ [] }
     held_more = rw more_jobs refl
 
 -- what is held may be done by a holding that has done all that was sent

@@ -11,6 +11,7 @@ use Rattle.view_board.specs.Views.{nobody}
 use Rattle.holding.specs.Held.{HoldingState}
 use Rattle.holding.specs.declared.job.Job.{Job}
 use Rattle.hlr_core.specs.Session.{IsWithinJob}
+use Rattle.hlr_core.specs.Tasks.{job_of}
 use Rattle.hlr_workers.specs.declared.message.Log.{Log}
 use Rattle.hlr_workers.specs.declared.message.Message.{Message}
 use Rattle.hlr_workers.specs.declared.message.Message.TheVariants.{Begin, Do, Stop}
@@ -32,7 +33,7 @@ nothing = record {
 
 -- a job with its number
 abbrev pub job_pair : Numbered → ℕ × Job
-job_pair one = (one.number, one.job)
+job_pair one = (one.number, job_of one.task)
 
 -- the jobs of a message
 abbrev pub jobs_in : ArrayVec Numbered → List (ℕ × Job)

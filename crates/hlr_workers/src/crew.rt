@@ -10,6 +10,7 @@ ghost use Rattle.hlr_owners.specs.Sight.{IsSightOf};
 ghost use Rattle.hlr_core.specs.Beside.{IsRecutBeside, IsStepBeside};
 ghost use Rattle.hlr_core.specs.Home.{IsHomeTo, IsLaterDesk, IsSameHouse};
 ghost use Rattle.hlr_core.specs.Session.{IsJobOf, IsWithinJob};
+ghost use Rattle.hlr_core.specs.Tasks.{job_of};
 ghost use Rattle.hlr_workers.specs.Inside.{AreIdle, IsHomeAgain, IsOut, IsCrewParted, IsPlace, IsSentTo, is_sent_more, parted, parting_of};
 ghost use Rattle.hlr_workers.specs.Kept.{NoneOut};
 ghost use Rattle.hlr_workers.specs.Standing.{changes_parts};
@@ -21,8 +22,7 @@ use crate::work::{EmptyList, MOST_PENDING};
 use crate::worker::{Idle, Worker};
 use arrayvec::ArrayVec;
 use crossbeam_utils::Backoff;
-use hlr_core::{Event, Parts, Register, Reply};
-use holding::Job;
+use hlr_core::{Event, Parts, Register, Reply, Task};
 use part_table::CutMove;
 use std::alloc::Global;
 use std::marker::Model;
@@ -103,15 +103,15 @@ fn send_to<R: Wait>(
     workers: &mut ArrayVec<Option<Worker>, 16>,
     part: u8,
     number: u64,
-    job: Job,
+    task: Task,
 )
     requires there { part < length workers.old.items }
-    requires worker { IfSome (slice_index_or workers.old.items part None) (λ sent. (length sent.jobs < MOST_PENDING) × IsWithinJob sent.lent job) }
+    requires worker { IfSome (slice_index_or workers.old.items part None) (λ sent. (length sent.jobs < MOST_PENDING) × IsWithinJob sent.lent (job_of task)) }
     requires some { IsSome (slice_index_or workers.old.items part None) }
-    ensures { workers.new.items ≡ slice_set workers.old.items part (is_sent_more (slice_index_or workers.old.items part None) (number, job)) }
+    ensures { workers.new.items ≡ slice_set workers.old.items part (is_sent_more (slice_index_or workers.old.items part None) (number, job_of task)) }
 {
     match &mut workers.as_mut_slice()[usize::from(part)] {
-        Some(worker) => worker.send(rt, number, job),
+        Some(worker) => worker.send(rt, number, task),
         None => unreachable!(),
     }
 }
@@ -339,12 +339,12 @@ impl Crew {
         gate: &Arc<G>,
         part: u8,
         number: u64,
-        job: Job,
+        task: Task,
     ) -> Result<(), Refusal>
         requires there { part < length self.old.jobs }
-        requires of { IsJobOf self.old.house.regions part job }
+        requires of { IsJobOf self.old.house.regions part (job_of task) }
         requires room { length (slice_index_or self.old.jobs part []) < MOST_PENDING }
-        ensures sent { OnOk result (IsSentTo part (number, job) self.old self.new) }
+        ensures sent { OnOk result (IsSentTo part (number, job_of task) self.old self.new) }
         ensures refused { OnErr result (self.new ≡ self.old) }
         ensures why { OnErr result ((result ≡ Err Refusal.Memory) ⊎ (result ≡ Err Refusal.Thread)) }
         ensures home { OnErr result (slice_index_or (homes_in self.old.house.seats) part false ≡ true) }
@@ -356,7 +356,7 @@ impl Crew {
         // For the prover: each region has its owner beside it.
         let _board = self.register.board();
         offer_before(rt, &mut self.workers, usize::from(part));
-        send_to(rt, &mut self.workers, part, number, job);
+        send_to(rt, &mut self.workers, part, number, task);
         Ok(())
     }
 

@@ -17,7 +17,7 @@ ghost use Rattle.hlr_workers.specs.declared.work.TheConstants.{MOST_PENDING};
 use crate::crew::Crew;
 use crate::gate::Gate;
 use crate::work::{EmptyList, MOST_PENDING};
-use hlr_core::{Event, Parts, Register, Reply, Route};
+use hlr_core::{Event, Parts, Register, Reply, TaskRoute};
 use std::alloc::Global;
 use std::marker::Model;
 use std::mem;
@@ -264,16 +264,16 @@ fn answer<G: Gate + 'static, R: Threads + Wait + Copy + Send + Sync + 'static>(
     ensures spare { changes_parts event ≡ false → crew.new.house.spare ≡ crew.old.house.spare }
     ensures desk { IsLaterDesk crew.old.house.spare crew.new.house.spare }
 {
-    match crew.register().route(&event) {
-        Route::Now(reply) => Ok(reply),
-        Route::To(part, job) => {
+    match crew.register().route_task(&event) {
+        TaskRoute::Refused(why) => Ok(Reply::Refused(why)),
+        TaskRoute::To(part, task) => {
             let number = replies.len() as u64;
-            match crew.send(rt, alloc, gate, part, number, job) {
+            match crew.send(rt, alloc, gate, part, number, task) {
                 Ok(()) => Ok(blank()),
                 Err(why) => Err(why),
             }
         }
-        Route::Here => Ok(answer_here(rt, crew, replies, gate, event)),
+        TaskRoute::Here => Ok(answer_here(rt, crew, replies, gate, event)),
     }
 }
 

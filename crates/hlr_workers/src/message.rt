@@ -3,7 +3,8 @@ ghost use Rattle.std.specs.Prelude.{◌≡◌};
 ghost use Rattle.std.specs.Arc.{arc_value};
 
 use arrayvec::ArrayVec;
-use holding::{Holding, Job};
+use hlr_core::Task;
+use holding::Holding;
 use std::collections::LinkedList;
 use std::sync::Arc;
 use view_board::Board;
@@ -19,18 +20,18 @@ pub struct Lent {
 /// How many jobs a message has at most.
 pub const MOST_JOBS: usize = 16;
 
-/// A job under the number of its event.
+/// A job as a task, under the number of its event.
 #[derive(Clone, Copy)]
 pub struct Numbered {
     pub number: u64,
-    pub job: Job,
+    pub task: Task,
 }
 
 impl Default for Numbered {
     fn default() -> Numbered {
         Numbered {
             number: 0,
-            job: Job::Post(0),
+            task: Task::Post(0),
         }
     }
 }

@@ -1,7 +1,6 @@
 //! What a worker's thread does.
 ghost use Rattle.std.specs.Prelude.{◌≡◌, ◌≤◌, ◌+◌, true, false, [], ◌∷◌, length, vec_capacity};
 ghost use Rattle.crossbeam_queue.specs.Passes.{view, IsPassOf};
-ghost use Rattle.hlr_core.specs.Session.{IsJobDone, IsWithinJob};
 ghost use Rattle.hlr_workers.specs.Finish.{IsAtWork, IsSessionMore};
 ghost use Rattle.hlr_workers.specs.Relay.{AreWithin, jobs_in, log};
 ghost use Rattle.hlr_workers.specs.declared.message.Message.TheVariants.{Begin};
@@ -12,7 +11,7 @@ use crate::inbox::Inbox;
 use crate::message::{Batch, Lent, Message};
 use crate::rule::Port;
 use hlr_core::Reply;
-use holding::{Holding, Job};
+use holding::Holding;
 use std::sync::Wait;
 use view_board::Board;
 
@@ -36,18 +35,6 @@ pub(crate) struct Finished {
     pub(crate) port: Port,
     pub(crate) lent: Lent,
     pub(crate) replies: Vec<(u64, Reply)>,
-}
-
-/// Does a job.
-fn do_job(holding: &mut Holding, board: &Board, job: Job) -> Reply
-    requires board { holding.old.desk.board ≡ board.now }
-    requires within { IsWithinJob holding.old job }
-    ensures { IsJobDone job holding.old result holding.new }
-{
-    match job {
-        Job::Act(action) => Reply::of_rows(holding.act(action)),
-        Job::Post(limit) => Reply::of_posting(holding.post(board, limit)),
-    }
 }
 
 /// The first message, which is the holding.
@@ -79,7 +66,7 @@ pub(crate) fn do_batch<G: Gate>(
 {
     for one in batch.as_slice() {
         gate.before(part, one.number);
-        let reply = do_job(holding, board, one.job);
+        let reply = one.task.carry_out(holding, board);
         gate.after(part, one.number);
         replies.push_reserved((one.number, reply));
     }

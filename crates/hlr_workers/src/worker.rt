@@ -3,6 +3,7 @@ ghost use Rattle.std.specs.Prelude.{List, ◌≡◌, ◌<◌, ◌≤◌, ◌++�
 ghost use Rattle.std.specs.Arc.{arc_value};
 ghost use Rattle.crossbeam_queue.specs.Passes.{view, IsPassOf};
 ghost use Rattle.hlr_core.specs.Session.{IsWithinJob};
+ghost use Rattle.hlr_core.specs.Tasks.{job_of};
 ghost use Rattle.hlr_workers.specs.Finish.{HasDone, IsAtWork, MayDo, MaySend, sent_with};
 ghost use Rattle.hlr_workers.specs.declared.message.Message.{Message};
 ghost use Rattle.hlr_workers.specs.Relay.{log, IsWellSent};
@@ -17,8 +18,8 @@ use crate::rule::{Line, Port, Roles};
 use crate::work::{EmptyList, Finished, do_batch, live};
 use arrayvec::ArrayVec;
 use crossbeam_utils::sync::EventCount;
-use hlr_core::Reply;
-use holding::{Holding, Job};
+use hlr_core::{Reply, Task};
+use holding::Holding;
 use std::alloc::Global;
 use std::marker::Model;
 use std::snapshot::Snapshot;
@@ -198,18 +199,18 @@ fn make_room<R: Wait>(rt: &R, inbox: &Inbox, port: &mut Port, held: &mut Batch)
 }
 
 /// Holds a numbered job. Where a whole message is held, it is pushed first, once there is a place. It may wait.
-fn hold<R: Wait>(rt: &R, inbox: &Inbox, port: &mut Port, held: &mut Batch, number: u64, job: Job)
+fn hold<R: Wait>(rt: &R, inbox: &Inbox, port: &mut Port, held: &mut Batch, number: u64, task: Task)
     requires port { IsPassOf inbox.now.line port.old }
     requires may { MaySend (view port.old) held.old }
     requires room { length (sent_with (view port.old) held.old).jobs < MOST_PENDING }
-    requires within { IsWithinJob (sent_with (view port.old) held.old).lent job }
+    requires within { IsWithinJob (sent_with (view port.old) held.old).lent (job_of task) }
     ensures port { IsPassOf inbox.now.line port.new }
     ensures may { MaySend (view port.new) held.new }
     ensures lent { (sent_with (view port.new) held.new).lent ≡ (sent_with (view port.old) held.old).lent }
-    ensures jobs { (sent_with (view port.new) held.new).jobs ≡ (sent_with (view port.old) held.old).jobs ++ (number, job) ∷ [] }
+    ensures jobs { (sent_with (view port.new) held.new).jobs ≡ (sent_with (view port.old) held.old).jobs ++ (number, job_of task) ∷ [] }
 {
     make_room(rt, inbox, port, held);
-    held.push(Numbered { number, job });
+    held.push(Numbered { number, task });
 }
 
 /// Pushes the jobs that are held, where there is a place.
@@ -291,15 +292,22 @@ impl Worker {
         self.held.len()
     }
 
-    /// Sends a numbered job, of whose part the holding is: the first one is pushed at once, later ones are held until
+    /// Sends a numbered job, as a task, of whose part the holding is: the first one is pushed at once, later ones are held until
     /// a message is full. It may wait.
-    pub fn send<R: Wait>(&mut self, rt: &R, number: u64, job: Job)
+    pub fn send<R: Wait>(&mut self, rt: &R, number: u64, task: Task)
         requires room { length self.old.jobs < MOST_PENDING }
-        requires within { IsWithinJob self.old.lent job }
+        requires within { IsWithinJob self.old.lent (job_of task) }
         ensures lent { self.new.lent ≡ self.old.lent }
-        ensures jobs { self.new.jobs ≡ self.old.jobs ++ (number, job) ∷ [] }
+        ensures jobs { self.new.jobs ≡ self.old.jobs ++ (number, job_of task) ∷ [] }
     {
-        hold(rt, &self.inbox, &mut self.port, &mut self.held, number, job);
+        hold(
+            rt,
+            &self.inbox,
+            &mut self.port,
+            &mut self.held,
+            number,
+            task,
+        );
         if self.is_fresh || self.held.is_full() {
             self.is_fresh = false;
             offer(&self.inbox, &mut self.port, &mut self.held);

@@ -1,6 +1,8 @@
 use Rattle.std.proofs.Common.{◌≡◌, ◌∙◌, refl, ℕ, arith, length, subst}
 use Rattle.hlr_owners.specs.Seats.{Seating}
 use Rattle.hlr_core.specs.Route.{IsRightNow, IsRouted}
+use Rattle.hlr_core.specs.Tasks.{job_of}
+use Rattle.hlr_core.specs.declared.event.Reply.TheVariants as reply
 use Rattle.hlr_core.specs.declared.route.Route.TheVariants.{To}
 use Rattle.hlr_core.proofs.HomeLemmas.{desk_same}
 use Rattle.hlr_workers.specs.Inside.{IsSentTo}
@@ -9,7 +11,7 @@ use Rattle.hlr_workers.proofs.engine.answer.Goals as goal
 
 pub send-requires-clause-there : goal.send-requires-clause-there
 send-requires-clause-there g c κs within =
-    let to : IsRouted c.args.event c.args.crew.now.house (To c.in-To.part c.in-To.job) = subst (λ (h : Seating). IsRouted c.args.event h (To c.in-To.part c.in-To.job)) c.register.ensures.value c.in-To.ensures in
+    let to : IsRouted c.args.event c.args.crew.now.house (To c.in-To.part (job_of c.in-To.task)) = subst (λ (h : Seating). IsRouted c.args.event h (To c.in-To.part (job_of c.in-To.task))) c.register.ensures.value c.in-To.ensures in
     part_there c.args.crew.now c.args.replies.now.items c.requires.kept c.register.ensures.seated c.in-To.part to.0
 
 pub send-requires-clause-room : goal.send-requires-clause-room
@@ -18,35 +20,35 @@ send-requires-clause-room g c κs within =
     let room = c.requires.room in
     omega arith
 
-pub returns-in-Now-clause-kept : goal.returns-in-Now-clause-kept
-returns-in-Now-clause-kept g c = now_kept c.args.crew.now c.args.replies.now.items c.requires.kept c.in-Now.reply
+pub returns-in-Refused-clause-kept : goal.returns-in-Refused-clause-kept
+returns-in-Refused-clause-kept g c = now_kept c.args.crew.now c.args.replies.now.items c.requires.kept (reply.Refused c.in-Refused.why)
 
-pub returns-in-Now-clause-took : goal.returns-in-Now-clause-took
-returns-in-Now-clause-took g c =
-    now_took c.args.crew.now c.args.replies.now.items c.requires.kept c.args.event c.in-Now.reply
-    (subst (λ (h : Seating). IsRightNow c.args.event h c.in-Now.reply) c.register.ensures.value c.in-Now.ensures)
+pub returns-in-Refused-clause-took : goal.returns-in-Refused-clause-took
+returns-in-Refused-clause-took g c =
+    now_took c.args.crew.now c.args.replies.now.items c.requires.kept c.args.event (reply.Refused c.in-Refused.why)
+    (subst (λ (h : Seating). IsRightNow c.args.event h (reply.Refused c.in-Refused.why)) c.register.ensures.value c.in-Refused.ensures)
 
 pub returns-in-Ok-clause-kept : goal.returns-in-Ok-clause-kept
 returns-in-Ok-clause-kept g c =
-    let to : IsRouted c.args.event c.args.crew.now.house (To c.in-To.part c.in-To.job) = subst (λ (h : Seating). IsRouted c.args.event h (To c.in-To.part c.in-To.job)) c.register.ensures.value c.in-To.ensures in
+    let to : IsRouted c.args.event c.args.crew.now.house (To c.in-To.part (job_of c.in-To.task)) = subst (λ (h : Seating). IsRouted c.args.event h (To c.in-To.part (job_of c.in-To.task))) c.register.ensures.value c.in-To.ensures in
     let number : c.len-number.result ≡ length c.args.replies.now.items = c.len-number.ensures ∙ c.args.replies.now.ok.0 in
-    let sent = subst (λ (n : ℕ). IsSentTo c.in-To.part (n, c.in-To.job) c.args.crew.now c.send.new.self) number c.in-Ok.ensures.sent in
-    (sent_after c.args.crew.now c.args.replies.now.items c.requires.kept c.register.ensures.seated c.in-To.part c.args.event c.in-To.job to.1 to.3 c.blank.result c.send.new.self sent).0
+    let sent = subst (λ (n : ℕ). IsSentTo c.in-To.part (n, (job_of c.in-To.task)) c.args.crew.now c.send.new.self) number c.in-Ok.ensures.sent in
+    (sent_after c.args.crew.now c.args.replies.now.items c.requires.kept c.register.ensures.seated c.in-To.part c.args.event (job_of c.in-To.task) to.1 to.3 c.blank.result c.send.new.self sent).0
 
 pub returns-in-Ok-clause-took : goal.returns-in-Ok-clause-took
 returns-in-Ok-clause-took g c =
-    let to : IsRouted c.args.event c.args.crew.now.house (To c.in-To.part c.in-To.job) = subst (λ (h : Seating). IsRouted c.args.event h (To c.in-To.part c.in-To.job)) c.register.ensures.value c.in-To.ensures in
+    let to : IsRouted c.args.event c.args.crew.now.house (To c.in-To.part (job_of c.in-To.task)) = subst (λ (h : Seating). IsRouted c.args.event h (To c.in-To.part (job_of c.in-To.task))) c.register.ensures.value c.in-To.ensures in
     let number : c.len-number.result ≡ length c.args.replies.now.items = c.len-number.ensures ∙ c.args.replies.now.ok.0 in
-    let sent = subst (λ (n : ℕ). IsSentTo c.in-To.part (n, c.in-To.job) c.args.crew.now c.send.new.self) number c.in-Ok.ensures.sent in
-    (sent_after c.args.crew.now c.args.replies.now.items c.requires.kept c.register.ensures.seated c.in-To.part c.args.event c.in-To.job to.1 to.3 c.blank.result c.send.new.self sent).1
+    let sent = subst (λ (n : ℕ). IsSentTo c.in-To.part (n, (job_of c.in-To.task)) c.args.crew.now c.send.new.self) number c.in-Ok.ensures.sent in
+    (sent_after c.args.crew.now c.args.replies.now.items c.requires.kept c.register.ensures.seated c.in-To.part c.args.event (job_of c.in-To.task) to.1 to.3 c.blank.result c.send.new.self sent).1
 
-pub returns-in-Now-clause-desk : goal.returns-in-Now-clause-desk
-returns-in-Now-clause-desk g c = desk_same c.args.crew.now.house.spare c.args.crew.now.house.spare refl
+pub returns-in-Refused-clause-desk : goal.returns-in-Refused-clause-desk
+returns-in-Refused-clause-desk g c = desk_same c.args.crew.now.house.spare c.args.crew.now.house.spare refl
 
 pub returns-in-Ok-clause-desk : goal.returns-in-Ok-clause-desk
 returns-in-Ok-clause-desk g c =
-    let to : IsRouted c.args.event c.args.crew.now.house (To c.in-To.part c.in-To.job) = subst (λ (h : Seating). IsRouted c.args.event h (To c.in-To.part c.in-To.job)) c.register.ensures.value c.in-To.ensures in
+    let to : IsRouted c.args.event c.args.crew.now.house (To c.in-To.part (job_of c.in-To.task)) = subst (λ (h : Seating). IsRouted c.args.event h (To c.in-To.part (job_of c.in-To.task))) c.register.ensures.value c.in-To.ensures in
     let number : c.len-number.result ≡ length c.args.replies.now.items = c.len-number.ensures ∙ c.args.replies.now.ok.0 in
-    let sent = subst (λ (n : ℕ). IsSentTo c.in-To.part (n, c.in-To.job) c.args.crew.now c.send.new.self) number c.in-Ok.ensures.sent in
+    let sent = subst (λ (n : ℕ). IsSentTo c.in-To.part (n, (job_of c.in-To.task)) c.args.crew.now c.send.new.self) number c.in-Ok.ensures.sent in
     desk_same c.args.crew.now.house.spare c.send.new.self.house.spare
-    (sent_after c.args.crew.now c.args.replies.now.items c.requires.kept c.register.ensures.seated c.in-To.part c.args.event c.in-To.job to.1 to.3 c.blank.result c.send.new.self sent).2
+    (sent_after c.args.crew.now c.args.replies.now.items c.requires.kept c.register.ensures.seated c.in-To.part c.args.event (job_of c.in-To.task) to.1 to.3 c.blank.result c.send.new.self sent).2

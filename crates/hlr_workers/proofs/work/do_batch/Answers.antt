@@ -1,4 +1,5 @@
 use Rattle.std.proofs.Common.{◌∙◌, refl, ap, arith, [], ◌∷◌, length, length-append}
+use Rattle.hlr_core.specs.Tasks.{job_of}
 use Rattle.hlr_workers.proofs.SessionLemmas.{itself, job_same, same_twice, within_later}
 use Rattle.hlr_workers.proofs.WorkLemmas.{more_next, more_none, one_within}
 use Rattle.hlr_workers.proofs.work.do_batch.Goals as goal
@@ -11,11 +12,11 @@ loop-one-init g c = record {
   capacity = refl;
 }
 
-pub do_job-reply-requires-clause-within : goal.do_job-reply-requires-clause-within
-do_job-reply-requires-clause-within g c =
+pub carry_out-reply-requires-clause-within : goal.carry_out-reply-requires-clause-within
+carry_out-reply-requires-clause-within g c =
     let low = rw c.as_slice-one-items.ensures.value at c.loop-one-test.true in
     let is = rw c.as_slice-one-items.ensures.value at c.one-item.is in
-    within_later c.args.holding.now c.loop-one.holding c.one-item.result.job c.loop-one.invariant.same
+    within_later c.args.holding.now c.loop-one.holding (job_of c.one-item.result.task) c.loop-one.invariant.same
     (one_within c.args.holding.now c.args.batch.now.items c.loop-one.one-index c.one-item.result c.requires.within low is)
 
 pub push_reserved-requires : goal.push_reserved-requires
@@ -33,13 +34,13 @@ loop-one-preserved g c =
     let is = rw c.as_slice-one-items.ensures.value at c.one-item.is in
     let was = c.loop-one.invariant in
     record {
-      more = more_next c.args.batch.now.items c.loop-one.one-index c.one-item.result c.args.replies.now.items c.loop-one.replies.items c.push_reserved.new.self.items c.do_job-reply.result c.args.holding.now c.loop-one.holding
-          c.do_job-reply.new.holding low is was.more c.do_job-reply.ensures c.push_reserved.ensures.items;
-      same = same_twice c.args.holding.now c.loop-one.holding c.do_job-reply.new.holding was.same
-          (job_same c.one-item.result.job c.loop-one.holding c.do_job-reply.result c.do_job-reply.new.holding c.do_job-reply.ensures);
+      more = more_next c.args.batch.now.items c.loop-one.one-index c.one-item.result c.args.replies.now.items c.loop-one.replies.items c.push_reserved.new.self.items c.carry_out-reply.result c.args.holding.now c.loop-one.holding
+          c.carry_out-reply.new.holding low is was.more c.carry_out-reply.ensures c.push_reserved.ensures.items;
+      same = same_twice c.args.holding.now c.loop-one.holding c.carry_out-reply.new.holding was.same
+          (job_same (job_of c.one-item.result.task) c.loop-one.holding c.carry_out-reply.result c.carry_out-reply.new.holding c.carry_out-reply.ensures);
       long =
           let grew = ap length c.push_reserved.ensures.items in
-          let one = length-append c.loop-one.replies.items ((c.one-item.result.number, c.do_job-reply.result) ∷ []) in
+          let one = length-append c.loop-one.replies.items ((c.one-item.result.number, c.carry_out-reply.result) ∷ []) in
           let long = was.long in
           omega (arith, grew, one, long);
       capacity = c.push_reserved.ensures.capacity ∙ was.capacity;

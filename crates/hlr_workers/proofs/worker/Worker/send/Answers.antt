@@ -1,5 +1,6 @@
 use Rattle.std.proofs.Common.{◌<◌, length, subst, sym}
 use Rattle.hlr_core.specs.Session.{IsWithinJob}
+use Rattle.hlr_core.specs.Tasks.{job_of}
 use Rattle.hlr_workers.specs.Finish.{Sent}
 use Rattle.hlr_workers.specs.declared.work.TheConstants.{MOST_PENDING}
 use Rattle.hlr_workers.proofs.worker.Worker.send.Goals as goal
@@ -8,4 +9,4 @@ pub hold-requires-clause-room : goal.hold-requires-clause-room
 hold-requires-clause-room g c = subst (λ (s : Sent). length s.jobs < MOST_PENDING) (sym c.self.view_is) c.requires.room
 
 pub hold-requires-clause-within : goal.hold-requires-clause-within
-hold-requires-clause-within g c = subst (λ (s : Sent). IsWithinJob s.lent c.args.job) (sym c.self.view_is) c.requires.within
+hold-requires-clause-within g c = subst (λ (s : Sent). IsWithinJob s.lent (job_of c.args.task)) (sym c.self.view_is) c.requires.within
