@@ -56,7 +56,7 @@ static void subscribers(void) {
 
 static void access_rows(void) {
     hlr_access_asked asked[COUNT];
-    for (int i = 0; i < COUNT; i++) asked[i] = (hlr_access_asked){i / TYPES, i % TYPES};
+    for (int i = 0; i < COUNT; i++) asked[i] = (hlr_access_asked){i / TYPES, i < COUNT / 2 ? i % TYPES : 1 + i % 4};
     OTHER(accesses);
     OTHER(codes);
     DONE(hlr_access_data_many(&handle, asked, COUNT, accesses, COUNT, codes, COUNT));
