@@ -1,7 +1,8 @@
 //! A part that a lender lends, what is answered meanwhile, and its way home. Each call that wants memory is tried again
 //! where it is refused.
 use crate::tests::{
-    DONE, FIELD, NOT_ADJACENT, NO_NUMBER, NO_PART, NO_PIECE, OUT_OF_RANGE, moved, number, posting, read, row,
+    DONE, FIELD, NO_NUMBER, NO_PART, NO_PIECE, NOT_ADJACENT, OUT_OF_RANGE, moved, number, posting,
+    read, row,
 };
 use hlr_core::{Event, Register, Reply, Side};
 use hlr_lent::{Lender, Owner};
