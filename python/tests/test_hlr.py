@@ -88,7 +88,7 @@ class Alike(unittest.TestCase):
                  "hlr_region_list": "RegionList", "hlr_bounds": "Bounds", "hlr": "Handle",
                  "hlr_part": "PartHandle"}
         told = re.findall(r"^uint8_t (hlr_[a-z_]+)\(([^)]*)\);", HEADER.read_text(), re.M)
-        self.assertEqual(len(told), 47)
+        self.assertEqual(len(told), 50)
         library = hlr.library.library()
         for name, parameters in told:
             wanted = []
@@ -104,7 +104,7 @@ class Alike(unittest.TestCase):
 
     def test_refusals(self):
         told = re.findall(r"^ \* Refusals: ([A-Z_, ]+|none)\n \*/\nuint8_t hlr_([a-z_]+)\(", HEADER.read_text(), re.M)
-        self.assertEqual(len(told), 47)
+        self.assertEqual(len(told), 50)
         for refusals, name in told:
             if name != "open":
                 text = " ".join(inspect.getdoc(method(name)).split())
