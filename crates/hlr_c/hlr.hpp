@@ -109,8 +109,10 @@ struct view {
 /* Which end store::give gives away: the subscribers below a number, or those from it on. */
 enum class side : std::uint64_t { low = 0, high = 1 };
 
+namespace detail {
 /* Codes, as hlr.h has them: a byte each. */
 inline std::uint8_t *bytes(code *codes) noexcept { return reinterpret_cast<std::uint8_t *>(codes); }
+} // namespace detail
 
 /* A part that is out, or a closed handle. */
 class part {
@@ -151,13 +153,13 @@ public:
 
     /* Many reads: of each array the first count elements. */
     code subscriber_data_many(const std::uint64_t *s_ids, subscriber *rows, code *codes, std::size_t count) noexcept {
-        return code{hlr_part_subscriber_data_many(&handle_, s_ids, count, rows, count, bytes(codes), count)};
+        return code{hlr_part_subscriber_data_many(&handle_, s_ids, count, rows, count, detail::bytes(codes), count)};
     }
     code new_destination_many(const destination_asked *asked, numbers *found, code *codes, std::size_t count) noexcept {
-        return code{hlr_part_new_destination_many(&handle_, asked, count, found, count, bytes(codes), count)};
+        return code{hlr_part_new_destination_many(&handle_, asked, count, found, count, detail::bytes(codes), count)};
     }
     code access_data_many(const access_asked *asked, access *rows, code *codes, std::size_t count) noexcept {
-        return code{hlr_part_access_data_many(&handle_, asked, count, rows, count, bytes(codes), count)};
+        return code{hlr_part_access_data_many(&handle_, asked, count, rows, count, detail::bytes(codes), count)};
     }
 
     /* Changes. */
@@ -244,13 +246,13 @@ public:
 
     /* Many reads: of each array the first count elements. */
     code subscriber_data_many(const std::uint64_t *s_ids, subscriber *rows, code *codes, std::size_t count) noexcept {
-        return code{hlr_subscriber_data_many(&handle_, s_ids, count, rows, count, bytes(codes), count)};
+        return code{hlr_subscriber_data_many(&handle_, s_ids, count, rows, count, detail::bytes(codes), count)};
     }
     code new_destination_many(const destination_asked *asked, numbers *found, code *codes, std::size_t count) noexcept {
-        return code{hlr_new_destination_many(&handle_, asked, count, found, count, bytes(codes), count)};
+        return code{hlr_new_destination_many(&handle_, asked, count, found, count, detail::bytes(codes), count)};
     }
     code access_data_many(const access_asked *asked, access *rows, code *codes, std::size_t count) noexcept {
-        return code{hlr_access_data_many(&handle_, asked, count, rows, count, bytes(codes), count)};
+        return code{hlr_access_data_many(&handle_, asked, count, rows, count, detail::bytes(codes), count)};
     }
 
     /* Changes. */

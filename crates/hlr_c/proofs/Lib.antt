@@ -1,5 +1,6 @@
 pub mod AnswerLemmas
 pub mod CrossingLemmas
+pub mod FoundLemmas
 pub mod KeptPartSteps
 pub mod KeptSteps
 pub mod LenderCrossing

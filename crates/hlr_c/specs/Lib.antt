@@ -1,6 +1,7 @@
 pub mod Asked
 pub mod Call
 pub mod Held
+pub mod Inside
 pub mod Listing
 pub mod Many
 pub mod Opened

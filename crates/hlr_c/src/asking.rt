@@ -1,27 +1,78 @@
 //! Many questions in one call, of a register or of a part that is out.
-ghost use Rattle.std.specs.Prelude.{◌≡◌, ℕ};
+ghost use Rattle.std.specs.Prelude.{◌≡◌, ◌<◌, ℕ, IsTrue, false, length};
+ghost use Rattle.hlr_c.specs.Inside.{AnswersFrom, IsBlock};
 ghost use Rattle.hlr_c.specs.Many.{AreAnswered, AreAsMany, IsManyRead};
 
 use crate::codes::DONE;
 use hlr_core::Refusal;
 
 /// What is asked of a register or of a part, and answered by a row or numbers.
-pub(crate) trait Question<Of, Row> {
+pub(crate) trait Question<Of, Row>: Sized {
     // How it is answered, where the row was this before.
     ghost is_read: { Self → Row → Of → ℕ × Row → Of → Type 0 };
 
     /// Asks it: writes the row where the code is `DONE`.
     fn ask(&self, of: &Of, row: &mut Row) -> u8
         ensures { is_read self.now row.old of.now (result, row.new) of.now };
+
+    /// Asks the questions from one place up to another, at most 16, side by side, and tells whether it did: where not,
+    /// nothing is written.
+    fn ask_block(
+        of: &Of,
+        asked: &[Self],
+        from: usize,
+        to: usize,
+        rows: &mut [Row],
+        codes: &mut [u8],
+    ) -> bool
+        requires as_many { AreAsMany asked.now (rows.old, codes.old) }
+        requires block { IsBlock from to (length asked.now) }
+        ensures done { IsTrue result → AnswersFrom (λ question row found. is_read question row of.now found of.now) asked.now from to (rows.old, codes.old) (rows.new, codes.new) }
+        ensures none { result ≡ false → (rows.new ≡ rows.old) × (codes.new ≡ codes.old) }
+    {
+        false
+    }
 }
 
-/// Asks one question after another.
-fn ask_each<Of, Row, Q: Question<Of, Row>>(of: &Of, asked: &[Q], rows: &mut [Row], codes: &mut [u8])
+/// Tells where a block ends that begins at a place: 16 places on, or at the end.
+fn block_end(from: usize, count: usize) -> usize
+    requires { from < count }
+    ensures block { IsBlock from result count }
+    ensures some { from < result }
+{
+    if count - from < 16 { count } else { from + 16 }
+}
+
+/// Asks the questions from one place up to another, one after another.
+fn ask_each<Of, Row, Q: Question<Of, Row>>(
+    of: &Of,
+    asked: &[Q],
+    from: usize,
+    to: usize,
+    rows: &mut [Row],
+    codes: &mut [u8],
+)
+    requires as_many { AreAsMany asked.now (rows.old, codes.old) }
+    requires block { IsBlock from to (length asked.now) }
+    ensures { AnswersFrom (λ question row found. Q.is_read question row of.now found of.now) asked.now from to (rows.old, codes.old) (rows.new, codes.new) }
+{
+    for at in from..to {
+        codes[at] = asked[at].ask(of, &mut rows[at]);
+    }
+}
+
+/// Asks all questions, side by side where it can.
+fn ask_all<Of, Row, Q: Question<Of, Row>>(of: &Of, asked: &[Q], rows: &mut [Row], codes: &mut [u8])
     requires { AreAsMany asked.now (rows.old, codes.old) }
     ensures { AreAnswered (λ question row found. Q.is_read question row of.now found of.now) asked.now rows.old (rows.new, codes.new) }
 {
-    for at in 0..asked.len() {
-        codes[at] = asked[at].ask(of, &mut rows[at]);
+    let mut from = 0;
+    while from < asked.len() {
+        let to = block_end(from, asked.len());
+        if !Q::ask_block(of, asked, from, to, rows, codes) {
+            ask_each(of, asked, from, to, rows, codes);
+        }
+        from = to;
     }
 }
 
@@ -37,6 +88,6 @@ pub(crate) fn ask_many<Of, Row, Q: Question<Of, Row>>(
     if rows.len() != asked.len() || codes.len() != asked.len() {
         return Refusal::Field.code();
     }
-    ask_each(of, asked, rows, codes);
+    ask_all(of, asked, rows, codes);
     DONE
 }

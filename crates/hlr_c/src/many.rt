@@ -1,21 +1,138 @@
-//! The three transactions that read, each of many questions in one call.
-ghost use Rattle.std.specs.Prelude.{◌≡◌};
+//! The three transactions that read, each of many questions in one call. Rows of subscribers and accesses are looked for
+//! side by side, 16 at a time, where no part is out and one has them all.
+ghost use Rattle.std.specs.Prelude.{◌≡◌, ◌≤◌, IsTrue, false, [], length, map};
+ghost use Rattle.hlr_core.specs.Rows.{access_reply, subscriber_reply};
 ghost use Rattle.hlr_c.specs.Call.{IsCall};
-ghost use Rattle.hlr_c.specs.Many.{IsAccessRead, IsDestinationRead, IsManyRead, IsSubscriberRead};
+ghost use Rattle.hlr_c.specs.Inside.{AnswersFrom, IsBlock};
+ghost use Rattle.hlr_c.specs.Many.{AreAsMany, IsAccessRead, IsDestinationRead, IsManyRead, IsSubscriberRead};
+ghost use Rattle.hlr_c.specs.Told.{access_told, subscriber_told};
 ghost use Rattle.hlr_c.specs.declared.codes.TheConstants.{NOT_OPEN};
 
 use crate::asking::{Question, ask_many};
+use crate::codes::DONE;
 use crate::handle::{Hlr, with_register};
-use crate::reads::{ask_access, ask_destinations, ask_subscriber};
+use crate::reads::{ask_access, ask_destinations, ask_subscriber, subscriber_for_c, write_access};
 use crate::rows::{HlrAccess, HlrAccessAsked, HlrDestinationAsked, HlrNumbers, HlrSubscriber};
+use hlr_core::{Access, ArrayVec, Refusal, Subscriber};
 use hlr_lent::Lender;
 use std::alloc::Global;
+
+/// Writes what was found of a subscriber, as C has it: `NoSubscriber` where nothing was.
+fn write_subscriber(found: &Option<Subscriber>, row: &mut HlrSubscriber) -> u8
+    ensures { (result, row.new) ≡ subscriber_told row.old (subscriber_reply found.now) }
+{
+    match found {
+        Some(found) => {
+            *row = subscriber_for_c(found);
+            DONE
+        }
+        None => Refusal::NoSubscriber.code(),
+    }
+}
+
+/// Reads the subscribers from one place up to another, at most 16, side by side, and tells whether it did.
+fn ask_subscribers(
+    register: &Lender,
+    s_ids: &[u64],
+    from: usize,
+    to: usize,
+    rows: &mut [HlrSubscriber],
+    codes: &mut [u8],
+) -> bool
+    requires as_many { AreAsMany s_ids.now (rows.old, codes.old) }
+    requires block { IsBlock from to (length s_ids.now) }
+    ensures done { IsTrue result → AnswersFrom (λ s_id row found. IsSubscriberRead s_id row register.now found register.now) s_ids.now from to (rows.old, codes.old) (rows.new, codes.new) }
+    ensures none { result ≡ false → (rows.new ≡ rows.old) × (codes.new ≡ codes.old) }
+{
+    if !register.is_all_home() {
+        return false;
+    }
+    let mut found = ArrayVec::new();
+    let block = &s_ids[from..to];
+    if !register.register().copy_subscribers(block, &mut found) {
+        return false;
+    }
+    let found = found.as_slice();
+    for at in from..to {
+        codes[at] = write_subscriber(&found[at - from], &mut rows[at]);
+    }
+    true
+}
+
+/// Writes what was found of an access, as C has it: `NoAccess` where nothing was.
+fn write_access_found(found: &Option<Access>, asked: HlrAccessAsked, row: &mut HlrAccess) -> u8
+    ensures { (result, row.new) ≡ access_told asked.s_id asked.ai_type row.old (access_reply found.now) }
+{
+    match found {
+        Some(found) => {
+            write_access(found, asked.s_id, asked.ai_type, row);
+            DONE
+        }
+        None => Refusal::NoAccess.code(),
+    }
+}
+
+/// Puts the s_ids and types of accesses into an empty list.
+fn put_pairs(asked: &[HlrAccessAsked], pairs: &mut ArrayVec<(u64, u64), 16>)
+    requires few { length asked.now ≤ 16 }
+    requires empty { pairs.old.items ≡ [] }
+    ensures { pairs.new.items ≡ map (λ a. (a.s_id, a.ai_type)) asked.now }
+{
+    for place in 0..asked.len() {
+        let HlrAccessAsked { s_id, ai_type } = asked[place];
+        pairs.push((s_id, ai_type));
+    }
+}
+
+/// Reads the accesses from one place up to another, at most 16, side by side, and tells whether it did.
+fn ask_accesses(
+    register: &Lender,
+    asked: &[HlrAccessAsked],
+    from: usize,
+    to: usize,
+    rows: &mut [HlrAccess],
+    codes: &mut [u8],
+) -> bool
+    requires as_many { AreAsMany asked.now (rows.old, codes.old) }
+    requires block { IsBlock from to (length asked.now) }
+    ensures done { IsTrue result → AnswersFrom (λ question row found. IsAccessRead question row register.now found register.now) asked.now from to (rows.old, codes.old) (rows.new, codes.new) }
+    ensures none { result ≡ false → (rows.new ≡ rows.old) × (codes.new ≡ codes.old) }
+{
+    if !register.is_all_home() {
+        return false;
+    }
+    let mut pairs = ArrayVec::new();
+    put_pairs(&asked[from..to], &mut pairs);
+    let mut found = ArrayVec::new();
+    if !register
+        .register()
+        .copy_access(pairs.as_slice(), &mut found)
+    {
+        return false;
+    }
+    let found = found.as_slice();
+    for at in from..to {
+        codes[at] = write_access_found(&found[at - from], asked[at], &mut rows[at]);
+    }
+    true
+}
 
 impl Question<Lender, HlrSubscriber> for u64 {
     ghost is_read = { IsSubscriberRead };
 
     fn ask(&self, of: &Lender, row: &mut HlrSubscriber) -> u8 {
         ask_subscriber(of, *self, row)
+    }
+
+    fn ask_block(
+        of: &Lender,
+        asked: &[u64],
+        from: usize,
+        to: usize,
+        rows: &mut [HlrSubscriber],
+        codes: &mut [u8],
+    ) -> bool {
+        ask_subscribers(of, asked, from, to, rows, codes)
     }
 }
 
@@ -24,6 +141,17 @@ impl Question<Lender, HlrAccess> for HlrAccessAsked {
 
     fn ask(&self, of: &Lender, row: &mut HlrAccess) -> u8 {
         ask_access(of, self.s_id, self.ai_type, row)
+    }
+
+    fn ask_block(
+        of: &Lender,
+        asked: &[HlrAccessAsked],
+        from: usize,
+        to: usize,
+        rows: &mut [HlrAccess],
+        codes: &mut [u8],
+    ) -> bool {
+        ask_accesses(of, asked, from, to, rows, codes)
     }
 }
 

@@ -4,9 +4,11 @@
 #include <stdio.h>
 #include <string.h>
 
-enum { SUBSCRIBERS = 72, TYPES = 6, COUNT = SUBSCRIBERS * TYPES };
+/* the last block of sixteen isn't full */
+enum { SUBSCRIBERS = 72, TYPES = 6, COUNT = SUBSCRIBERS * TYPES - 3 };
 
 static hlr handle = HLR_CLOSED;
+static hlr_part owner = HLR_CLOSED;
 static int failed, answered[256];
 
 #define IS(what) (what) ? (void)0 : (failed = 1, (void)printf("line %d: %s\n", __LINE__, #what))
@@ -112,6 +114,13 @@ int main(void) {
     subscribers();
     access_rows();
     destinations();
+    DONE(hlr_lend(&handle, 1, &owner));
+    subscribers();
+    access_rows();
+    destinations();
+    IS(answered[HLR_AWAY]);
+    DONE(hlr_home(&owner));
+    DONE(hlr_back(&handle, 1));
     refusals(HLR_FIELD, 3, 2, 3);
     refusals(HLR_FIELD, 3, 3, 4);
     refusals(HLR_FIELD, 0, 3, 3);

@@ -71,7 +71,7 @@ static int moved(void) {
     return 0;
 }
 
-/* Rows are read, one in a call and sixteen in a call. */
+/* Rows are read, one in a call and sixteen in a call, which lie in one part. */
 static int read_out(void) {
     static hlr_subscriber row, rows[16];
     static hlr_facility facility;
@@ -82,7 +82,7 @@ static int read_out(void) {
     static uint64_t s_ids[16], s_id, end_time, numberx;
     static uint8_t codes[16];
     for (uint64_t i = 0; i < 16; i++) {
-        s_ids[i] = access_asked[i].s_id = asked[i].s_id = 1 + i * (ROWS / 16);
+        s_ids[i] = access_asked[i].s_id = asked[i].s_id = 1 + i * (ROWS / 64);
         access_asked[i].ai_type = asked[i].sf_type = 1;
         asked[i].end_time = 24;
         DO(hlr_find(&many, s_ids[i], &s_id));
@@ -105,6 +105,8 @@ static int lent(void) {
     static hlr_access access = {.s_id = 1, .ai_type = 2, .data3 = "ABC", .data4 = {'A', 'B', 'C', 'D', 'E'}};
     static hlr_facility facility = {.s_id = 1, .sf_type = 2, .is_active = 1, .data_b = {'A', 'B', 'C', 'D', 'E'}};
     static hlr_numbers numbers;
+    static hlr_access_asked access_asked = {1, 2};
+    static hlr_destination_asked asked = {1, 1, 16, 20};
     static uint64_t lo, hi, s_id = 1;
     static uint8_t code;
     DO(hlr_lend(&many, 0, &owner));
@@ -119,7 +121,9 @@ static int lent(void) {
     DO(hlr_part_subscriber_data(&owner, 1, &row));
     DO(hlr_part_subscriber_data_many(&owner, &s_id, 1, &row, 1, &code, 1));
     DO(hlr_part_access_data(&owner, 1, 2, &access));
+    DO(hlr_part_access_data_many(&owner, &access_asked, 1, &access, 1, &code, 1));
     DO(hlr_part_new_destination(&owner, 1, 1, 16, 20, &numbers));
+    DO(hlr_part_new_destination_many(&owner, &asked, 1, &numbers, 1, &code, 1));
     DO(hlr_part_post(&owner, HLR_CELLS, &told));
     DO(hlr_home(&owner));
     DO(hlr_back(&many, 0));

@@ -249,9 +249,9 @@ fn needed(register: &Register, asked: &Asked, s_id: u64) -> (u64, u64) {
     }
 }
 
-/// Whether an answer is a refusal that is known without any part: `Field`, `NoNumber` or `Moving`.
+/// Whether an answer is a refusal that is known without any part: `Field`, `NoNumber`, `Moving`, or one of the regions.
 fn is_known(answer: &Answer) -> bool {
-    matches!(answer, Answer::Code(2 | 4 | 11))
+    matches!(answer, Answer::Code(2 | 4 | 11..=16 | 22))
 }
 
 /// What is answered to an event that a register refuses with `AWAY`, for some parts: by the only one, where its owner has
