@@ -17,7 +17,7 @@ use hlr_lent::Lender;
 use std::alloc::Global;
 
 /// The counts of all cells.
-fn counts_of(cells: &Cells) -> [u64; CELLS as usize]
+pub(crate) fn counts_of(cells: &Cells) -> [u64; CELLS as usize]
     ensures { (c : ℕ) → c < CELLS → slice_index_or result c 0 ≡ slice_index cells.now c }
 {
     let mut counts = [0; CELLS as usize];

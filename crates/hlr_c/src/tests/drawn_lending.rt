@@ -14,7 +14,7 @@ use crate::part_changes::{
     hlr_part_update_subscriber,
 };
 use crate::part_reads::{hlr_part_access_data, hlr_part_new_destination, hlr_part_subscriber_data};
-use crate::reports::{hlr_scan, hlr_views};
+use crate::reports::{counts_of, hlr_scan, hlr_views};
 use hlr_core::{CELLS, Number, Place, Refusal, Register};
 use std::alloc::Global;
 use std::process::Abort;
@@ -313,15 +313,10 @@ fn cells_alike(alloc: Global, register: &Register, handle: &mut Hlr, is_away: bo
 
 /// Whether a walk over all rows of a register counts so many of each cell.
 fn are_counted(register: &Register, counts: &[u64; CELLS as usize]) -> bool {
-    let Some(cells) = recounted(register) else {
-        return false;
-    };
-    for (cell, count) in (0..CELLS).zip(counts) {
-        if i128::from(cells.get(cell)) != i128::from(*count) {
-            return false;
-        }
+    match recounted(register) {
+        Some(cells) => counts_of(&cells) == *counts,
+        None => false,
     }
-    true
 }
 
 /// Whether all is alike that is read of a subscriber and a type of access and facility: it is active once it is asked.
