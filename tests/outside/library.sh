@@ -54,7 +54,7 @@ lent() {
   client lent "$in_library/lent.c" -Wl,--wrap=malloc,--wrap=realloc || return
   ended 'parts that are lent' /dev/null "$room/lent"
   if tool valgrind 'parts that are lent under it'; then
-    ended 'parts that are lent under valgrind' /dev/null valgrind -q --leak-check=full --error-exitcode=9 "$room/lent"
+    ended 'parts that are lent under valgrind' /dev/null valgrind -q --fair-sched=try --leak-check=full --error-exitcode=9 "$room/lent"
   fi
 }
 
