@@ -5,8 +5,6 @@ mod cuts;
 mod grafts;
 mod joins;
 mod needs;
-#[cfg(test)]
-mod tests;
 mod trees;
 
 pub use needs::{need_meld, need_slice, stock_for_meld, stock_for_slice};

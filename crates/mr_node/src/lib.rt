@@ -16,8 +16,6 @@ mod revise;
 mod room;
 mod runs;
 mod stock;
-#[cfg(test)]
-mod tests;
 
 pub use body::{Body, Branch, Kid, Leaf};
 pub use cuts::{build_blank, cut_kids, cut_leaf};

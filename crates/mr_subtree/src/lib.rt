@@ -3,7 +3,5 @@
 
 mod many;
 mod subtree;
-#[cfg(test)]
-mod tests;
 
 pub use subtree::SubTree;

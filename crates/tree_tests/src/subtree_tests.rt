@@ -3,9 +3,9 @@
 ghost use Rattle.std.specs.Prelude.{◌+◌, ◌%◌, ◌^◌, ◌<◌, ◌≤◌, length};
 ghost use Rattle.mr_node.specs.Rows.{key_limit};
 
-use super::*;
 use arrayvec::ArrayVec;
 use mr_node::Revise;
+use mr_subtree::*;
 use std::alloc::Global;
 use std::process::Abort;
 use tatp_rows::Refusal;

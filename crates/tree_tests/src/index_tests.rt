@@ -1,5 +1,5 @@
 //! What no clause says: that an index can be had and grows, and what stands where a growth is refused.
-use super::*;
+use number_index::*;
 use std::alloc::Global;
 use std::process::Abort;
 use std::test::Fail;

@@ -4,7 +4,7 @@ ghost use Rattle.std.specs.Prelude.{◌≡◌, ◌<◌};
 ghost use Rattle.mr_cut.specs.Bounds.{blanks_for_slice, blanks_for_meld};
 ghost use Rattle.mr_node.specs.Rows.{key_limit};
 
-use super::*;
+use mr_cut::*;
 use mr_node::Stock;
 use mr_subtree::SubTree;
 use std::alloc::Global;

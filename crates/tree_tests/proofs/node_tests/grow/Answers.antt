@@ -1,7 +1,7 @@
 use Rattle.std.proofs.Common.{rules, arith, ◌≡◌, None, ap, ◌∙◌}
 use Rattle.tatp_rows.specs.Ordered.{row_at}
 use Rattle.mr_node.specs.Rows.{key_of_pair}
-use Rattle.mr_node.proofs.tests.grow.Goals as goal
+use Rattle.tree_tests.proofs.node_tests.grow.Goals as goal
 
 pub insert_split-requires : goal.insert_split-requires
 insert_split-requires g c =

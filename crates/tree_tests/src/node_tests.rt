@@ -1,8 +1,8 @@
 //! What no clause says: that blank nodes can be had, and what the calls on nodes answer when they succeed.
 ghost use Rattle.std.specs.Prelude.{◌≡◌, ◌+◌, ◌%◌, ◌^◌, ◌<◌, ◌≤◌};
 
-use super::*;
 use arrayvec::ArrayVec;
+use mr_node::*;
 use std::alloc::Global;
 use std::process::Abort;
 use std::test::*;
