@@ -58,9 +58,13 @@ struct Store {
     uint8_t add(const hlr_subscriber &row) {
         if (!is_sid(row.s_id) || !is_number(row.sub_nbr) || !is_location(row.msc_location) || !is_location(row.vlr_location)
             || !are_within(row.bits, 10, 0, 1) || !are_within(row.hexes, 10, 0, 15)) return HLR_FIELD;
-        if (subscribers.count(row.s_id)) return HLR_EXISTS;
-        if (!numbers.emplace(row.sub_nbr, row.s_id).second) return HLR_NUMBER_TAKEN;
-        Subscriber &made = subscribers[row.s_id];
+        auto [at, is_new] = subscribers.try_emplace(row.s_id);
+        if (!is_new) return HLR_EXISTS;
+        if (!numbers.try_emplace(row.sub_nbr, row.s_id).second) {
+            subscribers.erase(at);
+            return HLR_NUMBER_TAKEN;
+        }
+        Subscriber &made = at->second;
         made.number = row.sub_nbr, made.msc = row.msc_location, made.vlr = row.vlr_location;
         memcpy(made.bits, row.bits, 10), memcpy(made.hexes, row.hexes, 10), memcpy(made.bytes, row.bytes, 10);
         zone(row.s_id)++, area(made.vlr)++;
