@@ -1,10 +1,11 @@
 //! Rows of several subscribers of a holding's part, looked for side by side.
 ghost use Rattle.std.specs.Prelude.{◌≡◌, ◌≤◌, [], length, map};
+ghost use Rattle.tatp_actions.specs.Action.{destinations};
 ghost use Rattle.tatp_actions.specs.Book.{subscriber_at, access_at};
 
 use crate::holding::Holding;
 use arrayvec::ArrayVec;
-use tatp_rows::{Access, Subscriber};
+use tatp_rows::{Access, Number, Subscriber};
 
 impl Holding {
     /// Puts the Subscriber rows of up to 16 subscribers into an empty list, one for each in their order, `None` where
@@ -25,5 +26,20 @@ impl Holding {
         ensures { rows.new.items ≡ map (λ a. access_at self.now.part.book a.0 a.1) asked.now }
     {
         self.part.copy_access(asked, rows);
+    }
+
+    /// Puts the numbers to which up to 16 calls are forwarded into an empty list, as `destinations` tells them, of each
+    /// call by its s_id, sf_type, start_time and end_time, in the order in which they are asked. The rows are looked for
+    /// side by side.
+    pub fn copy_destinations(
+        &self,
+        asked: &[(u32, u8, u8, u8)],
+        found: &mut ArrayVec<ArrayVec<Number, 3>, 16>,
+    )
+        requires few { length asked.now ≤ 16 }
+        requires empty { found.old.items ≡ [] }
+        ensures { found.new.items ≡ map (λ q. record { items = destinations self.now.part.book q.0 q.1 q.2 q.3 }) asked.now }
+    {
+        self.part.copy_destinations(asked, found);
     }
 }

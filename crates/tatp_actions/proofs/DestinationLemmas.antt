@@ -1,6 +1,6 @@
 -- The numbers that a call is forwarded to, from three questions by key.
 use Rattle.std.proofs.Common.{◌≡◌, refl, sym, ◌∙◌, ap, ℕ, ◌+◌, ◌<◌, ◌≤◌, arith, true, false, List, [], ◌∷◌, ◌++◌, map, length, Option, Some, None, nat_le, nat_lt, inl, inr}
-use Rattle.std.specs.Prelude.{◌&&◌, ◌==◌, ◌⊎◌}
+use Rattle.std.specs.Prelude.{◌&&◌, ◌==◌, ◌⊎◌, if◌then◌else◌}
 use Rattle.std.specs.List.{filter}
 use Rattle.std.specs.Option.{option_to_list}
 use Rattle.std.proofs.lemmas.Bool.Decides.{nat_tests}
@@ -10,13 +10,13 @@ use Rattle.tatp_rows.proofs.FilterLemmas.{kept, kept_of_three}
 use Rattle.tatp_rows.proofs.OrderedLemmas.{by_test, each-weaker}
 use Rattle.tatp_rows.proofs.RowLemmas.{both, both_from, forwarding_ranges}
 use Rattle.tatp_rows.specs.Keys.{key_of, forwarding_key}
-use Rattle.tatp_rows.specs.Rows.{CallForwardingRow, is_between, is_start_time, forwarding_in_range}
+use Rattle.tatp_rows.specs.Rows.{CallForwardingRow, SpecialFacilityRow, is_between, is_start_time, forwarding_in_range}
 use Rattle.tatp_rows.specs.declared.refusal.Refusal.TheVariants as refusal
 use Rattle.tatp_actions.specs.Action.{is_in_range, takes_call, destinations, new_destination}
 use Rattle.tatp_actions.specs.Book.{Book, IsBook, IsWithin, facility_at, has_active, forwarding_at}
 use Rattle.tatp_actions.specs.Part.{PartState, IsPart}
 use Rattle.tatp_actions.specs.Edit.{Acts}
-use Rattle.tatp_actions.specs.Inside.{destination, IsOnlyAsked}
+use Rattle.tatp_actions.specs.Inside.{destination, number_taken, IsOnlyAsked}
 use Rattle.tatp_actions.specs.declared.action.Action.TheVariants.{NewDestination}
 use Rattle.tatp_actions.specs.declared.action.RowReply.TheVariants as reply
 use Rattle.tatp_actions.proofs.ActsLemmas.{acts_read, first_fails, second_fails, is_typed_from}
@@ -34,18 +34,13 @@ destination_late book s t hour a e rules small small' late = sym (cases (forward
         let no : takes_call s t a e row ≡ false = second_fails (row.s_id == s && row.sf_type == t) (nat_le row.start_time a && nat_lt e row.end_time) (first_fails (nat_le row.start_time a) (nat_lt e row.end_time) over) in
         rw (is, no) refl
 
--- one that has started, and ends later, takes it
-pub destination_found : (book : Book) (s t hour a e : ℕ) (row : CallForwardingRow) → IsBook book → t < 256 → hour < 256 → Some row ≡ forwarding_at book s t hour → hour ≤ a → e < row.end_time
-    → Some row.numberx ≡ destination s t a e (forwarding_at book s t hour)
-destination_found book s t hour a e row rules small small' is started ends =
+-- one of the facility takes it by its times alone
+pub by_times : (book : Book) (s t hour a e : ℕ) → IsBook book → t < 256 → hour < 256 → (o : Option CallForwardingRow) → o ≡ forwarding_at book s t hour → number_taken a e o ≡ destination s t a e o
+by_times book s t hour a e rules small small' None is = refl
+by_times book s t hour a e rules small small' (Some row) is =
     let parts = forwarding_found book s t hour row rules small small' (sym is) in
-    let own : (row.s_id == s) ≡ true = equal row.s_id s parts.0 in
-    let own' : (row.sf_type == t) ≡ true = equal row.sf_type t parts.1 in
-    let start = parts.2 in
-    let from : nat_le row.start_time a ≡ true = grind (arith, nat_tests) in
-    let to : nat_lt e row.end_time ≡ true = grind (arith, nat_tests) in
-    let yes : takes_call s t a e row ≡ true = both_from (row.s_id == s && row.sf_type == t) (nat_le row.start_time a && nat_lt e row.end_time) (both_from _ _ own own') (both_from _ _ from to) in
-    rw (← is, yes) refl
+    let own : (row.s_id == s && row.sf_type == t) ≡ true = both_from (row.s_id == s) (row.sf_type == t) (equal row.s_id s parts.0) (equal row.sf_type t parts.1) in
+    rw own refl
   where
     equal : (m n : ℕ) → m ≡ n → (m == n) ≡ true
     equal m n same = grind (arith, nat_tests)
@@ -93,6 +88,14 @@ module _ (book : Book) (s t a e : ℕ) (rules : IsBook book) where
       → n0 ≡ destination s t a e (forwarding_at book s t 0) → n8 ≡ destination s t a e (forwarding_at book s t 8) → n16 ≡ destination s t a e (forwarding_at book s t 16)
       → numbers ≡ (option_to_list n0 ++ option_to_list n8) ++ option_to_list n16 → numbers ≡ destinations book s t a e
   numbers_lent n0 n8 n16 numbers active is0 is8 is16 gathered = rw (← active, gathered, is0, is8, is16) three_found
+
+  -- so are those of a facility that was found, and none where it isn't active
+  pub active_numbers : (o : Option SpecialFacilityRow) (n0 n8 n16 : Option ℕ) (numbers : List ℕ) → o ≡ facility_at book s t
+      → n0 ≡ destination s t a e (forwarding_at book s t 0) → n8 ≡ destination s t a e (forwarding_at book s t 8) → n16 ≡ destination s t a e (forwarding_at book s t 16)
+      → numbers ≡ (if has_active o then (option_to_list n0 ++ option_to_list n8) ++ option_to_list n16 else []) → numbers ≡ destinations book s t a e
+  active_numbers o n0 n8 n16 numbers is is0 is8 is16 gathered = by_test (has_active o)
+      (λ active. numbers_lent n0 n8 n16 numbers (rw is at (sym active)) is0 is8 is16 (rw active at gathered))
+      (λ idle. gathered ∙ rw (← is, idle) refl)
 
 -- the answer to numbers that were found, and to none
 numbers_answered : (book : Book) (ns : List ℕ) → (length ns == 0) ≡ false → new_destination book ns ≡ (reply.Numbers (record { items = ns }), book)

@@ -1,5 +1,7 @@
 -- What is found at many keys.
-use Rattle.std.proofs.Common.{◌≡◌, ℕ, List, [], ◌∷◌, map, refl, ap, ◌∙◌}
+use Rattle.std.proofs.Common.{◌≡◌, ℕ, suc, ◌+◌, ◌<◌, List, [], ◌∷◌, ◌++◌, get_or, length, map, take, refl, sym, ap, ◌∙◌, arith}
+use Rattle.std.proofs.Math.Seq.{take-suc}
+use Rattle.std.proofs.lemmas.List.{get_or-map, map-append}
 use Rattle.mr_node.specs.Rows.{value_at}
 use Rattle.tatp_rows.specs.Ordered.{row_at}
 use Rattle.tatp_actions.specs.Tables.{IsKeyed, values_of}
@@ -11,3 +13,14 @@ all_found key key_for pairs [] keyed = refl
 all_found key key_for pairs (a ∷ asked) keyed =
     ap (λ row. row ∷ map (λ k. value_at k pairs) (map key_for asked)) (found_in key pairs (key_for a) (key_for a) (value_at (key_for a) pairs) keyed refl refl)
     ∙ ap (λ rows. row_at key (key_for a) (values_of pairs) ∷ rows) (all_found key key_for pairs asked keyed)
+
+-- one more of a list that is made place by place
+pub one_more_made : {A B : Type 0} (make : A → B) (asked : List A) (n : ℕ) (d : A) (made more : List B) (b : B) → n < length asked → made ≡ map make (take n asked) → more ≡ made ++ b ∷ [] → b ≡ make (get_or asked n d)
+    → more ≡ map make (take (n + 1) asked)
+one_more_made make asked n d made more b below so_far pushed is =
+    let next : n + 1 ≡ suc n = omega arith in
+    pushed ∙ rw (so_far, is, next, take-suc asked n d below) (sym (map-append make (take n asked) (get_or asked n d ∷ [])))
+
+-- what stands at a place of a list that was made
+pub made_at : {A B : Type 0} (make : A → B) (asked : List A) (n : ℕ) (d : A) (made : List B) (b : B) → n < length asked → made ≡ map make asked → b ≡ get_or made n b → b ≡ make (get_or asked n d)
+made_at make asked n d made b below is here = here ∙ ap (λ bs. get_or bs n b) is ∙ get_or-map make asked n d b below

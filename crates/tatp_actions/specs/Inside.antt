@@ -20,6 +20,11 @@ abbrev pub destination : ℕ → ℕ → ℕ → ℕ → Option CallForwardingRo
 destination s_id sf_type start_time end_time None = None
 destination s_id sf_type start_time end_time (Some row) = if takes_call s_id sf_type start_time end_time row then Some row.numberx else None
 
+-- the same of a forwarding of the facility that is asked for
+abbrev pub number_taken : ℕ → ℕ → Option CallForwardingRow → Option ℕ
+number_taken start_time end_time None = None
+number_taken start_time end_time (Some row) = if nat_le row.start_time start_time && nat_lt end_time row.end_time then Some row.numberx else None
+
 -- the part, asked once more
 abbrev pub asked_once : PartState → PartState
 asked_once part = record part { asked = once_more part.asked }

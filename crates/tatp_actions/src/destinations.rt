@@ -1,10 +1,10 @@
 //! The numbers that a call is forwarded to: one rule, for rows that are lent and for rows that are asked.
-ghost use Rattle.std.specs.Prelude.{◌≡◌, ◌+◌, ◌<◌, ◌≤◌, ◌++◌};
+ghost use Rattle.std.specs.Prelude.{◌≡◌, ◌+◌, ◌<◌, ◌≤◌, ◌++◌, [], if◌then◌else◌};
 ghost use Rattle.std.specs.Option.{option_to_list};
 ghost use Rattle.arrayvec.specs.ArrayVec.{array_vec_len};
 ghost use Rattle.tatp_actions.specs.Action.{destinations};
 ghost use Rattle.tatp_actions.specs.Book.{facility_at, forwarding_at, has_active};
-ghost use Rattle.tatp_actions.specs.Inside.{destination, IsOnlyAsked};
+ghost use Rattle.tatp_actions.specs.Inside.{destination, number_taken, IsOnlyAsked};
 ghost use Rattle.tatp_actions.specs.Part.{PartState, IsPart};
 
 use crate::part::Part;
@@ -96,8 +96,17 @@ fn find_destination<F: FacilityRows>(
     if start_time < hour {
         return None;
     }
-    let row = rows.find_forwarding(s_id, sf_type, hour)?;
-    if end_time < row.end_time() {
+    let found = rows.find_forwarding(s_id, sf_type, hour);
+    number_of(found, start_time, end_time)
+}
+
+/// The number of a forwarding that was found, where it starts by one hour and ends after another.
+#[inline(always)]
+pub(crate) fn number_of(found: Option<Forwarding>, start_time: u8, end_time: u8) -> Option<Number>
+    ensures { result ≡ number_taken start_time end_time found }
+{
+    let row = found?;
+    if row.start_time() <= start_time && end_time < row.end_time() {
         Some(row.numberx())
     } else {
         None
@@ -113,6 +122,21 @@ pub(crate) fn is_active(found: Option<Facility>) -> bool
         Some(facility) => facility.is_active(),
         None => false,
     }
+}
+
+/// The numbers that were found, in order, where the facility was found and is active.
+pub(crate) fn numbers_of_active(
+    facility: Option<Facility>,
+    first: Option<Number>,
+    second: Option<Number>,
+    third: Option<Number>,
+) -> ArrayVec<Number, 3>
+    ensures { result.items ≡ (if has_active facility then (option_to_list first ++ option_to_list second) ++ option_to_list third else []) }
+{
+    if !is_active(facility) {
+        return ArrayVec::new();
+    }
+    numbers_of(first, second, third)
 }
 
 /// The numbers that were found, in order.

@@ -1,11 +1,14 @@
 //! Rows of several subscribers, looked for side by side.
 ghost use Rattle.std.specs.Prelude.{◌≡◌, ◌≤◌, [], length, map};
 ghost use Rattle.tatp_rows.specs.Keys.{key_of};
-ghost use Rattle.tatp_actions.specs.Book.{subscriber_at, access_at};
+ghost use Rattle.tatp_actions.specs.Action.{destinations};
+ghost use Rattle.tatp_actions.specs.Book.{subscriber_at, access_at, forwarding_at};
+ghost use Rattle.tatp_actions.specs.Inside.{destination};
 
+use crate::destinations::{number_of, numbers_of_active};
 use crate::part::Part;
 use arrayvec::ArrayVec;
-use tatp_rows::{Access, Subscriber, row_key, subscriber_key};
+use tatp_rows::{Access, Number, Subscriber, row_key, subscriber_key};
 
 /// The keys of the Subscriber rows of these subscribers.
 fn subscriber_keys(s_ids: &[u32]) -> ArrayVec<u64, 16>
@@ -32,6 +35,19 @@ fn access_keys(asked: &[(u32, u8)]) -> ArrayVec<u64, 16>
     keys
 }
 
+/// The keys of rows of the facilities of these calls: of forwardings that start at an hour, or at 0 of the facilities.
+fn call_keys(asked: &[(u32, u8, u8, u8)], hour: u8) -> ArrayVec<u64, 16>
+    requires { length asked.now ≤ 16 }
+    ensures { result.items ≡ map (λ q. key_of q.0 q.1 hour) asked.now }
+{
+    let mut keys = ArrayVec::new();
+    for place in 0..asked.len() {
+        let (s_id, sf_type, _, _) = asked[place];
+        keys.push(row_key(s_id, sf_type, hour));
+    }
+    keys
+}
+
 impl Part {
     /// Puts the Subscriber rows of up to 16 subscribers into an empty list, one for each in their order, `None` where
     /// there is none. The rows are looked for side by side, so that their waits for memory overlap.
@@ -53,5 +69,53 @@ impl Part {
     {
         let keys = access_keys(asked);
         self.rows.access.copy_many(keys.as_slice(), rows);
+    }
+
+    /// The numbers of the forwardings that start at an hour and take these calls, `None` where none does.
+    fn hour_numbers(&self, asked: &[(u32, u8, u8, u8)], hour: u8) -> ArrayVec<Option<Number>, 16>
+        requires { length asked.now ≤ 16 }
+        ensures { result.items ≡ map (λ q. destination q.0 q.1 q.2 q.3 (forwarding_at self.now.book q.0 q.1 hour)) asked.now }
+    {
+        let keys = call_keys(asked, hour);
+        let mut rows = ArrayVec::new();
+        self.rows.forwardings.copy_many(keys.as_slice(), &mut rows);
+        let found = rows.as_slice();
+        let mut numbers = ArrayVec::new();
+        for place in 0..asked.len() {
+            // Reads the type for the prover: it fits a byte.
+            let (_, _sf_type, start_time, end_time) = asked[place];
+            numbers.push(number_of(found[place], start_time, end_time));
+        }
+        numbers
+    }
+
+    /// Puts the numbers to which up to 16 calls are forwarded into an empty list, as `destinations` tells them, of each
+    /// call by its s_id, sf_type, start_time and end_time, in the order in which they are asked. The rows are looked for
+    /// side by side.
+    pub fn copy_destinations(
+        &self,
+        asked: &[(u32, u8, u8, u8)],
+        found: &mut ArrayVec<ArrayVec<Number, 3>, 16>,
+    )
+        requires few { length asked.now ≤ 16 }
+        requires empty { found.old.items ≡ [] }
+        ensures { found.new.items ≡ map (λ q. record { items = destinations self.now.book q.0 q.1 q.2 q.3 }) asked.now }
+    {
+        let keys = call_keys(asked, 0);
+        let mut facilities = ArrayVec::new();
+        self.rows
+            .facilities
+            .copy_many(keys.as_slice(), &mut facilities);
+        let first = self.hour_numbers(asked, 0);
+        let second = self.hour_numbers(asked, 8);
+        let third = self.hour_numbers(asked, 16);
+        for place in 0..asked.len() {
+            found.push(numbers_of_active(
+                facilities.as_slice()[place],
+                first.as_slice()[place],
+                second.as_slice()[place],
+                third.as_slice()[place],
+            ));
+        }
     }
 }

@@ -1,0 +1,6 @@
+use Rattle.std.proofs.Common.{◌≡◌, ℕ, map, take}
+use Rattle.tatp_rows.specs.Keys.{key_of}
+use Rattle.tatp_actions.proofs.many.call_keys.Given as goal
+
+abbrev pub invariant-loop-place : goal.invariant-loop-place
+invariant-loop-place l = l.keys.items ≡ map (λ (q : ℕ × ℕ × ℕ × ℕ). key_of q.0 q.1 l.hour) (take l.place l.asked)
