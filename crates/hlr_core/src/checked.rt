@@ -35,6 +35,8 @@ fn location(value: u64) -> Result<NonZeroU32, Refusal>
     NonZeroU32::new(small).ok_or(Refusal::Field)
 }
 
+/// Makes the edit of UPDATE_SUBSCRIBER_DATA: `Field` where s_id isn't in 1..=16,777,216, or sf_type, bit_1 or data_a is
+/// above 255. The edit itself looks at narrower ranges.
 pub(crate) fn update_subscriber(
     s_id: u64,
     sf_type: u64,
@@ -52,6 +54,8 @@ pub(crate) fn update_subscriber(
     })
 }
 
+/// Makes the edit that switches a facility on or off: `Field` where s_id isn't in 1..=16,777,216, or sf_type or
+/// is_active is above 255. The edit itself looks at narrower ranges.
 pub(crate) fn set_active(s_id: u64, sf_type: u64, is_active: u64) -> Result<SetActive, Refusal>
     ensures action { IfOk result (λ edit. IsRowAction (⟦<SetActive as Edit>⟧.action edit)) }
     ensures asked { IsAskedAlone (action.SetActive s_id sf_type is_active) (action_asked ⟦<SetActive as Edit>⟧.action result) }
@@ -63,6 +67,8 @@ pub(crate) fn set_active(s_id: u64, sf_type: u64, is_active: u64) -> Result<SetA
     })
 }
 
+/// Makes the edit of UPDATE_LOCATION for who has the number: `Field` where vlr_location isn't in 1..=4,294,967,295,
+/// then `NoNumber` where nobody has it.
 pub(crate) fn update_location(
     bearer_id: Option<u32>,
     vlr_location: u64,
@@ -77,6 +83,8 @@ pub(crate) fn update_location(
     Ok(UpdateLocation { s_id, vlr_location })
 }
 
+/// Makes the edit of INSERT_CALL_FORWARDING for who has the number: `Field` where sf_type isn't in 1..=4, start_time
+/// isn't 0, 8 or 16, or end_time isn't in 1..=24, then `NoNumber` where nobody has it.
 pub(crate) fn insert_forwarding(
     bearer_id: Option<u32>,
     sf_type: u64,
@@ -99,6 +107,8 @@ pub(crate) fn insert_forwarding(
     Ok(InsertForwarding { row })
 }
 
+/// Makes the edit of DELETE_CALL_FORWARDING for who has the number: `Field` where sf_type isn't in 1..=4 or start_time
+/// isn't 0, 8 or 16, then `NoNumber` where nobody has it.
 pub(crate) fn delete_forwarding(
     bearer_id: Option<u32>,
     sf_type: u64,
@@ -122,6 +132,7 @@ pub(crate) fn delete_forwarding(
     })
 }
 
+/// Makes the edit that adds an Access_Info row. It refuses none.
 pub(crate) fn add_access(row: Access) -> Result<AddAccess, Refusal>
     ensures action { IfOk result (λ edit. IsRowAction (⟦<AddAccess as Edit>⟧.action edit)) }
     ensures asked { IsAsked true (Some (action.AddAccess row)) (action_asked ⟦<AddAccess as Edit>⟧.action result) }
@@ -131,6 +142,7 @@ pub(crate) fn add_access(row: Access) -> Result<AddAccess, Refusal>
     Ok(AddAccess { row })
 }
 
+/// Makes the edit that adds a Special_Facility row. It refuses none.
 pub(crate) fn add_facility(row: Facility) -> Result<AddFacility, Refusal>
     ensures action { IfOk result (λ edit. IsRowAction (⟦<AddFacility as Edit>⟧.action edit)) }
     ensures asked { IsAsked true (Some (action.AddFacility row)) (action_asked ⟦<AddFacility as Edit>⟧.action result) }

@@ -183,7 +183,7 @@ pub enum Reply {
 }
 
 impl Reply {
-    /// The reply that carries what the rows answered.
+    /// Makes the reply that carries what the rows answered.
     pub fn of_rows(answer: RowReply) -> Reply
         ensures { result ≡ reply_of answer }
     {
@@ -193,7 +193,7 @@ impl Reply {
         }
     }
 
-    /// The reply that carries what a posting answered.
+    /// Makes the reply that carries what a posting answered.
     pub fn of_posting(posted: Result<u8, Refusal>) -> Reply
         ensures { result ≡ posted_reply posted }
     {

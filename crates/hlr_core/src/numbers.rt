@@ -17,7 +17,7 @@ use tatp_rows::{Refusal, Subscriber};
 trait HasSubscribers {
     ghost rows_of: { Self → List SubscriberRow };
 
-    /// The first Subscriber row from a subscriber on.
+    /// Gives the first Subscriber row from a subscriber on.
     fn first_row(&self, s_id: u64) -> Option<&Subscriber>
         ensures value { option_copied result ≡ first_subscriber s_id (rows_of self.now) }
         ensures ordered { IsOrderedBy subscriber_key (rows_of self.now) };
@@ -67,7 +67,8 @@ fn add_numbers_of_all<O: HasSubscribers>(
     Ok(())
 }
 
-/// The index of the numbers of all rows: `NumberTaken` where a number stands twice, `Memory`.
+/// Makes the index of the numbers of all rows: `NumberTaken` where a number stands twice, `Memory` where a growth was
+/// refused.
 pub(crate) fn index_of(alloc: Global, scattered: &Scattered) -> Result<NumberIndex, Refusal>
     ensures ok { IfOk result (IsIndexed scattered.now) }
     ensures err { IfErr result (λ why. ((why ≡ Refusal.NumberTaken) × HasTwins scattered.now) ⊎ (why ≡ Refusal.Memory)) }

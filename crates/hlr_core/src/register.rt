@@ -65,6 +65,7 @@ impl Model for Register {
     ghost invariant = { λ r. IsRegister (book_in r.seats.seats) r.index };
 }
 
+/// Makes the reply to a read of a Subscriber row: the row, or why it was refused.
 pub(crate) fn row_reply(lent: Result<&Subscriber, Refusal>) -> Reply
     ensures { MatchResult lent.entry (λ row. result ≡ Reply.Rows (RowReply.Row row.now)) (λ why. result ≡ Reply.Refused why) }
 {
@@ -74,6 +75,7 @@ pub(crate) fn row_reply(lent: Result<&Subscriber, Refusal>) -> Reply
     }
 }
 
+/// Makes the reply to a read of an Access_Info row: its data1 to data4, or why it was refused.
 pub(crate) fn access_reply(lent: Result<&Access, Refusal>) -> Reply
     ensures { MatchResult lent.entry (λ row. result ≡ Reply.Rows (RowReply.AccessRow row.now.data1 row.now.data2 row.now.data3 row.now.data4)) (λ why. result ≡ Reply.Refused why) }
 {
@@ -97,6 +99,7 @@ fn numbers_reply(found: Result<ArrayVec<Number, 3>, Refusal>) -> Reply
     }
 }
 
+/// Makes the reply to an edit: that it is done, or why it was refused.
 pub(crate) fn edited_reply(done: Result<(), Refusal>) -> Reply
     ensures { result ≡ edited_reply done }
 {
@@ -107,8 +110,8 @@ pub(crate) fn edited_reply(done: Result<(), Refusal>) -> Reply
 }
 
 impl Register {
-    /// An empty register whose words are all 0, with so many parts that share the zones out. `Field` where parts isn't
-    /// in 1..=16 or the width isn't in 1..=524,288; `Memory` where a growth was refused.
+    /// Opens an empty register whose words are all 0, with so many parts that share out the zones of `width` subscribers
+    /// each. `Field` where parts isn't in 1..=16 or the width isn't in 1..=524,288; `Memory` where a growth was refused.
     #[inline(never)]
     pub fn open(alloc: Global, parts: u8, width: u32) -> Result<Register, Refusal>
         ensures ok { IfOk result (λ register. store_in register ≡ opening parts width) }
@@ -119,7 +122,7 @@ impl Register {
         Register::open_from(alloc, parts, width, &[0; WORDS])
     }
 
-    /// The same over words that stand already, in each slot and cell as much up as down, since of no rows nothing is
+    /// Opens it over words that stand already, in each slot and cell as much up as down, since of no rows nothing is
     /// published. `Field` also where a slot's plus-word of a cell differs from its minus-word, or a word passes
     /// `LIMIT`.
     pub fn open_from(
@@ -317,7 +320,7 @@ impl Register {
         }
     }
 
-    /// The cells as published: for each, the sum of its plus-words less the sum of its minus-words.
+    /// Gives the cells as published: for each, the sum of its plus-words less the sum of its minus-words.
     pub fn published(&self) -> [i64; CELLS as usize]
         requires { AllHome self.now.seats }
         ensures { (c : ℕ) → c < CELLS → slice_index_or result c (pos 0) ≡ published (store_in self.now) c }
@@ -325,8 +328,8 @@ impl Register {
         self.seats.published()
     }
 
-    /// A sight of the board's words: those of slots that no part has as they are, each other one at least what was seen
-    /// of it before, at first its word at opening, and none past `LIMIT`. It takes no memory.
+    /// Gives a sight of the board's words: those of slots that no part has as they are, each other one at least what was
+    /// seen of it before, at first its word at opening, and none past `LIMIT`. It takes no memory.
     pub fn look(&mut self) -> Sight
         ensures right { IsSightOf (store_in self.old) result.words }
         ensures seen { store_in self.new ≡ record (store_in self.old) { sight = result.words } }
@@ -335,7 +338,7 @@ impl Register {
         self.seats.look()
     }
 
-    /// What `look` answers, into a sight that the caller has: its 18 KB aren't moved.
+    /// Looks as `look` does, into a sight that the caller has: its 18 KB aren't moved.
     pub fn look_into(&mut self, sight: &mut Sight)
         ensures right { IsSightOf (store_in self.old) sight.new.words }
         ensures seen { store_in self.new ≡ record (store_in self.old) { sight = sight.new.words } }
@@ -344,8 +347,8 @@ impl Register {
         self.seats.look_into(sight);
     }
 
-    /// What is not posted yet of each cell, which is what the owners keep as pending, added up: with what is published,
-    /// it is the cell counted over the rows now.
+    /// Gives what is not posted yet of each cell, which is what the owners keep as pending, added up: with what is
+    /// published, it is the cell counted over the rows now.
     pub fn unposted(&self) -> [i64; CELLS as usize]
         requires { AllHome self.now.seats }
         ensures pending { (c : ℕ) → c < CELLS → slice_index_or result c (pos 0) ≡ unposted self.now.seats c }
@@ -356,7 +359,7 @@ impl Register {
         self.seats.unposted()
     }
 
-    /// The count of each cell over the rows now, taken by a walk over all of them.
+    /// Counts each cell over the rows, by a walk over all of them.
     pub fn recount(&self) -> Cells
         requires { AllHome self.now.seats }
         ensures { (c : ℕ) → c < CELLS → slice_index result c ≡ cell self.now.width c (book_in self.now.seats) }
@@ -364,14 +367,14 @@ impl Register {
         self.seats.recount()
     }
 
-    /// Whether all parts are at home, as the counts, the proposal and `scatter` want it.
+    /// Tells whether all parts are at home, as the counts, the proposal and `scatter` want it.
     pub fn all_at_home(&self) -> bool
         ensures { IsTrue result ↔ AllHome self.now.seats }
     {
         self.seats.all_at_home()
     }
 
-    /// The regions of all subscribers, each of a part or of a loose piece.
+    /// Gives the regions of all subscribers, each of a part or of a loose piece.
     pub fn regions(&self) -> &Regions
         ensures value { result.now ≡ self.now.regions }
         ensures regions { AreRegions result.now }
@@ -379,8 +382,8 @@ impl Register {
         self.seats.regions()
     }
 
-    /// The bounds between zones that would give each part about its share of the rows, by what is published of the
-    /// zones; where nothing is unposted, these are the counts of the rows. It takes no memory.
+    /// Proposes the bounds between zones that would give each part about its share of the rows, by what is published of
+    /// the zones; where nothing is unposted, these are the counts of the rows. It takes no memory.
     pub fn propose(&self) -> Bounds
         requires { AllHome self.now.seats }
         ensures value { result ≡ proposal (published_weights (store_in self.now)) (parts_in (store_in self.now)) self.now.width }
@@ -408,14 +411,15 @@ impl Register {
         self.seats.recut_to(bounds)
     }
 
-    /// The index of numbers: for each Subscriber row the pair of its number and its s_id.
+    /// Gives the index of numbers: for each Subscriber row the pair of its number and its s_id.
     pub fn index(&self) -> &NumberIndex
         ensures { result.now ≡ index_of (book_in self.now.seats).subscribers }
     {
         &self.index
     }
 
-    /// Posts what is pending of a part, as `Event::Post`: `NoPart`, `Worn`.
+    /// Posts at most `limit` cells of a part, as `Event::Post`, and replies how many: `NoPart`, or `Worn`, after which the
+    /// cells before stay posted.
     pub fn post(&mut self, part: u64, limit: u64) -> Reply
         requires { IsPartHome part self.old }
         ensures step { IsStep (Event.Post part limit) (store_in self.old) result (store_in self.new) }

@@ -162,7 +162,7 @@ impl Register {
         }
     }
 
-    /// Where an event goes. What is answered at once is right, and changes nothing, whatever the parts' holdings do
+    /// Tells where an event goes. What is answered at once is right, and changes nothing, whatever the parts' holdings do
     /// meanwhile; a job that goes to a part is right whatever the others do. It takes no memory, wherever they are.
     pub fn route(&self, event: &Event) -> Route
         ensures { IsRouted event.now self.now result }
@@ -170,7 +170,7 @@ impl Register {
         self.route_task(event).to_route()
     }
 
-    /// The same with a task in place of the job, which holds no room for a whole row of a subscriber.
+    /// Tells it with a task in place of the job, which has no room for a whole row of a subscriber.
     pub fn route_task(&self, event: &Event) -> TaskRoute
         ensures { IsRouted event.now self.now (route_of result) }
     {
@@ -205,6 +205,27 @@ impl Register {
                 bit_1,
                 data_a,
             } => self.route_asked(tasks::update_subscriber(s_id, sf_type, bit_1, data_a)),
+            Event::UpdateLocation { .. }
+            | Event::InsertForwarding { .. }
+            | Event::DeleteForwarding { .. } => self.route_by_number(event),
+            Event::AddAccess(row) => self.route_asked(tasks::add_access(row)),
+            Event::AddFacility(row) => self.route_asked(tasks::add_facility(row)),
+            Event::SetActive {
+                s_id,
+                sf_type,
+                is_active,
+            } => self.route_asked(tasks::set_active(s_id, sf_type, is_active)),
+            _ => TaskRoute::Here,
+        }
+    }
+
+    /// Where an event goes that names its subscriber by a number: to the part that has them, and refused where nobody has
+    /// the number or a loose piece has them.
+    fn route_by_number(&self, event: Event) -> TaskRoute
+        requires { is_by_number event ≡ true }
+        ensures { IsRouted event self.now (route_of result) }
+    {
+        match event {
             Event::UpdateLocation {
                 sub_nbr,
                 vlr_location,
@@ -229,14 +250,8 @@ impl Register {
                 let s_id = self.bearer(sub_nbr);
                 self.route_asked(tasks::delete_forwarding(s_id, sf_type, start_time))
             }
-            Event::AddAccess(row) => self.route_asked(tasks::add_access(row)),
-            Event::AddFacility(row) => self.route_asked(tasks::add_facility(row)),
-            Event::SetActive {
-                s_id,
-                sf_type,
-                is_active,
-            } => self.route_asked(tasks::set_active(s_id, sf_type, is_active)),
-            _ => TaskRoute::Here,
+            // No other event tells its subscriber by a number.
+            _ => unreachable!(),
         }
     }
 

@@ -6,7 +6,7 @@ ghost use Rattle.tatp_actions.specs.Book.{IsWithin};
 ghost use Rattle.tatp_actions.specs.declared.action.Action.{Action as Actions};
 ghost use Rattle.tatp_actions.specs.declared.action.Action.TheVariants as action;
 ghost use Rattle.tatp_rows.specs.declared.refusal.Refusal.{Refusal as Refusals};
-ghost use Rattle.hlr_core.specs.Inside.Routed.{AsksFor, IsOn, changes_rows};
+ghost use Rattle.hlr_core.specs.Inside.Routed.{AsksFor, IsOn, administers, changes_rows};
 ghost use Rattle.hlr_core.specs.Session.{IsActed, IsJobDone, IsWithinJob};
 ghost use Rattle.hlr_core.specs.Tasks.{job_of};
 
@@ -212,6 +212,16 @@ impl Task {
                 sf_type,
                 start_time,
             },
+            _ => self.to_administration(),
+        }
+    }
+
+    /// Makes the action of a task that is an administrative command.
+    fn to_administration(&self) -> Action
+        requires { administers self.now ≡ true }
+        ensures { job.Act result ≡ job_of self.now }
+    {
+        match *self {
             Task::AddAccess(row) => Action::AddAccess(row),
             Task::AddFacility(row) => Action::AddFacility(row),
             Task::SetActive {
@@ -223,12 +233,12 @@ impl Task {
                 sf_type,
                 is_active,
             },
-            // No other task changes rows.
+            // No other task is such a command.
             _ => unreachable!(),
         }
     }
 
-    /// The subscriber whose rows an action is on.
+    /// Gives the subscriber whose rows an action is on.
     pub(crate) fn s_id(&self) -> u32
         requires { (wanted : Result Actions Refusals) × AsksFor wanted (job_of self.now) }
         ensures { IsOn result (job_of self.now) }
@@ -307,6 +317,17 @@ impl Task {
                 };
                 edited(holding, edit)
             }
+            _ => self.administer(holding),
+        }
+    }
+
+    /// The same of a task that is an administrative command.
+    fn administer(self, holding: &mut Holding) -> Reply
+        requires rows { administers self ≡ true }
+        requires within { IsWithinJob holding.old (job_of self) }
+        ensures { IsJobDone (job_of self) holding.old result holding.new }
+    {
+        match self {
             Task::AddAccess(row) => edited(holding, AddAccess { row }),
             Task::AddFacility(row) => edited(holding, AddFacility { row }),
             Task::SetActive {
@@ -321,7 +342,7 @@ impl Task {
                 };
                 edited(holding, edit)
             }
-            // No other task changes rows.
+            // No other task is such a command.
             _ => unreachable!(),
         }
     }

@@ -14,6 +14,7 @@ use tatp_rows::{
     is_start_time,
 };
 
+/// Makes the task of GET_SUBSCRIBER_DATA: `Field` where s_id isn't in 1..=16,777,216.
 pub(crate) fn subscriber_data(s_id: u64) -> Result<Task, Refusal>
     ensures { IsTaskFor (if_in_range (action.SubscriberData s_id)) result }
 {
@@ -21,6 +22,8 @@ pub(crate) fn subscriber_data(s_id: u64) -> Result<Task, Refusal>
     Ok(Task::SubscriberData { s_id })
 }
 
+/// Makes the task of GET_NEW_DESTINATION: `Field` where s_id isn't in 1..=16,777,216, sf_type isn't in 1..=4,
+/// start_time isn't 0, 8 or 16, or end_time isn't in 1..=24.
 pub(crate) fn new_destination(
     s_id: u64,
     sf_type: u64,
@@ -43,6 +46,7 @@ pub(crate) fn new_destination(
     })
 }
 
+/// Makes the task of GET_ACCESS_DATA: `Field` where s_id isn't in 1..=16,777,216 or ai_type isn't in 1..=4.
 pub(crate) fn access_data(s_id: u64, ai_type: u64) -> Result<Task, Refusal>
     ensures { IsTaskFor (if_in_range (action.AccessData s_id ai_type)) result }
 {
@@ -51,6 +55,8 @@ pub(crate) fn access_data(s_id: u64, ai_type: u64) -> Result<Task, Refusal>
     Ok(Task::AccessData { s_id, ai_type })
 }
 
+/// Makes the task of UPDATE_SUBSCRIBER_DATA: `Field` where s_id isn't in 1..=16,777,216, sf_type isn't in 1..=4, bit_1
+/// isn't 0 or 1, or data_a is above 255.
 pub(crate) fn update_subscriber(
     s_id: u64,
     sf_type: u64,
@@ -71,6 +77,8 @@ pub(crate) fn update_subscriber(
     })
 }
 
+/// Makes the task that switches a facility on or off: `Field` where s_id isn't in 1..=16,777,216, sf_type isn't in
+/// 1..=4, or is_active isn't 0 or 1.
 pub(crate) fn set_active(s_id: u64, sf_type: u64, is_active: u64) -> Result<Task, Refusal>
     ensures { IsTaskFor (if_in_range (action.SetActive s_id sf_type is_active)) result }
 {
@@ -85,6 +93,8 @@ pub(crate) fn set_active(s_id: u64, sf_type: u64, is_active: u64) -> Result<Task
     })
 }
 
+/// Makes the task of UPDATE_LOCATION for who has the number: `Field` where vlr_location isn't in 1..=4,294,967,295,
+/// then `NoNumber` where nobody has it.
 pub(crate) fn update_location(bearer_id: Option<u32>, vlr_location: u64) -> Result<Task, Refusal>
     requires { (s_id : ℕ) → bearer_id ≡ Some s_id → IsWithin 1 (LAST_SUBSCRIBER + 1) s_id }
     ensures { IsTaskFor (checked (is_between 1 4294967295 vlr_location) (option_map (λ s_id. action.UpdateLocation s_id vlr_location) bearer_id)) result }
@@ -96,6 +106,8 @@ pub(crate) fn update_location(bearer_id: Option<u32>, vlr_location: u64) -> Resu
     })
 }
 
+/// Makes the task of INSERT_CALL_FORWARDING for who has the number: `Field` where sf_type isn't in 1..=4, start_time
+/// isn't 0, 8 or 16, or end_time isn't in 1..=24, then `NoNumber` where nobody has it.
 pub(crate) fn insert_forwarding(
     bearer_id: Option<u32>,
     sf_type: u64,
@@ -111,6 +123,8 @@ pub(crate) fn insert_forwarding(
     Ok(Task::InsertForwarding(edit.row))
 }
 
+/// Makes the task of DELETE_CALL_FORWARDING for who has the number: `Field` where sf_type isn't in 1..=4 or start_time
+/// isn't 0, 8 or 16, then `NoNumber` where nobody has it.
 pub(crate) fn delete_forwarding(
     bearer_id: Option<u32>,
     sf_type: u64,
@@ -127,6 +141,7 @@ pub(crate) fn delete_forwarding(
     })
 }
 
+/// Makes the task that adds an Access_Info row. It refuses none.
 pub(crate) fn add_access(row: Access) -> Result<Task, Refusal>
     ensures { IsTaskFor (Ok (action.AddAccess row)) result }
 {
@@ -135,6 +150,7 @@ pub(crate) fn add_access(row: Access) -> Result<Task, Refusal>
     Ok(Task::AddAccess(row))
 }
 
+/// Makes the task that adds a Special_Facility row. It refuses none.
 pub(crate) fn add_facility(row: Facility) -> Result<Task, Refusal>
     ensures { IsTaskFor (Ok (action.AddFacility row)) result }
 {

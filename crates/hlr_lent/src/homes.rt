@@ -10,7 +10,7 @@ use part_table::MOST_PARTS;
 use tatp_rows::{LAST_SUBSCRIBER, in_range};
 
 impl Lender {
-    /// Whether a part is at home, or there is no such part.
+    /// Tells whether a part is at home, or there is no such part.
     pub fn is_part_home(&self, part: u64) -> bool
         ensures { IsTrue result ↔ IsPartHome part self.now }
     {
@@ -21,14 +21,15 @@ impl Lender {
         rings[part as usize].is_none()
     }
 
-    /// Whether all parts are at home.
+    /// Tells whether all parts are at home.
     pub fn is_all_home(&self) -> bool
         ensures { IsTrue result ↔ AllHome self.now.seats }
     {
         !self.lends || self.register.all_at_home()
     }
 
-    /// Whether whoever has a subscriber is at home, as nobody is out who has a number that is no s_id.
+    /// Tells whether whoever has a subscriber is at home. It answers true of an s_id out of 1..=16,777,216, which nobody
+    /// has.
     pub fn is_home_for(&self, s_id: u64) -> bool
         ensures { IsTrue result ↔ IsHomeFor s_id self.now }
     {
@@ -51,7 +52,7 @@ impl Lender {
         }
     }
 
-    /// Whether whoever has the subscriber with a number is at home, or there is no such subscriber.
+    /// Tells whether whoever has the subscriber with a number is at home, or there is no such subscriber.
     pub fn is_bearer_home(&self, sub_nbr: Number) -> bool
         ensures { IsTrue result ↔ IsBearerHome sub_nbr self.now }
     {
@@ -81,14 +82,15 @@ impl Lender {
         true
     }
 
-    /// Whether the parts on which an event works are at home.
+    /// Tells whether the parts on which an event works are at home.
     pub fn is_home_to(&self, event: &Event) -> bool
         ensures { IsTrue result ↔ IsHomeTo event.now self.now }
     {
         self.are_home(self.register.parts_for(event))
     }
 
-    /// Whether the parts are at home on both sides of each bound that a re-cut moves.
+    /// Tells whether the parts are at home on both sides of each bound that a re-cut moves. It answers true of bounds that
+    /// a re-cut refuses.
     pub fn is_home_to_cut(&self, bounds: &[u64]) -> bool
         ensures { IsTrue result ↔ IsHomeToCut bounds.now self.now }
     {

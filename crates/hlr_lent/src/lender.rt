@@ -104,7 +104,7 @@ fn allowed(regions: &Regions, event: &Event) -> Result<(), Refusal>
 }
 
 impl Lender {
-    /// A lender of the parts of a register, which are all at home. It takes no memory.
+    /// Makes a lender of the parts of a register, which are all at home. It takes no memory.
     pub fn of(register: Register) -> Lender
         requires { AllHome register.seats }
         ensures { result ≡ register }
@@ -120,7 +120,7 @@ impl Lender {
         }
     }
 
-    /// The register, with the parts that are out as they were lent.
+    /// Gives the register, with the parts that are out as they were lent.
     pub fn register(&self) -> &Register
         ensures value { result.now ≡ self.now }
         ensures seated { AreSeated self.now }
@@ -130,7 +130,7 @@ impl Lender {
         &self.register
     }
 
-    /// The register alone. A part that is out can't come home to it; `is_all_home` tells whether none is.
+    /// Gives the register alone. A part that is out can't come home to it; `is_all_home` tells whether none is.
     pub fn into_register(self) -> Register
         ensures { result ≡ self }
     {
@@ -207,9 +207,9 @@ impl Lender {
         self.register.apply(event)
     }
 
-    /// The refusal of an event that is known without the parts that are out: of an event on rows a field out of its range,
-    /// a number that nobody has, and a subscriber in a loose piece; of a posting a part that isn't there; and whatever the
-    /// regions refuse.
+    /// Gives the refusal of an event that is known without the parts that are out: of an event on rows a field out of its
+    /// range, a number that nobody has, and a subscriber in a loose piece; of a posting a part that isn't there; and
+    /// whatever the regions refuse.
     pub fn known(&self, event: &Event) -> Option<Refusal>
         ensures step { IfSome result (λ why. IsStep event.now (store_in self.now) (Reply.Refused why) (store_in self.now)) }
         ensures house { IfSome result (λ why. IsHouseAfter event.now (Reply.Refused why) self.now self.now) }
@@ -252,7 +252,7 @@ impl Lender {
         self.register.recut_to(bounds)
     }
 
-    /// A sight of the board's words, whoever is out, as `Register::look`. It takes no memory, and never waits.
+    /// Gives a sight of the board's words, whoever is out, as `Register::look`. It takes no memory, and never waits.
     pub fn look(&mut self) -> Sight
         ensures right { IsSightOf (store_in self.old) result.words }
         ensures seen { store_in self.new ≡ record (store_in self.old) { sight = result.words } }
@@ -261,7 +261,7 @@ impl Lender {
         self.register.look()
     }
 
-    /// What `look` answers, into a sight that the caller has: its 18 KB aren't moved.
+    /// Looks as `look` does, into a sight that the caller has: its 18 KB aren't moved.
     pub fn look_into(&mut self, sight: &mut Sight)
         ensures right { IsSightOf (store_in self.old) sight.new.words }
         ensures seen { store_in self.new ≡ record (store_in self.old) { sight = sight.new.words } }

@@ -45,7 +45,7 @@ impl Model for Owner {
 }
 
 impl Owner {
-    /// The owner of a part that was just lent.
+    /// Makes the owner of a part that was just lent.
     pub(crate) fn of(holding: Box<Holding>, board: Arc<Board>, ring: OwnerEnd) -> Owner
         requires board { holding.value.desk.board ≡ arc_value board }
         requires told { lent_as (sent ring) ≡ Some holding.value }
@@ -59,7 +59,7 @@ impl Owner {
         }
     }
 
-    /// The holding, of a part that isn't lent after all.
+    /// Gives the holding back, of a part that isn't lent after all.
     pub(crate) fn into_holding(self) -> Box<Holding>
         ensures { result.value ≡ self }
     {
@@ -71,7 +71,7 @@ impl Owner {
         holding
     }
 
-    /// The first subscriber of the part, 1..=16,777,216. It stays the same while the part is out.
+    /// Gives the first subscriber of the part, 1..=16,777,216. It stays the same while the part is out.
     pub fn lo(&self) -> u32
         ensures value { result ≡ self.now.part.lo }
         ensures rules { IsHolding self.now }
@@ -79,35 +79,35 @@ impl Owner {
         self.holding.lo()
     }
 
-    /// The number behind the last subscriber of the part, at most 16,777,217.
+    /// Gives the number behind the last subscriber of the part, at most 16,777,217.
     pub fn hi(&self) -> u32
         ensures { result ≡ self.now.part.hi }
     {
         self.holding.hi()
     }
 
-    /// Whether a subscriber lies in the part.
+    /// Tells whether a subscriber lies in the part.
     pub fn has(&self, s_id: u32) -> bool
         ensures { IsTrue result ↔ IsWithin self.now.part.lo self.now.part.hi s_id }
     {
         self.holding.lo() <= s_id && s_id < self.holding.hi()
     }
 
-    /// The Subscriber row of a subscriber, where the part has one.
+    /// Lends the Subscriber row of a subscriber, where the part has one.
     pub fn lend_subscriber(&self, s_id: u32) -> Option<&Subscriber>
         ensures { option_copied result ≡ subscriber_at self.now.part.book s_id }
     {
         self.holding.lend_subscriber(s_id)
     }
 
-    /// The Access_Info row of a subscriber's access, where the part has one.
+    /// Lends the Access_Info row of a subscriber's access, where the part has one.
     pub fn lend_access(&self, s_id: u32, ai_type: u8) -> Option<&Access>
         ensures { option_copied result ≡ access_at self.now.part.book s_id ai_type }
     {
         self.holding.lend_access(s_id, ai_type)
     }
 
-    /// The numbers to which calls of a subscriber are forwarded, as `Holding::destinations`: at most three.
+    /// Gives the numbers to which calls of a subscriber are forwarded, as `Holding::destinations`: at most three.
     pub fn destinations(
         &self,
         s_id: u32,

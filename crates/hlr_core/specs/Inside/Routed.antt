@@ -35,6 +35,13 @@ changes_rows (task.AccessData s_id ai_type) = false
 changes_rows (task.Post limit) = false
 changes_rows _ = true
 
+-- a task that is an administrative command
+abbrev pub administers : Task → Bool
+administers (task.AddAccess row) = true
+administers (task.AddFacility row) = true
+administers (task.SetActive s_id sf_type is_active) = true
+administers _ = false
+
 -- an event that changes rows, regions or parts
 abbrev pub makes_change : Event → Bool
 makes_change (event.SubscriberData s_id) = false
