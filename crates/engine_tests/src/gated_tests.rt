@@ -101,22 +101,37 @@ fn reads_wait_in_the_queue(rt: HostRuntime) {
     assert_eq!(rt; found, (true, false));
 }
 
-// The worker of the first part is held up until that of the second one is at its second job, which is held while the
-// first part's queue is full: who waits for a place pushes it, sleeps meanwhile, and is woken once there is a place.
+/// Asserts the replies to reads of two parts, where the worker of the first part is held up until that of the second one
+/// is at its second job.
+fn expect_second<R: Threads + Wait + Abort + Copy + Send + Sync + 'static>(
+    rt: &R,
+    alloc: Global,
+    s_ids: &[u64],
+) {
+    let gate = Arc::new(alloc, Second::new()).expect(rt, "a gate");
+    let mut engine = engine_over(rt, alloc, filled(rt, alloc, 2, &[1, 100]), &gate);
+    let replies = read_all(rt, &mut engine, s_ids);
+    let (register, _none) = engine.close(rt);
+    drop(register);
+    let found = (are_rows(rt, &replies, s_ids), gate.gave_up());
+    assert_eq!(rt; found, (true, false));
+}
+
+// The second job is held while the first part's queue is full: who waits for a place pushes it, sleeps meanwhile, and is
+// woken once there is a place.
 #[test]
 fn full_queue_holds_up_no_other_part(rt: HostRuntime) {
     let mut s_ids = [1; 303];
     for s_id in s_ids.iter_mut().skip(1).take(2) {
         *s_id = 100;
     }
-    let gate = Arc::new(rt.alloc(), Second::new()).expect(&rt, "a gate");
-    let register = filled(&rt, rt.alloc(), 2, &[1, 100]);
-    let mut engine = engine_over(&rt, rt.alloc(), register, &gate);
-    let replies = read_all(&rt, &mut engine, &s_ids);
-    let (register, _none) = engine.close(&rt);
-    drop(register);
-    let found = (are_rows(&rt, &replies, &s_ids), gate.gave_up());
-    assert_eq!(rt; found, (true, false));
+    expect_second(&rt, rt.alloc(), &s_ids);
+}
+
+// The second job is held when all parts are to come home: it is pushed before the first part is waited for.
+#[test]
+fn held_jobs_go_out_before_a_join(rt: HostRuntime) {
+    expect_second(&rt, rt.alloc(), &[1, 100, 100]);
 }
 
 /// A read of each of three parts; then, between reads of the second and the third, what the register does there, and

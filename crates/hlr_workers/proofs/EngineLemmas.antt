@@ -1,6 +1,6 @@
 -- The moves of an engine: where it stands after each.
 use Rattle.std.proofs.Common.{◌≡◌, ◌∙◌, refl, sym, ap, subst, ℕ, zero, suc, ◌+◌, ◌<◌, ◌≤◌, List, [], ◌∷◌, ◌++◌, length, get_or, set, arith, true, false, Bool, Some, None, inl, inr}
-use Rattle.std.specs.Prelude.{Option, Result, Ok, Err, slice_get, if◌then◌else◌, ◌-◌}
+use Rattle.std.specs.Prelude.{Option, Result, Ok, Err, Vec, slice_get, vec_capacity, if◌then◌else◌, ◌-◌}
 use Rattle.std.specs.List.{AllByRecursion}
 use Rattle.std.proofs.lemmas.List.{get_or_default, get_or_past, length-set, set-get_or, set-set}
 use Rattle.std.proofs.lemmas.Bool.{cases_lt}
@@ -9,7 +9,7 @@ use Rattle.tatp_rows.proofs.OrderedLemmas.{by_test}
 use Rattle.tatp_rows.specs.declared.refusal.Refusal.{Refusal}
 use Rattle.holding.specs.Held.{HoldingState}
 use Rattle.holding.specs.declared.job.Job.{Job}
-use Rattle.view_board.specs.Desks.{with_view}
+use Rattle.view_board.specs.Desks.{Station, with_view}
 use Rattle.view_board.specs.Views.{looked}
 use Rattle.hlr_owners.specs.Lodged.{Lodged}
 use Rattle.hlr_owners.specs.Out.{out_of, outs_in, with_out, with_outs}
@@ -24,7 +24,7 @@ use Rattle.hlr_owners.specs.declared.lodging.Seat.TheVariants.{Part, Piece}
 use Rattle.hlr_owners.proofs.PartLemmas.{ahead, set_number}
 use Rattle.hlr_owners.proofs.SightLemmas.{words_looked}
 use Rattle.hlr_core.specs.Beside.{IsRecutBeside, IsStepBeside, beside}
-use Rattle.hlr_core.specs.Home.{IsSameHouse, is_by_number}
+use Rattle.hlr_core.specs.Home.{IsLaterDesk, IsSameHouse, is_by_number}
 use Rattle.hlr_core.specs.Later.{AreLater, IsLater, with_seats}
 use Rattle.hlr_core.specs.Run.{IsRun}
 use Rattle.hlr_core.specs.Route.{IsRightNow, IsRightSent, is_here}
@@ -33,12 +33,13 @@ use Rattle.hlr_core.specs.Step.{IsStep}
 use Rattle.hlr_core.specs.declared.event.Event.{Event}
 use Rattle.hlr_core.specs.declared.event.Event.TheVariants.{SubscriberData, NewDestination, AccessData, UpdateSubscriber, UpdateLocation, InsertForwarding, DeleteForwarding, AddSubscriber, AddAccess, AddFacility, SetActive, SetNumber, Post, Give, Take, Divide, Dissolve}
 use Rattle.hlr_core.specs.declared.event.Reply.{Reply}
+use Rattle.hlr_core.proofs.HomeLemmas.{desk_same}
 use Rattle.hlr_core.proofs.LaterLemmas.{all_later_after, all_later_self, all_seated_later, put_later}
-use Rattle.hlr_workers.specs.Inside.{AreIdle, IsBehind, IsHomeAgain, IsOut, IsCrewParted, IsSentTo, Parting, land, parted, parting_of}
+use Rattle.hlr_workers.specs.Inside.{AreBrought, AreIdle, IsAnswered, IsBehind, IsHomeAgain, IsOut, IsCrewParted, IsSentTo, Parting, land, parted, parting_of}
 use Rattle.hlr_workers.specs.Kept.{AllNumberless, Crewed, IsKept, NoneOut, engaged}
 use Rattle.hlr_workers.specs.Relay.{nothing}
 use Rattle.hlr_workers.specs.Session.{AreNumberless}
-use Rattle.hlr_workers.specs.Standing.{AreEnds, Cut, IsAsBefore, IsSettled, Stands, Took, TookNext, answers_by, answers_with, orders_of, store_at}
+use Rattle.hlr_workers.specs.Standing.{AreEnds, Cut, IsAsBefore, IsSettled, Stands, Took, TookNext, answers_by, answers_with, changes_parts, orders_of, store_at}
 use Rattle.hlr_workers.proofs.CrewLemmas.{as_homes, as_parts, lent_outs, numberless_of, out_part}
 use Rattle.hlr_workers.proofs.HouseLemmas.{IsPartAt, ends_later, out_done, out_ends, out_seats, part_at, seat_store, with_outs_same}
 use Rattle.hlr_workers.proofs.PartingLemmas.{all_parted, ends_alike, ends_parted, numbered_parted, order_parted, parted_long, undone}
@@ -375,32 +376,30 @@ pub all_none : (outs : List (Option HoldingState)) → ((q : ℕ) → q < length
 all_none [] each = tt
 all_none (o ∷ outs) each = (each 0 (omega arith), all_none outs (λ q low. each (suc q) (omega arith)))
 
--- a part is brought home, if it is out
-pub record IsBrought (crew : Crewed) (replies : List (ℕ × Reply)) (p : ℕ) (after : Crewed) (landed : List (ℕ × Reply)) : Type 0 where
-  pub kept : IsKept after landed
-  pub stands : IsAsBefore (engaged crew replies) (engaged after landed)
-  pub home : outs_in after.house.seats ≡ set (outs_in crew.house.seats) p None
-  pub places : length landed ≡ length replies
-  pub house : after.house ≡ record crew.house { seats = after.house.seats }
+-- parts are brought home that are out, and then others
+module _ {Z : Type 0} where
+  pub brought_itself : (crew : Crewed) (replies : Vec (ℕ × Reply) Z) → IsKept crew replies.items → AreBrought crew replies crew replies
+  brought_itself crew replies kept = record { kept = kept; stands = λ start asked stood. stood; places = refl; capacity = refl; house = refl }
 
-pub brought_none : (crew : Crewed) (replies : List (ℕ × Reply)) (kept : IsKept crew replies) (p : ℕ) (after : Crewed) → IsHomeAgain p crew None after → IsBrought crew replies p after replies
-brought_none crew replies kept p after again = rw (again.0) (record {
-  kept = kept;
-  stands = λ start asked stands. stands;
-  home = sym (still_none (outs_in crew.house.seats) p again.1);
-  places = refl;
-  house = refl;
-})
+  pub brought_some : (crew : Crewed) (replies : Vec (ℕ × Reply) Z) → IsKept crew replies.items → AreSeated crew.house → (p : ℕ) (answers : List (ℕ × Reply)) (after : Crewed) (landed : Vec (ℕ × Reply) Z)
+      → IsHomeAgain p crew (Some answers) after → landed.items ≡ land replies.items answers → vec_capacity landed ≡ vec_capacity replies → AreBrought crew replies after landed
+  brought_some crew replies kept are p answers after landed again items capacity = record {
+    kept = rw items (home_kept crew replies.items kept are p answers after again);
+    stands = rw items (home_stands crew replies.items kept are p answers after again);
+    places = rw items (land-length replies.items answers);
+    capacity = capacity;
+    house = (let is = ap (λ (c : Crewed). c.house) again.6 in is ∙ ap (λ (seats : List Seat). record crew.house { seats = seats }) (sym (ap (λ (g : Seating). g.seats) is)));
+  }
 
-pub brought_some : (crew : Crewed) (replies : List (ℕ × Reply)) (kept : IsKept crew replies) (are : AreSeated crew.house) (p : ℕ) (answers : List (ℕ × Reply)) (after : Crewed)
-    → IsHomeAgain p crew (Some answers) after → IsBrought crew replies p after (land replies answers)
-brought_some crew replies kept are p answers after again = record {
-  kept = home_kept crew replies kept are p answers after again;
-  stands = home_stands crew replies kept are p answers after again;
-  home = home_outs crew replies kept are p answers after again;
-  places = land-length replies answers;
-  house = (let is = ap (λ (c : Crewed). c.house) again.6 in is ∙ ap (λ (seats : List Seat). record crew.house { seats = seats }) (sym (ap (λ (g : Seating). g.seats) is)));
-}
+  pub brought_twice : (crew : Crewed) (replies : Vec (ℕ × Reply) Z) (mid : Crewed) (some : Vec (ℕ × Reply) Z) (after : Crewed) (landed : Vec (ℕ × Reply) Z)
+      → AreBrought crew replies mid some → AreBrought mid some after landed → AreBrought crew replies after landed
+  brought_twice crew replies mid some after landed one two = record {
+    kept = two.kept;
+    stands = λ start asked stood. two.stands start asked (one.stands start asked stood);
+    places = two.places ∙ one.places;
+    capacity = two.capacity ∙ one.capacity;
+    house = two.house ∙ ap (λ (h : Seating). record h { seats = after.house.seats }) one.house;
+  }
 
 -- the parts on both sides of a bound aren't out
 abbrev pub AreSidesHome : List (Option HoldingState) → CutMove → Type 0
@@ -449,10 +448,7 @@ here_by_id (Take _ _) here = refl
 here_by_id (Divide _ _) here = refl
 here_by_id (Dissolve _) here = refl
 
--- one after another
-pub house_more : (a b d : Seating) → b ≡ record a { seats = b.seats } → d ≡ record b { seats = d.seats } → d ≡ record a { seats = d.seats }
-house_more a b d one two = two ∙ ap (λ (h : Seating). record h { seats = d.seats }) one
-
+-- one part after another
 pub none_next : (outs : List (Option HoldingState)) (first p : ℕ) → ((q : ℕ) → first ≤ q → q < p → get_or outs q None ≡ None) → (q : ℕ) → first ≤ q → q < p + 1 → get_or (set outs p None) q None ≡ None
 none_next outs first p each q from low = elim (cases_lt q p) [
   | inl below ↦ none_set outs p q (each q from below)
@@ -479,14 +475,27 @@ sides_next outs moves k move there is each i d low = elim (cases_lt i k) [
 ]
 
 -- the register itself did an event, after the parts came home that work on it
-pub here_after : (crew : Crewed) (replies : List (ℕ × Reply)) (mid : Crewed) (landed : List (ℕ × Reply)) → IsKept mid landed → IsAsBefore (engaged crew replies) (engaged mid landed)
-    → length landed ≡ length replies → (now : Crewed) (r : Reply) → IsCrewParted (parting_of r) mid now → (event : Event) → IsStepBeside event mid.house r now.house
-    → IsKept now (landed ++ (length replies, r) ∷ []) × TookNext (Took event) (engaged crew replies) (engaged now (landed ++ (length replies, r) ∷ []))
-here_after crew replies mid landed kept stands places now r is event step =
-    subst (λ (n : ℕ). IsKept now (landed ++ (n, r) ∷ []) × TookNext (Took event) (engaged crew replies) (engaged now (landed ++ (n, r) ∷ []))) places (
-      here_kept mid landed kept now (parting_of r) is r,
-      λ start asked stood. here_took mid landed kept now (parting_of r) is event r step start asked (stands start asked stood),
-    )
+pub here_after : {Z : Type 0} (crew : Crewed) (replies : Vec (ℕ × Reply) Z) (mid : Crewed) (landed : Vec (ℕ × Reply) Z) → AreBrought crew replies mid landed
+    → (now : Crewed) (r : Reply) → IsCrewParted (parting_of r) mid now → (event : Event) → IsStepBeside event mid.house r now.house
+    → (changes_parts event ≡ false → now.house.spare ≡ mid.house.spare) → IsLaterDesk mid.house.spare now.house.spare → IsAnswered event r crew replies now landed
+here_after crew replies mid landed was now r is event step same later = record {
+  kept = both.0;
+  took = both.1;
+  places = was.places;
+  capacity = was.capacity;
+  spare = λ none. same none ∙ spare;
+  desk = subst (λ (s : Station). IsLaterDesk s now.house.spare) spare later;
+}
+  where
+    spare : mid.house.spare ≡ crew.house.spare
+    spare = ap (λ (h : Seating). h.spare) was.house
+
+    both : IsKept now (landed.items ++ (length replies.items, r) ∷ []) × TookNext (Took event) (engaged crew replies.items) (engaged now (landed.items ++ (length replies.items, r) ∷ []))
+    both =
+        subst (λ (n : ℕ). IsKept now (landed.items ++ (n, r) ∷ []) × TookNext (Took event) (engaged crew replies.items) (engaged now (landed.items ++ (n, r) ∷ []))) was.places (
+          here_kept mid landed.items was.kept now (parting_of r) is r,
+          λ start asked stood. here_took mid landed.items was.kept now (parting_of r) is event r step start asked (was.stands start asked stood),
+        )
 
 -- an engine with no job out
 pub all_idle : (crew : Crewed) → length crew.jobs ≡ length (outs_in crew.house.seats) → NoneOut crew → AreIdle crew → AllByRecursion (λ (own : List (ℕ × Job)). own ≡ []) crew.jobs
@@ -519,17 +528,31 @@ few_jobs crew replies kept p = elim (cases_lt p (length crew.jobs)) [
 pub part_there : (crew : Crewed) (replies : List (ℕ × Reply)) → IsKept crew replies → AreSeated crew.house → (p : ℕ) → p < length (homes_in crew.house.seats) → p < length crew.jobs
 part_there crew replies kept are p low = let homes = as_homes crew.house are in let paired = kept.paired in omega arith
 
+-- it was answered at once
+pub told_after : {Z : Type 0} (crew : Crewed) (replies : Vec (ℕ × Reply) Z) → IsKept crew replies.items → (event : Event) (r : Reply) → IsRightNow event crew.house r → IsAnswered event r crew replies crew replies
+told_after crew replies kept event r right = record {
+  kept = now_kept crew replies.items kept r;
+  took = now_took crew replies.items kept event r right;
+  places = refl;
+  capacity = refl;
+  spare = λ none. refl;
+  desk = desk_same crew.house.spare crew.house.spare refl;
+}
+
 -- a job was sent, and its place is blank
-pub sent_after : (crew : Crewed) (replies : List (ℕ × Reply)) (kept : IsKept crew replies) (are : AreSeated crew.house) (p : ℕ) (event : Event) (job : Job) → IsJobOf crew.house.regions p job → IsRightSent event crew.house p job
-    → (blank : Reply) (now : Crewed) → IsSentTo p (length replies, job) crew now
-    → IsKept now (replies ++ (length replies, blank) ∷ []) × TookNext (Took event) (engaged crew replies) (engaged now (replies ++ (length replies, blank) ∷ []))
-    × (now.house.spare ≡ crew.house.spare)
-sent_after crew replies kept are p event job of right blank now sent =
-    let later = out_later p crew sent.0 sent.1 in (
-      rw (sent.2) (sent_kept crew replies kept are p sent.0 sent.1 event job of right blank),
-      rw (sent.2) (sent_took crew replies kept are p sent.0 sent.1 event job of right blank),
-      ap (λ (c : Crewed). c.house.spare) sent.2 ∙ ap (λ (g : Seating). g.spare) later.1,
-    )
+pub sent_after : {Z : Type 0} (crew : Crewed) (replies : Vec (ℕ × Reply) Z) → IsKept crew replies.items → AreSeated crew.house → (p : ℕ) (event : Event) (job : Job) → IsJobOf crew.house.regions p job
+    → IsRightSent event crew.house p job → (blank : Reply) (now : Crewed) → IsSentTo p (length replies.items, job) crew now → IsAnswered event blank crew replies now replies
+sent_after crew replies kept are p event job of right blank now sent = record {
+  kept = rw (sent.2) (sent_kept crew replies.items kept are p sent.0 sent.1 event job of right blank);
+  took = rw (sent.2) (sent_took crew replies.items kept are p sent.0 sent.1 event job of right blank);
+  places = refl;
+  capacity = refl;
+  spare = λ none. spare;
+  desk = desk_same crew.house.spare now.house.spare spare;
+}
+  where
+    spare : now.house.spare ≡ crew.house.spare
+    spare = ap (λ (c : Crewed). c.house.spare) sent.2 ∙ ap (λ (g : Seating). g.spare) (out_later p crew sent.0 sent.1).1
 
 -- no replies, where there were none
 pub no_more : (replies landed : List (ℕ × Reply)) → length landed ≡ length replies → landed ≡ [] → replies ≡ []
@@ -541,10 +564,9 @@ pub none_yet : (replies landed : List (ℕ × Reply)) → length landed ≡ leng
 none_yet replies landed same none = no_more landed replies (sym same) none
 
 -- bounds were moved, after the parts beside them came home
-pub cut_after : (crew : Crewed) (replies : List (ℕ × Reply)) (mid : Crewed) (landed : List (ℕ × Reply)) → IsKept mid landed → IsAsBefore (engaged crew replies) (engaged mid landed)
-    → (now : Crewed) → IsSameHouse mid.house now.house → now.jobs ≡ mid.jobs → (bounds : List ℕ) (done : Result ℕ Refusal) → IsRecutBeside bounds mid.house done now.house
-    → IsKept now landed × TookNext (Cut bounds done) (engaged crew replies) (engaged now landed)
-cut_after crew replies mid landed kept stands now house jobs bounds done right = (
-  house_kept mid landed kept now house jobs,
-  λ start asked stood. cut_took mid landed kept now house jobs bounds done right start asked (stands start asked stood),
+pub cut_after : {Z : Type 0} (crew : Crewed) (replies : Vec (ℕ × Reply) Z) (mid : Crewed) (landed : Vec (ℕ × Reply) Z) → AreBrought crew replies mid landed → (now : Crewed) → IsSameHouse mid.house now.house → now.jobs ≡ mid.jobs → (bounds : List ℕ) (done : Result ℕ Refusal) → IsRecutBeside bounds mid.house done now.house
+    → IsKept now landed.items × TookNext (Cut bounds done) (engaged crew replies.items) (engaged now landed.items)
+cut_after crew replies mid landed was now house jobs bounds done right = (
+  house_kept mid landed.items was.kept now house jobs,
+  λ start asked stood. cut_took mid landed.items was.kept now house jobs bounds done right start asked (was.stands start asked stood),
 )

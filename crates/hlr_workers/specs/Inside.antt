@@ -1,5 +1,5 @@
 -- What calls inside the crate promise each other. No clause of a public call cites this.
-use Rattle.std.specs.Prelude.{◌≡◌, ◌<◌, ◌≤◌, ◌+◌, ◌++◌, ℕ, true, List, [], ◌∷◌, length, Option, Some, None, insert, position, remove, slice_get, slice_set, slice_index_or, ⊤, ◌⊎◌}
+use Rattle.std.specs.Prelude.{◌≡◌, ◌<◌, ◌≤◌, ◌+◌, ◌++◌, ℕ, true, false, List, [], ◌∷◌, length, Option, Some, None, insert, position, remove, slice_get, slice_set, slice_index_or, ⊤, ◌⊎◌, Vec, vec_capacity}
 use Rattle.part_table.specs.Region.{is_part}
 use Rattle.part_table.specs.declared.region.TheConstants.{MOST_PARTS}
 use Rattle.holding.specs.Held.{HoldingState}
@@ -7,12 +7,15 @@ use Rattle.holding.specs.declared.job.Job.{Job}
 use Rattle.hlr_owners.specs.Out.{outs_in}
 use Rattle.hlr_owners.specs.Seats.{IsLent}
 use Rattle.hlr_owners.specs.declared.lodging.Seat.TheVariants.{Part}
+use Rattle.hlr_core.specs.Home.{IsLaterDesk}
+use Rattle.hlr_core.specs.declared.event.Event.{Event}
 use Rattle.hlr_core.specs.declared.event.Reply.{Reply}
 use Rattle.hlr_core.specs.declared.event.Reply.TheVariants.{Divided, Dissolved}
 use Rattle.hlr_core.specs.declared.route.Parts.{Parts}
 use Rattle.hlr_workers.specs.Finish.{Sent}
-use Rattle.hlr_workers.specs.Kept.{Crewed}
+use Rattle.hlr_workers.specs.Kept.{Crewed, IsKept, engaged}
 use Rattle.hlr_workers.specs.Session.{IsSession}
+use Rattle.hlr_workers.specs.Standing.{IsAsBefore, Took, TookNext, changes_parts}
 
 -- replies by their numbers, each put at its place, the last one first
 abbrev pub land : List (ℕ × Reply) → List (ℕ × Reply) → List (ℕ × Reply)
@@ -58,6 +61,24 @@ IsHomeAgain part before (Some answers) after =
 -- none of these parts is out
 abbrev pub NoneOutOf : Parts → Crewed → Type 0
 NoneOutOf parts crew = (q : ℕ) → parts.first ≤ q → q < parts.end → slice_index_or (outs_in crew.house.seats) q None ≡ None
+
+-- parts came home: the rules are kept, and the engine stands where it did, with as many places for replies and as much room; the
+-- register is the same but for its seats
+pub record AreBrought {Z : Type 0} (crew : Crewed) (replies : Vec (ℕ × Reply) Z) (after : Crewed) (landed : Vec (ℕ × Reply) Z) : Type 0 where
+  pub kept : IsKept after landed.items
+  pub stands : IsAsBefore (engaged crew replies.items) (engaged after landed.items)
+  pub places : length landed.items ≡ length replies.items
+  pub capacity : vec_capacity landed ≡ vec_capacity replies
+  pub house : after.house ≡ record crew.house { seats = after.house.seats }
+
+-- an event is taken once this reply, or a blank while its job is out, stands behind the others; there is as much room
+pub record IsAnswered {Z : Type 0} (event : Event) (reply : Reply) (crew : Crewed) (replies : Vec (ℕ × Reply) Z) (after : Crewed) (landed : Vec (ℕ × Reply) Z) : Type 0 where
+  pub kept : IsKept after (landed.items ++ (length replies.items, reply) ∷ [])
+  pub took : TookNext (Took event) (engaged crew replies.items) (engaged after (landed.items ++ (length replies.items, reply) ∷ []))
+  pub places : length landed.items ≡ length replies.items
+  pub capacity : vec_capacity landed ≡ vec_capacity replies
+  pub spare : changes_parts event ≡ false → after.house.spare ≡ crew.house.spare
+  pub desk : IsLaterDesk crew.house.spare after.house.spare
 
 -- what a reply tells of parts that came or went: a new part has this number, or the part that had it is gone
 pub data Parting : Type 0 where

@@ -1,5 +1,5 @@
 //! The engine: a register whose parts have workers in threads of their own.
-ghost use Rattle.std.specs.Prelude.{◌≡◌, ◌<◌, ◌≤◌, ◌⊎◌, ◌+◌, ◌++◌, [], ◌∷◌, length, true, false, None, IfOk, OnOk, OnErr, slice_set, vec_capacity};
+ghost use Rattle.std.specs.Prelude.{◌≡◌, ◌<◌, ◌≤◌, ◌⊎◌, ◌+◌, [], length, true, false, None, IfOk, OnOk, OnErr, slice_set, vec_capacity};
 ghost use Rattle.std.specs.List.{AllByRecursion};
 ghost use Rattle.view_board.specs.Desks.{with_view};
 ghost use Rattle.view_board.specs.Views.{looked};
@@ -9,7 +9,7 @@ ghost use Rattle.hlr_owners.specs.Seats.{AllHome, store_in};
 ghost use Rattle.hlr_owners.specs.Sight.{IsSightOf};
 ghost use Rattle.hlr_core.specs.Home.{IsHomeTo, IsLaterDesk};
 ghost use Rattle.hlr_core.specs.Route.{is_here};
-ghost use Rattle.hlr_workers.specs.Inside.{NoneOutOf, land};
+ghost use Rattle.hlr_workers.specs.Inside.{AreBrought, IsAnswered, NoneOutOf, land};
 ghost use Rattle.hlr_workers.specs.Kept.{IsKept, NoneOut, engaged};
 ghost use Rattle.hlr_workers.specs.Standing.{AreNumbered, Cut, IsAsBefore, IsSettled, Stands, Took, TookNext, WantsWorker, changes_parts};
 ghost use Rattle.hlr_workers.specs.declared.work.TheConstants.{MOST_PENDING};
@@ -117,12 +117,8 @@ fn join<G: Gate, R: Threads + Wait>(
     part: u8,
 )
     requires kept { IsKept crew.old replies.old.items }
-    ensures kept { IsKept crew.new replies.new.items }
-    ensures stands { IsAsBefore (engaged crew.old replies.old.items) (engaged crew.new replies.new.items) }
+    ensures brought { AreBrought crew.old replies.old crew.new replies.new }
     ensures home { outs_in crew.new.house.seats ≡ slice_set (outs_in crew.old.house.seats) part None }
-    ensures places { length replies.new.items ≡ length replies.old.items }
-    ensures capacity { vec_capacity replies.new ≡ vec_capacity replies.old }
-    ensures house { crew.new.house ≡ record crew.old.house { seats = crew.new.house.seats } }
 {
     // For the prover: each region has its owner beside it.
     let _register = crew.register();
@@ -141,12 +137,8 @@ fn join_parts<G: Gate, R: Threads + Wait>(
     parts: Parts,
 )
     requires kept { IsKept crew.old replies.old.items }
-    ensures kept { IsKept crew.new replies.new.items }
-    ensures stands { IsAsBefore (engaged crew.old replies.old.items) (engaged crew.new replies.new.items) }
+    ensures brought { AreBrought crew.old replies.old crew.new replies.new }
     ensures home { NoneOutOf parts crew.new }
-    ensures places { length replies.new.items ≡ length replies.old.items }
-    ensures capacity { vec_capacity replies.new ≡ vec_capacity replies.old }
-    ensures house { crew.new.house ≡ record crew.old.house { seats = crew.new.house.seats } }
 {
     for part in parts.first..parts.end {
         join(rt, crew, replies, gate, part);
@@ -162,12 +154,8 @@ fn bring_parts_home<G: Gate, R: Threads + Wait>(
     parts: Parts,
 )
     requires kept { IsKept crew.old replies.old.items }
-    ensures kept { IsKept crew.new replies.new.items }
-    ensures stands { IsAsBefore (engaged crew.old replies.old.items) (engaged crew.new replies.new.items) }
+    ensures brought { AreBrought crew.old replies.old crew.new replies.new }
     ensures home { NoneOutOf parts crew.new }
-    ensures places { length replies.new.items ≡ length replies.old.items }
-    ensures capacity { vec_capacity replies.new ≡ vec_capacity replies.old }
-    ensures house { crew.new.house ≡ record crew.old.house { seats = crew.new.house.seats } }
 {
     crew.hand_on(rt);
     crew.stop_parts(rt, parts);
@@ -181,13 +169,10 @@ fn bring_all_home<G: Gate, R: Threads + Wait>(
     replies: &mut Vec<(u64, Reply)>,
     gate: &Arc<G>,
 )
-    requires { IsKept crew.old replies.old.items }
-    ensures kept { IsKept crew.new replies.new.items }
-    ensures stands { IsAsBefore (engaged crew.old replies.old.items) (engaged crew.new replies.new.items) }
+    requires kept { IsKept crew.old replies.old.items }
+    ensures brought { AreBrought crew.old replies.old crew.new replies.new }
     ensures home { NoneOut crew.new }
     ensures jobs { AllByRecursion (λ own. own ≡ []) crew.new.jobs }
-    ensures places { length replies.new.items ≡ length replies.old.items }
-    ensures house { crew.new.house ≡ record crew.old.house { seats = crew.new.house.seats } }
 {
     let end = crew.register().regions().parts();
     bring_parts_home(rt, crew, replies, gate, Parts { first: 0, end });
@@ -205,12 +190,8 @@ fn bring_workers_home<G: Gate, R: Threads + Wait>(
 )
     requires here { is_here event.now ≡ true }
     requires kept { IsKept crew.old replies.old.items }
-    ensures kept { IsKept crew.new replies.new.items }
-    ensures stands { IsAsBefore (engaged crew.old replies.old.items) (engaged crew.new replies.new.items) }
+    ensures brought { AreBrought crew.old replies.old crew.new replies.new }
     ensures home { IsHomeTo event.now crew.new.house }
-    ensures places { length replies.new.items ≡ length replies.old.items }
-    ensures capacity { vec_capacity replies.new ≡ vec_capacity replies.old }
-    ensures house { crew.new.house ≡ record crew.old.house { seats = crew.new.house.seats } }
 {
     let parts = crew.register().parts_for(event);
     bring_parts_home(rt, crew, replies, gate, parts);
@@ -230,12 +211,7 @@ fn answer_here<G: Gate, R: Threads + Wait>(
 ) -> Reply
     requires here { is_here event ≡ true }
     requires kept { IsKept crew.old replies.old.items }
-    ensures kept { IsKept crew.new (replies.new.items ++ (length replies.old.items, result) ∷ []) }
-    ensures took { TookNext (Took event) (engaged crew.old replies.old.items) (engaged crew.new (replies.new.items ++ (length replies.old.items, result) ∷ [])) }
-    ensures places { length replies.new.items ≡ length replies.old.items }
-    ensures capacity { vec_capacity replies.new ≡ vec_capacity replies.old }
-    ensures spare { changes_parts event ≡ false → crew.new.house.spare ≡ crew.old.house.spare }
-    ensures desk { IsLaterDesk crew.old.house.spare crew.new.house.spare }
+    ensures { IsAnswered event result crew.old replies.old crew.new replies.new }
 {
     bring_workers_home(rt, crew, replies, gate, &event);
     crew.apply(event)
@@ -253,16 +229,11 @@ fn answer<G: Gate + 'static, R: Threads + Wait + Copy + Send + Sync + 'static>(
 ) -> Result<Reply, Refusal>
     requires kept { IsKept crew.old replies.old.items }
     requires room { length replies.old.items < MOST_PENDING }
-    ensures kept { IfOk result (λ reply. IsKept crew.new (replies.new.items ++ (length replies.old.items, reply) ∷ [])) }
-    ensures took { IfOk result (λ reply. TookNext (Took event) (engaged crew.old replies.old.items) (engaged crew.new (replies.new.items ++ (length replies.old.items, reply) ∷ []))) }
+    ensures answered { IfOk result (λ reply. IsAnswered event reply crew.old replies.old crew.new replies.new) }
     ensures refused { OnErr result (crew.new ≡ crew.old) }
     ensures same { OnErr result (replies.new ≡ replies.old) }
     ensures why { OnErr result ((result ≡ Err Refusal.Memory) ⊎ (result ≡ Err Refusal.Thread)) }
     ensures wants { OnErr result (WantsWorker event crew.old.house) }
-    ensures places { length replies.new.items ≡ length replies.old.items }
-    ensures capacity { vec_capacity replies.new ≡ vec_capacity replies.old }
-    ensures spare { changes_parts event ≡ false → crew.new.house.spare ≡ crew.old.house.spare }
-    ensures desk { IsLaterDesk crew.old.house.spare crew.new.house.spare }
 {
     match crew.register().route_task(&event) {
         TaskRoute::Refused(why) => Ok(Reply::Refused(why)),
@@ -286,13 +257,9 @@ fn join_sides<G: Gate, R: Threads + Wait>(
     bounds: &[u64],
 )
     requires kept { IsKept crew.old replies.old.items }
-    ensures kept { IsKept crew.new replies.new.items }
-    ensures stands { IsAsBefore (engaged crew.old replies.old.items) (engaged crew.new replies.new.items) }
+    ensures brought { AreBrought crew.old replies.old crew.new replies.new }
     ensures home { IsHomeToCut bounds.now crew.new.house }
     ensures still { NoneOut crew.old → NoneOut crew.new }
-    ensures places { length replies.new.items ≡ length replies.old.items }
-    ensures capacity { vec_capacity replies.new ≡ vec_capacity replies.old }
-    ensures house { crew.new.house ≡ record crew.old.house { seats = crew.new.house.seats } }
 {
     let Ok(moves) = crew.register().regions().moves_to(bounds) else {
         return;
@@ -323,13 +290,9 @@ fn bring_sides_home<G: Gate, R: Threads + Wait>(
     bounds: &[u64],
 )
     requires kept { IsKept crew.old replies.old.items }
-    ensures kept { IsKept crew.new replies.new.items }
-    ensures stands { IsAsBefore (engaged crew.old replies.old.items) (engaged crew.new replies.new.items) }
+    ensures brought { AreBrought crew.old replies.old crew.new replies.new }
     ensures home { IsHomeToCut bounds.now crew.new.house }
     ensures still { NoneOut crew.old → NoneOut crew.new }
-    ensures places { length replies.new.items ≡ length replies.old.items }
-    ensures capacity { vec_capacity replies.new ≡ vec_capacity replies.old }
-    ensures house { crew.new.house ≡ record crew.old.house { seats = crew.new.house.seats } }
 {
     crew.hand_on(rt);
     stop_sides(rt, crew, bounds);

@@ -1,12 +1,11 @@
-use Rattle.std.proofs.Common.{◌≡◌, ◌∙◌, refl, ℕ, arith, length, subst}
+use Rattle.std.proofs.Common.{◌≡◌, ◌∙◌, ℕ, arith, length, subst}
 use Rattle.hlr_owners.specs.Seats.{Seating}
 use Rattle.hlr_core.specs.Route.{IsRightNow, IsRouted}
 use Rattle.hlr_core.specs.Tasks.{job_of}
 use Rattle.hlr_core.specs.declared.event.Reply.TheVariants as reply
 use Rattle.hlr_core.specs.declared.route.Route.TheVariants.{To}
-use Rattle.hlr_core.proofs.HomeLemmas.{desk_same}
 use Rattle.hlr_workers.specs.Inside.{IsSentTo}
-use Rattle.hlr_workers.proofs.EngineLemmas.{few_jobs, now_kept, now_took, part_there, sent_after}
+use Rattle.hlr_workers.proofs.EngineLemmas.{few_jobs, part_there, sent_after, told_after}
 use Rattle.hlr_workers.proofs.engine.answer.Goals as goal
 
 pub send-requires-clause-there : goal.send-requires-clause-there
@@ -20,35 +19,14 @@ send-requires-clause-room g c κs within =
     let room = c.requires.room in
     omega arith
 
-pub returns-in-Refused-clause-kept : goal.returns-in-Refused-clause-kept
-returns-in-Refused-clause-kept g c = now_kept c.args.crew.now c.args.replies.now.items c.requires.kept (reply.Refused c.in-Refused.why)
-
-pub returns-in-Refused-clause-took : goal.returns-in-Refused-clause-took
-returns-in-Refused-clause-took g c =
-    now_took c.args.crew.now c.args.replies.now.items c.requires.kept c.args.event (reply.Refused c.in-Refused.why)
+pub returns-in-Refused-clause-answered : goal.returns-in-Refused-clause-answered
+returns-in-Refused-clause-answered g c =
+    told_after _ _ c.requires.kept c.args.event (reply.Refused c.in-Refused.why)
     (subst (λ (h : Seating). IsRightNow c.args.event h (reply.Refused c.in-Refused.why)) c.register.ensures.value c.in-Refused.ensures)
 
-pub returns-in-Ok-clause-kept : goal.returns-in-Ok-clause-kept
-returns-in-Ok-clause-kept g c =
+pub returns-in-Ok-clause-answered : goal.returns-in-Ok-clause-answered
+returns-in-Ok-clause-answered g c =
     let to : IsRouted c.args.event c.args.crew.now.house (To c.in-To.part (job_of c.in-To.task)) = subst (λ (h : Seating). IsRouted c.args.event h (To c.in-To.part (job_of c.in-To.task))) c.register.ensures.value c.in-To.ensures in
     let number : c.len-number.result ≡ length c.args.replies.now.items = c.len-number.ensures ∙ c.args.replies.now.ok.0 in
     let sent = subst (λ (n : ℕ). IsSentTo c.in-To.part (n, (job_of c.in-To.task)) c.args.crew.now c.send.new.self) number c.in-Ok.ensures.sent in
-    (sent_after c.args.crew.now c.args.replies.now.items c.requires.kept c.register.ensures.seated c.in-To.part c.args.event (job_of c.in-To.task) to.1 to.3 c.blank.result c.send.new.self sent).0
-
-pub returns-in-Ok-clause-took : goal.returns-in-Ok-clause-took
-returns-in-Ok-clause-took g c =
-    let to : IsRouted c.args.event c.args.crew.now.house (To c.in-To.part (job_of c.in-To.task)) = subst (λ (h : Seating). IsRouted c.args.event h (To c.in-To.part (job_of c.in-To.task))) c.register.ensures.value c.in-To.ensures in
-    let number : c.len-number.result ≡ length c.args.replies.now.items = c.len-number.ensures ∙ c.args.replies.now.ok.0 in
-    let sent = subst (λ (n : ℕ). IsSentTo c.in-To.part (n, (job_of c.in-To.task)) c.args.crew.now c.send.new.self) number c.in-Ok.ensures.sent in
-    (sent_after c.args.crew.now c.args.replies.now.items c.requires.kept c.register.ensures.seated c.in-To.part c.args.event (job_of c.in-To.task) to.1 to.3 c.blank.result c.send.new.self sent).1
-
-pub returns-in-Refused-clause-desk : goal.returns-in-Refused-clause-desk
-returns-in-Refused-clause-desk g c = desk_same c.args.crew.now.house.spare c.args.crew.now.house.spare refl
-
-pub returns-in-Ok-clause-desk : goal.returns-in-Ok-clause-desk
-returns-in-Ok-clause-desk g c =
-    let to : IsRouted c.args.event c.args.crew.now.house (To c.in-To.part (job_of c.in-To.task)) = subst (λ (h : Seating). IsRouted c.args.event h (To c.in-To.part (job_of c.in-To.task))) c.register.ensures.value c.in-To.ensures in
-    let number : c.len-number.result ≡ length c.args.replies.now.items = c.len-number.ensures ∙ c.args.replies.now.ok.0 in
-    let sent = subst (λ (n : ℕ). IsSentTo c.in-To.part (n, (job_of c.in-To.task)) c.args.crew.now c.send.new.self) number c.in-Ok.ensures.sent in
-    desk_same c.args.crew.now.house.spare c.send.new.self.house.spare
-    (sent_after c.args.crew.now c.args.replies.now.items c.requires.kept c.register.ensures.seated c.in-To.part c.args.event (job_of c.in-To.task) to.1 to.3 c.blank.result c.send.new.self sent).2
+    sent_after c.args.crew.now c.args.replies.now c.requires.kept c.register.ensures.seated c.in-To.part c.args.event (job_of c.in-To.task) to.1 to.3 c.blank.result c.send.new.self sent

@@ -9,12 +9,12 @@ returns-clause-home g c =
     let b = c.bring_parts_home in
     let end : c.parts-end.result ≡ length (parts_of c.args.crew.now.house.regions) =
     c.parts-end.ensures.value ∙ ap (λ rs. length (parts_of rs)) (c.regions.ensures.value ∙ ap (λ (h : Seating). h.regions) c.register.ensures.value) in
-    none_all c.args.crew.now b.new.crew b.ensures.house c.register-register.ensures.seated _ end (λ q low. b.ensures.home q (omega arith) low)
+    none_all c.args.crew.now b.new.crew b.ensures.brought.house c.register-register.ensures.seated _ end (λ q low. b.ensures.home q (omega arith) low)
 
 pub returns-clause-jobs : goal.returns-clause-jobs
 returns-clause-jobs g c =
     let b = c.bring_parts_home in
     let end : c.parts-end.result ≡ length (parts_of c.args.crew.now.house.regions) =
     c.parts-end.ensures.value ∙ ap (λ rs. length (parts_of rs)) (c.regions.ensures.value ∙ ap (λ (h : Seating). h.regions) c.register.ensures.value) in
-    let none = none_all c.args.crew.now b.new.crew b.ensures.house c.register-register.ensures.seated _ end (λ q low. b.ensures.home q (omega arith) low) in
-    all_idle b.new.crew b.ensures.kept.paired none c.register-register.ensures.idle
+    let none = none_all c.args.crew.now b.new.crew b.ensures.brought.house c.register-register.ensures.seated _ end (λ q low. b.ensures.home q (omega arith) low) in
+    all_idle b.new.crew b.ensures.brought.kept.paired none c.register-register.ensures.idle

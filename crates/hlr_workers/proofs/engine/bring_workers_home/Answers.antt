@@ -7,6 +7,6 @@ pub returns-clause-home : goal.returns-clause-home
 returns-clause-home g c =
     let b = c.bring_parts_home in
     let h = b.new.crew.house in
-    let regions = ap (λ (g : Seating). g.regions) b.ensures.house ∙ sym (ap (λ (g : Seating). g.regions) c.register.ensures.value) in
+    let regions = ap (λ (g : Seating). g.regions) b.ensures.brought.house ∙ sym (ap (λ (g : Seating). g.regions) c.register.ensures.value) in
     (c.parts_for-parts.ensures.here (here_by_id c.args.event.now c.requires.here) h c.register-register.ensures.seated regions).0
     (λ q from low. part_home h.seats q (b.ensures.home q from low))

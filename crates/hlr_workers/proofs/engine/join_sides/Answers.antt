@@ -5,8 +5,14 @@ use Rattle.part_table.specs.declared.moves.CutMove.{CutMove}
 use Rattle.part_table.specs.declared.region.Region.{Region}
 use Rattle.hlr_owners.specs.Out.{outs_in}
 use Rattle.hlr_owners.specs.Seats.{Seating}
-use Rattle.hlr_workers.proofs.EngineLemmas.{house_more, none_still, sides_cut, sides_next}
+use Rattle.hlr_workers.proofs.EngineLemmas.{brought_itself, brought_twice, none_still, sides_cut, sides_next}
 use Rattle.hlr_workers.proofs.engine.join_sides.Goals as goal
+
+pub loop-bound_move-init : goal.loop-bound_move-init
+loop-bound_move-init g c = record { brought = brought_itself _ _ c.requires.kept; home = λ i d low. absurd (omega arith); still = λ none. none }
+
+pub returns-in_default-clause-brought : goal.returns-in_default-clause-brought
+returns-in_default-clause-brought g c = brought_itself _ _ c.requires.kept
 
 pub loop-bound_move-preserved : goal.loop-bound_move-preserved
 loop-bound_move-preserved g c =
@@ -17,16 +23,11 @@ loop-bound_move-preserved g c =
     let move : CutMove = get_or moves c.loop-bound_move.bound_move-index (record { bound = 0; from = 0; to = 0 }) in
     let there = c.loop-bound_move-test.true in
     record {
-      kept = two.kept;
-      stands = λ start asked stood. two.stands start asked (one.stands start asked (was.stands start asked stood));
+      brought = brought_twice _ _ _ _ _ _ was.brought (brought_twice _ _ _ _ _ _ one.brought two.brought);
       home = λ i d low. rw (two.home, one.home, c.saturating_sub.ensures)
           (sides_next (outs_in c.loop-bound_move.crew.house.seats) moves c.loop-bound_move.bound_move-index move there (get_or_default moves c.loop-bound_move.bound_move-index (record { bound = 0; from = 0; to = 0 }) move there) was.home i d low);
       still = λ none. rw (two.home, one.home) (none_still (set (outs_in c.loop-bound_move.crew.house.seats) c.saturating_sub.result None) move.bound
           (none_still (outs_in c.loop-bound_move.crew.house.seats) c.saturating_sub.result (was.still none)));
-      places = two.places ∙ one.places ∙ was.places;
-      capacity = two.capacity ∙ one.capacity ∙ was.capacity;
-      house = house_more c.args.crew.now.house c.join.new.crew.house c.join-in-loop-bound_move.new.crew.house
-          (house_more c.args.crew.now.house c.loop-bound_move.crew.house c.join.new.crew.house was.house one.house) two.house;
     }
 
 pub returns-clause-home : goal.returns-clause-home
@@ -34,7 +35,7 @@ returns-clause-home g c =
     let was = c.loop-bound_move.invariant in
     let h = c.loop-bound_move.crew.house in
     let regions : h.regions ≡ c.regions.result.now =
-    ap (λ (s : Seating). s.regions) was.house ∙ sym (c.regions.ensures.value ∙ ap (λ (s : Seating). s.regions) c.register.ensures.value) in
+    ap (λ (s : Seating). s.regions) was.brought.house ∙ sym (c.regions.ensures.value ∙ ap (λ (s : Seating). s.regions) c.register.ensures.value) in
     let answer : recut_answer h.regions c.args.bounds.now ≡ Ok c.as_slice-bound_move-items.result.now =
     ap (λ (rs : List Region). recut_answer rs c.args.bounds.now) regions ∙ c.in-Ok.ensures.answer ∙ ap Ok (sym c.as_slice-bound_move-items.ensures.value) in
     let past = c.loop-bound_move-test.false in
