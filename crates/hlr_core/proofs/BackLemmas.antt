@@ -6,18 +6,13 @@ use Rattle.tatp_actions.specs.Part.{PartState}
 use Rattle.tatp_actions.specs.declared.action.Action.{Action}
 use Rattle.tatp_actions.specs.declared.action.RowReply.{RowReply}
 use Rattle.view_board.specs.Desks.{Station}
-use Rattle.part_table.specs.declared.region.Region.{Region}
 use Rattle.holding.specs.Held.{HoldingState}
-use Rattle.holding.specs.declared.job.Job.{Job}
-use Rattle.holding.specs.declared.job.Job.TheVariants as jobs
 use Rattle.hlr_owners.specs.Seats.{Seating, IsLent}
 use Rattle.hlr_owners.specs.declared.lodging.Seat.{Seat}
 use Rattle.hlr_owners.specs.declared.lodging.Seat.TheVariants.{Part}
 use Rattle.hlr_core.specs.Index.{number_pair}
 use Rattle.hlr_core.specs.Later.{IsBackWith}
-use Rattle.hlr_core.specs.Session.{IsJobDone, IsJobOf}
 use Rattle.hlr_core.specs.Step.{given_number}
-use Rattle.hlr_core.specs.declared.event.Reply.{Reply}
 use Rattle.hlr_core.proofs.LaterLemmas.{outcome_numbers}
 
 -- after an action that gives no number, and a posting
@@ -39,24 +34,6 @@ module _ (had done k : HoldingState) where
     ),
     ap (λ (p : PartState). map number_pair p.book.subscribers) part ∙ outcome_numbers act had.part.book done.part.book answer none outcome,
   )
-
--- after a job of its part
-pub job_back : (regions : List Region) (p : ℕ) (job : Job) (had : HoldingState) (answer : Reply) (k : HoldingState) → IsJobOf regions p job → IsJobDone job had answer k
-    → IsBackWith (Some (Part (record { holding = had; home = false }))) k
-job_back regions p (jobs.Act act) had answer k own done = back_worked had k k act done.rows own.1 done.outcome done.range done.desk.0 refl refl refl
-job_back regions p (jobs.Post limit) had answer k own done = (
-  (
-    refl,
-    record {
-      lo = ap (λ (part : PartState). part.lo) done.part;
-      hi = ap (λ (part : PartState). part.hi) done.part;
-      width = ap (λ (part : PartState). part.width) done.part;
-      board = done.desk.0;
-      owned = done.desk.1;
-    },
-  ),
-  ap (λ (part : PartState). map number_pair part.book.subscribers) done.part,
-)
 
 -- what is put where something stood stands there
 put_there : {X : Type 0} (xs : List X) (i : ℕ) (x y : X) → slice_get xs i ≡ Some x → slice_get (set xs i y) i ≡ Some y
