@@ -92,6 +92,15 @@ static uint8_t access_data_many(uint64_t turn) {
     for (int i = 0; i < MANY; i++) sum += rows[i].data3[0] + turn, refused |= codes[i];
     return code | refused;
 }
+static uint8_t new_destination_many(uint64_t turn) {
+    hlr_destination_asked asked[MANY];
+    hlr_numbers numbers[MANY] = {{0, {0, 0, 0}}};
+    uint8_t codes[MANY], refused = 0;
+    for (int i = 0; i < MANY; i++) asked[i] = (hlr_destination_asked){drawn() % subscribers + 1, 1, 8, 12};
+    uint8_t code = hlr_new_destination_many(&handle, asked, MANY, numbers, MANY, codes, MANY);
+    for (int i = 0; i < MANY; i++) sum += numbers[i].numbers[0] + turn, refused |= codes[i];
+    return code | refused;
+}
 static uint8_t mix(uint64_t turn) {
     uint64_t kind = drawn() % 100;
     uint8_t code;
@@ -137,6 +146,7 @@ int main(int argc, char **argv) {
     timed("subscriber_data", subscriber_data, calls);
     timed("access_data", access_data, calls);
     timed("new_destination", new_destination, calls);
+    timed_many("new_destination_many", new_destination_many, calls / MANY, MANY);
     timed("update_subscriber", update_subscriber, calls);
     timed("update_location", update_location, calls);
     timed("set_number", set_number, calls / 2 * 2);

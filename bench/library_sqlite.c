@@ -236,3 +236,12 @@ uint8_t hlr_access_data_many(hlr *handle, const hlr_access_asked *asked, size_t 
     for (size_t i = 0; i < count; i++) codes[i] = hlr_access_data(handle, asked[i].s_id, asked[i].ai_type, &rows[i]);
     return HLR_DONE;
 }
+
+uint8_t hlr_new_destination_many(hlr *handle, const hlr_destination_asked *asked, size_t count, hlr_numbers *told, size_t told_count,
+                                 uint8_t *codes, size_t codes_count) {
+    (void)told_count, (void)codes_count;
+    for (size_t i = 0; i < count; i++) {
+        codes[i] = hlr_new_destination(handle, asked[i].s_id, asked[i].sf_type, asked[i].start_time, asked[i].end_time, &told[i]);
+    }
+    return HLR_DONE;
+}

@@ -5,4 +5,5 @@ pub mod KeptPartSteps
 pub mod KeptSteps
 pub mod LenderCrossing
 pub mod ManyLemmas
+pub mod OwnLemmas
 pub mod PartLemmas

@@ -1,9 +1,13 @@
 -- Answers that are written one after another.
 use Rattle.std.proofs.Common.{◌≡◌, ℕ, ◌+◌, ◌<◌, ◌≤◌, ◌-◌, List, length, get_or, set, take, drop, refl, sym, ap, subst, ◌∙◌, inl, inr, arith}
-use Rattle.std.proofs.lemmas.Bool.{cases_eq}
-use Rattle.std.proofs.lemmas.List.{length-set, get_or-set_same, get_or-set_other, get_or_default, get_or-take, get_or-drop}
-use Rattle.hlr_c.specs.Inside.{AnswersFrom, IsAnsweredTo}
+use Rattle.std.proofs.lemmas.Bool.{cases_eq, cases_lt}
+use Rattle.std.proofs.lemmas.List.{length-drop, length-set, length-take-le, get_or-set_same, get_or-set_other, get_or_default, get_or-take, get_or-drop}
+use Rattle.hlr_c.specs.Inside.{AnswersFrom, AreWritten, IsAnsweredTo}
 use Rattle.hlr_c.specs.Many.{AreAsMany}
+
+-- how long a block of a list is
+pub block_length : {Q : Type 0} (asked : List Q) (from to : ℕ) → to ≤ length asked → length (take (to - from) (drop from asked)) ≡ to - from
+block_length asked from to room = length-take-le (to - from) (drop from asked) (omega (arith, room, length-drop from asked))
 
 -- what stands in a block of a list
 pub in_block : {Q : Type 0} (asked : List Q) (from to at : ℕ) (question : Q) → from ≤ at → at < to → get_or (take (to - from) (drop from asked)) (at - from) question ≡ get_or asked at question
@@ -53,3 +57,40 @@ module _ {Q X : Type 0} (Answers : Q → X → ℕ × X → Type 0) (asked : Lis
     -- at the end of the block all have them
     pub all_more : (n to : ℕ) (lists : List X × List ℕ) → AreAnsweredFrom n to lists → to ≤ n → AnswersFrom Answers asked from to old lists
     all_more n to lists so_far past = let same : n ≡ to = omega (arith, so_far.reached.1) in subst (λ k. AnswersFrom Answers asked from k old lists) same so_far.answers
+
+-- rows and codes of what was found, written place by place
+module _ {Q F X : Type 0} (told : Q → X → F → ℕ × X) (asked : List Q) (found : List F) (from : ℕ) (old : List X × List ℕ) where
+  pub none_written : AreAsMany asked old → AreWritten told asked found from old old from
+  none_written as_many = record { as_many = as_many; behind = λ k row below. (refl, refl); here = λ k question one row least near. absurd (omega arith); ahead = λ k row past. refl }
+
+  pub one_written : (rows : List X) (codes : List ℕ) (n code : ℕ) (question : Q) (one : F) (row new : X) → AreWritten told asked found from old (rows, codes) n → from ≤ n → n < length asked → n - from < length found
+      → (code, new) ≡ told (get_or asked n question) (get_or rows n row) (get_or found (n - from) one) → AreWritten told asked found from old (set rows n new, set codes n code) (n + 1)
+  one_written rows codes n code question one row new so_far low below there is = record {
+    as_many = (length-set rows n new ∙ so_far.as_many.0, length-set codes n code ∙ so_far.as_many.1);
+    behind = λ k r near.
+        let other : ¬ (k ≡ n) = λ e. absurd (omega arith) in
+        (get_or-set_other codes n k code 0 other ∙ (so_far.behind k r near).0, get_or-set_other rows n k new r other ∙ (so_far.behind k r near).1);
+    here = λ k q o r least near. elim (cases_eq k n) [
+      | inl same ↦
+          let asked_here = get_or_default asked n q question below in
+          let was_here = sym (so_far.ahead n r (omega arith)) ∙ get_or_default rows n r row (omega (arith, so_far.as_many.0, below)) in
+          let found_here = get_or_default found (n - from) o one there in
+          rw (same, asked_here, was_here, found_here, get_or-set_same codes n code 0 (omega (arith, so_far.as_many.1, below)), get_or-set_same rows n new r (omega (arith, so_far.as_many.0, below))) (sym is)
+      | inr other ↦ rw (get_or-set_other codes n k code 0 other, get_or-set_other rows n k new r other) (so_far.here k q o r least (omega arith))
+    ];
+    ahead = λ k r past. get_or-set_other rows n k new r (λ e. absurd (omega arith)) ∙ so_far.ahead k r (omega arith);
+  }
+
+  -- so the questions have their answers, if each answer is what is told of what was found
+  pub written_answers : (Answers : Q → X → ℕ × X → Type 0) (new : List X × List ℕ) (to : ℕ) (one : F) → AreWritten told asked found from old new to → from ≤ to
+      → ((k : ℕ) (question : Q) (row : X) → from ≤ k → k < to → Answers (get_or asked k question) row (told (get_or asked k question) row (get_or found (k - from) one))) → AnswersFrom Answers asked from to old new
+  written_answers Answers new to one written reach answers = λ before first. record {
+    as_many = written.as_many;
+    here = λ k question row near. elim (cases_lt k from) [
+      | inl below ↦ rw ((written.behind k row below).0, (written.behind k row below).1) (first.here k question row below)
+      | inr least ↦
+          subst (Answers (get_or asked k question) (get_or before k row)) (written.here k question one row least near)
+          (subst (λ r. Answers (get_or asked k question) (get_or before k row) (told (get_or asked k question) r (get_or found (k - from) one))) (sym (first.ahead k row least)) (answers k question (get_or before k row) least near))
+    ];
+    ahead = λ k row past. written.ahead k row past ∙ first.ahead k row (omega arith);
+  }

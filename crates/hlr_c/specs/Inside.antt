@@ -1,6 +1,14 @@
 -- What calls inside the crate promise each other. No clause of a public call cites this.
-use Rattle.std.specs.Prelude.{◌≡◌, ℕ, ◌+◌, ◌<◌, ◌≤◌, List, slice_index, slice_index_or}
+use Rattle.std.specs.Prelude.{◌≡◌, ℕ, ◌+◌, ◌-◌, ◌<◌, ◌≤◌, List, true, slice_index, slice_index_or}
+use Rattle.tatp_rows.specs.Rows.{is_between}
+use Rattle.tatp_rows.specs.declared.ranges.TheConstants.{LAST_SUBSCRIBER}
+use Rattle.tatp_actions.specs.Action.{is_in_range, is_typed}
+use Rattle.tatp_actions.specs.declared.action.Action.TheVariants as action
+use Rattle.holding.specs.Held.{HoldingState}
 use Rattle.hlr_c.specs.Many.{AreAsMany}
+use Rattle.hlr_c.specs.Parts.{has}
+use Rattle.hlr_c.specs.declared.rows.HlrAccessAsked.{HlrAccessAsked}
+use Rattle.hlr_c.specs.declared.rows.HlrDestinationAsked.{HlrDestinationAsked}
 
 -- places from one up to another of so many, at most 16
 abbrev pub IsBlock : ℕ → ℕ → ℕ → Type 0
@@ -17,3 +25,25 @@ pub record IsAnsweredTo {Q X : Type 0} (Answers : Q → X → ℕ × X → Type 
 abbrev pub AnswersFrom : {Q X : Type 0} → (Q → X → ℕ × X → Type 0) → List Q → ℕ → ℕ → List X × List ℕ → List X × List ℕ → Type 0
 AnswersFrom {Q} {X} Answers asked from to old new =
     (before : List X) → IsAnsweredTo Answers asked before old from → IsAnsweredTo Answers asked before new to
+
+-- the places from one up to another have what is told of their questions and of what was found for these, and the others
+-- are as before
+pub record AreWritten {Q F X : Type 0} (told : Q → X → F → ℕ × X) (asked : List Q) (found : List F) (from : ℕ) (old new : List X × List ℕ) (to : ℕ) : Type 0 where
+  pub as_many : AreAsMany asked new
+  pub behind : (k : ℕ) (row : X) → k < from → (slice_index new.1 k ≡ slice_index old.1 k) × (slice_index_or new.0 k row ≡ slice_index_or old.0 k row)
+  pub here : (k : ℕ) (question : Q) (one : F) (row : X) → from ≤ k → k < to
+      → told (slice_index_or asked k question) (slice_index_or old.0 k row) (slice_index_or found (k - from) one) ≡ (slice_index new.1 k, slice_index_or new.0 k row)
+  pub ahead : (k : ℕ) (row : X) → to ≤ k → slice_index_or new.0 k row ≡ slice_index_or old.0 k row
+
+-- an s_id is one of a part
+abbrev pub IsOwn : ℕ → HoldingState → Type 0
+IsOwn s_id part = (is_between 1 LAST_SUBSCRIBER s_id ≡ true) × (has s_id part ≡ true)
+
+-- an access is asked for whose fields are in range, of a subscriber of a part
+abbrev pub IsOwnAccess : HlrAccessAsked → HoldingState → Type 0
+IsOwnAccess asked part = (is_typed asked.s_id asked.ai_type ≡ true) × (has asked.s_id part ≡ true)
+
+-- numbers are asked for by fields in range, of a subscriber of a part
+abbrev pub IsOwnCall : HlrDestinationAsked → HoldingState → Type 0
+IsOwnCall asked part =
+    (is_in_range (action.NewDestination asked.s_id asked.sf_type asked.start_time asked.end_time) ≡ true) × (has asked.s_id part ≡ true)

@@ -1,6 +1,6 @@
 //! Many questions in one call, of a register or of a part that is out.
-ghost use Rattle.std.specs.Prelude.{◌≡◌, ◌<◌, ℕ, IsTrue, false, length};
-ghost use Rattle.hlr_c.specs.Inside.{AnswersFrom, IsBlock};
+ghost use Rattle.std.specs.Prelude.{◌≡◌, ◌<◌, ◌-◌, ℕ, IsTrue, false, length};
+ghost use Rattle.hlr_c.specs.Inside.{AnswersFrom, AreWritten, IsBlock};
 ghost use Rattle.hlr_c.specs.Many.{AreAnswered, AreAsMany, IsManyRead};
 
 use crate::codes::DONE;
@@ -31,6 +31,35 @@ pub(crate) trait Question<Of, Row>: Sized {
         ensures none { result ≡ false → (rows.new ≡ rows.old) × (codes.new ≡ codes.old) }
     {
         false
+    }
+}
+
+/// A question whose answer is written from what was found for it.
+pub(crate) trait Telling<Found, Row>: Sized {
+    // What is told of it, where the row was this before.
+    ghost told: { Self → Row → Found → ℕ × Row };
+
+    /// Writes what was found for it, and answers the code.
+    fn write(&self, found: &Found, row: &mut Row) -> u8
+        ensures { (result, row.new) ≡ told self.now row.old found.now };
+}
+
+/// Writes what was found for the questions from one place up to another.
+pub(crate) fn write_block<Found, Row, Q: Telling<Found, Row>>(
+    asked: &[Q],
+    from: usize,
+    to: usize,
+    found: &[Found],
+    rows: &mut [Row],
+    codes: &mut [u8],
+)
+    requires as_many { AreAsMany asked.now (rows.old, codes.old) }
+    requires block { IsBlock from to (length asked.now) }
+    requires found { length found.now ≡ to - from }
+    ensures { AreWritten Q.told asked.now found.now from (rows.old, codes.old) (rows.new, codes.new) to }
+{
+    for at in from..to {
+        codes[at] = asked[at].write(&found[at - from], &mut rows[at]);
     }
 }
 

@@ -1,34 +1,23 @@
-//! The three transactions that read, each of many questions in one call. Rows of subscribers and accesses are looked for
-//! side by side, 16 at a time, where no part is out and one has them all.
+//! The three transactions that read, each of many questions in one call. The rows are looked for side by side, 16
+//! questions at a time, where no part is out and one has them all.
 ghost use Rattle.std.specs.Prelude.{◌≡◌, ◌≤◌, IsTrue, false, [], length, map};
 ghost use Rattle.hlr_core.specs.Rows.{access_reply, subscriber_reply};
 ghost use Rattle.hlr_c.specs.Call.{IsCall};
 ghost use Rattle.hlr_c.specs.Inside.{AnswersFrom, IsBlock};
 ghost use Rattle.hlr_c.specs.Many.{AreAsMany, IsAccessRead, IsDestinationRead, IsManyRead, IsSubscriberRead};
-ghost use Rattle.hlr_c.specs.Told.{access_told, subscriber_told};
+ghost use Rattle.hlr_c.specs.Told.{access_told, found_told, subscriber_told};
 ghost use Rattle.hlr_c.specs.declared.codes.TheConstants.{NOT_OPEN};
 
-use crate::asking::{Question, ask_many};
-use crate::codes::DONE;
+use crate::asking::{Question, Telling, ask_many, write_block};
 use crate::handle::{Hlr, with_register};
-use crate::reads::{ask_access, ask_destinations, ask_subscriber, subscriber_for_c, write_access};
+use crate::reads::{
+    ask_access, ask_destinations, ask_subscriber, write_access_found, write_numbers,
+    write_subscriber,
+};
 use crate::rows::{HlrAccess, HlrAccessAsked, HlrDestinationAsked, HlrNumbers, HlrSubscriber};
-use hlr_core::{Access, ArrayVec, Refusal, Subscriber};
+use hlr_core::{Access, ArrayVec, Number, Subscriber};
 use hlr_lent::Lender;
 use std::alloc::Global;
-
-/// Writes what was found of a subscriber, as C has it: `NoSubscriber` where nothing was.
-fn write_subscriber(found: &Option<Subscriber>, row: &mut HlrSubscriber) -> u8
-    ensures { (result, row.new) ≡ subscriber_told row.old (subscriber_reply found.now) }
-{
-    match found {
-        Some(found) => {
-            *row = subscriber_for_c(found);
-            DONE
-        }
-        None => Refusal::NoSubscriber.code(),
-    }
-}
 
 /// Reads the subscribers from one place up to another, at most 16, side by side, and tells whether it did.
 fn ask_subscribers(
@@ -52,24 +41,8 @@ fn ask_subscribers(
     if !register.register().copy_subscribers(block, &mut found) {
         return false;
     }
-    let found = found.as_slice();
-    for at in from..to {
-        codes[at] = write_subscriber(&found[at - from], &mut rows[at]);
-    }
+    write_block(s_ids, from, to, found.as_slice(), rows, codes);
     true
-}
-
-/// Writes what was found of an access, as C has it: `NoAccess` where nothing was.
-fn write_access_found(found: &Option<Access>, asked: HlrAccessAsked, row: &mut HlrAccess) -> u8
-    ensures { (result, row.new) ≡ access_told asked.s_id asked.ai_type row.old (access_reply found.now) }
-{
-    match found {
-        Some(found) => {
-            write_access(found, asked.s_id, asked.ai_type, row);
-            DONE
-        }
-        None => Refusal::NoAccess.code(),
-    }
 }
 
 /// Puts the s_ids and types of accesses into an empty list.
@@ -110,11 +83,79 @@ fn ask_accesses(
     {
         return false;
     }
-    let found = found.as_slice();
-    for at in from..to {
-        codes[at] = write_access_found(&found[at - from], asked[at], &mut rows[at]);
-    }
+    write_block(asked, from, to, found.as_slice(), rows, codes);
     true
+}
+
+/// Puts the fields of calls into an empty list.
+fn put_calls(asked: &[HlrDestinationAsked], calls: &mut ArrayVec<(u64, u64, u64, u64), 16>)
+    requires few { length asked.now ≤ 16 }
+    requires empty { calls.old.items ≡ [] }
+    ensures { calls.new.items ≡ map (λ q. (q.s_id, q.sf_type, q.start_time, q.end_time)) asked.now }
+{
+    for place in 0..asked.len() {
+        let HlrDestinationAsked {
+            s_id,
+            sf_type,
+            start_time,
+            end_time,
+        } = asked[place];
+        calls.push((s_id, sf_type, start_time, end_time));
+    }
+}
+
+/// Reads the numbers of the calls from one place up to another, at most 16, side by side, and tells whether it did.
+fn ask_calls(
+    register: &Lender,
+    asked: &[HlrDestinationAsked],
+    from: usize,
+    to: usize,
+    numbers: &mut [HlrNumbers],
+    codes: &mut [u8],
+) -> bool
+    requires as_many { AreAsMany asked.now (numbers.old, codes.old) }
+    requires block { IsBlock from to (length asked.now) }
+    ensures done { IsTrue result → AnswersFrom (λ question row found. IsDestinationRead question row register.now found register.now) asked.now from to (numbers.old, codes.old) (numbers.new, codes.new) }
+    ensures none { result ≡ false → (numbers.new ≡ numbers.old) × (codes.new ≡ codes.old) }
+{
+    if !register.is_all_home() {
+        return false;
+    }
+    let mut calls = ArrayVec::new();
+    put_calls(&asked[from..to], &mut calls);
+    let mut found = ArrayVec::new();
+    if !register
+        .register()
+        .copy_destinations(calls.as_slice(), &mut found)
+    {
+        return false;
+    }
+    write_block(asked, from, to, found.as_slice(), numbers, codes);
+    true
+}
+
+impl Telling<Option<Subscriber>, HlrSubscriber> for u64 {
+    ghost told = { λ s_id row found. subscriber_told row (subscriber_reply found) };
+
+    fn write(&self, found: &Option<Subscriber>, row: &mut HlrSubscriber) -> u8 {
+        write_subscriber(found, row)
+    }
+}
+
+impl Telling<Option<Access>, HlrAccess> for HlrAccessAsked {
+    ghost told = { λ asked row found. access_told asked.s_id asked.ai_type row (access_reply found) };
+
+    fn write(&self, found: &Option<Access>, row: &mut HlrAccess) -> u8 {
+        write_access_found(found, self.s_id, self.ai_type, row)
+    }
+}
+
+impl Telling<ArrayVec<Number, 3>, HlrNumbers> for HlrDestinationAsked {
+    ghost told = { λ asked numbers found. found_told numbers found.items };
+
+    fn write(&self, found: &ArrayVec<Number, 3>, numbers: &mut HlrNumbers) -> u8 {
+        write_numbers(found, numbers)
+    }
 }
 
 impl Question<Lender, HlrSubscriber> for u64 {
@@ -166,6 +207,17 @@ impl Question<Lender, HlrNumbers> for HlrDestinationAsked {
             end_time,
         } = *self;
         ask_destinations(of, s_id, sf_type, start_time, end_time, row)
+    }
+
+    fn ask_block(
+        of: &Lender,
+        asked: &[HlrDestinationAsked],
+        from: usize,
+        to: usize,
+        numbers: &mut [HlrNumbers],
+        codes: &mut [u8],
+    ) -> bool {
+        ask_calls(of, asked, from, to, numbers, codes)
     }
 }
 

@@ -1,21 +1,176 @@
-//! The three transactions that read a part that is out, each of many questions in one call.
-ghost use Rattle.std.specs.Prelude.{◌≡◌};
+//! The three transactions that read a part that is out, each of many questions in one call. The rows are looked for
+//! side by side, 16 questions at a time, where all are the part's.
+ghost use Rattle.std.specs.Prelude.{◌≡◌, ◌≤◌, IsTrue, false, [], length, map};
+ghost use Rattle.std.specs.List.{All};
 ghost use Rattle.hlr_c.specs.Call.{IsCall};
-ghost use Rattle.hlr_c.specs.Many.{IsManyRead, IsPartAccessRead, IsPartDestinationRead, IsPartSubscriberRead};
+ghost use Rattle.hlr_c.specs.Inside.{AnswersFrom, IsBlock, IsOwn, IsOwnAccess, IsOwnCall};
+ghost use Rattle.hlr_c.specs.Many.{AreAsMany, IsManyRead, IsPartAccessRead, IsPartDestinationRead, IsPartSubscriberRead};
 ghost use Rattle.hlr_c.specs.declared.codes.TheConstants.{NOT_OPEN};
 
-use crate::asking::{Question, ask_many};
+use crate::asking::{Question, ask_many, write_block};
+use crate::fields::{is_call, is_subscriber, is_typed};
 use crate::part::{HlrPart, with_part};
-use crate::part_reads::{read_access, read_destinations, read_subscriber};
+use crate::part_reads::{has, read_access, read_destinations, read_subscriber};
 use crate::rows::{HlrAccess, HlrAccessAsked, HlrDestinationAsked, HlrNumbers, HlrSubscriber};
+use hlr_core::ArrayVec;
 use hlr_lent::Owner;
 use std::alloc::Global;
+
+/// Puts s_ids into an empty list, and tells whether each is one of a part.
+fn put_own(part: &Owner, s_ids: &[u64], own: &mut ArrayVec<u32, 16>) -> bool
+    requires few { length s_ids.now ≤ 16 }
+    requires empty { own.old.items ≡ [] }
+    ensures same { IsTrue result → own.new.items ≡ s_ids.now }
+    ensures own { IsTrue result → All (λ s_id. IsOwn s_id part.now) s_ids.now }
+{
+    for place in 0..s_ids.len() {
+        let s_id = s_ids[place];
+        if !is_subscriber(s_id) || !has(part, s_id) {
+            return false;
+        }
+        own.push(s_id as u32);
+    }
+    true
+}
+
+/// Puts the s_ids and types of accesses into an empty list, and tells whether each is in range and of a part.
+fn put_own_accesses(
+    part: &Owner,
+    asked: &[HlrAccessAsked],
+    own: &mut ArrayVec<(u32, u8), 16>,
+) -> bool
+    requires few { length asked.now ≤ 16 }
+    requires empty { own.old.items ≡ [] }
+    ensures same { IsTrue result → own.new.items ≡ map (λ a. (a.s_id, a.ai_type)) asked.now }
+    ensures own { IsTrue result → All (λ a. IsOwnAccess a part.now) asked.now }
+{
+    for place in 0..asked.len() {
+        let HlrAccessAsked { s_id, ai_type } = asked[place];
+        if !is_typed(s_id, ai_type) || !has(part, s_id) {
+            return false;
+        }
+        own.push((s_id as u32, ai_type as u8));
+    }
+    true
+}
+
+/// Puts the fields of calls into an empty list, and tells whether each is in range and of a subscriber of a part.
+fn put_own_calls(
+    part: &Owner,
+    asked: &[HlrDestinationAsked],
+    own: &mut ArrayVec<(u32, u8, u8, u8), 16>,
+) -> bool
+    requires few { length asked.now ≤ 16 }
+    requires empty { own.old.items ≡ [] }
+    ensures same { IsTrue result → own.new.items ≡ map (λ q. (q.s_id, q.sf_type, q.start_time, q.end_time)) asked.now }
+    ensures own { IsTrue result → All (λ q. IsOwnCall q part.now) asked.now }
+{
+    for place in 0..asked.len() {
+        let HlrDestinationAsked {
+            s_id,
+            sf_type,
+            start_time,
+            end_time,
+        } = asked[place];
+        if !is_call(s_id, sf_type, start_time, end_time) || !has(part, s_id) {
+            return false;
+        }
+        own.push((s_id as u32, sf_type as u8, start_time as u8, end_time as u8));
+    }
+    true
+}
+
+/// Reads the subscribers from one place up to another, at most 16, side by side, and tells whether it did: where each is
+/// one of the part.
+fn ask_own(
+    part: &Owner,
+    s_ids: &[u64],
+    from: usize,
+    to: usize,
+    rows: &mut [HlrSubscriber],
+    codes: &mut [u8],
+) -> bool
+    requires as_many { AreAsMany s_ids.now (rows.old, codes.old) }
+    requires block { IsBlock from to (length s_ids.now) }
+    ensures done { IsTrue result → AnswersFrom (λ s_id row found. IsPartSubscriberRead s_id row part.now found part.now) s_ids.now from to (rows.old, codes.old) (rows.new, codes.new) }
+    ensures none { result ≡ false → (rows.new ≡ rows.old) × (codes.new ≡ codes.old) }
+{
+    let mut own = ArrayVec::new();
+    if !put_own(part, &s_ids[from..to], &mut own) {
+        return false;
+    }
+    let mut found = ArrayVec::new();
+    part.copy_subscribers(own.as_slice(), &mut found);
+    write_block(s_ids, from, to, found.as_slice(), rows, codes);
+    true
+}
+
+/// Reads the accesses from one place up to another, at most 16, side by side, and tells whether it did: where each is in
+/// range and of the part.
+fn ask_own_accesses(
+    part: &Owner,
+    asked: &[HlrAccessAsked],
+    from: usize,
+    to: usize,
+    rows: &mut [HlrAccess],
+    codes: &mut [u8],
+) -> bool
+    requires as_many { AreAsMany asked.now (rows.old, codes.old) }
+    requires block { IsBlock from to (length asked.now) }
+    ensures done { IsTrue result → AnswersFrom (λ question row found. IsPartAccessRead question row part.now found part.now) asked.now from to (rows.old, codes.old) (rows.new, codes.new) }
+    ensures none { result ≡ false → (rows.new ≡ rows.old) × (codes.new ≡ codes.old) }
+{
+    let mut own = ArrayVec::new();
+    if !put_own_accesses(part, &asked[from..to], &mut own) {
+        return false;
+    }
+    let mut found = ArrayVec::new();
+    part.copy_access(own.as_slice(), &mut found);
+    write_block(asked, from, to, found.as_slice(), rows, codes);
+    true
+}
+
+/// Reads the numbers of the calls from one place up to another, at most 16, side by side, and tells whether it did: where
+/// each is in range and of the part.
+fn ask_own_calls(
+    part: &Owner,
+    asked: &[HlrDestinationAsked],
+    from: usize,
+    to: usize,
+    numbers: &mut [HlrNumbers],
+    codes: &mut [u8],
+) -> bool
+    requires as_many { AreAsMany asked.now (numbers.old, codes.old) }
+    requires block { IsBlock from to (length asked.now) }
+    ensures done { IsTrue result → AnswersFrom (λ question row found. IsPartDestinationRead question row part.now found part.now) asked.now from to (numbers.old, codes.old) (numbers.new, codes.new) }
+    ensures none { result ≡ false → (numbers.new ≡ numbers.old) × (codes.new ≡ codes.old) }
+{
+    let mut own = ArrayVec::new();
+    if !put_own_calls(part, &asked[from..to], &mut own) {
+        return false;
+    }
+    let mut found = ArrayVec::new();
+    part.copy_destinations(own.as_slice(), &mut found);
+    write_block(asked, from, to, found.as_slice(), numbers, codes);
+    true
+}
 
 impl Question<Owner, HlrSubscriber> for u64 {
     ghost is_read = { IsPartSubscriberRead };
 
     fn ask(&self, of: &Owner, row: &mut HlrSubscriber) -> u8 {
         read_subscriber(of, *self, row)
+    }
+
+    fn ask_block(
+        of: &Owner,
+        asked: &[u64],
+        from: usize,
+        to: usize,
+        rows: &mut [HlrSubscriber],
+        codes: &mut [u8],
+    ) -> bool {
+        ask_own(of, asked, from, to, rows, codes)
     }
 }
 
@@ -24,6 +179,17 @@ impl Question<Owner, HlrAccess> for HlrAccessAsked {
 
     fn ask(&self, of: &Owner, row: &mut HlrAccess) -> u8 {
         read_access(of, self.s_id, self.ai_type, row)
+    }
+
+    fn ask_block(
+        of: &Owner,
+        asked: &[HlrAccessAsked],
+        from: usize,
+        to: usize,
+        rows: &mut [HlrAccess],
+        codes: &mut [u8],
+    ) -> bool {
+        ask_own_accesses(of, asked, from, to, rows, codes)
     }
 }
 
@@ -38,6 +204,17 @@ impl Question<Owner, HlrNumbers> for HlrDestinationAsked {
             end_time,
         } = *self;
         read_destinations(of, s_id, sf_type, start_time, end_time, row)
+    }
+
+    fn ask_block(
+        of: &Owner,
+        asked: &[HlrDestinationAsked],
+        from: usize,
+        to: usize,
+        numbers: &mut [HlrNumbers],
+        codes: &mut [u8],
+    ) -> bool {
+        ask_own_calls(of, asked, from, to, numbers, codes)
     }
 }
 

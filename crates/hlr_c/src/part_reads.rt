@@ -3,18 +3,17 @@ ghost use Rattle.std.specs.Prelude.{◌≡◌};
 ghost use Rattle.tatp_actions.specs.declared.action.Action.TheVariants as action;
 ghost use Rattle.hlr_c.specs.Call.{IsCall};
 ghost use Rattle.hlr_c.specs.Parts.{IsPartRange, IsPartRead, has};
-ghost use Rattle.hlr_c.specs.Told.{access_told, found_told, numbers_told, subscriber_told};
+ghost use Rattle.hlr_c.specs.Told.{access_told, numbers_told, subscriber_told};
 ghost use Rattle.hlr_c.specs.declared.codes.TheConstants.{ELSEWHERE, NOT_OPEN};
 
 use crate::codes::{DONE, ELSEWHERE};
-use crate::fields::{is_between, is_subscriber, is_typed};
+use crate::fields::{is_call, is_subscriber, is_typed};
 use crate::part::{HlrPart, with_part};
-use crate::reads::{numbers_for_c, subscriber_for_c, write_access};
+use crate::reads::{write_access_found, write_numbers, write_subscriber};
 use crate::rows::{HlrAccess, HlrNumbers, HlrSubscriber};
-use hlr_core::{ArrayVec, Number, Refusal};
+use hlr_core::Refusal;
 use hlr_lent::Owner;
 use std::alloc::Global;
-use tatp_rows::is_start_time;
 
 /// Whether a subscriber lies in a part.
 pub(crate) fn has(part: &Owner, s_id: u64) -> bool
@@ -32,13 +31,8 @@ pub(crate) fn read_subscriber(part: &Owner, s_id: u64, row: &mut HlrSubscriber) 
     if !has(part, s_id) {
         return ELSEWHERE;
     }
-    match part.lend_subscriber(s_id as u32) {
-        Some(found) => {
-            *row = subscriber_for_c(found);
-            DONE
-        }
-        None => Refusal::NoSubscriber.code(),
-    }
+    let found = part.lend_subscriber(s_id as u32).copied();
+    write_subscriber(&found, row)
 }
 
 pub(crate) fn read_access(part: &Owner, s_id: u64, ai_type: u64, row: &mut HlrAccess) -> u8
@@ -50,23 +44,8 @@ pub(crate) fn read_access(part: &Owner, s_id: u64, ai_type: u64, row: &mut HlrAc
     if !has(part, s_id) {
         return ELSEWHERE;
     }
-    match part.lend_access(s_id as u32, ai_type as u8) {
-        Some(found) => {
-            write_access(found, s_id, ai_type, row);
-            DONE
-        }
-        None => Refusal::NoAccess.code(),
-    }
-}
-
-fn write_numbers(found: &ArrayVec<Number, 3>, numbers: &mut HlrNumbers) -> u8
-    ensures { (result, numbers.new) ≡ found_told numbers.old found.now.items }
-{
-    if found.is_empty() {
-        return Refusal::NoDestination.code();
-    }
-    *numbers = numbers_for_c(found);
-    DONE
+    let found = part.lend_access(s_id as u32, ai_type as u8).copied();
+    write_access_found(&found, s_id, ai_type, row)
 }
 
 pub(crate) fn read_destinations(
@@ -79,7 +58,7 @@ pub(crate) fn read_destinations(
 ) -> u8
     ensures { IsPartRead (action.NewDestination s_id sf_type start_time end_time) (numbers_told numbers.old) (ELSEWHERE, numbers.old) part.now (result, numbers.new) part.now }
 {
-    if !is_typed(s_id, sf_type) || !is_start_time(start_time) || !is_between(end_time, 1, 24) {
+    if !is_call(s_id, sf_type, start_time, end_time) {
         return Refusal::Field.code();
     }
     if !has(part, s_id) {

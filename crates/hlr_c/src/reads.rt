@@ -1,16 +1,17 @@
 //! The three transactions that read.
 ghost use Rattle.std.specs.Prelude.{◌≡◌, Ok, slice_index_or};
 ghost use Rattle.hlr_core.specs.Home.{IsHomeTo};
+ghost use Rattle.hlr_core.specs.Rows.{access_reply, subscriber_reply};
 ghost use Rattle.hlr_core.specs.declared.event.Event.TheVariants as event;
 ghost use Rattle.hlr_c.specs.Call.{IsAnswer, IsCall};
 ghost use Rattle.hlr_c.specs.Rows.{numbers_for_c};
-ghost use Rattle.hlr_c.specs.Told.{access_told, numbers_told, subscriber_told};
+ghost use Rattle.hlr_c.specs.Told.{access_told, found_told, numbers_told, subscriber_told};
 ghost use Rattle.hlr_c.specs.declared.codes.TheConstants.{AWAY, NOT_OPEN};
 
 use crate::codes::{DONE, code_away};
 use crate::handle::{Hlr, with_register};
 use crate::rows::{HlrAccess, HlrNumbers, HlrSubscriber};
-use hlr_core::{Access, ArrayVec, Event, Number, Register, Subscriber};
+use hlr_core::{Access, ArrayVec, Event, Number, Refusal, Register, Subscriber};
 use hlr_lent::Lender;
 use std::alloc::Global;
 
@@ -41,7 +42,7 @@ fn number_at(numbers: &[Number], place: usize) -> u64
 }
 
 /// Numbers, as C has them.
-pub(crate) fn numbers_for_c(numbers: &ArrayVec<Number, 3>) -> HlrNumbers
+fn numbers_for_c(numbers: &ArrayVec<Number, 3>) -> HlrNumbers
     ensures { result ≡ numbers_for_c numbers.now.items }
 {
     let list = numbers.as_slice();
@@ -52,7 +53,7 @@ pub(crate) fn numbers_for_c(numbers: &ArrayVec<Number, 3>) -> HlrNumbers
 }
 
 /// What was read of an access, as C has it.
-pub(crate) fn write_access(found: &Access, s_id: u64, ai_type: u64, row: &mut HlrAccess)
+fn write_access(found: &Access, s_id: u64, ai_type: u64, row: &mut HlrAccess)
     ensures { row.new ≡ record {
       s_id = s_id;
       ai_type = ai_type;
@@ -70,6 +71,48 @@ pub(crate) fn write_access(found: &Access, s_id: u64, ai_type: u64, row: &mut Hl
         data3: found.data3().bytes(),
         data4: found.data4().bytes(),
     };
+}
+
+/// Writes what was found of a subscriber, as C has it: `NoSubscriber` where nothing was.
+pub(crate) fn write_subscriber(found: &Option<Subscriber>, row: &mut HlrSubscriber) -> u8
+    ensures { (result, row.new) ≡ subscriber_told row.old (subscriber_reply found.now) }
+{
+    match found {
+        Some(found) => {
+            *row = subscriber_for_c(found);
+            DONE
+        }
+        None => Refusal::NoSubscriber.code(),
+    }
+}
+
+/// Writes what was found of an access, as C has it: `NoAccess` where nothing was.
+pub(crate) fn write_access_found(
+    found: &Option<Access>,
+    s_id: u64,
+    ai_type: u64,
+    row: &mut HlrAccess,
+) -> u8
+    ensures { (result, row.new) ≡ access_told s_id ai_type row.old (access_reply found.now) }
+{
+    match found {
+        Some(found) => {
+            write_access(found, s_id, ai_type, row);
+            DONE
+        }
+        None => Refusal::NoAccess.code(),
+    }
+}
+
+/// Writes the numbers that were found, as C has them: `NoDestination` where there are none.
+pub(crate) fn write_numbers(found: &ArrayVec<Number, 3>, numbers: &mut HlrNumbers) -> u8
+    ensures { (result, numbers.new) ≡ found_told numbers.old found.now.items }
+{
+    if found.is_empty() {
+        return Refusal::NoDestination.code();
+    }
+    *numbers = numbers_for_c(found);
+    DONE
 }
 
 fn read_subscriber(register: &Register, s_id: u64, row: &mut HlrSubscriber) -> u8

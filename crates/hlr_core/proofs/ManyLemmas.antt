@@ -4,12 +4,13 @@ use Rattle.std.specs.Prelude.{Option, Some, None, Ok}
 use Rattle.std.specs.List.{All}
 use Rattle.std.proofs.Math.Seq.{take-suc}
 use Rattle.std.proofs.lemmas.Bool.{cases_eq}
-use Rattle.std.proofs.lemmas.List.{get_or-map, get_or_default, length-map}
+use Rattle.std.proofs.lemmas.List.{get_or-map, get_or_default, length-map, map-append}
+use Rattle.arrayvec.specs.ArrayVec.{ArrayVec}
 use Rattle.tatp_rows.proofs.RowLemmas.{between_is, between_ok, both_from}
-use Rattle.tatp_rows.specs.Rows.{SubscriberRow, AccessInfoRow, between, is_between}
+use Rattle.tatp_rows.specs.Rows.{SubscriberRow, AccessInfoRow, between, is_between, is_start_time}
 use Rattle.tatp_rows.specs.declared.ranges.TheConstants.{LAST_SUBSCRIBER}
 use Rattle.tatp_rows.specs.declared.refusal.Refusal.TheVariants as refusal
-use Rattle.tatp_actions.specs.Action.{access_data, subscriber_data}
+use Rattle.tatp_actions.specs.Action.{access_data, destinations, is_in_range, new_destination, subscriber_data}
 use Rattle.tatp_actions.specs.Book.{IsWithin, access_at, subscriber_at}
 use Rattle.tatp_actions.specs.declared.action.Action.TheVariants as action
 use Rattle.tatp_actions.specs.declared.action.RowReply.TheVariants as row_reply
@@ -21,7 +22,7 @@ use Rattle.hlr_owners.specs.Seats.{Seating, store_in}
 use Rattle.hlr_owners.specs.Store.{Store}
 use Rattle.hlr_owners.proofs.ReadLemmas.{is_read, subscriber_fits}
 use Rattle.hlr_core.specs.Beside.{IsStepBeside, beside}
-use Rattle.hlr_core.specs.Rows.{AreFound, access_reply, subscriber_reply}
+use Rattle.hlr_core.specs.Rows.{AreFound, access_reply, numbers_reply, subscriber_reply}
 use Rattle.hlr_core.specs.Step.{IsStep}
 use Rattle.hlr_core.specs.declared.event.Event.{Event}
 use Rattle.hlr_core.specs.declared.event.Event.TheVariants as event
@@ -49,9 +50,18 @@ module _ (store : Store) (holding : HoldingState) where
       read_step (action.AccessData s_id t) store (row_reply.Refused refusal.NoAccess) refl
       (is_read (action.AccessData s_id t) store holding has (both_from _ _ (subscriber_fits s_id within) kind) (row_reply.Refused refusal.NoAccess) (ap (access_data holding.part.book) (sym is)))
 
+  destinations_read : (s_id t start end : ℕ) → is_in_range (action.NewDestination s_id t start end) ≡ true → HasRowsOf s_id store holding → (ns : List ℕ) → ns ≡ destinations holding.part.book s_id t start end
+      → IsStep (event.NewDestination s_id t start end) store (numbers_reply ns) store
+  destinations_read s_id t start end fits has [] is =
+      read_step (action.NewDestination s_id t start end) store (row_reply.Refused refusal.NoDestination) refl
+      (is_read (action.NewDestination s_id t start end) store holding has fits (row_reply.Refused refusal.NoDestination) (ap (new_destination holding.part.book) (sym is)))
+  destinations_read s_id t start end fits has (n ∷ ns) is =
+      read_step (action.NewDestination s_id t start end) store (row_reply.Numbers (record { items = n ∷ ns })) refl
+      (is_read (action.NewDestination s_id t start end) store holding has fits (row_reply.Numbers (record { items = n ∷ ns })) (ap (new_destination holding.part.book) (sym is)))
+
 -- what is found for each question is the reply to its event, if the reply to each event is what is found for it
-module _ {Q R : Type 0} (asks : Q → Event) (told : Option R → Reply) (find : Q → Option R) (h : Seating) where
-  pub all_found : (asked : List Q) (rows : List (Option R)) → rows ≡ map find asked
+module _ {Q F : Type 0} (asks : Q → Event) (told : F → Reply) (find : Q → F) (h : Seating) where
+  pub all_found : (asked : List Q) (rows : List F) → rows ≡ map find asked
       → All (λ q. IsStep (asks q) (store_in h) (told (find q)) (store_in h)) asked → All (λ q. IsStepBeside (asks q) h (told (find q)) h) asked → AreFound asks told h asked rows
   all_found asked rows found steps besides = record {
     as_many = rw found (length-map asked find);
@@ -80,11 +90,45 @@ module _ (asked : List (ℕ × ℕ)) (n s_id t : ℕ) (below : n < length asked)
     | inr other ↦ so_far at a (omega arith)
   ]
 
--- what holds of the first ones of pairs
-pub all_firsts : (P : ℕ → Type 0) (asked : List (ℕ × ℕ)) → All (λ a. P a.0) asked → All P (map (λ a. a.0) asked)
-all_firsts P asked all = λ at n below.
-    let within : at < length asked = omega (arith, below, length-map asked (λ (a : ℕ × ℕ). a.0)) in
-    rw (get_or-map (λ (a : ℕ × ℕ). a.0) asked at (n, 0) n within) (all at (n, 0) within)
+-- one more call that is in range
+module _ (asked : List (ℕ × ℕ × ℕ × ℕ)) (n s_id t end : ℕ) (below : n < length asked) (id : Ok s_id ≡ between 1 LAST_SUBSCRIBER (get_or asked n (0, 0, 0, 0)).0) (kind : Ok t ≡ between 1 4 (get_or asked n (0, 0, 0, 0)).1)
+    (last : Ok end ≡ between 1 24 (get_or asked n (0, 0, 0, 0)).3) where
+  pub one_more_call : (calls more : List (ℕ × ℕ × ℕ × ℕ)) → calls ≡ take n asked → more ≡ calls ++ (s_id, t, (get_or asked n (0, 0, 0, 0)).2, end) ∷ [] → more ≡ take (n + 1) asked
+  one_more_call calls more so_far pushed =
+      let one = (between_ok 1 LAST_SUBSCRIBER (get_or asked n (0, 0, 0, 0)).0 s_id id).0 in
+      let two = (between_ok 1 4 (get_or asked n (0, 0, 0, 0)).1 t kind).0 in
+      let four = (between_ok 1 24 (get_or asked n (0, 0, 0, 0)).3 end last).0 in
+      let next : n + 1 ≡ suc n = omega arith in
+      pushed ∙ rw (so_far, one, two, four, next) (sym (take-suc asked n (0, 0, 0, 0) below))
+
+  pub one_more_id : (ids more : List ℕ) → ids ≡ map (λ q. q.0) (take n asked) → more ≡ ids ++ s_id ∷ [] → more ≡ map (λ q. q.0) (take (n + 1) asked)
+  one_more_id ids more so_far pushed =
+      let first = λ (q : ℕ × ℕ × ℕ × ℕ). q.0 in
+      let one = (between_ok 1 LAST_SUBSCRIBER (get_or asked n (0, 0, 0, 0)).0 s_id id).0 in
+      let next : n + 1 ≡ suc n = omega arith in
+      pushed ∙ rw (so_far, one, next, take-suc asked n (0, 0, 0, 0) below) (sym (map-append first (take n asked) (get_or asked n (0, 0, 0, 0) ∷ [])))
+
+  pub one_call_within : is_start_time (get_or asked n (0, 0, 0, 0)).2 ≡ true
+      → ((at : ℕ) (q : ℕ × ℕ × ℕ × ℕ) → at < n → IsWithin 1 (LAST_SUBSCRIBER + 1) (get_or asked at q).0 × (is_in_range (action.NewDestination (get_or asked at q).0 (get_or asked at q).1 (get_or asked at q).2 (get_or asked at q).3) ≡ true))
+      → (at : ℕ) (q : ℕ × ℕ × ℕ × ℕ) → at < n + 1 → IsWithin 1 (LAST_SUBSCRIBER + 1) (get_or asked at q).0 × (is_in_range (action.NewDestination (get_or asked at q).0 (get_or asked at q).1 (get_or asked at q).2 (get_or asked at q).3) ≡ true)
+  one_call_within starts so_far at q near = elim (cases_eq at n) [
+    | inl same ↦
+        let holds = (between_ok 1 LAST_SUBSCRIBER (get_or asked n (0, 0, 0, 0)).0 s_id id).1 in
+        let range = between_is 1 LAST_SUBSCRIBER (get_or asked n (0, 0, 0, 0)).0 holds in
+        let above : (get_or asked n (0, 0, 0, 0)).0 < LAST_SUBSCRIBER + 1 = omega (arith, range) in
+        let two = (between_ok 1 4 (get_or asked n (0, 0, 0, 0)).1 t kind).1 in
+        let four = (between_ok 1 24 (get_or asked n (0, 0, 0, 0)).3 end last).1 in
+        rw (same, get_or_default asked n q (0, 0, 0, 0) below) ((range.0, above), both_from _ _ (both_from _ _ holds two) (both_from _ _ starts four))
+    | inr other ↦ so_far at q (omega arith)
+  ]
+
+-- what holds of what is made of each
+module _ {A : Type 0} (make : A → ℕ) (d : A) (P : ℕ → Type 0) (asked : List A) where
+  pub all_made : All (λ a. P (make a)) asked → All P (map make asked)
+  all_made all = λ at n below. let within : at < length asked = omega (arith, below, length-map asked make) in rw (get_or-map make asked at d n within) (all at d within)
+
+  pub all_of_made : All P (map make asked) → All (λ a. P (make a)) asked
+  all_of_made all = λ at question below. rw (get_or-map make asked at question 0 below) at (all at 0 (omega (arith, below, length-map asked make)))
 
 -- so it is with what is found in the part that has all of these subscribers
 module _ (h : Seating) (holding : HoldingState) where
@@ -101,9 +145,16 @@ module _ (h : Seating) (holding : HoldingState) where
   accesses_found asked rows within have beside_have found =
       all_found (λ a. event.AccessData a.0 a.1) access_reply (λ a. access_at holding.part.book a.0 a.1) h asked rows found
       (λ at d below. let a = get_or asked at d in let fits = within at d below in
-      access_read (store_in h) holding a.0 a.1 fits.0 fits.1 (all_at (λ s_id. HasRowsOf s_id (store_in h) holding) asked have at d below) (access_at holding.part.book a.0 a.1) refl)
+      access_read (store_in h) holding a.0 a.1 fits.0 fits.1 (all_of_made (λ (a : ℕ × ℕ). a.0) d (λ s_id. HasRowsOf s_id (store_in h) holding) asked have at d below) (access_at holding.part.book a.0 a.1) refl)
       (λ at d below ks later. let a = get_or asked at d in let fits = within at d below in
-      access_read (store_in (beside h ks)) holding a.0 a.1 fits.0 fits.1 (all_at (λ s_id. HasRowsBeside s_id h holding) asked beside_have at d below ks (each_seat h.seats (with_outs h.seats ks) later)) (access_at holding.part.book a.0 a.1) refl)
-    where
-      all_at : (P : ℕ → Type 0) (asked : List (ℕ × ℕ)) → All P (map (λ a. a.0) asked) → All (λ a. P a.0) asked
-      all_at P asked all = λ at question below. rw (get_or-map (λ (a : ℕ × ℕ). a.0) asked at question 0 below) at (all at 0 (omega (arith, below, length-map asked (λ (a : ℕ × ℕ). a.0))))
+      access_read (store_in (beside h ks)) holding a.0 a.1 fits.0 fits.1 (all_of_made (λ (a : ℕ × ℕ). a.0) d (λ s_id. HasRowsBeside s_id h holding) asked beside_have at d below ks (each_seat h.seats (with_outs h.seats ks) later)) (access_at holding.part.book a.0 a.1) refl)
+
+  pub destinations_found : (asked : List (ℕ × ℕ × ℕ × ℕ)) (numbers : List (ArrayVec ℕ)) → All (λ q. IsWithin 1 (LAST_SUBSCRIBER + 1) q.0 × (is_in_range (action.NewDestination q.0 q.1 q.2 q.3) ≡ true)) asked
+      → All (λ s_id. HasRowsOf s_id (store_in h) holding) (map (λ q. q.0) asked) → All (λ s_id. HasRowsBeside s_id h holding) (map (λ q. q.0) asked)
+      → numbers ≡ map (λ q. record { items = destinations holding.part.book q.0 q.1 q.2 q.3 }) asked → AreFound (λ q. event.NewDestination q.0 q.1 q.2 q.3) (λ (found : ArrayVec ℕ). numbers_reply found.items) h asked numbers
+  destinations_found asked numbers within have beside_have found =
+      all_found (λ (q : ℕ × ℕ × ℕ × ℕ). event.NewDestination q.0 q.1 q.2 q.3) (λ (found : ArrayVec ℕ). numbers_reply found.items) (λ (q : ℕ × ℕ × ℕ × ℕ). record { items = destinations holding.part.book q.0 q.1 q.2 q.3 }) h asked numbers found
+      (λ at d below. let q = get_or asked at d in
+      destinations_read (store_in h) holding q.0 q.1 q.2 q.3 (within at d below).1 (all_of_made (λ (q : ℕ × ℕ × ℕ × ℕ). q.0) d (λ s_id. HasRowsOf s_id (store_in h) holding) asked have at d below) (destinations holding.part.book q.0 q.1 q.2 q.3) refl)
+      (λ at d below ks later. let q = get_or asked at d in
+      destinations_read (store_in (beside h ks)) holding q.0 q.1 q.2 q.3 (within at d below).1 (all_of_made (λ (q : ℕ × ℕ × ℕ × ℕ). q.0) d (λ s_id. HasRowsBeside s_id h holding) asked beside_have at d below ks (each_seat h.seats (with_outs h.seats ks) later)) (destinations holding.part.book q.0 q.1 q.2 q.3) refl)

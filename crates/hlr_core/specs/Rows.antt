@@ -1,9 +1,9 @@
 -- What is read of rows by a call of its own, and by no event: a facility, a forwarding, and who has a number; and rows of
 -- many subscribers at once.
-use Rattle.std.specs.Prelude.{◌≡◌, ℕ, ◌<◌, ◌&&◌, List, length, Option, Some, None, Result, Err, if◌then◌else◌, ok_or, slice_index_or}
+use Rattle.std.specs.Prelude.{◌≡◌, ℕ, ◌<◌, ◌&&◌, List, [], ◌∷◌, length, Option, Some, None, Result, Err, if◌then◌else◌, ok_or, slice_index_or}
 use Rattle.tatp_rows.specs.Rows.{SubscriberRow, AccessInfoRow, SpecialFacilityRow, CallForwardingRow, is_start_time}
 use Rattle.tatp_rows.specs.declared.refusal.Refusal.{Refusal}
-use Rattle.tatp_rows.specs.declared.refusal.Refusal.TheVariants.{Field, NoAccess, NoNumber, NoSubscriber}
+use Rattle.tatp_rows.specs.declared.refusal.Refusal.TheVariants.{Field, NoAccess, NoDestination, NoNumber, NoSubscriber}
 use Rattle.tatp_actions.specs.Action.{is_typed}
 use Rattle.tatp_actions.specs.declared.action.RowReply.TheVariants as row_reply
 use Rattle.hlr_owners.specs.Read.{facility_answer, forwarding_answer}
@@ -39,11 +39,16 @@ abbrev pub access_reply : Option AccessInfoRow → Reply
 access_reply (Some row) = reply.Rows (row_reply.AccessRow row.data1 row.data2 row.data3 row.data4)
 access_reply None = reply.Refused NoAccess
 
+-- the reply that carries the numbers to which a call is forwarded, or the refusal of none
+abbrev pub numbers_reply : List ℕ → Reply
+numbers_reply [] = reply.Refused NoDestination
+numbers_reply (number ∷ numbers) = reply.Rows (row_reply.Numbers (record { items = number ∷ numbers }))
+
 -- what was found for each question is the reply to its event: a right step that changes nothing, whatever jobs have done
 -- to the holdings that are out
-pub record AreFound {Q R : Type 0} (event : Q → Event) (told : Option R → Reply) (h : Seating) (asked : List Q) (found : List (Option R)) : Type 0 where
+pub record AreFound {Q F : Type 0} (event : Q → Event) (told : F → Reply) (h : Seating) (asked : List Q) (found : List F) : Type 0 where
   pub as_many : length found ≡ length asked
-  pub steps : (at : ℕ) (question : Q) (row : Option R) → at < length asked
-      → IsStep (event (slice_index_or asked at question)) (store_in h) (told (slice_index_or found at row)) (store_in h)
-  pub beside : (at : ℕ) (question : Q) (row : Option R) → at < length asked
-      → IsStepBeside (event (slice_index_or asked at question)) h (told (slice_index_or found at row)) h
+  pub steps : (at : ℕ) (question : Q) (one : F) → at < length asked
+      → IsStep (event (slice_index_or asked at question)) (store_in h) (told (slice_index_or found at one)) (store_in h)
+  pub beside : (at : ℕ) (question : Q) (one : F) → at < length asked
+      → IsStepBeside (event (slice_index_or asked at question)) h (told (slice_index_or found at one)) h

@@ -1,16 +1,20 @@
 //! Rows of up to 16 subscribers at once. They are looked for side by side, so that the waits for memory overlap.
-ghost use Rattle.std.specs.Prelude.{◌≡◌, ◌≤◌, ◌+◌, IsTrue, [], length, map, true};
+ghost use Rattle.std.specs.Prelude.{◌≡◌, ◌≤◌, ◌+◌, IsTrue, [], false, length, map, true};
 ghost use Rattle.std.specs.List.{All};
 ghost use Rattle.tatp_rows.specs.Rows.{is_between};
 ghost use Rattle.tatp_rows.specs.declared.ranges.TheConstants.{LAST_SUBSCRIBER};
+ghost use Rattle.tatp_actions.specs.Action.{is_in_range};
 ghost use Rattle.tatp_actions.specs.Book.{IsWithin};
+ghost use Rattle.tatp_actions.specs.declared.action.Action.TheVariants as action;
 ghost use Rattle.hlr_core.specs.Home.{IsHomeTo};
-ghost use Rattle.hlr_core.specs.Rows.{AreFound, access_reply, subscriber_reply};
+ghost use Rattle.hlr_core.specs.Rows.{AreFound, access_reply, numbers_reply, subscriber_reply};
 ghost use Rattle.hlr_core.specs.declared.event.Event.TheVariants as event;
 
 use crate::register::Register;
 use arrayvec::ArrayVec;
-use tatp_rows::{Access, LAST_SUBSCRIBER, Subscriber, byte_in_range, in_range};
+use tatp_rows::{
+    Access, LAST_SUBSCRIBER, Number, Subscriber, byte_in_range, in_range, is_start_time,
+};
 
 /// Puts the numbers of subscribers into an empty list, and tells whether each is in 1..=16,777,216.
 fn put_ids(s_ids: &[u64], ids: &mut ArrayVec<u32, 16>) -> bool
@@ -48,6 +52,39 @@ fn put_accesses(asked: &[(u64, u64)], accesses: &mut ArrayVec<(u32, u8), 16>) ->
     true
 }
 
+/// Puts calls and their s_ids into empty lists, and tells whether each has its fields in range, as `Register::destinations`
+/// wants them.
+fn put_calls(
+    asked: &[(u64, u64, u64, u64)],
+    calls: &mut ArrayVec<(u32, u8, u8, u8), 16>,
+    s_ids: &mut ArrayVec<u32, 16>,
+) -> bool
+    requires few { length asked.now ≤ 16 }
+    requires empty { (calls.old.items ≡ []) × (s_ids.old.items ≡ []) }
+    ensures same { IsTrue result → calls.new.items ≡ asked.now }
+    ensures ids { IsTrue result → s_ids.new.items ≡ map (λ q. q.0) asked.now }
+    ensures within { IsTrue result → All (λ q. IsWithin 1 (LAST_SUBSCRIBER + 1) q.0 × (is_in_range (action.NewDestination q.0 q.1 q.2 q.3) ≡ true)) asked.now }
+{
+    for place in 0..asked.len() {
+        let (s_id, sf_type, start_time, end_time) = asked[place];
+        let Ok(s_id) = in_range(s_id, LAST_SUBSCRIBER) else {
+            return false;
+        };
+        let Ok(sf_type) = byte_in_range(sf_type, 4) else {
+            return false;
+        };
+        let Ok(end_time) = byte_in_range(end_time, 24) else {
+            return false;
+        };
+        if !is_start_time(start_time) {
+            return false;
+        }
+        calls.push((s_id, sf_type, start_time as u8, end_time));
+        s_ids.push(s_id);
+    }
+    true
+}
+
 /// Puts the s_ids of accesses into an empty list.
 fn put_s_ids(accesses: &[(u32, u8)], s_ids: &mut ArrayVec<u32, 16>)
     requires few { length accesses.now ≤ 16 }
@@ -72,7 +109,8 @@ impl Register {
         requires few { length s_ids.now ≤ 16 }
         requires empty { rows.old.items ≡ [] }
         requires home { All (λ s_id. IsHomeTo (event.SubscriberData s_id) self.now) s_ids.now }
-        ensures { IsTrue result → AreFound event.SubscriberData subscriber_reply self.now s_ids.now rows.new.items }
+        ensures found { IsTrue result → AreFound event.SubscriberData subscriber_reply self.now s_ids.now rows.new.items }
+        ensures none { result ≡ false → rows.new ≡ rows.old }
     {
         let mut ids = ArrayVec::new();
         if !put_ids(s_ids, &mut ids) {
@@ -91,7 +129,8 @@ impl Register {
         requires few { length asked.now ≤ 16 }
         requires empty { rows.old.items ≡ [] }
         requires home { All (λ a. IsHomeTo (event.AccessData a.0 a.1) self.now) asked.now }
-        ensures { IsTrue result → AreFound (λ a. event.AccessData a.0 a.1) access_reply self.now asked.now rows.new.items }
+        ensures found { IsTrue result → AreFound (λ a. event.AccessData a.0 a.1) access_reply self.now asked.now rows.new.items }
+        ensures none { result ≡ false → rows.new ≡ rows.old }
     {
         let mut accesses = ArrayVec::new();
         if !put_accesses(asked, &mut accesses) {
@@ -103,6 +142,31 @@ impl Register {
             return false;
         };
         holding.copy_access(accesses.as_slice(), rows);
+        true
+    }
+
+    /// GET_NEW_DESTINATION (TATP, section 3.2) of up to 16 calls of subscribers whose parts are at home, each asked by its
+    /// s_id, sf_type, start_time and end_time, as `copy_subscribers`: the numbers to which each is forwarded, if any.
+    pub fn copy_destinations(
+        &self,
+        asked: &[(u64, u64, u64, u64)],
+        numbers: &mut ArrayVec<ArrayVec<Number, 3>, 16>,
+    ) -> bool
+        requires few { length asked.now ≤ 16 }
+        requires empty { numbers.old.items ≡ [] }
+        requires home { All (λ q. IsHomeTo (event.NewDestination q.0 q.1 q.2 q.3) self.now) asked.now }
+        ensures found { IsTrue result → AreFound (λ q. event.NewDestination q.0 q.1 q.2 q.3) (λ found. numbers_reply found.items) self.now asked.now numbers.new.items }
+        ensures none { result ≡ false → numbers.new ≡ numbers.old }
+    {
+        let mut calls = ArrayVec::new();
+        let mut s_ids = ArrayVec::new();
+        if !put_calls(asked, &mut calls, &mut s_ids) {
+            return false;
+        }
+        let Some(holding) = self.seats.holding_of_all(s_ids.as_slice()) else {
+            return false;
+        };
+        holding.copy_destinations(calls.as_slice(), numbers);
         true
     }
 }

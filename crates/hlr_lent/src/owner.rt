@@ -1,5 +1,5 @@
 //! A part that is out, in the hands of its owner.
-ghost use Rattle.std.specs.Prelude.{◌≡◌, ◌<◌, ◌↔◌, IsTrue, None, Some, option_copied};
+ghost use Rattle.std.specs.Prelude.{◌≡◌, ◌<◌, ◌≤◌, ◌↔◌, IsTrue, None, Some, [], length, map, option_copied};
 ghost use Rattle.std.specs.Arc.{arc_value};
 ghost use Rattle.rtrb.specs.Ring.{known_free, sent};
 ghost use Rattle.tatp_actions.specs.Action.{destinations, done_reply, s_id_of};
@@ -107,6 +107,24 @@ impl Owner {
         self.holding.lend_access(s_id, ai_type)
     }
 
+    /// Puts the Subscriber rows of up to 16 subscribers into an empty list, as `Holding::copy_subscribers`.
+    pub fn copy_subscribers(&self, s_ids: &[u32], rows: &mut ArrayVec<Option<Subscriber>, 16>)
+        requires few { length s_ids.now ≤ 16 }
+        requires empty { rows.old.items ≡ [] }
+        ensures { rows.new.items ≡ map (subscriber_at self.now.part.book) s_ids.now }
+    {
+        self.holding.copy_subscribers(s_ids, rows);
+    }
+
+    /// Puts up to 16 Access_Info rows into an empty list, each asked by its s_id and ai_type, as `Holding::copy_access`.
+    pub fn copy_access(&self, asked: &[(u32, u8)], rows: &mut ArrayVec<Option<Access>, 16>)
+        requires few { length asked.now ≤ 16 }
+        requires empty { rows.old.items ≡ [] }
+        ensures { rows.new.items ≡ map (λ a. access_at self.now.part.book a.0 a.1) asked.now }
+    {
+        self.holding.copy_access(asked, rows);
+    }
+
     /// Gives the numbers to which calls of a subscriber are forwarded, as `Holding::destinations`: at most three.
     pub fn destinations(
         &self,
@@ -119,6 +137,20 @@ impl Owner {
     {
         self.holding
             .destinations(s_id, sf_type, start_time, end_time)
+    }
+
+    /// Puts the numbers to which up to 16 calls are forwarded into an empty list, of each call by its s_id, sf_type,
+    /// start_time and end_time, as `Holding::copy_destinations`.
+    pub fn copy_destinations(
+        &self,
+        asked: &[(u32, u8, u8, u8)],
+        found: &mut ArrayVec<ArrayVec<Number, 3>, 16>,
+    )
+        requires few { length asked.now ≤ 16 }
+        requires empty { found.old.items ≡ [] }
+        ensures { found.new.items ≡ map (λ q. record { items = destinations self.now.part.book q.0 q.1 q.2 q.3 }) asked.now }
+    {
+        self.holding.copy_destinations(asked, found);
     }
 
     /// Does an edit on a subscriber of the part, that gives no number, as `Holding::edit`: `Field`, then the refusals of

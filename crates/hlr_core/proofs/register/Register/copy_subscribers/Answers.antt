@@ -2,8 +2,8 @@ use Rattle.std.proofs.Common.{◌∙◌, refl}
 use Rattle.hlr_core.proofs.ManyLemmas.{subscribers_found}
 use Rattle.hlr_core.proofs.register.Register.copy_subscribers.Goals as goal
 
-pub returns : goal.returns
-returns c = λ done.
+pub returns-clause-found : goal.returns-clause-found
+returns-clause-found c = λ done.
     let same = c.if-not-put_ids.ensures.same refl in
     let ids = c.as_slice.ensures.value ∙ same in
     rw (← c.self.view_is)

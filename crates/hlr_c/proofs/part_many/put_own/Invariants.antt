@@ -1,0 +1,10 @@
+use Rattle.std.proofs.Common.{◌≡◌, take}
+use Rattle.std.specs.List.{All}
+use Rattle.hlr_c.specs.Inside.{IsOwn}
+use Rattle.hlr_c.proofs.part_many.put_own.Given as goal
+
+abbrev pub invariant-loop-place : goal.invariant-loop-place
+invariant-loop-place l = record {
+  same : l.own.items ≡ take l.place l.s_ids;
+  own : All (λ s_id. IsOwn s_id l.part) (take l.place l.s_ids);
+}

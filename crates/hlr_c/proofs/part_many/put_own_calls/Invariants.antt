@@ -1,0 +1,11 @@
+use Rattle.std.proofs.Common.{◌≡◌, map, take}
+use Rattle.std.specs.List.{All}
+use Rattle.hlr_c.specs.Inside.{IsOwnCall}
+use Rattle.hlr_c.specs.declared.rows.HlrDestinationAsked.{HlrDestinationAsked}
+use Rattle.hlr_c.proofs.part_many.put_own_calls.Given as goal
+
+abbrev pub invariant-loop-place : goal.invariant-loop-place
+invariant-loop-place l = record {
+  same : l.own.items ≡ map (λ (q : HlrDestinationAsked). (q.s_id, q.sf_type, q.start_time, q.end_time)) (take l.place l.asked);
+  own : All (λ q. IsOwnCall q l.part) (take l.place l.asked);
+}

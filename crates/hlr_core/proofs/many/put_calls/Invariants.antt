@@ -1,0 +1,13 @@
+use Rattle.std.proofs.Common.{◌≡◌, ◌+◌, ◌<◌, ℕ, get_or, map, take, true}
+use Rattle.tatp_rows.specs.declared.ranges.TheConstants.{LAST_SUBSCRIBER}
+use Rattle.tatp_actions.specs.Action.{is_in_range}
+use Rattle.tatp_actions.specs.Book.{IsWithin}
+use Rattle.tatp_actions.specs.declared.action.Action.TheVariants as action
+use Rattle.hlr_core.proofs.many.put_calls.Given as goal
+
+abbrev pub invariant-loop-place : goal.invariant-loop-place
+invariant-loop-place l = record {
+  same : l.calls.items ≡ take l.place l.asked;
+  ids : l.s_ids.items ≡ map (λ (q : ℕ × ℕ × ℕ × ℕ). q.0) (take l.place l.asked);
+  within : (at : ℕ) (q : ℕ × ℕ × ℕ × ℕ) → at < l.place → IsWithin 1 (LAST_SUBSCRIBER + 1) (get_or l.asked at q).0 × (is_in_range (action.NewDestination (get_or l.asked at q).0 (get_or l.asked at q).1 (get_or l.asked at q).2 (get_or l.asked at q).3) ≡ true);
+}
