@@ -26,8 +26,8 @@ abbrev pub AnswersFrom : {Q X : Type 0} → (Q → X → ℕ × X → Type 0) �
 AnswersFrom {Q} {X} Answers asked from to old new =
     (before : List X) → IsAnsweredTo Answers asked before old from → IsAnsweredTo Answers asked before new to
 
--- the places from one up to another have what is told of their questions and of what was found for these, and the others
--- are as before
+-- the places from one up to another have what is told of their questions and of what was found for these; those in front
+-- are as before, and so are the rows behind
 pub record AreWritten {Q F X : Type 0} (told : Q → X → F → ℕ × X) (asked : List Q) (found : List F) (from : ℕ) (old new : List X × List ℕ) (to : ℕ) : Type 0 where
   pub as_many : AreAsMany asked new
   pub behind : (k : ℕ) (row : X) → k < from → (slice_index new.1 k ≡ slice_index old.1 k) × (slice_index_or new.0 k row ≡ slice_index_or old.0 k row)

@@ -28,10 +28,7 @@ pub(crate) trait Question<Of, Row>: Sized {
         requires as_many { AreAsMany asked.now (rows.old, codes.old) }
         requires block { IsBlock from to (length asked.now) }
         ensures done { IsTrue result → AnswersFrom (λ question row found. is_read question row of.now found of.now) asked.now from to (rows.old, codes.old) (rows.new, codes.new) }
-        ensures none { result ≡ false → (rows.new ≡ rows.old) × (codes.new ≡ codes.old) }
-    {
-        false
-    }
+        ensures none { result ≡ false → (rows.new ≡ rows.old) × (codes.new ≡ codes.old) };
 }
 
 /// A question whose answer is written from what was found for it.

@@ -258,3 +258,32 @@ fn calls_answer_as_events(rt: HostRuntime) {
     ];
     assert_eq!(rt; differences, [Ok(None); 2]);
 }
+
+/// Whether the rows of 16 subscribers are copied at once, from one on: their own, and those of an access and of a call of
+/// each.
+fn copies_at_once(register: &Register, first: u32) -> [bool; 3] {
+    if !register.all_at_home() {
+        return [false; 3];
+    }
+    let (mut s_ids, mut accesses, mut calls) = ([0; 16], [(0, 1); 16], [(0, 1, 8, 9); 16]);
+    for place in 0..16 {
+        let s_id = u64::from(first) + place as u64;
+        s_ids[place] = s_id;
+        accesses[place] = (s_id, 1);
+        calls[place] = (s_id, 1, 8, 9);
+    }
+    let (mut rows, mut data, mut numbers) = (ArrayVec::new(), ArrayVec::new(), ArrayVec::new());
+    [
+        register.copy_subscribers(&s_ids, &mut rows),
+        register.copy_access(&accesses, &mut data),
+        register.copy_destinations(&calls, &mut numbers),
+    ]
+}
+
+#[test]
+fn rows_of_one_part_are_copied_at_once(rt: HostRuntime) {
+    let register = opened(rt.alloc(), 2, 4).expect(&rt, "a register");
+    let (inside, across) = (copies_at_once(&register, 49), copies_at_once(&register, 57));
+    drop(register);
+    assert_eq!(rt; (inside, across), ([true; 3], [false; 3]));
+}

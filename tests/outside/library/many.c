@@ -86,6 +86,38 @@ static void destinations(void) {
     IS(answered[HLR_NO_DESTINATION]);
 }
 
+/* the same of a part that is out: its own subscribers alone, so that whole blocks are asked at once, or all */
+static void of_part(uint64_t lo, uint64_t count) {
+    uint64_t s_ids[COUNT];
+    hlr_access_asked access_asked[COUNT];
+    hlr_destination_asked asked[COUNT];
+    for (int i = 0; i < COUNT; i++) {
+        s_ids[i] = lo + i % count;
+        access_asked[i] = (hlr_access_asked){s_ids[i], 1 + i % 4};
+        asked[i] = (hlr_destination_asked){s_ids[i], 1 + i % 4, i % 3 * 8, 1 + i % 24};
+    }
+    OTHER(rows);
+    OTHER(accesses);
+    OTHER(numbers);
+    DONE(hlr_part_subscriber_data_many(&owner, s_ids, COUNT, rows, COUNT, codes, COUNT));
+    DONE(hlr_part_access_data_many(&owner, access_asked, COUNT, accesses, COUNT, others, COUNT));
+    for (int i = 0; i < COUNT; i++) {
+        OTHER(row);
+        OTHER(access_row);
+        IS(codes[i] == hlr_part_subscriber_data(&owner, s_ids[i], &row));
+        IS(others[i] == hlr_part_access_data(&owner, s_ids[i], access_asked[i].ai_type, &access_row));
+        SAME(rows[i], row);
+        SAME(accesses[i], access_row);
+    }
+    DONE(hlr_part_new_destination_many(&owner, asked, COUNT, numbers, COUNT, codes, COUNT));
+    for (int i = 0; i < COUNT; i++) {
+        OTHER(found);
+        IS(codes[i] == hlr_part_new_destination(&owner, s_ids[i], asked[i].sf_type, asked[i].start_time, asked[i].end_time, &found));
+        SAME(numbers[i], found);
+        answered[codes[i]]++;
+    }
+}
+
 /* nothing is written where the answer is another one than HLR_DONE */
 static void refused(uint8_t code, uint8_t wanted) {
     static uint8_t other[sizeof rows + sizeof accesses + sizeof numbers];
@@ -119,8 +151,15 @@ int main(void) {
     access_rows();
     destinations();
     IS(answered[HLR_AWAY]);
+    of_part(65, 6);
     DONE(hlr_home(&owner));
     DONE(hlr_back(&handle, 1));
+    DONE(hlr_lend(&handle, 0, &owner));
+    of_part(1, 39);
+    of_part(1, 40);
+    IS(answered[HLR_ELSEWHERE]);
+    DONE(hlr_home(&owner));
+    DONE(hlr_back(&handle, 0));
     refusals(HLR_FIELD, 3, 2, 3);
     refusals(HLR_FIELD, 3, 3, 4);
     refusals(HLR_FIELD, 0, 3, 3);
