@@ -151,7 +151,7 @@ fn frequent_word(text: &[u8]) -> Option<Word>
             _ => None,
         };
     }
-    // Both letters in one test, which no compiler joins with the tests of the other words.
+    // Both letters in one test, before those of the other words.
     if (text[0] == b'g') & (text[2] == b'd') {
         return match text[1] {
             b's' => Some(Word::Gsd),
