@@ -1,7 +1,7 @@
 /* Calls a second from threads that each have a part of a register, and from threads that share its handle by a lock:
  * owners SUBSCRIBERS CALLS MOST_THREADS. Each line is a load, the threads, calls a second by owners, and by the lock. With one
- * thread and no owner nobody takes the lock. reads are of subscribers; mix is that of bench/library.c, where owners go by
- * the s_id and the handle by the number. */
+ * thread and no owner nobody takes the lock. reads are of subscribers; many are 16 reads in a call, each of which counts; mix is
+ * that of bench/library.c, where owners go by the s_id and the handle by the number. */
 #define _POSIX_C_SOURCE 200809L
 #include "hlr.h"
 #include <inttypes.h>
@@ -10,13 +10,18 @@
 #include <stdlib.h>
 #include <time.h>
 
-enum { MOST = 16 };
+enum { MOST = 16, MANY = 16 };
+typedef enum { READS, MANY_READS, MIX } load;
+static const char *const names[] = {"reads", "many", "mix"};
 
 /* No two share a line of the cache. */
 typedef struct {
     _Alignas(128) hlr_part owner;
     uint64_t seed, first, count, calls, refused, sum;
-    int is_mix, has_lock;
+    load load;
+    int has_lock;
+    hlr_subscriber rows[MANY];
+    uint8_t codes[MANY];
 } worker;
 
 static hlr handle = HLR_CLOSED;
@@ -74,30 +79,49 @@ static void call_handle(worker *by, uint64_t s_id, uint64_t kind) {
     by->sum += subscriber.vlr_location + access.data3[0] + numbers.numbers[0];
 }
 
+static uint64_t drawn_subscriber(worker *by) { return by->first + drawn(by) % by->count; }
+
+/* many reads in one call, by the part or by the handle */
+static void call_many(worker *by, int is_owner) {
+    uint64_t s_ids[MANY];
+    uint8_t code;
+    for (int i = 0; i < MANY; i++) s_ids[i] = drawn_subscriber(by);
+    if (is_owner) code = hlr_part_subscriber_data_many(&by->owner, s_ids, MANY, by->rows, MANY, by->codes, MANY);
+    else code = hlr_subscriber_data_many(&handle, s_ids, MANY, by->rows, MANY, by->codes, MANY);
+    by->refused += is_refused(code);
+    for (int i = 0; i < MANY; i++) {
+        by->refused += is_refused(by->codes[i]);
+        by->sum += by->rows[i].vlr_location;
+    }
+}
+
+static void call_one(worker *by, int is_owner) {
+    uint64_t s_id = drawn_subscriber(by), kind = by->load == MIX ? drawn(by) % 100 : 0;
+    if (is_owner) call_part(by, s_id, kind);
+    else call_handle(by, s_id, kind);
+}
+
 static void *work(void *argument) {
     worker *by = argument;
-    int is_owner = by->owner.mark != 0;
+    int is_owner = by->owner.mark != 0, has_lock = by->has_lock && !is_owner;
     pthread_barrier_wait(&gate);
-    for (uint64_t turn = 0; turn < by->calls; turn++) {
-        uint64_t s_id = by->first + drawn(by) % by->count, kind = by->is_mix ? drawn(by) % 100 : 0;
-        if (is_owner) call_part(by, s_id, kind);
-        else {
-            if (by->has_lock) pthread_mutex_lock(&lock);
-            call_handle(by, s_id, kind);
-            if (by->has_lock) pthread_mutex_unlock(&lock);
-        }
+    for (uint64_t turn = 0; turn < by->calls; turn += by->load == MANY_READS ? MANY : 1) {
+        if (has_lock) pthread_mutex_lock(&lock);
+        if (by->load == MANY_READS) call_many(by, is_owner);
+        else call_one(by, is_owner);
+        if (has_lock) pthread_mutex_unlock(&lock);
     }
     if (is_owner) hlr_home(&by->owner);
     return 0;
 }
 
 /* Calls a second of so many threads, with a part each or with the handle. */
-static double run(uint64_t threads, uint64_t subscribers, uint64_t calls, int is_mix, int are_owners) {
+static double run(uint64_t threads, uint64_t subscribers, uint64_t calls, load load, int are_owners) {
     pthread_t started[MOST];
     pthread_barrier_init(&gate, 0, (unsigned)threads + 1);
     for (uint64_t i = 0; i < threads; i++) {
         workers[i] = (worker){.owner = HLR_CLOSED, .seed = 88172645463325252u * (i + 1), .first = 1, .count = subscribers, .calls = calls / threads,
-                              .is_mix = is_mix, .has_lock = threads > 1};
+                              .load = load, .has_lock = threads > 1};
         if (are_owners) {
             uint64_t behind;
             if (hlr_lend(&handle, i, &workers[i].owner) || hlr_part_range(&workers[i].owner, &workers[i].first, &behind)) exit(1);
@@ -134,9 +158,9 @@ int main(int argc, char **argv) {
     for (uint64_t threads = 1; threads <= most && threads <= MOST; threads++) {
         if (hlr_open(threads, (subscribers + 31) / 32, &handle)) return 1;
         fill(subscribers);
-        for (int is_mix = 0; is_mix < 2; is_mix++) {
-            double owners = run(threads, subscribers, calls, is_mix, 1), shared = run(threads, subscribers, calls, is_mix, 0);
-            printf("%s %" PRIu64 " %.0f %.0f\n", is_mix ? "mix" : "reads", threads, owners, shared);
+        for (load load = READS; load <= MIX; load++) {
+            double owners = run(threads, subscribers, calls, load, 1), shared = run(threads, subscribers, calls, load, 0);
+            printf("%s %" PRIu64 " %.0f %.0f\n", names[load], threads, owners, shared);
         }
         hlr_close(&handle);
     }
