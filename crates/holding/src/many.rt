@@ -1,4 +1,4 @@
-//! Rows of several subscribers of a holding's part, looked for side by side.
+//! Rows and destinations of several subscribers of a holding's part, looked for side by side.
 ghost use Rattle.std.specs.Prelude.{◌≡◌, ◌≤◌, [], length, map};
 ghost use Rattle.tatp_actions.specs.Action.{destinations};
 ghost use Rattle.tatp_actions.specs.Book.{subscriber_at, access_at};

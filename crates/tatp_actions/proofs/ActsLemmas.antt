@@ -1,6 +1,6 @@
 -- What each action does to a part, from what its calls by keys do.
 use Rattle.std.proofs.Common.{◌≡◌, refl, sym, ap, ℕ, ◌+◌, ◌<◌, ◌≤◌, arith, rules, Bool, true, false, List, [], Option, Some, None, Result, Ok, Err, IsErr, IsErrAnd, nat_le, inl, inr, if◌then◌else◌}
-use Rattle.std.specs.Prelude.{ℤ, ◌&&◌, is_some}
+use Rattle.std.specs.Prelude.{ℤ, is_some}
 use Rattle.std.proofs.lemmas.Bool.Decides.{nat_tests}
 use Rattle.std.proofs.lemmas.Int.{ints}
 use Rattle.tatp_rows.proofs.OrderedLemmas.{each_found}
@@ -116,14 +116,6 @@ is_subscriber part s rules within =
 -- and with a type in range
 pub is_typed_from : (part : PartState) (s t : ℕ) → IsPart part → IsWithin part.lo part.hi s → is_between 1 4 t ≡ true → is_typed s t ≡ true
 is_typed_from part s t rules within kind = both_from (is_between 1 LAST_SUBSCRIBER s) (is_between 1 4 t) (is_subscriber part s rules within) kind
-
--- where one of two tests fails, both together fail
-pub first_fails : (a b : Bool) → a ≡ false → (a && b) ≡ false
-first_fails a b fails = rw fails refl
-
-pub second_fails : (a b : Bool) → b ≡ false → (a && b) ≡ false
-second_fails true b fails = fails
-second_fails false b fails = refl
 
 -- an option that is not some is none
 pub none_from : {X : Type 0} (o : Option X) → is_some o ≡ false → o ≡ None

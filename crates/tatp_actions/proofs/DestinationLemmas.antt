@@ -1,13 +1,13 @@
 -- The numbers that a call is forwarded to, from three questions by key.
 use Rattle.std.proofs.Common.{◌≡◌, refl, sym, ◌∙◌, ap, ℕ, ◌+◌, ◌<◌, ◌≤◌, arith, true, false, List, [], ◌∷◌, ◌++◌, map, length, Option, Some, None, nat_le, nat_lt, inl, inr}
 use Rattle.std.specs.Prelude.{◌&&◌, ◌==◌, ◌⊎◌, if◌then◌else◌}
-use Rattle.std.specs.List.{filter}
+use Rattle.std.specs.List.{filter, list_all}
 use Rattle.std.specs.Option.{option_to_list}
 use Rattle.std.proofs.lemmas.Bool.Decides.{nat_tests}
 use Rattle.std.proofs.lemmas.List.{map-append}
 use Rattle.arrayvec.specs.ArrayVec.{ArrayVec, array_vec_len}
 use Rattle.tatp_rows.proofs.FilterLemmas.{kept, kept_of_three}
-use Rattle.tatp_rows.proofs.OrderedLemmas.{by_test, each-weaker}
+use Rattle.tatp_rows.proofs.OrderedLemmas.{by_test, each-weaker, key_found}
 use Rattle.tatp_rows.proofs.RowLemmas.{both, both_from, forwarding_ranges}
 use Rattle.tatp_rows.specs.Keys.{key_of, forwarding_key}
 use Rattle.tatp_rows.specs.Rows.{CallForwardingRow, SpecialFacilityRow, is_between, is_start_time, forwarding_in_range}
@@ -16,31 +16,44 @@ use Rattle.tatp_actions.specs.Action.{is_in_range, takes_call, destinations, new
 use Rattle.tatp_actions.specs.Book.{Book, IsBook, IsWithin, facility_at, has_active, forwarding_at}
 use Rattle.tatp_actions.specs.Part.{PartState, IsPart}
 use Rattle.tatp_actions.specs.Edit.{Acts}
-use Rattle.tatp_actions.specs.Inside.{destination, number_taken, IsOnlyAsked}
+use Rattle.tatp_actions.specs.Inside.{destination, number_in_time, IsOnlyAsked}
 use Rattle.tatp_actions.specs.declared.action.Action.TheVariants.{NewDestination}
 use Rattle.tatp_actions.specs.declared.action.RowReply.TheVariants as reply
-use Rattle.tatp_actions.proofs.ActsLemmas.{acts_read, first_fails, second_fails, is_typed_from}
+use Rattle.tatp_actions.proofs.ActsLemmas.{acts_read, is_typed_from}
 use Rattle.tatp_actions.proofs.BookLemmas.{forwarding_found}
 
 -- a forwarding that starts later takes no call
-pub destination_late : (book : Book) (s t hour a e : ℕ) → IsBook book → t < 256 → hour < 256 → a < hour → None ≡ destination s t a e (forwarding_at book s t hour)
-destination_late book s t hour a e rules small small' late = sym (cases (forwarding_at book s t hour) refl)
+pub destination_late : (book : Book) (s t hour a e : ℕ) → a < hour → None ≡ destination s t a e (forwarding_at book s t hour)
+destination_late book s t hour a e late = sym (cases (forwarding_at book s t hour) refl)
   where
+    never : (row : CallForwardingRow) → forwarding_key row ≡ key_of s t hour → takes_call s t a e row ≡ true → ⊥
+    never row at takes =
+        let parts = both (row.s_id == s && row.sf_type == t) (nat_le row.start_time a && nat_lt e row.end_time) takes in
+        let own = both (row.s_id == s) (row.sf_type == t) parts.0 in
+        let start = (both (nat_le row.start_time a) (nat_lt e row.end_time) parts.1).0 in
+        grind (arith, nat_tests)
+
     cases : (o : Option CallForwardingRow) → forwarding_at book s t hour ≡ o → destination s t a e (forwarding_at book s t hour) ≡ None
     cases None is = rw is refl
     cases (Some row) is =
-        let start = (forwarding_found book s t hour row rules small small' is).2 in
-        let over : nat_le row.start_time a ≡ false = grind (arith, nat_tests) in
-        let no : takes_call s t a e row ≡ false = second_fails (row.s_id == s && row.sf_type == t) (nat_le row.start_time a && nat_lt e row.end_time) (first_fails (nat_le row.start_time a) (nat_lt e row.end_time) over) in
-        rw (is, no) refl
+        by_test (takes_call s t a e row) (λ takes. absurd (never row (key_found forwarding_key (key_of s t hour) book.forwardings row is) takes)) (λ no. rw (is, no) refl)
 
--- one of the facility takes it by its times alone
-pub by_times : (book : Book) (s t hour a e : ℕ) → IsBook book → t < 256 → hour < 256 → (o : Option CallForwardingRow) → o ≡ forwarding_at book s t hour → number_taken a e o ≡ destination s t a e o
+-- calls that all start before an hour take none that starts at it
+pub all_late : (book : Book) (hour : ℕ) (asked : List (ℕ × ℕ × ℕ × ℕ)) → list_all (λ (q : ℕ × ℕ × ℕ × ℕ). nat_lt q.2 hour) asked ≡ true
+    → map (λ q. None) asked ≡ map (λ (q : ℕ × ℕ × ℕ × ℕ). destination q.0 q.1 q.2 q.3 (forwarding_at book q.0 q.1 hour)) asked
+all_late book hour [] late = refl
+all_late book hour (q ∷ asked) late =
+    let parts = both (nat_lt q.2 hour) (list_all (λ (q : ℕ × ℕ × ℕ × ℕ). nat_lt q.2 hour) asked) late in
+    let first : q.2 < hour = grind (arith, nat_tests) in
+    rw (← destination_late book q.0 q.1 hour q.2 q.3 first, all_late book hour asked parts.1) refl
+
+-- one that was found takes a call by its times alone
+pub by_times : (book : Book) (s t hour a e : ℕ) → IsBook book → t < 256 → hour < 256 → (o : Option CallForwardingRow) → o ≡ forwarding_at book s t hour → number_in_time hour a e o ≡ destination s t a e o
 by_times book s t hour a e rules small small' None is = refl
 by_times book s t hour a e rules small small' (Some row) is =
     let parts = forwarding_found book s t hour row rules small small' (sym is) in
     let own : (row.s_id == s && row.sf_type == t) ≡ true = both_from (row.s_id == s) (row.sf_type == t) (equal row.s_id s parts.0) (equal row.sf_type t parts.1) in
-    rw own refl
+    rw (own, parts.2) refl
   where
     equal : (m n : ℕ) → m ≡ n → (m == n) ≡ true
     equal m n same = grind (arith, nat_tests)

@@ -20,10 +20,10 @@ abbrev pub destination : ℕ → ℕ → ℕ → ℕ → Option CallForwardingRo
 destination s_id sf_type start_time end_time None = None
 destination s_id sf_type start_time end_time (Some row) = if takes_call s_id sf_type start_time end_time row then Some row.numberx else None
 
--- the same of a forwarding of the facility that is asked for
-abbrev pub number_taken : ℕ → ℕ → Option CallForwardingRow → Option ℕ
-number_taken start_time end_time None = None
-number_taken start_time end_time (Some row) = if nat_le row.start_time start_time && nat_lt end_time row.end_time then Some row.numberx else None
+-- the number of a forwarding that was found at an hour, where it takes a call of these times
+abbrev pub number_in_time : ℕ → ℕ → ℕ → Option CallForwardingRow → Option ℕ
+number_in_time hour start_time end_time None = None
+number_in_time hour start_time end_time (Some row) = if nat_le hour start_time && nat_lt end_time row.end_time then Some row.numberx else None
 
 -- the part, asked once more
 abbrev pub asked_once : PartState → PartState

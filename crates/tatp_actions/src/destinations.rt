@@ -4,7 +4,7 @@ ghost use Rattle.std.specs.Option.{option_to_list};
 ghost use Rattle.arrayvec.specs.ArrayVec.{array_vec_len};
 ghost use Rattle.tatp_actions.specs.Action.{destinations};
 ghost use Rattle.tatp_actions.specs.Book.{facility_at, forwarding_at, has_active};
-ghost use Rattle.tatp_actions.specs.Inside.{destination, number_taken, IsOnlyAsked};
+ghost use Rattle.tatp_actions.specs.Inside.{destination, number_in_time, IsOnlyAsked};
 ghost use Rattle.tatp_actions.specs.Part.{PartState, IsPart};
 
 use crate::part::Part;
@@ -97,16 +97,21 @@ fn find_destination<F: FacilityRows>(
         return None;
     }
     let found = rows.find_forwarding(s_id, sf_type, hour);
-    number_of(found, start_time, end_time)
+    number_of(found, hour, start_time, end_time)
 }
 
-/// The number of a forwarding that was found, where it starts by one hour and ends after another.
+/// Tells the number of a forwarding that was found at an hour, where it takes a call of these times.
 #[inline(always)]
-pub(crate) fn number_of(found: Option<Forwarding>, start_time: u8, end_time: u8) -> Option<Number>
-    ensures { result ≡ number_taken start_time end_time found }
+pub(crate) fn number_of(
+    found: Option<Forwarding>,
+    hour: u8,
+    start_time: u8,
+    end_time: u8,
+) -> Option<Number>
+    ensures { result ≡ number_in_time hour start_time end_time found }
 {
     let row = found?;
-    if row.start_time() <= start_time && end_time < row.end_time() {
+    if hour <= start_time && end_time < row.end_time() {
         Some(row.numberx())
     } else {
         None
@@ -124,7 +129,7 @@ pub(crate) fn is_active(found: Option<Facility>) -> bool
     }
 }
 
-/// The numbers that were found, in order, where the facility was found and is active.
+/// Lists the numbers that were found, in order, where the facility was found and is active.
 pub(crate) fn numbers_of_active(
     facility: Option<Facility>,
     first: Option<Number>,

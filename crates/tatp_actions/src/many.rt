@@ -1,5 +1,6 @@
-//! Rows of several subscribers, looked for side by side.
-ghost use Rattle.std.specs.Prelude.{◌≡◌, ◌≤◌, [], length, map};
+//! Rows and destinations of several subscribers, looked for side by side.
+ghost use Rattle.std.specs.Prelude.{◌≡◌, ◌≤◌, [], length, map, nat_lt, None};
+ghost use Rattle.std.specs.List.{list_all};
 ghost use Rattle.tatp_rows.specs.Keys.{key_of};
 ghost use Rattle.tatp_actions.specs.Action.{destinations};
 ghost use Rattle.tatp_actions.specs.Book.{subscriber_at, access_at, forwarding_at};
@@ -35,7 +36,8 @@ fn access_keys(asked: &[(u32, u8)]) -> ArrayVec<u64, 16>
     keys
 }
 
-/// The keys of rows of the facilities of these calls: of forwardings that start at an hour, or at 0 of the facilities.
+/// Makes the keys of rows of the facilities of these calls: of forwardings that start at an hour, or at 0 of the
+/// facilities.
 fn call_keys(asked: &[(u32, u8, u8, u8)], hour: u8) -> ArrayVec<u64, 16>
     requires { length asked.now ≤ 16 }
     ensures { result.items ≡ map (λ q. key_of q.0 q.1 hour) asked.now }
@@ -46,6 +48,25 @@ fn call_keys(asked: &[(u32, u8, u8, u8)], hour: u8) -> ArrayVec<u64, 16>
         keys.push(row_key(s_id, sf_type, hour));
     }
     keys
+}
+
+/// Tells whether each of these calls starts before an hour.
+fn are_before(asked: &[(u32, u8, u8, u8)], hour: u8) -> bool
+    ensures { result ≡ list_all (λ q. nat_lt q.2 hour) asked.now }
+{
+    asked.iter().all(|call| call.2 < hour)
+}
+
+/// Lists `None` for each of these calls.
+fn no_numbers(asked: &[(u32, u8, u8, u8)]) -> ArrayVec<Option<Number>, 16>
+    requires { length asked.now ≤ 16 }
+    ensures { result.items ≡ map (λ q. None) asked.now }
+{
+    let mut numbers = ArrayVec::new();
+    for _ in 0..asked.len() {
+        numbers.push(None);
+    }
+    numbers
 }
 
 impl Part {
@@ -71,11 +92,15 @@ impl Part {
         self.rows.access.copy_many(keys.as_slice(), rows);
     }
 
-    /// The numbers of the forwardings that start at an hour and take these calls, `None` where none does.
+    /// Finds the numbers of the forwardings that start at an hour and take these calls, `None` where none does. Where each
+    /// call starts before the hour, no row is looked for.
     fn hour_numbers(&self, asked: &[(u32, u8, u8, u8)], hour: u8) -> ArrayVec<Option<Number>, 16>
         requires { length asked.now ≤ 16 }
         ensures { result.items ≡ map (λ q. destination q.0 q.1 q.2 q.3 (forwarding_at self.now.book q.0 q.1 hour)) asked.now }
     {
+        if are_before(asked, hour) {
+            return no_numbers(asked);
+        }
         let keys = call_keys(asked, hour);
         let mut rows = ArrayVec::new();
         self.rows.forwardings.copy_many(keys.as_slice(), &mut rows);
@@ -84,7 +109,7 @@ impl Part {
         for place in 0..asked.len() {
             // Reads the type for the prover: it fits a byte.
             let (_, _sf_type, start_time, end_time) = asked[place];
-            numbers.push(number_of(found[place], start_time, end_time));
+            numbers.push(number_of(found[place], hour, start_time, end_time));
         }
         numbers
     }

@@ -5,7 +5,7 @@ use Rattle.tatp_actions.proofs.destinations.find_destination.Goals as goal
 
 pub returns-then-start_time-hour-clause-found : goal.returns-then-start_time-hour-clause-found
 returns-then-start_time-hour-clause-found g c =
-    destination_late _ c.args.s_id c.args.sf_type c.args.hour c.args.start_time c.args.end_time c.requires.rows.rules c.ranges.sf_type.fits c.ranges.hour.fits c.if-start_time-hour.true
+    destination_late (g.F.FacilityRows.part c.args.rows.now).book c.args.s_id c.args.sf_type c.args.hour c.args.start_time c.args.end_time c.if-start_time-hour.true
 
 pub returns-clause-found : goal.returns-clause-found
 returns-clause-found g c =

@@ -1,9 +1,9 @@
-use Rattle.std.proofs.Common.{◌≡◌, ◌∙◌, ℕ, ap, get_or, map}
+use Rattle.std.proofs.Common.{◌≡◌, ◌∙◌, ℕ, ap, get_or, map, sym}
 use Rattle.mr_node.specs.Rows.{value_at}
 use Rattle.tatp_rows.specs.Keys.{forwarding_key, key_of}
 use Rattle.tatp_actions.specs.Book.{IsBook, forwarding_at}
 use Rattle.tatp_actions.specs.Inside.{destination}
-use Rattle.tatp_actions.proofs.DestinationLemmas.{by_times}
+use Rattle.tatp_actions.proofs.DestinationLemmas.{all_late, by_times}
 use Rattle.tatp_actions.proofs.ManyLemmas.{all_found, made_at, one_more_made}
 use Rattle.tatp_actions.proofs.many.Part.hour_numbers.Goals.{After-push}
 use Rattle.tatp_actions.proofs.many.Part.hour_numbers.Goals as goal
@@ -24,3 +24,6 @@ loop-place-preserved c =
     let row = made_at (λ (q : ℕ × ℕ × ℕ × ℕ). forwarding_at book q.0 q.1 c.args.hour) c.args.asked.now c.loop-place.place (0, 0, 0, 0) c.as_slice-found.result.now c.index-found-place.result c.loop-place-test.true (rows_found c) c.index-found-place.is in
     one_more_made (λ (q : ℕ × ℕ × ℕ × ℕ). destination q.0 q.1 q.2 q.3 (forwarding_at book q.0 q.1 c.args.hour)) c.args.asked.now c.loop-place.place (0, 0, 0, 0) c.loop-place.numbers.items c.push.new.self.items c.number_of.result c.loop-place-test.true c.loop-place.invariant c.push.ensures.items
     (c.number_of.ensures ∙ by_times book call.0 call.1 c.args.hour call.2 call.3 (rules c) c.loop-place-test.element_fits.fits c.ranges.hour.fits c.index-found-place.result row ∙ ap (destination call.0 call.1 call.2 call.3) row)
+
+pub returns-then-are_before : goal.returns-then-are_before
+returns-then-are_before c = c.no_numbers.ensures ∙ all_late c.args.self.now.book c.args.hour c.args.asked.now (sym c.are_before.ensures ∙ c.if-are_before.true)
