@@ -27,7 +27,7 @@
  * A call that reads takes an hlr *, and no const hlr *: the handle is closed while a call works, and open again when it
  * returns. So two reads at once are two calls at once.
  *
- * Most calls go down a tree or two, which takes a microsecond or less. hlr_views goes over all cells of each part, and
+ * Most calls go down a tree or two, which takes about a microsecond. hlr_views goes over all cells of each part, and
  * hlr_recut is one give and one take for each bound that moves. hlr_give and hlr_divide count the rows that move, which
  * takes some 20 ms for half a million. hlr_scan goes over all rows. hlr_close gives back all memory, which takes some
  * 100 ms for a million subscribers. A part is lent, sent home and taken in within a microsecond.
@@ -87,7 +87,7 @@ typedef struct {
 typedef enum {
     HLR_DONE = 0,
     HLR_MEMORY = 1,         /* no memory was left */
-    HLR_FIELD = 2,          /* a number or a letter is out of its range */
+    HLR_FIELD = 2,          /* a number, a letter or a side is out of its range, or counts differ */
     HLR_NO_SUBSCRIBER = 3,  /* no subscriber row has this s_id, or one from there on */
     HLR_NO_NUMBER = 4,      /* no subscriber has this number */
     HLR_NO_ACCESS = 5,      /* no access row has this key, or there is no such subscriber */

@@ -1,8 +1,8 @@
 -- Answers that are written one after another.
-use Rattle.std.proofs.Common.{◌≡◌, ℕ, ◌+◌, ◌<◌, ◌≤◌, ◌-◌, List, length, get_or, set, take, drop, refl, sym, ap, subst, ◌∙◌, inl, inr, arith}
+use Rattle.std.proofs.Common.{◌≡◌, ℕ, ◌+◌, ◌<◌, ◌≤◌, ◌-◌, List, [], ◌∷◌, length, get_or, set, take, drop, refl, sym, ap, subst, ◌∙◌, inl, inr, arith}
 use Rattle.std.proofs.lemmas.Bool.{cases_eq, cases_lt}
 use Rattle.std.proofs.lemmas.List.{length-drop, length-set, length-take-le, get_or-set_same, get_or-set_other, get_or_default, get_or-take, get_or-drop}
-use Rattle.hlr_c.specs.Inside.{AnswersFrom, AreWritten, IsAnsweredTo}
+use Rattle.hlr_c.specs.Inside.{AnswersFrom, AreTold, AreWritten, IsAnsweredTo, IsBlock}
 use Rattle.hlr_c.specs.Many.{AreAsMany}
 
 -- how long a block of a list is
@@ -58,6 +58,11 @@ module _ {Q X : Type 0} (Answers : Q → X → ℕ × X → Type 0) (asked : Lis
     pub all_more : (n to : ℕ) (lists : List X × List ℕ) → AreAnsweredFrom n to lists → to ≤ n → AnswersFrom Answers asked from to old lists
     all_more n to lists so_far past = let same : n ≡ to = omega (arith, so_far.reached.1) in subst (λ k. AnswersFrom Answers asked from k old lists) same so_far.answers
 
+-- some element of a list that has one
+an_element : {A : Type 0} (xs : List A) → 0 < length xs → A
+an_element [] some = absurd (omega arith)
+an_element (x ∷ xs) some = x
+
 -- rows and codes of what was found, written place by place
 module _ {Q F X : Type 0} (told : Q → X → F → ℕ × X) (asked : List Q) (found : List F) (from : ℕ) (old : List X × List ℕ) where
   pub none_written : AreAsMany asked old → AreWritten told asked found from old old from
@@ -82,15 +87,28 @@ module _ {Q F X : Type 0} (told : Q → X → F → ℕ × X) (asked : List Q) (
   }
 
   -- so the questions have their answers, if each answer is what is told of what was found
-  pub written_answers : (Answers : Q → X → ℕ × X → Type 0) (new : List X × List ℕ) (to : ℕ) (one : F) → AreWritten told asked found from old new to → from ≤ to
-      → ((k : ℕ) (question : Q) (row : X) → from ≤ k → k < to → Answers (get_or asked k question) row (told (get_or asked k question) row (get_or found (k - from) one))) → AnswersFrom Answers asked from to old new
-  written_answers Answers new to one written reach answers = λ before first. record {
+  pub written_answers : (Answers : Q → X → ℕ × X → Type 0) (new : List X × List ℕ) (to : ℕ) → AreWritten told asked found from old new to → from ≤ to → length found ≡ to - from
+      → ((k : ℕ) (question : Q) (one : F) (row : X) → from ≤ k → k < to → Answers (get_or asked k question) row (told (get_or asked k question) row (get_or found (k - from) one))) → AnswersFrom Answers asked from to old new
+  written_answers Answers new to written reach many answers = λ before first. record {
     as_many = written.as_many;
     here = λ k question row near. elim (cases_lt k from) [
       | inl below ↦ rw ((written.behind k row below).0, (written.behind k row below).1) (first.here k question row below)
       | inr least ↦
+          let one = an_element found (omega (arith, many, least, near)) in
           subst (Answers (get_or asked k question) (get_or before k row)) (written.here k question one row least near)
-          (subst (λ r. Answers (get_or asked k question) (get_or before k row) (told (get_or asked k question) r (get_or found (k - from) one))) (sym (first.ahead k row least)) (answers k question (get_or before k row) least near))
+          (subst (λ r. Answers (get_or asked k question) (get_or before k row) (told (get_or asked k question) r (get_or found (k - from) one))) (sym (first.ahead k row least)) (answers k question one (get_or before k row) least near))
     ];
     ahead = λ k row past. written.ahead k row past ∙ first.ahead k row (omega arith);
   }
+
+-- so a block has its answers from what was found for it
+module _ {S Q F X : Type 0} (IsRead : Q → X → S → ℕ × X → S → Type 0) (told : Q → X → F → ℕ × X) (of : S) (asked : List Q) (from to : ℕ) (found : List F)
+    (are : AreTold IsRead told of (take (to - from) (drop from asked)) found) (block : IsBlock from to (length asked)) where
+  pub told_length : length found ≡ to - from
+  told_length = are.as_many ∙ block_length asked from to block.1
+
+  pub told_answers : (old new : List X × List ℕ) → AreWritten told asked found from old new to → AnswersFrom (λ question row answer. IsRead question row of answer of) asked from to old new
+  told_answers old new written = written_answers told asked found from old (λ question row answer. IsRead question row of answer of) new to written block.0 told_length
+      (λ k question one row least near.
+      let here = in_block asked from to k question least near in
+      rw here at (are.each (k - from) question one row (omega (arith, block_length asked from to block.1, least, near))))

@@ -1,5 +1,5 @@
 -- What was found for questions of a part that is out is what its call for one answers to each.
-use Rattle.std.proofs.Common.{◌≡◌, ◌∙◌, ℕ, suc, ◌+◌, ◌-◌, ◌<◌, ◌≤◌, List, [], ◌∷◌, ◌++◌, length, get_or, map, take, drop, ap, subst, sym, refl, Bool, true, inl, inr, arith}
+use Rattle.std.proofs.Common.{◌≡◌, ◌∙◌, ℕ, suc, ◌+◌, ◌<◌, List, [], ◌∷◌, ◌++◌, length, get_or, map, take, ap, subst, sym, refl, Bool, true, inl, inr, arith}
 use Rattle.std.specs.Prelude.{Option, Some, None}
 use Rattle.std.specs.List.{All}
 use Rattle.std.proofs.Math.Seq.{take-suc}
@@ -15,15 +15,14 @@ use Rattle.holding.specs.Held.{HoldingState}
 use Rattle.hlr_core.specs.Rows.{access_reply, numbers_reply, subscriber_reply}
 use Rattle.hlr_core.specs.Step.{reply_of}
 use Rattle.hlr_core.specs.declared.event.Reply.{Reply}
-use Rattle.hlr_c.specs.Inside.{IsOwn, IsOwnAccess, IsOwnCall}
+use Rattle.hlr_c.specs.Inside.{AreTold, IsOwn, IsOwnAccess, IsOwnCall}
 use Rattle.hlr_c.specs.Many.{IsPartAccessRead, IsPartDestinationRead, IsPartSubscriberRead}
 use Rattle.hlr_c.specs.Parts.{has, read_by}
-use Rattle.hlr_c.specs.Told.{access_told, found_told, numbers_told, subscriber_told}
+use Rattle.hlr_c.specs.Told.{access_told, numbers_told, subscriber_told}
 use Rattle.hlr_c.specs.declared.codes.TheConstants.{ELSEWHERE}
 use Rattle.hlr_c.specs.declared.rows.HlrAccessAsked.{HlrAccessAsked}
 use Rattle.hlr_c.specs.declared.rows.HlrDestinationAsked.{HlrDestinationAsked}
 use Rattle.hlr_c.specs.declared.rows.HlrNumbers.{HlrNumbers}
-use Rattle.hlr_c.proofs.ManyLemmas.{block_length, in_block}
 
 -- what is made of what was made of each
 pub map_of_map : {A B C : Type 0} (f : B → C) (g : A → B) (xs : List A) → map f (map g xs) ≡ map (λ x. f (g x)) xs
@@ -47,19 +46,14 @@ module _ {A : Type 0} (xs : List A) (n : ℕ) (d : A) (below : n < length xs) wh
   pub one_more_put : {B : Type 0} (make : A → B) (made more : List B) → made ≡ map make (take n xs) → more ≡ made ++ make (get_or xs n d) ∷ [] → more ≡ map make (take (n + 1) xs)
   one_more_put make made more so_far pushed = let next : n + 1 ≡ suc n = omega arith in pushed ∙ rw (so_far, next, take-suc xs n d below) (sym (map-append make (take n xs) (get_or xs n d ∷ [])))
 
--- what was found for a block of questions, of a part that has them all
-module _ {Q F : Type 0} (find : Q → F) (asked : List Q) (from to : ℕ) (found : List F) (is : found ≡ map find (take (to - from) (drop from asked))) (room : to ≤ length asked) where
-  pub own_length : length found ≡ to - from
-  own_length = ap length is ∙ length-map (take (to - from) (drop from asked)) find ∙ block_length asked from to room
-
-  pub own_found : (Owns : Q → Type 0) → All Owns (take (to - from) (drop from asked)) → (at : ℕ) (question : Q) (one : F) → from ≤ at → at < to
-      → (get_or found (at - from) one ≡ find (get_or asked at question)) × Owns (get_or asked at question)
-  own_found Owns own at question one low high =
-      let here = in_block asked from to at question low high in
-      let below : at - from < length (take (to - from) (drop from asked)) = omega (arith, block_length asked from to room, low, high) in (
-        ap (λ (fs : List F). get_or fs (at - from) one) is ∙ get_or-map find (take (to - from) (drop from asked)) (at - from) question one below ∙ ap find here,
-        subst Owns here (own (at - from) question below),
-      )
+-- what was found for questions of a part that has them all tells what its call for each answers
+pub told_of_own : {S Q F X : Type 0} (find : Q → F) (IsRead : Q → X → S → ℕ × X → S → Type 0) (told : Q → X → F → ℕ × X) (part : S) (asked : List Q) (found : List F) (Owns : Q → Type 0) → found ≡ map find asked → All Owns asked
+    → ((question : Q) (row : X) → Owns question → IsRead question row part (told question row (find question)) part) → AreTold IsRead told part asked found
+told_of_own find IsRead told part asked found Owns is own reads = record {
+  as_many = ap length is ∙ length-map asked find;
+  each = λ at question one row below.
+      rw (is, get_or-map find asked at question one below) (reads (get_or asked at question) row (own at question below));
+}
 
 -- a read whose fields are in range, of a subscriber of the part
 by_fields : {X : Type 0} (fits here : Bool) (act : Action) (told : Reply → X) (elsewhere : X) (part : HoldingState) (answer : X) → fits ≡ true → here ≡ true → answer ≡ told (reply_of (effect act part.part.book).0)
@@ -67,42 +61,36 @@ by_fields : {X : Type 0} (fits here : Bool) (act : Action) (told : Reply → X) 
 by_fields fits here act told elsewhere part answer in_range own is = rw (in_range, own) is
 
 -- so is what is told of a row that was found, and of none
-pub subscriber_is : (s_id : ℕ) (part : HoldingState) (row : SubscriberRow) (o : Option SubscriberRow) (answer : ℕ × SubscriberRow) → IsOwn s_id part → o ≡ subscriber_at part.part.book s_id → answer ≡ subscriber_told row (subscriber_reply o)
-    → IsPartSubscriberRead s_id row part answer part
-subscriber_is s_id part row o answer own is told = (
+pub subscriber_is : (part : HoldingState) (s_id : ℕ) (row : SubscriberRow) → IsOwn s_id part → IsPartSubscriberRead s_id row part (subscriber_told row (subscriber_reply (subscriber_at part.part.book s_id))) part
+subscriber_is part s_id row own = (
   refl,
-  by_fields (is_between 1 LAST_SUBSCRIBER s_id) (has s_id part) (action.SubscriberData s_id) (subscriber_told row) (ELSEWHERE, row) part answer own.0 own.1 (told ∙ ap (λ p. subscriber_told row (subscriber_reply p)) is ∙ reads part.part.book (subscriber_at part.part.book s_id)),
+  by_fields (is_between 1 LAST_SUBSCRIBER s_id) (has s_id part) (action.SubscriberData s_id) (subscriber_told row) (ELSEWHERE, row) part _ own.0 own.1 (reads part.part.book (subscriber_at part.part.book s_id)),
 )
   where
     reads : (book : Book) (p : Option SubscriberRow) → subscriber_told row (subscriber_reply p) ≡ subscriber_told row (reply_of (subscriber_data book p).0)
     reads book None = refl
     reads book (Some found) = refl
 
-pub access_is : (asked : HlrAccessAsked) (part : HoldingState) (row : AccessInfoRow) (o : Option AccessInfoRow) (answer : ℕ × AccessInfoRow) → IsOwnAccess asked part → o ≡ access_at part.part.book asked.s_id asked.ai_type
-    → answer ≡ access_told asked.s_id asked.ai_type row (access_reply o) → IsPartAccessRead asked row part answer part
-access_is asked part row o answer own is told = (
+pub access_is : (part : HoldingState) (asked : HlrAccessAsked) (row : AccessInfoRow) → IsOwnAccess asked part
+    → IsPartAccessRead asked row part (access_told asked.s_id asked.ai_type row (access_reply (access_at part.part.book asked.s_id asked.ai_type))) part
+access_is part asked row own = (
   refl,
-  by_fields (is_typed asked.s_id asked.ai_type) (has asked.s_id part) (action.AccessData asked.s_id asked.ai_type) (access_told asked.s_id asked.ai_type row) (ELSEWHERE, row) part answer own.0 own.1
-      (told ∙ ap (λ p. access_told asked.s_id asked.ai_type row (access_reply p)) is ∙ reads part.part.book (access_at part.part.book asked.s_id asked.ai_type)),
+  by_fields (is_typed asked.s_id asked.ai_type) (has asked.s_id part) (action.AccessData asked.s_id asked.ai_type) (access_told asked.s_id asked.ai_type row) (ELSEWHERE, row) part _ own.0 own.1
+      (reads part.part.book (access_at part.part.book asked.s_id asked.ai_type)),
 )
   where
     reads : (book : Book) (p : Option AccessInfoRow) → access_told asked.s_id asked.ai_type row (access_reply p) ≡ access_told asked.s_id asked.ai_type row (reply_of (access_data book p).0)
     reads book None = refl
     reads book (Some found) = refl
 
-pub numbers_are : (asked : HlrDestinationAsked) (part : HoldingState) (row : HlrNumbers) (ns : List ℕ) (answer : ℕ × HlrNumbers) → IsOwnCall asked part → ns ≡ destinations part.part.book asked.s_id asked.sf_type asked.start_time asked.end_time
-    → answer ≡ found_told row ns → IsPartDestinationRead asked row part answer part
-numbers_are asked part row ns answer own is told = (
+pub numbers_are : (part : HoldingState) (asked : HlrDestinationAsked) (row : HlrNumbers) → IsOwnCall asked part
+    → IsPartDestinationRead asked row part (numbers_told row (numbers_reply (destinations part.part.book asked.s_id asked.sf_type asked.start_time asked.end_time))) part
+numbers_are part asked row own = (
   refl,
-  by_fields (is_in_range (action.NewDestination asked.s_id asked.sf_type asked.start_time asked.end_time)) (has asked.s_id part) (action.NewDestination asked.s_id asked.sf_type asked.start_time asked.end_time) (numbers_told row) (ELSEWHERE, row) part answer own.0 own.1
-      (told ∙ ap (found_told row) is ∙ reads part.part.book (destinations part.part.book asked.s_id asked.sf_type asked.start_time asked.end_time)),
+  by_fields (is_in_range (action.NewDestination asked.s_id asked.sf_type asked.start_time asked.end_time)) (has asked.s_id part) (action.NewDestination asked.s_id asked.sf_type asked.start_time asked.end_time) (numbers_told row) (ELSEWHERE, row) part _ own.0 own.1
+      (reads part.part.book (destinations part.part.book asked.s_id asked.sf_type asked.start_time asked.end_time)),
 )
   where
-    reads : (book : Book) (ms : List ℕ) → found_told row ms ≡ numbers_told row (reply_of (new_destination book ms).0)
+    reads : (book : Book) (ms : List ℕ) → numbers_told row (numbers_reply ms) ≡ numbers_told row (reply_of (new_destination book ms).0)
     reads book [] = refl
     reads book (m ∷ ms) = refl
-
--- numbers are told of a register's reply as they are of a list
-pub found_is_told : (row : HlrNumbers) (ns : List ℕ) → found_told row ns ≡ numbers_told row (numbers_reply ns)
-found_is_told row [] = refl
-found_is_told row (n ∷ ns) = refl

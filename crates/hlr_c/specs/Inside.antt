@@ -1,5 +1,5 @@
 -- What calls inside the crate promise each other. No clause of a public call cites this.
-use Rattle.std.specs.Prelude.{◌≡◌, ℕ, ◌+◌, ◌-◌, ◌<◌, ◌≤◌, List, true, slice_index, slice_index_or}
+use Rattle.std.specs.Prelude.{◌≡◌, ℕ, ◌+◌, ◌-◌, ◌<◌, ◌≤◌, List, length, true, slice_index, slice_index_or}
 use Rattle.tatp_rows.specs.Rows.{is_between}
 use Rattle.tatp_rows.specs.declared.ranges.TheConstants.{LAST_SUBSCRIBER}
 use Rattle.tatp_actions.specs.Action.{is_in_range, is_typed}
@@ -25,6 +25,12 @@ pub record IsAnsweredTo {Q X : Type 0} (Answers : Q → X → ℕ × X → Type 
 abbrev pub AnswersFrom : {Q X : Type 0} → (Q → X → ℕ × X → Type 0) → List Q → ℕ → ℕ → List X × List ℕ → List X × List ℕ → Type 0
 AnswersFrom {Q} {X} Answers asked from to old new =
     (before : List X) → IsAnsweredTo Answers asked before old from → IsAnsweredTo Answers asked before new to
+
+-- what was found for each question tells its answer
+pub record AreTold {S Q F X : Type 0} (IsRead : Q → X → S → ℕ × X → S → Type 0) (told : Q → X → F → ℕ × X) (of : S) (asked : List Q) (found : List F) : Type 0 where
+  pub as_many : length found ≡ length asked
+  pub each : (at : ℕ) (question : Q) (one : F) (row : X) → at < length asked
+      → IsRead (slice_index_or asked at question) row of (told (slice_index_or asked at question) row (slice_index_or found at one)) of
 
 -- the places from one up to another have what is told of their questions and of what was found for these; those in front
 -- are as before, and so are the rows behind

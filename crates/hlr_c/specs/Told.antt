@@ -1,9 +1,8 @@
 -- What a call from C answers: a code, and beside it what the reply carries. After a refusal that stays as it was.
-use Rattle.std.specs.Prelude.{ℕ, List, [], ◌∷◌, Result, Ok, Err}
+use Rattle.std.specs.Prelude.{ℕ, Result, Ok, Err}
 use Rattle.tatp_rows.specs.Refusal.{code_of}
 use Rattle.tatp_rows.specs.Rows.{SubscriberRow, AccessInfoRow}
 use Rattle.tatp_rows.specs.declared.refusal.Refusal.{Refusal}
-use Rattle.tatp_rows.specs.declared.refusal.Refusal.TheVariants.{NoDestination}
 use Rattle.tatp_actions.specs.declared.action.RowReply.TheVariants as row_reply
 use Rattle.hlr_core.specs.declared.event.Reply.{Reply}
 use Rattle.hlr_core.specs.declared.event.Reply.TheVariants as reply
@@ -32,11 +31,6 @@ access_told s_id ai_type before other = (code_told other, before)
 abbrev pub numbers_told : HlrNumbers → Reply → ℕ × HlrNumbers
 numbers_told before (reply.Rows (row_reply.Numbers numbers)) = (DONE, numbers_for_c numbers.items)
 numbers_told before other = (code_told other, before)
-
--- the code, and the numbers that were found, if any were
-abbrev pub found_told : HlrNumbers → List ℕ → ℕ × HlrNumbers
-found_told before [] = (code_of NoDestination, before)
-found_told before (number ∷ numbers) = (DONE, numbers_for_c (number ∷ numbers))
 
 -- the code, and how many cells were posted
 abbrev pub posted_told : ℕ → Reply → ℕ × ℕ

@@ -1,18 +1,18 @@
 //! The three transactions that read a part that is out, each of many questions in one call. The rows are looked for
 //! side by side, 16 questions at a time, where all are the part's.
-ghost use Rattle.std.specs.Prelude.{◌≡◌, ◌≤◌, IsTrue, false, [], length, map};
+ghost use Rattle.std.specs.Prelude.{◌≡◌, ◌≤◌, IsTrue, [], length, map};
 ghost use Rattle.std.specs.List.{All};
 ghost use Rattle.hlr_c.specs.Call.{IsCall};
-ghost use Rattle.hlr_c.specs.Inside.{AnswersFrom, IsBlock, IsOwn, IsOwnAccess, IsOwnCall};
-ghost use Rattle.hlr_c.specs.Many.{AreAsMany, IsManyRead, IsPartAccessRead, IsPartDestinationRead, IsPartSubscriberRead};
+ghost use Rattle.hlr_c.specs.Inside.{IsOwn, IsOwnAccess, IsOwnCall};
+ghost use Rattle.hlr_c.specs.Many.{IsManyRead, IsPartAccessRead, IsPartDestinationRead, IsPartSubscriberRead};
 ghost use Rattle.hlr_c.specs.declared.codes.TheConstants.{NOT_OPEN};
 
-use crate::asking::{Question, ask_many, write_block};
+use crate::asking::{Question, ask_many};
 use crate::fields::{is_call, is_subscriber, is_typed};
 use crate::part::{HlrPart, with_part};
 use crate::part_reads::{has, read_access, read_destinations, read_subscriber};
 use crate::rows::{HlrAccess, HlrAccessAsked, HlrDestinationAsked, HlrNumbers, HlrSubscriber};
-use hlr_core::ArrayVec;
+use hlr_core::{Access, ArrayVec, Number, Subscriber};
 use hlr_lent::Owner;
 use std::alloc::Global;
 
@@ -80,120 +80,45 @@ fn put_own_calls(
     true
 }
 
-/// Reads the subscribers from one place up to another, at most 16, side by side, and tells whether it did: where each is
-/// one of the part.
-fn ask_own(
-    part: &Owner,
-    s_ids: &[u64],
-    from: usize,
-    to: usize,
-    rows: &mut [HlrSubscriber],
-    codes: &mut [u8],
-) -> bool
-    requires as_many { AreAsMany s_ids.now (rows.old, codes.old) }
-    requires block { IsBlock from to (length s_ids.now) }
-    ensures done { IsTrue result → AnswersFrom (λ s_id row found. IsPartSubscriberRead s_id row part.now found part.now) s_ids.now from to (rows.old, codes.old) (rows.new, codes.new) }
-    ensures none { result ≡ false → (rows.new ≡ rows.old) × (codes.new ≡ codes.old) }
-{
-    let mut own = ArrayVec::new();
-    if !put_own(part, &s_ids[from..to], &mut own) {
-        return false;
-    }
-    let mut found = ArrayVec::new();
-    part.copy_subscribers(own.as_slice(), &mut found);
-    write_block(s_ids, from, to, found.as_slice(), rows, codes);
-    true
-}
-
-/// Reads the accesses from one place up to another, at most 16, side by side, and tells whether it did: where each is in
-/// range and of the part.
-fn ask_own_accesses(
-    part: &Owner,
-    asked: &[HlrAccessAsked],
-    from: usize,
-    to: usize,
-    rows: &mut [HlrAccess],
-    codes: &mut [u8],
-) -> bool
-    requires as_many { AreAsMany asked.now (rows.old, codes.old) }
-    requires block { IsBlock from to (length asked.now) }
-    ensures done { IsTrue result → AnswersFrom (λ question row found. IsPartAccessRead question row part.now found part.now) asked.now from to (rows.old, codes.old) (rows.new, codes.new) }
-    ensures none { result ≡ false → (rows.new ≡ rows.old) × (codes.new ≡ codes.old) }
-{
-    let mut own = ArrayVec::new();
-    if !put_own_accesses(part, &asked[from..to], &mut own) {
-        return false;
-    }
-    let mut found = ArrayVec::new();
-    part.copy_access(own.as_slice(), &mut found);
-    write_block(asked, from, to, found.as_slice(), rows, codes);
-    true
-}
-
-/// Reads the numbers of the calls from one place up to another, at most 16, side by side, and tells whether it did: where
-/// each is in range and of the part.
-fn ask_own_calls(
-    part: &Owner,
-    asked: &[HlrDestinationAsked],
-    from: usize,
-    to: usize,
-    numbers: &mut [HlrNumbers],
-    codes: &mut [u8],
-) -> bool
-    requires as_many { AreAsMany asked.now (numbers.old, codes.old) }
-    requires block { IsBlock from to (length asked.now) }
-    ensures done { IsTrue result → AnswersFrom (λ question row found. IsPartDestinationRead question row part.now found part.now) asked.now from to (numbers.old, codes.old) (numbers.new, codes.new) }
-    ensures none { result ≡ false → (numbers.new ≡ numbers.old) × (codes.new ≡ codes.old) }
-{
-    let mut own = ArrayVec::new();
-    if !put_own_calls(part, &asked[from..to], &mut own) {
-        return false;
-    }
-    let mut found = ArrayVec::new();
-    part.copy_destinations(own.as_slice(), &mut found);
-    write_block(asked, from, to, found.as_slice(), numbers, codes);
-    true
-}
-
-impl Question<Owner, HlrSubscriber> for u64 {
+impl Question<Owner, Option<Subscriber>, HlrSubscriber> for u64 {
     ghost is_read = { IsPartSubscriberRead };
 
     fn ask(&self, of: &Owner, row: &mut HlrSubscriber) -> u8 {
         read_subscriber(of, *self, row)
     }
 
-    fn ask_block(
-        of: &Owner,
-        asked: &[u64],
-        from: usize,
-        to: usize,
-        rows: &mut [HlrSubscriber],
-        codes: &mut [u8],
-    ) -> bool {
-        ask_own(of, asked, from, to, rows, codes)
+    fn copy_block(of: &Owner, asked: &[u64], found: &mut ArrayVec<Option<Subscriber>, 16>) -> bool {
+        let mut own = ArrayVec::new();
+        if !put_own(of, asked, &mut own) {
+            return false;
+        }
+        of.copy_subscribers(own.as_slice(), found);
+        true
     }
 }
 
-impl Question<Owner, HlrAccess> for HlrAccessAsked {
+impl Question<Owner, Option<Access>, HlrAccess> for HlrAccessAsked {
     ghost is_read = { IsPartAccessRead };
 
     fn ask(&self, of: &Owner, row: &mut HlrAccess) -> u8 {
         read_access(of, self.s_id, self.ai_type, row)
     }
 
-    fn ask_block(
+    fn copy_block(
         of: &Owner,
         asked: &[HlrAccessAsked],
-        from: usize,
-        to: usize,
-        rows: &mut [HlrAccess],
-        codes: &mut [u8],
+        found: &mut ArrayVec<Option<Access>, 16>,
     ) -> bool {
-        ask_own_accesses(of, asked, from, to, rows, codes)
+        let mut own = ArrayVec::new();
+        if !put_own_accesses(of, asked, &mut own) {
+            return false;
+        }
+        of.copy_access(own.as_slice(), found);
+        true
     }
 }
 
-impl Question<Owner, HlrNumbers> for HlrDestinationAsked {
+impl Question<Owner, ArrayVec<Number, 3>, HlrNumbers> for HlrDestinationAsked {
     ghost is_read = { IsPartDestinationRead };
 
     fn ask(&self, of: &Owner, row: &mut HlrNumbers) -> u8 {
@@ -206,15 +131,17 @@ impl Question<Owner, HlrNumbers> for HlrDestinationAsked {
         read_destinations(of, s_id, sf_type, start_time, end_time, row)
     }
 
-    fn ask_block(
+    fn copy_block(
         of: &Owner,
         asked: &[HlrDestinationAsked],
-        from: usize,
-        to: usize,
-        numbers: &mut [HlrNumbers],
-        codes: &mut [u8],
+        found: &mut ArrayVec<ArrayVec<Number, 3>, 16>,
     ) -> bool {
-        ask_own_calls(of, asked, from, to, numbers, codes)
+        let mut own = ArrayVec::new();
+        if !put_own_calls(of, asked, &mut own) {
+            return false;
+        }
+        of.copy_destinations(own.as_slice(), found);
+        true
     }
 }
 
@@ -232,7 +159,7 @@ pub extern "C" fn hlr_part_subscriber_data_many(
         owner.old.kept.part (result, (rows.new, codes.new)) owner.new.kept.part }
 {
     with_part!(owner, alloc, |part| {
-        ask_many(&*part, s_ids, rows, codes)
+        ask_many(&*part, s_ids, &mut ArrayVec::new(), rows, codes)
     })
 }
 
@@ -249,7 +176,7 @@ pub extern "C" fn hlr_part_access_data_many(
         owner.old.kept.part (result, (rows.new, codes.new)) owner.new.kept.part }
 {
     with_part!(owner, alloc, |part| {
-        ask_many(&*part, asked, rows, codes)
+        ask_many(&*part, asked, &mut ArrayVec::new(), rows, codes)
     })
 }
 
@@ -266,6 +193,6 @@ pub extern "C" fn hlr_part_new_destination_many(
         owner.old.kept.part (result, (numbers.new, codes.new)) owner.new.kept.part }
 {
     with_part!(owner, alloc, |part| {
-        ask_many(&*part, asked, numbers, codes)
+        ask_many(&*part, asked, &mut ArrayVec::new(), numbers, codes)
     })
 }

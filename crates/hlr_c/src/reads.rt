@@ -1,11 +1,11 @@
 //! The three transactions that read.
 ghost use Rattle.std.specs.Prelude.{◌≡◌, Ok, slice_index_or};
 ghost use Rattle.hlr_core.specs.Home.{IsHomeTo};
-ghost use Rattle.hlr_core.specs.Rows.{access_reply, subscriber_reply};
+ghost use Rattle.hlr_core.specs.Rows.{access_reply, numbers_reply, subscriber_reply};
 ghost use Rattle.hlr_core.specs.declared.event.Event.TheVariants as event;
 ghost use Rattle.hlr_c.specs.Call.{IsAnswer, IsCall};
 ghost use Rattle.hlr_c.specs.Rows.{numbers_for_c};
-ghost use Rattle.hlr_c.specs.Told.{access_told, found_told, numbers_told, subscriber_told};
+ghost use Rattle.hlr_c.specs.Told.{access_told, numbers_told, subscriber_told};
 ghost use Rattle.hlr_c.specs.declared.codes.TheConstants.{AWAY, NOT_OPEN};
 
 use crate::codes::{DONE, code_away};
@@ -106,7 +106,7 @@ pub(crate) fn write_access_found(
 
 /// Writes the numbers that were found, as C has them: `NoDestination` where there are none.
 pub(crate) fn write_numbers(found: &ArrayVec<Number, 3>, numbers: &mut HlrNumbers) -> u8
-    ensures { (result, numbers.new) ≡ found_told numbers.old found.now.items }
+    ensures { (result, numbers.new) ≡ numbers_told numbers.old (numbers_reply found.now.items) }
 {
     if found.is_empty() {
         return Refusal::NoDestination.code();

@@ -71,9 +71,14 @@ static void access_rows(void) {
     IS(answered[HLR_NO_ACCESS]);
 }
 
+/* each second block has subscribers of one part and fields in range, so that it is asked at once: at one hour, or at all */
 static void destinations(void) {
     hlr_destination_asked asked[COUNT];
-    for (int i = 0; i < COUNT; i++) asked[i] = (hlr_destination_asked){i / TYPES, i % TYPES, i % 4 * 8, 1 + i % 25};
+    for (int i = 0; i < COUNT; i++) {
+        int hour = i / 32 % 4 < 3 ? i / 32 % 4 : i % 3;
+        asked[i] = i / 16 % 2 ? (hlr_destination_asked){1 + i % 39, 1 + i % 4, hour * 8, 1 + i % 24}
+                              : (hlr_destination_asked){i / TYPES, i % TYPES, i % 4 * 8, 1 + i % 25};
+    }
     OTHER(numbers);
     OTHER(codes);
     DONE(hlr_new_destination_many(&handle, asked, COUNT, numbers, COUNT, codes, COUNT));

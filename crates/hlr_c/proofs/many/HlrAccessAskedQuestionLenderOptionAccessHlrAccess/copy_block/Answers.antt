@@ -1,0 +1,14 @@
+use Rattle.std.proofs.Common.{◌∙◌, ℕ, refl}
+use Rattle.hlr_core.specs.Rows.{access_reply}
+use Rattle.hlr_core.specs.declared.event.Event.TheVariants as event
+use Rattle.hlr_c.specs.Told.{access_told}
+use Rattle.hlr_c.specs.declared.codes.TheConstants.{AWAY}
+use Rattle.hlr_c.specs.declared.rows.HlrAccessAsked.{HlrAccessAsked}
+use Rattle.hlr_c.proofs.FoundLemmas.{found_of, told_of_found}
+use Rattle.hlr_c.proofs.many.HlrAccessAskedQuestionLenderOptionAccessHlrAccess.copy_block.Goals as goal
+
+pub returns : goal.returns
+returns c = λ done.
+    told_of_found (λ (q : HlrAccessAsked). event.AccessData q.s_id q.ai_type) access_reply (λ q. access_told q.s_id q.ai_type) (λ row. (AWAY, row)) c.args.of.now c.args.asked.now c.copy_access.new.rows.items (λ q one. record { homes = refl; outs = refl; spare = refl })
+    (found_of (λ (a : ℕ × ℕ). event.AccessData a.0 a.1) access_reply c.args.of.now (λ (q : HlrAccessAsked). (q.s_id, q.ai_type)) (0, 0) c.args.asked.now c.copy_access.new.rows.items
+    (rw (c.register.ensures.value, c.as_slice.ensures.value ∙ c.put_pairs.ensures) at (c.copy_access.ensures.found done)))
