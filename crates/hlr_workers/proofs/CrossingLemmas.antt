@@ -4,7 +4,7 @@ use denote.Struct.Field.{u8-field, u64-field}
 use denote.Struct.Tuple.{TupleAt}
 use denote.Param.Send.{IsSend, IsSync, sendable}
 use denote.Param.SendFields.{declared_send, declared_sync}
-use Rattle.std.proofs.Crossing.{Box-send, Arc-send, Vec-send, crosses, frees, send as heap_send, sync as heap_sync}
+use Rattle.std.proofs.Crossing.{Box-send, Arc-send, Arc-sync, Vec-send, crosses, frees, send as heap_send, sync as heap_sync}
 use Rattle.std.specs.contracts.alloc.Global as Heap
 use Rattle.std.specs.contracts.boxed.Box as Box
 use Rattle.std.specs.contracts.impls.GlobalAllocator.TheImpl as heap
@@ -76,10 +76,10 @@ count_sync : IsSync EventCount.the_row
 count_sync = search (sendable, crosses) depth 20
 
 inbox_send : IsSend Inbox.the_row
-inbox_send = declared_send Inbox.the_type (line_send, (count_send, (count_send, tt)))
+inbox_send = declared_send Inbox.the_type (line_send, (count_send, (Arc-send EventCount.the_row count_send count_sync, tt)))
 
 inbox_sync : IsSync Inbox.the_row
-inbox_sync = declared_sync Inbox.the_type (line_sync, (count_sync, (count_sync, tt)))
+inbox_sync = declared_sync Inbox.the_type (line_sync, (count_sync, (Arc-sync EventCount.the_row count_send count_sync, tt)))
 
 pub inbox_shared_send : IsSend (Arc.the_row Inbox.the_row Heap.the_row heap.ghosts)
 inbox_shared_send = Arc-send Inbox.the_row inbox_send inbox_sync

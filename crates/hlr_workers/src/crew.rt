@@ -17,11 +17,13 @@ ghost use Rattle.hlr_workers.specs.Standing.{changes_parts};
 ghost use Rattle.hlr_workers.specs.declared.work.TheConstants.{MOST_PENDING};
 
 use crate::gate::Gate;
+use crate::inbox::LOOKS;
 use crate::message::MOST_JOBS;
 use crate::work::{EmptyList, MOST_PENDING};
 use crate::worker::{Idle, Worker};
 use arrayvec::ArrayVec;
 use crossbeam_utils::Backoff;
+use crossbeam_utils::sync::EventCount;
 use hlr_core::{Event, Parts, Register, Reply, Task};
 use part_table::CutMove;
 use std::alloc::Global;
@@ -38,6 +40,8 @@ pub(crate) struct Crew {
     workers: ArrayVec<Option<Worker>, 16>,
     // The lists that workers have had, for those that are started next.
     lists: ArrayVec<Option<EmptyList>, 16>,
+    // The count of pops that all workers share, once one was started.
+    pops: Option<Arc<EventCount, Global>>,
 }
 
 impl Model for Crew {
@@ -95,6 +99,29 @@ fn list_for(
         return Err(Refusal::Memory);
     };
     Ok(EmptyList { list })
+}
+
+/// The count of pops for a worker: that which the others have, or a new one. `Memory` where the growth for it was refused.
+fn pops_for(
+    pops: &mut Option<Arc<EventCount, Global>>,
+    alloc: Global,
+) -> Result<Arc<EventCount, Global>, Refusal>
+    ensures why { OnErr result (result ≡ Err Refusal.Memory) }
+{
+    if let Some(shared) = pops {
+        let Ok(other) = Arc::try_clone(shared) else {
+            return Err(Refusal::Memory);
+        };
+        return Ok(other);
+    }
+    let Ok(first) = Arc::new(alloc, EventCount::new()) else {
+        return Err(Refusal::Memory);
+    };
+    let Ok(other) = Arc::try_clone(&first) else {
+        return Err(Refusal::Memory);
+    };
+    *pops = Some(other);
+    Ok(first)
 }
 
 /// Sends a job to the worker of a part.
@@ -192,13 +219,40 @@ fn do_others_hold(workers: &ArrayVec<Option<Worker>, 16>, part: usize) -> bool {
     false
 }
 
+/// Tells whether the worker of a part holds more jobs than so many, while another one holds some too.
+fn must_offer(workers: &ArrayVec<Option<Worker>, 16>, part: usize, most: usize) -> bool
+    requires { part < length workers.now.items }
+{
+    count_held(workers, part) > most && do_others_hold(workers, part)
+}
+
+/// Pushes what all workers hold, where there is a place, and sleeps if that wasn't enough: a pop after this try ends the
+/// sleep, or keeps it from beginning. It may wait.
+fn offer_or_doze<R: Wait>(
+    rt: &R,
+    workers: &mut ArrayVec<Option<Worker>, 16>,
+    pops: &EventCount,
+    part: usize,
+    most: usize,
+)
+    requires { part < length workers.old.items }
+    ensures { workers.new.items ≡ workers.old.items }
+{
+    let wait = pops.prepare_wait();
+    offer_all(workers);
+    if must_offer(workers, part, most) {
+        wait.wait(rt);
+    }
+}
+
 /// Pushes what all workers hold, where there is a place, until that of a part holds so many jobs at most, or no other one
-/// holds any: so nobody lacks a job that another part's gate may wait for, while the caller waits for a place. It may
-/// wait.
+/// holds any: so nobody lacks a job that another part's gate may wait for, while the caller waits for a place. It spins for
+/// a while, then yields, and then sleeps. It may wait.
 #[inline(never)]
 fn offer_until<R: Wait>(
     rt: &R,
     workers: &mut ArrayVec<Option<Worker>, 16>,
+    pops: &Option<Arc<EventCount, Global>>,
     part: usize,
     most: usize,
 )
@@ -206,33 +260,49 @@ fn offer_until<R: Wait>(
     ensures { workers.new.items ≡ workers.old.items }
 {
     let backoff = Backoff::new();
+    let mut looks = 0;
     for _ in rt.forever() {
-        if count_held(workers, part) <= most || !do_others_hold(workers, part) {
+        if !must_offer(workers, part, most) {
             return;
         }
-        offer_all(workers);
-        backoff.snooze();
+        match pops {
+            Some(pops) if looks >= LOOKS => offer_or_doze(rt, workers, pops, part, most),
+            _ => offer_all(workers),
+        }
+        if looks < LOOKS {
+            looks += 1;
+            backoff.snooze();
+        }
     }
     unreachable!()
 }
 
 /// Before one job more is sent to the worker of a part: where it holds a whole message, pushes what all workers hold, as
 /// above. It may wait.
-fn offer_before<R: Wait>(rt: &R, workers: &mut ArrayVec<Option<Worker>, 16>, part: usize)
+fn offer_before<R: Wait>(
+    rt: &R,
+    workers: &mut ArrayVec<Option<Worker>, 16>,
+    pops: &Option<Arc<EventCount, Global>>,
+    part: usize,
+)
     requires { part < length workers.old.items }
     ensures { workers.new.items ≡ workers.old.items }
 {
     if count_held(workers, part) == MOST_JOBS {
-        offer_until(rt, workers, part, MOST_JOBS - 1);
+        offer_until(rt, workers, pops, part, MOST_JOBS - 1);
     }
 }
 
 /// Pushes what each worker holds, once there is a place in its queue. It may wait.
-fn hand_on_all<R: Wait>(rt: &R, workers: &mut ArrayVec<Option<Worker>, 16>)
+fn hand_on_all<R: Wait>(
+    rt: &R,
+    workers: &mut ArrayVec<Option<Worker>, 16>,
+    pops: &Option<Arc<EventCount, Global>>,
+)
     ensures { workers.new.items ≡ workers.old.items }
 {
     for part in 0..workers.len() {
-        offer_until(rt, workers, part, 0);
+        offer_until(rt, workers, pops, part, 0);
         hand_on_at(rt, workers, part);
     }
 }
@@ -255,6 +325,7 @@ impl Crew {
             register,
             workers,
             lists: ArrayVec::new(),
+            pops: None,
         }
     }
 
@@ -278,6 +349,7 @@ impl Crew {
             register,
             workers: _workers,
             lists: _lists,
+            pops: _pops,
         } = self;
         register
     }
@@ -302,7 +374,8 @@ impl Crew {
         // For the prover: each region has its owner beside it.
         let _board = self.register.board();
         let list = list_for(&mut self.lists, alloc)?;
-        let idle = Idle::start(rt, alloc, gate, self.register.board(), part, list)?;
+        let pops = pops_for(&mut self.pops, alloc)?;
+        let idle = Idle::start(rt, alloc, gate, self.register.board(), part, list, pops)?;
         let worker = idle.begin(rt, self.register.lend(part));
         put_worker(&mut self.workers, part, worker);
         Ok(())
@@ -349,13 +422,10 @@ impl Crew {
         ensures why { OnErr result ((result ≡ Err Refusal.Memory) ⊎ (result ≡ Err Refusal.Thread)) }
         ensures home { OnErr result (slice_index_or (homes_in self.old.house.seats) part false ≡ true) }
     {
-        match self.call_out(rt, alloc, gate, part) {
-            Ok(()) => {}
-            Err(why) => return Err(why),
-        }
+        self.call_out(rt, alloc, gate, part)?;
         // For the prover: each region has its owner beside it.
         let _board = self.register.board();
-        offer_before(rt, &mut self.workers, usize::from(part));
+        offer_before(rt, &mut self.workers, &self.pops, usize::from(part));
         send_to(rt, &mut self.workers, part, number, task);
         Ok(())
     }
@@ -372,7 +442,7 @@ impl Crew {
         ensures { self.new ≡ self.old }
     {
         offer_all(&mut self.workers);
-        hand_on_all(rt, &mut self.workers);
+        hand_on_all(rt, &mut self.workers, &self.pops);
     }
 
     /// Tells the worker of a part to stop, if there is such a part, and it is out. It may wait.

@@ -239,10 +239,8 @@ fn answer<G: Gate + 'static, R: Threads + Wait + Copy + Send + Sync + 'static>(
         TaskRoute::Refused(why) => Ok(Reply::Refused(why)),
         TaskRoute::To(part, task) => {
             let number = replies.len() as u64;
-            match crew.send(rt, alloc, gate, part, number, task) {
-                Ok(()) => Ok(blank()),
-                Err(why) => Err(why),
-            }
+            crew.send(rt, alloc, gate, part, number, task)?;
+            Ok(blank())
         }
         TaskRoute::Here => Ok(answer_here(rt, crew, replies, gate, event)),
     }
@@ -358,25 +356,18 @@ impl<G: Gate + 'static> Engine<G> {
         ensures spare { changes_parts event ≡ false → self.new.house.spare ≡ self.old.house.spare }
         ensures desk { IsLaterDesk self.old.house.spare self.new.house.spare }
     {
-        match reserve(&mut self.replies, self.alloc) {
-            Ok(()) => {}
-            Err(why) => return Err(why),
-        }
+        reserve(&mut self.replies, self.alloc)?;
         let number = self.replies.len() as u64;
-        match answer(
+        let reply = answer(
             rt,
             self.alloc,
             &mut self.crew,
             &mut self.replies,
             &self.gate,
             event,
-        ) {
-            Ok(reply) => {
-                self.replies.push_reserved((number, reply));
-                Ok(number)
-            }
-            Err(refusal) => Err(refusal),
-        }
+        )?;
+        self.replies.push_reserved((number, reply));
+        Ok(number)
     }
 
     /// Brings all parts home: the replies to all events since the last settle, in their order, each with its number. It

@@ -8,17 +8,19 @@ use crate::message::{Log, Message};
 use crate::rule::{Got, Line, Port, Rest, Sent};
 use crossbeam_utils::Backoff;
 use crossbeam_utils::sync::EventCount;
-use std::sync::Wait;
+use std::alloc::Global;
+use std::sync::{Arc, Wait};
 
 /// How often a queue that is empty, or full, is looked at before who waits for it sleeps.
-const LOOKS: u32 = 1_000;
+pub(crate) const LOOKS: u32 = 1_000;
 
-/// A worker's queue, the count of pushes that wakes the worker, and the count of pops that wakes who pushes.
+/// A worker's queue, the count of pushes that wakes the worker, and the count of pops of all workers' queues that wakes who
+/// pushes.
 #[derive(Drop)]
 pub(crate) struct Inbox {
     pub(crate) line: Line,
     pub(crate) pushes: EventCount,
-    pub(crate) pops: EventCount,
+    pub(crate) pops: Arc<EventCount, Global>,
 }
 
 impl Inbox {

@@ -94,8 +94,8 @@ impl Model for Worker {
 }
 
 impl Idle {
-    /// Makes the queue and what the thread shares, and then starts the thread, which writes its replies into the list.
-    /// `Memory` where a growth was refused: no start was tried then. `Thread` where the start was refused.
+    /// Makes the queue and what the thread shares, and then starts the thread, which writes its replies into the list and
+    /// tells each pop to the count. `Memory` where a growth was refused: no start was tried then. `Thread` where the start was refused.
     pub fn start<G: Gate + 'static, R: Threads + Wait + Copy + Send + Sync + 'static>(
         rt: &R,
         alloc: Global,
@@ -103,6 +103,7 @@ impl Idle {
         board: &Arc<Board>,
         part: u8,
         list: EmptyList,
+        pops: Arc<EventCount, Global>,
     ) -> Result<Idle, Refusal>
         ensures board { IfOk result (λ idle. idle ≡ arc_value board.now) }
         ensures why { OnErr result ((result ≡ Err Refusal.Memory) ⊎ (result ≡ Err Refusal.Thread)) }
@@ -115,7 +116,7 @@ impl Idle {
         let inbox = Inbox {
             line,
             pushes: EventCount::new(),
-            pops: EventCount::new(),
+            pops,
         };
         let Ok(inbox) = Arc::new(alloc, inbox) else {
             return Err(Refusal::Memory);

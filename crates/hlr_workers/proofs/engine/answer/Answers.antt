@@ -24,9 +24,9 @@ returns-in-Refused-clause-answered g c =
     told_after _ _ c.requires.kept c.args.event (reply.Refused c.in-Refused.why)
     (subst (λ (h : Seating). IsRightNow c.args.event h (reply.Refused c.in-Refused.why)) c.register.ensures.value c.in-Refused.ensures)
 
-pub returns-in-Ok-clause-answered : goal.returns-in-Ok-clause-answered
-returns-in-Ok-clause-answered g c =
+pub returns-in_ok-send-in-To-clause-answered : goal.returns-in_ok-send-in-To-clause-answered
+returns-in_ok-send-in-To-clause-answered g c =
     let to : IsRouted c.args.event c.args.crew.now.house (To c.in-To.part (job_of c.in-To.task)) = subst (λ (h : Seating). IsRouted c.args.event h (To c.in-To.part (job_of c.in-To.task))) c.register.ensures.value c.in-To.ensures in
     let number : c.len-number.result ≡ length c.args.replies.now.items = c.len-number.ensures ∙ c.args.replies.now.ok.0 in
-    let sent = subst (λ (n : ℕ). IsSentTo c.in-To.part (n, (job_of c.in-To.task)) c.args.crew.now c.send.new.self) number c.in-Ok.ensures.sent in
+    let sent = subst (λ (n : ℕ). IsSentTo c.in-To.part (n, (job_of c.in-To.task)) c.args.crew.now c.send.new.self) number (rw c.in_ok-send-in-To.was at c.send.ensures.sent) in
     sent_after c.args.crew.now c.args.replies.now c.requires.kept c.register.ensures.seated c.in-To.part c.args.event (job_of c.in-To.task) to.1 to.3 c.blank.result c.send.new.self sent
