@@ -5,8 +5,9 @@ use crate::engines::{
     unposted,
 };
 use crate::gates::Open;
-use hlr_core::{Event, NumberIndex, Register, Reply, Route, WORDS};
+use hlr_core::{Event, NumberIndex, Parts, Register, Reply, Route, WORDS};
 use hlr_workers::Engine;
+use part_table::Regions;
 use std::alloc::Global;
 use std::process::Abort;
 use std::sync::Wait;
@@ -28,42 +29,110 @@ const STEPS: u64 = 300;
 /// How many events there are whose replies don't depend on when they are settled.
 const EVENTS: u64 = 10_000;
 
-/// How many drawn jobs there are, and between how many of them at most the engine is settled.
+/// How many drawn jobs there are, and how many of them at most between two calls that hand on what is held.
 const JOBS: u64 = 20_000;
 
 const APART: u64 = 80;
 
 /// How many jobs a message has at most. All but the first job of a worker are held until there are so many.
-const MESSAGE: u64 = 16;
+const MESSAGE: u32 = 16;
 
 /// A bit for each number of jobs that may be held while a queue has places: 0 to 15.
 const ALL_HELD: u64 = 65_535;
 
-/// How many jobs each of three parts has since the last settle, and a bit for each number that was held at one.
+/// How many jobs are held, where queues have places, for each part whose worker is out; and, for each kind of call that
+/// hands them on, a bit for each number that was held for a part then.
 #[derive(Clone, Copy, Default)]
 struct Held {
-    jobs: [u64; 3],
-    seen: u64,
+    jobs: [Option<u32>; 16],
+    at_settles: u64,
+    at_sights: u64,
+    at_cuts: u64,
+    at_changes: u64,
 }
 
 impl Held {
-    /// Counts an event that goes there.
+    /// Counts an event that goes there: the first job of a worker is pushed, and then each full message.
     fn note(&mut self, route: &Route) {
         if let Route::To(part, _) = route
-            && let Some(jobs) = self.jobs.get_mut(usize::from(*part))
+            && let Some(held) = self.jobs.get_mut(usize::from(*part))
         {
-            *jobs = jobs.wrapping_add(1);
+            *held = match *held {
+                Some(count) => Some(count.wrapping_add(1) % MESSAGE),
+                None => Some(0),
+            };
         }
     }
 
-    /// Notes how many are held: all but the first since the last full message.
-    fn settle(&mut self) {
-        for jobs in &mut self.jobs {
-            if let Some(behind) = jobs.checked_sub(1) {
-                self.seen |= 1u64.wrapping_shl((behind % MESSAGE) as u32);
+    /// Hands all on: a bit for each number that was held.
+    fn hand_on(&mut self) -> u64 {
+        let mut seen = 0u64;
+        for held in &mut self.jobs {
+            if let Some(count) = *held {
+                seen |= 1u64.wrapping_shl(count);
+                *held = Some(0);
             }
-            *jobs = 0;
         }
+        seen
+    }
+
+    /// Brings parts home.
+    fn bring_home(&mut self, parts: Parts) {
+        for part in parts.first..parts.end {
+            if let Some(held) = self.jobs.get_mut(usize::from(part)) {
+                *held = None;
+            }
+        }
+    }
+
+    /// Brings the parts home on both sides of each bound that a re-cut moves.
+    fn bring_sides_home(&mut self, regions: &Regions, bounds: &[u64]) {
+        let Ok(moves) = regions.moves_to(bounds) else {
+            return;
+        };
+        for bound_move in moves.as_slice() {
+            let bound = bound_move.bound;
+            self.bring_home(Parts {
+                first: bound.saturating_sub(1),
+                end: bound.saturating_add(1),
+            });
+        }
+    }
+
+    /// Hands on what an event does that the register does itself; another one is counted.
+    fn take(&mut self, register: &Register, event: &Event) {
+        let route = register.route(event);
+        if route == Route::Here {
+            self.at_changes |= self.hand_on();
+            self.bring_home(register.parts_for(event));
+        }
+        self.note(&route);
+    }
+
+    /// Hands on what a step does, before a register does it.
+    fn step(&mut self, register: &Register, step: &Step) {
+        match step {
+            Step::Take(event) => self.take(register, event),
+            Step::Cut(bounds) => {
+                self.at_cuts |= self.hand_on();
+                self.bring_sides_home(register.regions(), bounds.as_slice());
+            }
+            Step::Look => self.at_sights |= self.hand_on(),
+            Step::Settle => {
+                self.at_settles |= self.hand_on();
+                self.jobs = [None; 16];
+            }
+        }
+    }
+
+    /// The numbers that were held at each kind of call.
+    fn seen(&self) -> [u64; 4] {
+        [
+            self.at_settles,
+            self.at_sights,
+            self.at_cuts,
+            self.at_changes,
+        ]
     }
 }
 
@@ -311,29 +380,30 @@ impl Double {
         alike
     }
 
-    /// How many drawn jobs were taken and settled alike, with a settle after a drawn number of them each, and how many
-    /// jobs were held then.
+    /// How many drawn jobs were taken alike, with a call that hands on behind a drawn number of them each, and which numbers
+    /// of jobs were held at each kind of these.
     fn jobs_alike<R: Threads + Wait + Abort + Copy + Send + Sync + 'static>(
         &mut self,
         rt: &R,
         engine: &mut Engine<Open>,
         draws: &mut Draws,
-    ) -> (u64, Held) {
+    ) -> (u64, [u64; 4]) {
         let (mut alike, mut held) = (0u64, Held::default());
         let mut left = draws.distance(APART);
         for _ in 0..JOBS {
             let event = draws.job(rt, self.register.regions());
-            held.note(&self.register.route(&event));
+            held.take(&self.register, &event);
             let mut is_alike = self.takes(rt, engine, &event);
             left = left.wrapping_sub(1);
             if left == 0 {
-                held.settle();
-                is_alike = self.settles(rt, engine) && is_alike;
+                let step = draws.handing_on(rt, self.register.regions());
+                held.step(&self.register, &step);
+                is_alike = self.steps(rt, engine, step) && is_alike;
                 left = draws.distance(APART);
             }
             alike = alike.wrapping_add(u64::from(is_alike));
         }
-        (alike, held)
+        (alike, held.seen())
     }
 }
 
@@ -420,7 +490,7 @@ fn replies_whenever_settled(rt: HostRuntime) {
 #[test]
 fn replies_whatever_is_held(rt: HostRuntime) {
     let (mut engine, mut double) = begun(&rt, rt.alloc(), 3);
-    let (alike, held) = double.jobs_alike(&rt, &mut engine, &mut Draws::new(11));
+    let (alike, seen) = double.jobs_alike(&rt, &mut engine, &mut Draws::new(11));
     let ends_alike = ends_alike(&rt, engine, double);
-    assert_eq!(rt; (alike, held.seen, ends_alike), (JOBS, ALL_HELD, true));
+    assert_eq!(rt; (alike, seen, ends_alike), (JOBS, [ALL_HELD; 4], true));
 }

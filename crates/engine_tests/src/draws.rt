@@ -20,6 +20,9 @@ const LAST: u64 = 130;
 /// How many numbers there are that they may have.
 pub const NUMBERS: u64 = 30;
 
+/// How many parts there are at most that a change divides: of more it dissolves one, so that each has many jobs.
+const FEW_PARTS: u8 = 4;
+
 /// What is done with an engine.
 #[derive(Drop)]
 pub enum Step {
@@ -294,7 +297,38 @@ impl Draws {
         }
     }
 
-    /// How many jobs there are until the next settle: up to so many.
+    /// An event that the register does itself, mostly, where the regions are these: a piece that is loose is taken first.
+    /// Few parts stay.
+    fn change(&mut self, rt: &impl Abort, regions: &Regions) -> Event {
+        if let Some(take) = right_take(regions.list(), self.random.below(2) == 0) {
+            return take;
+        }
+        match self.random.below(8) {
+            0..=2 => Event::SetNumber {
+                s_id: self.s_id(),
+                sub_nbr: self.number(rt),
+            },
+            3 => self.addition(rt),
+            4 | 5 => self.moving(regions),
+            _ if regions.parts() > FEW_PARTS => Event::Dissolve {
+                part: self.random.below(u64::from(FEW_PARTS)).wrapping_add(1),
+            },
+            _ => self.parting(regions),
+        }
+    }
+
+    /// A call that hands on what is held, where the regions are these: a settle, a sight, a re-cut, or an event that the
+    /// register does itself.
+    pub fn handing_on(&mut self, rt: &impl Abort, regions: &Regions) -> Step {
+        match self.random.below(4) {
+            0 => Step::Settle,
+            1 => Step::Look,
+            2 => Step::Cut(self.bounds(regions)),
+            _ => Step::Take(self.change(rt, regions)),
+        }
+    }
+
+    /// How many jobs there are until the next such call: up to so many.
     pub fn distance(&mut self, most: u64) -> u64 {
         self.random.below(most).wrapping_add(1)
     }

@@ -1,9 +1,9 @@
 //! What workers do at once, and which go on while the others come home: seen by gates.
 use crate::engines::{
-    DONE, are_replies, are_rows, closed, engine_over, filled, has_posting, number, open_gate,
-    plain_row, read, read_all, row, row_reply, submit,
+    DONE, are_replies, are_rows, closed, engine_over, filled, has_posting, number, plain_row, read,
+    read_all, row, row_reply, submit,
 };
-use crate::gates::{Doors, Hold, Meeting, Open, Second, Turns};
+use crate::gates::{Doors, Hold, Meeting, Second, Turns};
 use hlr_core::{Event, Reply};
 use hlr_workers::{Engine, Gate};
 use part_table::{END, Side};
@@ -87,8 +87,7 @@ fn done_beside<R: Threads + Wait + Copy + Send + Sync + 'static>(
     engine.settle(rt)
 }
 
-// As many reads as are taken without a wait while their worker is held up at the first: the others fill the queue, in
-// messages of 16.
+// The worker is held up at the first read, and 256 more fill its queue, in messages of 16. Another 16 could be held.
 #[test]
 fn reads_wait_in_the_queue(rt: HostRuntime) {
     let gate = Arc::new(rt.alloc(), Hold::of(0)).expect(&rt, "a gate");
@@ -102,13 +101,13 @@ fn reads_wait_in_the_queue(rt: HostRuntime) {
 }
 
 /// Asserts the replies to reads of two parts, where the worker of the first part is held up until that of the second one
-/// is at its second job.
+/// has done its second job.
 fn expect_second<R: Threads + Wait + Abort + Copy + Send + Sync + 'static>(
     rt: &R,
     alloc: Global,
     s_ids: &[u64],
 ) {
-    let gate = Arc::new(alloc, Second::new()).expect(rt, "a gate");
+    let gate = Arc::new(alloc, Second::of(0, 1)).expect(rt, "a gate");
     let mut engine = engine_over(rt, alloc, filled(rt, alloc, 2, &[1, 100]), &gate);
     let replies = read_all(rt, &mut engine, s_ids);
     let (register, _none) = engine.close(rt);
@@ -128,10 +127,69 @@ fn full_queue_holds_up_no_other_part(rt: HostRuntime) {
     expect_second(&rt, rt.alloc(), &s_ids);
 }
 
-// The second job is held when all parts are to come home: it is pushed before the first part is waited for.
+/// A subscriber of each of three parts, and then twice that of the first one.
+const TWO_BEHIND: [u64; 5] = [1, 50, 90, 1, 1];
+
+/// An engine of three parts that took a read of each, and then two more of the first one, which are held.
+fn holding_two<R: Threads + Wait + Copy + Abort + Send + Sync + 'static>(
+    rt: &R,
+    alloc: Global,
+    gate: &Arc<Second>,
+) -> Engine<Second> {
+    let register = filled(rt, alloc, 3, &[1, 50, 90]);
+    let mut engine = engine_over(rt, alloc, register, gate);
+    for s_id in &TWO_BEHIND {
+        let _number = submit(rt, &mut engine, read(*s_id));
+    }
+    engine
+}
+
+/// Asserts that an event which calls the last part home, but not the first one, is answered so, while the last one is
+/// held up until the first one has done one of the jobs that are held.
+fn expect_handed_on<R: Threads + Wait + Abort + Copy + Send + Sync + 'static>(
+    rt: &R,
+    alloc: Global,
+    event: Event,
+    wanted: Reply,
+) {
+    let gate = Arc::new(alloc, Second::of(2, 0)).expect(rt, "a gate");
+    let mut engine = holding_two(rt, alloc, &gate);
+    let _number = submit(rt, &mut engine, event);
+    let mut replies = closed(rt, engine);
+    let is_answered = replies.pop() == Some((5, wanted));
+    let are_right = are_rows(rt, &replies, &TWO_BEHIND);
+    assert_eq!(rt;
+        (is_answered, are_right, gate.gave_up()),
+        (true, true, false)
+    );
+}
+
+/// Asserts the same of a re-cut.
+fn expect_recut_handed_on<R: Threads + Wait + Abort + Copy + Send + Sync + 'static>(
+    rt: &R,
+    alloc: Global,
+) {
+    let gate = Arc::new(alloc, Second::of(2, 0)).expect(rt, "a gate");
+    let mut engine = holding_two(rt, alloc, &gate);
+    let moved = engine.recut_to(rt, &[41, 90]);
+    let replies = closed(rt, engine);
+    let are_right = are_rows(rt, &replies, &TWO_BEHIND);
+    assert_eq!(rt; (moved, are_right, gate.gave_up()), (Ok(1), true, false));
+}
+
+// Jobs that are held are pushed before the first part is waited for that is called home, also those of parts that aren't.
 #[test]
 fn held_jobs_go_out_before_a_join(rt: HostRuntime) {
     expect_second(&rt, rt.alloc(), &[1, 100, 100]);
+    expect_recut_handed_on(&rt, rt.alloc());
+    let (s_id, sub_nbr) = (90, number(&rt, 5));
+    expect_handed_on(&rt, rt.alloc(), Event::SetNumber { s_id, sub_nbr }, DONE);
+    let (part, lo, hi) = (3, 95, END);
+    let divided = Reply::Divided { part, lo, hi };
+    expect_handed_on(&rt, rt.alloc(), Event::Divide { part: 2, at: 95 }, divided);
+    let (part, lo, hi) = (1, 41, END);
+    let dissolved = Reply::Dissolved { part, lo, hi };
+    expect_handed_on(&rt, rt.alloc(), Event::Dissolve { part: 2 }, dissolved);
 }
 
 /// A read of each of three parts; then, between reads of the second and the third, what the register does there, and
@@ -313,62 +371,48 @@ fn sees_posting<G: Gate + 'static>(engine: &mut Engine<G>) -> bool {
     false
 }
 
-/// Whether a posting of the first part is seen while the worker of the second one is held up at a read, and the replies
-/// to both.
+/// Whether a posting of the first part is seen behind reads, while the worker of the second one is held up at one of them,
+/// and the replies to all.
 fn posts_beside<R: Threads + Wait + Copy + Send + Sync + 'static>(
     rt: &R,
     engine: &mut Engine<Hold>,
     gate: &Hold,
+    s_ids: &[u64],
 ) -> (bool, Vec<(u64, Reply)>) {
-    let _read = submit(rt, engine, read(100));
+    for s_id in s_ids {
+        let _number = submit(rt, engine, read(*s_id));
+    }
     let _posted = submit(rt, engine, Event::Post { part: 0, limit: 51 });
     let is_seen = sees_posting(engine);
     gate.let_go();
     (is_seen, engine.settle(rt))
 }
 
+/// Asserts that a posting is seen behind these reads, before any settle, while the second of two parts is held up.
+fn expect_posting<R: Threads + Wait + Abort + Copy + Send + Sync + 'static>(
+    rt: &R,
+    alloc: Global,
+    s_ids: &[u64],
+) {
+    let gate = Arc::new(alloc, Hold::of(1)).expect(rt, "a gate");
+    let mut engine = engine_over(rt, alloc, filled(rt, alloc, 2, &[7, 100]), &gate);
+    let (is_seen, mut replies) = posts_beside(rt, &mut engine, &gate, s_ids);
+    let late = closed(rt, engine);
+    let is_posted = replies.pop() == Some((s_ids.len() as u64, Reply::Posted(2)));
+    let are_right = are_rows(rt, &replies, s_ids) && late.is_empty();
+    let found = (is_seen, is_posted, are_right, gate.gave_up());
+    assert_eq!(rt; found, (true, true, true, false));
+}
+
 #[test]
 fn posting_is_seen_at_once(rt: HostRuntime) {
-    let gate = Arc::new(rt.alloc(), Hold::of(1)).expect(&rt, "a gate");
-    let register = filled(&rt, rt.alloc(), 2, &[7, 100]);
-    let mut engine = engine_over(&rt, rt.alloc(), register, &gate);
-    let (is_seen, replies) = posts_beside(&rt, &mut engine, &gate);
-    let (register, _none) = engine.close(&rt);
-    drop(register);
-    let wanted = [row_reply(&rt, 100), Reply::Posted(2)];
-    let found = (is_seen, are_replies(&replies, &wanted), gate.gave_up());
-    assert_eq!(rt; found, (true, true, false));
+    expect_posting(&rt, rt.alloc(), &[100]);
 }
 
-/// Whether a posting is seen, before it is settled, that is taken behind eight reads, of which all but the first are
-/// held; and the replies.
-fn posts_behind_held<R: Threads + Wait + Copy + Send + Sync + 'static>(
-    rt: &R,
-    engine: &mut Engine<Open>,
-) -> (bool, Vec<(u64, Reply)>) {
-    for _ in 0..8u32 {
-        let _read = submit(rt, engine, read(7));
-    }
-    let _posted = submit(rt, engine, Event::Post { part: 0, limit: 51 });
-    let is_seen = sees_posting(engine);
-    (is_seen, engine.settle(rt))
-}
-
+// All but the first read of the part that posts are held, and the posting behind them.
 #[test]
 fn posting_behind_held_jobs_is_seen(rt: HostRuntime) {
-    let gate = open_gate(&rt, rt.alloc());
-    let register = filled(&rt, rt.alloc(), 1, &[7]);
-    let mut engine = engine_over(&rt, rt.alloc(), register, &gate);
-    let (is_seen, mut replies) = posts_behind_held(&rt, &mut engine);
-    let late = closed(&rt, engine);
-    let posted = replies.pop();
-    let found = (
-        is_seen,
-        posted == Some((8, Reply::Posted(2))),
-        are_rows(&rt, &replies, &[7; 8]),
-        late.len(),
-    );
-    assert_eq!(rt; found, (true, true, true, 0));
+    expect_posting(&rt, rt.alloc(), &[100, 7, 7, 7, 7, 7, 7, 7, 7]);
 }
 
 #[test]

@@ -102,26 +102,28 @@ impl Gate for Hold {
     fn after(&self, _part: u8, _seq: u64) {}
 }
 
-/// How often the second part looks away at its second job, before it lets the first one go.
+/// How often a part looks away behind its second job, before it lets another one go.
 const PAUSE: u32 = 200_000;
 
-/// A gate that holds part 0 up until part 1 is at its second job, at which that one stays for a while first.
+/// A gate that holds one part up until another one has done its second job, behind which that one stays for a while.
 #[derive(Drop)]
 pub struct Second {
     first: Hold,
-    came: AtomicU64,
+    other: u8,
+    done: AtomicU64,
 }
 
 impl Second {
-    /// A gate to which nobody came.
-    pub fn new() -> Self {
+    /// A gate that holds a part up until the other one has done two jobs.
+    pub fn of(held: u8, other: u8) -> Self {
         Second {
-            first: Hold::of(0),
-            came: AtomicU64::new(0),
+            first: Hold::of(held),
+            other,
+            done: AtomicU64::new(0),
         }
     }
 
-    /// Whether part 0 gave up waiting.
+    /// Whether the part gave up waiting.
     pub fn gave_up(&self) -> bool {
         self.first.gave_up()
     }
@@ -130,7 +132,10 @@ impl Second {
 impl Gate for Second {
     fn before(&self, part: u8, seq: u64) {
         self.first.before(part, seq);
-        if part != 1 || self.came.fetch_add(1, Ordering::SeqCst) != 1 {
+    }
+
+    fn after(&self, part: u8, _seq: u64) {
+        if part != self.other || self.done.fetch_add(1, Ordering::SeqCst) != 1 {
             return;
         }
         for _ in 0..PAUSE {
@@ -138,8 +143,6 @@ impl Gate for Second {
         }
         self.first.let_go();
     }
-
-    fn after(&self, _part: u8, _seq: u64) {}
 }
 
 /// A gate that counts the jobs that are done.

@@ -237,13 +237,15 @@ fn thousand_sights(rt: HostRuntime) {
     expect_sights(&rt, rt.alloc(), 1_000);
 }
 
-/// The replies to three reads, each of which is submitted 20 ms after the one before, when its worker sleeps.
+/// The replies to three reads, each of which is submitted, and pushed by a sight, 20 ms after the one before, when its
+/// worker sleeps.
 fn reads_apart<R: Threads + Wait + Clock + Copy + Send + Sync + 'static>(
     rt: &R,
     mut engine: Engine<Open>,
 ) -> Vec<(u64, Reply)> {
     for _ in 0..3u32 {
         let _number = submit(rt, &mut engine, read(7));
+        let _sight = engine.sight();
         thread::sleep(rt, Duration::from_millis(20));
     }
     closed(rt, engine)
