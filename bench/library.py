@@ -87,7 +87,7 @@ def compare(room, subscribers, rounds):
 def compare_owners(room, subscribers, rounds):
     """Prints the speeds of owners, and of threads that share a handle, beside that of one thread with the handle alone."""
     program = build_over_hlr(f"{HERE}/owners.c", f"{room}/owners")
-    print("| subscribers, load | threads | owners, millions a second | times one handle | by a lock |\n|---|---|---|---|---|")
+    print("| subscribers, load | one handle | 1 owner | 2 | 3 | 4 | 2 by a lock | 3 | 4 |\n|---|---|---|---|---|---|---|---|---|")
     for size in subscribers:
         taken = {}
         for _ in range(rounds):
@@ -95,8 +95,10 @@ def compare_owners(room, subscribers, rounds):
             for load, threads, owners, shared in map(str.split, told.splitlines()):
                 taken.setdefault((load, int(threads)), []).append((float(owners), float(shared)))
         medians = {key: [statistics.median(speeds) for speeds in zip(*pairs)] for key, pairs in taken.items()}
-        for (load, threads), (owners, shared) in sorted(medians.items()):
-            print(f"| {size:,}, {load} | {threads} | {owners / 1e6:.1f} | {owners / medians[load, 1][1]:.2f} | {shared / 1e6:.1f} |")
+        for load in sorted({load for load, _ in medians}):
+            owners, shared = zip(*(medians[load, threads] for threads in range(1, 5)))
+            speeds = [shared[0], *owners, *shared[1:]]
+            print(f"| {size:,}, {load} | " + " | ".join(f"{speed / 1e6:.1f}" for speed in speeds) + " |")
 
 
 def main(what, rounds="5", *sizes):

@@ -3,9 +3,9 @@
 usage: threads.py HLR [RUNS [PARTS]]     3 runs and 3 parts; it works in /tmp/bench (ROOM)
        threads.py write                  writes the loads alone
 
-`gsd` and `ul` have subscribers alone; `mix` has 35 `gsd`, 35 `gad` and 14 `ul` of 84, and an access for each subscriber. The
-rows of 500,000 subscribers leave room for half a million records in a run, so there is no `mix` of them. Both have
-to answer the same bytes, which is looked at in a first turn that isn't counted."""
+`gsd` and `ul` have subscribers alone; `mix` has 35 `gsd`, 35 `gad` and 14 `ul` of 84, and an access for each subscriber. A
+run has at most 1,048,576 records, rows and all, so the greatest mix has 400,000 subscribers and 240,000 transactions. Both have to
+answer the same bytes, which is looked at in a first turn that isn't counted."""
 import random
 import statistics
 import sys
@@ -13,15 +13,19 @@ import sys
 from common import ROOM, kept, same_bytes, timed
 
 MIX = ["gsd"] * 35 + ["gad"] * 35 + ["ul"] * 14
-LOADS = [(size, kind) for size in (1_000, 50_000, 500_000) for kind in ("gsd", "ul", "mix") if (size, kind) != (500_000, "mix")]
-COUNT = 500_000
+LOADS = [(size, kind) for size in (1_000, 50_000, 100_000) for kind in ("gsd", "ul", "mix")] + [(400_000, "mix"), (500_000, "gsd"), (500_000, "ul")]
+
+
+def count_of(load):
+    return 240_000 if load == (400_000, "mix") else 500_000
 
 
 def rows(subscribers, with_access):
+    """All subscribers before the first access: a `sub` brings its part home, and an `acc` starts the part's worker again."""
     for s_id in range(1, subscribers + 1):
         yield f"sub,{s_id},{s_id:015d},0101010101,0123456789,00112233445566778899,1,{1 + s_id * 7 % 4_000_000_000}\n"
-        if with_access:
-            yield f"acc,{s_id},1,3,4,ABC,ABCDE\n"
+    for s_id in range(1, subscribers + 1 if with_access else 1):
+        yield f"acc,{s_id},1,3,4,ABC,ABCDE\n"
 
 
 def record(kind, s_id, draw):
@@ -41,7 +45,8 @@ def write(lines, subscribers, kind, count):
 
 def files(subscribers, kind):
     """The rows with the records, and the rows alone."""
-    return [kept(f"threads_{subscribers}_{kind}_{count}", lambda lines: write(lines, subscribers, kind, count)) for count in (COUNT, 0)]
+    counts = (count_of((subscribers, kind)), 0)
+    return [kept(f"threads_{subscribers}_{kind}_{count}", lambda lines: write(lines, subscribers, kind, count)) for count in counts]
 
 
 def main(hlr, runs="3", parts="3"):
@@ -60,7 +65,8 @@ def main(hlr, runs="3", parts="3"):
         for _ in range(int(runs)):
             for way, words in enumerate(ways):
                 took[way].append(timed(words, whole)[2] - timed(words, bare)[2])
-        alone, threads = (statistics.median(it) * 1e9 / COUNT for it in took)
+        count = count_of((subscribers, kind))
+        alone, threads = (statistics.median(it) * 1e9 / count for it in took)
         print(f"| {subscribers:,}, `{kind}` | {alone:.0f} | {threads:.0f} | {alone / threads:.2f} |", flush=True)
 
 
