@@ -81,4 +81,6 @@ def main(check):
 
 
 if __name__ == "__main__":
+    if sys.argv[1:] not in ([], ["--check"]):
+        sys.exit("usage: definitions.py [--check]")
     sys.exit(main(sys.argv[1:] == ["--check"]))
