@@ -9,7 +9,8 @@
 # third record starts the first worker, and the fourth the second one; the report brings them home, and the last two
 # records start them again. A start wants a worker's queue, its list of replies and what it shares, and a piece for the
 # thread itself; before the first record and the one behind the report the engine makes room for its replies too. The lists
-# of workers that came home are kept, so behind the report a start wants one piece less.
+# of workers that came home are kept, so behind the report a start wants one piece less. The first start of all also wants
+# the count of pops that the workers share.
 starts_refused() {
   local command=("$hlr" --threads --parts 2 --zone 4) call=0 status lines all each
   begin
@@ -36,14 +37,15 @@ starts_refused() {
   each=$(grep -c '^2: hlr: no memory$' "$room/ends")
   [ "$each" -gt 2 ] || fail "only $each growths of a worker's start were refused"
   for lines in 2 3 $((all - 2)) $((all - 1)); do
-    call=$each
-    if [ "$lines" = $((all - 1)) ]; then call=$((each - 1)); fi
+    call=$((each - 1))
+    if [ "$lines" = 2 ]; then call=$each; fi
+    if [ "$lines" = $((all - 1)) ]; then call=$((each - 2)); fi
     [ "$(grep -c "^$lines: hlr: no memory$" "$room/ends")" = "$call" ] || fail "growths of a worker's start after $lines answers"
     [ "$(grep -c "^$lines: hlr: no thread$" "$room/ends")" = 1 ] || fail "the memory of a thread after $lines answers"
   done
   ! grep -qvE "^(0|2|3|$((all - 2))|$((all - 1))): " "$room/ends" || fail 'a run of an engine ended elsewhere'
   right
-  echo "hlr --threads: a first start of a worker ended $each times with no memory, a later one $((each - 1)) times, and each once with no thread"
+  echo "hlr --threads: the first start of a worker ended $each times with no memory, a later one $((each - 2)) times, and each once with no thread"
 }
 
 program_built || finish
