@@ -3,7 +3,7 @@ use crate::engines::{
     DONE, are_replies, are_rows, closed, engine_over, filled, has_posting, number, plain_row, read,
     read_all, row, row_reply, submit,
 };
-use crate::gates::{Doors, Hold, Meeting, Second, Turns};
+use crate::gates::{Doors, Hold, Meeting, PAUSE, Second, Turns};
 use hlr_core::{Event, Reply};
 use hlr_workers::{Engine, Gate};
 use part_table::{END, Side};
@@ -101,13 +101,14 @@ fn reads_wait_in_the_queue(rt: HostRuntime) {
 }
 
 /// Asserts the replies to reads of two parts, where the worker of the first part is held up until that of the second one
-/// has done its second job.
+/// has done its second job and looked away so often.
 fn expect_second<R: Threads + Wait + Abort + Copy + Send + Sync + 'static>(
     rt: &R,
     alloc: Global,
     s_ids: &[u64],
+    pause: u32,
 ) {
-    let gate = Arc::new(alloc, Second::of(0, 1)).expect(rt, "a gate");
+    let gate = Arc::new(alloc, Second::of(0, 1, pause)).expect(rt, "a gate");
     let mut engine = engine_over(rt, alloc, filled(rt, alloc, 2, &[1, 100]), &gate);
     let replies = read_all(rt, &mut engine, s_ids);
     let (register, _none) = engine.close(rt);
@@ -124,7 +125,7 @@ fn full_queue_holds_up_no_other_part(rt: HostRuntime) {
     for s_id in s_ids.iter_mut().skip(1).take(2) {
         *s_id = 100;
     }
-    expect_second(&rt, rt.alloc(), &s_ids);
+    expect_second(&rt, rt.alloc(), &s_ids, PAUSE);
 }
 
 /// A subscriber of each of three parts, and then twice that of the first one.
@@ -152,7 +153,7 @@ fn expect_handed_on<R: Threads + Wait + Abort + Copy + Send + Sync + 'static>(
     event: Event,
     wanted: Reply,
 ) {
-    let gate = Arc::new(alloc, Second::of(2, 0)).expect(rt, "a gate");
+    let gate = Arc::new(alloc, Second::of(2, 0, 0)).expect(rt, "a gate");
     let mut engine = holding_two(rt, alloc, &gate);
     let _number = submit(rt, &mut engine, event);
     let mut replies = closed(rt, engine);
@@ -169,7 +170,7 @@ fn expect_recut_handed_on<R: Threads + Wait + Abort + Copy + Send + Sync + 'stat
     rt: &R,
     alloc: Global,
 ) {
-    let gate = Arc::new(alloc, Second::of(2, 0)).expect(rt, "a gate");
+    let gate = Arc::new(alloc, Second::of(2, 0, 0)).expect(rt, "a gate");
     let mut engine = holding_two(rt, alloc, &gate);
     let moved = engine.recut_to(rt, &[41, 90]);
     let replies = closed(rt, engine);
@@ -180,7 +181,7 @@ fn expect_recut_handed_on<R: Threads + Wait + Abort + Copy + Send + Sync + 'stat
 // Jobs that are held are pushed before the first part is waited for that is called home, also those of parts that aren't.
 #[test]
 fn held_jobs_go_out_before_a_join(rt: HostRuntime) {
-    expect_second(&rt, rt.alloc(), &[1, 100, 100]);
+    expect_second(&rt, rt.alloc(), &[1, 100, 100], 0);
     expect_recut_handed_on(&rt, rt.alloc());
     let (s_id, sub_nbr) = (90, number(&rt, 5));
     expect_handed_on(&rt, rt.alloc(), Event::SetNumber { s_id, sub_nbr }, DONE);

@@ -102,23 +102,25 @@ impl Gate for Hold {
     fn after(&self, _part: u8, _seq: u64) {}
 }
 
-/// How often a part looks away behind its second job, before it lets another one go.
-const PAUSE: u32 = 200_000;
+/// How often a part looks away while a caller falls asleep.
+pub const PAUSE: u32 = 200_000;
 
-/// A gate that holds one part up until another one has done its second job, behind which that one stays for a while.
+/// A gate that holds one part up until another one has done its second job, behind which that one looks away so often.
 #[derive(Drop)]
 pub struct Second {
     first: Hold,
     other: u8,
+    pause: u32,
     done: AtomicU64,
 }
 
 impl Second {
-    /// A gate that holds a part up until the other one has done two jobs.
-    pub fn of(held: u8, other: u8) -> Self {
+    /// A gate that holds a part up until the other one has done two jobs and looked away so often.
+    pub fn of(held: u8, other: u8, pause: u32) -> Self {
         Second {
             first: Hold::of(held),
             other,
+            pause,
             done: AtomicU64::new(0),
         }
     }
@@ -138,7 +140,7 @@ impl Gate for Second {
         if part != self.other || self.done.fetch_add(1, Ordering::SeqCst) != 1 {
             return;
         }
-        for _ in 0..PAUSE {
+        for _ in 0..self.pause {
             thread::yield_now();
         }
         self.first.let_go();
