@@ -2,6 +2,7 @@
 use Rattle.std.proofs.Common.{◌≡◌, ◌≢◌, ℕ, ◌+◌, ◌-◌, ◌<◌, ◌≤◌, suc, zero, List, [], ◌∷◌, ◌++◌, length, get_or, set, take, drop, Option, Some, None, IsSome, IfSome, option_map, refl, sym, ap, subst, ◌∙◌, arith, add-one, inl, inr}
 use Rattle.std.specs.List.{insert, remove}
 use Rattle.std.proofs.lemmas.List.{drop_all, get_or_default, length-set, length-append, length-take, length-drop, take-append-drop}
+use Rattle.std.proofs.lemmas.List.Edits.{insert_end}
 use Rattle.std.proofs.lemmas.Bool.{cases_lt}
 use Rattle.tatp_rows.specs.Ordered.{IsOrderedBy, row_at, with_row_at, with_row, without_row}
 use Rattle.tatp_rows.proofs.AppendLemmas.{each-append}
@@ -9,7 +10,7 @@ use Rattle.tatp_rows.proofs.OrderedLemmas.{each-with_row, each-without_row, orde
 use Rattle.tatp_rows.proofs.SpanLemmas.{below-weaker, from-weaker, ordered_front, ordered_back, row_at-skip, row_at-absent, row_at-here, with_row_at-skip, with_row_at-absent, with_row_at-here, without_row-skip, without_row-absent, without_row-here, with_row-skip, with_row-front, every-with_row_at-same}
 use Rattle.mr_node.specs.declared.body.Leaf.{Leaf}
 use Rattle.mr_node.specs.Rows.{value_at, key_of_pair, KeysBelow, KeysFrom, key_limit}
-use Rattle.mr_node.specs.Runs.{no_key, somes, IsRun}
+use Rattle.mr_node.specs.Runs.{no_key, somes, IsRun, IsPadded}
 use Rattle.mr_node.specs.Search.{IsRising, IsStop}
 use Rattle.mr_node.specs.Levels.{IsLeaf, pairs_of, seen_leaf}
 use Rattle.mr_node.specs.Entries.{IsThere, IsFree}
@@ -17,7 +18,7 @@ use Rattle.mr_node.specs.Growth.{IsGrown, IsRoomAnswer}
 use Rattle.mr_node.specs.declared.room.Room.TheVariants.{Done, Exists, Full}
 use Rattle.mr_node.proofs.PlaceLemmas.{packed_some, packed_insert, packed_remove, somes_insert, somes_remove}
 use Rattle.mr_node.proofs.SizeLemmas.{leaf_well}
-use Rattle.mr_node.proofs.RunLemmas.{run_length, run_split, run_written, run_inserted, run_removed, run_behind, run_rises, run_next, run_rest}
+use Rattle.mr_node.proofs.RunLemmas.{run_length, run_split, run_written, run_inserted, run_removed, run_behind, run_below, put_behind, run_rises, run_next, run_rest}
 
 module _ {V : Type 0} where
   -- what a search among the keys asks for
@@ -85,7 +86,7 @@ module _ {V : Type 0} where
   cut_below key i leaf h small stop = cut_at key i leaf h (stop_fits key i leaf h small stop) stop.before
 
   -- behind the last entry the key would stand at the end
-  pub free_last : (key i n : ℕ) (leaf : Leaf V) → IsLeaf leaf → key ≤ no_key → IsStop key i leaf.keys → n ≡ length leaf.values.items → n ≤ i → IsFree key n leaf
+  free_last : (key i n : ℕ) (leaf : Leaf V) → IsLeaf leaf → key ≤ no_key → IsStop key i leaf.keys → n ≡ length leaf.values.items → n ≤ i → IsFree key n leaf
   free_last key i n leaf h small stop e le =
       let same : i ≡ n = omega (arith, e, le, stop_fits key i leaf h small stop) in
       record {
@@ -95,7 +96,7 @@ module _ {V : Type 0} where
       }
 
   -- at another key it would stand in front of it
-  pub free_here : (key i : ℕ) (leaf : Leaf V) → IsLeaf leaf → key ≤ no_key → IsStop key i leaf.keys → i < length leaf.values.items → i < length leaf.keys → get_or leaf.keys i 0 ≢ key → IsFree key i leaf
+  free_here : (key i : ℕ) (leaf : Leaf V) → IsLeaf leaf → key ≤ no_key → IsStop key i leaf.keys → i < length leaf.values.items → i < length leaf.keys → get_or leaf.keys i 0 ≢ key → IsFree key i leaf
   free_here key i leaf h small stop lt long other =
       let some = leaf_some i leaf h lt in
       record {
@@ -103,6 +104,18 @@ module _ {V : Type 0} where
         below = cut_below key i leaf h small stop;
         above = back_from (key + 1) i some.0 leaf h some.1 (omega (arith, stop.here long, other));
       }
+
+  -- where a search stops the key would stand, unless it is there
+  pub free_at : (key i : ℕ) (leaf : Leaf V) → IsLeaf leaf → key ≤ no_key → IsStop key i leaf.keys → length leaf.keys ≡ 32 → (i < 32 → key < no_key → get_or leaf.keys i 0 ≡ key → ⊥) → IsFree key i leaf
+  free_at key i leaf h small stop long other = elim (cases_lt i (length leaf.values.items)) [
+    | inl lt ↦
+        let used : i < 32 = omega (arith, lt, h.run.fits) in
+        let below = run_below (length leaf.values.items) i leaf.keys leaf.values.items h.run h.keys lt in
+        free_here key i leaf h small stop lt (omega (arith, used, long)) (λ e. other used (omega (arith, below, e)) e)
+    | inr past ↦
+        let same : length leaf.values.items ≡ i = omega (arith, past, stop_fits key i leaf h small stop) in
+        subst (λ j. IsFree key j leaf) same (free_last key i (length leaf.values.items) leaf h small stop refl past)
+  ]
 
   -- what holds of a key that stands at a place
   pub record IsFound (key i : ℕ) (value : V) (rows : List (ℕ × V)) : Type 0 where
@@ -233,6 +246,14 @@ module _ {V : Type 0} where
       → (IsLeaf new) × (IfSome o (λ v. IsGrown key v (seen_leaf leaf) (seen_leaf new)))
   leaf_put key i None leaf new h free long room small some ek ev = let wrong : ⊥ = cc in absurd wrong
   leaf_put key i (Some value) leaf new h free long room small some ek ev = leaf_inserted key i value leaf new h free long room small ek ev
+
+  -- the same where the entry went behind the others
+  pub leaf_pushed : (key i : ℕ) (o : Option V) (leaf new : Leaf V) → IsLeaf leaf → IsFree key i leaf → length leaf.keys ≡ 32 → length leaf.values.items < 32 → key < key_limit → IsSome o → i ≡ length leaf.values.items → new.keys ≡ set leaf.keys i key → new.values.items ≡ leaf.values.items ++ (o ∷ [])
+      → (IsLeaf new) × (IfSome o (λ v. IsGrown key v (seen_leaf leaf) (seen_leaf new)))
+  leaf_pushed key i o leaf new h free long room small some e ek ev =
+      let keys : new.keys ≡ insert (take 31 leaf.keys) i key = ek ∙ put_behind i key 31 leaf.keys (omega (arith, long)) (omega (arith, e, room)) (subst (λ n. IsPadded n leaf.keys) (sym e) h.run.padded) in
+      let items : new.values.items ≡ insert leaf.values.items i o = ev ∙ sym (insert_end leaf.values.items o) ∙ ap (λ j. insert leaf.values.items j o) (sym e) in
+      leaf_put key i o leaf new h free long room small some keys items
 
   -- what was read at the place of a key is a value
   pub there_some : (key i : ℕ) (leaf : Leaf V) → IsLeaf leaf → IsThere key i leaf → IsSome (get_or leaf.values.items i None)

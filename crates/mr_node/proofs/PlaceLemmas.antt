@@ -1,6 +1,7 @@
 -- Places of which the first ones are used: what they hold after a write, an insertion and a removal.
 use Rattle.std.proofs.Common.{◌≡◌, ℕ, ◌+◌, ◌-◌, ◌<◌, ◌≤◌, suc, zero, List, [], ◌∷◌, ◌++◌, length, get_or, set, take, drop, slice_range, Option, Some, None, refl, sym, ap, subst, ◌∙◌, arith, append-nil, add-one, inl, inr}
-use Rattle.std.proofs.lemmas.List.{get_or_default, nil_from_length, set_split, set-get_or, drop_all, take-set, drop-set, drop-set-lt}
+use Rattle.std.proofs.lemmas.List.{get_or_default, nil_from_length, set_split, set-get_or, drop_all, take-set, drop-set, drop-set-lt, take-take, take-append-le, drop-take, length-take-le, length-drop, length-append}
+use lib.Seq.{paste, drop_at}
 use Rattle.std.proofs.Math.Seq.{split_at}
 use Rattle.std.proofs.lemmas.Bool.{cases_lt}
 use Rattle.std.specs.List.{insert, remove, remove_range}
@@ -10,6 +11,18 @@ module _ {X : Type 0} where
   -- a write of the last of 32
   pub last_set : (x : X) (xs : List X) → length xs ≡ 32 → set xs 31 x ≡ take 31 xs ++ (x ∷ [])
   last_set x xs len = set_split xs 31 x (omega (arith, len)) ∙ ap (λ r. take 31 xs ++ (x ∷ r)) (drop_all 32 xs (omega (arith, len)))
+
+  -- those from a place on moved up by one, and an element written there
+  pub put_within : (p : ℕ) (y : X) (xs : List X) → p < 32 → length xs ≡ 32 → set (paste xs (p + 1) (drop p xs) (31 - p)) p y ≡ insert (take 31 xs) p y
+  put_within p y xs lt len =
+      let rest = take (31 - p) (drop p xs) in
+      let begin = length-take-le (p + 1) xs (omega (arith, lt, len)) in
+      let wide : length rest ≡ 31 - p = length-take-le (31 - p) (drop p xs) (omega (arith, length-drop p xs, len)) in
+      let whole : paste xs (p + 1) (drop p xs) (31 - p) ≡ take (p + 1) xs ++ rest = ap (λ r. (take (p + 1) xs ++ rest) ++ r) (drop_all (p + 1 + (31 - p)) xs (omega (arith, lt, len))) ∙ append-nil (take (p + 1) xs ++ rest) in
+      let tail : 31 ≡ p + (31 - p) = omega (arith, lt) in
+      let front : take p (take (p + 1) xs ++ rest) ≡ take p (take 31 xs) = take-append-le p (take (p + 1) xs) rest (omega (arith, begin)) ∙ take-take p (p + 1) xs (omega arith) ∙ sym (take-take p 31 xs (omega (arith, lt))) in
+      let back : drop (suc p) (take (p + 1) xs ++ rest) ≡ drop p (take 31 xs) = drop_at (take (p + 1) xs) rest (suc p) (omega (arith, begin)) ∙ sym (ap (λ j. drop p (take j xs)) tail ∙ drop-take p (31 - p) xs) in
+      ap (λ l. set l p y) whole ∙ set_split (take (p + 1) xs ++ rest) p y (omega (arith, length-append (take (p + 1) xs) rest, begin)) ∙ ap (λ a. a ++ (y ∷ drop (suc p) (take (p + 1) xs ++ rest))) front ∙ ap (λ b. take p (take 31 xs) ++ (y ∷ b)) back
 
   -- an element written, and moved behind the others
   pub moved_behind : (p : ℕ) (y : X) (xs : List X) → p < length xs → remove_range (set xs p y) p (p + 1) ++ slice_range (set xs p y) p (p + 1) ≡ remove xs p ++ (y ∷ [])

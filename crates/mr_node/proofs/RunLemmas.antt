@@ -54,6 +54,18 @@ padded_set n i k [] lt h = tt
 padded_set n zero k (x ∷ ks) lt h = ((λ e. absurd (omega (arith, lt, e))), h.1)
 padded_set n (suc i) k (x ∷ ks) lt h = (h.0, padded_set (n - 1) i k ks (omega (arith, lt)) h.1)
 
+-- what is the greatest number alone is the same one place on
+shifted : (x : ℕ) (xs : List ℕ) → x ≡ no_key → IsPadded 0 xs → xs ≡ take (length xs) (x ∷ xs)
+shifted x [] e h = refl
+shifted x (y ∷ ys) e h = ap (λ k. k ∷ ys) (h.0 refl ∙ sym e) ∙ ap (λ r. x ∷ r) (shifted y ys (h.0 refl) (padded_same (0 - 1) 0 ys (omega arith) h.1))
+
+-- a key written behind those in use
+pub put_behind : (n k m : ℕ) (ks : List ℕ) → length ks ≡ m + 1 → n ≤ m → IsPadded n ks → set ks n k ≡ insert (take m ks) n k
+put_behind n k m [] len le h = absurd (omega (arith, len))
+put_behind zero k m (x ∷ ks) len le h = ap (λ r. k ∷ r) (shifted x ks (h.0 refl) (padded_same (zero - 1) 0 ks (omega arith) h.1) ∙ ap (λ j. take j (x ∷ ks)) (omega (arith, len)))
+put_behind (suc n) k zero (x ∷ ks) len le h = absurd (omega (arith, le))
+put_behind (suc n) k (suc m) (x ∷ ks) len le h = ap (λ r. x ∷ r) (put_behind n k m ks (omega (arith, len)) (omega (arith, le)) (padded_same (suc n - 1) n ks (omega arith) h.1))
+
 padded_behind : (n : ℕ) (a b : List ℕ) → length a ≡ n → IsPadded 0 b → IsPadded n (a ++ b)
 padded_behind n [] b e h = padded_same 0 n b e h
 padded_behind n (x ∷ a) b e h = ((λ z. absurd (omega (arith, e, z))), padded_behind (n - 1) a b (omega (arith, e)) h)

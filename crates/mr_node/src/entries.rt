@@ -31,14 +31,10 @@ fn search<V>(leaf: &Leaf<V>, key: u64) -> Result<usize, usize>
     ensures { MatchResult result (λ place. IsThere key place leaf.now) (λ place. IsFree key place leaf.now) }
 {
     let place = count_below(&leaf.keys, key);
-    let len = leaf.values.len();
-    if place >= len {
-        return Err(len);
+    if is_at(&leaf.keys, place, key) {
+        return Ok(place);
     }
-    if leaf.keys[place] != key {
-        return Err(place);
-    }
-    Ok(place)
+    Err(place)
 }
 
 /// The value in a place.
@@ -169,6 +165,12 @@ fn put_entry<V: Drop>(leaf: &mut Leaf<V>, place: usize, key: u64, value: &mut Op
     ensures grown { IfSome value.old (λ v. IsGrown key v (seen_leaf leaf.old) (seen_leaf leaf.new)) }
     ensures value { value.new ≡ None }
 {
+    if place == leaf.values.len() {
+        // Behind the last row nothing moves.
+        leaf.keys[place] = key;
+        leaf.values.push(value.take());
+        return;
+    }
     put_key(&mut leaf.keys, place, key);
     leaf.values.insert(place, value.take());
 }

@@ -3,7 +3,7 @@ ghost use Rattle.std.specs.Prelude.{◌≡◌, ◌+◌, ◌-◌, ◌*◌, ◌<�
 ghost use Rattle.mr_node.specs.Runs.{no_key};
 ghost use Rattle.mr_node.specs.Search.{IsRising, IsStop};
 
-use crate::places::{last_to, move_to_end};
+use crate::places::move_to_end;
 
 /// What stands behind the last key.
 pub(crate) const NO_KEY: u64 = u64::MAX;
@@ -66,8 +66,8 @@ pub(crate) fn put_key(keys: &mut [u64; 32], place: usize, key: u64)
     requires { place < 32 }
     ensures { keys.new ≡ insert (take 31 keys.old) place key }
 {
-    keys[31] = key;
-    last_to(keys, place);
+    keys.copy_within(place..31, place + 1);
+    keys[place] = key;
 }
 
 /// Takes the first keys out, and closes the gap.

@@ -1,18 +1,32 @@
-use Rattle.std.proofs.Common.{rules, ◌≡◌, length, ap, ◌∙◌}
+use Rattle.std.proofs.Common.{rules, ◌≡◌, length, [], ◌∷◌, ◌++◌, refl, ap, ◌∙◌}
 use Rattle.std.specs.List.{insert}
-use Rattle.mr_node.proofs.EntryLemmas.{leaf_put}
+use Rattle.mr_node.proofs.EntryLemmas.{leaf_put, leaf_pushed}
 use Rattle.mr_node.proofs.entries.put_entry.Goals as goal
 
 pub returns-clause-leaf : goal.returns-clause-leaf
 returns-clause-leaf g c =
     let leaf = c.args.leaf.now in
     let long : length leaf.keys ≡ 32 = search rules in
-    let items : c.insert.new.self.items ≡ insert leaf.values.items c.args.place c.args.value.now = c.insert.ensures.items ∙ ap (insert leaf.values.items c.args.place) c.take.ensures.value in
+    let items : c.insert.new.self.items ≡ insert leaf.values.items c.args.place c.args.value.now = c.insert.ensures.items ∙ ap (insert leaf.values.items c.args.place) c.take-2.ensures.value in
     (leaf_put c.args.key c.args.place c.args.value.now leaf _ c.requires.leaf c.requires.free long c.requires.room c.requires.small c.requires.some c.put_key.ensures items).0
 
 pub returns-clause-grown : goal.returns-clause-grown
 returns-clause-grown g c =
     let leaf = c.args.leaf.now in
     let long : length leaf.keys ≡ 32 = search rules in
-    let items : c.insert.new.self.items ≡ insert leaf.values.items c.args.place c.args.value.now = c.insert.ensures.items ∙ ap (insert leaf.values.items c.args.place) c.take.ensures.value in
+    let items : c.insert.new.self.items ≡ insert leaf.values.items c.args.place c.args.value.now = c.insert.ensures.items ∙ ap (insert leaf.values.items c.args.place) c.take-2.ensures.value in
     (leaf_put c.args.key c.args.place c.args.value.now leaf _ c.requires.leaf c.requires.free long c.requires.room c.requires.small c.requires.some c.put_key.ensures items).1
+
+pub returns-then-place-len-clause-leaf : goal.returns-then-place-len-clause-leaf
+returns-then-place-len-clause-leaf g c =
+    let leaf = c.args.leaf.now in
+    let long : length leaf.keys ≡ 32 = search rules in
+    let items : c.push.new.self.items ≡ leaf.values.items ++ (c.args.value.now ∷ []) = c.push.ensures.items ∙ ap (λ o. leaf.values.items ++ (o ∷ [])) c.take.ensures.value in
+    (leaf_pushed c.args.key c.args.place c.args.value.now leaf _ c.requires.leaf c.requires.free long c.requires.room c.requires.small c.requires.some (c.if-place-len.true ∙ c.len.ensures.value) refl items).0
+
+pub returns-then-place-len-clause-grown : goal.returns-then-place-len-clause-grown
+returns-then-place-len-clause-grown g c =
+    let leaf = c.args.leaf.now in
+    let long : length leaf.keys ≡ 32 = search rules in
+    let items : c.push.new.self.items ≡ leaf.values.items ++ (c.args.value.now ∷ []) = c.push.ensures.items ∙ ap (λ o. leaf.values.items ++ (o ∷ [])) c.take.ensures.value in
+    (leaf_pushed c.args.key c.args.place c.args.value.now leaf _ c.requires.leaf c.requires.free long c.requires.room c.requires.small c.requires.some (c.if-place-len.true ∙ c.len.ensures.value) refl items).1

@@ -1,6 +1,6 @@
-use Rattle.std.proofs.Common.{take}
-use Rattle.mr_node.proofs.PlaceLemmas.{last_set}
+use Rattle.std.proofs.Common.{set, ap, ◌∙◌}
+use Rattle.mr_node.proofs.PlaceLemmas.{put_within}
 use Rattle.mr_node.proofs.keys.put_key.Goals as goal
 
 pub returns : goal.returns
-returns c = c.last_to.ensures (take 31 c.args.keys.now) c.args.key (last_set c.args.key c.args.keys.now c.told-keys)
+returns c = ap (λ keys. set keys c.args.place c.args.key) c.copy_within.ensures.after ∙ put_within c.args.place c.args.key c.args.keys.now c.requires c.told-keys
