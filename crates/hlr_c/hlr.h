@@ -27,10 +27,11 @@
  * A call that reads takes an hlr *, and no const hlr *: the handle is closed while a call works, and open again when it
  * returns. So two reads at once are two calls at once.
  *
- * Most calls go down a tree or two, which takes about a microsecond. hlr_views goes over all cells of each part, and
- * hlr_recut is one give and one take for each bound that moves. hlr_give and hlr_divide count the rows that move, which
- * takes some 20 ms for half a million. hlr_scan goes over all rows. hlr_close gives back all memory, which takes some
- * 100 ms for a million subscribers. A part is lent, sent home and taken in within a microsecond.
+ * Most calls go down a tree or two, which takes a tenth of a microsecond, and up to two with a million subscribers.
+ * hlr_views goes over all cells of each part, and hlr_recut is one give and one take for each bound that moves.
+ * hlr_give and hlr_divide count the rows that move, which takes some 20 ms for half a million. hlr_scan goes over all
+ * rows. hlr_close gives back all memory, which takes some 100 ms for a million subscribers. A part is lent, sent home
+ * and taken in within a microsecond.
  *
  * What C owes, since no prover sees it:
  *   - A handle is filled with zeros (HLR_CLOSED) before its first call. From then on only these calls write to it. A

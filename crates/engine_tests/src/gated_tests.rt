@@ -108,7 +108,7 @@ fn expect_second<R: Threads + Wait + Abort + Copy + Send + Sync + 'static>(
     s_ids: &[u64],
     pause: u32,
 ) {
-    let gate = Arc::new(alloc, Second::of(0, 1, pause)).expect(rt, "a gate");
+    let gate = Arc::new(alloc, Second::of(1, pause)).expect(rt, "a gate");
     let mut engine = engine_over(rt, alloc, filled(rt, alloc, 2, &[1, 100]), &gate);
     let replies = read_all(rt, &mut engine, s_ids);
     let (register, _none) = engine.close(rt);
@@ -128,6 +128,27 @@ fn full_queue_holds_up_no_other_part(rt: HostRuntime) {
     expect_second(&rt, rt.alloc(), &s_ids, PAUSE);
 }
 
+// The second job of the last part is held while the queues of both others are full: who waits for places in two queues
+// pushes it, sleeps meanwhile, and is woken once there is a place in either.
+#[test]
+fn two_full_queues_hold_up_no_other_part(rt: HostRuntime) {
+    let mut s_ids = [50; 549];
+    for s_id in s_ids.iter_mut().take(275) {
+        *s_id = 1;
+    }
+    for s_id in s_ids.iter_mut().take(2) {
+        *s_id = 90;
+    }
+    let gate = Arc::new(rt.alloc(), Second::of(2, PAUSE)).expect(&rt, "a gate");
+    let register = filled(&rt, rt.alloc(), 3, &[1, 50, 90]);
+    let mut engine = engine_over(&rt, rt.alloc(), register, &gate);
+    let replies = read_all(&rt, &mut engine, &s_ids);
+    let (register, _none) = engine.close(&rt);
+    drop(register);
+    let found = (are_rows(&rt, &replies, &s_ids), gate.gave_up());
+    assert_eq!(rt; found, (true, false));
+}
+
 /// A subscriber of each of three parts, and then twice that of the first one.
 const TWO_BEHIND: [u64; 5] = [1, 50, 90, 1, 1];
 
@@ -145,15 +166,15 @@ fn holding_two<R: Threads + Wait + Copy + Abort + Send + Sync + 'static>(
     engine
 }
 
-/// Asserts that an event which calls the last part home, but not the first one, is answered so, while the last one is
-/// held up until the first one has done one of the jobs that are held.
+/// Asserts that an event which calls the last part home, but not the first one, is answered so, while all but the first
+/// one are held up until it has done one of the jobs that are held.
 fn expect_handed_on<R: Threads + Wait + Abort + Copy + Send + Sync + 'static>(
     rt: &R,
     alloc: Global,
     event: Event,
     wanted: Reply,
 ) {
-    let gate = Arc::new(alloc, Second::of(2, 0, 0)).expect(rt, "a gate");
+    let gate = Arc::new(alloc, Second::of(0, 0)).expect(rt, "a gate");
     let mut engine = holding_two(rt, alloc, &gate);
     let _number = submit(rt, &mut engine, event);
     let mut replies = closed(rt, engine);
@@ -170,7 +191,7 @@ fn expect_recut_handed_on<R: Threads + Wait + Abort + Copy + Send + Sync + 'stat
     rt: &R,
     alloc: Global,
 ) {
-    let gate = Arc::new(alloc, Second::of(2, 0, 0)).expect(rt, "a gate");
+    let gate = Arc::new(alloc, Second::of(0, 0)).expect(rt, "a gate");
     let mut engine = holding_two(rt, alloc, &gate);
     let moved = engine.recut_to(rt, &[41, 90]);
     let replies = closed(rt, engine);

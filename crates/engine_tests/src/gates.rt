@@ -56,40 +56,24 @@ impl Gate for Meeting {
     fn after(&self, _part: u8, _seq: u64) {}
 }
 
-/// A gate that holds one part up until it is let go.
+/// What a worker waits at until it is let go.
 #[derive(Drop)]
-pub struct Hold {
-    held: u8,
+struct Latch {
     is_let_go: AtomicBool,
     gave_up: AtomicBool,
 }
 
-impl Hold {
-    /// A gate that holds this part up.
-    pub fn of(held: u8) -> Self {
-        Hold {
-            held,
+impl Latch {
+    /// A latch that is closed.
+    fn new() -> Self {
+        Latch {
             is_let_go: AtomicBool::new(false),
             gave_up: AtomicBool::new(false),
         }
     }
 
-    /// Lets the part go.
-    pub fn let_go(&self) {
-        self.is_let_go.store(true, Ordering::SeqCst);
-    }
-
-    /// Whether the part gave up waiting.
-    pub fn gave_up(&self) -> bool {
-        self.gave_up.load(Ordering::SeqCst)
-    }
-}
-
-impl Gate for Hold {
-    fn before(&self, part: u8, _seq: u64) {
-        if part != self.held {
-            return;
-        }
+    /// Waits until it is let go.
+    fn wait(&self) {
         for _ in 0..TURNS {
             if self.is_let_go.load(Ordering::SeqCst) {
                 return;
@@ -99,41 +83,88 @@ impl Gate for Hold {
         self.gave_up.store(true, Ordering::SeqCst);
     }
 
+    /// Lets all that wait go.
+    fn let_go(&self) {
+        self.is_let_go.store(true, Ordering::SeqCst);
+    }
+
+    /// Whether somebody gave up waiting.
+    fn gave_up(&self) -> bool {
+        self.gave_up.load(Ordering::SeqCst)
+    }
+}
+
+/// A gate that holds one part up until it is let go.
+#[derive(Drop)]
+pub struct Hold {
+    held: u8,
+    latch: Latch,
+}
+
+impl Hold {
+    /// A gate that holds this part up.
+    pub fn of(held: u8) -> Self {
+        Hold {
+            held,
+            latch: Latch::new(),
+        }
+    }
+
+    /// Lets the part go.
+    pub fn let_go(&self) {
+        self.latch.let_go();
+    }
+
+    /// Whether the part gave up waiting.
+    pub fn gave_up(&self) -> bool {
+        self.latch.gave_up()
+    }
+}
+
+impl Gate for Hold {
+    fn before(&self, part: u8, _seq: u64) {
+        if part == self.held {
+            self.latch.wait();
+        }
+    }
+
     fn after(&self, _part: u8, _seq: u64) {}
 }
 
 /// How often a part looks away while a caller falls asleep.
 pub const PAUSE: u32 = 200_000;
 
-/// A gate that holds one part up until another one has done its second job, behind which that one looks away so often.
+/// A gate that holds all parts but one up until that one has done its second job, behind which it looks away so often.
 #[derive(Drop)]
 pub struct Second {
-    first: Hold,
     other: u8,
     pause: u32,
     done: AtomicU64,
+    latch: Latch,
 }
 
 impl Second {
-    /// A gate that holds a part up until the other one has done two jobs and looked away so often.
-    pub fn of(held: u8, other: u8, pause: u32) -> Self {
+    /// A gate that holds all parts but this one up until it has done two jobs and looked away so often.
+    pub fn of(other: u8, pause: u32) -> Self {
         Second {
-            first: Hold::of(held),
             other,
             pause,
             done: AtomicU64::new(0),
+            latch: Latch::new(),
         }
     }
 
-    /// Whether the part gave up waiting.
+    /// Whether a part gave up waiting.
     pub fn gave_up(&self) -> bool {
-        self.first.gave_up()
+        self.latch.gave_up()
     }
 }
 
 impl Gate for Second {
-    fn before(&self, part: u8, seq: u64) {
-        self.first.before(part, seq);
+    fn before(&self, part: u8, _seq: u64) {
+        if part != self.other {
+            self.latch.wait();
+        }
     }
 
     fn after(&self, part: u8, _seq: u64) {
@@ -143,7 +174,7 @@ impl Gate for Second {
         for _ in 0..self.pause {
             thread::yield_now();
         }
-        self.first.let_go();
+        self.latch.let_go();
     }
 }
 

@@ -1,5 +1,5 @@
--- What is read of rows by a call of its own, and by no event: a facility, a forwarding, and who has a number; and rows of
--- many subscribers at once.
+-- What is read of rows by a call of its own, and by no event: a facility, a forwarding, and who has a number; and the
+-- answers to many questions at once.
 use Rattle.std.specs.Prelude.{◌≡◌, ℕ, ◌<◌, ◌&&◌, List, [], ◌∷◌, length, Option, Some, None, Result, Err, if◌then◌else◌, ok_or, slice_index_or}
 use Rattle.tatp_rows.specs.Rows.{SubscriberRow, AccessInfoRow, SpecialFacilityRow, CallForwardingRow, is_start_time}
 use Rattle.tatp_rows.specs.declared.refusal.Refusal.{Refusal}

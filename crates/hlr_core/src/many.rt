@@ -1,4 +1,4 @@
-//! Rows of up to 16 subscribers at once. They are looked for side by side, so that the waits for memory overlap.
+//! Answers to up to 16 questions at once: their rows are looked for side by side, so that the waits for memory overlap.
 ghost use Rattle.std.specs.Prelude.{◌≡◌, ◌≤◌, ◌+◌, IsTrue, [], false, length, map, true};
 ghost use Rattle.std.specs.List.{All};
 ghost use Rattle.tatp_rows.specs.Rows.{is_between};
