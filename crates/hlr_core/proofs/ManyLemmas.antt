@@ -6,8 +6,8 @@ use Rattle.std.proofs.Math.Seq.{take-suc}
 use Rattle.std.proofs.lemmas.Bool.{cases_eq}
 use Rattle.std.proofs.lemmas.List.{get_or-map, get_or_default, length-map, map-append}
 use Rattle.arrayvec.specs.ArrayVec.{ArrayVec}
-use Rattle.tatp_rows.proofs.RowLemmas.{between_is, between_ok, both_from}
-use Rattle.tatp_rows.specs.Rows.{SubscriberRow, AccessInfoRow, between, is_between, is_start_time}
+use Rattle.tatp_rows.proofs.RowLemmas.{between_is, between_ok, both, both_from}
+use Rattle.tatp_rows.specs.Rows.{SubscriberRow, AccessInfoRow, between, is_between}
 use Rattle.tatp_rows.specs.declared.ranges.TheConstants.{LAST_SUBSCRIBER}
 use Rattle.tatp_rows.specs.declared.refusal.Refusal.TheVariants as refusal
 use Rattle.tatp_actions.specs.Action.{access_data, destinations, is_in_range, new_destination, subscriber_data}
@@ -91,34 +91,27 @@ module _ (asked : List (ℕ × ℕ)) (n s_id t : ℕ) (below : n < length asked)
   ]
 
 -- one more call that is in range
-module _ (asked : List (ℕ × ℕ × ℕ × ℕ)) (n s_id t end : ℕ) (below : n < length asked) (id : Ok s_id ≡ between 1 LAST_SUBSCRIBER (get_or asked n (0, 0, 0, 0)).0) (kind : Ok t ≡ between 1 4 (get_or asked n (0, 0, 0, 0)).1)
-    (last : Ok end ≡ between 1 24 (get_or asked n (0, 0, 0, 0)).3) where
-  pub one_more_call : (calls more : List (ℕ × ℕ × ℕ × ℕ)) → calls ≡ take n asked → more ≡ calls ++ (s_id, t, (get_or asked n (0, 0, 0, 0)).2, end) ∷ [] → more ≡ take (n + 1) asked
+module _ (asked : List (ℕ × ℕ × ℕ × ℕ)) (n : ℕ) (call : ℕ × ℕ × ℕ × ℕ) (below : n < length asked) (is : call ≡ get_or asked n (0, 0, 0, 0)) where
+  pub one_more_call : (calls more : List (ℕ × ℕ × ℕ × ℕ)) → calls ≡ take n asked → more ≡ calls ++ call ∷ [] → more ≡ take (n + 1) asked
   one_more_call calls more so_far pushed =
-      let one = (between_ok 1 LAST_SUBSCRIBER (get_or asked n (0, 0, 0, 0)).0 s_id id).0 in
-      let two = (between_ok 1 4 (get_or asked n (0, 0, 0, 0)).1 t kind).0 in
-      let four = (between_ok 1 24 (get_or asked n (0, 0, 0, 0)).3 end last).0 in
       let next : n + 1 ≡ suc n = omega arith in
-      pushed ∙ rw (so_far, one, two, four, next) (sym (take-suc asked n (0, 0, 0, 0) below))
+      pushed ∙ rw (so_far, is, next) (sym (take-suc asked n (0, 0, 0, 0) below))
 
-  pub one_more_id : (ids more : List ℕ) → ids ≡ map (λ q. q.0) (take n asked) → more ≡ ids ++ s_id ∷ [] → more ≡ map (λ q. q.0) (take (n + 1) asked)
+  pub one_more_id : (ids more : List ℕ) → ids ≡ map (λ q. q.0) (take n asked) → more ≡ ids ++ call.0 ∷ [] → more ≡ map (λ q. q.0) (take (n + 1) asked)
   one_more_id ids more so_far pushed =
       let first = λ (q : ℕ × ℕ × ℕ × ℕ). q.0 in
-      let one = (between_ok 1 LAST_SUBSCRIBER (get_or asked n (0, 0, 0, 0)).0 s_id id).0 in
       let next : n + 1 ≡ suc n = omega arith in
-      pushed ∙ rw (so_far, one, next, take-suc asked n (0, 0, 0, 0) below) (sym (map-append first (take n asked) (get_or asked n (0, 0, 0, 0) ∷ [])))
+      pushed ∙ rw (so_far, is, next, take-suc asked n (0, 0, 0, 0) below) (sym (map-append first (take n asked) (get_or asked n (0, 0, 0, 0) ∷ [])))
 
-  pub one_call_within : is_start_time (get_or asked n (0, 0, 0, 0)).2 ≡ true
+  pub one_call_within : is_in_range (action.NewDestination (get_or asked n (0, 0, 0, 0)).0 (get_or asked n (0, 0, 0, 0)).1 (get_or asked n (0, 0, 0, 0)).2 (get_or asked n (0, 0, 0, 0)).3) ≡ true
       → ((at : ℕ) (q : ℕ × ℕ × ℕ × ℕ) → at < n → IsWithin 1 (LAST_SUBSCRIBER + 1) (get_or asked at q).0 × (is_in_range (action.NewDestination (get_or asked at q).0 (get_or asked at q).1 (get_or asked at q).2 (get_or asked at q).3) ≡ true))
       → (at : ℕ) (q : ℕ × ℕ × ℕ × ℕ) → at < n + 1 → IsWithin 1 (LAST_SUBSCRIBER + 1) (get_or asked at q).0 × (is_in_range (action.NewDestination (get_or asked at q).0 (get_or asked at q).1 (get_or asked at q).2 (get_or asked at q).3) ≡ true)
-  one_call_within starts so_far at q near = elim (cases_eq at n) [
+  one_call_within holds so_far at q near = elim (cases_eq at n) [
     | inl same ↦
-        let holds = (between_ok 1 LAST_SUBSCRIBER (get_or asked n (0, 0, 0, 0)).0 s_id id).1 in
-        let range = between_is 1 LAST_SUBSCRIBER (get_or asked n (0, 0, 0, 0)).0 holds in
+        let id = (both _ _ (both _ _ holds).0).0 in
+        let range = between_is 1 LAST_SUBSCRIBER (get_or asked n (0, 0, 0, 0)).0 id in
         let above : (get_or asked n (0, 0, 0, 0)).0 < LAST_SUBSCRIBER + 1 = omega (arith, range) in
-        let two = (between_ok 1 4 (get_or asked n (0, 0, 0, 0)).1 t kind).1 in
-        let four = (between_ok 1 24 (get_or asked n (0, 0, 0, 0)).3 end last).1 in
-        rw (same, get_or_default asked n q (0, 0, 0, 0) below) ((range.0, above), both_from _ _ (both_from _ _ holds two) (both_from _ _ starts four))
+        rw (same, get_or_default asked n q (0, 0, 0, 0) below) ((range.0, above), holds)
     | inr other ↦ so_far at q (omega arith)
   ]
 

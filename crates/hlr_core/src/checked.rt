@@ -15,8 +15,8 @@ use tatp_actions::edit::{
     UpdateSubscriber,
 };
 use tatp_rows::{
-    Access, Facility, Forwarding, LAST_SUBSCRIBER, Number, Refusal, in_range, is_between,
-    is_start_time,
+    Access, Facility, Forwarding, LAST_SUBSCRIBER, Number, Refusal, byte_in_range, in_range,
+    is_between, is_start_time,
 };
 
 /// Makes a byte of a field: `Field` where it is above 255, which is out of each range.
@@ -33,6 +33,26 @@ fn location(value: u64) -> Result<NonZeroU32, Refusal>
 {
     let small = u32::try_from(value).map_err(|_| Refusal::Field)?;
     NonZeroU32::new(small).ok_or(Refusal::Field)
+}
+
+/// Checks the fields of a GET_NEW_DESTINATION, in their order: `Field` where s_id isn't in 1..=16,777,216, sf_type isn't
+/// in 1..=4, start_time isn't 0, 8 or 16, or end_time isn't in 1..=24.
+pub(crate) fn call(
+    s_id: u64,
+    sf_type: u64,
+    start_time: u64,
+    end_time: u64,
+) -> Result<(u32, u8, u8, u8), Refusal>
+    ensures ok { IfOk result (λ call. (call ≡ (s_id, sf_type, start_time, end_time)) × (is_in_range (action.NewDestination s_id sf_type start_time end_time) ≡ true)) }
+    ensures err { OnErr result ((is_in_range (action.NewDestination s_id sf_type start_time end_time) ≡ false) × (result ≡ Err Refusal.Field)) }
+{
+    let s_id = in_range(s_id, LAST_SUBSCRIBER)?;
+    let sf_type = byte_in_range(sf_type, 4)?;
+    if !is_start_time(start_time) {
+        return Err(Refusal::Field);
+    }
+    let end_time = byte_in_range(end_time, 24)?;
+    Ok((s_id, sf_type, start_time as u8, end_time))
 }
 
 /// Makes the edit of UPDATE_SUBSCRIBER_DATA: `Field` where s_id isn't in 1..=16,777,216, or sf_type, bit_1 or data_a is

@@ -10,11 +10,10 @@ ghost use Rattle.hlr_core.specs.Home.{IsHomeTo};
 ghost use Rattle.hlr_core.specs.Rows.{AreFound, access_reply, numbers_reply, subscriber_reply};
 ghost use Rattle.hlr_core.specs.declared.event.Event.TheVariants as event;
 
+use crate::checked;
 use crate::register::Register;
 use arrayvec::ArrayVec;
-use tatp_rows::{
-    Access, LAST_SUBSCRIBER, Number, Subscriber, byte_in_range, in_range, is_start_time,
-};
+use tatp_rows::{Access, LAST_SUBSCRIBER, Number, Subscriber, byte_in_range, in_range};
 
 /// Puts the numbers of subscribers into an empty list, and tells whether each is in 1..=16,777,216.
 fn put_ids(s_ids: &[u64], ids: &mut ArrayVec<u32, 16>) -> bool
@@ -67,20 +66,11 @@ fn put_calls(
 {
     for place in 0..asked.len() {
         let (s_id, sf_type, start_time, end_time) = asked[place];
-        let Ok(s_id) = in_range(s_id, LAST_SUBSCRIBER) else {
+        let Ok(call) = checked::call(s_id, sf_type, start_time, end_time) else {
             return false;
         };
-        let Ok(sf_type) = byte_in_range(sf_type, 4) else {
-            return false;
-        };
-        let Ok(end_time) = byte_in_range(end_time, 24) else {
-            return false;
-        };
-        if !is_start_time(start_time) {
-            return false;
-        }
-        calls.push((s_id, sf_type, start_time as u8, end_time));
-        s_ids.push(s_id);
+        calls.push(call);
+        s_ids.push(call.0);
     }
     true
 }

@@ -11,7 +11,6 @@ use crate::checked;
 use crate::task::Task;
 use tatp_rows::{
     Access, Facility, LAST_SUBSCRIBER, Number, Refusal, byte_in_range, in_range, is_between,
-    is_start_time,
 };
 
 /// Makes the task of GET_SUBSCRIBER_DATA: `Field` where s_id isn't in 1..=16,777,216.
@@ -32,16 +31,11 @@ pub(crate) fn new_destination(
 ) -> Result<Task, Refusal>
     ensures { IsTaskFor (if_in_range (action.NewDestination s_id sf_type start_time end_time)) result }
 {
-    let s_id = in_range(s_id, LAST_SUBSCRIBER)?;
-    let sf_type = byte_in_range(sf_type, 4)?;
-    if !is_start_time(start_time) {
-        return Err(Refusal::Field);
-    }
-    let end_time = byte_in_range(end_time, 24)?;
+    let (s_id, sf_type, start_time, end_time) = checked::call(s_id, sf_type, start_time, end_time)?;
     Ok(Task::NewDestination {
         s_id,
         sf_type,
-        start_time: start_time as u8,
+        start_time,
         end_time,
     })
 }

@@ -24,7 +24,6 @@ use tatp_actions::Edit;
 use tatp_actions::edit::{AddSubscriber, SetNumber};
 use tatp_rows::{
     Access, Facility, LAST_SUBSCRIBER, Number, Refusal, Subscriber, byte_in_range, in_range,
-    is_start_time,
 };
 
 impl Register {
@@ -69,14 +68,10 @@ impl Register {
         ensures refused { IfErr result (λ why. IsStep (event.NewDestination s_id sf_type start_time end_time) (store_in self.now) (reply.Refused why) (store_in self.now)) }
         ensures beside { MatchResult result (λ numbers. IsStepBeside (event.NewDestination s_id sf_type start_time end_time) self.now (reply.Rows (row_reply.Numbers numbers)) self.now) (λ why. IsStepBeside (event.NewDestination s_id sf_type start_time end_time) self.now (reply.Refused why) self.now) }
     {
-        let s_id = in_range(s_id, LAST_SUBSCRIBER)?;
-        let sf_type = byte_in_range(sf_type, 4)?;
-        if !is_start_time(start_time) {
-            return Err(Refusal::Field);
-        }
-        let end_time = byte_in_range(end_time, 24)?;
-        self.seats
-            .destinations(s_id, sf_type, start_time as u8, end_time)
+        let (s_id, sf_type, start_time, end_time) = checked::call(
+            s_id, sf_type, start_time, end_time,
+        )?;
+        self.seats.destinations(s_id, sf_type, start_time, end_time)
     }
 
     /// UPDATE_SUBSCRIBER_DATA (TATP, section 3.4), as `Event::UpdateSubscriber`: `Field` where s_id isn't in
