@@ -101,7 +101,7 @@ fn reads_wait_in_the_queue(rt: HostRuntime) {
 }
 
 /// Asserts the replies to reads of two parts, where the worker of the first part is held up until that of the second one
-/// has done its second job and looked away so often.
+/// has done its second job and yielded so often.
 fn expect_second<R: Threads + Wait + Abort + Copy + Send + Sync + 'static>(
     rt: &R,
     alloc: Global,
@@ -117,8 +117,8 @@ fn expect_second<R: Threads + Wait + Abort + Copy + Send + Sync + 'static>(
     assert_eq!(rt; found, (true, false));
 }
 
-// The second job is held while the first part's queue is full: who waits for a place pushes it, sleeps meanwhile, and is
-// woken once there is a place.
+// The second job is held while the first part's queue is full: who waits for a place pushes it, and is woken once there
+// is one.
 #[test]
 fn full_queue_holds_up_no_other_part(rt: HostRuntime) {
     let mut s_ids = [1; 303];
@@ -128,8 +128,8 @@ fn full_queue_holds_up_no_other_part(rt: HostRuntime) {
     expect_second(&rt, rt.alloc(), &s_ids, PAUSE);
 }
 
-// The second job of the last part is held while the queues of both others are full: who waits for places in two queues
-// pushes it, sleeps meanwhile, and is woken once there is a place in either.
+// The second job of the last part is held while both others are held up, each with more jobs than its queue takes: it
+// goes out before the caller waits for good.
 #[test]
 fn two_full_queues_hold_up_no_other_part(rt: HostRuntime) {
     let mut s_ids = [50; 549];

@@ -131,10 +131,10 @@ impl Gate for Hold {
     fn after(&self, _part: u8, _seq: u64) {}
 }
 
-/// How often a part looks away while a caller falls asleep.
+/// How often a part yields while a caller falls asleep.
 pub const PAUSE: u32 = 200_000;
 
-/// A gate that holds all parts but one up until that one has done its second job, behind which it looks away so often.
+/// A gate that holds all parts but one up until that one has done its second job, behind which it yields so often.
 #[derive(Drop)]
 pub struct Second {
     other: u8,
@@ -144,7 +144,7 @@ pub struct Second {
 }
 
 impl Second {
-    /// A gate that holds all parts but this one up until it has done two jobs and looked away so often.
+    /// A gate that holds all parts but this one up until it has done two jobs and yielded so often.
     pub fn of(other: u8, pause: u32) -> Self {
         Second {
             other,

@@ -34,13 +34,9 @@ impl Inbox {
         ensures back { IfErr result (λ back. back ≡ message) }
         ensures same { OnErr result (view port.new ≡ view port.old) }
     {
-        match self.line.try_push_as::<Sent>(port, message) {
-            Ok(()) => {
-                self.pushes.notify_one();
-                Ok(())
-            }
-            Err(back) => Err(back),
-        }
+        self.line.try_push_as::<Sent>(port, message)?;
+        self.pushes.notify_one();
+        Ok(())
     }
 
     /// Tries once more, and sleeps if there is no place: a pop after this try ends the sleep, or keeps it from
