@@ -67,6 +67,30 @@ static uint8_t new_destination(uint64_t turn) {
     sum += numbers.numbers[0] + turn;
     return code;
 }
+static uint8_t find(uint64_t turn) {
+    uint64_t s_id = 0;
+    uint8_t code = hlr_find(&handle, number(drawn() % subscribers + 1), &s_id);
+    sum += s_id + turn;
+    return code;
+}
+static uint8_t facility_data(uint64_t turn) {
+    hlr_facility row;
+    uint8_t code = hlr_facility_data(&handle, drawn() % subscribers + 1, 1, &row);
+    sum += row.data_a + turn;
+    return code;
+}
+static uint8_t forwarding(uint64_t turn) {
+    uint64_t end_time = 0, numberx = 0;
+    uint8_t code = hlr_forwarding(&handle, drawn() % subscribers + 1, 1, 8, &end_time, &numberx);
+    sum += end_time + numberx + turn;
+    return code;
+}
+static uint8_t next_subscriber(uint64_t turn) {
+    hlr_subscriber row;
+    uint8_t code = hlr_next_subscriber(&handle, drawn() % subscribers + 1, &row);
+    sum += row.vlr_location + turn;
+    return code;
+}
 static uint8_t update_subscriber(uint64_t turn) { return hlr_update_subscriber(&handle, drawn() % subscribers + 1, 1, turn & 1, turn & 255); }
 static uint8_t update_location(uint64_t turn) { return hlr_update_location(&handle, number(drawn() % subscribers + 1), (turn * 2654435761u & 4294967295u) | 1); }
 static uint8_t set_active(uint64_t turn) { return hlr_set_active(&handle, drawn() % subscribers + 1, 1, turn & 1); }
@@ -147,6 +171,10 @@ int main(int argc, char **argv) {
     timed("access_data", access_data, calls);
     timed("new_destination", new_destination, calls);
     timed_many("new_destination_many", new_destination_many, calls / MANY, MANY);
+    timed("find", find, calls);
+    timed("facility_data", facility_data, calls);
+    timed("forwarding", forwarding, calls);
+    timed("next_subscriber", next_subscriber, calls);
     timed("update_subscriber", update_subscriber, calls);
     timed("update_location", update_location, calls);
     timed("set_number", set_number, calls / 2 * 2);

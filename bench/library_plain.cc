@@ -128,6 +128,39 @@ struct Store {
         told = found;
         return HLR_DONE;
     }
+    uint8_t find(uint64_t number, uint64_t &s_id) const {
+        if (!is_number(number)) return HLR_FIELD;
+        auto at = numbers.find(number);
+        if (at == numbers.end()) return HLR_NO_NUMBER;
+        s_id = at->second;
+        return HLR_DONE;
+    }
+    uint8_t facility(uint64_t s_id, uint64_t type, hlr_facility &row) const {
+        if (!is_sid(s_id) || !is_type(type)) return HLR_FIELD;
+        auto at = facilities.find(typed(s_id, type));
+        if (at == facilities.end()) return HLR_NO_FACILITY;
+        row.s_id = s_id, row.sf_type = type, row.is_active = at->second.active;
+        row.error_cntrl = at->second.error, row.data_a = at->second.data_a;
+        memcpy(row.data_b, at->second.data_b, 5);
+        return HLR_DONE;
+    }
+    uint8_t forwarding(uint64_t s_id, uint64_t type, uint64_t start, uint64_t &end, uint64_t &number) const {
+        if (!is_sid(s_id) || !is_type(type) || !is_start(start)) return HLR_FIELD;
+        auto at = forwardings.find(started(s_id, type, start));
+        if (at == forwardings.end()) return HLR_NO_FORWARDING;
+        end = at->second.end, number = at->second.number;
+        return HLR_DONE;
+    }
+    // Without an order each s_id is tried.
+    uint8_t next(uint64_t from, hlr_subscriber &row) const {
+#if MAP <= 2
+        auto at = subscribers.lower_bound(from);
+        return at == subscribers.end() ? HLR_NO_SUBSCRIBER : subscriber(at->first, row);
+#else
+        for (; from <= 16777216; from++) if (subscriber(from, row) == HLR_DONE) return HLR_DONE;
+        return HLR_NO_SUBSCRIBER;
+#endif
+    }
     uint8_t update(uint64_t s_id, uint64_t type, uint64_t bit, uint64_t data) {
         if (!is_sid(s_id) || !is_type(type) || bit > 1 || data > 255) return HLR_FIELD;
         auto row = subscribers.find(s_id);
@@ -230,6 +263,12 @@ uint8_t hlr_access_data(hlr *handle, uint64_t s_id, uint64_t type, hlr_access *r
 uint8_t hlr_new_destination(hlr *handle, uint64_t s_id, uint64_t type, uint64_t start, uint64_t end, hlr_numbers *told) {
     return in(handle)->destination(s_id, type, start, end, *told);
 }
+uint8_t hlr_find(hlr *handle, uint64_t number, uint64_t *s_id) { return in(handle)->find(number, *s_id); }
+uint8_t hlr_facility_data(hlr *handle, uint64_t s_id, uint64_t type, hlr_facility *row) { return in(handle)->facility(s_id, type, *row); }
+uint8_t hlr_forwarding(hlr *handle, uint64_t s_id, uint64_t type, uint64_t start, uint64_t *end, uint64_t *number) {
+    return in(handle)->forwarding(s_id, type, start, *end, *number);
+}
+uint8_t hlr_next_subscriber(hlr *handle, uint64_t from, hlr_subscriber *row) { return in(handle)->next(from, *row); }
 uint8_t hlr_update_subscriber(hlr *handle, uint64_t s_id, uint64_t type, uint64_t bit, uint64_t data) { return in(handle)->update(s_id, type, bit, data); }
 uint8_t hlr_update_location(hlr *handle, uint64_t number, uint64_t vlr) { return in(handle)->locate(number, vlr); }
 uint8_t hlr_insert_forwarding(hlr *handle, uint64_t number, uint64_t type, uint64_t start, uint64_t end, uint64_t numberx) {

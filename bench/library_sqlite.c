@@ -19,11 +19,12 @@ static const char *SCHEMA =
 
 enum {
     GET_SUBSCRIBER, BEARER, PUT_SUBSCRIBER, GET_ACCESS, PUT_ACCESS, GET_ACTIVE, PUT_FACILITY, DESTINATIONS, SET_BIT, SET_DATA,
-    SET_LOCATION, PUT_FORWARDING, DROP_FORWARDING, SET_ACTIVE, SPANS, SET_NUMBER, STATEMENTS
+    SET_LOCATION, PUT_FORWARDING, DROP_FORWARDING, SET_ACTIVE, SPANS, SET_NUMBER,
+    GET_FACILITY, GET_FORWARDING, NEXT_SUBSCRIBER, STATEMENTS
 };
 
 static const char *TEXT[STATEMENTS] = {
-    "SELECT nbr, bits, hexes, bytes, msc, vlr FROM subscriber WHERE s = ?",
+    "SELECT nbr, bits, hexes, bytes, msc, vlr, s FROM subscriber WHERE s = ?",
     "SELECT s, vlr FROM subscriber WHERE nbr = ?",
     "INSERT OR IGNORE INTO subscriber VALUES (?, ?, ?, ?, ?, ?, ?)",
     "SELECT d1, d2, d3, d4 FROM access WHERE s = ? AND t = ?",
@@ -39,6 +40,9 @@ static const char *TEXT[STATEMENTS] = {
     "UPDATE facility SET active = ?3 WHERE s = ?1 AND t = ?2",
     "SELECT u, e FROM forwarding WHERE s = ? AND t = ?",
     "UPDATE OR IGNORE subscriber SET nbr = ?2 WHERE s = ?1",
+    "SELECT active, err, a, b FROM facility WHERE s = ? AND t = ?",
+    "SELECT e, x FROM forwarding WHERE s = ? AND t = ? AND u = ?",
+    "SELECT nbr, bits, hexes, bytes, msc, vlr, s FROM subscriber WHERE s >= ? ORDER BY s LIMIT 1",
 };
 
 static sqlite3_stmt *prepared[STATEMENTS];
@@ -116,13 +120,48 @@ uint8_t hlr_add_facility(hlr *handle, const hlr_facility *row) {
     return HLR_DONE;
 }
 
+/* The row that a statement finds, if it finds one. */
+static uint8_t subscriber_in(sqlite3_stmt *get, hlr_subscriber *row) {
+    if (!is_row(get)) return HLR_NO_SUBSCRIBER;
+    row->sub_nbr = number_in(get, 0);
+    bytes_in(get, 1, row->bits, 10), bytes_in(get, 2, row->hexes, 10), bytes_in(get, 3, row->bytes, 10);
+    row->msc_location = number_in(get, 4), row->vlr_location = number_in(get, 5), row->s_id = number_in(get, 6);
+    return HLR_DONE;
+}
+
 uint8_t hlr_subscriber_data(hlr *handle, uint64_t s_id, hlr_subscriber *row) {
     (void)handle;
-    sqlite3_stmt *get = BOUND(GET_SUBSCRIBER, s_id);
-    if (!is_row(get)) return HLR_NO_SUBSCRIBER;
-    row->s_id = s_id, row->sub_nbr = number_in(get, 0);
-    bytes_in(get, 1, row->bits, 10), bytes_in(get, 2, row->hexes, 10), bytes_in(get, 3, row->bytes, 10);
-    row->msc_location = number_in(get, 4), row->vlr_location = number_in(get, 5);
+    return subscriber_in(BOUND(GET_SUBSCRIBER, s_id), row);
+}
+
+uint8_t hlr_next_subscriber(hlr *handle, uint64_t from, hlr_subscriber *row) {
+    (void)handle;
+    return subscriber_in(BOUND(NEXT_SUBSCRIBER, from), row);
+}
+
+uint8_t hlr_find(hlr *handle, uint64_t number, uint64_t *s_id) {
+    (void)handle;
+    sqlite3_stmt *bearer = BOUND(BEARER, number);
+    if (!is_row(bearer)) return HLR_NO_NUMBER;
+    *s_id = number_in(bearer, 0);
+    return HLR_DONE;
+}
+
+uint8_t hlr_facility_data(hlr *handle, uint64_t s_id, uint64_t sf_type, hlr_facility *row) {
+    (void)handle;
+    sqlite3_stmt *get = BOUND(GET_FACILITY, s_id, sf_type);
+    if (!is_row(get)) return HLR_NO_FACILITY;
+    row->s_id = s_id, row->sf_type = sf_type, row->is_active = number_in(get, 0);
+    row->error_cntrl = number_in(get, 1), row->data_a = number_in(get, 2);
+    bytes_in(get, 3, row->data_b, 5);
+    return HLR_DONE;
+}
+
+uint8_t hlr_forwarding(hlr *handle, uint64_t s_id, uint64_t sf_type, uint64_t start, uint64_t *end, uint64_t *numberx) {
+    (void)handle;
+    sqlite3_stmt *get = BOUND(GET_FORWARDING, s_id, sf_type, start);
+    if (!is_row(get)) return HLR_NO_FORWARDING;
+    *end = number_in(get, 0), *numberx = number_in(get, 1);
     return HLR_DONE;
 }
 
