@@ -1,5 +1,5 @@
 -- The local law, from the opening of a holding through its actions and postings.
-use Rattle.std.proofs.Common.{◌≡◌, ℕ, ◌+◌, ◌-◌, ◌^◌, ◌<◌, ◌≤◌, ◌==◌, refl, arith, List, length, set, get_or, ◌∙◌, inl, inr, nat_lt, true, false}
+use Rattle.std.proofs.Common.{◌≡◌, ℕ, ◌+◌, ◌-◌, ◌^◌, ◌<◌, ◌≤◌, ◌==◌, refl, arith, List, length, set, get_or, subst, ◌∙◌, inl, inr, nat_lt, true, false}
 use Rattle.std.specs.Prelude.{ℤ, pos, neg_ℤ, ◌-ℤ◌, ◌≤ℤ◌}
 use Rattle.std.proofs.lemmas.Bool.{cases_lt}
 use Rattle.std.proofs.lemmas.Bool.Decides.{nat_tests}
@@ -7,6 +7,7 @@ use Rattle.std.proofs.lemmas.Int.{ints}
 use Rattle.std.proofs.lemmas.List.{get_or-set_same, get_or-set_other, get_or_past, length-set}
 use Rattle.tatp_rows.proofs.OrderedLemmas.{by_test}
 use Rattle.tatp_actions.specs.Book.{empty_book}
+use Rattle.tatp_actions.specs.Change.{IsChange}
 use Rattle.tatp_actions.specs.Cell.{cell, active_forwardings, in_area, in_zone}
 use Rattle.tatp_actions.specs.Part.{PartState, IsPart}
 use Rattle.tatp_actions.proofs.CountLemmas.{few_cells}
@@ -17,7 +18,7 @@ use Rattle.view_board.specs.Views.{IsLeastSlot, IsWide, OwnsAlone, posted}
 use Rattle.view_board.specs.Words.{slot_net, word_of}
 use Rattle.view_board.proofs.OwnLemmas.{net_alone}
 use Rattle.view_board.specs.declared.rule.View.{View}
-use Rattle.view_delta.specs.Pending.{pending_at}
+use Rattle.view_delta.specs.Pending.{pending_at, NotesFit}
 use Rattle.holding.specs.Held.{HoldingState, IsHolding, HasSmallNets, count_of}
 
 -- an empty book has no count
@@ -62,6 +63,19 @@ pending_small holding is c below =
     let low = (is.small c below).0 in
     let high = (is.small c below).1 in
     let most = few holding.part is.rules c in
+    (omega (arith, ints), omega (arith, ints))
+
+-- an action's change fits what is pending
+pub change_fits : (holding : HoldingState) (after : PartState) (notes : List (ℕ × ℤ)) → IsHolding holding → IsPart after → after.width ≡ holding.part.width → IsChange holding.part.width holding.part.book after.book notes → NotesFit holding.pending notes
+change_fits holding after notes is rules width change c below =
+    let before = pending_small holding is c below in
+    let low = before.0 in
+    let high = before.1 in
+    let law = is.law c below in
+    let least = (is.small c below).0 in
+    let greatest = (is.small c below).1 in
+    let moved = change c below in
+    let most : cell holding.part.width c after.book ≤ 2 ^ 40 = subst (λ w. cell w c after.book ≤ 2 ^ 40) width (few after rules c) in
     (omega (arith, ints), omega (arith, ints))
 
 -- a delta that was cleared

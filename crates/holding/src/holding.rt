@@ -98,8 +98,6 @@ impl<R: Rows> Holding<R> {
         ensures after { IsHolding self.new }
     {
         let (reply, change) = self.part.act(action);
-        // Opens the change for the prover: its notes are few and small.
-        let _notes = change.notes();
         self.pending.note(&change);
         reply
     }
@@ -117,8 +115,6 @@ impl<R: Rows> Holding<R> {
         ensures after { IsHolding self.new }
     {
         let moved = edit.make(&mut self.part)?;
-        // Opens the change for the prover: its notes are few and small.
-        let _notes = moved.notes();
         self.pending.note(&moved);
         Ok(())
     }

@@ -241,15 +241,18 @@ module _ {V : Type 0} where
         len,
       )
 
-  -- the same of a value in an Option
+  -- a leaf after the row in an Option went in
+  abbrev pub IsPut : ℕ → Option V → Leaf V → Leaf V → Type 0
+  IsPut key o leaf new = (IsLeaf new) × (IfSome o (λ v. IsGrown key v (seen_leaf leaf) (seen_leaf new)))
+
   pub leaf_put : (key i : ℕ) (o : Option V) (leaf new : Leaf V) → IsLeaf leaf → IsFree key i leaf → length leaf.keys ≡ 32 → length leaf.values.items < 32 → key < key_limit → IsSome o → new.keys ≡ insert (take 31 leaf.keys) i key → new.values.items ≡ insert leaf.values.items i o
-      → (IsLeaf new) × (IfSome o (λ v. IsGrown key v (seen_leaf leaf) (seen_leaf new)))
+      → IsPut key o leaf new
   leaf_put key i None leaf new h free long room small some ek ev = let wrong : ⊥ = cc in absurd wrong
   leaf_put key i (Some value) leaf new h free long room small some ek ev = leaf_inserted key i value leaf new h free long room small ek ev
 
   -- the same where the entry went behind the others
   pub leaf_pushed : (key i : ℕ) (o : Option V) (leaf new : Leaf V) → IsLeaf leaf → IsFree key i leaf → length leaf.keys ≡ 32 → length leaf.values.items < 32 → key < key_limit → IsSome o → i ≡ length leaf.values.items → new.keys ≡ set leaf.keys i key → new.values.items ≡ leaf.values.items ++ (o ∷ [])
-      → (IsLeaf new) × (IfSome o (λ v. IsGrown key v (seen_leaf leaf) (seen_leaf new)))
+      → IsPut key o leaf new
   leaf_pushed key i o leaf new h free long room small some e ek ev =
       let keys : new.keys ≡ insert (take 31 leaf.keys) i key = ek ∙ put_behind i key 31 leaf.keys (omega (arith, long)) (omega (arith, e, room)) (subst (λ n. IsPadded n leaf.keys) (sym e) h.run.padded) in
       let items : new.values.items ≡ insert leaf.values.items i o = ev ∙ sym (insert_end leaf.values.items o) ∙ ap (λ j. insert leaf.values.items j o) (sym e) in

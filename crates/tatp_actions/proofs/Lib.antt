@@ -10,6 +10,7 @@ pub mod DestinationLemmas
 pub mod BookLemmas
 pub mod CellLemmas
 pub mod ChangeLemmas
+pub mod DeltaLemmas
 pub mod HourLemmas
 pub mod TableLemmas
 pub mod CounterLemmas

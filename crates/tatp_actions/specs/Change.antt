@@ -1,5 +1,5 @@
 -- The change of an action: by how much each cell rises or falls.
-use Rattle.std.specs.Prelude.{◌≡◌, ◌≢◌, ℕ, ◌<◌, ◌==◌, ⊤, List, [], ◌∷◌, ℤ, pos, negsuc, ◌+ℤ◌, ◌≤ℤ◌, if◌then◌else◌}
+use Rattle.std.specs.Prelude.{◌≡◌, ◌≢◌, ℕ, zero, suc, ◌+◌, ◌<◌, ◌==◌, ⊤, Bool, false, List, [], ◌∷◌, ◌++◌, ℤ, pos, negsuc, ◌+ℤ◌, ◌≤ℤ◌, if◌then◌else◌}
 use Rattle.std.specs.List.{AllByRecursion}
 use Rattle.tatp_actions.specs.Book.{Book}
 use Rattle.tatp_actions.specs.Cell.{cell}
@@ -13,6 +13,20 @@ IsNote note = (note.0 < CELLS) × (negsuc 7 ≤ℤ note.1) × (note.1 ≤ℤ pos
 abbrev pub NoteEachOnce : List (ℕ × ℤ) → Type 0
 NoteEachOnce [] = ⊤
 NoteEachOnce (note ∷ notes) = AllByRecursion (λ other. other.0 ≢ note.0) notes × NoteEachOnce notes
+
+-- an amount is 0
+abbrev pub is_still : ℤ → Bool
+is_still (pos n) = n == 0
+is_still (negsuc n) = false
+
+-- the note of a cell, unless its amount is 0
+abbrev pub note_of : ℕ → ℤ → List (ℕ × ℤ)
+note_of cell amount = if is_still amount then [] else (cell, amount) ∷ []
+
+-- the notes of so many hours from one on, each by its amount
+unfoldable pub hour_notes : (ℕ → ℤ) → ℕ → ℕ → List (ℕ × ℤ)
+hour_notes amount zero hour = []
+hour_notes amount (suc n) hour = note_of hour (amount hour) ++ hour_notes amount n (hour + 1)
 
 -- by how much the notes move a cell in all
 abbrev pub change_at : List (ℕ × ℤ) → ℕ → ℤ

@@ -1,5 +1,5 @@
 -- What calls inside the crate promise: no clause of a public call cites these.
-use Rattle.std.specs.Prelude.{◌≡◌, ℕ, ◌+◌, ◌<◌, ◌≤◌, ◌==◌, ◌&&◌, nat_le, nat_lt, Bool, true, false, List, [], ◌∷◌, length, Option, Some, None, option_map, ℤ, pos, negsuc, neg_ℤ, ◌+ℤ◌, Result, Ok, Err, if◌then◌else◌}
+use Rattle.std.specs.Prelude.{◌≡◌, ◌≢◌, ◌⊎◌, ℕ, ◌+◌, ◌<◌, ◌≤◌, ◌==◌, ◌&&◌, nat_le, nat_lt, Bool, true, false, List, [], ◌∷◌, ◌++◌, length, Option, Some, None, option_map, ℤ, pos, negsuc, neg_ℤ, ◌+ℤ◌, ◌≤ℤ◌, Result, Ok, Err, if◌then◌else◌}
 use Rattle.std.specs.List.{AllByRecursion}
 use Rattle.std.specs.Option.{option_map_or, unwrap_or}
 use Rattle.tatp_rows.specs.Rows.{SubscriberRow, SpecialFacilityRow, CallForwardingRow, subscriber_in_range, facility_in_range}
@@ -8,11 +8,13 @@ use Rattle.tatp_rows.specs.declared.refusal.Refusal.TheVariants as refusal
 use Rattle.tatp_actions.specs.Action.{takes_call}
 use Rattle.tatp_actions.specs.Book.{Book, subscriber_at, facility_at, put_subscriber, put_facility}
 use Rattle.tatp_actions.specs.Cell.{covers}
-use Rattle.tatp_actions.specs.Change.{change_at}
+use Rattle.tatp_actions.specs.Change.{change_at, hour_notes, note_of}
 use Rattle.tatp_actions.specs.Heights.{Heights}
 use Rattle.tatp_actions.specs.Part.{PartState}
 use Rattle.tatp_actions.specs.Tables.{once_more}
-use Rattle.tatp_actions.specs.declared.cells.TheConstants.{FIRST_AREA, FIRST_ZONE}
+use Rattle.tatp_actions.specs.declared.cells.TheConstants.{CELLS, FIRST_AREA, FIRST_ZONE}
+use Rattle.tatp_actions.specs.declared.change.Change.TheInside as Change
+use Rattle.tatp_actions.specs.declared.change.Note.{Note}
 use Rattle.tatp_actions.specs.declared.change.Spans.{Spans}
 
 -- the number of a forwarding that was found, where it takes the call
@@ -91,13 +93,32 @@ covering spans hour = in_span 0 spans.from_0 hour + in_span 8 spans.from_8 hour 
 abbrev pub AreSpans : Spans → Type 0
 AreSpans spans = (spans.from_0 ≤ FIRST_AREA) × (spans.from_8 ≤ FIRST_AREA) × (spans.from_16 ≤ FIRST_AREA)
 
--- until when a forwarding that was found runs: 0 where there is none
-abbrev pub until : Option CallForwardingRow → ℕ
-until found = option_map_or (λ row. row.end_time) found 0
-
 -- by how much an hour moves where a facility's forwardings come or go: by how many of them cover it
 abbrev pub span_steps : Bool → Spans → ℕ → ℤ
 span_steps up spans hour = steps up (covering spans hour)
+
+-- a cell behind those of hours, which moves by one at most
+pub record IsCellNote (note : Note) : Type 0 where
+  pub high : FIRST_AREA ≤ note.cell
+  pub within : note.cell < CELLS
+  pub least : negsuc 0 ≤ℤ note.amount
+  pub most : note.amount ≤ℤ pos 1
+
+-- a change in its few bytes: where hours move the first cell doesn't, and the cells are two
+pub record IsCompact (change : Change.Inside) : Type 0 where
+  pub ends : AreSpans change.hours
+  pub first : IsCellNote change.first
+  pub second : IsCellNote change.second
+  pub two : change.first.cell ≢ change.second.cell
+  pub few : (change.first.amount ≡ pos 0) ⊎ ((hour : ℕ) → covering change.hours hour ≡ 0)
+
+-- its notes: those of hours, then those of the two cells
+abbrev pub notes_in : Change.Inside → List (ℕ × ℤ)
+notes_in change = hour_notes (span_steps change.up change.hours) FIRST_AREA 0 ++ (note_of change.first.cell change.first.amount ++ note_of change.second.cell change.second.amount)
+
+-- until when a forwarding that was found runs: 0 where there is none
+abbrev pub until : Option CallForwardingRow → ℕ
+until found = option_map_or (λ row. row.end_time) found 0
 
 -- and where one forwarding does, whose facility is active or not
 abbrev pub row_steps : Bool → Bool → CallForwardingRow → ℕ → ℤ

@@ -1,12 +1,14 @@
 //! By how much an action moves the cells.
-ghost use Rattle.std.specs.Prelude.{◌≡◌, ◌≢◌, ℕ, ◌+◌, ◌<◌, ◌≤◌, max, true, List, [], ◌∷◌, ◌++◌, length, ℤ, pos, negsuc, ◌≤ℤ◌, if◌then◌else◌, ◌==◌};
+ghost use Rattle.std.specs.Prelude.{◌≡◌, ◌≢◌, ℕ, ◌+◌, ◌-◌, ◌<◌, ◌≤◌, true, List, [], ◌∷◌, ◌++◌, length, ℤ, pos, negsuc, ◌+ℤ◌, ◌≤ℤ◌, slice_index_or, slice_set, if◌then◌else◌};
+ghost use Rattle.std.specs.Int.RustNames.{FitsSigned};
 ghost use Rattle.std.specs.List.{AllByRecursion};
+ghost use mir.Syntax.{w64};
 ghost use Rattle.tatp_rows.specs.Zones.{area_of};
-ghost use Rattle.tatp_actions.specs.Change.{IsNote, NoteEachOnce};
-ghost use Rattle.tatp_actions.specs.Inside.{area_moved, subscriber_added, steps, row_moved, in_span, covering, span_steps, row_steps, AreSpans, AreHours, AreForwardingNotes};
-ghost use Rattle.tatp_actions.specs.declared.cells.TheConstants.{FIRST_AREA};
+ghost use Rattle.tatp_actions.specs.Change.{IsNote, NoteEachOnce, change_at, hour_notes, note_of};
+ghost use Rattle.tatp_actions.specs.Inside.{area_moved, subscriber_added, steps, row_moved, in_span, covering, span_steps, row_steps, AreSpans, AreHours, AreForwardingNotes, IsCellNote};
+ghost use Rattle.tatp_actions.specs.declared.cells.TheConstants.{CELLS, FIRST_AREA, FIRST_ZONE};
 
-use crate::cells::{FIRST_AREA, FIRST_ZONE};
+use crate::cells::{CELLS, FIRST_AREA, FIRST_ZONE};
 use arrayvec::ArrayVec;
 use std::marker::Model;
 use tatp_rows::{Forwarding, area};
@@ -27,7 +29,7 @@ fn steps(up: bool, count: u8) -> i8
 }
 
 /// Until when those forwardings of a facility run that start at 0, at 8 and at 16; 0 where there is none.
-#[derive(Clone, Copy)]
+#[derive(Clone, Copy, Debug)]
 pub(crate) struct Spans {
     pub(crate) from_0: u8,
     pub(crate) from_8: u8,
@@ -76,67 +78,190 @@ impl Spans {
     }
 }
 
-/// By how much an action moves the cells: at most `NOTES` notes, each a cell and its amount, and no cell twice.
+/// A cell, and by how much it moves: 0 where it doesn't.
+#[derive(Clone, Copy, Debug)]
+struct Note {
+    cell: u8,
+    amount: i8,
+}
+
+/// By how much an action moves the cells, seen as its notes: each a cell and its amount, at most `NOTES`, and no cell twice.
 #[derive(Debug, Drop)]
 pub struct Change {
-    notes: ArrayVec<(u8, i8), NOTES>,
+    up: bool,
+    hours: Spans,
+    first: Note,
+    second: Note,
 }
 
 impl Model for Change {
-    ghost use Rattle.std.specs.Prelude.{ℕ, ◌≤◌, List, length, ℤ};
-    ghost use Rattle.std.specs.List.{AllByRecursion};
-    ghost use Rattle.tatp_actions.specs.Change.{IsNote, NoteEachOnce};
-    ghost use Rattle.tatp_actions.specs.declared.change.TheConstants.{NOTES};
+    ghost use Rattle.std.specs.Prelude.{ℕ, List, ℤ};
+    ghost use Rattle.tatp_actions.specs.Inside.{IsCompact, notes_in};
 
     ghost Value = { List (ℕ × ℤ) };
 
-    ghost view = { λ c. c.notes.items };
+    ghost view = { λ c. notes_in c };
 
-    ghost invariant = { λ c. (length c.notes.items ≤ NOTES) × AllByRecursion IsNote c.notes.items × NoteEachOnce c.notes.items };
+    ghost invariant = { λ c. IsCompact c };
+}
+
+/// Puts a note of a cell behind others, unless its amount is 0.
+fn push_note(notes: &mut ArrayVec<(u8, i8), NOTES>, cell: u8, amount: i8)
+    requires { amount ≢ pos 0 → length notes.old.items < NOTES }
+    ensures { notes.new.items ≡ notes.old.items ++ note_of cell amount }
+{
+    if amount != 0 {
+        notes.push((cell, amount));
+    }
+}
+
+/// Moves the deltas of the hours from one on up to another by one each, up or down.
+fn add_span(deltas: &mut [i64; CELLS as usize], up: bool, from: u8, to: u8)
+    requires to { to ≤ FIRST_AREA }
+    requires fit { (c : ℕ) → c < CELLS → FitsSigned w64 (slice_index_or deltas.old c (pos 0)) }
+    requires fits { (c : ℕ) → c < CELLS → FitsSigned w64 (slice_index_or deltas.old c (pos 0) +ℤ steps up (in_span from to c)) }
+    ensures { (c : ℕ) → c < CELLS → slice_index_or deltas.new c (pos 0) ≡ slice_index_or deltas.old c (pos 0) +ℤ steps up (in_span from to c) }
+{
+    let step = i64::from(steps(up, 1));
+    for hour in from..to {
+        deltas[usize::from(hour)] += step;
+    }
+}
+
+/// Moves the delta of a cell by its amount.
+fn add_note(deltas: &mut [i64; CELLS as usize], note: Note)
+    requires cell { note.cell < CELLS }
+    requires fits { FitsSigned w64 (slice_index_or deltas.old note.cell (pos 0) +ℤ note.amount) }
+    ensures { deltas.new ≡ slice_set deltas.old note.cell (slice_index_or deltas.old note.cell (pos 0) +ℤ note.amount) }
+{
+    deltas[usize::from(note.cell)] += i64::from(note.amount);
+}
+
+/// The hours that a forwarding covers whose facility is active, and none where it isn't.
+fn row_spans(active: bool, row: &Forwarding) -> Spans
+    ensures ends { AreSpans result }
+    ensures covering { (hour : ℕ) → covering result hour ≡ (if active then in_span row.now.start_time row.now.end_time hour else 0) }
+{
+    if active {
+        return Spans::of(row);
+    }
+    Spans {
+        from_0: 0,
+        from_8: 0,
+        from_16: 0,
+    }
+}
+
+/// An area that doesn't move.
+fn no_area() -> Note
+    ensures { result ≡ record { cell = FIRST_AREA; amount = pos 0 } }
+{
+    Note {
+        cell: FIRST_AREA,
+        amount: 0,
+    }
+}
+
+/// A zone that moves by an amount.
+fn zone_note(zone: u8, amount: i8) -> Note
+    requires { zone < 32 }
+    ensures { result ≡ record { cell = FIRST_ZONE + zone; amount = amount } }
+{
+    Note {
+        cell: FIRST_ZONE + zone,
+        amount,
+    }
 }
 
 impl Change {
+    /// The change of two cells.
+    fn of_notes(first: Note, second: Note) -> Self
+        requires first { IsCellNote first }
+        requires second { IsCellNote second }
+        requires two { first.cell ≢ second.cell }
+        ensures { result ≡ note_of first.cell first.amount ++ note_of second.cell second.amount }
+    {
+        Change {
+            up: true,
+            hours: Spans {
+                from_0: 0,
+                from_8: 0,
+                from_16: 0,
+            },
+            first,
+            second,
+        }
+    }
+
+    /// The change of the hours that forwardings cover, and of a zone.
+    fn of_hours(up: bool, hours: Spans, zone: Note) -> Self
+        requires ends { AreSpans hours }
+        requires zone { IsCellNote zone }
+        requires two { FIRST_AREA < zone.cell }
+        ensures { result ≡ hour_notes (span_steps up hours) FIRST_AREA 0 ++ note_of zone.cell zone.amount }
+    {
+        Change {
+            up,
+            hours,
+            first: no_area(),
+            second: zone,
+        }
+    }
+
     /// The change that moves no cell.
     pub fn none() -> Self
         ensures { result ≡ [] }
     {
-        Change {
-            notes: ArrayVec::new(),
-        }
+        Change::of_notes(no_area(), zone_note(0, 0))
     }
 
     /// The notes, each a cell and by how much it moves.
-    pub fn notes(&self) -> &[(u8, i8)]
-        ensures value { result.now ≡ self.now }
-        ensures few { length result.now ≤ NOTES }
-        ensures small { AllByRecursion IsNote result.now }
-        ensures once { NoteEachOnce result.now }
+    pub fn notes(&self) -> ArrayVec<(u8, i8), NOTES>
+        ensures value { result.items ≡ self.now }
+        ensures few { length self.now ≤ NOTES }
+        ensures small { AllByRecursion IsNote self.now }
+        ensures once { NoteEachOnce self.now }
     {
-        self.notes.as_slice()
+        let mut notes = ArrayVec::new();
+        for hour in 0..FIRST_AREA {
+            push_note(&mut notes, hour, steps(self.up, self.hours.covering(hour)));
+        }
+        push_note(&mut notes, self.first.cell, self.first.amount);
+        push_note(&mut notes, self.second.cell, self.second.amount);
+        notes
     }
 
-    /// Notes that a cell moves by an amount, which none of the notes names yet.
-    fn note(&mut self, cell: u8, amount: i8)
-        requires room { length self.old < NOTES }
-        requires note { IsNote (cell, amount) }
-        requires new { AllByRecursion (λ other. other.0 ≢ cell) self.old }
-        ensures { self.new ≡ self.old ++ (cell, amount) ∷ [] }
+    /// Moves each cell's delta by its amount.
+    pub fn add_to(&self, deltas: &mut [i64; CELLS as usize])
+        requires fit { (c : ℕ) → c < CELLS → FitsSigned w64 (slice_index_or deltas.old c (pos 0)) }
+        requires fits { (c : ℕ) → c < CELLS → FitsSigned w64 (slice_index_or deltas.old c (pos 0) +ℤ change_at self.now c) }
+        ensures { (c : ℕ) → c < CELLS → slice_index_or deltas.new c (pos 0) ≡ slice_index_or deltas.old c (pos 0) +ℤ change_at self.now c }
     {
-        self.notes.push((cell, amount));
+        add_span(deltas, self.up, 0, self.hours.from_0);
+        add_span(deltas, self.up, 8, self.hours.from_8);
+        add_span(deltas, self.up, 16, self.hours.from_16);
+        add_note(deltas, self.first);
+        add_note(deltas, self.second);
     }
 
     /// The change where a subscriber moves from one location to another: none within an area.
     pub(crate) fn location_moved(from: u32, to: u32) -> Self
         ensures { result ≡ area_moved (area_of from) (area_of to) }
     {
-        let mut change = Change::none();
         let old = area(from);
         let new = area(to);
-        if old != new {
-            change.note(FIRST_AREA + old, -1);
-            change.note(FIRST_AREA + new, 1);
+        if old == new {
+            return Change::none();
         }
-        change
+        let left = Note {
+            cell: FIRST_AREA + old,
+            amount: -1,
+        };
+        let entered = Note {
+            cell: FIRST_AREA + new,
+            amount: 1,
+        };
+        Change::of_notes(left, entered)
     }
 
     /// The change where a subscriber is added at a location, in a zone.
@@ -144,10 +269,11 @@ impl Change {
         requires { zone < 32 }
         ensures { result ≡ subscriber_added (area_of vlr_location) zone }
     {
-        let mut change = Change::none();
-        change.note(FIRST_AREA + area(vlr_location), 1);
-        change.note(FIRST_ZONE + zone, 1);
-        change
+        let entered = Note {
+            cell: FIRST_AREA + area(vlr_location),
+            amount: 1,
+        };
+        Change::of_notes(entered, zone_note(zone, 1))
     }
 
     /// The change where a row of another table than Subscriber comes into a zone.
@@ -155,21 +281,7 @@ impl Change {
         requires { zone < 32 }
         ensures { result ≡ row_moved true zone }
     {
-        let mut change = Change::none();
-        change.note(FIRST_ZONE + zone, 1);
-        change
-    }
-
-    /// Notes each hour from one on up to another, all of which are covered, by how many forwardings cover it.
-    fn note_hours(&mut self, up: bool, spans: &Spans, from: u8, to: u8)
-        requires to { to ≤ FIRST_AREA }
-        requires covered { (hour : ℕ) → from ≤ hour → hour < to → 0 < covering spans.now hour }
-        requires so_far { AreHours (span_steps up spans.now) from self.old }
-        ensures { AreHours (span_steps up spans.now) (max from to) self.new }
-    {
-        for hour in from..to {
-            self.note(hour, steps(up, spans.covering(hour)));
-        }
+        Change::of_notes(no_area(), zone_note(zone, 1))
     }
 
     /// The change of the hours where forwardings of an active facility come or go: each that they cover moves by how
@@ -178,23 +290,7 @@ impl Change {
         requires { AreSpans spans.now }
         ensures { AreHours (span_steps up spans.now) FIRST_AREA result }
     {
-        let mut change = Change::none();
-        let second = spans.from_0.max(8);
-        let third = second.max(spans.from_8).max(16);
-        change.note_hours(up, spans, 0, spans.from_0);
-        change.note_hours(up, spans, second, spans.from_8);
-        change.note_hours(up, spans, third, spans.from_16);
-        change
-    }
-
-    /// The change of the hours where a forwarding comes or goes: none where its facility isn't active.
-    fn row_hours_moved(up: bool, active: bool, row: &Forwarding) -> Self
-        ensures { AreHours (row_steps up active row.now) FIRST_AREA result }
-    {
-        if !active {
-            return Change::none();
-        }
-        Change::hours_moved(up, &Spans::of(row))
+        Change::of_hours(up, *spans, zone_note(0, 0))
     }
 
     /// The change where a forwarding comes or goes, whose facility is active or not.
@@ -202,8 +298,6 @@ impl Change {
         requires { zone < 32 }
         ensures { AreForwardingNotes up active row.now zone result }
     {
-        let mut change = Change::row_hours_moved(up, active, row);
-        change.note(FIRST_ZONE + zone, steps(up, 1));
-        change
+        Change::of_hours(up, row_spans(active, row), zone_note(zone, steps(up, 1)))
     }
 }

@@ -65,11 +65,11 @@ pub(crate) fn expect_turn(
     let (reply, change, asked) = act_on_trees(rt, part, plain, action);
     let (plain_reply, plain_change, plain_asked) = act_at_last(rt, plain, action);
     assert_eq!(rt;
-        (action, &reply, change.notes(), asked <= plain_asked),
-        (action, &plain_reply, plain_change.notes(), true)
+        (action, &reply, change.notes().as_slice(), asked <= plain_asked),
+        (action, &plain_reply, plain_change.notes().as_slice(), true)
     );
     expect_same_rows(rt, part, plain, action.s_id());
-    tally.note(rt, action, &reply, change.notes());
+    tally.note(rt, action, &reply, change.notes().as_slice());
 }
 
 /// Asserts the same of so many actions that are drawn from a seed on, and answers the last one's seed.

@@ -39,7 +39,7 @@ fn expect<R: Rows>(
 ) {
     let (answer, change, asked) = act(rt, part, action);
     assert_eq!(rt;
-        (action, &answer, change.notes(), asked <= 8),
+        (action, &answer, change.notes().as_slice(), asked <= 8),
         (action, &reply, notes, true)
     );
 }
@@ -59,7 +59,7 @@ fn is_added(rt: &impl Abort, part: &mut Part, row: Subscriber, notes: &[(u8, i8)
     let refused = reply == RowReply::Refused(Refusal::Memory);
     let known = refused || reply == RowReply::Done;
     let wanted = if refused { &[] } else { notes };
-    assert_eq!(rt; (known, change.notes()), (true, wanted));
+    assert_eq!(rt; (known, change.notes().as_slice()), (true, wanted));
     !refused
 }
 

@@ -1,5 +1,5 @@
 -- What an owner has not posted yet: a delta for each cell, and the sums that fit 64 bits.
-use Rattle.std.specs.Prelude.{◌≡◌, ◌≢◌, ℕ, ◌<◌, ◌≤◌, ◌==◌, Bool, false, List, length, take, Option, Some, None, ℤ, pos, negsuc, ◌+ℤ◌, ◌-ℤ◌, slice_index, slice_index_or}
+use Rattle.std.specs.Prelude.{◌≡◌, ◌≢◌, ℕ, ◌<◌, ◌≤◌, ◌==◌, Bool, false, List, Option, Some, None, ℤ, pos, negsuc, ◌+ℤ◌, ◌-ℤ◌, slice_index, slice_index_or}
 use Rattle.std.specs.Int.RustNames.{FitsSigned}
 use mir.Syntax.{w64}
 use Rattle.tatp_actions.specs.Change.{change_at}
@@ -14,10 +14,9 @@ abbrev pub is_zero : ℤ → Bool
 is_zero (pos n) = n == 0
 is_zero (negsuc n) = false
 
--- each sum fits where the notes of a change are taken in one after another
+-- each delta fits, and so does its sum with what a change moves it by
 abbrev pub NotesFit : List ℤ → List (ℕ × ℤ) → Type 0
-NotesFit pending notes =
-    (i c : ℕ) → i ≤ length notes → c < CELLS → FitsSigned w64 (pending_at pending c +ℤ change_at (take i notes) c)
+NotesFit pending notes = (c : ℕ) → c < CELLS → FitsSigned w64 (pending_at pending c) × FitsSigned w64 (pending_at pending c +ℤ change_at notes c)
 
 -- each sum of a delta and a count fits
 abbrev pub SumsFit : List ℤ → List ℕ → Type 0

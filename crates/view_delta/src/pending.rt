@@ -84,15 +84,12 @@ impl Pending {
         None
     }
 
-    /// Moves each cell's delta as a change says. Its notes are taken in one after another, and each sum on the way has
-    /// to fit 64 bits.
+    /// Moves each cell's delta as a change says. Each sum has to fit 64 bits.
     pub fn note(&mut self, change: &Change)
         requires { NotesFit self.old change.now }
         ensures { (c : ℕ) → c < CELLS → pending_at self.new c ≡ pending_at self.old c +ℤ change_at change.now c }
     {
-        for (cell, amount) in change.notes() {
-            self.deltas[usize::from(*cell)] += i64::from(*amount);
-        }
+        change.add_to(&mut self.deltas);
     }
 
     /// Raises each cell's delta by its count; each sum has to fit 64 bits.

@@ -1,32 +1,33 @@
-use Rattle.std.proofs.Common.{rules, ◌≡◌, length, [], ◌∷◌, ◌++◌, refl, ap, ◌∙◌}
+use Rattle.std.proofs.Common.{rules, ◌≡◌, length, set, [], ◌∷◌, ◌++◌, refl, ap, ◌∙◌}
 use Rattle.std.specs.List.{insert}
-use Rattle.mr_node.proofs.EntryLemmas.{leaf_put, leaf_pushed}
+use Rattle.mr_node.proofs.EntryLemmas.{IsPut, leaf_put, leaf_pushed}
 use Rattle.mr_node.proofs.entries.put_entry.Goals as goal
+use Rattle.mr_node.proofs.entries.put_entry.Goals.{After-insert, After-push}
+
+-- the row went in between others
+inserted : (g : _) (c : After-insert g) → IsPut c.args.key c.args.value.now c.args.leaf.now (record { keys = c.put_key.new.keys; values = c.insert.new.self })
+inserted g c =
+    let leaf = c.args.leaf.now in
+    let long : length leaf.keys ≡ 32 = search rules in
+    let items : c.insert.new.self.items ≡ insert leaf.values.items c.args.place c.args.value.now = c.insert.ensures.items ∙ ap (insert leaf.values.items c.args.place) c.take-2.ensures.value in
+    leaf_put c.args.key c.args.place c.args.value.now leaf _ c.requires.leaf c.requires.free long c.requires.room c.requires.small c.requires.some c.put_key.ensures items
+
+-- and behind all others
+pushed : (g : _) (c : After-push g) → IsPut c.args.key c.args.value.now c.args.leaf.now (record { keys = set c.args.leaf.now.keys c.args.place c.args.key; values = c.push.new.self })
+pushed g c =
+    let leaf = c.args.leaf.now in
+    let long : length leaf.keys ≡ 32 = search rules in
+    let items : c.push.new.self.items ≡ leaf.values.items ++ (c.args.value.now ∷ []) = c.push.ensures.items ∙ ap (λ o. leaf.values.items ++ (o ∷ [])) c.take.ensures.value in
+    leaf_pushed c.args.key c.args.place c.args.value.now leaf _ c.requires.leaf c.requires.free long c.requires.room c.requires.small c.requires.some (c.if-place-len.true ∙ c.len.ensures.value) refl items
 
 pub returns-clause-leaf : goal.returns-clause-leaf
-returns-clause-leaf g c =
-    let leaf = c.args.leaf.now in
-    let long : length leaf.keys ≡ 32 = search rules in
-    let items : c.insert.new.self.items ≡ insert leaf.values.items c.args.place c.args.value.now = c.insert.ensures.items ∙ ap (insert leaf.values.items c.args.place) c.take-2.ensures.value in
-    (leaf_put c.args.key c.args.place c.args.value.now leaf _ c.requires.leaf c.requires.free long c.requires.room c.requires.small c.requires.some c.put_key.ensures items).0
+returns-clause-leaf g c = (inserted g c).0
 
 pub returns-clause-grown : goal.returns-clause-grown
-returns-clause-grown g c =
-    let leaf = c.args.leaf.now in
-    let long : length leaf.keys ≡ 32 = search rules in
-    let items : c.insert.new.self.items ≡ insert leaf.values.items c.args.place c.args.value.now = c.insert.ensures.items ∙ ap (insert leaf.values.items c.args.place) c.take-2.ensures.value in
-    (leaf_put c.args.key c.args.place c.args.value.now leaf _ c.requires.leaf c.requires.free long c.requires.room c.requires.small c.requires.some c.put_key.ensures items).1
+returns-clause-grown g c = (inserted g c).1
 
 pub returns-then-place-len-clause-leaf : goal.returns-then-place-len-clause-leaf
-returns-then-place-len-clause-leaf g c =
-    let leaf = c.args.leaf.now in
-    let long : length leaf.keys ≡ 32 = search rules in
-    let items : c.push.new.self.items ≡ leaf.values.items ++ (c.args.value.now ∷ []) = c.push.ensures.items ∙ ap (λ o. leaf.values.items ++ (o ∷ [])) c.take.ensures.value in
-    (leaf_pushed c.args.key c.args.place c.args.value.now leaf _ c.requires.leaf c.requires.free long c.requires.room c.requires.small c.requires.some (c.if-place-len.true ∙ c.len.ensures.value) refl items).0
+returns-then-place-len-clause-leaf g c = (pushed g c).0
 
 pub returns-then-place-len-clause-grown : goal.returns-then-place-len-clause-grown
-returns-then-place-len-clause-grown g c =
-    let leaf = c.args.leaf.now in
-    let long : length leaf.keys ≡ 32 = search rules in
-    let items : c.push.new.self.items ≡ leaf.values.items ++ (c.args.value.now ∷ []) = c.push.ensures.items ∙ ap (λ o. leaf.values.items ++ (o ∷ [])) c.take.ensures.value in
-    (leaf_pushed c.args.key c.args.place c.args.value.now leaf _ c.requires.leaf c.requires.free long c.requires.room c.requires.small c.requires.some (c.if-place-len.true ∙ c.len.ensures.value) refl items).1
+returns-then-place-len-clause-grown g c = (pushed g c).1

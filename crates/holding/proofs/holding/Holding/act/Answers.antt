@@ -3,13 +3,11 @@ use Rattle.std.proofs.lemmas.Int.{ints}
 use Rattle.tatp_actions.specs.Cell.{cell}
 use Rattle.view_board.specs.Nets.{net_of}
 use Rattle.view_delta.specs.Pending.{pending_at}
-use Rattle.view_delta.proofs.NoteLemmas.{notes_fit}
-use Rattle.holding.proofs.HeldLemmas.{pending_small}
+use Rattle.holding.proofs.HeldLemmas.{change_fits}
 use Rattle.holding.proofs.holding.Holding.act.Goals as goal
 
 pub note-requires : goal.note-requires
-note-requires g c =
-    rw (← c.notes-notes.ensures.value) (notes_fit c.self.inside.pending _ c.notes-notes.ensures.small c.notes-notes.ensures.few (pending_small _ c.self.invariant))
+note-requires g c = change_fits _ c.act-reply.new.self _ c.self.invariant c.act-reply.ensures.after c.act-reply.ensures.range.2 c.act-reply.ensures.change
 
 pub invariant_of-self : goal.invariant_of-self
 invariant_of-self g c = record {

@@ -1,5 +1,6 @@
-use Rattle.std.proofs.Common.{◌∙◌, arith, w8}
+use Rattle.std.proofs.Common.{◌∙◌, ap, arith, refl, w8}
 use Rattle.std.proofs.lemmas.Int.{ints, to_z-of_z}
+use Rattle.tatp_actions.specs.declared.change.Note.{Note}
 use Rattle.tatp_actions.proofs.HourLemmas.{with_zone}
 use Rattle.tatp_actions.proofs.change.Change.forwarding_moved.Goals as goal
 
@@ -7,4 +8,6 @@ pub returns : goal.returns
 returns c =
     let low = c.steps.ensures.low in
     let high = c.steps.ensures.high in
-    with_zone _ _ c.args.row.now _ _ _ _ c.row_hours_moved-change.ensures c.note.ensures (to_z-of_z w8 c.steps.result (omega (arith, ints)) ∙ c.steps.ensures.value)
+    let cell = ap (λ (note : Note). note.cell) c.zone_note.ensures in
+    let by = ap (λ (note : Note). note.amount) c.zone_note.ensures ∙ to_z-of_z w8 c.steps.result (omega (arith, ints)) ∙ c.steps.ensures.value in
+    with_zone c.args.up c.args.active c.args.row.now c.args.zone c.row_spans.result c.of_hours.result c.zone_note.result.amount c.row_spans.ensures.covering (c.of_hours.ensures ∙ rw cell refl) by
