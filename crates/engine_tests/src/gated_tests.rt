@@ -100,16 +100,18 @@ fn reads_wait_in_the_queue(rt: HostRuntime) {
     assert_eq!(rt; found, (true, false));
 }
 
-/// Asserts the replies to reads of two parts, where the worker of the first part is held up until that of the second one
-/// has done its second job and yielded so often.
+/// Asserts the replies to reads of parts with a subscriber each, where all workers but the last part's are held up until
+/// that one has done its second job and yielded so often.
 fn expect_second<R: Threads + Wait + Abort + Copy + Send + Sync + 'static>(
     rt: &R,
     alloc: Global,
+    subscribers: &[u64],
     s_ids: &[u64],
     pause: u32,
 ) {
-    let gate = Arc::new(alloc, Second::of(1, pause)).expect(rt, "a gate");
-    let mut engine = engine_over(rt, alloc, filled(rt, alloc, 2, &[1, 100]), &gate);
+    let parts = u8::try_from(subscribers.len()).expect(rt, "few parts");
+    let gate = Arc::new(alloc, Second::of(parts - 1, pause)).expect(rt, "a gate");
+    let mut engine = engine_over(rt, alloc, filled(rt, alloc, parts, subscribers), &gate);
     let replies = read_all(rt, &mut engine, s_ids);
     let (register, _none) = engine.close(rt);
     drop(register);
@@ -125,7 +127,7 @@ fn full_queue_holds_up_no_other_part(rt: HostRuntime) {
     for s_id in s_ids.iter_mut().skip(1).take(2) {
         *s_id = 100;
     }
-    expect_second(&rt, rt.alloc(), &s_ids, PAUSE);
+    expect_second(&rt, rt.alloc(), &[1, 100], &s_ids, PAUSE);
 }
 
 // The second job of the last part is held while both others are held up, each with more jobs than its queue takes: it
@@ -139,14 +141,7 @@ fn two_full_queues_hold_up_no_other_part(rt: HostRuntime) {
     for s_id in s_ids.iter_mut().take(2) {
         *s_id = 90;
     }
-    let gate = Arc::new(rt.alloc(), Second::of(2, PAUSE)).expect(&rt, "a gate");
-    let register = filled(&rt, rt.alloc(), 3, &[1, 50, 90]);
-    let mut engine = engine_over(&rt, rt.alloc(), register, &gate);
-    let replies = read_all(&rt, &mut engine, &s_ids);
-    let (register, _none) = engine.close(&rt);
-    drop(register);
-    let found = (are_rows(&rt, &replies, &s_ids), gate.gave_up());
-    assert_eq!(rt; found, (true, false));
+    expect_second(&rt, rt.alloc(), &[1, 50, 90], &s_ids, PAUSE);
 }
 
 /// A subscriber of each of three parts, and then twice that of the first one.
@@ -202,7 +197,7 @@ fn expect_recut_handed_on<R: Threads + Wait + Abort + Copy + Send + Sync + 'stat
 // Jobs that are held are pushed before the first part is waited for that is called home, also those of parts that aren't.
 #[test]
 fn held_jobs_go_out_before_a_join(rt: HostRuntime) {
-    expect_second(&rt, rt.alloc(), &[1, 100, 100], 0);
+    expect_second(&rt, rt.alloc(), &[1, 100], &[1, 100, 100], 0);
     expect_recut_handed_on(&rt, rt.alloc());
     let (s_id, sub_nbr) = (90, number(&rt, 5));
     expect_handed_on(&rt, rt.alloc(), Event::SetNumber { s_id, sub_nbr }, DONE);

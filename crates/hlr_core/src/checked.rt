@@ -1,4 +1,4 @@
-//! An event's plain numbers, checked, as the edit that it asks for.
+//! An event's plain numbers, checked: as the edit that it asks for, or as narrower numbers of a read.
 ghost use Rattle.std.specs.Prelude.{◌≡◌, ◌&&◌, ◌+◌, ℕ, Some, IfOk, OnErr, true, false, Option, option_map};
 ghost use Rattle.tatp_rows.specs.Rows.{between, is_between};
 ghost use Rattle.tatp_rows.specs.declared.ranges.TheConstants.{LAST_SUBSCRIBER};
@@ -35,9 +35,9 @@ fn location(value: u64) -> Result<NonZeroU32, Refusal>
     NonZeroU32::new(small).ok_or(Refusal::Field)
 }
 
-/// Checks the fields of a GET_NEW_DESTINATION, in their order: `Field` where s_id isn't in 1..=16,777,216, sf_type isn't
+/// Makes the narrower numbers of GET_NEW_DESTINATION: `Field` where s_id isn't in 1..=16,777,216, sf_type isn't
 /// in 1..=4, start_time isn't 0, 8 or 16, or end_time isn't in 1..=24.
-pub(crate) fn call(
+pub(crate) fn new_destination(
     s_id: u64,
     sf_type: u64,
     start_time: u64,

@@ -66,7 +66,7 @@ fn put_calls(
 {
     for place in 0..asked.len() {
         let (s_id, sf_type, start_time, end_time) = asked[place];
-        let Ok(call) = checked::call(s_id, sf_type, start_time, end_time) else {
+        let Ok(call) = checked::new_destination(s_id, sf_type, start_time, end_time) else {
             return false;
         };
         calls.push(call);

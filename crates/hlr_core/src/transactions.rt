@@ -68,7 +68,7 @@ impl Register {
         ensures refused { IfErr result (λ why. IsStep (event.NewDestination s_id sf_type start_time end_time) (store_in self.now) (reply.Refused why) (store_in self.now)) }
         ensures beside { MatchResult result (λ numbers. IsStepBeside (event.NewDestination s_id sf_type start_time end_time) self.now (reply.Rows (row_reply.Numbers numbers)) self.now) (λ why. IsStepBeside (event.NewDestination s_id sf_type start_time end_time) self.now (reply.Refused why) self.now) }
     {
-        let (s_id, sf_type, start_time, end_time) = checked::call(
+        let (s_id, sf_type, start_time, end_time) = checked::new_destination(
             s_id, sf_type, start_time, end_time,
         )?;
         self.seats.destinations(s_id, sf_type, start_time, end_time)

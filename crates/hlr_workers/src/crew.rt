@@ -124,6 +124,14 @@ fn pops_for(
     Ok(first)
 }
 
+/// The count of pops that all workers share, lent: none before a worker was started.
+fn lend_pops(pops: &Option<Arc<EventCount, Global>>) -> Option<&EventCount> {
+    match pops {
+        Some(pops) => Some(pops),
+        None => None,
+    }
+}
+
 /// Sends a job to the worker of a part.
 fn send_to<R: Wait>(
     rt: &R,
@@ -252,7 +260,7 @@ fn offer_or_doze<R: Wait>(
 fn offer_until<R: Wait>(
     rt: &R,
     workers: &mut ArrayVec<Option<Worker>, 16>,
-    pops: &Option<Arc<EventCount, Global>>,
+    pops: Option<&EventCount>,
     part: usize,
     most: usize,
 )
@@ -282,7 +290,7 @@ fn offer_until<R: Wait>(
 fn offer_before<R: Wait>(
     rt: &R,
     workers: &mut ArrayVec<Option<Worker>, 16>,
-    pops: &Option<Arc<EventCount, Global>>,
+    pops: Option<&EventCount>,
     part: usize,
 )
     requires { part < length workers.old.items }
@@ -297,7 +305,7 @@ fn offer_before<R: Wait>(
 fn hand_on_all<R: Wait>(
     rt: &R,
     workers: &mut ArrayVec<Option<Worker>, 16>,
-    pops: &Option<Arc<EventCount, Global>>,
+    pops: Option<&EventCount>,
 )
     ensures { workers.new.items ≡ workers.old.items }
 {
@@ -425,7 +433,7 @@ impl Crew {
         self.call_out(rt, alloc, gate, part)?;
         // For the prover: each region has its owner beside it.
         let _board = self.register.board();
-        offer_before(rt, &mut self.workers, &self.pops, usize::from(part));
+        offer_before(rt, &mut self.workers, lend_pops(&self.pops), usize::from(part));
         send_to(rt, &mut self.workers, part, number, task);
         Ok(())
     }
@@ -442,7 +450,7 @@ impl Crew {
         ensures { self.new ≡ self.old }
     {
         offer_all(&mut self.workers);
-        hand_on_all(rt, &mut self.workers, &self.pops);
+        hand_on_all(rt, &mut self.workers, lend_pops(&self.pops));
     }
 
     /// Tells the worker of a part to stop, if there is such a part, and it is out. It may wait.
