@@ -4,9 +4,9 @@ use Rattle.std.specs.Int.{abs_diff}
 use Rattle.mr_node.specs.Rows.{Seen}
 use Rattle.mr_node.specs.Steps.{after_steps}
 use Rattle.mr_cut.specs.Bounds.{join_steps}
-use Rattle.mr_cut.specs.Grafts.{MaybeNode, IsGrafted, more_of}
-use Rattle.mr_cut.specs.declared.grafts.Side.{Side}
-use Rattle.mr_cut.specs.Joins.{IsCrowned, IsCrownCount}
+use Rattle.mr_cut.specs.SideJoins.{MaybeNode, IsSideJoined, more_of}
+use Rattle.mr_cut.specs.declared.side_joins.Side.{Side}
+use Rattle.mr_cut.specs.Joins.{IsRooted, IsRootCount}
 use Rattle.mr_cut.proofs.JoinLemmas.{AreHigherFirst, both_height}
 
 -- the nodes are of one height
@@ -39,17 +39,17 @@ module _ {V : Type 0} where
   more_fits (Some y) = omega arith
 
   -- a level more over a neighbour at height k: it is opened, and what came of its child is put back
-  pub hung_count : (h k low stock mid less before opened below after : ℕ) (o : MaybeNode V) → k < h → low + 1 ≡ h → opened ≡ after_steps 1 before → mid ≤ stock → below ≡ after_steps (join_steps (low - k) (stock - mid) 0) opened → mid ≡ less + more_of o → after ≡ after_steps (1 + 5 * more_of o) below → after ≡ after_steps (join_steps (h - k) (stock - less) 0) before
-  hung_count h k low stock mid less before opened below after None lower level taken fewer count used hang = omega (arith, lower, level, taken, fewer, count, used, hang)
-  hung_count h k low stock mid less before opened below after (Some y) lower level taken fewer count used hang = omega (arith, lower, level, taken, fewer, count, used, hang)
+  pub inserted_count : (h k low stock mid less before opened below after : ℕ) (o : MaybeNode V) → k < h → low + 1 ≡ h → opened ≡ after_steps 1 before → mid ≤ stock → below ≡ after_steps (join_steps (low - k) (stock - mid) 0) opened → mid ≡ less + more_of o → after ≡ after_steps (1 + 5 * more_of o) below → after ≡ after_steps (join_steps (h - k) (stock - less) 0) before
+  inserted_count h k low stock mid less before opened below after None lower level taken fewer count used insert_child = omega (arith, lower, level, taken, fewer, count, used, insert_child)
+  inserted_count h k low stock mid less before opened below after (Some y) lower level taken fewer count used insert_child = omega (arith, lower, level, taken, fewer, count, used, insert_child)
 
   -- the root over what came of a node and its neighbour is a new one where that is two
-  crowned_count : (h w k : ℕ) (rows : List (ℕ × V)) (x z : Seen V) (o : MaybeNode V) (stock mid less before below after : ℕ) → IsGrafted h w k rows x o → IsCrowned x o z → mid ≤ stock → below ≡ after_steps (join_steps (h - k) (stock - mid) 0) before → mid ≡ less + more_of o → IsCrownCount o below after → after ≡ after_steps (join_steps (h - k) (stock - less) (z.height - h)) before
-  crowned_count h w k rows x z None stock mid less before below after grafted crown fewer count used same =
-      let level : z.height ≡ h = ap (λ s. s.height) crown ∙ grafted.level in
+  rooted_count : (h w k : ℕ) (rows : List (ℕ × V)) (x z : Seen V) (o : MaybeNode V) (stock mid less before below after : ℕ) → IsSideJoined h w k rows x o → IsRooted x o z → mid ≤ stock → below ≡ after_steps (join_steps (h - k) (stock - mid) 0) before → mid ≡ less + more_of o → IsRootCount o below after → after ≡ after_steps (join_steps (h - k) (stock - less) (z.height - h)) before
+  rooted_count h w k rows x z None stock mid less before below after side_joined root_of_both fewer count used same =
+      let level : z.height ≡ h = ap (λ s. s.height) root_of_both ∙ side_joined.level in
       omega (arith, level, fewer, count, used, same)
-  crowned_count h w k rows x z (Some y) stock mid less before below after grafted crown fewer count used built =
-      let level : z.height ≡ h + 1 = omega (arith, crown.1, grafted.first.level) in
+  rooted_count h w k rows x z (Some y) stock mid less before below after side_joined root_of_both fewer count used built =
+      let level : z.height ≡ h + 1 = omega (arith, root_of_both.1, side_joined.first.level) in
       omega (arith, level, fewer, count, used, built)
 
   -- the steps of a join, and their bounds
@@ -60,20 +60,20 @@ module _ {V : Type 0} where
 
   pub join_count : {s : Side} {a b node other : Seen V} (rows : List (ℕ × V)) (x z : Seen V) (o : MaybeNode V)
       (stock mid less before below after : ℕ) → AreHigherFirst s a b node other
-      → IsGrafted node.height node.width other.height rows x o → IsCrowned x o z
+      → IsSideJoined node.height node.width other.height rows x o → IsRooted x o z
       → stock ≤ mid + (node.height - other.height) → mid ≤ stock
       → below ≡ after_steps (join_steps (node.height - other.height) (stock - mid) 0) before → mid ≡ less + more_of o
-      → IsCrownCount o below after → IsJoinCount a b z (stock - less) before after
-  join_count {a = a} {b = b} {node = node} rows x z o stock mid less before below after first grafted crown bound fewer
+      → IsRootCount o below after → IsJoinCount a b z (stock - less) before after
+  join_count {a = a} {b = b} {node = node} rows x z o stock mid less before below after first side_joined root_of_both bound fewer
       count used built =
       let apart = abs_diff a.height b.height in
       let roots = z.height - max a.height b.height in
       let spent = stock - less in
       let grown = z.height - node.height in
-      let all = crowned_count _ _ _ _ _ z o _ _ _ _ _ _ grafted crown fewer count used built in
+      let all = rooted_count _ _ _ _ _ z o _ _ _ _ _ _ side_joined root_of_both fewer count used built in
       let level = subst (λ n. after ≡ after_steps (join_steps n spent grown) before) first.apart all in
       let whole = subst (λ n. after ≡ after_steps (join_steps apart spent (z.height - n)) before) first.top level in
       let few : spent ≤ apart + 1 = omega (arith, first.apart, bound, used, more_fits o) in
-      let one : roots ≤ 1 = omega (arith, (both_height rows x z o first grafted crown).most) in
+      let one : roots ≤ 1 = omega (arith, (both_height rows x z o first side_joined root_of_both).most) in
       let bounds = count_bounds apart spent roots before after few one whole in
       record { count = whole; no_fewer = bounds.0; most = bounds.1 }

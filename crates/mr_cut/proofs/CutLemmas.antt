@@ -13,15 +13,15 @@ use Rattle.tatp_rows.proofs.AppendLemmas.{each-append, each-left, each-right, or
 use Rattle.tatp_rows.proofs.SpanLemmas.{from-weaker}
 use Rattle.mr_node.specs.declared.body.Leaf.{Leaf}
 use Rattle.mr_node.specs.Rows.{Seen, key_of_pair, key_limit, KeysBelow, KeysFrom}
-use Rattle.mr_node.specs.Runs.{IsRun}
-use Rattle.mr_node.specs.Levels.{IsKidPlace}
-use Rattle.mr_node.specs.Levels.{NodeKid, NodeBranch, kids_of, rows_of, pairs_of, IsKid, IsLeaf, IsBranch, seen_leaf, seen_branch}
+use Rattle.mr_node.specs.EntryLists.{AreEntries}
+use Rattle.mr_node.specs.Levels.{IsChildPlace}
+use Rattle.mr_node.specs.Levels.{NodeChild, NodeInner, children_of, rows_of, pairs_of, IsChild, IsLeaf, IsInner, seen_leaf, seen_inner}
 use Rattle.mr_node.proofs.PlaceLemmas.{packed_some}
-use Rattle.mr_node.proofs.RunLemmas.{run_length}
-use Rattle.mr_node.proofs.KidLemmas.{rows_of-append, cut_kid}
-use Rattle.mr_node.proofs.SizeLemmas.{leaf_well, branch_well}
+use Rattle.mr_node.proofs.EntryListLemmas.{run_length}
+use Rattle.mr_node.proofs.ChildLemmas.{rows_of-append, cut_child}
+use Rattle.mr_node.proofs.SizeLemmas.{leaf_well, inner_well}
 use Rattle.mr_subtree.specs.Trees.{IsRoot}
-use Rattle.mr_cut.specs.Grafts.{IsRest}
+use Rattle.mr_cut.specs.SideJoins.{IsRest}
 use Rattle.mr_cut.specs.Joins.{IsHeightOfBoth}
 use Rattle.mr_cut.specs.Cuts.{rows_below, rows_from, IsSideRoot, IsDivided, IsCut}
 
@@ -44,122 +44,122 @@ both_meters k h path joins e low first second =
 
 module _ {V : Type 0} where
   -- no children: a blank leaf
-  pub piece_none : (b : NodeBranch V) (x : Seen V) → IsRest b → b.len ≡ 0 → x ≡ record { height = 0; width = 0; rows = [] } → (IsSideRoot b.height x) × (x.rows ≡ rows_of (kids_of b))
+  pub piece_none : (b : NodeInner V) (x : Seen V) → IsRest b → b.len ≡ 0 → x ≡ record { height = 0; width = 0; rows = [] } → (IsSideRoot b.height x) × (x.rows ≡ rows_of (children_of b))
   piece_none b x rest none e =
-      let nil : kids_of b ≡ [] = nil_from_length (kids_of b) (run_length b.len b.leasts b.kids rest.run ∙ none) in
+      let nil : children_of b ≡ [] = nil_from_length (children_of b) (run_length b.len b.leasts b.children rest.run ∙ none) in
       let blank : IsSideRoot b.height (record { height = 0; width = 0; rows = [] }) = record {
-        root = record { well = record { fits = omega arith; ordered = tt; keys = tt; at_least = omega arith; at_most = omega arith }; two = λ inner. absurd (omega (arith, inner)) };
+        root = record { well = record { fits = omega arith; ordered = tt; keys = tt; at_least = omega arith; at_most = omega arith }; two = λ above_leaves. absurd (omega (arith, above_leaves)) };
         low = omega arith;
         room = λ high. omega arith;
       } in
       (subst (IsSideRoot b.height) (sym e) blank, ap (λ s. s.rows) e ∙ sym (ap rows_of nil))
 
   -- one child: that child
-  pub piece_one : (b : NodeBranch V) (k : NodeKid V) → IsRest b → b.len ≡ 1 → kids_of b ≡ k ∷ drop 1 (kids_of b) → (IsSideRoot b.height k.1.node.value) × (k.1.node.value.rows ≡ rows_of (kids_of b))
+  pub piece_one : (b : NodeInner V) (k : NodeChild V) → IsRest b → b.len ≡ 1 → children_of b ≡ k ∷ drop 1 (children_of b) → (IsSideRoot b.height k.1.node.value) × (k.1.node.value.rows ≡ rows_of (children_of b))
   piece_one b k rest one e =
-      let none : drop 1 (kids_of b) ≡ [] = drop_all 1 (kids_of b) (omega (arith, run_length b.len b.leasts b.kids rest.run, one)) in
-      let list : kids_of b ≡ k ∷ [] = e ∙ ap (λ r. k ∷ r) none in
-      let kid = (subst (AllByRecursion (IsKid (b.height - 1))) list rest.kids).0 in (
+      let none : drop 1 (children_of b) ≡ [] = drop_all 1 (children_of b) (omega (arith, run_length b.len b.leasts b.children rest.run, one)) in
+      let list : children_of b ≡ k ∷ [] = e ∙ ap (λ r. k ∷ r) none in
+      let child = (subst (AllByRecursion (IsChild (b.height - 1))) list rest.children).0 in (
         record {
-          root = record { well = kid.well; two = λ inner. omega (arith, kid.enough) };
-          low = omega (arith, kid.level);
-          room = λ high. absurd (omega (arith, high, kid.level, rest.inner));
+          root = record { well = child.well; two = λ above_leaves. omega (arith, child.enough) };
+          low = omega (arith, child.level);
+          room = λ high. absurd (omega (arith, high, child.level, rest.above_leaves));
         },
         sym (ap rows_of list ∙ append-nil k.1.node.value.rows),
       )
 
   -- more of them: an inner node
-  pub some_kids : (b : NodeBranch V) → IsRest b → 0 < b.len → IsBranch b
-  some_kids b rest some = record { inner = rest.inner; some = some; run = rest.run; kids = rest.kids; ordered = rest.ordered; keys = rest.keys }
+  pub some_children : (b : NodeInner V) → IsRest b → 0 < b.len → IsInner b
+  some_children b rest some = record { above_leaves = rest.above_leaves; some = some; run = rest.run; children = rest.children; ordered = rest.ordered; keys = rest.keys }
 
-  pub piece_many : (b : NodeBranch V) (x : Seen V) → IsRest b → 2 ≤ b.len → b.len < 32 → x ≡ seen_branch b → (IsSideRoot b.height x) × (x.rows ≡ rows_of (kids_of b))
+  pub piece_many : (b : NodeInner V) (x : Seen V) → IsRest b → 2 ≤ b.len → b.len < 32 → x ≡ seen_inner b → (IsSideRoot b.height x) × (x.rows ≡ rows_of (children_of b))
   piece_many b x rest two room e =
-      let whole : IsSideRoot b.height (seen_branch b) = record {
-        root = record { well = branch_well b (some_kids b rest (omega (arith, two))); two = λ inner. two };
+      let whole : IsSideRoot b.height (seen_inner b) = record {
+        root = record { well = inner_well b (some_children b rest (omega (arith, two))); two = λ above_leaves. two };
         low = omega arith;
         room = λ high. room;
       } in
       (subst (IsSideRoot b.height) (sym e) whole, ap (λ s. s.rows) e)
 
   -- an inner node parted round the child to which a key belongs
-  pub record IsPartedAt (key : ℕ) (b front behind : NodeBranch V) (k : NodeKid V) : Type 0 where
+  pub record IsSplitAt (key : ℕ) (b front behind : NodeInner V) (k : NodeChild V) : Type 0 where
     pub first : IsRest front
     pub second : IsRest behind
-    pub kid : IsKid (b.height - 1) k
+    pub child : IsChild (b.height - 1) k
     pub first_room : front.len < 32
     pub second_room : behind.len < 32
-    pub rows : rows_of (kids_of front) ++ (k.1.node.value.rows ++ rows_of (kids_of behind)) ≡ rows_of (kids_of b)
-    pub below : KeysBelow key (rows_of (kids_of front))
-    pub from : KeysFrom key (rows_of (kids_of behind))
+    pub rows : rows_of (children_of front) ++ (k.1.node.value.rows ++ rows_of (children_of behind)) ≡ rows_of (children_of b)
+    pub below : KeysBelow key (rows_of (children_of front))
+    pub from : KeysFrom key (rows_of (children_of behind))
 
-  rest_part : (b part : NodeBranch V) → 0 < b.height → part.height ≡ b.height → IsRun part.len part.leasts part.kids → AllByRecursion (IsKid (b.height - 1)) (kids_of part) → IsOrderedBy key_of_pair (rows_of (kids_of part)) → KeysBelow key_limit (rows_of (kids_of part)) → IsRest part
-  rest_part b part inner height run kids ordered keys = record {
-    inner = omega (arith, height, inner);
+  rest_part : (b part : NodeInner V) → 0 < b.height → part.height ≡ b.height → AreEntries part.len part.leasts part.children → AllByRecursion (IsChild (b.height - 1)) (children_of part) → IsOrderedBy key_of_pair (rows_of (children_of part)) → KeysBelow key_limit (rows_of (children_of part)) → IsRest part
+  rest_part b part above_leaves height run children ordered keys = record {
+    above_leaves = omega (arith, height, above_leaves);
     run = run;
-    kids = subst (λ m. AllByRecursion (IsKid (m - 1)) (kids_of part)) (sym height) kids;
+    children = subst (λ m. AllByRecursion (IsChild (m - 1)) (children_of part)) (sym height) children;
     ordered = ordered;
     keys = keys;
   }
 
   -- the keys in front of that child and behind it
-  beside : (key i : ℕ) (b : NodeBranch V) → IsBranch b → IsKidPlace key i b.len b.leasts → (KeysBelow key (rows_of (take i (kids_of b)))) × (KeysFrom key (rows_of (drop (i + 1) (kids_of b))))
-  beside key i b branch at =
-      let some = packed_some b.len i b.kids branch.run.packed at.within in
-      let cut = cut_kid key i b some.0 branch at some.1 in
-      (cut.below, from-weaker key_of_pair key (key + 1) (rows_of (drop (i + 1) (kids_of b))) (omega arith) cut.above)
+  beside : (key i : ℕ) (b : NodeInner V) → IsInner b → IsChildPlace key i b.len b.leasts → (KeysBelow key (rows_of (take i (children_of b)))) × (KeysFrom key (rows_of (drop (i + 1) (children_of b))))
+  beside key i b inner at =
+      let some = packed_some b.len i b.children inner.run.packed at.within in
+      let cut = cut_child key i b some.0 inner at some.1 in
+      (cut.below, from-weaker key_of_pair key (key + 1) (rows_of (drop (i + 1) (children_of b))) (omega arith) cut.above)
 
-  parted_of : (key i : ℕ) (b front behind : NodeBranch V) (k : NodeKid V) → IsBranch b → IsKidPlace key i b.len b.leasts → front.height ≡ b.height → behind.height ≡ b.height → IsRun front.len front.leasts front.kids → IsRun behind.len behind.leasts behind.kids → front.len ≡ i → kids_of b ≡ kids_of front ++ (k ∷ kids_of behind) → IsPartedAt key b front behind k
-  parted_of key i b front behind k branch at front_height behind_height front_run behind_run len list =
+  parted_of : (key i : ℕ) (b front behind : NodeInner V) (k : NodeChild V) → IsInner b → IsChildPlace key i b.len b.leasts → front.height ≡ b.height → behind.height ≡ b.height → AreEntries front.len front.leasts front.children → AreEntries behind.len behind.leasts behind.children → front.len ≡ i → children_of b ≡ children_of front ++ (k ∷ children_of behind) → IsSplitAt key b front behind k
+  parted_of key i b front behind k inner at front_height behind_height front_run behind_run len list =
       let h = b.height - 1 in
-      let P = IsKid h in
-      let f = kids_of front in
-      let r = kids_of behind in
-      let long : length f ≡ i = run_length front.len front.leasts front.kids front_run ∙ len in
-      let all = subst (AllByRecursion P) list branch.kids in
+      let P = IsChild h in
+      let f = children_of front in
+      let r = children_of behind in
+      let long : length f ≡ i = run_length front.len front.leasts front.children front_run ∙ len in
+      let all = subst (AllByRecursion P) list inner.children in
       let back = each-right P f (k ∷ r) all in
-      let rows : rows_of (kids_of b) ≡ rows_of f ++ (k.1.node.value.rows ++ rows_of r) = ap rows_of list ∙ rows_of-append f (k ∷ r) in
-      let o = subst (IsOrderedBy key_of_pair) rows branch.ordered in
-      let small = subst (KeysBelow key_limit) rows branch.keys in
+      let rows : rows_of (children_of b) ≡ rows_of f ++ (k.1.node.value.rows ++ rows_of r) = ap rows_of list ∙ rows_of-append f (k ∷ r) in
+      let o = subst (IsOrderedBy key_of_pair) rows inner.ordered in
+      let small = subst (KeysBelow key_limit) rows inner.keys in
       let Q = λ (p : ℕ × V). p.0 < key_limit in
-      let sides = beside key i b branch at in
-      let fronts : take i (kids_of b) ≡ f = ap (take i) list ∙ take_at f (k ∷ r) i long in
-      let backs : drop (i + 1) (kids_of b) ≡ r = ap (drop (i + 1)) (list ∙ sym (append_assoc f (k ∷ []) r)) ∙ drop_at (f ++ (k ∷ [])) r (i + 1) (omega (arith, length-append f (k ∷ []), long)) in
-      let both : length f + (1 + length r) ≡ b.len = omega (arith, ap length list, length-append f (k ∷ r), run_length b.len b.leasts b.kids branch.run) in
+      let sides = beside key i b inner at in
+      let fronts : take i (children_of b) ≡ f = ap (take i) list ∙ take_at f (k ∷ r) i long in
+      let backs : drop (i + 1) (children_of b) ≡ r = ap (drop (i + 1)) (list ∙ sym (append_assoc f (k ∷ []) r)) ∙ drop_at (f ++ (k ∷ [])) r (i + 1) (omega (arith, length-append f (k ∷ []), long)) in
+      let both : length f + (1 + length r) ≡ b.len = omega (arith, ap length list, length-append f (k ∷ r), run_length b.len b.leasts b.children inner.run) in
       record {
-        first = rest_part b front branch.inner front_height front_run (each-left P f (k ∷ r) all) (ordered-left key_of_pair (rows_of f) (k.1.node.value.rows ++ rows_of r) o) (each-left Q (rows_of f) (k.1.node.value.rows ++ rows_of r) small);
-        second = rest_part b behind branch.inner behind_height behind_run back.1 (ordered-right key_of_pair k.1.node.value.rows (rows_of r) (ordered-right key_of_pair (rows_of f) (k.1.node.value.rows ++ rows_of r) o)) (each-right Q k.1.node.value.rows (rows_of r) (each-right Q (rows_of f) (k.1.node.value.rows ++ rows_of r) small));
-        kid = back.0;
-        first_room = omega (arith, both, branch.run.fits, run_length front.len front.leasts front.kids front_run);
-        second_room = omega (arith, both, branch.run.fits, run_length behind.len behind.leasts behind.kids behind_run);
+        first = rest_part b front inner.above_leaves front_height front_run (each-left P f (k ∷ r) all) (ordered-left key_of_pair (rows_of f) (k.1.node.value.rows ++ rows_of r) o) (each-left Q (rows_of f) (k.1.node.value.rows ++ rows_of r) small);
+        second = rest_part b behind inner.above_leaves behind_height behind_run back.1 (ordered-right key_of_pair k.1.node.value.rows (rows_of r) (ordered-right key_of_pair (rows_of f) (k.1.node.value.rows ++ rows_of r) o)) (each-right Q k.1.node.value.rows (rows_of r) (each-right Q (rows_of f) (k.1.node.value.rows ++ rows_of r) small));
+        child = back.0;
+        first_room = omega (arith, both, inner.run.fits, run_length front.len front.leasts front.children front_run);
+        second_room = omega (arith, both, inner.run.fits, run_length behind.len behind.leasts behind.children behind_run);
         rows = sym rows;
         below = subst (λ l. KeysBelow key (rows_of l)) fronts sides.0;
         from = subst (λ l. KeysFrom key (rows_of l)) backs sides.1;
       }
 
   -- the same from the cut behind that child and its removal
-  pub parted_at : (key i : ℕ) (b mid front behind : NodeBranch V) (k : NodeKid V) → IsBranch b → IsKidPlace key i b.len b.leasts → kids_of mid ++ kids_of behind ≡ kids_of b → mid.len ≡ i + 1 → mid.height ≡ b.height → behind.height ≡ b.height → IsRun mid.len mid.leasts mid.kids → IsRun behind.len behind.leasts behind.kids
-      → front.height ≡ mid.height → front.len + 1 ≡ mid.len → IsRun front.len front.leasts front.kids → kids_of front ≡ take i (kids_of mid) ++ drop (i + 1) (kids_of mid) → kids_of mid ≡ take i (kids_of mid) ++ (k ∷ drop (i + 1) (kids_of mid)) → IsPartedAt key b front behind k
-  parted_at key i b mid front behind k branch at list mid_len mid_height behind_height mid_run behind_run height len run rest split =
-      let none : drop (i + 1) (kids_of mid) ≡ [] = drop_all (i + 1) (kids_of mid) (omega (arith, run_length mid.len mid.leasts mid.kids mid_run, mid_len)) in
-      let front_is : kids_of front ≡ take i (kids_of mid) = rest ∙ ap (λ l. take i (kids_of mid) ++ l) none ∙ append-nil (take i (kids_of mid)) in
-      let mid_is : kids_of mid ≡ kids_of front ++ (k ∷ []) = split ∙ ap (λ l. take i (kids_of mid) ++ (k ∷ l)) none ∙ ap (λ l. l ++ (k ∷ [])) (sym front_is) in
-      let whole : kids_of b ≡ kids_of front ++ (k ∷ kids_of behind) = sym list ∙ ap (λ l. l ++ kids_of behind) mid_is ∙ append_assoc (kids_of front) (k ∷ []) (kids_of behind) in
-      parted_of key i b front behind k branch at (height ∙ mid_height) behind_height run behind_run (omega (arith, len, mid_len)) whole
+  pub parted_at : (key i : ℕ) (b mid front behind : NodeInner V) (k : NodeChild V) → IsInner b → IsChildPlace key i b.len b.leasts → children_of mid ++ children_of behind ≡ children_of b → mid.len ≡ i + 1 → mid.height ≡ b.height → behind.height ≡ b.height → AreEntries mid.len mid.leasts mid.children → AreEntries behind.len behind.leasts behind.children
+      → front.height ≡ mid.height → front.len + 1 ≡ mid.len → AreEntries front.len front.leasts front.children → children_of front ≡ take i (children_of mid) ++ drop (i + 1) (children_of mid) → children_of mid ≡ take i (children_of mid) ++ (k ∷ drop (i + 1) (children_of mid)) → IsSplitAt key b front behind k
+  parted_at key i b mid front behind k inner at list mid_len mid_height behind_height mid_run behind_run height len run rest split =
+      let none : drop (i + 1) (children_of mid) ≡ [] = drop_all (i + 1) (children_of mid) (omega (arith, run_length mid.len mid.leasts mid.children mid_run, mid_len)) in
+      let front_is : children_of front ≡ take i (children_of mid) = rest ∙ ap (λ l. take i (children_of mid) ++ l) none ∙ append-nil (take i (children_of mid)) in
+      let mid_is : children_of mid ≡ children_of front ++ (k ∷ []) = split ∙ ap (λ l. take i (children_of mid) ++ (k ∷ l)) none ∙ ap (λ l. l ++ (k ∷ [])) (sym front_is) in
+      let whole : children_of b ≡ children_of front ++ (k ∷ children_of behind) = sym list ∙ ap (λ l. l ++ children_of behind) mid_is ∙ append_assoc (children_of front) (k ∷ []) (children_of behind) in
+      parted_of key i b front behind k inner at (height ∙ mid_height) behind_height run behind_run (omega (arith, len, mid_len)) whole
 
   -- and roots over the children on both sides
-  pub divided_of : (key : ℕ) (b front behind : NodeBranch V) (k : NodeKid V) (left right : Seen V) → IsBranch b → IsPartedAt key b front behind k → front.height ≡ b.height → behind.height ≡ b.height → IsSideRoot front.height left → IsSideRoot behind.height right → left.rows ≡ rows_of (kids_of front) → right.rows ≡ rows_of (kids_of behind) → IsDivided key b left k.1.node.value right
-  divided_of key b front behind k left right branch parted fh bh lp rp lr rr = record {
+  pub divided_of : (key : ℕ) (b front behind : NodeInner V) (k : NodeChild V) (left right : Seen V) → IsInner b → IsSplitAt key b front behind k → front.height ≡ b.height → behind.height ≡ b.height → IsSideRoot front.height left → IsSideRoot behind.height right → left.rows ≡ rows_of (children_of front) → right.rows ≡ rows_of (children_of behind) → IsDivided key b left k.1.node.value right
+  divided_of key b front behind k left right inner parted fh bh lp rp lr rr = record {
     front = subst (λ h. IsSideRoot h left) fh lp;
     back = subst (λ h. IsSideRoot h right) bh rp;
-    level = omega (arith, parted.kid.level, branch.inner);
-    rows = ap (λ l. l ++ (k.1.node.value.rows ++ right.rows)) lr ∙ ap (λ l. rows_of (kids_of front) ++ (k.1.node.value.rows ++ l)) rr ∙ parted.rows;
+    level = omega (arith, parted.child.level, inner.above_leaves);
+    rows = ap (λ l. l ++ (k.1.node.value.rows ++ right.rows)) lr ∙ ap (λ l. rows_of (children_of front) ++ (k.1.node.value.rows ++ l)) rr ∙ parted.rows;
     below = subst (KeysBelow key) (sym lr) parted.below;
     from = subst (KeysFrom key) (sym rr) parted.from;
   }
 
   -- a leaf cut in two
   leaf_root : (leaf : Leaf V) (x : Seen V) → x ≡ seen_leaf leaf → IsLeaf leaf → IsRoot x
-  leaf_root leaf x e is = subst IsRoot (sym e) (record { well = leaf_well leaf is; two = λ inner. absurd (omega (arith, inner)) })
+  leaf_root leaf x e is = subst IsRoot (sym e) (record { well = leaf_well leaf is; two = λ above_leaves. absurd (omega (arith, above_leaves)) })
 
   pub leaf_halves : (key : ℕ) (leaf low high : Leaf V) (x y : Seen V) → IsLeaf low → IsLeaf high → pairs_of low ++ pairs_of high ≡ pairs_of leaf → KeysBelow key (pairs_of low) → KeysFrom key (pairs_of high) → x ≡ seen_leaf low → y ≡ seen_leaf high → IsCut key (seen_leaf leaf) x y
   leaf_halves key leaf low high x y lw hw rows below from ex ey = record {
@@ -173,11 +173,11 @@ module _ {V : Type 0} where
   }
 
   -- the rows of a divided node whose middle was cut, as they are joined
-  pub rejoined : (key : ℕ) (b : NodeBranch V) (left mid right low high : Seen V) → IsDivided key b left mid right → IsCut key mid low high → rows_of (kids_of b) ≡ (left.rows ++ low.rows) ++ (high.rows ++ right.rows)
+  pub rejoined : (key : ℕ) (b : NodeInner V) (left mid right low high : Seen V) → IsDivided key b left mid right → IsCut key mid low high → rows_of (children_of b) ≡ (left.rows ++ low.rows) ++ (high.rows ++ right.rows)
   rejoined key b left mid right low high divided cut =
       sym divided.rows ∙ ap (λ l. left.rows ++ (l ++ right.rows)) (sym cut.rows) ∙ ap (λ l. left.rows ++ l) (append_assoc low.rows high.rows right.rows) ∙ sym (append_assoc left.rows low.rows (high.rows ++ right.rows))
 
-  pub cut_of : {key : ℕ} {b : NodeBranch V} {left mid right low high x y : Seen V} → IsDivided key b left mid right → IsCut key mid low high → IsRoot x → x.rows ≡ left.rows ++ low.rows → IsHeightOfBoth left low x.height → IsRoot y → y.rows ≡ high.rows ++ right.rows → IsHeightOfBoth high right y.height → IsCut key (seen_branch b) x y
+  pub cut_of : {key : ℕ} {b : NodeInner V} {left mid right low high x y : Seen V} → IsDivided key b left mid right → IsCut key mid low high → IsRoot x → x.rows ≡ left.rows ++ low.rows → IsHeightOfBoth left low x.height → IsRoot y → y.rows ≡ high.rows ++ right.rows → IsHeightOfBoth high right y.height → IsCut key (seen_inner b) x y
   cut_of {key = key} {b = b} {left = left} {mid = mid} {right = right} {low = low} {high = high} {x = x} {y = y} divided cut x_root x_rows x_height y_root y_rows y_height = record {
     low_root = x_root;
     high_root = y_root;
@@ -205,13 +205,13 @@ module _ {V : Type 0} where
       ]
 
   -- how many blank nodes and steps a cut has more than that of the child to which the key belongs
-  pub record IsChildOf (node mid : Seen V) : Type 0 where
+  pub record IsMiddleOf (node mid : Seen V) : Type 0 where
     pub level : node.height ≡ mid.height + 1
     pub blanks : (node.height + 2) * (node.height + 2) ≡ (mid.height + 2) * (mid.height + 2) + (2 * (mid.height + 2) + 1)
     pub steps : (node.height + 1) * (node.height + 1) ≡ (mid.height + 1) * (mid.height + 1) + (2 * (mid.height + 1) + 1)
 
-  pub child_of : {key : ℕ} {b : NodeBranch V} {node left mid right : Seen V} → seen_branch b ≡ node → IsDivided key b left mid right → IsChildOf node mid
-  child_of {node = node} {mid = mid} now divided =
+  pub middle_of : {key : ℕ} {b : NodeInner V} {node left mid right : Seen V} → seen_inner b ≡ node → IsDivided key b left mid right → IsMiddleOf node mid
+  middle_of {node = node} {mid = mid} now divided =
       let level : node.height ≡ mid.height + 1 = omega (arith, divided.level, ap (λ s. s.height) now) in
       record { level = level; blanks = square_next (node.height + 2) (mid.height + 2) (omega (arith, level)); steps = square_next (node.height + 1) (mid.height + 1) (omega (arith, level)) }
 
@@ -222,11 +222,11 @@ module _ {V : Type 0} where
     pub low_near : abs_diff left.height low.height ≤ node.height
     pub high_near : abs_diff high.height right.height ≤ node.height
 
-  pub joinable : {key : ℕ} {b : NodeBranch V} {node left mid right low high : Seen V} → IsBranch b → seen_branch b ≡ node → IsDivided key b left mid right → IsCut key mid low high → AreJoinable node left low high right
-  joinable {key = key} {b = b} {node = node} {left = left} {mid = mid} {right = right} {low = low} {high = high} branch now divided cut =
-      let level = (child_of now divided).level in
+  pub joinable : {key : ℕ} {b : NodeInner V} {node left mid right low high : Seen V} → IsInner b → seen_inner b ≡ node → IsDivided key b left mid right → IsCut key mid low high → AreJoinable node left low high right
+  joinable {key = key} {b = b} {node = node} {left = left} {mid = mid} {right = right} {low = low} {high = high} inner now divided cut =
+      let level = (middle_of now divided).level in
       let same : b.height ≡ node.height = ap (λ s. s.height) now in
-      let ordered = subst (IsOrderedBy key_of_pair) (rejoined key b left mid right low high divided cut) branch.ordered in
+      let ordered = subst (IsOrderedBy key_of_pair) (rejoined key b left mid right low high divided cut) inner.ordered in
       record {
         low_ordered = ordered-left key_of_pair (left.rows ++ low.rows) (high.rows ++ right.rows) ordered;
         high_ordered = ordered-right key_of_pair (left.rows ++ low.rows) (high.rows ++ right.rows) ordered;

@@ -5,54 +5,54 @@ use Rattle.std.specs.Int.{abs_diff}
 use Rattle.tatp_rows.specs.Ordered.{IsOrderedBy}
 use Rattle.tatp_rows.proofs.AppendLemmas.{ordered-append}
 use Rattle.mr_node.specs.Rows.{Seen, key_of_pair}
-use Rattle.mr_node.specs.Runs.{IsRun}
-use Rattle.mr_node.specs.Levels.{NodeBranch, kids_of, rows_of, IsBranch, seen_branch}
-use Rattle.mr_node.specs.Pairs.{IsKidNode}
-use Rattle.mr_node.specs.Parts.{IsHung}
-use Rattle.mr_node.proofs.SizeLemmas.{branch_well, low_tree}
+use Rattle.mr_node.specs.EntryLists.{AreEntries}
+use Rattle.mr_node.specs.Levels.{NodeInner, children_of, rows_of, IsInner, seen_inner}
+use Rattle.mr_node.specs.Pairs.{IsChildNode}
+use Rattle.mr_node.specs.Parts.{IsWithChild}
+use Rattle.mr_node.proofs.SizeLemmas.{inner_well, low_tree}
 use Rattle.mr_subtree.specs.Trees.{IsRoot}
-use Rattle.mr_cut.specs.declared.grafts.Side.{Side}
-use Rattle.mr_cut.specs.declared.grafts.Side.TheVariants.{Low, High}
-use Rattle.mr_cut.specs.Grafts.{beside, IsTurned, MaybeNode, IsRest, IsGrafted}
+use Rattle.mr_cut.specs.declared.side_joins.Side.{Side}
+use Rattle.mr_cut.specs.declared.side_joins.Side.TheVariants.{Low, High}
+use Rattle.mr_cut.specs.SideJoins.{beside, IsTurned, MaybeNode, IsRest, IsSideJoined}
 use Rattle.mr_cut.specs.Cuts.{AreApart}
-use Rattle.mr_cut.specs.Joins.{IsCrownless, IsCrowned, IsHeightOfBoth, IsLower}
-use Rattle.mr_cut.proofs.GraftLemmas.{lone_branch, put_beside}
+use Rattle.mr_cut.specs.Joins.{IsRootless, IsRooted, IsHeightOfBoth, IsLower}
+use Rattle.mr_cut.proofs.SideJoinLemmas.{lone_inner, put_beside}
 
 module _ {V : Type 0} where
   -- all children of an inner node
-  pub rest_of : (b : NodeBranch V) → IsBranch b → IsRest b
-  rest_of b branch = record { inner = branch.inner; run = branch.run; kids = branch.kids; ordered = branch.ordered; keys = branch.keys }
+  pub rest_of : (b : NodeInner V) → IsInner b → IsRest b
+  rest_of b inner = record { above_leaves = inner.above_leaves; run = inner.run; children = inner.children; ordered = inner.ordered; keys = inner.keys }
 
   -- a node that wants a root over it is lower than 16
-  pub low_kid : (h : ℕ) (x : Seen V) → IsKidNode h x → x.height < 16
-  low_kid h x node = low_tree x node.well (omega (arith, node.enough))
+  pub low_child : (h : ℕ) (x : Seen V) → IsChildNode h x → x.height < 16
+  low_child h x node = low_tree x node.well (omega (arith, node.enough))
 
   -- a new root over two nodes
-  pub record IsCrown (x y : Seen V) (new : NodeBranch V) : Type 0 where
-    pub branch : IsBranch new
+  pub record IsRootOver (x y : Seen V) (new : NodeInner V) : Type 0 where
+    pub inner : IsInner new
     pub two : 2 ≤ new.len
     pub level : new.height ≡ x.height + 1
-    pub rows : rows_of (kids_of new) ≡ x.rows ++ y.rows
+    pub rows : rows_of (children_of new) ≡ x.rows ++ y.rows
 
-  pub crown_branch : (x y : Seen V) (b mid new : NodeBranch V) → IsKidNode x.height x → IsKidNode x.height y → IsOrderedBy key_of_pair (x.rows ++ y.rows) → b.height ≡ x.height + 1 → b.len ≡ 0 → IsRun 0 b.leasts b.kids
-      → IsHung 0 x b mid → mid.height ≡ b.height → mid.len ≡ b.len + 1 → IsRun mid.len mid.leasts mid.kids → IsHung 1 y mid new → new.height ≡ mid.height → new.len ≡ mid.len + 1 → IsRun new.len new.leasts new.kids → IsCrown x y new
-  crown_branch x y b mid new first second ordered level none empty low low_height low_len low_run high high_height high_len high_run =
+  pub inner_over_two : (x y : Seen V) (b mid new : NodeInner V) → IsChildNode x.height x → IsChildNode x.height y → IsOrderedBy key_of_pair (x.rows ++ y.rows) → b.height ≡ x.height + 1 → b.len ≡ 0 → AreEntries 0 b.leasts b.children
+      → IsWithChild 0 x b mid → mid.height ≡ b.height → mid.len ≡ b.len + 1 → AreEntries mid.len mid.leasts mid.children → IsWithChild 1 y mid new → new.height ≡ mid.height → new.len ≡ mid.len + 1 → AreEntries new.len new.leasts new.children → IsRootOver x y new
+  inner_over_two x y b mid new first second ordered level none empty low low_height low_len low_run high high_height high_len high_run =
       let down : x.height ≡ x.height + 1 - 1 = omega arith in
-      let one = lone_branch (x.height + 1) b mid x (omega arith) level none empty low low_height low_len low_run (subst (λ h. IsKidNode h x) down first) in
-      let rows : rows_of (kids_of mid) ≡ x.rows = ap (λ s. s.rows) one.1 in
+      let one = lone_inner (x.height + 1) b mid x (omega arith) level none empty low low_height low_len low_run (subst (λ h. IsChildNode h x) down first) in
+      let rows : rows_of (children_of mid) ≡ x.rows = ap (λ s. s.rows) one.1 in
       let wide : 1 ≡ mid.len = omega (arith, low_len, none) in
       let below : x.height ≡ mid.height - 1 = omega (arith, low_height, level) in
-      let back = subst (λ h. IsKidNode h y) below second in
+      let back = subst (λ h. IsChildNode h y) below second in
       let order = subst (λ r. IsOrderedBy key_of_pair (r ++ y.rows)) (sym rows) ordered in
       let two = put_beside High 1 mid new y wide (rest_of mid one.0) high high_height high_len high_run back order in
-      record { branch = two.0; two = omega (arith, high_len, wide); level = high_height ∙ low_height ∙ level; rows = two.1 ∙ ap (λ r. r ++ y.rows) rows }
+      record { inner = two.0; two = omega (arith, high_len, wide); level = high_height ∙ low_height ∙ level; rows = two.1 ∙ ap (λ r. r ++ y.rows) rows }
 
   -- the node itself
-  pub crowned : (x y z : Seen V) (new : NodeBranch V) → z ≡ seen_branch new → IsCrown x y new → (IsRoot z) × (z.height ≡ x.height + 1) × (z.rows ≡ x.rows ++ y.rows)
-  crowned x y z new e crown = (
-    subst IsRoot (sym e) (record { well = branch_well new crown.branch; two = λ inner. crown.two }),
-    ap (λ s. s.height) e ∙ crown.level,
-    ap (λ s. s.rows) e ∙ crown.rows,
+  pub rooted : (x y z : Seen V) (new : NodeInner V) → z ≡ seen_inner new → IsRootOver x y new → (IsRoot z) × (z.height ≡ x.height + 1) × (z.rows ≡ x.rows ++ y.rows)
+  rooted x y z new e root_of_both = (
+    subst IsRoot (sym e) (record { well = inner_well new root_of_both.inner; two = λ above_leaves. root_of_both.two }),
+    ap (λ s. s.height) e ∙ root_of_both.level,
+    ap (λ s. s.rows) e ∙ root_of_both.rows,
   )
 
   -- two roots as the higher one and its neighbour at a side
@@ -101,42 +101,42 @@ module _ {V : Type 0} where
       subst (λ n. AreHigherFirst High a b n other) (sym turned.0) beside_it
 
   -- what came of a root and its neighbour wants a root over it where it is two
-  crownless : (h w lower : ℕ) (rows : List (ℕ × V)) (x : Seen V) (o : MaybeNode V)
-      → (0 < h → 2 ≤ w) → IsOrderedBy key_of_pair rows → IsGrafted h w lower rows x o → IsCrownless x o
-  crownless h w lower rows x None two ordered grafted = record { well = grafted.well; two = λ inner. omega (arith, grafted.wide, two (omega (arith, inner, grafted.level))) }
-  crownless h w lower rows x (Some y) two ordered grafted = (
-    subst (λ m. IsKidNode m x) (sym grafted.first.level) grafted.first,
-    subst (λ m. IsKidNode m y.value) (sym grafted.first.level) grafted.second,
-    subst (IsOrderedBy key_of_pair) (sym grafted.list) ordered,
+  rootless : (h w lower : ℕ) (rows : List (ℕ × V)) (x : Seen V) (o : MaybeNode V)
+      → (0 < h → 2 ≤ w) → IsOrderedBy key_of_pair rows → IsSideJoined h w lower rows x o → IsRootless x o
+  rootless h w lower rows x None two ordered side_joined = record { well = side_joined.well; two = λ above_leaves. omega (arith, side_joined.wide, two (omega (arith, above_leaves, side_joined.level))) }
+  rootless h w lower rows x (Some y) two ordered side_joined = (
+    subst (λ m. IsChildNode m x) (sym side_joined.first.level) side_joined.first,
+    subst (λ m. IsChildNode m y.value) (sym side_joined.first.level) side_joined.second,
+    subst (IsOrderedBy key_of_pair) (sym side_joined.list) ordered,
   )
 
-  pub both_crownless : {s : Side} {a b node other : Seen V} (x : Seen V) (o : MaybeNode V)
+  pub both_rootless : {s : Side} {a b node other : Seen V} (x : Seen V) (o : MaybeNode V)
       → AreHigherFirst s a b node other → IsOrderedBy key_of_pair (a.rows ++ b.rows)
-      → IsGrafted node.height node.width other.height (beside s node.rows other.rows) x o → IsCrownless x o
-  both_crownless {s = s} {node = node} {other = other} x o first ordered grafted =
+      → IsSideJoined node.height node.width other.height (beside s node.rows other.rows) x o → IsRootless x o
+  both_rootless {s = s} {node = node} {other = other} x o first ordered side_joined =
       let order = subst (IsOrderedBy key_of_pair) (sym first.list) ordered in
-      crownless node.height node.width other.height (beside s node.rows other.rows) x o first.root.two order grafted
+      rootless node.height node.width other.height (beside s node.rows other.rows) x o first.root.two order side_joined
 
-  pub crown_root : (x z : Seen V) (o : MaybeNode V) → IsCrownless x o → IsCrowned x o z → IsRoot z
-  crown_root x z None whole crown = subst IsRoot (sym crown) whole
-  crown_root x z (Some y) whole crown = crown.0
+  pub root_left : (x z : Seen V) (o : MaybeNode V) → IsRootless x o → IsRooted x o z → IsRoot z
+  root_left x z None whole root_of_both = subst IsRoot (sym root_of_both) whole
+  root_left x z (Some y) whole root_of_both = root_of_both.0
 
-  pub crown_rows : (h w lower : ℕ) (rows : List (ℕ × V)) (x z : Seen V) (o : MaybeNode V) → IsGrafted h w lower rows x o → IsCrowned x o z → z.rows ≡ rows
-  crown_rows h w lower rows x z None grafted crown = ap (λ s. s.rows) crown ∙ grafted.list
-  crown_rows h w lower rows x z (Some y) grafted crown = crown.2 ∙ grafted.list
+  pub root_rows : (h w lower : ℕ) (rows : List (ℕ × V)) (x z : Seen V) (o : MaybeNode V) → IsSideJoined h w lower rows x o → IsRooted x o z → z.rows ≡ rows
+  root_rows h w lower rows x z None side_joined root_of_both = ap (λ s. s.rows) root_of_both ∙ side_joined.list
+  root_rows h w lower rows x z (Some y) side_joined root_of_both = root_of_both.2 ∙ side_joined.list
 
   -- a level more than the higher one, and none where it had room
-  crown_height : (h w lower : ℕ) (rows : List (ℕ × V)) (x z : Seen V) (o : MaybeNode V) → IsGrafted h w lower rows x o → IsCrowned x o z → (z.height ≤ h + 1) × (lower < h → w < 32 → z.height ≤ h)
-  crown_height h w lower rows x z None grafted crown =
-      let same : z.height ≡ h = ap (λ s. s.height) crown ∙ grafted.level in
+  root_height : (h w lower : ℕ) (rows : List (ℕ × V)) (x z : Seen V) (o : MaybeNode V) → IsSideJoined h w lower rows x o → IsRooted x o z → (z.height ≤ h + 1) × (lower < h → w < 32 → z.height ≤ h)
+  root_height h w lower rows x z None side_joined root_of_both =
+      let same : z.height ≡ h = ap (λ s. s.height) root_of_both ∙ side_joined.level in
       (omega (arith, same), λ lt room. omega (arith, same))
-  crown_height h w lower rows x z (Some y) grafted crown = (omega (arith, crown.1, grafted.first.level), λ lt room. absurd (omega (arith, room, grafted.full lt)))
+  root_height h w lower rows x z (Some y) side_joined root_of_both = (omega (arith, root_of_both.1, side_joined.first.level), λ lt room. absurd (omega (arith, room, side_joined.full lt)))
 
   pub both_height : {s : Side} {a b node other : Seen V} (rows : List (ℕ × V)) (x z : Seen V) (o : MaybeNode V)
-      → AreHigherFirst s a b node other → IsGrafted node.height node.width other.height rows x o → IsCrowned x o z
+      → AreHigherFirst s a b node other → IsSideJoined node.height node.width other.height rows x o → IsRooted x o z
       → IsHeightOfBoth a b z.height
-  both_height {node = node} {other = other} rows x z o first grafted crown =
-      let both = crown_height node.height node.width other.height rows x z o grafted crown in
+  both_height {node = node} {other = other} rows x z o first side_joined root_of_both =
+      let both = root_height node.height node.width other.height rows x z o side_joined root_of_both in
       first.height z.height both.0 both.1
 
   -- roots whose keys are apart are in order, one after another

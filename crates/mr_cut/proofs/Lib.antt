@@ -1,4 +1,4 @@
 pub mod CountLemmas
-pub mod GraftLemmas
+pub mod SideJoinLemmas
 pub mod JoinLemmas
 pub mod CutLemmas

@@ -2,7 +2,7 @@
 use Rattle.std.specs.Prelude.{◌≡◌, ℕ, ◌+◌, ◌<◌, ◌≤◌, List, ◌++◌}
 use Rattle.tatp_rows.specs.Spans.{keys_below, keys_from}
 use Rattle.mr_node.specs.Rows.{Seen, key_of_pair, KeysBelow, KeysFrom}
-use Rattle.mr_node.specs.Levels.{NodeBranch, kids_of, rows_of}
+use Rattle.mr_node.specs.Levels.{NodeInner, children_of, rows_of}
 use Rattle.mr_subtree.specs.Trees.{IsRoot}
 
 -- the rows with keys below the key
@@ -35,10 +35,10 @@ pub record IsSideRoot {V : Type 0} (height : ℕ) (s : Seen V) : Type 0 where
   pub room : s.height ≡ height → s.width < 32
 
 -- an inner node divided at the child to which a key belongs (no public clause cites it)
-pub record IsDivided {V : Type 0} (key : ℕ) (b : NodeBranch V) (left mid right : Seen V) : Type 0 where
+pub record IsDivided {V : Type 0} (key : ℕ) (b : NodeInner V) (left mid right : Seen V) : Type 0 where
   pub front : IsSideRoot b.height left
   pub back : IsSideRoot b.height right
   pub level : mid.height + 1 ≡ b.height
-  pub rows : left.rows ++ (mid.rows ++ right.rows) ≡ rows_of (kids_of b)
+  pub rows : left.rows ++ (mid.rows ++ right.rows) ≡ rows_of (children_of b)
   pub below : KeysBelow key left.rows
   pub from : KeysFrom key right.rows

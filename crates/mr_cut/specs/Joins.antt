@@ -2,12 +2,12 @@
 use Rattle.std.specs.Prelude.{◌≡◌, ℕ, ◌+◌, ◌<◌, ◌≤◌, max, ◌++◌, Some, None}
 use Rattle.tatp_rows.specs.Ordered.{IsOrderedBy}
 use Rattle.mr_node.specs.Rows.{Seen, key_of_pair}
-use Rattle.mr_node.specs.Pairs.{IsKidNode}
+use Rattle.mr_node.specs.Pairs.{IsChildNode}
 use Rattle.mr_node.specs.Steps.{after_steps}
 use Rattle.mr_subtree.specs.Trees.{IsRoot}
-use Rattle.mr_cut.specs.declared.grafts.Side.{Side}
-use Rattle.mr_cut.specs.declared.grafts.Side.TheVariants.{Low, High}
-use Rattle.mr_cut.specs.Grafts.{MaybeNode}
+use Rattle.mr_cut.specs.declared.side_joins.Side.{Side}
+use Rattle.mr_cut.specs.declared.side_joins.Side.TheVariants.{Low, High}
+use Rattle.mr_cut.specs.SideJoins.{MaybeNode}
 
 -- of two heights, that at the side is the lower one; the high one too where they are the same
 abbrev pub IsLower : Side → ℕ → ℕ → Type 0
@@ -15,14 +15,14 @@ IsLower Low low high = low < high
 IsLower High low high = high ≤ low
 
 -- a root, or two nodes that want one over them
-abbrev pub IsCrownless : {V : Type 0} → Seen V → MaybeNode V → Type 0
-IsCrownless one None = IsRoot one
-IsCrownless one (Some two) = IsKidNode one.height one × IsKidNode one.height two.value × IsOrderedBy key_of_pair (one.rows ++ two.value.rows)
+abbrev pub IsRootless : {V : Type 0} → Seen V → MaybeNode V → Type 0
+IsRootless one None = IsRoot one
+IsRootless one (Some two) = IsChildNode one.height one × IsChildNode one.height two.value × IsOrderedBy key_of_pair (one.rows ++ two.value.rows)
 
 -- the root of one node, or of two, a level higher
-abbrev pub IsCrowned : {V : Type 0} → Seen V → MaybeNode V → Seen V → Type 0
-IsCrowned one None root = root ≡ one
-IsCrowned one (Some two) root = IsRoot root × (root.height ≡ one.height + 1) × (root.rows ≡ one.rows ++ two.value.rows)
+abbrev pub IsRooted : {V : Type 0} → Seen V → MaybeNode V → Seen V → Type 0
+IsRooted one None root = root ≡ one
+IsRooted one (Some two) root = IsRoot root × (root.height ≡ one.height + 1) × (root.rows ≡ one.rows ++ two.value.rows)
 
 -- how high two roots are together: a level more than the higher one at most, and no more than it where it has room and
 -- the other one is lower
@@ -32,6 +32,6 @@ pub record IsHeightOfBoth {V : Type 0} (a b : Seen V) (height : ℕ) : Type 0 wh
   pub right : a.height < b.height → b.width < 32 → height ≤ b.height
 
 -- a meter before and after the root: a new one over two nodes is a step
-abbrev pub IsCrownCount : {V : Type 0} → MaybeNode V → ℕ → ℕ → Type 0
-IsCrownCount None before after = after ≡ before
-IsCrownCount (Some two) before after = after ≡ after_steps 1 before
+abbrev pub IsRootCount : {V : Type 0} → MaybeNode V → ℕ → ℕ → Type 0
+IsRootCount None before after = after ≡ before
+IsRootCount (Some two) before after = after ≡ after_steps 1 before

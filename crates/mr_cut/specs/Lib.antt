@@ -1,4 +1,4 @@
 pub mod Bounds
 pub mod Cuts
-pub mod Grafts
+pub mod SideJoins
 pub mod Joins

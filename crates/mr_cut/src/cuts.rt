@@ -1,59 +1,59 @@
 //! A tree that is cut at a key.
 ghost use Rattle.std.specs.Prelude.{◌≡◌, ◌+◌, ◌*◌, ◌<◌, ◌≤◌};
-ghost use Rattle.mr_node.specs.Levels.{kids_of, rows_of, IsBranch, IsLeaf, seen_leaf};
+ghost use Rattle.mr_node.specs.Levels.{children_of, rows_of, IsInner, IsLeaf, seen_leaf};
 ghost use Rattle.mr_node.specs.Steps.{after_steps};
-ghost use Rattle.mr_cut.specs.Grafts.{IsRest};
+ghost use Rattle.mr_cut.specs.SideJoins.{IsRest};
 ghost use Rattle.mr_cut.specs.Cuts.{IsSideRoot, IsDivided, IsCut};
 
 use crate::joins::join;
 use mr_node::{
-    Body, Branch, Leaf, Meter, Node, Stock, build_blank, build_inner, build_leaf, cut_kids,
-    cut_leaf, kid_place, open, take_kid,
+    Body, Inner, Leaf, Meter, Node, Stock, build_blank, build_inner, build_leaf, child_place,
+    cut_children, cut_leaf, open, take_child,
 };
 
 /// A root over some children of an inner node: a blank leaf, the only child, or an inner node. One step at most.
 #[inline(never)]
 fn root_of<V: Drop>(
-    mut branch: Branch<Box<Node<V>>>,
+    mut inner: Inner<Box<Node<V>>>,
     blank: Box<Node<V>>,
     meter: &mut Meter,
 ) -> Box<Node<V>>
-    requires rest { IsRest branch }
-    requires some_away { branch.len < 32 }
-    ensures piece { IsSideRoot branch.height result.value }
-    ensures rows { result.value.rows ≡ rows_of (kids_of branch) }
+    requires rest { IsRest inner }
+    requires some_away { inner.len < 32 }
+    ensures piece { IsSideRoot inner.height result.value }
+    ensures rows { result.value.rows ≡ rows_of (children_of inner) }
     ensures no_fewer { after_steps 0 meter.old ≤ meter.new }
     ensures steps { meter.new ≤ meter.old + 1 }
 {
-    if branch.len == 0 {
+    if inner.len == 0 {
         return build_blank(blank, meter);
     }
-    if branch.len == 1 {
-        return take_kid(&mut branch, 0).node;
+    if inner.len == 1 {
+        return take_child(&mut inner, 0).node;
     }
-    build_inner(branch, blank, meter)
+    build_inner(inner, blank, meter)
 }
 
 /// The child to which a key belongs, between roots over the children in front of it and behind it. Two steps at most.
 #[inline(never)]
 fn divide<V: Drop>(
-    mut branch: Branch<Box<Node<V>>>,
+    mut inner: Inner<Box<Node<V>>>,
     key: u64,
     blank: Box<Node<V>>,
     stock: &mut Stock<V>,
     meter: &mut Meter,
 ) -> (Box<Node<V>>, Box<Node<V>>, Box<Node<V>>)
-    requires branch { IsBranch branch }
+    requires inner { IsInner inner }
     requires stock { 0 < stock.old }
-    ensures divided { IsDivided key branch result.0.value result.1.value result.2.value }
+    ensures divided { IsDivided key inner result.0.value result.1.value result.2.value }
     ensures stock { stock.old ≤ stock.new + 1 }
     ensures no_fewer { after_steps 0 meter.old ≤ meter.new }
     ensures steps { meter.new ≤ meter.old + 2 }
 {
-    let place = kid_place(&branch, key);
-    let behind = cut_kids(&mut branch, place + 1);
-    let mid = take_kid(&mut branch, place);
-    let left = root_of(branch, blank, meter);
+    let place = child_place(&inner, key);
+    let behind = cut_children(&mut inner, place + 1);
+    let mid = take_child(&mut inner, place);
+    let left = root_of(inner, blank, meter);
     let right = root_of(behind, stock.give(), meter);
     (left, mid.node, right)
 }
@@ -96,8 +96,8 @@ pub(crate) fn cut<V: Drop>(
     let (body, blank) = open(node, path);
     match body {
         Body::Leaf(leaf) => halves_of(leaf, key, blank, stock.give(), path),
-        Body::Inner(branch) => {
-            let (left, mid, right) = divide(branch, key, blank, stock, path);
+        Body::Inner(inner) => {
+            let (left, mid, right) = divide(inner, key, blank, stock, path);
             let (low, high) = cut(mid, key, stock, path, joins);
             let low = join(left, low, stock, joins);
             let high = join(high, right, stock, joins);

@@ -6,38 +6,38 @@ ghost use Rattle.mr_node.specs.Rows.{key_of_pair};
 ghost use Rattle.mr_node.specs.Steps.{after_steps};
 ghost use Rattle.mr_subtree.specs.Trees.{IsRoot};
 ghost use Rattle.mr_cut.specs.Bounds.{join_steps, most_of_meld, fewest_of_meld};
-ghost use Rattle.mr_cut.specs.Grafts.{more_of};
-ghost use Rattle.mr_cut.specs.Joins.{IsCrownless, IsCrowned, IsCrownCount, IsHeightOfBoth, IsLower};
+ghost use Rattle.mr_cut.specs.SideJoins.{more_of};
+ghost use Rattle.mr_cut.specs.Joins.{IsRootless, IsRooted, IsRootCount, IsHeightOfBoth, IsLower};
 
-use crate::grafts::{Side, graft, turned};
-use mr_node::{Meter, Node, Stock, build_inner, hang, no_branch};
+use crate::side_joins::{Side, join_side, turned};
+use mr_node::{Meter, Node, Stock, build_inner, insert_child, no_inner};
 
 /// The root of what is one node, or two under a new one. One step where there are two.
 #[inline(never)]
-fn crown<V: Drop>(
+fn root_of_both<V: Drop>(
     one: Box<Node<V>>,
     two: Option<Box<Node<V>>>,
     stock: &mut Stock<V>,
     meter: &mut Meter,
 ) -> Box<Node<V>>
-    requires whole { IsCrownless one.value two }
+    requires whole { IsRootless one.value two }
     requires stock { 0 < stock.old }
-    ensures root { IsCrowned one.value two result.value }
+    ensures root { IsRooted one.value two result.value }
     ensures stock { stock.old ≡ stock.new + more_of two }
-    ensures steps { IsCrownCount two meter.old meter.new }
+    ensures steps { IsRootCount two meter.old meter.new }
 {
     match two {
         Some(two) => {
-            let mut root = no_branch(one.height() + 1);
-            hang(&mut root, 0, one);
-            hang(&mut root, 1, two);
+            let mut root = no_inner(one.height() + 1);
+            insert_child(&mut root, 0, one);
+            insert_child(&mut root, 1, two);
             build_inner(root, stock.give(), meter)
         }
         None => one,
     }
 }
 
-/// On which side of the higher one of two roots the other one is hung, by their heights.
+/// On which side of the higher one of two roots the other one is joined, by their heights.
 fn side_of(low: u64, high: u64) -> Side
     ensures { IsLower result low high }
 {
@@ -67,6 +67,6 @@ pub(crate) fn join<V: Drop>(
 {
     let side = side_of(low.height(), high.height());
     let (node, other) = turned(side, low, high);
-    let (one, two) = graft(side, node, other, stock, meter);
-    crown(one, two, stock, meter)
+    let (one, two) = join_side(side, node, other, stock, meter);
+    root_of_both(one, two, stock, meter)
 }

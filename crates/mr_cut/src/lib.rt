@@ -2,9 +2,9 @@
 #![tactic(auto)]
 
 mod cuts;
-mod grafts;
 mod joins;
 mod needs;
+mod side_joins;
 mod trees;
 
 pub use needs::{need_meld, need_slice, stock_for_meld, stock_for_slice};

@@ -26,7 +26,7 @@ pub struct Cut<V> {
 
 /// Takes the root of a tree out, in a box; the tree has no row then.
 #[inline(never)]
-fn lift<V: Drop>(tree: &mut SubTree<V>, mut blank: Box<Node<V>>) -> Box<Node<V>>
+fn take_root<V: Drop>(tree: &mut SubTree<V>, mut blank: Box<Node<V>>) -> Box<Node<V>>
     ensures root { result.value ≡ tree.old }
     ensures rules { IsRoot result.value }
     ensures rows { tree.new.rows ≡ [] }
@@ -41,7 +41,7 @@ fn lift<V: Drop>(tree: &mut SubTree<V>, mut blank: Box<Node<V>>) -> Box<Node<V>>
 
 /// Makes a tree of a root, in the place of another one.
 #[inline(never)]
-fn plant<V: Drop>(place: &mut SubTree<V>, root: Box<Node<V>>)
+fn put_root<V: Drop>(place: &mut SubTree<V>, root: Box<Node<V>>)
     requires { IsRoot root.value }
     ensures { place.new ≡ root.value }
 {
@@ -95,12 +95,12 @@ pub fn slice_into<V: Drop>(
 {
     // For the prover: the height is below 16, on which the steps' bounds rest.
     let _ = tree.height();
-    let root = lift(tree, stock.give());
+    let root = take_root(tree, stock.give());
     let mut path = Meter::new();
     let mut joins = Meter::new();
     let (below, above) = cut(root, key, stock, &mut path, &mut joins);
-    plant(tree, below);
-    plant(high, above);
+    put_root(tree, below);
+    put_root(high, above);
     (path.steps() + joins.steps(), path.steps())
 }
 
@@ -140,10 +140,10 @@ pub fn meld_from<V: Drop>(low: &mut SubTree<V>, high: &mut SubTree<V>, stock: &m
     ensures no_fewer { fewest_of_meld low.old.height high.old.height ≤ result }
     ensures left { (high.new.rows ≡ []) × (high.new.height ≡ 0) }
 {
-    let first = lift(low, stock.give());
-    let second = lift(high, stock.give());
+    let first = take_root(low, stock.give());
+    let second = take_root(high, stock.give());
     let mut meter = Meter::new();
     let root = join(first, second, stock, &mut meter);
-    plant(low, root);
+    put_root(low, root);
     meter.steps()
 }

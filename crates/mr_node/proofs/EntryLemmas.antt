@@ -10,7 +10,7 @@ use Rattle.tatp_rows.proofs.OrderedLemmas.{each-with_row, each-without_row, orde
 use Rattle.tatp_rows.proofs.SpanLemmas.{below-weaker, from-weaker, ordered_front, ordered_back, row_at-skip, row_at-absent, row_at-here, with_row_at-skip, with_row_at-absent, with_row_at-here, without_row-skip, without_row-absent, without_row-here, with_row-skip, with_row-front, every-with_row_at-same}
 use Rattle.mr_node.specs.declared.body.Leaf.{Leaf}
 use Rattle.mr_node.specs.Rows.{value_at, key_of_pair, KeysBelow, KeysFrom, key_limit}
-use Rattle.mr_node.specs.Runs.{no_key, somes, IsRun, IsPadded}
+use Rattle.mr_node.specs.EntryLists.{no_key, somes, AreEntries, IsPadded}
 use Rattle.mr_node.specs.Search.{IsRising, IsStop}
 use Rattle.mr_node.specs.Levels.{IsLeaf, pairs_of, seen_leaf}
 use Rattle.mr_node.specs.Entries.{IsThere, IsFree}
@@ -18,7 +18,7 @@ use Rattle.mr_node.specs.Growth.{IsGrown, IsRoomAnswer}
 use Rattle.mr_node.specs.declared.room.Room.TheVariants.{Done, Exists, Full}
 use Rattle.mr_node.proofs.PlaceLemmas.{packed_some, packed_insert, packed_remove, somes_insert, somes_remove}
 use Rattle.mr_node.proofs.SizeLemmas.{leaf_well}
-use Rattle.mr_node.proofs.RunLemmas.{run_length, run_split, run_written, run_inserted, run_removed, run_behind, run_below, put_behind, run_rises, run_next, run_rest}
+use Rattle.mr_node.proofs.EntryListLemmas.{run_length, run_split, run_written, run_inserted, run_removed, run_behind, run_below, put_behind, run_rises, run_next, run_rest}
 
 module _ {V : Type 0} where
   -- what a search among the keys asks for
@@ -182,9 +182,9 @@ module _ {V : Type 0} where
       let row = (found_at key i some.0 leaf h there some.1).row in
       cc (row, none)
 
-  leaf_of : (n : ℕ) (leaf : Leaf V) (rows : List (ℕ × V)) → length leaf.values.items ≡ n → IsRun n leaf.keys leaf.values.items → pairs_of leaf ≡ rows → IsOrderedBy key_of_pair rows → KeysBelow key_limit rows → IsLeaf leaf
+  leaf_of : (n : ℕ) (leaf : Leaf V) (rows : List (ℕ × V)) → length leaf.values.items ≡ n → AreEntries n leaf.keys leaf.values.items → pairs_of leaf ≡ rows → IsOrderedBy key_of_pair rows → KeysBelow key_limit rows → IsLeaf leaf
   leaf_of n leaf rows len run e ordered keys = record {
-    run = subst (λ m. IsRun m leaf.keys leaf.values.items) (sym len) run;
+    run = subst (λ m. AreEntries m leaf.keys leaf.values.items) (sym len) run;
     ordered = subst (IsOrderedBy key_of_pair) (sym e) ordered;
     keys = subst (KeysBelow key_limit) (sym e) keys;
   }
@@ -198,7 +198,7 @@ module _ {V : Type 0} where
       let some = leaf_some i leaf h there.within in
       let both = run_written n i value leaf.keys leaf.values.items h.run there.within in
       let len : length new.values.items ≡ n = ap length ev ∙ length-set leaf.values.items i (Some value) in
-      let run : IsRun n new.keys new.values.items = rw (ek, ev) both.0 in
+      let run : AreEntries n new.keys new.values.items = rw (ek, ev) both.0 in
       let rows : pairs_of new ≡ with_row_at key_of_pair key (key, value) all =
       rw (ek, ev) both.1 ∙ ap (λ k. take i all ++ ((k, value) ∷ drop (i + 1) all)) there.same ∙ sym ((found_at key i some.0 leaf h there some.1).written value) in (
         leaf_of n new _ len run rows (ordered-with_row_at key_of_pair key (key, value) all refl h.ordered) (every-with_row_at-same key_of_pair (λ m. m < key_limit) key (key, value) all refl h.keys),
@@ -216,7 +216,7 @@ module _ {V : Type 0} where
       let miss = missing_at key i leaf free in
       let both = run_inserted n i key value leaf.keys items (insert items i (Some value)) h.run long room free.within (packed_insert n i value items h.run.packed free.within) (somes_insert n i value items h.run.packed free.within) in
       let len : length new.values.items ≡ n + 1 = omega (arith, ap length ev, length-append (take i items) (Some value ∷ drop i items), length-take i items, length-drop i items, free.within) in
-      let run : IsRun (n + 1) new.keys new.values.items = rw (ek, ev) both.0 in
+      let run : AreEntries (n + 1) new.keys new.values.items = rw (ek, ev) both.0 in
       let rows : pairs_of new ≡ with_row key_of_pair (key, value) all = rw (ek, ev) both.1 ∙ sym (miss.inserted value) in
       let leaf_new = leaf_of (n + 1) new _ len run rows (ordered-with_row key_of_pair (key, value) all miss.row h.ordered) (each-with_row key_of_pair (λ q. q.0 < key_limit) (key, value) all small h.keys) in (
         leaf_new,
@@ -234,7 +234,7 @@ module _ {V : Type 0} where
       let somes_left : somes (remove items i) ≡ take i (somes items) ++ drop (i + 1) (somes items) = somes_remove n i items h.run.packed there.within ∙ ap (λ j. take i (somes items) ++ drop j (somes items)) (sym (add-one i)) in
       let both = run_removed n i leaf.keys items (remove items i) h.run there.within (packed_remove n i items h.run.packed there.within) somes_left in
       let len : length new.values.items + 1 ≡ n = omega (arith, ap length ev, length-append (take i items) (drop (suc i) items), length-take i items, length-drop (suc i) items, there.within) in
-      let run : IsRun (n - 1) new.keys new.values.items = rw (ek, ev) both.0 in
+      let run : AreEntries (n - 1) new.keys new.values.items = rw (ek, ev) both.0 in
       let rows : pairs_of new ≡ without_row key_of_pair key all = rw (ek, ev) both.1 ∙ sym (found_at key i some.0 leaf h there some.1).removed in (
         leaf_of (n - 1) new _ (omega (arith, len)) run rows (ordered-without_row key_of_pair key all h.ordered) (each-without_row key_of_pair (λ q. q.0 < key_limit) key all h.keys),
         rows,

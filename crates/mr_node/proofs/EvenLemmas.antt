@@ -7,13 +7,13 @@ use Rattle.tatp_rows.proofs.AppendLemmas.{each-append, each-left, each-right, or
 use Rattle.mr_node.specs.declared.body.Leaf.{Leaf}
 use Rattle.mr_node.specs.Rows.{Seen, key_of_pair, key_limit}
 use Rattle.mr_node.specs.declared.body.Body.TheVariants.{Inner as AsInner}
-use Rattle.mr_node.specs.Runs.{IsRun}
-use Rattle.mr_node.specs.Levels.{NodeBody, NodeBranch, IsNode, pairs_of, kids_of, rows_of, IsWell, IsLeaf, IsKid, IsBranch, seen_leaf, seen_branch}
-use Rattle.mr_node.specs.Pairs.{AreEvenWidths, IsShare, IsKidNode, AreEvened, IsHalved}
-use Rattle.mr_node.proofs.RunLemmas.{run_length}
-use Rattle.mr_node.proofs.KidLemmas.{rows_of-append}
+use Rattle.mr_node.specs.EntryLists.{AreEntries}
+use Rattle.mr_node.specs.Levels.{NodeBody, NodeInner, IsNode, pairs_of, children_of, rows_of, IsWell, IsLeaf, IsChild, IsInner, seen_leaf, seen_inner}
+use Rattle.mr_node.specs.Pairs.{AreEvenWidths, IsShare, IsChildNode, AreEvened, IsHalved}
+use Rattle.mr_node.proofs.EntryListLemmas.{run_length}
+use Rattle.mr_node.proofs.ChildLemmas.{rows_of-append}
 use Rattle.mr_node.proofs.ShareLemmas.{appended_sum}
-use Rattle.mr_node.proofs.SizeLemmas.{leaf_well, branch_well}
+use Rattle.mr_node.proofs.SizeLemmas.{leaf_well, inner_well}
 
 -- the same of widths that are equal
 even_by : (r : Bool) (c d m n : ℕ) → c ≡ m → d ≡ n → AreEvenWidths r c d → AreEvenWidths r m n
@@ -59,7 +59,7 @@ module _ {V : Type 0} where
   }
   evened false a b x y z wide rows low high well more none even same = record {
     low = record { level = low; enough = even.0; well = well };
-    high = subst (IsKidNode a.height) (sym (same refl)) (record { level = high; enough = even.2; well = more (omega (arith, even.2)) });
+    high = subst (IsChildNode a.height) (sym (same refl)) (record { level = high; enough = even.2; well = more (omega (arith, even.2)) });
     width = ap (λ s. x.width + s.width) (same refl) ∙ wide;
     rows = ap (λ s. x.rows ++ s.rows) (same refl) ∙ rows;
     many = omega (arith, wide, even.4);
@@ -88,8 +88,8 @@ module _ {V : Type 0} where
 
   -- their entries shared anew
   pub record AreMovedLeaves (a b c d : Leaf V) : Type 0 where
-    pub left : IsRun (length c.values.items) c.keys c.values.items
-    pub right : IsRun (length d.values.items) d.keys d.values.items
+    pub left : AreEntries (length c.values.items) c.keys c.values.items
+    pub right : AreEntries (length d.values.items) d.keys d.values.items
     pub list : pairs_of c ++ pairs_of d ≡ pairs_of a ++ pairs_of b
 
   pub leaves_of : (a b : Leaf V) (m n : Seen V) → IsLeaf a → IsLeaf b → seen_leaf a ≡ m → seen_leaf b ≡ n → IsOrderedBy key_of_pair (m.rows ++ n.rows) → AreLeaves a b
@@ -116,7 +116,7 @@ module _ {V : Type 0} where
     keys = each-right (λ p. p.0 < key_limit) (pairs_of c) (pairs_of d) (subst (AllByRecursion (λ p. p.0 < key_limit)) (sym m.list) (shared_keys a b two));
   }
 
-  pub leaf_length : (leaf : Leaf V) → IsRun (length leaf.values.items) leaf.keys leaf.values.items → length (pairs_of leaf) ≡ length leaf.values.items
+  pub leaf_length : (leaf : Leaf V) → AreEntries (length leaf.values.items) leaf.keys leaf.values.items → length (pairs_of leaf) ≡ length leaf.values.items
   leaf_length leaf run = run_length (length leaf.values.items) leaf.keys leaf.values.items run
 
   pub evened_leaves : (r : Bool) (a b c d : Leaf V) → AreLeaves a b → AreMovedLeaves a b c d → AreEvenWidths r (length (pairs_of c)) (length (pairs_of d)) → AreEvened r (seen_leaf a) (seen_leaf b) (seen_leaf c) (seen_leaf d)
@@ -138,97 +138,97 @@ module _ {V : Type 0} where
       (low, high, halved (seen_leaf a) (seen_leaf c) (seen_leaf d) (no_more (pairs_of a) (pairs_of b) (pairs_of c) (pairs_of d) m.list nb) refl refl (leaf_well c low) (leaf_well d high) (sym (leaf_length c m.left) ∙ lc) (sym (leaf_length d m.right) ∙ ld))
 
   -- two inner nodes whose rows rise one after another: the second may be empty
-  pub record AreBranches (a b : NodeBranch V) : Type 0 where
-    pub inner : 0 < a.height
+  pub record AreInners (a b : NodeInner V) : Type 0 where
+    pub above_leaves : 0 < a.height
     pub level : b.height ≡ a.height
-    pub kids : AllByRecursion (IsKid (a.height - 1)) (kids_of a ++ kids_of b)
-    pub ordered : IsOrderedBy key_of_pair (rows_of (kids_of a ++ kids_of b))
-    pub keys : AllByRecursion (λ p. p.0 < key_limit) (rows_of (kids_of a ++ kids_of b))
+    pub children : AllByRecursion (IsChild (a.height - 1)) (children_of a ++ children_of b)
+    pub ordered : IsOrderedBy key_of_pair (rows_of (children_of a ++ children_of b))
+    pub keys : AllByRecursion (λ p. p.0 < key_limit) (rows_of (children_of a ++ children_of b))
 
   -- their children shared anew
-  pub record AreMovedKids (a b c d : NodeBranch V) : Type 0 where
-    pub left : IsRun c.len c.leasts c.kids
-    pub right : IsRun d.len d.leasts d.kids
-    pub list : kids_of c ++ kids_of d ≡ kids_of a ++ kids_of b
+  pub record AreMovedChildren (a b c d : NodeInner V) : Type 0 where
+    pub left : AreEntries c.len c.leasts c.children
+    pub right : AreEntries d.len d.leasts d.children
+    pub list : children_of c ++ children_of d ≡ children_of a ++ children_of b
     pub left_height : c.height ≡ a.height
     pub right_height : d.height ≡ b.height
 
-  two_branches : (a b : NodeBranch V) → IsBranch a → IsBranch b → a.height ≡ b.height → IsOrderedBy key_of_pair (rows_of (kids_of a) ++ rows_of (kids_of b)) → AreBranches a b
-  two_branches a b ba bb level o =
-      let rows = sym (rows_of-append (kids_of a) (kids_of b)) in
+  two_inners : (a b : NodeInner V) → IsInner a → IsInner b → a.height ≡ b.height → IsOrderedBy key_of_pair (rows_of (children_of a) ++ rows_of (children_of b)) → AreInners a b
+  two_inners a b ba bb level o =
+      let rows = sym (rows_of-append (children_of a) (children_of b)) in
       record {
-        inner = ba.inner;
+        above_leaves = ba.above_leaves;
         level = sym level;
-        kids = each-append (IsKid (a.height - 1)) (kids_of a) (kids_of b) ba.kids (subst (λ h. AllByRecursion (IsKid (h - 1)) (kids_of b)) (sym level) bb.kids);
+        children = each-append (IsChild (a.height - 1)) (children_of a) (children_of b) ba.children (subst (λ h. AllByRecursion (IsChild (h - 1)) (children_of b)) (sym level) bb.children);
         ordered = subst (IsOrderedBy key_of_pair) rows o;
-        keys = subst (AllByRecursion (λ p. p.0 < key_limit)) rows (each-append (λ p. p.0 < key_limit) (rows_of (kids_of a)) (rows_of (kids_of b)) ba.keys bb.keys);
+        keys = subst (AllByRecursion (λ p. p.0 < key_limit)) rows (each-append (λ p. p.0 < key_limit) (rows_of (children_of a)) (rows_of (children_of b)) ba.keys bb.keys);
       }
 
-  pub branches_of : (a b : NodeBranch V) (m n : Seen V) → IsBranch a → IsBranch b → seen_branch a ≡ m → seen_branch b ≡ n → m.height ≡ n.height → IsOrderedBy key_of_pair (m.rows ++ n.rows) → AreBranches a b
-  branches_of a b m n ba bb em en level o =
-      two_branches a b ba bb (ap (λ s. s.height) em ∙ level ∙ sym (ap (λ s. s.height) en))
-      (subst (λ s. IsOrderedBy key_of_pair (rows_of (kids_of a) ++ s.rows)) (sym en) (subst (λ s. IsOrderedBy key_of_pair (s.rows ++ n.rows)) (sym em) o))
+  pub inners_of : (a b : NodeInner V) (m n : Seen V) → IsInner a → IsInner b → seen_inner a ≡ m → seen_inner b ≡ n → m.height ≡ n.height → IsOrderedBy key_of_pair (m.rows ++ n.rows) → AreInners a b
+  inners_of a b m n ba bb em en level o =
+      two_inners a b ba bb (ap (λ s. s.height) em ∙ level ∙ sym (ap (λ s. s.height) en))
+      (subst (λ s. IsOrderedBy key_of_pair (rows_of (children_of a) ++ s.rows)) (sym en) (subst (λ s. IsOrderedBy key_of_pair (s.rows ++ n.rows)) (sym em) o))
 
-  shared_rows : (a b c d : NodeBranch V) → AreMovedKids a b c d → rows_of (kids_of a ++ kids_of b) ≡ rows_of (kids_of c) ++ rows_of (kids_of d)
-  shared_rows a b c d m = ap rows_of (sym m.list) ∙ rows_of-append (kids_of c) (kids_of d)
+  shared_rows : (a b c d : NodeInner V) → AreMovedChildren a b c d → rows_of (children_of a ++ children_of b) ≡ rows_of (children_of c) ++ rows_of (children_of d)
+  shared_rows a b c d m = ap rows_of (sym m.list) ∙ rows_of-append (children_of c) (children_of d)
 
-  left_branch : (a b c d : NodeBranch V) → AreBranches a b → AreMovedKids a b c d → 0 < c.len → IsBranch c
-  left_branch a b c d two m some =
+  left_inner : (a b c d : NodeInner V) → AreInners a b → AreMovedChildren a b c d → 0 < c.len → IsInner c
+  left_inner a b c d two m some =
       let rows = shared_rows a b c d m in
       record {
-        inner = omega (arith, m.left_height, two.inner);
+        above_leaves = omega (arith, m.left_height, two.above_leaves);
         some = some;
         run = m.left;
-        kids = subst (λ h. AllByRecursion (IsKid (h - 1)) (kids_of c)) (sym m.left_height) (each-left (IsKid (a.height - 1)) (kids_of c) (kids_of d) (subst (AllByRecursion (IsKid (a.height - 1))) (sym m.list) two.kids));
-        ordered = ordered-left key_of_pair (rows_of (kids_of c)) (rows_of (kids_of d)) (subst (IsOrderedBy key_of_pair) rows two.ordered);
-        keys = each-left (λ p. p.0 < key_limit) (rows_of (kids_of c)) (rows_of (kids_of d)) (subst (AllByRecursion (λ p. p.0 < key_limit)) rows two.keys);
+        children = subst (λ h. AllByRecursion (IsChild (h - 1)) (children_of c)) (sym m.left_height) (each-left (IsChild (a.height - 1)) (children_of c) (children_of d) (subst (AllByRecursion (IsChild (a.height - 1))) (sym m.list) two.children));
+        ordered = ordered-left key_of_pair (rows_of (children_of c)) (rows_of (children_of d)) (subst (IsOrderedBy key_of_pair) rows two.ordered);
+        keys = each-left (λ p. p.0 < key_limit) (rows_of (children_of c)) (rows_of (children_of d)) (subst (AllByRecursion (λ p. p.0 < key_limit)) rows two.keys);
       }
 
-  right_branch : (a b c d : NodeBranch V) → AreBranches a b → AreMovedKids a b c d → 0 < d.len → IsBranch d
-  right_branch a b c d two m some =
+  right_inner : (a b c d : NodeInner V) → AreInners a b → AreMovedChildren a b c d → 0 < d.len → IsInner d
+  right_inner a b c d two m some =
       let rows = shared_rows a b c d m in
       let height : d.height ≡ a.height = m.right_height ∙ two.level in
       record {
-        inner = omega (arith, height, two.inner);
+        above_leaves = omega (arith, height, two.above_leaves);
         some = some;
         run = m.right;
-        kids = subst (λ h. AllByRecursion (IsKid (h - 1)) (kids_of d)) (sym height) (each-right (IsKid (a.height - 1)) (kids_of c) (kids_of d) (subst (AllByRecursion (IsKid (a.height - 1))) (sym m.list) two.kids));
-        ordered = ordered-right key_of_pair (rows_of (kids_of c)) (rows_of (kids_of d)) (subst (IsOrderedBy key_of_pair) rows two.ordered);
-        keys = each-right (λ p. p.0 < key_limit) (rows_of (kids_of c)) (rows_of (kids_of d)) (subst (AllByRecursion (λ p. p.0 < key_limit)) rows two.keys);
+        children = subst (λ h. AllByRecursion (IsChild (h - 1)) (children_of d)) (sym height) (each-right (IsChild (a.height - 1)) (children_of c) (children_of d) (subst (AllByRecursion (IsChild (a.height - 1))) (sym m.list) two.children));
+        ordered = ordered-right key_of_pair (rows_of (children_of c)) (rows_of (children_of d)) (subst (IsOrderedBy key_of_pair) rows two.ordered);
+        keys = each-right (λ p. p.0 < key_limit) (rows_of (children_of c)) (rows_of (children_of d)) (subst (AllByRecursion (λ p. p.0 < key_limit)) rows two.keys);
       }
 
-  pub branch_length : (b : NodeBranch V) → IsRun b.len b.leasts b.kids → length (kids_of b) ≡ b.len
-  branch_length b run = run_length b.len b.leasts b.kids run
+  pub inner_length : (b : NodeInner V) → AreEntries b.len b.leasts b.children → length (children_of b) ≡ b.len
+  inner_length b run = run_length b.len b.leasts b.children run
 
-  pub evened_branches : (r : Bool) (a b c d : NodeBranch V) (z : Seen V) → IsBranch a → IsBranch b → AreBranches a b → AreMovedKids a b c d → AreEvenWidths r (length (kids_of c)) (length (kids_of d)) → (r ≡ false → z ≡ seen_branch d) → (IsBranch c) × (r ≡ false → IsBranch d) × AreEvened r (seen_branch a) (seen_branch b) (seen_branch c) z
-  evened_branches r a b c d z first second two m even same =
-      let left = branch_length c m.left in
-      let right = branch_length d m.right in
-      let wide : c.len + d.len ≡ a.len + b.len = omega (arith, appended_sum (kids_of c) (kids_of d) (kids_of a) (kids_of b) m.list, left, right, branch_length a first.run, branch_length b second.run) in
+  pub evened_inners : (r : Bool) (a b c d : NodeInner V) (z : Seen V) → IsInner a → IsInner b → AreInners a b → AreMovedChildren a b c d → AreEvenWidths r (length (children_of c)) (length (children_of d)) → (r ≡ false → z ≡ seen_inner d) → (IsInner c) × (r ≡ false → IsInner d) × AreEvened r (seen_inner a) (seen_inner b) (seen_inner c) z
+  evened_inners r a b c d z first second two m even same =
+      let left = inner_length c m.left in
+      let right = inner_length d m.right in
+      let wide : c.len + d.len ≡ a.len + b.len = omega (arith, appended_sum (children_of c) (children_of d) (children_of a) (children_of b) m.list, left, right, inner_length a first.run, inner_length b second.run) in
       let widths = even_by r _ _ _ _ left right even in
-      let low = left_branch a b c d two m (even_left r c.len d.len (omega (arith, wide, first.some)) widths) in (
+      let low = left_inner a b c d two m (even_left r c.len d.len (omega (arith, wide, first.some)) widths) in (
         low,
-        λ e. right_branch a b c d two m (even_right r c.len d.len widths e),
-        evened r (seen_branch a) (seen_branch b) (seen_branch c) (seen_branch d) z wide (sym (shared_rows a b c d m) ∙ rows_of-append (kids_of a) (kids_of b)) m.left_height (m.right_height ∙ two.level) (branch_well c low) (λ some. branch_well d (right_branch a b c d two m some)) (λ none. ap rows_of (nil_from_length (kids_of d) (right ∙ none))) widths same,
+        λ e. right_inner a b c d two m (even_right r c.len d.len widths e),
+        evened r (seen_inner a) (seen_inner b) (seen_inner c) (seen_inner d) z wide (sym (shared_rows a b c d m) ∙ rows_of-append (children_of a) (children_of b)) m.left_height (m.right_height ∙ two.level) (inner_well c low) (λ some. inner_well d (right_inner a b c d two m some)) (λ none. ap rows_of (nil_from_length (children_of d) (right ∙ none))) widths same,
       )
 
-  pub halved_branch : (a b c d : NodeBranch V) → IsBranch a → IsRun 0 b.leasts b.kids → b.height ≡ a.height → AreMovedKids a b c d → a.len ≡ 32 → length (kids_of c) ≡ 16 → (IsBranch c) × (IsBranch d) × IsHalved (seen_branch a) (seen_branch c) (seen_branch d)
-  halved_branch a b c d whole run level m la lc =
-      let none : kids_of b ≡ [] = nil_from_length (kids_of b) (run_length 0 b.leasts b.kids run) in
-      let same : kids_of a ++ kids_of b ≡ kids_of a = ap (λ l. kids_of a ++ l) none ∙ append-nil (kids_of a) in
-      let two : AreBranches a b = record {
-        inner = whole.inner;
+  pub halved_inner : (a b c d : NodeInner V) → IsInner a → AreEntries 0 b.leasts b.children → b.height ≡ a.height → AreMovedChildren a b c d → a.len ≡ 32 → length (children_of c) ≡ 16 → (IsInner c) × (IsInner d) × IsHalved (seen_inner a) (seen_inner c) (seen_inner d)
+  halved_inner a b c d whole run level m la lc =
+      let none : children_of b ≡ [] = nil_from_length (children_of b) (run_length 0 b.leasts b.children run) in
+      let same : children_of a ++ children_of b ≡ children_of a = ap (λ l. children_of a ++ l) none ∙ append-nil (children_of a) in
+      let two : AreInners a b = record {
+        above_leaves = whole.above_leaves;
         level = level;
-        kids = subst (AllByRecursion (IsKid (a.height - 1))) (sym same) whole.kids;
+        children = subst (AllByRecursion (IsChild (a.height - 1))) (sym same) whole.children;
         ordered = subst (λ l. IsOrderedBy key_of_pair (rows_of l)) (sym same) whole.ordered;
         keys = subst (λ l. AllByRecursion (λ p. p.0 < key_limit) (rows_of l)) (sym same) whole.keys;
       } in
-      let ld = rest_length (kids_of a) (kids_of b) (kids_of c) (kids_of d) m.list (branch_length a whole.run ∙ la) none lc in
-      let wc : c.len ≡ 16 = sym (branch_length c m.left) ∙ lc in
-      let wd : d.len ≡ 16 = sym (branch_length d m.right) ∙ ld in
-      let low = left_branch a b c d two m (omega (arith, wc)) in
-      let high = right_branch a b c d two m (omega (arith, wd)) in
-      (low, high, halved (seen_branch a) (seen_branch c) (seen_branch d) (sym (shared_rows a b c d m) ∙ ap rows_of same) m.left_height (m.right_height ∙ level) (branch_well c low) (branch_well d high) wc wd)
+      let ld = rest_length (children_of a) (children_of b) (children_of c) (children_of d) m.list (inner_length a whole.run ∙ la) none lc in
+      let wc : c.len ≡ 16 = sym (inner_length c m.left) ∙ lc in
+      let wd : d.len ≡ 16 = sym (inner_length d m.right) ∙ ld in
+      let low = left_inner a b c d two m (omega (arith, wc)) in
+      let high = right_inner a b c d two m (omega (arith, wd)) in
+      (low, high, halved (seen_inner a) (seen_inner c) (seen_inner d) (sym (shared_rows a b c d m) ∙ ap rows_of same) m.left_height (m.right_height ∙ level) (inner_well c low) (inner_well d high) wc wd)
 
   -- the same of the nodes themselves
   pub halved_by : (a x y n s t : Seen V) → IsHalved a x y → a ≡ n → s ≡ x → t ≡ y → IsHalved n s t
@@ -239,6 +239,6 @@ module _ {V : Type 0} where
       subst (λ z. AreEvened z m n s t) (sym eq) (subst (λ z. AreEvened r z n s t) em (subst (λ z. AreEvened r a z s t) en (subst (λ z. AreEvened r a b z t) (sym es) (subst (AreEvened r a b x) (sym et) even))))
 
   -- a second node whose part was let go, where it had no child left
-  pub kept_node : (r : Bool) (body : NodeBody V) (d : NodeBranch V) → (r ≡ true → IsNode body) → (r ≡ false → body ≡ AsInner d) → (r ≡ false → IsBranch d) → IsNode body
+  pub kept_node : (r : Bool) (body : NodeBody V) (d : NodeInner V) → (r ≡ true → IsNode body) → (r ≡ false → body ≡ AsInner d) → (r ≡ false → IsInner d) → IsNode body
   kept_node true body d gone kept whole = gone refl
   kept_node false body d gone kept whole = subst IsNode (sym (kept refl)) (whole refl)

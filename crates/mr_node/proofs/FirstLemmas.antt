@@ -5,15 +5,15 @@ use Rattle.std.proofs.lemmas.List.{drop_all, take-append-drop}
 use Rattle.tatp_rows.proofs.SpanLemmas.{find-skip, find-head, find-left, find-right}
 use Rattle.mr_node.specs.declared.body.Leaf.{Leaf}
 use Rattle.mr_node.specs.Rows.{key_of_pair}
-use Rattle.mr_node.specs.Runs.{no_key}
+use Rattle.mr_node.specs.EntryLists.{no_key}
 use Rattle.mr_node.specs.Search.{IsStop}
-use Rattle.mr_node.specs.Levels.{IsKidPlace}
-use Rattle.mr_node.specs.Levels.{IsLeaf, pairs_of, NodePart, NodeKid, NodeBranch, kids_of, rows_of, IsKid, IsBranch}
+use Rattle.mr_node.specs.Levels.{IsChildPlace}
+use Rattle.mr_node.specs.Levels.{IsLeaf, pairs_of, NodePart, NodeChild, NodeInner, children_of, rows_of, IsChild, IsInner}
 use Rattle.mr_node.proofs.PlaceLemmas.{got_used, never_none}
-use Rattle.mr_node.proofs.RunLemmas.{run_rest, run_length}
+use Rattle.mr_node.proofs.EntryListLemmas.{run_rest, run_length}
 use Rattle.mr_node.proofs.EntryLemmas.{cut_below, leaf_length}
 use Rattle.tatp_rows.specs.Spans.{StartsAt}
-use Rattle.mr_node.proofs.KidLemmas.{IsCutAt, kid_at, cut_kid}
+use Rattle.mr_node.proofs.ChildLemmas.{IsCutAt, child_at, cut_child}
 
 module _ {V : Type 0} where
   -- the first row with a key from k on
@@ -39,14 +39,14 @@ module _ {V : Type 0} where
   leaf_never_none i r leaf h lt read none = never_none (length leaf.values.items) i r leaf.values.items h.run.packed lt (sym read ∙ none)
 
 module _ {V : Type 0} where
-  first_cut : (key h i : ℕ) (kids : List (NodeKid V)) (k : NodeKid V) → IsCutAt key h i kids k → first_row key (rows_of kids) ≡ first_row key (k.1.node.value.rows ++ rows_of (drop (i + 1) kids))
-  first_cut key h i kids k cut = ap (first_row key) cut.rows ∙ find-skip key_of_pair key (rows_of (take i kids)) (k.1.node.value.rows ++ rows_of (drop (i + 1) kids)) cut.below
+  first_cut : (key h i : ℕ) (children : List (NodeChild V)) (k : NodeChild V) → IsCutAt key h i children k → first_row key (rows_of children) ≡ first_row key (k.1.node.value.rows ++ rows_of (drop (i + 1) children))
+  first_cut key h i children k cut = ap (first_row key) cut.rows ∙ find-skip key_of_pair key (rows_of (take i children)) (k.1.node.value.rows ++ rows_of (drop (i + 1) children)) cut.below
 
-  pub first_in_kid : (key h i : ℕ) (kids : List (NodeKid V)) (k : NodeKid V) (p : ℕ × V) → IsCutAt key h i kids k → first_row key k.1.node.value.rows ≡ Some p → first_row key (rows_of kids) ≡ Some p
-  first_in_kid key h i kids k p cut e = first_cut key h i kids k cut ∙ find-left (λ q. leb key q.0) p k.1.node.value.rows (rows_of (drop (i + 1) kids)) e
+  pub first_in_child : (key h i : ℕ) (children : List (NodeChild V)) (k : NodeChild V) (p : ℕ × V) → IsCutAt key h i children k → first_row key k.1.node.value.rows ≡ Some p → first_row key (rows_of children) ≡ Some p
+  first_in_child key h i children k p cut e = first_cut key h i children k cut ∙ find-left (λ q. leb key q.0) p k.1.node.value.rows (rows_of (drop (i + 1) children)) e
 
-  first_behind : (key h i : ℕ) (kids : List (NodeKid V)) (k : NodeKid V) → IsCutAt key h i kids k → first_row key k.1.node.value.rows ≡ None → first_row key (rows_of kids) ≡ first_row key (rows_of (drop (i + 1) kids))
-  first_behind key h i kids k cut e = first_cut key h i kids k cut ∙ find-right (λ q. leb key q.0) k.1.node.value.rows (rows_of (drop (i + 1) kids)) e
+  first_behind : (key h i : ℕ) (children : List (NodeChild V)) (k : NodeChild V) → IsCutAt key h i children k → first_row key k.1.node.value.rows ≡ None → first_row key (rows_of children) ≡ first_row key (rows_of (drop (i + 1) children))
+  first_behind key h i children k cut e = first_cut key h i children k cut ∙ find-right (λ q. leb key q.0) k.1.node.value.rows (rows_of (drop (i + 1) children)) e
 
   starts_first : (key least : ℕ) (rows rest : List (ℕ × V)) → StartsAt key_of_pair least rows → key ≤ least → first_row key (rows ++ rest) ≡ first_row key rows
   starts_first key least [] rest h le = absurd h
@@ -54,15 +54,15 @@ module _ {V : Type 0} where
       let here : key ≤ p.0 = omega (arith, h, le) in
       find-head key_of_pair key p (rows ++ rest) here ∙ sym (find-head key_of_pair key p rows here)
 
-  pub first_in_next : (key i : ℕ) (b : NodeBranch V) (k j : NodePart V) → IsBranch b → IsKidPlace key i b.len b.leasts → get_or b.kids i None ≡ Some k → get_or b.kids (i + 1) None ≡ Some j → i + 1 < b.len → first_row key k.node.value.rows ≡ None → first_row key (rows_of (kids_of b)) ≡ first_row key j.node.value.rows
-  first_in_next key i b k j branch at got next lt none =
-      let kids = kids_of b in
-      let cut = cut_kid key i b k branch at got in
-      let more = run_rest b.len (i + 1) j b.leasts b.kids branch.run next in
-      let kid = (subst (AllByRecursion (IsKid (b.height - 1))) more cut.after).0 in
-      first_behind key (b.height - 1) i kids (kid_at b i k) cut none ∙ ap (λ l. first_row key (rows_of l)) more
-      ∙ starts_first key (get_or b.leasts (i + 1) 0) j.node.value.rows (rows_of (drop (i + 1 + 1) kids)) kid.first (omega (arith, at.next lt))
+  pub first_in_next : (key i : ℕ) (b : NodeInner V) (k j : NodePart V) → IsInner b → IsChildPlace key i b.len b.leasts → get_or b.children i None ≡ Some k → get_or b.children (i + 1) None ≡ Some j → i + 1 < b.len → first_row key k.node.value.rows ≡ None → first_row key (rows_of (children_of b)) ≡ first_row key j.node.value.rows
+  first_in_next key i b k j inner at got next lt none =
+      let children = children_of b in
+      let cut = cut_child key i b k inner at got in
+      let more = run_rest b.len (i + 1) j b.leasts b.children inner.run next in
+      let child = (subst (AllByRecursion (IsChild (b.height - 1))) more cut.after).0 in
+      first_behind key (b.height - 1) i children (child_at b i k) cut none ∙ ap (λ l. first_row key (rows_of l)) more
+      ∙ starts_first key (get_or b.leasts (i + 1) 0) j.node.value.rows (rows_of (drop (i + 1 + 1) children)) child.first (omega (arith, at.next lt))
 
-  pub first_no_next : (key i : ℕ) (b : NodeBranch V) (k : NodePart V) → IsBranch b → IsKidPlace key i b.len b.leasts → get_or b.kids i None ≡ Some k → b.len ≤ i + 1 → first_row key k.node.value.rows ≡ None → first_row key (rows_of (kids_of b)) ≡ None
-  first_no_next key i b k branch at got le none =
-      first_behind key (b.height - 1) i (kids_of b) (kid_at b i k) (cut_kid key i b k branch at got) none ∙ ap (λ l. first_row key (rows_of l)) (drop_all (i + 1) (kids_of b) (omega (arith, run_length b.len b.leasts b.kids branch.run, le)))
+  pub first_no_next : (key i : ℕ) (b : NodeInner V) (k : NodePart V) → IsInner b → IsChildPlace key i b.len b.leasts → get_or b.children i None ≡ Some k → b.len ≤ i + 1 → first_row key k.node.value.rows ≡ None → first_row key (rows_of (children_of b)) ≡ None
+  first_no_next key i b k inner at got le none =
+      first_behind key (b.height - 1) i (children_of b) (child_at b i k) (cut_child key i b k inner at got) none ∙ ap (λ l. first_row key (rows_of l)) (drop_all (i + 1) (children_of b) (omega (arith, run_length b.len b.leasts b.children inner.run, le)))

@@ -3,11 +3,11 @@ use Rattle.std.proofs.Common.{◌≡◌, ℕ, ◌+◌, ◌<◌, ◌≤◌, List,
 use Rattle.std.specs.Borrow.{Bor, MutBor}
 use Rattle.std.proofs.lemmas.List.{take_all, get_or_default}
 use Rattle.mr_node.specs.declared.body.Leaf.{Leaf}
-use Rattle.mr_node.specs.Levels.{IsLeaf, pairs_of, NodePart, NodeBranch, kids_of, rows_of, IsBranch}
+use Rattle.mr_node.specs.Levels.{IsLeaf, pairs_of, NodePart, NodeInner, children_of, rows_of, IsInner}
 use Rattle.mr_node.specs.Folds.{FoldsRows, WalksRows}
-use Rattle.mr_node.proofs.RunLemmas.{run_next, run_length}
+use Rattle.mr_node.proofs.EntryListLemmas.{run_next, run_length}
 use Rattle.mr_node.proofs.EntryLemmas.{leaf_length, leaf_some}
-use Rattle.mr_node.proofs.KidLemmas.{kid_at, rows_of-append}
+use Rattle.mr_node.proofs.ChildLemmas.{child_at, rows_of-append}
 
 module _ {V : Type 0} where
   -- what was read of a place in use
@@ -37,15 +37,15 @@ module _ {V A : Type 0} (Gives : A → ℕ → Bor V → A → Type 0) where
   folds_one a b k x r o is now gives = subst (λ y. IfSome y (λ v. FoldsRows Gives a ((k, v) ∷ []) b)) (sym is) (b, r, now, gives, refl)
 
 module _ {V A : Type 0} (Gives : A → ℕ → Bor V → A → Type 0) where
-  pub folds_kid : (a m b : A) (i : ℕ) (n : NodeBranch V) (k : NodePart V) (seen : List (ℕ × V)) → IsBranch n → get_or n.kids i None ≡ Some k → seen ≡ k.node.value.rows → FoldsRows Gives a (rows_of (take i (kids_of n))) m → FoldsRows Gives m seen b → FoldsRows Gives a (rows_of (take (i + 1) (kids_of n))) b
-  folds_kid a m b i n k seen branch got es h s =
-      let front = rows_of (take i (kids_of n)) in
-      let rows = ap rows_of (run_next n.len i k n.leasts n.kids branch.run got) ∙ rows_of-append (take i (kids_of n)) (kid_at n i k ∷ []) ∙ ap (λ r. front ++ r) (append-nil k.node.value.rows) in
+  pub folds_child : (a m b : A) (i : ℕ) (n : NodeInner V) (k : NodePart V) (seen : List (ℕ × V)) → IsInner n → get_or n.children i None ≡ Some k → seen ≡ k.node.value.rows → FoldsRows Gives a (rows_of (take i (children_of n))) m → FoldsRows Gives m seen b → FoldsRows Gives a (rows_of (take (i + 1) (children_of n))) b
+  folds_child a m b i n k seen inner got es h s =
+      let front = rows_of (take i (children_of n)) in
+      let rows = ap rows_of (run_next n.len i k n.leasts n.children inner.run got) ∙ rows_of-append (take i (children_of n)) (child_at n i k ∷ []) ∙ ap (λ r. front ++ r) (append-nil k.node.value.rows) in
       subst (λ r. FoldsRows Gives a r b) (sym rows) (folds_append Gives a m b front k.node.value.rows h (subst (λ r. FoldsRows Gives m r b) es s))
 
-  pub folds_kids : (a b : A) (i : ℕ) (n : NodeBranch V) (rows : List (ℕ × V)) → IsBranch n → n.len ≤ i → rows_of (kids_of n) ≡ rows → FoldsRows Gives a (rows_of (take i (kids_of n))) b → FoldsRows Gives a rows b
-  folds_kids a b i n rows branch le e h =
-      subst (λ r. FoldsRows Gives a r b) (ap rows_of (take_all i (kids_of n) (omega (arith, run_length n.len n.leasts n.kids branch.run, le))) ∙ e) h
+  pub folds_children : (a b : A) (i : ℕ) (n : NodeInner V) (rows : List (ℕ × V)) → IsInner n → n.len ≤ i → rows_of (children_of n) ≡ rows → FoldsRows Gives a (rows_of (take i (children_of n))) b → FoldsRows Gives a rows b
+  folds_children a b i n rows inner le e h =
+      subst (λ r. FoldsRows Gives a r b) (ap rows_of (take_all i (children_of n) (omega (arith, run_length n.len n.leasts n.children inner.run, le))) ∙ e) h
 
   pub folds_same : (a b : A) (xs ys : List (ℕ × V)) → xs ≡ ys → FoldsRows Gives a xs b → FoldsRows Gives a ys b
   folds_same a b xs ys e = subst (λ rows. FoldsRows Gives a rows b) e

@@ -2,11 +2,11 @@
 -- after them.
 use Rattle.std.proofs.Common.{◌≡◌, ℕ, ◌+◌, ◌-◌, ◌<◌, ◌≤◌, List, [], ◌∷◌, ◌++◌, length, max, replicate, reverse, get_or, set, take, drop, Option, Some, None, refl, sym, ap, subst, ◌∙◌, arith, length-append, length-drop, take_at}
 use Rattle.std.proofs.lemmas.List.{append_assoc, drop-drop, drop-set-lt, drop_at, get_or-drop, get_or_default, length-reverse, length-set, length-take-le, reverse-reverse, take-append-drop, take-set-le, take_more, take_more_set}
-use Rattle.mr_node.specs.Runs.{no_key, somes, IsPacked, entries, IsRun}
+use Rattle.mr_node.specs.EntryLists.{no_key, somes, IsPacked, entries, AreEntries}
 use Rattle.mr_node.proofs.PlaceLemmas.{packed_length, packed_some, packed_left, packed_right, packed_join, somes_append}
 use Rattle.std.specs.List.{refill}
 use Rattle.mr_node.proofs.ShareLemmas.{refilled, same_sum}
-use Rattle.mr_node.proofs.RunLemmas.{run_dropped, run_next, run_pushed}
+use Rattle.mr_node.proofs.EntryListLemmas.{run_dropped, run_next, run_pushed}
 
 module _ {X : Type 0} where
   -- two lists that are the same from a place on
@@ -56,16 +56,16 @@ module _ {X : Type 0} where
 
 module _ {X : Type 0} where
   -- the next entry of a leaf behind those of another one
-  pub front_moved : (i m : ℕ) (r o y : Option X) (ks ls : List ℕ) (ps os qs more : List (Option X)) (rows : List (ℕ × X)) → IsRun (length os) ks os → IsRun (length qs) ls qs → length ls ≡ 32 → length qs < 32 → m ≡ length qs → i < length os → drop i ps ≡ drop i os → o ≡ get_or ps i r → more ≡ qs ++ (o ∷ []) → entries ls qs ≡ rows ++ take i (entries ks os)
-      → (IsRun (length more) (set ls m (get_or ks i 0)) more) × (entries (set ls m (get_or ks i 0)) more ≡ rows ++ take (i + 1) (entries ks os)) × (drop (i + 1) (set ps i y) ≡ drop (i + 1) os)
+  pub front_moved : (i m : ℕ) (r o y : Option X) (ks ls : List ℕ) (ps os qs more : List (Option X)) (rows : List (ℕ × X)) → AreEntries (length os) ks os → AreEntries (length qs) ls qs → length ls ≡ 32 → length qs < 32 → m ≡ length qs → i < length os → drop i ps ≡ drop i os → o ≡ get_or ps i r → more ≡ qs ++ (o ∷ []) → entries ls qs ≡ rows ++ take i (entries ks os)
+      → (AreEntries (length more) (set ls m (get_or ks i 0)) more) × (entries (set ls m (get_or ks i 0)) more ≡ rows ++ take (i + 1) (entries ks os)) × (drop (i + 1) (set ps i y) ≡ drop (i + 1) os)
   front_moved i m r o y ks ls ps os qs more rows run to long room wide lt rest eo f e =
       let used = packed_some (length os) i os run.packed lt in
       let same : o ≡ Some used.0 = eo ∙ read_rest i r ps os rest ∙ get_or_default os i r None lt ∙ used.1 in
       let one : more ≡ qs ++ (Some used.0 ∷ []) = f ∙ ap (λ x. qs ++ (x ∷ [])) same in
       let len : length more ≡ m + 1 = omega (arith, wide, ap length one, length-append qs (Some used.0 ∷ [])) in
       let filled : IsPacked (length more) more = subst (λ l. IsPacked (length l) l) (sym one) (packed_join qs (Some used.0 ∷ []) to.packed (omega arith, refl)) in
-      let pushed = run_pushed m (get_or ks i 0) used.0 ls qs more (subst (λ j. IsRun j ls qs) (sym wide) to) long (omega (arith, wide, room)) (subst (λ j. IsPacked j more) len filled) (ap somes one ∙ somes_append qs (Some used.0 ∷ [])) in (
-        subst (λ j. IsRun j (set ls m (get_or ks i 0)) more) (sym len) pushed.0,
+      let pushed = run_pushed m (get_or ks i 0) used.0 ls qs more (subst (λ j. AreEntries j ls qs) (sym wide) to) long (omega (arith, wide, room)) (subst (λ j. IsPacked j more) len filled) (ap somes one ∙ somes_append qs (Some used.0 ∷ [])) in (
+        subst (λ j. AreEntries j (set ls m (get_or ks i 0)) more) (sym len) pushed.0,
         pushed.1 ∙ ap (λ l. l ++ ((get_or ks i 0, used.0) ∷ [])) e ∙ append_assoc rows (take i (entries ks os)) ((get_or ks i 0, used.0) ∷ []) ∙ ap (λ l. rows ++ l) (sym (run_next (length os) i used.0 ks os run used.1)),
         drop-set-lt (i + 1) ps i y (omega arith) ∙ rest_next i ps os rest,
       )
@@ -78,7 +78,7 @@ module _ {X : Type 0} where
       e ∙ ap (take (n - c)) (refilled ms ws (len ∙ all)) ∙ ap (λ j. take j ws) less ∙ front ∙ ap (drop c) eb ∙ rest
 
   -- a leaf without its first entries
-  pub front_dropped : (c : ℕ) (ks keys : List ℕ) (ps new : List (Option X)) → IsRun (length ps) ks ps → c ≤ length ps → keys ≡ drop c ks ++ replicate c no_key → new ≡ drop c ps → (IsRun (length new) keys new) × (entries keys new ≡ drop c (entries ks ps))
+  pub front_dropped : (c : ℕ) (ks keys : List ℕ) (ps new : List (Option X)) → AreEntries (length ps) ks ps → c ≤ length ps → keys ≡ drop c ks ++ replicate c no_key → new ≡ drop c ps → (AreEntries (length new) keys new) × (entries keys new ≡ drop c (entries ks ps))
   front_dropped c ks keys ps new run le ek e =
       let cut = sym (take-append-drop c ps) in
       let all = subst (λ l. IsPacked (length l) l) cut run.packed in
@@ -87,4 +87,4 @@ module _ {X : Type 0} where
       let packed : IsPacked (length new) new = subst (λ l. IsPacked (length l) l) (sym e) (packed_right (take c ps) (drop c ps) all) in
       let same : somes new ≡ drop c (somes ps) = ap somes e ∙ sym (ap (drop c) (ap somes cut ∙ somes_append (take c ps) (drop c ps)) ∙ drop_at (somes (take c ps)) (somes (drop c ps)) c (front ∙ length-take-le c ps le)) in
       let dropped = run_dropped (length ps) c ks ps new run le (subst (λ j. IsPacked j new) len packed) same in
-      subst (λ l. (IsRun (length new) l new) × (entries l new ≡ drop c (entries ks ps))) (sym ek) (subst (λ j. IsRun j (drop c ks ++ replicate c no_key) new) (sym len) dropped.0, dropped.1)
+      subst (λ l. (AreEntries (length new) l new) × (entries l new ≡ drop c (entries ks ps))) (sym ek) (subst (λ j. AreEntries j (drop c ks ++ replicate c no_key) new) (sym len) dropped.0, dropped.1)

@@ -9,15 +9,15 @@ use Rattle.tatp_rows.proofs.AppendLemmas.{each-right}
 use Rattle.tatp_rows.proofs.OrderedLemmas.{each-weaker, filter_all, filter_none}
 use Rattle.mr_node.specs.declared.body.Leaf.{Leaf}
 use Rattle.mr_node.specs.Rows.{key_of_pair, KeysBelow, KeysFrom}
-use Rattle.mr_node.specs.Runs.{no_key}
+use Rattle.mr_node.specs.EntryLists.{no_key}
 use Rattle.mr_node.specs.Search.{IsStop}
-use Rattle.mr_node.specs.Levels.{IsKidPlace}
-use Rattle.mr_node.specs.Levels.{IsLeaf, pairs_of, NodePart, NodeBranch, kids_of, rows_of, IsKid, IsBranch}
+use Rattle.mr_node.specs.Levels.{IsChildPlace}
+use Rattle.mr_node.specs.Levels.{IsLeaf, pairs_of, NodePart, NodeInner, children_of, rows_of, IsChild, IsInner}
 use Rattle.mr_node.specs.Pages.{IsPage}
-use Rattle.mr_node.proofs.RunLemmas.{run_next, run_rest, run_length}
+use Rattle.mr_node.proofs.EntryListLemmas.{run_next, run_rest, run_length}
 use Rattle.mr_node.proofs.EntryLemmas.{leaf_length, stop_fits, cut_below}
 use Rattle.mr_node.proofs.PartLemmas.{cut_from}
-use Rattle.mr_node.proofs.KidLemmas.{kid_at, cut_kid, rows_of-append}
+use Rattle.mr_node.proofs.ChildLemmas.{child_at, cut_child, rows_of-append}
 use Rattle.mr_node.proofs.PlaceLemmas.{packed_some}
 
 -- a test for an empty page
@@ -82,52 +82,52 @@ module _ {V : Type 0} where
       }
 
   -- a child in its place
-  pub kid_in : (i : ℕ) (b : NodeBranch V) (k : NodePart V) → IsBranch b → get_or b.kids i None ≡ Some k → IsKid (b.height - 1) (kid_at b i k)
-  kid_in i b k branch got =
-      let kids = kids_of b in
-      let back = each-right (IsKid (b.height - 1)) (take i kids) (drop i kids) (subst (AllByRecursion (IsKid (b.height - 1))) (sym (take-append-drop i kids)) branch.kids) in
-      (subst (AllByRecursion (IsKid (b.height - 1))) (run_rest b.len i k b.leasts b.kids branch.run got) back).0
+  pub child_in : (i : ℕ) (b : NodeInner V) (k : NodePart V) → IsInner b → get_or b.children i None ≡ Some k → IsChild (b.height - 1) (child_at b i k)
+  child_in i b k inner got =
+      let children = children_of b in
+      let back = each-right (IsChild (b.height - 1)) (take i children) (drop i children) (subst (AllByRecursion (IsChild (b.height - 1))) (sym (take-append-drop i children)) inner.children) in
+      (subst (AllByRecursion (IsChild (b.height - 1))) (run_rest b.len i k b.leasts b.children inner.run got) back).0
 
   -- no child before this place has a row from the key on
-  abbrev pub NoneTo : ℕ → ℕ → NodeBranch V → Type 0
-  NoneTo key i b = keys_from key_of_pair key (rows_of (take i (kids_of b))) ≡ []
+  abbrev pub NoneTo : ℕ → ℕ → NodeInner V → Type 0
+  NoneTo key i b = keys_from key_of_pair key (rows_of (take i (children_of b))) ≡ []
 
-  pub none_before : (key i : ℕ) (b : NodeBranch V) → IsBranch b → IsKidPlace key i b.len b.leasts → NoneTo key i b
-  none_before key i b branch at =
-      let kid = packed_some b.len i b.kids branch.run.packed at.within in
-      from_none key (rows_of (take i (kids_of b))) (cut_kid key i b kid.0 branch at kid.1).below
+  pub none_before : (key i : ℕ) (b : NodeInner V) → IsInner b → IsChildPlace key i b.len b.leasts → NoneTo key i b
+  none_before key i b inner at =
+      let child = packed_some b.len i b.children inner.run.packed at.within in
+      from_none key (rows_of (take i (children_of b))) (cut_child key i b child.0 inner at child.1).below
 
   -- so the rows from it on up to the next child are those of this one
-  none_to_kid : (key i : ℕ) (b : NodeBranch V) (k : NodePart V) → IsBranch b → get_or b.kids i None ≡ Some k → NoneTo key i b
-      → keys_from key_of_pair key (rows_of (take (i + 1) (kids_of b))) ≡ keys_from key_of_pair key k.node.value.rows
-  none_to_kid key i b k branch got none =
-      let front = rows_of (take i (kids_of b)) in
-      let rows = ap rows_of (run_next b.len i k b.leasts b.kids branch.run got) ∙ rows_of-append (take i (kids_of b)) (kid_at b i k ∷ []) ∙ ap (λ r. front ++ r) (append-nil k.node.value.rows) in
+  none_to_child : (key i : ℕ) (b : NodeInner V) (k : NodePart V) → IsInner b → get_or b.children i None ≡ Some k → NoneTo key i b
+      → keys_from key_of_pair key (rows_of (take (i + 1) (children_of b))) ≡ keys_from key_of_pair key k.node.value.rows
+  none_to_child key i b k inner got none =
+      let front = rows_of (take i (children_of b)) in
+      let rows = ap rows_of (run_next b.len i k b.leasts b.children inner.run got) ∙ rows_of-append (take i (children_of b)) (child_at b i k ∷ []) ∙ ap (λ r. front ++ r) (append-nil k.node.value.rows) in
       ap (keys_from key_of_pair key) rows ∙ from_append key front k.node.value.rows ∙ ap (λ r. r ++ keys_from key_of_pair key k.node.value.rows) none
 
-  pub none_to_next : (key i : ℕ) (b : NodeBranch V) (k : NodePart V) → IsBranch b → get_or b.kids i None ≡ Some k → NoneTo key i b → IsPage key k.node.value.rows [] → NoneTo key (i + 1) b
-  none_to_next key i b k branch got none in_kid = none_to_kid key i b k branch got none ∙ in_kid.front ∙ in_kid.some refl
+  pub none_to_next : (key i : ℕ) (b : NodeInner V) (k : NodePart V) → IsInner b → get_or b.children i None ≡ Some k → NoneTo key i b → IsPage key k.node.value.rows [] → NoneTo key (i + 1) b
+  none_to_next key i b k inner got none in_child = none_to_child key i b k inner got none ∙ in_child.front ∙ in_child.some refl
 
   -- the page of a child that has one
-  pub page_in_kid : (key i : ℕ) (b : NodeBranch V) (k : NodePart V) (page : List (ℕ × V)) → IsBranch b → get_or b.kids i None ≡ Some k → NoneTo key i b → IsPage key k.node.value.rows page → (page ≡ [] → ⊥) → IsPage key (rows_of (kids_of b)) page
-  page_in_kid key i b k page branch got none in_kid filled =
-      let front = take (i + 1) (kids_of b) in
-      let back = drop (i + 1) (kids_of b) in
+  pub page_in_child : (key i : ℕ) (b : NodeInner V) (k : NodePart V) (page : List (ℕ × V)) → IsInner b → get_or b.children i None ≡ Some k → NoneTo key i b → IsPage key k.node.value.rows page → (page ≡ [] → ⊥) → IsPage key (rows_of (children_of b)) page
+  page_in_child key i b k page inner got none in_child filled =
+      let front = take (i + 1) (children_of b) in
+      let back = drop (i + 1) (children_of b) in
       let behind = keys_from key_of_pair key (rows_of back) in
-      let rows : rows_of (kids_of b) ≡ rows_of front ++ rows_of back = ap rows_of (sym (take-append-drop (i + 1) (kids_of b))) ∙ rows_of-append front back in
+      let rows : rows_of (children_of b) ≡ rows_of front ++ rows_of back = ap rows_of (sym (take-append-drop (i + 1) (children_of b))) ∙ rows_of-append front back in
       record {
-        rest = in_kid.rest ++ behind;
+        rest = in_child.rest ++ behind;
         front = ap (keys_from key_of_pair key) rows ∙ from_append key (rows_of front) (rows_of back)
-            ∙ ap (λ r. r ++ behind) (none_to_kid key i b k branch got none ∙ in_kid.front) ∙ append_assoc page in_kid.rest behind;
+            ∙ ap (λ r. r ++ behind) (none_to_child key i b k inner got none ∙ in_child.front) ∙ append_assoc page in_child.rest behind;
         some = λ empty. absurd (filled empty);
       }
 
   -- no child has one
-  pub page_of_none : (key i : ℕ) (b : NodeBranch V) (page : List (ℕ × V)) → IsBranch b → b.len ≤ i → page ≡ [] → NoneTo key i b → IsPage key (rows_of (kids_of b)) page
-  page_of_none key i b page branch le empty none =
-      let all : take i (kids_of b) ≡ kids_of b = take_all i (kids_of b) (omega (arith, run_length b.len b.leasts b.kids branch.run, le)) in
+  pub page_of_none : (key i : ℕ) (b : NodeInner V) (page : List (ℕ × V)) → IsInner b → b.len ≤ i → page ≡ [] → NoneTo key i b → IsPage key (rows_of (children_of b)) page
+  page_of_none key i b page inner le empty none =
+      let all : take i (children_of b) ≡ children_of b = take_all i (children_of b) (omega (arith, run_length b.len b.leasts b.children inner.run, le)) in
       record {
         rest = [];
-        front = ap (λ kids. keys_from key_of_pair key (rows_of kids)) (sym all) ∙ none ∙ ap (λ p. p ++ []) (sym empty);
+        front = ap (λ children. keys_from key_of_pair key (rows_of children)) (sym all) ∙ none ∙ ap (λ p. p ++ []) (sym empty);
         some = λ _. refl;
       }

@@ -5,7 +5,7 @@ use Rattle.std.proofs.lemmas.List.{drop_at, drop_all}
 use Rattle.tatp_rows.specs.Ordered.{IsOrderedBy}
 use Rattle.mr_node.specs.declared.body.Leaf.{Leaf}
 use Rattle.mr_node.specs.Rows.{key_of_pair, KeysBelow, KeysFrom}
-use Rattle.mr_node.specs.Runs.{no_key}
+use Rattle.mr_node.specs.EntryLists.{no_key}
 use Rattle.mr_node.specs.Search.{IsStop}
 use Rattle.mr_node.specs.Levels.{pairs_of, IsLeaf}
 use Rattle.mr_node.proofs.EntryLemmas.{leaf_length, leaf_some, back_from, cut_below}

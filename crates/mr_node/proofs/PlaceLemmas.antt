@@ -5,7 +5,7 @@ use lib.Seq.{paste, drop_at}
 use Rattle.std.proofs.Math.Seq.{split_at}
 use Rattle.std.proofs.lemmas.Bool.{cases_lt}
 use Rattle.std.specs.List.{insert, remove, remove_range}
-use Rattle.mr_node.specs.Runs.{somes, IsPacked}
+use Rattle.mr_node.specs.EntryLists.{somes, IsPacked}
 
 module _ {X : Type 0} where
   -- a write of the last of 32

@@ -4,14 +4,14 @@ use Rattle.std.specs.Option.{unwrap_or}
 use Rattle.tatp_rows.specs.Ordered.{row_at, with_row_at}
 use Rattle.tatp_rows.proofs.OrderedLemmas.{with_row_at_absent}
 use Rattle.mr_node.specs.Rows.{Seen, key_of_pair, value_at}
-use Rattle.mr_node.specs.Levels.{IsKidPlace}
+use Rattle.mr_node.specs.Levels.{IsChildPlace}
 use Rattle.mr_node.specs.Entries.{IsThere}
 use Rattle.mr_node.specs.declared.body.Leaf.{Leaf}
-use Rattle.mr_node.specs.Levels.{IsLeaf, pairs_of, NodePart, NodeBranch, kids_of, rows_of, IsWell, IsBranch, seen_branch}
+use Rattle.mr_node.specs.Levels.{IsLeaf, pairs_of, NodePart, NodeInner, children_of, rows_of, IsWell, IsInner, seen_inner}
 use Rattle.mr_node.specs.Revisions.{revised_at, spent_at}
 use Rattle.mr_node.proofs.PlaceLemmas.{same_written}
 use Rattle.mr_node.proofs.EntryLemmas.{leaf_some, found_value, leaf_written}
-use Rattle.mr_node.proofs.NodeLemmas.{branch_with, part_with, find_branch, replaced_branch, seen_with}
+use Rattle.mr_node.proofs.NodeLemmas.{inner_with, part_with, find_inner, replaced_inner, seen_with}
 
 module _ {V : Type 0} where
   -- the rows where the key is there, and where it isn't
@@ -63,37 +63,37 @@ module _ {V : Type 0} where
   put_at key value rows = put_at_option key value rows (value_at key rows) refl
 
   -- an inner node with the value changed in the child to which the key belongs
-  pub record IsRevisedIn (key i : ℕ) (change : V → V) (b : NodeBranch V) (k : NodePart V) (n : Seen V) : Type 0 where
-    pub whole : IsBranch (branch_with b i (part_with k n))
-    pub rows : rows_of (kids_of (branch_with b i (part_with k n))) ≡ revised_at key change (rows_of (kids_of b))
+  pub record IsRevisedIn (key i : ℕ) (change : V → V) (b : NodeInner V) (k : NodePart V) (n : Seen V) : Type 0 where
+    pub whole : IsInner (inner_with b i (part_with k n))
+    pub rows : rows_of (children_of (inner_with b i (part_with k n))) ≡ revised_at key change (rows_of (children_of b))
 
-  revised_option : (key i : ℕ) (change : V → V) (b : NodeBranch V) (k : NodePart V) (n : Seen V) (o : Option V) → IsBranch b → IsKidPlace key i b.len b.leasts → get_or b.kids i None ≡ Some k
-      → n ≡ seen_with k.node.value (revised_at key change k.node.value.rows) → IsWell n → value_at key k.node.value.rows ≡ o → value_at key (rows_of (kids_of b)) ≡ o → IsRevisedIn key i change b k n
-  revised_option key i change b k n None branch at got e well kid all =
-      let same : n ≡ k.node.value = e ∙ ap (seen_with k.node.value) (revised_none key change k.node.value.rows kid) in
-      let is : branch_with b i (part_with k n) ≡ b = ap (λ s. branch_with b i (part_with k s)) same ∙ ap (λ ks. record b { kids = ks }) (same_written i k b.kids got) in
+  revised_option : (key i : ℕ) (change : V → V) (b : NodeInner V) (k : NodePart V) (n : Seen V) (o : Option V) → IsInner b → IsChildPlace key i b.len b.leasts → get_or b.children i None ≡ Some k
+      → n ≡ seen_with k.node.value (revised_at key change k.node.value.rows) → IsWell n → value_at key k.node.value.rows ≡ o → value_at key (rows_of (children_of b)) ≡ o → IsRevisedIn key i change b k n
+  revised_option key i change b k n None inner at got e well child all =
+      let same : n ≡ k.node.value = e ∙ ap (seen_with k.node.value) (revised_none key change k.node.value.rows child) in
+      let is : inner_with b i (part_with k n) ≡ b = ap (λ s. inner_with b i (part_with k s)) same ∙ ap (λ ks. record b { children = ks }) (same_written i k b.children got) in
       record {
-        whole = subst IsBranch (sym is) branch;
-        rows = ap (λ x. rows_of (kids_of x)) is ∙ sym (revised_none key change (rows_of (kids_of b)) all);
+        whole = subst IsInner (sym is) inner;
+        rows = ap (λ x. rows_of (children_of x)) is ∙ sym (revised_none key change (rows_of (children_of b)) all);
       }
-  revised_option key i change b k n (Some v) branch at got e well kid all =
-      let after = replaced_branch key i (change v) b k n branch at got (e ∙ ap (seen_with k.node.value) (revised_some key change v k.node.value.rows kid)) well in
+  revised_option key i change b k n (Some v) inner at got e well child all =
+      let after = replaced_inner key i (change v) b k n inner at got (e ∙ ap (seen_with k.node.value) (revised_some key change v k.node.value.rows child)) well in
       record {
         whole = after.whole;
-        rows = after.rows ∙ sym (revised_some key change v (rows_of (kids_of b)) all);
+        rows = after.rows ∙ sym (revised_some key change v (rows_of (children_of b)) all);
       }
 
   -- the value at a key in the child to which it belongs
-  pub value_in_kid : (key i : ℕ) (b : NodeBranch V) (k : NodePart V) → IsBranch b → IsKidPlace key i b.len b.leasts → get_or b.kids i None ≡ Some k → value_at key (rows_of (kids_of b)) ≡ value_at key k.node.value.rows
-  value_in_kid key i b k branch at got = ap (option_map (λ p. p.1)) (find_branch key i b k branch at got)
+  pub value_in_child : (key i : ℕ) (b : NodeInner V) (k : NodePart V) → IsInner b → IsChildPlace key i b.len b.leasts → get_or b.children i None ≡ Some k → value_at key (rows_of (children_of b)) ≡ value_at key k.node.value.rows
+  value_in_child key i b k inner at got = ap (option_map (λ p. p.1)) (find_inner key i b k inner at got)
 
-  pub revised_branch : (key i : ℕ) (change : V → V) (b : NodeBranch V) (k : NodePart V) (now n : Seen V) → IsBranch b → IsKidPlace key i b.len b.leasts → get_or b.kids i None ≡ Some k
+  pub revised_inner : (key i : ℕ) (change : V → V) (b : NodeInner V) (k : NodePart V) (now n : Seen V) → IsInner b → IsChildPlace key i b.len b.leasts → get_or b.children i None ≡ Some k
       → n ≡ seen_with now (revised_at key change now.rows) → now ≡ k.node.value → IsWell n → IsRevisedIn key i change b k n
-  revised_branch key i change b k now n branch at got e same well =
-      revised_option key i change b k n (value_at key k.node.value.rows) branch at got (e ∙ ap (λ s. seen_with s (revised_at key change s.rows)) same) well refl (value_in_kid key i b k branch at got)
+  revised_inner key i change b k now n inner at got e same well =
+      revised_option key i change b k n (value_at key k.node.value.rows) inner at got (e ∙ ap (λ s. seen_with s (revised_at key change s.rows)) same) well refl (value_in_child key i b k inner at got)
 
   -- the node with those rows
-  pub revised_answer : (key : ℕ) (change : V → V) (b new : NodeBranch V) (now : Seen V) → now ≡ seen_branch b → seen_branch new ≡ seen_with (seen_branch b) (rows_of (kids_of new)) → rows_of (kids_of new) ≡ revised_at key change (rows_of (kids_of b))
-      → seen_branch new ≡ seen_with now (revised_at key change now.rows)
+  pub revised_answer : (key : ℕ) (change : V → V) (b new : NodeInner V) (now : Seen V) → now ≡ seen_inner b → seen_inner new ≡ seen_with (seen_inner b) (rows_of (children_of new)) → rows_of (children_of new) ≡ revised_at key change (rows_of (children_of b))
+      → seen_inner new ≡ seen_with now (revised_at key change now.rows)
   revised_answer key change b new now e same rows =
-      same ∙ ap (seen_with (seen_branch b)) rows ∙ sym (ap (λ s. seen_with s (revised_at key change s.rows)) e)
+      same ∙ ap (seen_with (seen_inner b)) rows ∙ sym (ap (λ s. seen_with s (revised_at key change s.rows)) e)

@@ -4,10 +4,10 @@ use Rattle.std.proofs.lemmas.Bool.{cases_lt}
 use Rattle.std.proofs.lemmas.Bool.Decides.{nat_tests}
 use Rattle.tatp_rows.specs.Ordered.{IsOrderedBy}
 use Rattle.mr_node.specs.Rows.{key_of_pair, key_limit, KeysBelow}
-use Rattle.mr_node.specs.Runs.{no_key, entries, IsRun}
+use Rattle.mr_node.specs.EntryLists.{no_key, entries, AreEntries}
 use Rattle.mr_node.specs.Search.{IsRising, IsStop}
-use Rattle.mr_node.specs.Levels.{IsKidPlace}
-use Rattle.mr_node.proofs.RunLemmas.{run_behind, run_below, run_rises}
+use Rattle.mr_node.specs.Levels.{IsChildPlace}
+use Rattle.mr_node.proofs.EntryListLemmas.{run_behind, run_below, run_rises}
 
 -- the sum of the first n
 abbrev pub sum_to : (ℕ → ℕ) → ℕ → ℕ
@@ -121,8 +121,8 @@ stop_of key m r ks long rising four e =
     }
 
 -- the place of a child, from the number of least keys that are not above the key
-pub kid_placed : {X : Type 0} (key least n r : ℕ) (ks : List ℕ) (ps : List (Option X)) → length ks ≡ 32 → 0 < n → IsRun n ks ps → IsOrderedBy key_of_pair (entries ks ps) → KeysBelow key_limit (entries ks ps) → least ≡ min (key + 1) no_key → IsStop least r ks → IsKidPlace key (r - 1) n ks
-kid_placed key least n r ks ps long some run ordered below e stop =
+pub child_placed : {X : Type 0} (key least n r : ℕ) (ks : List ℕ) (ps : List (Option X)) → length ks ≡ 32 → 0 < n → AreEntries n ks ps → IsOrderedBy key_of_pair (entries ks ps) → KeysBelow key_limit (entries ks ps) → least ≡ min (key + 1) no_key → IsStop least r ks → IsChildPlace key (r - 1) n ks
+child_placed key least n r ks ps long some run ordered below e stop =
     let few : r ≤ n = elim (cases_lt n r) [
       | inl more ↦ absurd (omega (arith, stop.before (omega (arith, more)), run_behind n (r - 1) ks ps run (omega (arith, more)) (omega (arith, more, stop.within)), e))
       | inr le ↦ le
@@ -141,8 +141,8 @@ kid_placed key least n r ks ps long some run ordered below e stop =
     }
 
 -- and from the least keys on both sides
-pub kid_between : {X : Type 0} (key n i : ℕ) (ks : List ℕ) (ps : List (Option X)) → length ks ≡ 32 → IsRun n ks ps → (i < 31) × (get_or ks i 0 ≤ key) × (key < get_or ks (i + 1) 0) → IsKidPlace key i n ks
-kid_between key n i ks ps long run at = record {
+pub child_between : {X : Type 0} (key n i : ℕ) (ks : List ℕ) (ps : List (Option X)) → length ks ≡ 32 → AreEntries n ks ps → (i < 31) × (get_or ks i 0 ≤ key) × (key < get_or ks (i + 1) 0) → IsChildPlace key i n ks
+child_between key n i ks ps long run at = record {
   within = elim (cases_lt i n) [
     | inl lt ↦ lt
     | inr past ↦ absurd (omega (arith, at.1, at.2, run_behind n i ks ps run past (omega (arith, long, at.0)), run_behind n (i + 1) ks ps run (omega (arith, past)) (omega (arith, long, at.0))))

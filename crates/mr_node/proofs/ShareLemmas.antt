@@ -6,9 +6,9 @@ use Rattle.std.proofs.Math.Seq.{take-append_seam, drop-append_seam}
 use Rattle.std.specs.List.{refill}
 use Rattle.std.proofs.lemmas.Bool.Decides.{eqb_tells}
 use Rattle.mr_node.specs.Pairs.{AreEvenWidths, IsShare}
-use Rattle.mr_node.specs.Runs.{no_key, somes, IsPacked, entries, IsRun}
+use Rattle.mr_node.specs.EntryLists.{no_key, somes, IsPacked, entries, AreEntries}
 use Rattle.mr_node.proofs.PlaceLemmas.{packed_length, packed_fits, packed_some, somes_front, packed_left, packed_right, packed_join, somes_append}
-use Rattle.mr_node.proofs.RunLemmas.{run_length, run_split, run_popped, run_pushed, run_turned}
+use Rattle.mr_node.proofs.EntryListLemmas.{run_length, run_split, run_popped, run_pushed, run_turned}
 
 module _ {X : Type 0} where
   -- the last one of a list that isn't empty
@@ -134,7 +134,7 @@ module _ {X : Type 0} where
       ∙ ap reverse (somes_front n n ks h (omega arith))
 
   -- the last entry
-  last_entry : (n i : ℕ) (x : X) (ks : List ℕ) (ps : List (Option X)) → i + 1 ≡ n → IsRun n ks ps → get_or ps i None ≡ Some x → drop i (entries ks ps) ≡ (get_or ks i 0, x) ∷ []
+  last_entry : (n i : ℕ) (x : X) (ks : List ℕ) (ps : List (Option X)) → i + 1 ≡ n → AreEntries n ks ps → get_or ps i None ≡ Some x → drop i (entries ks ps) ≡ (get_or ks i 0, x) ∷ []
   last_entry n i x ks ps one run got =
       let all : List (ℕ × X) = entries ks ps in
       let len : length all ≡ n = run_length n ks ps run in
@@ -147,10 +147,10 @@ module _ {X : Type 0} where
 
   -- two runs after the last entry of the one went behind those of the other; before, these were their entries
   abbrev pub IsGiven : (n m : ℕ) (ks ls : List ℕ) (new more : List (Option X)) (from to : List (ℕ × X)) → Type 0
-  IsGiven n m ks ls new more from to = (IsRun n ks new) × (IsRun m ls more) × (entries ks new ≡ take (length from - 1) from) × (entries ls more ≡ to ++ drop (length from - 1) from)
+  IsGiven n m ks ls new more from to = (AreEntries n ks new) × (AreEntries m ls more) × (entries ks new ≡ take (length from - 1) from) × (entries ls more ≡ to ++ drop (length from - 1) from)
 
   -- the last entry of the one run behind those of the other
-  run_given : (n i m : ℕ) (x : X) (ks ls : List ℕ) (ps qs new more : List (Option X)) → i + 1 ≡ n → IsRun n ks ps → IsRun m ls qs → length ls ≡ 32 → m < 32 → get_or ps i None ≡ Some x → IsPacked i new → somes new ≡ take i (somes ps) → IsPacked (m + 1) more → somes more ≡ somes qs ++ (x ∷ [])
+  run_given : (n i m : ℕ) (x : X) (ks ls : List ℕ) (ps qs new more : List (Option X)) → i + 1 ≡ n → AreEntries n ks ps → AreEntries m ls qs → length ls ≡ 32 → m < 32 → get_or ps i None ≡ Some x → IsPacked i new → somes new ≡ take i (somes ps) → IsPacked (m + 1) more → somes more ≡ somes qs ++ (x ∷ [])
       → IsGiven i (m + 1) (set ks i no_key) (set ls m (get_or ks i 0)) new more (entries ks ps) (entries ls qs)
   run_given n i m x ks ls ps qs new more one run to long room got packed e filled f =
       let popped = run_popped n i ks ps new one run packed e in
@@ -163,7 +163,7 @@ module _ {X : Type 0} where
       )
 
   -- of places that are all used, the last goes from the one list to the other
-  pub leaf_given : (i m : ℕ) (o : Option X) (ks ls : List ℕ) (ps qs new more : List (Option X)) → i + 1 ≡ length ps → m ≡ length qs → IsRun (length ps) ks ps → IsRun (length qs) ls qs → length ls ≡ 32 → length qs < 32 → ps ≡ new ++ (o ∷ []) → more ≡ qs ++ (o ∷ [])
+  pub leaf_given : (i m : ℕ) (o : Option X) (ks ls : List ℕ) (ps qs new more : List (Option X)) → i + 1 ≡ length ps → m ≡ length qs → AreEntries (length ps) ks ps → AreEntries (length qs) ls qs → length ls ≡ 32 → length qs < 32 → ps ≡ new ++ (o ∷ []) → more ≡ qs ++ (o ∷ [])
       → IsGiven (length new) (length more) (set ks i no_key) (set ls m (get_or ks i 0)) new more (entries ks ps) (entries ls qs)
   leaf_given i m None ks ls ps qs new more one wide run to long room e f =
       let last = packed_right new (None ∷ []) (subst (λ l. IsPacked (length l) l) e run.packed) in
@@ -176,22 +176,22 @@ module _ {X : Type 0} where
       let more_len : length more ≡ m + 1 = omega (arith, wide, ap length f, length-append qs (Some x ∷ [])) in
       let filled : IsPacked (length more) more = subst (λ l. IsPacked (length l) l) (sym f) (packed_join qs (Some x ∷ []) to.packed (omega arith, refl)) in
       let given = run_given (length ps) i m x ks ls ps qs new more one run
-      (subst (λ j. IsRun j ls qs) (sym wide) to) long (omega (arith, wide, room))
+      (subst (λ j. AreEntries j ls qs) (sym wide) to) long (omega (arith, wide, room))
       (ap (λ l. get_or l i None) e ∙ get_or_push new (Some x) None i len)
       (packed_same (length new) i new len packed)
       (sym (ap (take i) some ∙ ap (λ j. take j (somes new ++ (x ∷ []))) (sym used) ∙ take-append_seam (somes new) (x ∷ [])))
       (packed_same (length more) (m + 1) more more_len filled)
       (ap somes f ∙ somes_append qs (Some x ∷ [])) in (
-        subst (λ j. IsRun j (set ks i no_key) new) (sym len) given.0,
-        subst (λ j. IsRun j (set ls m (get_or ks i 0)) more) (sym more_len) given.1,
+        subst (λ j. AreEntries j (set ks i no_key) new) (sym len) given.0,
+        subst (λ j. AreEntries j (set ls m (get_or ks i 0)) more) (sym more_len) given.1,
         given.2,
         given.3,
       )
 
   -- of places of which the first are used, the last used goes from the one list to the other
-  pub branch_given : (n i m : ℕ) (r y o : Option X) (ks ls : List ℕ) (ps qs : List (Option X)) → i + 1 ≡ n → IsRun n ks ps → IsRun m ls qs → length ls ≡ 32 → length qs ≡ 32 → m < 32 → o ≡ get_or ps i r → y ≡ None
+  pub inner_given : (n i m : ℕ) (r y o : Option X) (ks ls : List ℕ) (ps qs : List (Option X)) → i + 1 ≡ n → AreEntries n ks ps → AreEntries m ls qs → length ls ≡ 32 → length qs ≡ 32 → m < 32 → o ≡ get_or ps i r → y ≡ None
       → IsGiven i (m + 1) (set ks i no_key) (set ls m (get_or ks i 0)) (set ps i y) (set qs m o) (entries ks ps) (entries ls qs)
-  branch_given n i m r y o ks ls ps qs one run to long wide room eo ey =
+  inner_given n i m r y o ks ls ps qs one run to long wide room eo ey =
       let used = packed_some n i ps run.packed (omega (arith, one)) in
       let same : o ≡ Some used.0 = eo ∙ get_or_default ps i r None (omega (arith, packed_fits n ps run.packed, one)) ∙ used.1 in
       let packed = packed_same n (i + 1) ps (sym one) run.packed in
@@ -199,8 +199,8 @@ module _ {X : Type 0} where
       (packed_less i ps packed) (somes_less i ps packed) (packed_next m used.0 qs to.packed (omega (arith, wide, room))) (somes_next m used.0 qs to.packed (omega (arith, wide, room))) in
       let new = ap (set ps i) (sym ey) in
       let more = ap (set qs m) (sym same) in (
-        subst (IsRun i (set ks i no_key)) new given.0,
-        subst (IsRun (m + 1) (set ls m (get_or ks i 0))) more given.1,
+        subst (AreEntries i (set ks i no_key)) new given.0,
+        subst (AreEntries (m + 1) (set ls m (get_or ks i 0))) more given.1,
         ap (entries (set ks i no_key)) (sym new) ∙ given.2,
         ap (entries (set ls m (get_or ks i 0))) (sym more) ∙ given.3,
       )
@@ -217,17 +217,17 @@ module _ {X : Type 0} where
   turned_back ps ws e = refilled ps ws (ap length e ∙ length-reverse ps) ∙ e
 
   -- all entries in the other order
-  pub leaf_turned : (n : ℕ) (ks keys : List ℕ) (ps new : List (Option X)) → n ≡ length ps → IsRun (length ps) ks ps → keys ≡ reverse (take n ks) ++ drop n ks → new ≡ reverse ps → (IsRun (length new) keys new) × (entries keys new ≡ reverse (entries ks ps))
+  pub leaf_turned : (n : ℕ) (ks keys : List ℕ) (ps new : List (Option X)) → n ≡ length ps → AreEntries (length ps) ks ps → keys ≡ reverse (take n ks) ++ drop n ks → new ≡ reverse ps → (AreEntries (length new) keys new) × (entries keys new ≡ reverse (entries ks ps))
   leaf_turned n ks keys ps new wide run ek e =
       let len : length new ≡ n = ap length e ∙ length-reverse ps ∙ sym wide in
       let packed : IsPacked (length new) new = subst (λ l. IsPacked (length l) l) (sym e) (packed_reverse ps run.packed) in
-      let turned = run_turned n ks ps new (subst (λ j. IsRun j ks ps) (sym wide) run) (packed_same (length new) n new len packed) (ap somes e ∙ somes_reverse ps) in
-      subst (λ l. (IsRun (length new) l new) × (entries l new ≡ reverse (entries ks ps))) (sym ek)
-      (subst (λ j. IsRun j (reverse (take n ks) ++ drop n ks) new) (sym len) turned.0, turned.1)
+      let turned = run_turned n ks ps new (subst (λ j. AreEntries j ks ps) (sym wide) run) (packed_same (length new) n new len packed) (ap somes e ∙ somes_reverse ps) in
+      subst (λ l. (AreEntries (length new) l new) × (entries l new ≡ reverse (entries ks ps))) (sym ek)
+      (subst (λ j. AreEntries j (reverse (take n ks) ++ drop n ks) new) (sym len) turned.0, turned.1)
 
-  pub branch_turned : (n : ℕ) (ks keys : List ℕ) (ps new : List (Option X)) → IsRun n ks ps → keys ≡ reverse (take n ks) ++ drop n ks → new ≡ reverse (take n ps) ++ drop n ps → (IsRun n keys new) × (entries keys new ≡ reverse (entries ks ps))
-  branch_turned n ks keys ps new run ek e =
-      subst (λ l. (IsRun n l new) × (entries l new ≡ reverse (entries ks ps))) (sym ek)
+  pub inner_turned : (n : ℕ) (ks keys : List ℕ) (ps new : List (Option X)) → AreEntries n ks ps → keys ≡ reverse (take n ks) ++ drop n ks → new ≡ reverse (take n ps) ++ drop n ps → (AreEntries n keys new) × (entries keys new ≡ reverse (entries ks ps))
+  inner_turned n ks keys ps new run ek e =
+      subst (λ l. (AreEntries n l new) × (entries l new ≡ reverse (entries ks ps))) (sym ek)
       (run_turned n ks ps new run (subst (IsPacked n) (sym e) (packed_turned n ps run.packed)) (ap somes e ∙ somes_turned n ps run.packed))
 
   -- the last one goes behind the left ones, which are too few

@@ -6,11 +6,11 @@ use Rattle.std.proofs.Math.Nat.{mul-le-mul_right, pow-suc, pow-le-pow_right}
 use Rattle.tatp_rows.proofs.OrderedLemmas.{each-weaker}
 use Rattle.tatp_rows.proofs.SpanLemmas.{few_between}
 use Rattle.mr_node.specs.Rows.{Seen, key_of_pair, key_limit, StartsWith}
-use Rattle.mr_node.specs.Levels.{NodeKid, NodeBranch, NodeBody, pairs_of, kids_of, seen, IsNode, rows_of, IsWell, IsKid, IsLeaf, IsBranch, seen_leaf, seen_branch}
+use Rattle.mr_node.specs.Levels.{NodeChild, NodeInner, NodeBody, pairs_of, children_of, seen, IsNode, rows_of, IsWell, IsChild, IsLeaf, IsInner, seen_leaf, seen_inner}
 use Rattle.mr_node.specs.declared.body.Leaf.{Leaf}
 use Rattle.mr_node.specs.declared.body.Body.TheVariants.{Leaf as AsLeaf, Inner as AsInner}
 use Rattle.mr_node.proofs.PlaceLemmas.{packed_some}
-use Rattle.mr_node.proofs.RunLemmas.{run_length, run_split}
+use Rattle.mr_node.proofs.EntryListLemmas.{run_length, run_split}
 
 module _ {V : Type 0} where
   pub leaf_well : (leaf : Leaf V) → IsLeaf leaf → IsWell (seen_leaf leaf)
@@ -36,32 +36,32 @@ module _ {V : Type 0} where
   leaf_with now leaf new rows e len list =
       ap (λ w. seen_of w (pairs_of new)) len ∙ ap (seen_of (length leaf.values.items)) list ∙ sym (ap (with_rows rows) e)
 
-  each_least : (m : ℕ) (kids : List (NodeKid V)) → AllByRecursion (λ k. m ≤ length k.1.node.value.rows) kids → length kids * m ≤ length (rows_of kids)
+  each_least : (m : ℕ) (children : List (NodeChild V)) → AllByRecursion (λ k. m ≤ length k.1.node.value.rows) children → length children * m ≤ length (rows_of children)
   each_least m [] h = omega arith
-  each_least m (k ∷ kids) h = omega (arith, each_least m kids h.1, h.0, length-append k.1.node.value.rows (rows_of kids))
+  each_least m (k ∷ children) h = omega (arith, each_least m children h.1, h.0, length-append k.1.node.value.rows (rows_of children))
 
-  each_most : (m : ℕ) (kids : List (NodeKid V)) → AllByRecursion (λ k. length k.1.node.value.rows ≤ m) kids → length (rows_of kids) ≤ length kids * m
+  each_most : (m : ℕ) (children : List (NodeChild V)) → AllByRecursion (λ k. length k.1.node.value.rows ≤ m) children → length (rows_of children) ≤ length children * m
   each_most m [] h = omega arith
-  each_most m (k ∷ kids) h = omega (arith, each_most m kids h.1, h.0, length-append k.1.node.value.rows (rows_of kids))
+  each_most m (k ∷ children) h = omega (arith, each_most m children h.1, h.0, length-append k.1.node.value.rows (rows_of children))
 
-  kid_least : (h : ℕ) (k : NodeKid V) → IsKid h k → 16 ^ suc h ≤ length k.1.node.value.rows
-  kid_least h k i =
+  child_least : (h : ℕ) (k : NodeChild V) → IsChild h k → 16 ^ suc h ≤ length k.1.node.value.rows
+  child_least h k i =
       let level = subst (λ n. k.1.node.value.width * 16 ^ n ≤ length k.1.node.value.rows) i.level i.well.at_least in
       omega (arith, level, pow-suc 16 h, mul-le-mul_right (16 ^ h) i.enough)
 
-  kid_most : (h : ℕ) (k : NodeKid V) → IsKid h k → length k.1.node.value.rows ≤ 32 ^ suc h
-  kid_most h k i =
+  child_most : (h : ℕ) (k : NodeChild V) → IsChild h k → length k.1.node.value.rows ≤ 32 ^ suc h
+  child_most h k i =
       let level = subst (λ n. length k.1.node.value.rows ≤ k.1.node.value.width * 32 ^ n) i.level i.well.at_most in
       omega (arith, level, pow-suc 32 h, mul-le-mul_right (32 ^ h) i.well.fits)
 
-  pub branch_well : (b : NodeBranch V) → IsBranch b → IsWell (seen_branch b)
-  branch_well b branch =
-      let kids = kids_of b in
-      let len = run_length b.len b.leasts b.kids branch.run in
-      let height : suc (b.height - 1) ≡ b.height = omega (arith, branch.inner) in
-      let least = subst (λ n. length kids * 16 ^ n ≤ length (rows_of kids)) height (each_least (16 ^ suc (b.height - 1)) kids (each-weaker {P = IsKid (b.height - 1)} {Q = λ k. 16 ^ suc (b.height - 1) ≤ length k.1.node.value.rows} (kid_least (b.height - 1)) kids branch.kids)) in
-      let most = subst (λ n. length (rows_of kids) ≤ length kids * 32 ^ n) height (each_most (32 ^ suc (b.height - 1)) kids (each-weaker {P = IsKid (b.height - 1)} {Q = λ k. length k.1.node.value.rows ≤ 32 ^ suc (b.height - 1)} (kid_most (b.height - 1)) kids branch.kids)) in
-      record { fits = branch.run.fits; ordered = branch.ordered; keys = branch.keys; at_least = subst (λ n. n * 16 ^ b.height ≤ length (rows_of kids)) len least; at_most = subst (λ n. length (rows_of kids) ≤ n * 32 ^ b.height) len most }
+  pub inner_well : (b : NodeInner V) → IsInner b → IsWell (seen_inner b)
+  inner_well b inner =
+      let children = children_of b in
+      let len = run_length b.len b.leasts b.children inner.run in
+      let height : suc (b.height - 1) ≡ b.height = omega (arith, inner.above_leaves) in
+      let least = subst (λ n. length children * 16 ^ n ≤ length (rows_of children)) height (each_least (16 ^ suc (b.height - 1)) children (each-weaker {P = IsChild (b.height - 1)} {Q = λ k. 16 ^ suc (b.height - 1) ≤ length k.1.node.value.rows} (child_least (b.height - 1)) children inner.children)) in
+      let most = subst (λ n. length (rows_of children) ≤ length children * 32 ^ n) height (each_most (32 ^ suc (b.height - 1)) children (each-weaker {P = IsChild (b.height - 1)} {Q = λ k. length k.1.node.value.rows ≤ 32 ^ suc (b.height - 1)} (child_most (b.height - 1)) children inner.children)) in
+      record { fits = inner.run.fits; ordered = inner.ordered; keys = inner.keys; at_least = subst (λ n. n * 16 ^ b.height ≤ length (rows_of children)) len least; at_most = subst (λ n. length (rows_of children) ≤ n * 32 ^ b.height) len most }
 
   -- rows in order below the limit are few enough for a count, and for one more
   pub few_rows : (s : Seen V) → IsWell s → length s.rows ≤ key_limit
@@ -80,4 +80,4 @@ module _ {V : Type 0} where
   -- what is seen of a node meets the rules
   pub node_well : (body : NodeBody V) → IsNode body → IsWell (seen body)
   node_well (AsLeaf leaf) h = leaf_well leaf h
-  node_well (AsInner b) h = branch_well b h
+  node_well (AsInner b) h = inner_well b h

@@ -12,7 +12,7 @@ pub record IsShrunk {V : Type 0} (key : ℕ) (old new : Seen V) : Type 0 where
   pub well : IsWell new
 
 -- the same rows under a new root of two children
-pub record IsHeightened {V : Type 0} (old new : Seen V) : Type 0 where
+pub record HasNewRoot {V : Type 0} (old new : Seen V) : Type 0 where
   pub rows : new.rows ≡ old.rows
   pub height : new.height ≡ old.height + 1
   pub width : new.width ≡ 2

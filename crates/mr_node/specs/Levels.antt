@@ -4,25 +4,25 @@ use Rattle.std.specs.List.{AllByRecursion, flat_map, sum_by}
 use Rattle.std.specs.declared.boxed.Box.{Box}
 use Rattle.std.specs.declared.alloc.Global.{Global}
 use Rattle.tatp_rows.specs.Ordered.{IsOrderedBy}
-use Rattle.mr_node.specs.declared.body.Kid.{Kid}
-use Rattle.mr_node.specs.declared.body.Branch.{Branch}
+use Rattle.mr_node.specs.declared.body.Child.{Child}
+use Rattle.mr_node.specs.declared.body.Inner.{Inner}
 use Rattle.mr_node.specs.declared.body.Leaf.{Leaf}
 use Rattle.mr_node.specs.declared.body.Body.{Body}
 use Rattle.mr_node.specs.declared.body.Body.TheVariants.{Leaf as AsLeaf, Inner as AsInner}
 use Rattle.mr_node.specs.Rows.{Seen, key_limit, key_of_pair, KeysBelow, StartsWith}
-use Rattle.mr_node.specs.Runs.{entries, IsRun}
+use Rattle.mr_node.specs.EntryLists.{entries, AreEntries}
 
 -- a child of an inner node: its count of rows, and what is seen of it
 abbrev pub NodePart : Type 0 → Type 0
-NodePart V = Kid (Box (Seen V) Global)
+NodePart V = Child (Box (Seen V) Global)
 
 -- a child by its least key
-abbrev pub NodeKid : Type 0 → Type 0
-NodeKid V = ℕ × NodePart V
+abbrev pub NodeChild : Type 0 → Type 0
+NodeChild V = ℕ × NodePart V
 
 -- an inner node's own part
-abbrev pub NodeBranch : Type 0 → Type 0
-NodeBranch V = Branch (Box (Seen V) Global)
+abbrev pub NodeInner : Type 0 → Type 0
+NodeInner V = Inner (Box (Seen V) Global)
 
 -- a node taken apart
 abbrev pub NodeBody : Type 0 → Type 0
@@ -33,16 +33,16 @@ abbrev pub pairs_of : {V : Type 0} → Leaf V → List (ℕ × V)
 pairs_of leaf = entries leaf.keys leaf.values.items
 
 -- the children of an inner node
-abbrev pub kids_of : {V : Type 0} → NodeBranch V → List (NodeKid V)
-kids_of b = entries b.leasts b.kids
+abbrev pub children_of : {V : Type 0} → NodeInner V → List (NodeChild V)
+children_of b = entries b.leasts b.children
 
 -- the rows of children, one after another
-abbrev pub rows_of : {V : Type 0} → List (NodeKid V) → List (ℕ × V)
-rows_of kids = flat_map (λ k. k.1.node.value.rows) kids
+abbrev pub rows_of : {V : Type 0} → List (NodeChild V) → List (ℕ × V)
+rows_of children = flat_map (λ k. k.1.node.value.rows) children
 
 -- how many entries or children of their own children have together
-abbrev pub widths_of : {V : Type 0} → List (NodeKid V) → ℕ
-widths_of kids = sum_by (λ k. k.1.node.value.width) kids
+abbrev pub widths_of : {V : Type 0} → List (NodeChild V) → ℕ
+widths_of children = sum_by (λ k. k.1.node.value.width) children
 
 -- the keys rise and are below the limit, there is room for the width, and the number of rows meets the height
 pub record IsWell {V : Type 0} (s : Seen V) : Type 0 where
@@ -53,7 +53,7 @@ pub record IsWell {V : Type 0} (s : Seen V) : Type 0 where
   pub at_most : length s.rows ≤ s.width * 32 ^ s.height
 
 -- a child of height h that has w of its own at least; its least key and its count are right
-pub record IsKidOf {V : Type 0} (w h : ℕ) (k : NodeKid V) : Type 0 where
+pub record IsChildOf {V : Type 0} (w h : ℕ) (k : NodeChild V) : Type 0 where
   pub level : k.1.node.value.height ≡ h
   pub enough : w ≤ k.1.node.value.width
   pub well : IsWell k.1.node.value
@@ -61,31 +61,31 @@ pub record IsKidOf {V : Type 0} (w h : ℕ) (k : NodeKid V) : Type 0 where
   pub counted : k.1.count ≡ length k.1.node.value.rows
 
 -- a child of height h: it is half full at least
-abbrev pub IsKid : {V : Type 0} → ℕ → NodeKid V → Type 0
-IsKid h k = IsKidOf 16 h k
+abbrev pub IsChild : {V : Type 0} → ℕ → NodeChild V → Type 0
+IsChild h k = IsChildOf 16 h k
 
 -- a leaf: every place of its values is used, and its keys rise
 pub record IsLeaf {V : Type 0} (leaf : Leaf V) : Type 0 where
-  pub run : IsRun (length leaf.values.items) leaf.keys leaf.values.items
+  pub run : AreEntries (length leaf.values.items) leaf.keys leaf.values.items
   pub ordered : IsOrderedBy key_of_pair (pairs_of leaf)
   pub keys : KeysBelow key_limit (pairs_of leaf)
 
 -- an inner node: its children, each of the next height down, have w of their own at least, and their rows rise one
 -- after another
-pub record IsBranchOf {V : Type 0} (w : ℕ) (b : NodeBranch V) : Type 0 where
-  pub inner : 0 < b.height
+pub record IsInnerOf {V : Type 0} (w : ℕ) (b : NodeInner V) : Type 0 where
+  pub above_leaves : 0 < b.height
   pub some : 0 < b.len
-  pub run : IsRun b.len b.leasts b.kids
-  pub kids : AllByRecursion (IsKidOf w (b.height - 1)) (kids_of b)
-  pub ordered : IsOrderedBy key_of_pair (rows_of (kids_of b))
-  pub keys : KeysBelow key_limit (rows_of (kids_of b))
+  pub run : AreEntries b.len b.leasts b.children
+  pub children : AllByRecursion (IsChildOf w (b.height - 1)) (children_of b)
+  pub ordered : IsOrderedBy key_of_pair (rows_of (children_of b))
+  pub keys : KeysBelow key_limit (rows_of (children_of b))
 
 -- an inner node: its children are half full at least
-abbrev pub IsBranch : {V : Type 0} → NodeBranch V → Type 0
-IsBranch b = IsBranchOf 16 b
+abbrev pub IsInner : {V : Type 0} → NodeInner V → Type 0
+IsInner b = IsInnerOf 16 b
 
 -- the place of the child to which a key belongs, of n: the last whose least key isn't above the key, or the first
-pub record IsKidPlace (key place n : ℕ) (leasts : List ℕ) : Type 0 where
+pub record IsChildPlace (key place n : ℕ) (leasts : List ℕ) : Type 0 where
   pub within : place < n
   pub here : 0 < place → slice_index_or leasts place 0 ≤ key
   pub next : place + 1 < n → key < slice_index_or leasts (place + 1) 0
@@ -95,15 +95,15 @@ abbrev pub seen_leaf : {V : Type 0} → Leaf V → Seen V
 seen_leaf leaf = record { height = 0; width = length leaf.values.items; rows = pairs_of leaf }
 
 -- what is seen of an inner node
-abbrev pub seen_branch : {V : Type 0} → NodeBranch V → Seen V
-seen_branch b = record { height = b.height; width = b.len; rows = rows_of (kids_of b) }
+abbrev pub seen_inner : {V : Type 0} → NodeInner V → Seen V
+seen_inner b = record { height = b.height; width = b.len; rows = rows_of (children_of b) }
 
 -- what is seen of a node
 abbrev pub seen : {V : Type 0} → NodeBody V → Seen V
 seen (AsLeaf leaf) = seen_leaf leaf
-seen (AsInner b) = seen_branch b
+seen (AsInner b) = seen_inner b
 
 -- the rules of a node
 abbrev pub IsNode : {V : Type 0} → NodeBody V → Type 0
 IsNode (AsLeaf leaf) = IsLeaf leaf
-IsNode (AsInner b) = IsBranch b
+IsNode (AsInner b) = IsInner b

@@ -10,6 +10,6 @@ pub mod Pages
 pub mod Revisions
 pub mod Parts
 pub mod Rows
-pub mod Runs
+pub mod EntryLists
 pub mod Search
 pub mod Steps

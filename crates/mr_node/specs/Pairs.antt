@@ -18,7 +18,7 @@ pub record IsShare (both low : ℕ) : Type 0 where
   pub half : low < both → (16 ≤ low) × (low + 16 ≤ both) × (32 < both)
 
 -- the node of a child at height h
-pub record IsKidNode {V : Type 0} (h : ℕ) (s : Seen V) : Type 0 where
+pub record IsChildNode {V : Type 0} (h : ℕ) (s : Seen V) : Type 0 where
   pub level : s.height ≡ h
   pub enough : 16 ≤ s.width
   pub well : IsWell s
@@ -32,8 +32,8 @@ pub record IsJoined {V : Type 0} (a b x : Seen V) : Type 0 where
 
 -- two neighbours that are too wide for one node, made into two half full ones
 pub record ArePaired {V : Type 0} (a b x y : Seen V) : Type 0 where
-  pub low : IsKidNode a.height x
-  pub high : IsKidNode a.height y
+  pub low : IsChildNode a.height x
+  pub high : IsChildNode a.height y
   pub width : x.width + y.width ≡ a.width + b.width
   pub rows : x.rows ++ y.rows ≡ a.rows ++ b.rows
   pub many : 32 < a.width + b.width
@@ -45,8 +45,8 @@ AreEvened false a b x y = ArePaired a b x y
 
 -- a full node made into two half full ones (no public clause cites it)
 pub record IsHalved {V : Type 0} (a x y : Seen V) : Type 0 where
-  pub low : IsKidNode a.height x
-  pub high : IsKidNode a.height y
+  pub low : IsChildNode a.height x
+  pub high : IsChildNode a.height y
   pub rows : x.rows ++ y.rows ≡ a.rows
   pub low_width : x.width ≡ 16
   pub high_width : y.width ≡ 16

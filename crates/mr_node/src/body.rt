@@ -3,7 +3,7 @@ use arrayvec::ArrayVec;
 
 /// A child of an inner node.
 #[derive(Drop)]
-pub struct Kid<B> {
+pub struct Child<B> {
     /// The number of rows in and below the child.
     pub count: u64,
     /// The child.
@@ -12,7 +12,7 @@ pub struct Kid<B> {
 
 /// The part of an inner node: its children and their least keys stand in the first `len` places.
 #[derive(Drop)]
-pub struct Branch<B> {
+pub struct Inner<B> {
     /// How far the node is above the leaves, 1 or more.
     pub height: u64,
     /// The number of children, 1..=32.
@@ -20,7 +20,7 @@ pub struct Branch<B> {
     /// The children's least keys, and behind them 18446744073709551615.
     pub leasts: [u64; 32],
     /// The children by their least keys.
-    pub kids: [Option<Kid<B>>; 32],
+    pub children: [Option<Child<B>>; 32],
 }
 
 /// The part of a leaf: its keys, and beside them the values.
@@ -38,5 +38,5 @@ pub enum Body<V, B> {
     /// A leaf.
     Leaf(Leaf<V>),
     /// An inner node.
-    Inner(Branch<B>),
+    Inner(Inner<B>),
 }

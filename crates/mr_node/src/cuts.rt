@@ -1,15 +1,15 @@
 //! Parts of nodes that are cut in two.
 ghost use Rattle.std.specs.Prelude.{◌≡◌, ◌≤◌, ℕ, [], ◌++◌};
-ghost use Rattle.mr_node.specs.Runs.{entries, IsRun};
+ghost use Rattle.mr_node.specs.EntryLists.{entries, AreEntries};
 ghost use Rattle.mr_node.specs.Rows.{KeysBelow, KeysFrom};
 ghost use Rattle.mr_node.specs.Levels.{IsLeaf, pairs_of};
 ghost use Rattle.mr_node.specs.Steps.{after_steps};
 
+use crate::children::no_inner;
 use crate::entries::no_leaf;
+use crate::entry_lists::share;
 use crate::keys::count_below;
-use crate::kids::no_branch;
-use crate::runs::share;
-use crate::{Branch, Leaf, Meter, Node, build_leaf};
+use crate::{Inner, Leaf, Meter, Node, build_leaf};
 
 /// Cuts a leaf at a key: the entries from the key on are handed out.
 pub fn cut_leaf<V: Drop>(leaf: &mut Leaf<V>, key: u64) -> Leaf<V>
@@ -27,18 +27,18 @@ pub fn cut_leaf<V: Drop>(leaf: &mut Leaf<V>, key: u64) -> Leaf<V>
 }
 
 /// Cuts the children of an inner node's part at a place: those from there on are handed out.
-pub fn cut_kids<B: Drop>(branch: &mut Branch<B>, place: usize) -> Branch<B>
-    requires run { IsRun branch.old.len branch.old.leasts branch.old.kids }
-    requires within { place ≤ branch.old.len }
-    ensures low { IsRun branch.new.len branch.new.leasts branch.new.kids }
-    ensures high { IsRun result.len result.leasts result.kids }
-    ensures kids { entries branch.new.leasts branch.new.kids ++ entries result.leasts result.kids ≡ entries branch.old.leasts branch.old.kids }
-    ensures len { branch.new.len ≡ place }
-    ensures low_height { branch.new.height ≡ branch.old.height }
-    ensures high_height { result.height ≡ branch.old.height }
+pub fn cut_children<B: Drop>(inner: &mut Inner<B>, place: usize) -> Inner<B>
+    requires run { AreEntries inner.old.len inner.old.leasts inner.old.children }
+    requires within { place ≤ inner.old.len }
+    ensures low { AreEntries inner.new.len inner.new.leasts inner.new.children }
+    ensures high { AreEntries result.len result.leasts result.children }
+    ensures children { entries inner.new.leasts inner.new.children ++ entries result.leasts result.children ≡ entries inner.old.leasts inner.old.children }
+    ensures len { inner.new.len ≡ place }
+    ensures low_height { inner.new.height ≡ inner.old.height }
+    ensures high_height { result.height ≡ inner.old.height }
 {
-    let mut high = no_branch(branch.height);
-    share(branch, &mut high, place);
+    let mut high = no_inner(inner.height);
+    share(inner, &mut high, place);
     high
 }
 

@@ -2,7 +2,7 @@
 //! the guess is any number, so whoever uses it looks first whether it is right.
 ghost use Rattle.std.specs.Prelude.{◌≡◌, ℕ, ◌+◌, ◌*◌, ◌/◌, ◌^◌, ◌<◌, ◌≤◌};
 
-use crate::mending::GIVEN_TO;
+use crate::rebalancing::GIVEN_TO;
 
 /// How many entries or children a node is left with where rows come in rising order.
 const FILLED: u64 = GIVEN_TO as u64;
@@ -29,7 +29,7 @@ pub(crate) fn rows_before(key: u64, least: u64, shift: u32) -> u64
 
 /// The place of the child of a node that has the row behind so many. Above height 3 it may be off by one.
 #[inline(always)]
-pub(crate) fn kid_behind(rows: u64, height: u64) -> usize
+pub(crate) fn child_behind(rows: u64, height: u64) -> usize
     ensures low { height ≡ 1 → rows < 29 ^ 2 → result ≡ rows / 29 }
     ensures middle { height ≡ 2 → rows < 29 ^ 3 → result ≡ rows / 29 ^ 2 }
     ensures high { height ≡ 3 → rows < 29 ^ 4 → result ≡ rows / 29 ^ 3 }

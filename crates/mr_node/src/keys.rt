@@ -1,6 +1,6 @@
 //! The keys of a node: a plain array of 32 in rising order, with the greatest number behind the last key.
 ghost use Rattle.std.specs.Prelude.{◌≡◌, ◌+◌, ◌-◌, ◌*◌, ◌<◌, ◌≤◌, [], ◌∷◌, ◌++◌, insert, remove, take, drop, replicate, slice_index_or, slice_set, nat_lt, true, false, if◌then◌else◌};
-ghost use Rattle.mr_node.specs.Runs.{no_key};
+ghost use Rattle.mr_node.specs.EntryLists.{no_key};
 ghost use Rattle.mr_node.specs.Search.{IsRising, IsStop};
 
 use crate::places::move_to_end;

@@ -3,25 +3,25 @@
 #![tactic(auto)]
 
 mod body;
+mod children;
 mod cuts;
 mod entries;
+mod entry_lists;
 mod guess;
 mod keys;
-mod kids;
-mod mending;
 mod meter;
 mod node;
 mod places;
+mod rebalancing;
 mod revise;
 mod room;
-mod runs;
 mod stock;
 
-pub use body::{Body, Branch, Kid, Leaf};
-pub use cuts::{build_blank, cut_kids, cut_leaf};
-pub use kids::{kid_place, no_branch, take_kid};
+pub use body::{Body, Child, Inner, Leaf};
+pub use children::{child_place, no_inner, take_child};
+pub use cuts::{build_blank, cut_children, cut_leaf};
 pub use meter::Meter;
-pub use node::{Node, build_inner, build_leaf, hang, open};
+pub use node::{Node, build_inner, build_leaf, insert_child, open};
 pub use revise::Revise;
 pub use room::Room;
 pub use stock::{Blanks, Stock};

@@ -3,27 +3,27 @@ ghost use Rattle.std.specs.Prelude.{◌≡◌, ◌+◌, ◌-◌, ◌*◌, ◌<�
 ghost use Rattle.std.specs.List.{find};
 ghost use Rattle.tatp_rows.specs.Ordered.{IsOrderedBy, row_at, with_row_at};
 ghost use Rattle.mr_node.specs.Rows.{key_limit, key_of_pair, value_at, StartsWith};
-ghost use Rattle.mr_node.specs.Levels.{seen, IsNode, IsWell, IsLeaf, IsBranch, seen_leaf, seen_branch};
+ghost use Rattle.mr_node.specs.Levels.{seen, IsNode, IsWell, IsLeaf, IsInner, seen_leaf, seen_inner};
 ghost use Rattle.mr_node.specs.Folds.{FoldsRows, WalksRows};
 ghost use Rattle.mr_node.specs.Pages.{IsPage};
 ghost use Rattle.mr_node.specs.Revisions.{revised_at, spent_at};
-ghost use Rattle.mr_node.specs.Runs.{IsRun};
+ghost use Rattle.mr_node.specs.EntryLists.{AreEntries};
 ghost use Rattle.mr_node.specs.Growth.{IsGrown, IsRoomAnswer, is_done};
-ghost use Rattle.mr_node.specs.Pairs.{IsKidNode, IsHalved, IsShare, AreEvened};
-ghost use Rattle.mr_node.specs.Changes.{IsShrunk, IsHeightened, IsLowered};
-ghost use Rattle.mr_node.specs.Parts.{IsHung};
+ghost use Rattle.mr_node.specs.Pairs.{IsChildNode, IsHalved, IsShare, AreEvened};
+ghost use Rattle.mr_node.specs.Changes.{IsShrunk, HasNewRoot, IsLowered};
+ghost use Rattle.mr_node.specs.Parts.{IsWithChild};
 ghost use Rattle.mr_node.specs.Steps.{after_steps, IsRoomMade};
 
+use crate::children::{child_place, child_place_at, no_inner, put_child, sum_counts, take_child};
 use crate::entries::{
     find_entry, find_entry_at, first_entry, fold_entries, insert_entry, insert_new, no_leaf,
     page_entries, remove_entry, revise_entry, revise_entry_at, walk_entries,
 };
-use crate::guess::{kid_behind, rows_before};
-use crate::kids::{kid_place, kid_place_at, no_branch, put_kid, sum_counts, take_kid};
-use crate::mending::{make_room, mend};
+use crate::entry_lists::{even, low_of, share};
+use crate::guess::{child_behind, rows_before};
+use crate::rebalancing::{make_room, rebalance};
 use crate::revise::Swap;
-use crate::runs::{even, low_of, share};
-use crate::{Body, Branch, Kid, Leaf, Meter, Revise, Room, Stock};
+use crate::{Body, Child, Inner, Leaf, Meter, Revise, Room, Stock};
 use arrayvec::ArrayVec;
 use std::marker::Model;
 use std::mem;
@@ -71,7 +71,7 @@ impl<V> Node<V> {
     {
         match &self.body {
             Body::Leaf(_) => 0,
-            Body::Inner(branch) => branch.height,
+            Body::Inner(inner) => inner.height,
         }
     }
 
@@ -82,7 +82,7 @@ impl<V> Node<V> {
     {
         match &self.body {
             Body::Leaf(leaf) => leaf.values.len(),
-            Body::Inner(branch) => branch.len,
+            Body::Inner(inner) => inner.len,
         }
     }
 
@@ -92,7 +92,7 @@ impl<V> Node<V> {
     {
         match &self.body {
             Body::Leaf(leaf) => leaf.values.len() as u64,
-            Body::Inner(branch) => sum_counts(branch),
+            Body::Inner(inner) => sum_counts(inner),
         }
     }
 
@@ -102,7 +102,7 @@ impl<V> Node<V> {
     {
         match &self.body {
             Body::Leaf(leaf) => leaf.keys[0],
-            Body::Inner(branch) => branch.leasts[0],
+            Body::Inner(inner) => inner.leasts[0],
         }
     }
 
@@ -112,10 +112,10 @@ impl<V> Node<V> {
     {
         match &self.body {
             Body::Leaf(leaf) => find_entry(leaf, key),
-            Body::Inner(branch) => {
-                let place = kid_place(branch, key);
-                match &branch.kids[place] {
-                    Some(kid) => kid.node.find(key),
+            Body::Inner(inner) => {
+                let place = child_place(inner, key);
+                match &inner.children[place] {
+                    Some(child) => child.node.find(key),
                     None => unreachable!(),
                 }
             }
@@ -137,10 +137,10 @@ impl<V> Node<V> {
         let rows = rows_before(key, least, shift);
         match &self.body {
             Body::Leaf(leaf) => find_entry_at(leaf, key, rows as usize),
-            Body::Inner(branch) => {
-                let place = kid_place_at(branch, key, kid_behind(rows, branch.height));
-                match &branch.kids[place] {
-                    Some(kid) => kid.node.find_near(key, shift, branch.leasts[place]),
+            Body::Inner(inner) => {
+                let place = child_place_at(inner, key, child_behind(rows, inner.height));
+                match &inner.children[place] {
+                    Some(child) => child.node.find_near(key, shift, inner.leasts[place]),
                     None => unreachable!(),
                 }
             }
@@ -155,10 +155,10 @@ impl<V> Node<V> {
     {
         match &self.body {
             Body::Leaf(_) => self,
-            Body::Inner(branch) => {
-                let place = kid_place(branch, key);
-                match &branch.kids[place] {
-                    Some(kid) => &*kid.node,
+            Body::Inner(inner) => {
+                let place = child_place(inner, key);
+                match &inner.children[place] {
+                    Some(child) => &*child.node,
                     None => unreachable!(),
                 }
             }
@@ -171,16 +171,16 @@ impl<V> Node<V> {
     {
         match &self.body {
             Body::Leaf(leaf) => first_entry(leaf, key),
-            Body::Inner(branch) => {
-                let place = kid_place(branch, key);
-                match &branch.kids[place] {
-                    Some(kid) => match kid.node.first_from(key) {
+            Body::Inner(inner) => {
+                let place = child_place(inner, key);
+                match &inner.children[place] {
+                    Some(child) => match child.node.first_from(key) {
                         Some(row) => Some(row),
                         None => {
-                            if place + 1 >= branch.len {
+                            if place + 1 >= inner.len {
                                 return None;
                             }
-                            match &branch.kids[place + 1] {
+                            match &inner.children[place + 1] {
                                 Some(next) => next.node.first_from(key),
                                 None => unreachable!(),
                             }
@@ -199,12 +199,12 @@ impl<V> Node<V> {
     {
         match &self.body {
             Body::Leaf(leaf) => fold_entries(leaf, init, f),
-            Body::Inner(branch) => {
+            Body::Inner(inner) => {
                 let mut folded = init;
-                for place in 0..branch.len {
-                    match &branch.kids[place] {
-                        Some(kid) => {
-                            folded = kid.node.fold(folded, f);
+                for place in 0..inner.len {
+                    match &inner.children[place] {
+                        Some(child) => {
+                            folded = child.node.fold(folded, f);
                         }
                         None => unreachable!(),
                     }
@@ -221,10 +221,10 @@ impl<V> Node<V> {
     {
         match &self.body {
             Body::Leaf(leaf) => walk_entries(leaf, so_far, f),
-            Body::Inner(branch) => {
-                for place in 0..branch.len {
-                    match &branch.kids[place] {
-                        Some(kid) => kid.node.walk(so_far, f),
+            Body::Inner(inner) => {
+                for place in 0..inner.len {
+                    match &inner.children[place] {
+                        Some(child) => child.node.walk(so_far, f),
                         None => unreachable!(),
                     }
                 }
@@ -250,10 +250,10 @@ impl<V: Copy> Node<V> {
     {
         match &self.body {
             Body::Leaf(leaf) => page_entries(leaf, key, page),
-            Body::Inner(branch) => {
-                for place in kid_place(branch, key)..branch.len {
-                    match &branch.kids[place] {
-                        Some(kid) => kid.node.page_from(key, page),
+            Body::Inner(inner) => {
+                for place in child_place(inner, key)..inner.len {
+                    match &inner.children[place] {
+                        Some(child) => child.node.page_from(key, page),
                         None => unreachable!(),
                     }
                     if !page.is_empty() {
@@ -289,11 +289,11 @@ impl<V: Drop> Node<V> {
     {
         match &mut self.body {
             Body::Leaf(leaf) => revise_entry(leaf, key, edit),
-            Body::Inner(branch) => {
-                let place = kid_place(branch, key);
-                match &mut branch.kids[place] {
-                    Some(kid) => {
-                        let node = &mut *kid.node;
+            Body::Inner(inner) => {
+                let place = child_place(inner, key);
+                match &mut inner.children[place] {
+                    Some(child) => {
+                        let node = &mut *child.node;
                         node.revise(key, edit)
                     }
                     None => unreachable!(),
@@ -323,13 +323,13 @@ impl<V: Drop> Node<V> {
         let rows = rows_before(key, least, shift);
         match &mut self.body {
             Body::Leaf(leaf) => revise_entry_at(leaf, key, rows as usize, edit),
-            Body::Inner(branch) => {
-                let place = kid_place_at(branch, key, kid_behind(rows, branch.height));
-                let kid_least = branch.leasts[place];
-                match &mut branch.kids[place] {
-                    Some(kid) => {
-                        let node = &mut *kid.node;
-                        node.revise_near(key, shift, kid_least, edit)
+            Body::Inner(inner) => {
+                let place = child_place_at(inner, key, child_behind(rows, inner.height));
+                let child_least = inner.leasts[place];
+                match &mut inner.children[place] {
+                    Some(child) => {
+                        let node = &mut *child.node;
+                        node.revise_near(key, shift, child_least, edit)
                     }
                     None => unreachable!(),
                 }
@@ -362,15 +362,15 @@ impl<V: Drop> Node<V> {
         meter.tick(2);
         match &mut self.body {
             Body::Leaf(leaf) => put(gone, remove_entry(leaf, key)),
-            Body::Inner(branch) => {
-                let place = kid_place(branch, key);
-                match &mut branch.kids[place] {
-                    Some(kid) => {
-                        let node = &mut *kid.node;
+            Body::Inner(inner) => {
+                let place = child_place(inner, key);
+                match &mut inner.children[place] {
+                    Some(child) => {
+                        let node = &mut *child.node;
                         node.take_at(key, gone, meter);
-                        let least = note_gone(kid, gone.is_some());
-                        branch.leasts[place] = least;
-                        mend(branch, place, meter);
+                        let least = note_gone(child, gone.is_some());
+                        inner.leasts[place] = least;
+                        rebalance(inner, place, meter);
                     }
                     None => unreachable!(),
                 }
@@ -404,14 +404,14 @@ impl<V: Drop> Node<V> {
         meter.tick(2);
         match &mut self.body {
             Body::Leaf(leaf) => insert_new(leaf, key, value),
-            Body::Inner(branch) => {
-                let place = make_room(branch, key, stock, meter);
-                match &mut branch.kids[place] {
-                    Some(kid) => {
-                        let node = &mut *kid.node;
+            Body::Inner(inner) => {
+                let place = make_room(inner, key, stock, meter);
+                match &mut inner.children[place] {
+                    Some(child) => {
+                        let node = &mut *child.node;
                         node.insert_split(key, value, stock, meter);
-                        kid.count += 1;
-                        branch.leasts[place] = branch.leasts[place].min(key);
+                        child.count += 1;
+                        inner.leasts[place] = inner.leasts[place].min(key);
                     }
                     None => unreachable!(),
                 }
@@ -422,11 +422,11 @@ impl<V: Drop> Node<V> {
     /// Puts a full node under a new root of two halves, which takes two blank nodes. Four steps.
     #[cold]
     #[inline(never)]
-    pub fn heighten(&mut self, stock: &mut Stock<V>, meter: &mut Meter)
+    pub fn add_root(&mut self, stock: &mut Stock<V>, meter: &mut Meter)
         requires full { self.old.width ≡ 32 }
         requires well { IsWell self.old }
         requires stock { 2 ≤ stock.old }
-        ensures root { IsHeightened self.old self.new }
+        ensures root { HasNewRoot self.old self.new }
         ensures stock { stock.old ≡ stock.new + 2 }
         ensures steps { meter.new ≡ after_steps 4 meter.old }
     {
@@ -467,7 +467,7 @@ impl<V: Drop> Node<V> {
                 Body::Inner(_) => unreachable!(),
             },
             Body::Inner(left) => {
-                let mut right = no_branch(left.height);
+                let mut right = no_inner(left.height);
                 share(left, &mut right, 16);
                 put_inner(high, right)
             }
@@ -522,15 +522,15 @@ impl<V: Drop> Node<V> {
     {
         match &mut self.body {
             Body::Leaf(leaf) => insert_entry(leaf, key, value),
-            Body::Inner(branch) => {
-                let place = kid_place(branch, key);
-                match &mut branch.kids[place] {
-                    Some(kid) => {
-                        let node = &mut *kid.node;
+            Body::Inner(inner) => {
+                let place = child_place(inner, key);
+                match &mut inner.children[place] {
+                    Some(child) => {
+                        let node = &mut *child.node;
                         let answer = node.insert_room(key, value);
                         let is_in = answer.is_done();
-                        kid.count += u64::from(is_in);
-                        branch.leasts[place] = least_after(branch.leasts[place], key, is_in);
+                        child.count += u64::from(is_in);
+                        inner.leasts[place] = least_after(inner.leasts[place], key, is_in);
                         answer
                     }
                     None => unreachable!(),
@@ -548,13 +548,13 @@ fn put<V: Drop>(gone: &mut Option<V>, value: Option<V>)
 }
 
 /// Takes a removal below a child, which took a row out or not, into the child's count. Its least key.
-fn note_gone<V>(kid: &mut Kid<Box<Node<V>>>, is_gone: bool) -> u64
-    ensures node { kid.new.node ≡ kid.old.node }
-    ensures least { 0 < kid.old.node.value.width → StartsWith result kid.old.node.value.rows }
-    ensures count { kid.new.count ≡ kid.old.count - (if is_gone then 1 else 0) }
+fn note_gone<V>(child: &mut Child<Box<Node<V>>>, is_gone: bool) -> u64
+    ensures node { child.new.node ≡ child.old.node }
+    ensures least { 0 < child.old.node.value.width → StartsWith result child.old.node.value.rows }
+    ensures count { child.new.count ≡ child.old.count - (if is_gone then 1 else 0) }
 {
-    kid.count = kid.count.saturating_sub(u64::from(is_gone));
-    kid.node.least()
+    child.count = child.count.saturating_sub(u64::from(is_gone));
+    child.node.least()
 }
 
 /// The least key of a child after an insertion below it, which put a row in or not.
@@ -599,43 +599,43 @@ fn put_leaf<V: Drop>(node: &mut Node<V>, leaf: Leaf<V>)
 }
 
 /// Makes a node an inner node of these children.
-fn put_inner<V: Drop>(node: &mut Node<V>, branch: Branch<Box<Node<V>>>)
-    requires { IsBranch branch }
-    ensures { node.new ≡ seen_branch branch }
+fn put_inner<V: Drop>(node: &mut Node<V>, inner: Inner<Box<Node<V>>>)
+    requires { IsInner inner }
+    ensures { node.new ≡ seen_inner inner }
 {
     *node = Node {
-        body: Body::Inner(branch),
+        body: Body::Inner(inner),
     };
 }
 
 /// Puts a node into an inner node's part at a place, with its least key and its count.
-pub fn hang<V: Drop>(branch: &mut Branch<Box<Node<V>>>, place: usize, node: Box<Node<V>>)
-    requires run { IsRun branch.old.len branch.old.leasts branch.old.kids }
-    requires room { branch.old.len < 32 }
-    requires within { place ≤ branch.old.len }
-    requires node { IsKidNode node.value.height node.value }
-    ensures height { branch.new.height ≡ branch.old.height }
-    ensures len { branch.new.len ≡ branch.old.len + 1 }
-    ensures run { IsRun branch.new.len branch.new.leasts branch.new.kids }
-    ensures kids { IsHung place node.value branch.old branch.new }
+pub fn insert_child<V: Drop>(inner: &mut Inner<Box<Node<V>>>, place: usize, node: Box<Node<V>>)
+    requires run { AreEntries inner.old.len inner.old.leasts inner.old.children }
+    requires room { inner.old.len < 32 }
+    requires within { place ≤ inner.old.len }
+    requires node { IsChildNode node.value.height node.value }
+    ensures height { inner.new.height ≡ inner.old.height }
+    ensures len { inner.new.len ≡ inner.old.len + 1 }
+    ensures run { AreEntries inner.new.len inner.new.leasts inner.new.children }
+    ensures children { IsWithChild place node.value inner.old inner.new }
 {
     let least = node.least();
     let count = node.len();
-    put_kid(branch, place, least, Kid { count, node });
+    put_child(inner, place, least, Child { count, node });
 }
 
 /// A new root over the halves of a full node.
 fn root_over<V: Drop>(mut node: Box<Node<V>>, mut blank: Box<Node<V>>, meter: &mut Meter) -> Node<V>
     requires full { node.value.width ≡ 32 }
     requires well { IsWell node.value }
-    ensures root { IsHeightened node.value result }
+    ensures root { HasNewRoot node.value result }
     ensures steps { meter.new ≡ after_steps 4 meter.old }
 {
     meter.tick(4);
-    let mut root = no_branch(node.height() + 1);
+    let mut root = no_inner(node.height() + 1);
     node.halve_into(&mut *blank);
-    hang(&mut root, 0, node);
-    hang(&mut root, 1, blank);
+    insert_child(&mut root, 0, node);
+    insert_child(&mut root, 1, blank);
     Node {
         body: Body::Inner(root),
     }
@@ -645,7 +645,7 @@ fn root_over<V: Drop>(mut node: Box<Node<V>>, mut blank: Box<Node<V>>, meter: &m
 #[cold]
 #[inline(never)]
 fn drop_root<V: Drop>(root: &mut Node<V>, meter: &mut Meter)
-    requires inner { 0 < root.old.height }
+    requires above_leaves { 0 < root.old.height }
     requires one { root.old.width ≡ 1 }
     ensures lowered { IsLowered root.old root.new }
     ensures level { root.old.height ≡ root.new.height + 1 }
@@ -657,7 +657,7 @@ fn drop_root<V: Drop>(root: &mut Node<V>, meter: &mut Meter)
 
 /// The only child of an inner node.
 fn only_child<V: Drop>(node: Node<V>, meter: &mut Meter) -> Node<V>
-    requires inner { 0 < node.height }
+    requires above_leaves { 0 < node.height }
     requires one { node.width ≡ 1 }
     ensures rows { result.rows ≡ node.rows }
     ensures well { IsWell result }
@@ -668,9 +668,9 @@ fn only_child<V: Drop>(node: Node<V>, meter: &mut Meter) -> Node<V>
     meter.tick(1);
     match node.into_body() {
         Body::Leaf(_) => unreachable!(),
-        Body::Inner(mut branch) => {
-            let kid = take_kid(&mut branch, 0);
-            Box::into_inner(kid.node)
+        Body::Inner(mut inner) => {
+            let child = take_child(&mut inner, 0);
+            Box::into_inner(child.node)
         }
     }
 }
@@ -707,15 +707,15 @@ pub fn build_leaf<V: Drop>(
 
 /// Builds an inner node of these children in a box. One step.
 pub fn build_inner<V: Drop>(
-    branch: Branch<Box<Node<V>>>,
+    inner: Inner<Box<Node<V>>>,
     mut blank: Box<Node<V>>,
     meter: &mut Meter,
 ) -> Box<Node<V>>
-    requires { IsBranch branch }
-    ensures seen { result.value ≡ seen_branch branch }
+    requires { IsInner inner }
+    ensures seen { result.value ≡ seen_inner inner }
     ensures steps { meter.new ≡ after_steps 1 meter.old }
 {
     meter.tick(1);
-    put_inner(&mut *blank, branch);
+    put_inner(&mut *blank, inner);
     blank
 }

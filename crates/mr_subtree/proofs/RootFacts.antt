@@ -8,7 +8,7 @@ use Rattle.std.proofs.lemmas.Bool.{cases_lt}
 use Rattle.tatp_rows.specs.Ordered.{row_at, with_row}
 use Rattle.mr_node.specs.Rows.{Seen, key_of_pair}
 use Rattle.mr_node.specs.Growth.{IsGrown}
-use Rattle.mr_node.specs.Changes.{IsHeightened}
+use Rattle.mr_node.specs.Changes.{HasNewRoot}
 use Rattle.mr_node.proofs.SizeLemmas.{low_tree}
 use Rattle.mr_subtree.specs.Trees.{IsRoot, IsHeightOf, IsInserted}
 
@@ -25,7 +25,7 @@ module _ {V : Type 0} where
 
   pub low_root : (s : Seen V) → IsRoot s → s.height < 16
   low_root s root = elim (cases_lt 0 s.height) [
-    | inl inner ↦ low_tree s root.well (omega (arith, root.two inner))
+    | inl above_leaves ↦ low_tree s root.well (omega (arith, root.two above_leaves))
     | inr leaf ↦ omega (arith, leaf)
   ]
 
@@ -37,7 +37,7 @@ module _ {V : Type 0} where
     grown.rows ∙ ap (λ x. with_row key_of_pair (key, value) x.rows) e,
   )
 
-  pub higher_root : (key : ℕ) (item : Option V) (s mid new now : Seen V) → s ≡ now → IsHeightened s mid → IsSome item → IfSome item (λ value. IsGrown key value mid new) → (IsRoot new) × IfSome item (λ value. new.rows ≡ with_row key_of_pair (key, value) now.rows)
+  pub higher_root : (key : ℕ) (item : Option V) (s mid new now : Seen V) → s ≡ now → HasNewRoot s mid → IsSome item → IfSome item (λ value. IsGrown key value mid new) → (IsRoot new) × IfSome item (λ value. new.rows ≡ with_row key_of_pair (key, value) now.rows)
   higher_root key None s mid new now e high some grown = let wrong : ⊥ = cc in absurd wrong
   higher_root key (Some value) s mid new now e high some grown = (
     record { well = grown.well; two = λ h. omega (arith, high.width, grown.width) },

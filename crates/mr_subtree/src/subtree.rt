@@ -249,7 +249,7 @@ fn grow<V: Drop>(root: &mut Node<V>, key: u64, item: &mut Option<V>, stock: &mut
 {
     let mut meter = Meter::new();
     if root.width() == 32 {
-        root.heighten(stock, &mut meter);
+        root.add_root(stock, &mut meter);
         root.insert_split(key, item, stock, &mut meter);
         return;
     }

@@ -64,8 +64,8 @@ one_spanned start deltas up from hour value order within so_far by = record {
     elsewhere c below e =
         let other : c ≡ hour → ⊥ = grind (arith, nat_tests) in
         let same : (nat_le from c && nat_lt c (hour + 1)) ≡ (nat_le from c && nat_lt c hour) = by_test (nat_lt c hour)
-            (λ f. let g : nat_lt c (hour + 1) ≡ true = grind (arith, nat_tests) in rw (f, g) refl)
-            (λ f. let g : nat_lt c (hour + 1) ≡ false = grind (arith, nat_tests) in rw (f, g) refl) in
+        (λ f. let g : nat_lt c (hour + 1) ≡ true = grind (arith, nat_tests) in rw (f, g) refl)
+        (λ f. let g : nat_lt c (hour + 1) ≡ false = grind (arith, nat_tests) in rw (f, g) refl) in
         rw (get_or-set_other deltas hour c value (pos 0) other, same) (so_far.moved c below)
 
 -- a sum of two numbers that fit, as the machine computes it

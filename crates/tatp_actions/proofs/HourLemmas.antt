@@ -227,8 +227,7 @@ pub hour_noted : (amount : ℕ → ℤ) (hour : ℕ) (step : ℤ) (notes more al
 hour_noted amount hour step notes more all below by so_far few noted =
     let one = note_of-few hour step in
     let long = length-append notes (note_of hour step) in
-    let same : length more ≡ length (notes ++ note_of hour step) = ap length noted in
-    (
+    let same : length more ≡ length (notes ++ note_of hour step) = ap length noted in (
       omega (arith, below),
       omega (arith, one, long, same, few),
       rw (noted, by) (append_assoc notes (note_of hour (amount hour)) (hour_notes amount (FIRST_AREA - (hour + 1)) (hour + 1)) ∙ ap (λ (rest : List (ℕ × ℤ)). notes ++ rest) (sym (next_hour amount hour below)) ∙ so_far),

@@ -65,7 +65,12 @@ pub(crate) fn expect_turn(
     let (reply, change, asked) = act_on_trees(rt, part, plain, action);
     let (plain_reply, plain_change, plain_asked) = act_at_last(rt, plain, action);
     assert_eq!(rt;
-        (action, &reply, change.notes().as_slice(), asked <= plain_asked),
+        (
+            action,
+            &reply,
+            change.notes().as_slice(),
+            asked <= plain_asked
+        ),
         (action, &plain_reply, plain_change.notes().as_slice(), true)
     );
     expect_same_rows(rt, part, plain, action.s_id());

@@ -13,7 +13,7 @@ fn rebuilt(node: Box<Node<u64>>, meter: &mut Meter) -> Box<Node<u64>> {
     let (body, blank) = open(node, meter);
     match body {
         Body::Leaf(leaf) => build_leaf(leaf, blank, meter),
-        Body::Inner(branch) => build_inner(branch, blank, meter),
+        Body::Inner(inner) => build_inner(inner, blank, meter),
     }
 }
 
@@ -77,7 +77,7 @@ fn grow(rt: &impl Abort, node: &mut Node<u64>, stock: &mut Stock<u64>, meter: &m
         Room::Full => {
             assert_eq!(rt; node.height(), 0);
             assert_eq!(rt; node.width(), 32);
-            node.heighten(stock, meter);
+            node.add_root(stock, meter);
             node.insert_split(33, &mut value, stock, meter);
         }
         _ => assert!(rt; false),
@@ -246,7 +246,7 @@ fn a_full_leaf_gives_or_is_halved(rt: HostRuntime) -> Result<(), Fail> {
     let mut node = Node::new();
     fill(&rt, &mut node);
     assert!(&rt; node.width() == 32);
-    node.heighten(&mut stock, &mut Meter::new());
+    node.add_root(&mut stock, &mut Meter::new());
     part(&rt, &mut node, &mut stock);
     Ok(())
 }

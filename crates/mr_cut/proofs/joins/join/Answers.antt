@@ -1,12 +1,12 @@
 use Rattle.std.proofs.Common.{rules, arith, ◌-◌, sym, ap, subst, ◌∙◌}
 use Rattle.tatp_rows.specs.Ordered.{IsOrderedBy}
 use Rattle.mr_node.specs.Rows.{key_of_pair}
-use Rattle.mr_cut.proofs.JoinLemmas.{AreHigherFirst, higher_first, both_crownless, crown_root, crown_rows, both_height}
+use Rattle.mr_cut.proofs.JoinLemmas.{AreHigherFirst, higher_first, both_rootless, root_left, root_rows, both_height}
 use Rattle.mr_cut.proofs.CountLemmas.{more_fits, IsJoinCount, join_count}
-use Rattle.mr_cut.proofs.joins.join.Goals.{After-turned-node, After-crown}
+use Rattle.mr_cut.proofs.joins.join.Goals.{After-turned-node, After-root_of_both}
 use Rattle.mr_cut.proofs.joins.join.Goals as goal
 
--- the higher one, and the one to hang at it
+-- the higher one, and the one to join to it
 first : (g : _) (c : After-turned-node g)
     → AreHigherFirst c.side_of-side.result c.args.low.value c.args.high.value c.turned-node.result.0.value
     c.turned-node.result.1.value
@@ -17,48 +17,48 @@ first g c =
     c.requires.high_root
 
 -- the steps, and the most and the fewest
-steps : (g : _) (c : After-crown g)
+steps : (g : _) (c : After-root_of_both g)
     → AreHigherFirst c.side_of-side.result c.args.low.value c.args.high.value c.turned-node.result.0.value
     c.turned-node.result.1.value
-    → IsJoinCount c.args.low.value c.args.high.value c.crown.result.value (c.args.stock.now - c.crown.new.stock)
-    c.args.meter.now c.crown.new.meter
+    → IsJoinCount c.args.low.value c.args.high.value c.root_of_both.result.value (c.args.stock.now - c.root_of_both.new.stock)
+    c.args.meter.now c.root_of_both.new.meter
 steps g c pair =
-    let below = c.graft-one.ensures in
-    join_count _ _ _ c.graft-one.result.1 _ _ _ _ _ _ pair below.grafted c.crown.ensures.root below.stock below.fewer
-    below.steps c.crown.ensures.stock c.crown.ensures.steps
+    let below = c.join_side-one.ensures in
+    join_count _ _ _ c.join_side-one.result.1 _ _ _ _ _ _ pair below.side_joined c.root_of_both.ensures.root below.stock below.fewer
+    below.steps c.root_of_both.ensures.stock c.root_of_both.ensures.steps
 
-pub graft-one-requires : goal.graft-one-requires
-graft-one-requires g c =
-    let pair = first g (goal.at.graft-one-requires g c).After-turned-node in
+pub join_side-one-requires : goal.join_side-one-requires
+join_side-one-requires g c =
+    let pair = first g (goal.at.join_side-one-requires g c).After-turned-node in
     let ordered = subst (IsOrderedBy key_of_pair) (sym pair.list) c.requires.ordered in
     (search rules, (pair.level, (ordered, omega (arith, pair.apart, c.requires.stock))))
 
-pub crown-requires : goal.crown-requires
-crown-requires g c =
-    let pair = first g (goal.at.crown-requires g c).After-turned-node in
-    let whole = both_crownless _ c.graft-one.result.1 pair c.requires.ordered c.graft-one.ensures.grafted in
-    (search rules, (whole, omega (arith, pair.apart, c.graft-one.ensures.stock, c.requires.stock)))
+pub root_of_both-requires : goal.root_of_both-requires
+root_of_both-requires g c =
+    let pair = first g (goal.at.root_of_both-requires g c).After-turned-node in
+    let whole = both_rootless _ c.join_side-one.result.1 pair c.requires.ordered c.join_side-one.ensures.side_joined in
+    (search rules, (whole, omega (arith, pair.apart, c.join_side-one.ensures.stock, c.requires.stock)))
 
 pub returns-clause-root : goal.returns-clause-root
 returns-clause-root g c =
     let pair = first g (goal.at.returns-clause-root g c).After-turned-node in
-    let whole = both_crownless _ c.graft-one.result.1 pair c.requires.ordered c.graft-one.ensures.grafted in
-    crown_root _ _ c.graft-one.result.1 whole c.crown.ensures.root
+    let whole = both_rootless _ c.join_side-one.result.1 pair c.requires.ordered c.join_side-one.ensures.side_joined in
+    root_left _ _ c.join_side-one.result.1 whole c.root_of_both.ensures.root
 
 pub returns-clause-rows : goal.returns-clause-rows
 returns-clause-rows g c =
     let pair = first g (goal.at.returns-clause-rows g c).After-turned-node in
-    crown_rows _ _ _ _ _ _ c.graft-one.result.1 c.graft-one.ensures.grafted c.crown.ensures.root ∙ pair.list
+    root_rows _ _ _ _ _ _ c.join_side-one.result.1 c.join_side-one.ensures.side_joined c.root_of_both.ensures.root ∙ pair.list
 
 pub returns-clause-height : goal.returns-clause-height
 returns-clause-height g c =
     let pair = first g (goal.at.returns-clause-height g c).After-turned-node in
-    both_height _ _ _ c.graft-one.result.1 pair c.graft-one.ensures.grafted c.crown.ensures.root
+    both_height _ _ _ c.join_side-one.result.1 pair c.join_side-one.ensures.side_joined c.root_of_both.ensures.root
 
 pub returns-clause-stock : goal.returns-clause-stock
 returns-clause-stock g c =
     let pair = first g (goal.at.returns-clause-stock g c).After-turned-node in
-    omega (arith, pair.apart, c.graft-one.ensures.stock, c.crown.ensures.stock, more_fits c.graft-one.result.1)
+    omega (arith, pair.apart, c.join_side-one.ensures.stock, c.root_of_both.ensures.stock, more_fits c.join_side-one.result.1)
 
 pub returns-clause-count : goal.returns-clause-count
 returns-clause-count g c = (steps g c (first g (goal.at.returns-clause-count g c).After-turned-node)).count

@@ -5,58 +5,58 @@ use Rattle.mr_cut.proofs.trees.slice_into.Goals as goal
 
 pub returns-clause-low : goal.returns-clause-low
 returns-clause-low g c =
-    let whole = c.lift-root.ensures.root in
-    let low = c.plant.ensures in
-    let high = c.plant-2.ensures in
-    let cut = subst (λ s. IsCut c.args.key s c.plant.new.place c.plant-2.new.place) whole (subst (λ s. IsCut c.args.key c.lift-root.result.value s c.plant-2.new.place) (sym low) (subst (λ s. IsCut c.args.key c.lift-root.result.value c.cut-below.result.0.value s) (sym high) c.cut-below.ensures.cut)) in
-    (cut_rows c.args.key c.args.tree.now c.plant.new.place c.plant-2.new.place cut).0
+    let whole = c.take_root-root.ensures.root in
+    let low = c.put_root.ensures in
+    let high = c.put_root-2.ensures in
+    let cut = subst (λ s. IsCut c.args.key s c.put_root.new.place c.put_root-2.new.place) whole (subst (λ s. IsCut c.args.key c.take_root-root.result.value s c.put_root-2.new.place) (sym low) (subst (λ s. IsCut c.args.key c.take_root-root.result.value c.cut-below.result.0.value s) (sym high) c.cut-below.ensures.cut)) in
+    (cut_rows c.args.key c.args.tree.now c.put_root.new.place c.put_root-2.new.place cut).0
 
 pub returns-clause-high : goal.returns-clause-high
 returns-clause-high g c =
-    let whole = c.lift-root.ensures.root in
-    let low = c.plant.ensures in
-    let high = c.plant-2.ensures in
-    let cut = subst (λ s. IsCut c.args.key s c.plant.new.place c.plant-2.new.place) whole (subst (λ s. IsCut c.args.key c.lift-root.result.value s c.plant-2.new.place) (sym low) (subst (λ s. IsCut c.args.key c.lift-root.result.value c.cut-below.result.0.value s) (sym high) c.cut-below.ensures.cut)) in
-    (cut_rows c.args.key c.args.tree.now c.plant.new.place c.plant-2.new.place cut).1
+    let whole = c.take_root-root.ensures.root in
+    let low = c.put_root.ensures in
+    let high = c.put_root-2.ensures in
+    let cut = subst (λ s. IsCut c.args.key s c.put_root.new.place c.put_root-2.new.place) whole (subst (λ s. IsCut c.args.key c.take_root-root.result.value s c.put_root-2.new.place) (sym low) (subst (λ s. IsCut c.args.key c.take_root-root.result.value c.cut-below.result.0.value s) (sym high) c.cut-below.ensures.cut)) in
+    (cut_rows c.args.key c.args.tree.now c.put_root.new.place c.put_root-2.new.place cut).1
 
 pub returns-clause-cut : goal.returns-clause-cut
 returns-clause-cut g c =
-    let whole = c.lift-root.ensures.root in
-    let low = c.plant.ensures in
-    let high = c.plant-2.ensures in
-    let cut = subst (λ s. IsCut c.args.key s c.plant.new.place c.plant-2.new.place) whole (subst (λ s. IsCut c.args.key c.lift-root.result.value s c.plant-2.new.place) (sym low) (subst (λ s. IsCut c.args.key c.lift-root.result.value c.cut-below.result.0.value s) (sym high) c.cut-below.ensures.cut)) in
+    let whole = c.take_root-root.ensures.root in
+    let low = c.put_root.ensures in
+    let high = c.put_root-2.ensures in
+    let cut = subst (λ s. IsCut c.args.key s c.put_root.new.place c.put_root-2.new.place) whole (subst (λ s. IsCut c.args.key c.take_root-root.result.value s c.put_root-2.new.place) (sym low) (subst (λ s. IsCut c.args.key c.take_root-root.result.value c.cut-below.result.0.value s) (sym high) c.cut-below.ensures.cut)) in
     cut
 
 pub returns-clause-path : goal.returns-clause-path
 returns-clause-path g c =
-    let whole = c.lift-root.ensures.root in
+    let whole = c.take_root-root.ensures.root in
     omega (arith, ap (λ s. s.height) whole, c.new-path.ensures, c.cut-below.ensures.path, c.steps.ensures, c.steps-3.ensures)
 
 pub returns-clause-path_no_fewer : goal.returns-clause-path_no_fewer
 returns-clause-path_no_fewer g c =
-    let whole = c.lift-root.ensures.root in
+    let whole = c.take_root-root.ensures.root in
     omega (arith, ap (λ s. s.height) whole, c.new-path.ensures, c.cut-below.ensures.path_no_fewer, c.steps-3.ensures)
 
 pub overflow_add-result : goal.overflow_add-result
 overflow_add-result g c =
-    omega (arith, (both_meters _ c.args.tree.now.height c.steps.result c.steps-2.result (ap (λ s. s.height) (c.lift-root.ensures.root)) (omega (arith, c.height.ensures.value, c.height.ensures.low)) (omega (arith, c.new-path.ensures, c.cut-below.ensures.path, c.steps.ensures)) (omega (arith, c.new-joins.ensures, c.cut-below.ensures.joins, c.steps-2.ensures))).1)
+    omega (arith, (both_meters _ c.args.tree.now.height c.steps.result c.steps-2.result (ap (λ s. s.height) (c.take_root-root.ensures.root)) (omega (arith, c.height.ensures.value, c.height.ensures.low)) (omega (arith, c.new-path.ensures, c.cut-below.ensures.path, c.steps.ensures)) (omega (arith, c.new-joins.ensures, c.cut-below.ensures.joins, c.steps-2.ensures))).1)
 
 pub returns-clause-steps : goal.returns-clause-steps
 returns-clause-steps g c =
-    (both_meters _ c.args.tree.now.height c.steps.result c.steps-2.result (ap (λ s. s.height) (c.lift-root.ensures.root)) (omega (arith, c.height.ensures.value, c.height.ensures.low)) (omega (arith, c.new-path.ensures, c.cut-below.ensures.path, c.steps.ensures)) (omega (arith, c.new-joins.ensures, c.cut-below.ensures.joins, c.steps-2.ensures))).0
+    (both_meters _ c.args.tree.now.height c.steps.result c.steps-2.result (ap (λ s. s.height) (c.take_root-root.ensures.root)) (omega (arith, c.height.ensures.value, c.height.ensures.low)) (omega (arith, c.new-path.ensures, c.cut-below.ensures.path, c.steps.ensures)) (omega (arith, c.new-joins.ensures, c.cut-below.ensures.joins, c.steps-2.ensures))).0
 
 pub returns-clause-no_fewer : goal.returns-clause-no_fewer
 returns-clause-no_fewer g c =
-    let whole = c.lift-root.ensures.root in
+    let whole = c.take_root-root.ensures.root in
     omega (arith, ap (λ s. s.height) whole, c.new-path.ensures, c.new-joins.ensures, c.cut-below.ensures.joins_no_fewer, c.steps.ensures, c.steps-2.ensures, c.steps-3.ensures)
 
 pub cut-below-requires : goal.cut-below-requires
 cut-below-requires g c =
-    let whole = c.lift-root.ensures.root in
+    let whole = c.take_root-root.ensures.root in
     (search rules, subst (λ s. (s.height + 2) * (s.height + 2) ≤ c.give.new.self) (sym whole) (omega (arith, c.give.ensures, c.requires.stock)))
 
 pub returns-clause-joins : goal.returns-clause-joins
 returns-clause-joins g c =
-    let whole = c.lift-root.ensures.root in
+    let whole = c.take_root-root.ensures.root in
     let beside = subst (λ s. c.cut-below.new.joins ≤ c.new-joins.result + 32 * ((s.height + 1) * (s.height + 1))) whole c.cut-below.ensures.joins in
     omega (arith, beside, c.new-joins.ensures, c.steps.ensures, c.steps-2.ensures, c.steps-3.ensures)

@@ -7,4 +7,4 @@ one_if true = refl
 one_if false = refl
 
 pub returns-clause-count : goal.returns-clause-count
-returns-clause-count g c = c.saturating_sub-kid.ensures ∙ ap (λ n. c.args.kid.now.count - n) (c.from.ensures ∙ one_if c.args.is_gone)
+returns-clause-count g c = c.saturating_sub-child.ensures ∙ ap (λ n. c.args.child.now.count - n) (c.from.ensures ∙ one_if c.args.is_gone)

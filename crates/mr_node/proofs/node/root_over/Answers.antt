@@ -1,8 +1,8 @@
 use Rattle.std.proofs.Common.{rules, arith, ◌≡◌, ◌+◌, refl, sym, ap, subst, ◌∙◌}
-use Rattle.mr_node.specs.Runs.{IsRun}
+use Rattle.mr_node.specs.EntryLists.{AreEntries}
 use Rattle.mr_node.specs.Pairs.{IsHalved}
 use Rattle.mr_node.proofs.SizeLemmas.{low_tree}
-use Rattle.mr_node.proofs.RootLemmas.{root_branch}
+use Rattle.mr_node.proofs.RootLemmas.{root_inner}
 use Rattle.mr_node.proofs.node.root_over.Goals as goal
 
 pub overflow_add-height : goal.overflow_add-height
@@ -13,30 +13,30 @@ invariant_of-result g c =
     let low = c.halve_into.new.self in
     let high = c.halve_into.new.high in
     let half = subst (λ s. IsHalved s low high) c.deref_mut.ensures.value c.halve_into.ensures in
-    (root_branch c.args.node.value low high c.no_branch-root.result c.hang.new.branch c.hang-2.new.branch c.requires.well half
-    (c.no_branch-root.ensures.height ∙ ap (λ n. n + 1) (c.height.ensures.value ∙ ap (λ s. s.height) c.deref.ensures)) c.no_branch-root.ensures.len c.no_branch-root.ensures.run c.hang.ensures.height c.hang.ensures.len c.hang-2.ensures.height c.hang-2.ensures.len c.hang-2.ensures.run c.hang.ensures.kids c.hang-2.ensures.kids).0
+    (root_inner c.args.node.value low high c.no_inner-root.result c.insert_child.new.inner c.insert_child-2.new.inner c.requires.well half
+    (c.no_inner-root.ensures.height ∙ ap (λ n. n + 1) (c.height.ensures.value ∙ ap (λ s. s.height) c.deref.ensures)) c.no_inner-root.ensures.len c.no_inner-root.ensures.run c.insert_child.ensures.height c.insert_child.ensures.len c.insert_child-2.ensures.height c.insert_child-2.ensures.len c.insert_child-2.ensures.run c.insert_child.ensures.children c.insert_child-2.ensures.children).0
 
 pub returns-clause-root : goal.returns-clause-root
 returns-clause-root g c =
     let low = c.halve_into.new.self in
     let high = c.halve_into.new.high in
     let half = subst (λ s. IsHalved s low high) c.deref_mut.ensures.value c.halve_into.ensures in
-    (root_branch c.args.node.value low high c.no_branch-root.result c.hang.new.branch c.hang-2.new.branch c.requires.well half
-    (c.no_branch-root.ensures.height ∙ ap (λ n. n + 1) (c.height.ensures.value ∙ ap (λ s. s.height) c.deref.ensures)) c.no_branch-root.ensures.len c.no_branch-root.ensures.run c.hang.ensures.height c.hang.ensures.len c.hang-2.ensures.height c.hang-2.ensures.len c.hang-2.ensures.run c.hang.ensures.kids c.hang-2.ensures.kids).1
+    (root_inner c.args.node.value low high c.no_inner-root.result c.insert_child.new.inner c.insert_child-2.new.inner c.requires.well half
+    (c.no_inner-root.ensures.height ∙ ap (λ n. n + 1) (c.height.ensures.value ∙ ap (λ s. s.height) c.deref.ensures)) c.no_inner-root.ensures.len c.no_inner-root.ensures.run c.insert_child.ensures.height c.insert_child.ensures.len c.insert_child-2.ensures.height c.insert_child-2.ensures.len c.insert_child-2.ensures.run c.insert_child.ensures.children c.insert_child-2.ensures.children).1
 
 pub halve_into-requires : goal.halve_into-requires
 halve_into-requires g c = (search rules, ap (λ s. s.width) c.deref_mut.ensures.value ∙ c.requires.full)
 
-pub hang-requires : goal.hang-requires
-hang-requires g c =
-    let root = c.no_branch-root.ensures in
-    let empty = subst (λ n. IsRun n c.no_branch-root.result.leasts c.no_branch-root.result.kids) (sym root.len) root.run in
+pub insert_child-requires : goal.insert_child-requires
+insert_child-requires g c =
+    let root = c.no_inner-root.ensures in
+    let empty = subst (λ n. AreEntries n c.no_inner-root.result.leasts c.no_inner-root.result.children) (sym root.len) root.run in
     let low = c.halve_into.ensures.low in
     (search rules, (search rules, (empty, (omega (arith, root.len), (omega arith, record { level = refl; enough = low.enough; well = low.well })))))
 
-pub hang-requires-2 : goal.hang-requires-2
-hang-requires-2 g c =
-    let root = c.hang.ensures in
-    let len : c.hang.new.branch.len ≡ 1 = omega (arith, root.len, c.no_branch-root.ensures.len) in
+pub insert_child-requires-2 : goal.insert_child-requires-2
+insert_child-requires-2 g c =
+    let root = c.insert_child.ensures in
+    let len : c.insert_child.new.inner.len ≡ 1 = omega (arith, root.len, c.no_inner-root.ensures.len) in
     let high = c.halve_into.ensures.high in
     (search rules, (search rules, (root.run, (omega (arith, len), (omega (arith, len), record { level = refl; enough = high.enough; well = high.well })))))

@@ -19,8 +19,7 @@ loop-hour-preserved c =
     let high = c.steps.ensures.high in
     let step : c.from-step.result ≡ steps c.args.up 1 = c.from-step.ensures ∙ to_z-of_z w8 c.steps.result (omega (arith, ints)) ∙ c.steps.ensures.value in
     let within : c.loop-hour.hour < CELLS = omega (arith, c.loop-hour-test.true, c.requires.to) in
-    let both = span_fits _ _ c.args.up c.args.from c.args.to c.loop-hour.hour c.loop-hour.invariant.1 c.loop-hour.auto.hour c.loop-hour-test.true within c.requires.fit c.requires.fits in
-    (
+    let both = span_fits _ _ c.args.up c.args.from c.args.to c.loop-hour.hour c.loop-hour.invariant.1 c.loop-hour.auto.hour c.loop-hour-test.true within c.requires.fit c.requires.fits in (
       omega (arith, c.loop-hour-test.true),
       rw (c.from.ensures, step) (one_spanned _ _ c.args.up c.args.from c.loop-hour.hour _ c.loop-hour.auto.hour within c.loop-hour.invariant.1 (plain_sum _ _ both.0 (step_fits c.args.up) both.1)),
     )

@@ -1,11 +1,11 @@
 use Rattle.std.proofs.Common.{rules, arith, ◌≡◌, ◌+◌, ◌-◌, ◌*◌, ◌<◌, get_or, IfSome, refl, sym, ap, subst, ◌∙◌}
 use Rattle.tatp_rows.specs.Ordered.{row_at}
 use Rattle.mr_node.specs.Rows.{key_of_pair}
-use Rattle.mr_node.specs.Levels.{kids_of, IsNode, IsBranch, seen, seen_leaf, seen_branch}
+use Rattle.mr_node.specs.Levels.{children_of, IsNode, IsInner, seen, seen_leaf, seen_inner}
 use Rattle.mr_node.specs.Growth.{IsGrown}
 use Rattle.mr_node.proofs.PlaceLemmas.{got_used, never_none}
-use Rattle.mr_node.proofs.KidLemmas.{IsCutAt, kid_at}
-use Rattle.mr_node.proofs.NodeLemmas.{find_cut, kid_count_fits}
+use Rattle.mr_node.proofs.ChildLemmas.{IsCutAt, child_at}
+use Rattle.mr_node.proofs.NodeLemmas.{find_cut, child_count_fits}
 use Rattle.mr_node.proofs.CutLemmas.{cut_of_room, grown_after}
 use Rattle.mr_node.specs.Steps.{after_steps, IsRoomMade}
 use Rattle.mr_node.proofs.StepLemmas.{room_made, leaf_made, made_fewest, made_most}
@@ -13,23 +13,23 @@ use Rattle.mr_node.proofs.node.Node.+insert_split.Goals.{In-Inner, After-deref_m
 use Rattle.mr_node.proofs.node.Node.+insert_split.Goals as goal
 
 -- the node's own part
-whole : (g : _) (t : _) (c : In-Inner g t) → IsBranch c.in-Inner.branch
+whole : (g : _) (t : _) (c : In-Inner g t) → IsInner c.in-Inner.inner
 whole g t c = subst IsNode c.in-Inner.is c.self.invariant
 
-now : (g : _) (t : _) (c : In-Inner g t) → c.args.self.now ≡ seen_branch c.in-Inner.branch
+now : (g : _) (t : _) (c : In-Inner g t) → c.args.self.now ≡ seen_inner c.in-Inner.inner
 now g t c = sym c.self.view_is ∙ ap seen c.in-Inner.is
 
 -- the child to which the key belongs, which has room
-cut : (g : _) (t : _) (c : After-deref_mut-node g t) → IsCutAt c.args.key (c.make_room-place.new.branch.height - 1) c.make_room-place.result (kids_of c.make_room-place.new.branch) (kid_at c.make_room-place.new.branch c.make_room-place.result c.in-Some.kid) × (c.in-Some.kid.node.value.width < 32)
+cut : (g : _) (t : _) (c : After-deref_mut-node g t) → IsCutAt c.args.key (c.make_room-place.new.inner.height - 1) c.make_room-place.result (children_of c.make_room-place.new.inner) (child_at c.make_room-place.new.inner c.make_room-place.result c.in-Some.child) × (c.in-Some.child.node.value.width < 32)
 cut g t c =
-    let mid = c.make_room-place.new.branch in
+    let mid = c.make_room-place.new.inner in
     let same = c.make_room-place.ensures.same in
     let place = c.make_room-place.ensures.place in
-    cut_of_room c.args.key c.make_room-place.result mid c.in-Some.kid same.whole place (got_used mid.len c.make_room-place.result _ c.in-Some.kid mid.kids same.whole.run.packed place.within c.in-Some.is)
+    cut_of_room c.args.key c.make_room-place.result mid c.in-Some.child same.whole place (got_used mid.len c.make_room-place.result _ c.in-Some.child mid.children same.whole.run.packed place.within c.in-Some.is)
 
 -- its level below the node
-level : (g : _) (t : _) (c : After-deref_mut-node g t) → IsBranch c.in-Inner.branch → c.args.self.now ≡ seen_branch c.in-Inner.branch → c.deref_mut-node.result.now.height + 1 ≡ c.args.self.now.height
-level g t c branch is = omega (arith, ap (λ s. s.height) c.deref_mut-node.ensures.value, (cut g t c).0.kid.level, c.make_room-place.ensures.same.height, branch.inner, ap (λ s. s.height) is)
+level : (g : _) (t : _) (c : After-deref_mut-node g t) → IsInner c.in-Inner.inner → c.args.self.now ≡ seen_inner c.in-Inner.inner → c.deref_mut-node.result.now.height + 1 ≡ c.args.self.now.height
+level g t c inner is = omega (arith, ap (λ s. s.height) c.deref_mut-node.ensures.value, (cut g t c).0.child.level, c.make_room-place.ensures.same.height, inner.above_leaves, ap (λ s. s.height) is)
 
 pub insert_new-requires : goal.insert_new-requires
 insert_new-requires g t c =
@@ -39,12 +39,12 @@ insert_new-requires g t c =
 pub make_room-place-requires : goal.make_room-place-requires
 make_room-place-requires g t c =
     let at = goal.at.make_room-place-requires g t c in
-    let branch = whole g t at.In-Inner in
+    let inner = whole g t at.In-Inner in
     let is = now g t at.In-Inner in
-    (search rules, (search rules, (branch, (omega (arith, ap (λ s. s.width) is, c.requires.room), omega (arith, ap (λ s. s.height) is, branch.inner, c.requires.stock)))))
+    (search rules, (search rules, (inner, (omega (arith, ap (λ s. s.width) is, c.requires.room), omega (arith, ap (λ s. s.height) is, inner.above_leaves, c.requires.stock)))))
 
 pub unreachable-requires : goal.unreachable-requires
-unreachable-requires g t c = never_none c.make_room-place.new.branch.len c.make_room-place.result c.index-branch-place.result c.make_room-place.new.branch.kids c.make_room-place.ensures.same.whole.run.packed c.make_room-place.ensures.place.within c.in-None.is
+unreachable-requires g t c = never_none c.make_room-place.new.inner.len c.make_room-place.result c.index-inner-place.result c.make_room-place.new.inner.children c.make_room-place.ensures.same.whole.run.packed c.make_room-place.ensures.place.within c.in-None.is
 
 pub insert_split-requires : goal.insert_split-requires
 insert_split-requires g t c κs within =
@@ -52,25 +52,25 @@ insert_split-requires g t c κs within =
     let is = now g t at.In-Inner in
     let lower = level g t at.After-deref_mut-node (whole g t at.In-Inner) is in
     let both = cut g t at.After-deref_mut-node in
-    let child = c.deref_mut-node.ensures.value in
-    let absent = sym (find_cut c.args.key c.make_room-place.result (c.make_room-place.new.branch.height - 1) (kids_of c.make_room-place.new.branch) _ both.0) ∙ ap (row_at key_of_pair c.args.key) c.make_room-place.ensures.same.rows ∙ ap (λ s. row_at key_of_pair c.args.key s.rows) (sym is) ∙ c.requires.missing in
-    (omega (arith, lower, c.decreases), (within, (search rules, (c.requires.small, (c.requires.some, (ap (λ s. row_at key_of_pair c.args.key s.rows) child ∙ absent, (omega (arith, ap (λ s. s.width) child, both.1), omega (arith, lower, c.requires.stock, c.make_room-place.ensures.used))))))))
+    let child_node = c.deref_mut-node.ensures.value in
+    let absent = sym (find_cut c.args.key c.make_room-place.result (c.make_room-place.new.inner.height - 1) (children_of c.make_room-place.new.inner) _ both.0) ∙ ap (row_at key_of_pair c.args.key) c.make_room-place.ensures.same.rows ∙ ap (λ s. row_at key_of_pair c.args.key s.rows) (sym is) ∙ c.requires.missing in
+    (omega (arith, lower, c.decreases), (within, (search rules, (c.requires.small, (c.requires.some, (ap (λ s. row_at key_of_pair c.args.key s.rows) child_node ∙ absent, (omega (arith, ap (λ s. s.width) child_node, both.1), omega (arith, lower, c.requires.stock, c.make_room-place.ensures.used))))))))
 
-pub overflow_add-kid : goal.overflow_add-kid
-overflow_add-kid g t c =
-    let mid = c.make_room-place.new.branch in
-    let kid = (cut g t (goal.at.overflow_add-kid g t c).After-deref_mut-node).0.kid in
-    omega (arith, kid_count_fits (mid.height - 1) (get_or mid.leasts c.make_room-place.result 0) c.in-Some.kid kid)
+pub overflow_add-child : goal.overflow_add-child
+overflow_add-child g t c =
+    let mid = c.make_room-place.new.inner in
+    let child = (cut g t (goal.at.overflow_add-child g t c).After-deref_mut-node).0.child in
+    omega (arith, child_count_fits (mid.height - 1) (get_or mid.leasts c.make_room-place.result 0) c.in-Some.child child)
 
 pub invariant_of-self-in-Some : goal.invariant_of-self-in-Some
 invariant_of-self-in-Some g t c =
     let at = goal.at.invariant_of-self-in-Some g t c in
-    (grown_after c.args.key c.args.value.now c.in-Inner.branch c.make_room-place.new.branch c.in-Some.kid c.deref_mut-node.result.now c.insert_split.new.self c.args.self.now c.make_room-place.result c.min.result (c.in-Some.kid.count + 1) (now g t at.In-Inner) c.make_room-place.ensures.same c.make_room-place.ensures.place.within (cut g t at.After-deref_mut-node).0 c.deref_mut-node.ensures.value c.requires.small c.requires.missing c.insert_split.ensures.grown c.requires.some c.min.ensures refl).0
+    (grown_after c.args.key c.args.value.now c.in-Inner.inner c.make_room-place.new.inner c.in-Some.child c.deref_mut-node.result.now c.insert_split.new.self c.args.self.now c.make_room-place.result c.min.result (c.in-Some.child.count + 1) (now g t at.In-Inner) c.make_room-place.ensures.same c.make_room-place.ensures.place.within (cut g t at.After-deref_mut-node).0 c.deref_mut-node.ensures.value c.requires.small c.requires.missing c.insert_split.ensures.grown c.requires.some c.min.ensures refl).0
 
 pub returns-in-Some-clause-grown : goal.returns-in-Some-clause-grown
 returns-in-Some-clause-grown g t c =
     let at = goal.at.returns-in-Some-clause-grown g t c in
-    (grown_after c.args.key c.args.value.now c.in-Inner.branch c.make_room-place.new.branch c.in-Some.kid c.deref_mut-node.result.now c.insert_split.new.self c.args.self.now c.make_room-place.result c.min.result (c.in-Some.kid.count + 1) (now g t at.In-Inner) c.make_room-place.ensures.same c.make_room-place.ensures.place.within (cut g t at.After-deref_mut-node).0 c.deref_mut-node.ensures.value c.requires.small c.requires.missing c.insert_split.ensures.grown c.requires.some c.min.ensures refl).1
+    (grown_after c.args.key c.args.value.now c.in-Inner.inner c.make_room-place.new.inner c.in-Some.child c.deref_mut-node.result.now c.insert_split.new.self c.args.self.now c.make_room-place.result c.min.result (c.in-Some.child.count + 1) (now g t at.In-Inner) c.make_room-place.ensures.same c.make_room-place.ensures.place.within (cut g t at.After-deref_mut-node).0 c.deref_mut-node.ensures.value c.requires.small c.requires.missing c.insert_split.ensures.grown c.requires.some c.min.ensures refl).1
 
 pub returns-in-Some-clause-used : goal.returns-in-Some-clause-used
 returns-in-Some-clause-used g t c =

@@ -1,7 +1,7 @@
 use Rattle.std.proofs.Common.{rules, ◌≡◌, [], arith, sym, ap, subst, ◌∙◌, length}
-use Rattle.mr_node.specs.Levels.{seen, pairs_of, IsNode, IsLeaf, IsBranch, seen_leaf, seen_branch}
-use Rattle.mr_node.proofs.RunLemmas.{run_length}
-use Rattle.mr_node.proofs.EvenLemmas.{leaf_length, branch_length, halved_leaf, halved_branch, halved_by}
+use Rattle.mr_node.specs.Levels.{seen, pairs_of, IsNode, IsLeaf, IsInner, seen_leaf, seen_inner}
+use Rattle.mr_node.proofs.EntryListLemmas.{run_length}
+use Rattle.mr_node.proofs.EvenLemmas.{leaf_length, inner_length, halved_leaf, halved_inner, halved_by}
 use Rattle.mr_node.proofs.node.Node.halve_into.Goals.{in-Leaf+in-Leaf-body, in-Inner}
 use Rattle.mr_node.proofs.node.Node.halve_into.Goals as goal
 
@@ -27,23 +27,23 @@ invariant_of-high g c =
 
 pub share-requires-in-Inner-clause-enough : goal.share-requires-in-Inner-clause-enough
 share-requires-in-Inner-clause-enough g c =
-    let branch : IsBranch c.in-Inner.left = subst IsNode c.in-Inner.is c.self.invariant in
-    let now : seen_branch c.in-Inner.left ≡ c.args.self.now = sym (ap seen c.in-Inner.is) ∙ c.self.view_is in
-    omega (arith, branch_length c.in-Inner.left branch.run, ap (λ s. s.width) now, c.requires)
+    let inner : IsInner c.in-Inner.left = subst IsNode c.in-Inner.is c.self.invariant in
+    let now : seen_inner c.in-Inner.left ≡ c.args.self.now = sym (ap seen c.in-Inner.is) ∙ c.self.view_is in
+    omega (arith, inner_length c.in-Inner.left inner.run, ap (λ s. s.width) now, c.requires)
 
 pub share-requires-in-Inner-clause-room : goal.share-requires-in-Inner-clause-room
 share-requires-in-Inner-clause-room g c =
-    let branch : IsBranch c.in-Inner.left = subst IsNode c.in-Inner.is c.self.invariant in
-    let right = c.no_branch-right.result in
-    omega (arith, branch_length c.in-Inner.left branch.run, branch.run.fits, run_length 0 right.leasts right.kids c.no_branch-right.ensures.run)
+    let inner : IsInner c.in-Inner.left = subst IsNode c.in-Inner.is c.self.invariant in
+    let right = c.no_inner-right.result in
+    omega (arith, inner_length c.in-Inner.left inner.run, inner.run.fits, run_length 0 right.leasts right.children c.no_inner-right.ensures.run)
 
 pub put_inner-requires : goal.put_inner-requires
 put_inner-requires g c =
     let a = c.in-Inner.left in
-    let branch : IsBranch a = subst IsNode c.in-Inner.is c.self.invariant in
-    let now : seen_branch a ≡ c.args.self.now = sym (ap seen c.in-Inner.is) ∙ c.self.view_is in
+    let inner : IsInner a = subst IsNode c.in-Inner.is c.self.invariant in
+    let now : seen_inner a ≡ c.args.self.now = sym (ap seen c.in-Inner.is) ∙ c.self.view_is in
     let share = c.share-in-Inner in
-    (search rules, (search rules, (halved_branch a c.no_branch-right.result share.new.left share.new.right branch c.no_branch-right.ensures.run c.no_branch-right.ensures.height (record { left = share.ensures.left_run; right = share.ensures.right_run; list = share.ensures.list; left_height = share.ensures.left_height; right_height = share.ensures.right_height }) (ap (λ s. s.width) now ∙ c.requires) share.ensures.len).1))
+    (search rules, (search rules, (halved_inner a c.no_inner-right.result share.new.left share.new.right inner c.no_inner-right.ensures.run c.no_inner-right.ensures.height (record { left = share.ensures.left_run; right = share.ensures.right_run; list = share.ensures.list; left_height = share.ensures.left_height; right_height = share.ensures.right_height }) (ap (λ s. s.width) now ∙ c.requires) share.ensures.len).1))
 
 pub invariant_of-self : goal.invariant_of-self
 invariant_of-self g c = elim c.match-self.branch [
@@ -56,10 +56,10 @@ invariant_of-self g c = elim c.match-self.branch [
       (halved_leaf a b w.share.new.left w.share.new.right (subst IsNode w.in-Leaf.is c.self.invariant) (subst IsNode w.in-Leaf-body.is w.high.invariant) none (record { left = w.share.ensures.left_run; right = w.share.ensures.right_run; list = w.share.ensures.list }) (ap (λ s. s.width) now ∙ c.requires) w.share.ensures.len).0
   | in-Inner w ↦
       let a = w.in-Inner.left in
-      let now : seen_branch a ≡ c.args.self.now = sym (ap seen w.in-Inner.is) ∙ c.self.view_is in
+      let now : seen_inner a ≡ c.args.self.now = sym (ap seen w.in-Inner.is) ∙ c.self.view_is in
       let share = w.share-in-Inner in
       subst (λ i. IsNode i.body) (sym w.self-inside-is)
-      (halved_branch a w.no_branch-right.result share.new.left share.new.right (subst IsNode w.in-Inner.is c.self.invariant) w.no_branch-right.ensures.run w.no_branch-right.ensures.height (record { left = share.ensures.left_run; right = share.ensures.right_run; list = share.ensures.list; left_height = share.ensures.left_height; right_height = share.ensures.right_height }) (ap (λ s. s.width) now ∙ c.requires) share.ensures.len).0
+      (halved_inner a w.no_inner-right.result share.new.left share.new.right (subst IsNode w.in-Inner.is c.self.invariant) w.no_inner-right.ensures.run w.no_inner-right.ensures.height (record { left = share.ensures.left_run; right = share.ensures.right_run; list = share.ensures.list; left_height = share.ensures.left_height; right_height = share.ensures.right_height }) (ap (λ s. s.width) now ∙ c.requires) share.ensures.len).0
 ]
 
 pub returns : goal.returns
@@ -73,13 +73,13 @@ returns g c = elim c.match-self.branch [
       halved_by (seen_leaf a) (seen_leaf w.share.new.left) (seen_leaf w.share.new.right) c.args.self.now (seen c.match-self.self-inside.body) c.match-self.high all.2 now (ap (λ i. seen i.body) w.self-inside-is) w.high-is
   | in-Inner w ↦
       let a = w.in-Inner.left in
-      let now : seen_branch a ≡ c.args.self.now = sym (ap seen w.in-Inner.is) ∙ c.self.view_is in
+      let now : seen_inner a ≡ c.args.self.now = sym (ap seen w.in-Inner.is) ∙ c.self.view_is in
       let share = w.share-in-Inner in
-      let all = halved_branch a w.no_branch-right.result share.new.left share.new.right (subst IsNode w.in-Inner.is c.self.invariant) w.no_branch-right.ensures.run w.no_branch-right.ensures.height (record { left = share.ensures.left_run; right = share.ensures.right_run; list = share.ensures.list; left_height = share.ensures.left_height; right_height = share.ensures.right_height }) (ap (λ s. s.width) now ∙ c.requires) share.ensures.len in
-      halved_by (seen_branch a) (seen_branch share.new.left) (seen_branch share.new.right) c.args.self.now (seen c.match-self.self-inside.body) c.match-self.high all.2 now (ap (λ i. seen i.body) w.self-inside-is) (w.high-is ∙ w.put_inner.ensures)
+      let all = halved_inner a w.no_inner-right.result share.new.left share.new.right (subst IsNode w.in-Inner.is c.self.invariant) w.no_inner-right.ensures.run w.no_inner-right.ensures.height (record { left = share.ensures.left_run; right = share.ensures.right_run; list = share.ensures.list; left_height = share.ensures.left_height; right_height = share.ensures.right_height }) (ap (λ s. s.width) now ∙ c.requires) share.ensures.len in
+      halved_by (seen_inner a) (seen_inner share.new.left) (seen_inner share.new.right) c.args.self.now (seen c.match-self.self-inside.body) c.match-self.high all.2 now (ap (λ i. seen i.body) w.self-inside-is) (w.high-is ∙ w.put_inner.ensures)
 ]
 
 pub unreachable-requires : goal.unreachable-requires
 unreachable-requires g c =
     let none = ap (λ s. s.height) (sym (ap seen c.in-Inner-body.is) ∙ c.high.view_is ∙ c.make_blank.ensures) in
-    omega (arith, none, (subst IsNode c.in-Inner-body.is c.high.invariant).inner)
+    omega (arith, none, (subst IsNode c.in-Inner-body.is c.high.invariant).above_leaves)

@@ -1,7 +1,7 @@
 use Rattle.std.proofs.Common.{arith, sym, ap, subst, ◌∙◌, get_or}
 use Rattle.mr_node.specs.Rows.{StartsWith}
-use Rattle.mr_node.specs.Levels.{IsNode, IsLeaf, IsBranch, seen}
-use Rattle.mr_node.proofs.KidLemmas.{least_branch}
+use Rattle.mr_node.specs.Levels.{IsNode, IsLeaf, IsInner, seen}
+use Rattle.mr_node.proofs.ChildLemmas.{least_inner}
 use Rattle.mr_node.proofs.SizeLemmas.{least_leaf}
 use Rattle.mr_node.proofs.node.Node.least.Goals as goal
 
@@ -14,6 +14,6 @@ returns-in-Leaf g c some =
 
 pub returns-in-Inner : goal.returns-in-Inner
 returns-in-Inner g c some =
-    let branch = c.in-Inner.branch in
-    let whole : IsBranch branch = subst IsNode c.in-Inner.is c.self.invariant in
-    subst (λ s. StartsWith (get_or branch.leasts 0 0) s.rows) (sym (ap seen c.in-Inner.is) ∙ c.self.view_is) (least_branch branch whole)
+    let inner = c.in-Inner.inner in
+    let whole : IsInner inner = subst IsNode c.in-Inner.is c.self.invariant in
+    subst (λ s. StartsWith (get_or inner.leasts 0 0) s.rows) (sym (ap seen c.in-Inner.is) ∙ c.self.view_is) (least_inner inner whole)

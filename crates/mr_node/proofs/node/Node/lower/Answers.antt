@@ -6,5 +6,5 @@ returns-then-width-ge2-clause-lowered g c = record { rows = refl; well = c.requi
 
 pub drop_root-requires : goal.drop_root-requires
 drop_root-requires g c =
-    let inner : 0 < c.args.self.now.height = omega (arith, c.height.ensures.value, c.if-height-eq0.false) in
-    (search rules, (inner, omega (arith, c.requires.some inner, c.width.ensures.value, c.if-width-ge2.false)))
+    let above_leaves : 0 < c.args.self.now.height = omega (arith, c.height.ensures.value, c.if-height-eq0.false) in
+    (search rules, (above_leaves, omega (arith, c.requires.some above_leaves, c.width.ensures.value, c.if-width-ge2.false)))

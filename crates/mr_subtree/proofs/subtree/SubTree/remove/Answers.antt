@@ -10,7 +10,7 @@ pub remove-gone-requires : goal.remove-gone-requires
 remove-gone-requires g c = (search rules, c.self.invariant.two)
 
 pub lower-requires : goal.lower-requires
-lower-requires g c = (search rules, (c.remove-gone.ensures.new.well, λ inner. omega (arith, c.remove-gone.ensures.new.width, c.self.invariant.two (omega (arith, inner, c.remove-gone.ensures.new.level)))))
+lower-requires g c = (search rules, (c.remove-gone.ensures.new.well, λ above_leaves. omega (arith, c.remove-gone.ensures.new.width, c.self.invariant.two (omega (arith, above_leaves, c.remove-gone.ensures.new.level)))))
 
 pub invariant_of-self : goal.invariant_of-self
 invariant_of-self g c = record { well = c.lower.ensures.lowered.well; two = c.lower.ensures.lowered.two }

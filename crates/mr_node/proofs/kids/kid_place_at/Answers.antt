@@ -1,9 +1,0 @@
-use Rattle.std.proofs.Common.{rules, ◌≡◌, length}
-use Rattle.mr_node.proofs.SearchLemmas.{kid_between}
-use Rattle.mr_node.proofs.kids.kid_place_at.Goals as goal
-
-pub returns-then-is_between : goal.returns-then-is_between
-returns-then-is_between g c =
-    let b = c.args.branch.now in
-    let long : length b.leasts ≡ 32 = search rules in
-    kid_between c.args.key b.len c.args.guess b.leasts b.kids long c.requires.run (c.is_between.ensures c.if-is_between.true)

@@ -1,7 +1,0 @@
-use Rattle.std.proofs.Common.{◌≡◌, take}
-use Rattle.std.specs.List.{sum_by}
-use Rattle.mr_node.specs.Runs.{entries}
-use Rattle.mr_node.proofs.kids.sum_counts.Given as goal
-
-abbrev pub invariant-loop-place : goal.invariant-loop-place
-invariant-loop-place g l = l.total ≡ sum_by (λ k. k.1.count) (take l.place (entries l.branch.leasts l.branch.kids))

@@ -1,6 +1,0 @@
-use Rattle.std.proofs.Common.{sym}
-use Rattle.mr_node.proofs.RunLemmas.{run_length}
-use Rattle.mr_node.proofs.runs.BranchRun.width.Goals as goal
-
-pub returns : goal.returns
-returns g c = sym (run_length _ _ _ c.requires)
