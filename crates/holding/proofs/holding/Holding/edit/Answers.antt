@@ -28,3 +28,6 @@ invariant_of-self-2 g c = record {
   small = c.self.invariant.small;
   wide = c.self.invariant.wide;
 }
+
+pub returns-clause-after : goal.returns-clause-after
+returns-clause-after g c = invariant_of-self-2 g c
