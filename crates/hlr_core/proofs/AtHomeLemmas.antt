@@ -22,77 +22,33 @@ use Rattle.hlr_owners.specs.Answered.{is_loose, is_loose_place}
 use Rattle.hlr_owners.specs.Parted.{IsDissolved, IsDivided}
 use Rattle.hlr_owners.specs.Store.{Store, slots_of}
 use Rattle.hlr_core.specs.declared.event.Event.{Event}
-use Rattle.hlr_core.specs.declared.event.Event.TheVariants.{SubscriberData, NewDestination, AccessData, UpdateSubscriber}
-use Rattle.hlr_core.specs.declared.event.Event.TheVariants.{UpdateLocation, InsertForwarding, DeleteForwarding}
-use Rattle.hlr_core.specs.declared.event.Event.TheVariants.{AddSubscriber, AddAccess, AddFacility, SetActive, SetNumber}
 use Rattle.hlr_core.specs.declared.event.Event.TheVariants.{Post, Give, Take, Divide, Dissolve}
 use Rattle.hlr_core.specs.declared.event.Reply.{Reply}
 use Rattle.hlr_core.specs.declared.order.Answer.{Answer}
 use Rattle.hlr_core.specs.declared.order.Answer.TheVariants as answer
 use Rattle.hlr_core.specs.declared.order.Order.{Order}
 use Rattle.hlr_core.specs.declared.order.Order.TheVariants as order
+use Rattle.tatp_rows.proofs.RowLemmas.{both}
 use Rattle.hlr_core.proofs.PairsLemmas.{effect_refused}
+use Rattle.hlr_core.proofs.RouteLemmas.{row_step}
 use Rattle.hlr_owners.proofs.RecutLemmas.{recut_stays}
 
 -- a store with another book
 abbrev with_book : Store → Book → Store
 with_book base book = record base { book = book }
 
--- a step of an event on rows is one of what it asks for
-record IsRowEvent (event : Event) : Type 0 where
-  asks : (before after : Store) (reply : Reply) → IsStep event before reply after
-      → IsAskedStep (action_for event before.book) before reply after
-  answers : (before after : Store) (reply : Reply) → IsAskedStep (action_for event before.book) before reply after
-      → IsStep event before reply after
-
-row_event : (event : Event) → is_on_rows event ≡ true → IsRowEvent event
-row_event (SubscriberData s_id) on =
-    record { asks = λ before after reply step. step; answers = λ before after reply step. step }
-row_event (NewDestination s_id sf_type start_time end_time) on =
-    record { asks = λ before after reply step. step; answers = λ before after reply step. step }
-row_event (AccessData s_id ai_type) on =
-    record { asks = λ before after reply step. step; answers = λ before after reply step. step }
-row_event (UpdateSubscriber s_id sf_type bit_1 data_a) on =
-    record { asks = λ before after reply step. step; answers = λ before after reply step. step }
-row_event (UpdateLocation sub_nbr vlr_location) on =
-    record { asks = λ before after reply step. step; answers = λ before after reply step. step }
-row_event (InsertForwarding sub_nbr sf_type start_time end_time numberx) on =
-    record { asks = λ before after reply step. step; answers = λ before after reply step. step }
-row_event (DeleteForwarding sub_nbr sf_type start_time) on =
-    record { asks = λ before after reply step. step; answers = λ before after reply step. step }
-row_event (AddSubscriber row) on =
-    record { asks = λ before after reply step. step; answers = λ before after reply step. step }
-row_event (AddAccess row) on =
-    record { asks = λ before after reply step. step; answers = λ before after reply step. step }
-row_event (AddFacility row) on =
-    record { asks = λ before after reply step. step; answers = λ before after reply step. step }
-row_event (SetActive s_id sf_type is_active) on =
-    record { asks = λ before after reply step. step; answers = λ before after reply step. step }
-row_event (SetNumber s_id sub_nbr) on =
-    record { asks = λ before after reply step. step; answers = λ before after reply step. step }
-row_event (Post part limit) on = absurd cc
-row_event (Give part side at) on = absurd cc
-row_event (Take piece part) on = absurd cc
-row_event (Divide part at) on = absurd cc
-row_event (Dissolve part) on = absurd cc
-
 -- where no piece is loose, neither the first region nor any other is one
-first_home : (p : Place) (pieces : List ℕ) → piece_number p ++ pieces ≡ [] → is_loose_place (Some p) ≡ false
-first_home (Part q) pieces none = refl
-first_home (Piece n) pieces none = absurd cc
-
-others_home : (p : Place) (pieces : List ℕ) → piece_number p ++ pieces ≡ [] → pieces ≡ []
-others_home (Part q) pieces none = none
-others_home (Piece n) pieces none = absurd cc
+none_loose : (p : Place) (pieces : List ℕ) → piece_number p ++ pieces ≡ [] → (is_loose_place (Some p) ≡ false) × (pieces ≡ [])
+none_loose (Part q) pieces none = (refl, none)
+none_loose (Piece n) pieces none = absurd cc
 
 -- so nobody lies in one
 home : (s : ℕ) (regions : List Region) → pieces_of regions ≡ [] → is_loose s regions ≡ false
 home s [] none = refl
 home s (region ∷ regions) none =
-    let rest = home s regions (others_home region.place (pieces_of regions) none) in
-    by_test (lies_in s region)
-    (λ e. rw e (first_home region.place (pieces_of regions) none))
-    (λ e. rw e rest)
+    let both = none_loose region.place (pieces_of regions) none in
+    let rest = home s regions both.1 in
+    by_test (lies_in s region) (λ e. rw e both.0) (λ e. rw e rest)
 
 -- a step with a lasting reply is one where no piece is loose
 module _ (base before after : Store) (reply : Reply) (none : pieces_of base.regions ≡ [])
@@ -175,26 +131,19 @@ other_stays (Dissolve part) before after reply off step = dissolved_stays part s
 other_stays _ before after reply off step = absurd cc
 
 -- one step, that is kept or left out
-both : (a b : Bool) → (a && b) ≡ true → (a ≡ true) × (b ≡ true)
-both true true is = (refl, refl)
-both true false is = absurd cc
-both false b is = absurd cc
-
 step_at_home : (base before after : Store) (event : Event) (reply : Reply) → pieces_of base.regions ≡ []
     → (is_on_rows event && is_lasting reply) ≡ true → IsStep event before reply after
     → IsStep event (with_book base before.book) reply (with_book base after.book)
 step_at_home base before after event reply none keeps step =
     let is = both (is_on_rows event) (is_lasting reply) keeps in
-    let row = row_event event is.0 in
-    row.answers (with_book base before.book) (with_book base after.book) reply
-    (asked_at_home base before after reply none is.1 (action_for event before.book) (row.asks before after reply step))
+    (row_step event (with_book base before.book) reply (with_book base after.book) is.0).1
+    (asked_at_home base before after reply none is.1 (action_for event before.book) ((row_step event before reply after is.0).0 step))
 
 step_stays : (before after : Store) (event : Event) (reply : Reply) → (is_on_rows event && is_lasting reply) ≡ false
     → IsStep event before reply after → after.book ≡ before.book
 step_stays before after event reply out step =
     by_test (is_on_rows event)
-    (λ e. let row = row_event event e in
-    asked_stays before after reply (rw e at out) (action_for event before.book) (row.asks before after reply step))
+    (λ e. asked_stays before after reply (rw e at out) (action_for event before.book) ((row_step event before reply after e).0 step))
     (λ e. other_stays event before after reply e step)
 
 -- one order, that is kept or left out

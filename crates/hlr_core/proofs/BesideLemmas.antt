@@ -42,7 +42,7 @@ use Rattle.hlr_core.specs.declared.event.Reply.TheVariants as reply
 use Rattle.hlr_core.proofs.LaterLemmas.{all_later_self, each_seat, number_later, registered_later}
 use Rattle.hlr_core.proofs.RegisterLemmas.{IsHome, acted_step, asked_step, exists_step, free_to_take, moving_step, outcome_of_answer, posted_step, some_number, unadded_step, unasked_step}
 use Rattle.hlr_core.proofs.RenamedLemmas.{renamed_step, unnumbered_step, unrenamed_step}
-use Rattle.hlr_core.proofs.RouteLemmas.{asks_later, step_asked}
+use Rattle.hlr_core.proofs.RouteLemmas.{asks_later, row_step}
 
 -- a step that is right whatever they have become is right as they were
 pub own_step : (event : Event) (before after : Seating) (answer : Reply) → outs_in after.seats ≡ outs_in before.seats → IsStepBeside event before answer after
@@ -66,7 +66,7 @@ pub step_beside : (event : Event) (before after : Seating) (answer : Reply) → 
     → ((ks : List HoldingState) → AreLater before.seats (with_outs before.seats ks) → IsAskedStep (action_for event (book_in before.seats)) (store_in (beside before ks)) answer (store_in (beside after ks)))
     → IsStepBeside event before answer after
 step_beside event before after answer rows step = λ ks later.
-    step_asked event (store_in (beside before ks)) answer (store_in (beside after ks)) rows (rw (asks_later event before rows (with_outs before.seats ks) later) (step ks later))
+    (row_step event (store_in (beside before ks)) answer (store_in (beside after ks)) rows).1 (rw (asks_later event before rows (with_outs before.seats ks) later) (step ks later))
 
 -- an edit is done or refused by the rows, or refused as it is asked for
 pub asked_beside : (fits : Bool) (wanted : Option Action) (act : Action) (before after : Seating) (rows : RowReply) (answer : Reply) → given_number act ≡ None

@@ -10,6 +10,7 @@ use Rattle.hlr_owners.specs.Out.{outs_in}
 use Rattle.hlr_owners.specs.Parted.{IsWithNew, IsWithout}
 use Rattle.hlr_owners.specs.Seats.{AllHome, IsHomeFor, IsHomeFrom, Seating, book_in, homes_in}
 use Rattle.hlr_owners.proofs.HomeLemmas.{home_of_all, part_home_of_all}
+use Rattle.hlr_core.proofs.PartsLemmas.{trues_each, trues_to}
 use Rattle.hlr_core.specs.Home.{IsBearerHome, IsHomeTo, IsHouseAfter, IsLaterDesk, IsSameHouse}
 use Rattle.hlr_core.specs.Inside.Asked.{IsAsked, action_asked}
 use Rattle.hlr_core.specs.Numbers.{bearer_id}
@@ -28,13 +29,7 @@ bearer_home sub_nbr h all = cases (bearer_id (book_in h.seats).subscribers sub_n
     cases None = tt
     cases (Some s_id) = home_of_all s_id h all
 
--- what each element keeps, each from one on keeps
-all_from : {X : Type 0} (P : X → Type 0) (i : ℕ) (xs : List X) → AllByRecursion P xs → AllByRecursion P (drop i xs)
-all_from P zero xs all = all
-all_from P (suc i) [] all = tt
-all_from P (suc i) (x ∷ xs) all = all_from P i xs all.1
-
--- and so with one element more that keeps it, or with one fewer
+-- what each element keeps is kept with one element more that keeps it, or with one fewer
 all_with : {X : Type 0} (P : X → Type 0) (i : ℕ) (x : X) (xs : List X) → P x → AllByRecursion P xs → AllByRecursion P (insert xs i x)
 all_with P zero x xs new all = (new, all)
 all_with P (suc i) x [] new all = (new, tt)
@@ -48,27 +43,19 @@ all_without P (suc i) (x ∷ xs) all = (all.0, all_without P i xs all.1)
 
 -- where all are at home, so are all from one on
 pub home_from_all : (part : ℕ) (h : Seating) → AllHome h.seats → IsHomeFrom part h
-home_from_all part h all = all_from (λ (home : Bool). home ≡ true) part (homes_in h.seats) all
+home_from_all part h all = trues_to (homes_in h.seats) part (λ q from low. trues_each (homes_in h.seats) 0 q all (omega arith))
 
 -- where all are at home, the one is whom an event needs
 pub home_to_all : (event : Event) (h : Seating) → AllHome h.seats → IsHomeTo event h
-home_to_all (SubscriberData s_id) h all = home_of_all s_id h all
-home_to_all (NewDestination s_id sf_type start_time end_time) h all = home_of_all s_id h all
-home_to_all (AccessData s_id ai_type) h all = home_of_all s_id h all
-home_to_all (UpdateSubscriber s_id sf_type bit_1 data_a) h all = home_of_all s_id h all
 home_to_all (UpdateLocation sub_nbr vlr_location) h all = bearer_home sub_nbr h all
 home_to_all (InsertForwarding sub_nbr sf_type start_time end_time numberx) h all = bearer_home sub_nbr h all
 home_to_all (DeleteForwarding sub_nbr sf_type start_time) h all = bearer_home sub_nbr h all
-home_to_all (AddSubscriber row) h all = home_of_all row.s_id h all
-home_to_all (AddAccess row) h all = home_of_all row.s_id h all
-home_to_all (AddFacility row) h all = home_of_all row.s_id h all
-home_to_all (SetActive s_id sf_type is_active) h all = home_of_all s_id h all
-home_to_all (SetNumber s_id sub_nbr) h all = home_of_all s_id h all
 home_to_all (Post part limit) h all = part_home_of_all part h all
 home_to_all (Give part side at) h all = part_home_of_all part h all
 home_to_all (Take piece part) h all = part_home_of_all part h all
 home_to_all (Divide part at) h all = home_from_all part h all
 home_to_all (Dissolve part) h all = home_from_all (part - 1) h all
+home_to_all _ h all = home_of_all _ h all
 
 -- an edit that was asked for is of the subscriber who was named
 pub home_of_asked : {E : Type 0} (action : E → Action) (fits : Bool) (act : Action) (h : Seating) (asked : Result E Refusal)
@@ -110,42 +97,18 @@ HasMoved before after = IsSameHouse before after ⊎ ((part : ℕ) × (IsWithNew
 
 -- one of these is so after a divide, and after a dissolve, whatever is answered
 divided_moves : (part at : ℕ) (answer : Reply) (before after : Seating) → IsHouseAfter (Divide part at) answer before after → HasMoved before after
-divided_moves part at (reply.Rows rows) before after house = inl house
-divided_moves part at (reply.Posted count) before after house = inl house
-divided_moves part at (reply.Given piece lo hi) before after house = inl house
-divided_moves part at (reply.Taken piece q) before after house = inl house
 divided_moves part at (reply.Divided new lo hi) before after house = inr (part, inl house)
-divided_moves part at (reply.Dissolved front lo hi) before after house = inl house
-divided_moves part at (reply.Refused why) before after house = inl house
+divided_moves part at _ before after house = inl house
 
 dissolved_moves : (part : ℕ) (answer : Reply) (before after : Seating) → IsHouseAfter (Dissolve part) answer before after → HasMoved before after
-dissolved_moves part (reply.Rows rows) before after house = inl house
-dissolved_moves part (reply.Posted count) before after house = inl house
-dissolved_moves part (reply.Given piece lo hi) before after house = inl house
-dissolved_moves part (reply.Taken piece q) before after house = inl house
-dissolved_moves part (reply.Divided new lo hi) before after house = inl house
 dissolved_moves part (reply.Dissolved front lo hi) before after house = inr (part, inr house)
-dissolved_moves part (reply.Refused why) before after house = inl house
+dissolved_moves part _ before after house = inl house
 
 -- so it is after each event
 pub house_moves : (event : Event) (answer : Reply) (before after : Seating) → IsHouseAfter event answer before after → HasMoved before after
-house_moves (SubscriberData s_id) answer before after house = inl house
-house_moves (NewDestination s_id sf_type start_time end_time) answer before after house = inl house
-house_moves (AccessData s_id ai_type) answer before after house = inl house
-house_moves (UpdateSubscriber s_id sf_type bit_1 data_a) answer before after house = inl house
-house_moves (UpdateLocation sub_nbr vlr_location) answer before after house = inl house
-house_moves (InsertForwarding sub_nbr sf_type start_time end_time numberx) answer before after house = inl house
-house_moves (DeleteForwarding sub_nbr sf_type start_time) answer before after house = inl house
-house_moves (AddSubscriber row) answer before after house = inl house
-house_moves (AddAccess row) answer before after house = inl house
-house_moves (AddFacility row) answer before after house = inl house
-house_moves (SetActive s_id sf_type is_active) answer before after house = inl house
-house_moves (SetNumber s_id sub_nbr) answer before after house = inl house
-house_moves (Post part limit) answer before after house = inl house
-house_moves (Give part side at) answer before after house = inl house
-house_moves (Take piece part) answer before after house = inl house
 house_moves (Divide part at) answer before after house = divided_moves part at answer before after house
 house_moves (Dissolve part) answer before after house = dissolved_moves part answer before after house
+house_moves _ answer before after house = inl house
 
 -- all are at home after an event where all were
 pub home_after : (event : Event) (answer : Reply) (before after : Seating) → IsHouseAfter event answer before after → AllHome before.seats → AllHome after.seats

@@ -5,7 +5,7 @@ use Rattle.std.specs.List.{AllZip, AllByRecursion}
 use Rattle.std.proofs.lemmas.List.{map-append}
 use Rattle.tatp_rows.proofs.OrderedLemmas.{by_test}
 use Rattle.tatp_rows.specs.Keys.{key_of, subscriber_key}
-use Rattle.tatp_rows.specs.Ordered.{row_at, with_row_at}
+use Rattle.tatp_rows.specs.Ordered.{in_order, row_at, with_row_at}
 use Rattle.tatp_rows.specs.Rows.{SubscriberRow}
 use Rattle.tatp_actions.specs.Action.{IsOutcome, effect}
 use Rattle.tatp_actions.specs.Book.{Book, subscriber_at}
@@ -23,14 +23,16 @@ use Rattle.hlr_owners.specs.declared.lodging.Seat.{Seat}
 use Rattle.hlr_owners.specs.declared.lodging.Seat.TheVariants.{Part, Piece}
 use Rattle.hlr_owners.proofs.HeldLemmas.{holding_keeps}
 use Rattle.hlr_owners.proofs.LendLemmas.{later_self, seated_later}
-use Rattle.hlr_owners.proofs.OwnerLemmas.{owner_rows}
+use Rattle.hlr_owners.proofs.OwnerLemmas.{owner_rows, zip_weaker}
 use Rattle.hlr_owners.proofs.SeatLemmas.{owned}
-use Rattle.hlr_core.specs.Index.{number_pair, index_of, IsRegister}
+use Rattle.hlr_core.specs.Index.{number_pair, IsRegister}
 use Rattle.hlr_core.specs.Later.{IsLater, AreLater, IsBackWith, with_seats}
 use Rattle.hlr_core.specs.Numbers.{HasNoTwin, bearer_id}
 use Rattle.hlr_core.specs.Session.{IsJobDone, IsJobOf, IsDoneAt}
 use Rattle.hlr_core.specs.Step.{given_number}
 use Rattle.hlr_core.specs.declared.event.Reply.{Reply}
+use Rattle.mr_node.specs.Rows.{key_of_pair}
+use Rattle.hlr_core.proofs.NumbersLemmas.{AllDiffer}
 use Rattle.hlr_core.proofs.PairsLemmas.{KeepsPairs, IsShaped, effect_shaped, outcome_book}
 
 -- a row replaced by one of the same number and subscriber
@@ -167,77 +169,44 @@ numbers_later (s ∷ seats) (k ∷ ks) later =
     map-append number_pair (owner_of k).part.book.subscribers (book_in ks).subscribers
     ∙ rw (here, rest) (sym (map-append number_pair (owner_of s).part.book.subscribers (book_in seats).subscribers))
 
--- each subscriber keeps the number
-number_same : (k : ℕ) (rows others : List SubscriberRow) → map number_pair others ≡ map number_pair rows
-    → option_map (λ (row : SubscriberRow). row.sub_nbr) (row_at subscriber_key k others) ≡ option_map (λ (row : SubscriberRow). row.sub_nbr) (row_at subscriber_key k rows)
-number_same k [] [] same = refl
-number_same k [] (y ∷ ys) same = absurd cc
-number_same k (x ∷ xs) [] same = absurd cc
-number_same k (x ∷ xs) (y ∷ ys) same =
-    let pair : number_pair y ≡ number_pair x = cc in
-    let number : y.sub_nbr ≡ x.sub_nbr = ap (λ (one : ℕ × ℕ). one.0) pair in
-    let key : subscriber_key y ≡ subscriber_key x = ap (λ (one : ℕ × ℕ). key_of one.1 0 0) pair in
-    let tail : map number_pair ys ≡ map number_pair xs = cc in
-    by_test (subscriber_key x == k) (λ e. rw (key, e, number) refl) (λ e. rw (key, e) (number_same k xs ys tail))
+-- what is of the pairs alone: which number a subscriber has, who has a number, and that no number stands twice
+record HaveSame (rows others : List SubscriberRow) : Type 0 where
+  number : (k : ℕ) → option_map (λ (row : SubscriberRow). row.sub_nbr) (row_at subscriber_key k others) ≡ option_map (λ (row : SubscriberRow). row.sub_nbr) (row_at subscriber_key k rows)
+  bearer : (n : ℕ) → bearer_id others n ≡ bearer_id rows n
+  differ : (n : ℕ) → AllDiffer n rows → AllDiffer n others
+  alone : HasNoTwin rows → HasNoTwin others
 
-pub number_later : (seats ks : List Seat) → AreLater seats ks → (s_id : ℕ)
-    → option_map (λ (row : SubscriberRow). row.sub_nbr) (subscriber_at (book_in ks) s_id) ≡ option_map (λ (row : SubscriberRow). row.sub_nbr) (subscriber_at (book_in seats) s_id)
-number_later seats ks later s_id = number_same (key_of s_id 0 0) (book_in seats).subscribers (book_in ks).subscribers (numbers_later seats ks later)
-
--- the subscriber with a number is of the pairs alone
-bearer_same : (rows others : List SubscriberRow) (n : ℕ) → map number_pair others ≡ map number_pair rows → bearer_id others n ≡ bearer_id rows n
-bearer_same [] [] n same = refl
-bearer_same [] (y ∷ ys) n same = absurd cc
-bearer_same (x ∷ xs) [] n same = absurd cc
-bearer_same (x ∷ xs) (y ∷ ys) n same =
+have_same : (rows others : List SubscriberRow) → map number_pair others ≡ map number_pair rows → HaveSame rows others
+have_same [] [] same = record { number = λ k. refl; bearer = λ n. refl; differ = λ n each. tt; alone = λ alone. tt }
+have_same [] (y ∷ ys) same = absurd cc
+have_same (x ∷ xs) [] same = absurd cc
+have_same (x ∷ xs) (y ∷ ys) same =
     let pair : number_pair y ≡ number_pair x = cc in
     let number : y.sub_nbr ≡ x.sub_nbr = ap (λ (one : ℕ × ℕ). one.0) pair in
     let bearer : y.s_id ≡ x.s_id = ap (λ (one : ℕ × ℕ). one.1) pair in
+    let key : subscriber_key y ≡ subscriber_key x = ap (λ (one : ℕ × ℕ). key_of one.1 0 0) pair in
     let tail : map number_pair ys ≡ map number_pair xs = cc in
-    let rest = bearer_same xs ys n tail in
-    by_test (x.sub_nbr == n)
-    (λ e. rw (number, e) (ap Some bearer))
-    (λ e. rw (number, e) rest)
+    let rest = have_same xs ys tail in
+    record {
+      number = λ k. by_test (subscriber_key x == k) (λ e. rw (key, e, number) refl) (λ e. rw (key, e) (rest.number k));
+      bearer = λ n. by_test (x.sub_nbr == n) (λ e. rw (number, e) (ap Some bearer)) (λ e. rw (number, e) (rest.bearer n));
+      differ = λ n each. (λ e. each.0 (e ∙ number), rest.differ n each.1);
+      alone = λ alone. (rw (← number) at (rest.differ x.sub_nbr alone.0), rest.alone alone.1);
+    }
+
+later_same : (seats ks : List Seat) → AreLater seats ks → HaveSame (book_in seats).subscribers (book_in ks).subscribers
+later_same seats ks later = have_same (book_in seats).subscribers (book_in ks).subscribers (numbers_later seats ks later)
+
+pub number_later : (seats ks : List Seat) → AreLater seats ks → (s_id : ℕ)
+    → option_map (λ (row : SubscriberRow). row.sub_nbr) (subscriber_at (book_in ks) s_id) ≡ option_map (λ (row : SubscriberRow). row.sub_nbr) (subscriber_at (book_in seats) s_id)
+number_later seats ks later s_id = (later_same seats ks later).number (key_of s_id 0 0)
 
 pub bearer_later : (seats ks : List Seat) → AreLater seats ks → (n : ℕ) → bearer_id (book_in ks).subscribers n ≡ bearer_id (book_in seats).subscribers n
-bearer_later seats ks later n = bearer_same (book_in seats).subscribers (book_in ks).subscribers n (numbers_later seats ks later)
-
--- the index, and that no number stands twice, are of the pairs alone
-index_same : (rows others : List SubscriberRow) → map number_pair others ≡ map number_pair rows → index_of others ≡ index_of rows
-index_same [] [] same = refl
-index_same [] (y ∷ ys) same = absurd cc
-index_same (x ∷ xs) [] same = absurd cc
-index_same (x ∷ xs) (y ∷ ys) same =
-    let head : number_pair y ≡ number_pair x = cc in
-    let tail : map number_pair ys ≡ map number_pair xs = cc in
-    rw (head, index_same xs ys tail) refl
-
-each_differs : (n : ℕ) (rows others : List SubscriberRow) → map number_pair others ≡ map number_pair rows → AllByRecursion (λ row. n ≢ row.sub_nbr) rows → AllByRecursion (λ row. n ≢ row.sub_nbr) others
-each_differs n [] [] same each = tt
-each_differs n [] (y ∷ ys) same each = absurd cc
-each_differs n (x ∷ xs) [] same each = absurd cc
-each_differs n (x ∷ xs) (y ∷ ys) same each =
-    let pair : number_pair y ≡ number_pair x = cc in
-    let head : y.sub_nbr ≡ x.sub_nbr = ap (λ (one : ℕ × ℕ). one.0) pair in
-    let tail : map number_pair ys ≡ map number_pair xs = cc in
-    (λ e. each.0 (e ∙ head), each_differs n xs ys tail each.1)
-
-alone_same : (rows others : List SubscriberRow) → map number_pair others ≡ map number_pair rows → HasNoTwin rows → HasNoTwin others
-alone_same [] [] same alone = tt
-alone_same [] (y ∷ ys) same alone = absurd cc
-alone_same (x ∷ xs) [] same alone = absurd cc
-alone_same (x ∷ xs) (y ∷ ys) same alone =
-    let pair : number_pair y ≡ number_pair x = cc in
-    let head : x.sub_nbr ≡ y.sub_nbr = ap (λ (one : ℕ × ℕ). one.0) (sym pair) in
-    let tail : map number_pair ys ≡ map number_pair xs = cc in
-    (rw head at (each_differs x.sub_nbr xs ys tail alone.0), alone_same xs ys tail alone.1)
+bearer_later seats ks later n = (later_same seats ks later).bearer n
 
 -- seats that stand for others keep the rules of seats
 pub each_seat : (seats ks : List Seat) → AreLater seats ks → AllZip IsLaterSeat seats ks
-each_seat [] [] later = tt
-each_seat [] (k ∷ ks) later = absurd later
-each_seat (s ∷ seats) [] later = absurd later
-each_seat (s ∷ seats) (k ∷ ks) later = (later.0.seat, each_seat seats ks later.1)
+each_seat seats ks later = zip_weaker (λ s k is. is.seat) seats ks later
 
 pub all_seated_later : (h : Seating) (ks : List Seat) → AreSeated h → AreLater h.seats ks → AreSeated (with_seats h ks)
 all_seated_later h ks are later = seated_later h ks are (each_seat h.seats ks later)
@@ -246,9 +215,8 @@ all_seated_later h ks are later = seated_later h ks are (each_seat h.seats ks la
 pub registered_later : (h : Seating) (ks : List Seat) (pairs : List (ℕ × ℕ)) → AreSeated h → AreLater h.seats ks → IsRegister (book_in h.seats) pairs → IsRegister (book_in ks) pairs
 registered_later h ks pairs are later register =
     let now = all_seated_later h ks are later in
-    let numbers = numbers_later h.seats ks later in
     record {
       rows = owner_rows h.width 1 h.regions (owners_in ks) (owned h.width h.regions ks now.each) now.are.consecutive;
-      alone = alone_same (book_in h.seats).subscribers (book_in ks).subscribers numbers register.alone;
-      index = register.index ∙ sym (index_same (book_in h.seats).subscribers (book_in ks).subscribers numbers);
+      alone = (later_same h.seats ks later).alone register.alone;
+      index = register.index ∙ sym (ap (in_order key_of_pair) (numbers_later h.seats ks later));
     }

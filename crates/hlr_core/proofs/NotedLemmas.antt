@@ -1,8 +1,10 @@
 -- Pairs that are put in one after another: what their sums say of the rows, in whatever order these come.
-use Rattle.std.proofs.Common.{◌≡◌, ◌∙◌, refl, sym, ap, subst, ℕ, ◌+◌, ◌<◌, ◌≤◌, ◌≢◌, List, [], ◌∷◌, ◌++◌, Bool, true, false, Option, Some, None, length, inl, inr, arith}
+use Rattle.std.proofs.Common.{◌≡◌, ◌∙◌, refl, sym, ap, subst, ℕ, ◌+◌, ◌<◌, ◌≤◌, ◌≢◌, List, [], ◌∷◌, ◌++◌, Bool, true, false, Option, Some, None, length, map, inl, inr, arith}
 use Rattle.std.specs.Prelude.{◌==◌, ◌&&◌, nat_le, sum_by, is_some, ◌⊎◌, option_map, if◌then◌else◌}
 use Rattle.std.specs.List.{AllByRecursion, filter}
 use Rattle.std.proofs.lemmas.Bool.Decides.{nat_tests}
+use Rattle.std.proofs.lemmas.List.Folds.{fold-map}
+use Rattle.tatp_rows.proofs.SortLemmas.{sum_by-in_order}
 use Rattle.std.proofs.lemmas.List.Sums.{sum_by-cons, sum_by-append}
 use Rattle.tatp_rows.proofs.OrderedLemmas.{by_test, each-weaker, filter_all, count_of_key, ordered-with_row, sum_by-with_row}
 use Rattle.tatp_rows.specs.Keys.{subscriber_key}
@@ -25,9 +27,7 @@ sum_of f rows = sum_by (λ row. f (number_pair row)) rows
 
 -- a sum over the pairs of the index is that over the rows
 sum_by-index_of : (f : ℕ × ℕ → ℕ) (rows : List SubscriberRow) → sum_by f (index_of rows) ≡ sum_of f rows
-sum_by-index_of f [] = refl
-sum_by-index_of f (row ∷ rows) =
-    sum_by-with_row key_of_pair f (number_pair row) (index_of rows) ∙ ap (λ n. f (number_pair row) + n) (sum_by-index_of f rows) ∙ sym (sum_by-cons (λ (r : SubscriberRow). f (number_pair r)) row rows)
+sum_by-index_of f rows = sum_by-in_order key_of_pair f (map number_pair rows) ∙ fold-map (λ s (p : ℕ × ℕ). s + f p) number_pair 0 rows
 
 -- in rising pairs a number stands once or not at all
 stands_once : (pairs : List (ℕ × ℕ)) (n : ℕ) → IsOrderedBy key_of_pair pairs → sum_by (bears n) pairs ≤ 1
@@ -42,14 +42,6 @@ stands_there (x ∷ xs) n pair found =
     by_test (x.0 == n)
     (λ e. rw (sum_by-cons (bears n) x xs, e) (omega arith))
     (λ e. let rest = stands_there xs n pair (rw e at found) in rw (sum_by-cons (bears n) x xs, e) (omega (arith, rest)))
-
--- and one that has none doesn't
-stands_nowhere : (pairs : List (ℕ × ℕ)) (n : ℕ) → pair_of n pairs ≡ None → sum_by (bears n) pairs ≡ 0
-stands_nowhere [] n absent = refl
-stands_nowhere (x ∷ xs) n absent =
-    by_test (x.0 == n)
-    (λ e. let no : Some x ≡ None = rw e at absent in absurd cc)
-    (λ e. let rest = stands_nowhere xs n (rw e at absent) in rw (sum_by-cons (bears n) x xs, e) (omega (arith, rest)))
 
 -- a number that no row has
 differ : (rows : List SubscriberRow) (n : ℕ) → sum_of (bears n) rows ≤ 0 → AllDiffer n rows

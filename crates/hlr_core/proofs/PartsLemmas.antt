@@ -38,13 +38,13 @@ past_home h are p past =
     get_or_past (homes_in h.seats) p true (omega arith)
 
 -- the trues of a list from one on
-trues_to : (homes : List Bool) (first : ℕ) → ((q : ℕ) → first ≤ q → q < length homes → get_or homes q true ≡ true) → AllByRecursion (λ (home : Bool). home ≡ true) (drop first homes)
+pub trues_to : (homes : List Bool) (first : ℕ) → ((q : ℕ) → first ≤ q → q < length homes → get_or homes q true ≡ true) → AllByRecursion (λ (home : Bool). home ≡ true) (drop first homes)
 trues_to [] zero each = tt
 trues_to [] (suc first) each = tt
 trues_to (home ∷ homes) zero each = (each 0 (omega arith) (omega arith), trues_to homes zero (λ q from low. each (suc q) (omega arith) (omega arith)))
 trues_to (home ∷ homes) (suc first) each = trues_to homes first (λ q from low. each (suc q) (omega arith) (omega arith))
 
-trues_each : (homes : List Bool) (first q : ℕ) → AllByRecursion (λ (home : Bool). home ≡ true) (drop first homes) → first ≤ q → get_or homes q true ≡ true
+pub trues_each : (homes : List Bool) (first q : ℕ) → AllByRecursion (λ (home : Bool). home ≡ true) (drop first homes) → first ≤ q → get_or homes q true ≡ true
 trues_each [] first q all from = get_or_past [] q true (omega arith)
 trues_each (home ∷ homes) zero zero all from = all.0
 trues_each (home ∷ homes) zero (suc q) all from = trues_each homes zero q all.1 (omega arith)

@@ -1,6 +1,6 @@
 -- Where an event goes: what it asks for, and what may be answered to it at once, are the same whatever jobs are done.
 use Rattle.std.proofs.Common.{◌≡◌, ◌∙◌, refl, sym, ℕ, ◌<◌, ◌≤◌, arith, List, [], ◌∷◌, length, map, true, false, Option, Some, None, Ok, Err}
-use Rattle.std.specs.Prelude.{position}
+use Rattle.std.specs.Prelude.{◌↔◌, position}
 use Rattle.std.specs.List.{list_any}
 use Rattle.std.proofs.lemmas.List.{length-map}
 use Rattle.std.proofs.lemmas.Option.{slice_get_past, get_or_from_slice_get}
@@ -44,45 +44,21 @@ use Rattle.hlr_core.specs.declared.route.Route.TheVariants.{Now, To}
 use Rattle.hlr_core.proofs.LaterLemmas.{all_seated_later, bearer_later, each_seat}
 use Rattle.hlr_core.proofs.SentLemmas.{acted_sent, posted_sent}
 
--- a right step of what an event on rows asks for is one of the event
-pub step_asked : (event : Event) (before : Store) (answer : Reply) (after : Store) → is_on_rows event ≡ true → IsAskedStep (action_for event before.book) before answer after → IsStep event before answer after
-step_asked (SubscriberData s_id) before answer after rows step = step
-step_asked (NewDestination s_id sf_type start_time end_time) before answer after rows step = step
-step_asked (AccessData s_id ai_type) before answer after rows step = step
-step_asked (UpdateSubscriber s_id sf_type bit_1 data_a) before answer after rows step = step
-step_asked (UpdateLocation sub_nbr vlr_location) before answer after rows step = step
-step_asked (InsertForwarding sub_nbr sf_type start_time end_time numberx) before answer after rows step = step
-step_asked (DeleteForwarding sub_nbr sf_type start_time) before answer after rows step = step
-step_asked (AddSubscriber row) before answer after rows step = step
-step_asked (AddAccess row) before answer after rows step = step
-step_asked (AddFacility row) before answer after rows step = step
-step_asked (SetActive s_id sf_type is_active) before answer after rows step = step
-step_asked (SetNumber s_id sub_nbr) before answer after rows step = step
-step_asked (Post part limit) before answer after rows step = absurd cc
-step_asked (Give part side at) before answer after rows step = absurd cc
-step_asked (Take piece part) before answer after rows step = absurd cc
-step_asked (Divide part at) before answer after rows step = absurd cc
-step_asked (Dissolve part) before answer after rows step = absurd cc
+-- a right step of an event on rows is one of what it asks for
+pub row_step : (event : Event) (before : Store) (answer : Reply) (after : Store) → is_on_rows event ≡ true → IsStep event before answer after ↔ IsAskedStep (action_for event before.book) before answer after
+row_step (Post part limit) before answer after rows = absurd cc
+row_step (Give part side at) before answer after rows = absurd cc
+row_step (Take piece part) before answer after rows = absurd cc
+row_step (Divide part at) before answer after rows = absurd cc
+row_step (Dissolve part) before answer after rows = absurd cc
+row_step _ before answer after rows = (λ step. step, λ step. step)
 
 -- what an event asks for is of who has a number alone
 asked_same : (event : Event) (book other : Book) → ((n : ℕ) → bearer_id other.subscribers n ≡ bearer_id book.subscribers n) → action_for event other ≡ action_for event book
-asked_same (SubscriberData s_id) book other same = refl
-asked_same (NewDestination s_id sf_type start_time end_time) book other same = refl
-asked_same (AccessData s_id ai_type) book other same = refl
-asked_same (UpdateSubscriber s_id sf_type bit_1 data_a) book other same = refl
 asked_same (UpdateLocation sub_nbr vlr_location) book other same = rw (same sub_nbr) refl
 asked_same (InsertForwarding sub_nbr sf_type start_time end_time numberx) book other same = rw (same sub_nbr) refl
 asked_same (DeleteForwarding sub_nbr sf_type start_time) book other same = rw (same sub_nbr) refl
-asked_same (AddSubscriber row) book other same = refl
-asked_same (AddAccess row) book other same = refl
-asked_same (AddFacility row) book other same = refl
-asked_same (SetActive s_id sf_type is_active) book other same = refl
-asked_same (SetNumber s_id sub_nbr) book other same = refl
-asked_same (Post part limit) book other same = refl
-asked_same (Give part side at) book other same = refl
-asked_same (Take piece part) book other same = refl
-asked_same (Divide part at) book other same = refl
-asked_same (Dissolve part) book other same = refl
+asked_same _ book other same = refl
 
 -- the part of a place is there
 part_stands : (s_id p : ℕ) (regions : List Region) → place_of s_id regions ≡ Some (place.Part p) → list_any (is_part p) regions ≡ true
@@ -119,13 +95,13 @@ module _ (event : Event) (h : Seating) (rows : is_on_rows event ≡ true) where
   -- it is refused at once
   pub now_refused : (why : Refusal) → action_for event (book_in h.seats) ≡ Err why → IsRouted event h (Now (reply.Refused why))
   now_refused why asked = λ ks later.
-      step_asked event (store_in (with_seats h ks)) (reply.Refused why) (store_in (with_seats h ks)) rows (rw (asks_later ks later, asked) (refl, refl))
+      (row_step event (store_in (with_seats h ks)) (reply.Refused why) (store_in (with_seats h ks)) rows).1 (rw (asks_later ks later, asked) (refl, refl))
 
   module _ (act : Action) (asked : action_for event (book_in h.seats) ≡ Ok act) where
     -- its subscriber lies in a loose piece
     now_moving : (n : ℕ) → place_of (s_id_of act) h.regions ≡ Some (place.Piece n) → IsRouted event h (Now (reply.Refused refusal.Moving))
     now_moving n placed = λ ks later.
-        step_asked event (store_in (with_seats h ks)) (reply.Refused refusal.Moving) (store_in (with_seats h ks)) rows (rw (asks_later ks later, asked, placed) (refl, refl))
+        (row_step event (store_in (with_seats h ks)) (reply.Refused refusal.Moving) (store_in (with_seats h ks)) rows).1 (rw (asks_later ks later, asked, placed) (refl, refl))
 
     -- the part of its subscriber does the action
     to_part : (p : ℕ) → AreSeated h → given_number act ≡ None → is_in_range act ≡ true → place_of (s_id_of act) h.regions ≡ Some (place.Part p) → IsRouted event h (To p (jobs.Act act))
@@ -134,7 +110,7 @@ module _ (event : Event) (h : Seating) (rows : is_on_rows event ≡ true) where
       (placed, gives),
       asked,
       λ ks after answer later done.
-          step_asked event (store_in (with_seats h ks)) answer (store_in (with_seats h after)) rows
+          (row_step event (store_in (with_seats h ks)) answer (store_in (with_seats h after)) rows).1
           (rw (asks_later ks later, asked, done.is)
           (acted_sent (with_seats h ks) (all_seated_later h ks are later) p done.index done.region done.lodged (record done.lodged { holding = done.holding })
           (sym (get_or_from_slice_get ks done.index (Part done.lodged) (Part done.lodged) done.seat)) act placed answer gives fits done.done)),
