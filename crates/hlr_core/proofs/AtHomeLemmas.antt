@@ -78,12 +78,10 @@ passing_refuses (row_reply.Refused why) passes = (why, refl)
 -- a refusal leaves the whole book
 whole_refused : (act : Action) (before : Book) (why : Refusal)
     → (whole_effect act before).0 ≡ row_reply.Refused why → (whole_effect act before).1 ≡ before
-whole_refused act before why = cases (takes_number (given_number act) before && is_done (effect act before).0) refl
-  where
-    cases : (b : Bool) → (takes_number (given_number act) before && is_done (effect act before).0) ≡ b
-        → (whole_effect act before).0 ≡ row_reply.Refused why → (whole_effect act before).1 ≡ before
-    cases true e = rw e (λ is. refl)
-    cases false e = rw e (λ is. effect_refused act before why is)
+whole_refused act before why =
+    by_test (takes_number (given_number act) before && is_done (effect act before).0)
+    (λ e. rw e (λ is. refl))
+    (λ e. rw e (λ is. effect_refused act before why is))
 
 -- a step whose reply does not last leaves the book
 module _ (before after : Store) (reply : Reply) (passes : is_lasting reply ≡ false) where

@@ -1,5 +1,5 @@
 -- What the register does while holdings are out is right whatever these have become.
-use Rattle.std.proofs.Common.{◌≡◌, ◌∙◌, refl, sym, ap, ℕ, List, [], ◌∷◌, Bool, true, false, Option, Some, None, Result, Ok, Err}
+use Rattle.std.proofs.Common.{◌≡◌, ◌∙◌, refl, sym, ap, ℕ, List, Bool, true, false, Option, Some, None, Result, Ok, Err}
 use Rattle.std.specs.Prelude.{is_some, option_map}
 use Rattle.tatp_rows.specs.Rows.{SubscriberRow}
 use Rattle.tatp_rows.specs.declared.refusal.Refusal.{Refusal}
@@ -26,14 +26,12 @@ use Rattle.hlr_owners.specs.Parted.{IsDissolvedBeside, IsDividedBeside}
 use Rattle.hlr_owners.specs.Recut.{IsRecut, IsRecutBy}
 use Rattle.hlr_owners.specs.Seats.{Seating, AreSeated, book_in, holdings_seated, store_in}
 use Rattle.hlr_owners.specs.Store.{Store}
-use Rattle.hlr_owners.specs.declared.lodging.Seat.{Seat}
-use Rattle.hlr_owners.specs.declared.lodging.Seat.TheVariants.{Part}
-use Rattle.hlr_owners.proofs.OutLemmas.{outs_carried, own_outs}
+use Rattle.hlr_owners.proofs.OutLemmas.{own_outs}
 use Rattle.hlr_core.specs.Beside.{beside, IsStepBeside, IsRecutBeside}
 use Rattle.hlr_core.specs.Index.{IsRegister}
 use Rattle.hlr_core.specs.Inside.Asked.{IsAsked, IsRowStepBeside}
 use Rattle.hlr_core.specs.Kept.{is_on_rows}
-use Rattle.hlr_core.specs.Later.{IsLater, AreLater}
+use Rattle.hlr_core.specs.Later.{AreLater}
 use Rattle.hlr_core.specs.Step.{IsAskedStep, IsStep, action_for, dissolved_reply, divided_reply, given_number, given_reply, posted_reply, taken_reply, reply_of}
 use Rattle.hlr_core.specs.declared.event.Event.{Event}
 use Rattle.hlr_core.specs.declared.event.Event.TheVariants.{Give, Take, Divide, Dissolve, Post}
@@ -51,15 +49,6 @@ own_step event before after answer same step =
     let own = own_outs before.seats before.seats refl in
     let later : AreLater before.seats (with_outs before.seats (holdings_seated before.seats)) = rw own (all_later_self before.seats) in
     rw (own, own_outs before.seats after.seats same) at (step (holdings_seated before.seats) later)
-
--- what they have become goes on where the same is out
-later_one : (s : Seat) → IsLater s s
-later_one s = (all_later_self (s ∷ [])).0
-
-pub later_carried : (before after : List Seat) (ks : List HoldingState) → outs_in after ≡ outs_in before → AreLater before (with_outs before ks) → AreLater after (with_outs after ks)
-later_carried before after ks same later =
-    outs_carried IsLater (λ h k. IsLater (Part (record { holding = h; home = false })) (Part (record { holding = k; home = false })))
-    (λ l m is. record { seat = is.seat; numbers = is.numbers }) (λ l m is. record { seat = is.seat; numbers = is.numbers }) later_one before after ks same later
 
 -- what an event on rows asks for, it asks for whatever they have become
 pub step_beside : (event : Event) (before after : Seating) (answer : Reply) → is_on_rows event ≡ true

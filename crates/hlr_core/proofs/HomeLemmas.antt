@@ -1,5 +1,5 @@
 -- Whoever an event needs is at home where all are, and where the one is whom its action needs.
-use Rattle.std.proofs.Common.{◌≡◌, ◌∙◌, arith, refl, sym, ap, ℕ, zero, suc, ◌+◌, ◌-◌, List, [], ◌∷◌, drop, Bool, true, inl, inr, Option, Some, None, Result, Ok, Err}
+use Rattle.std.proofs.Common.{◌≡◌, ◌∙◌, arith, refl, sym, ap, ℕ, zero, suc, ◌+◌, ◌-◌, List, [], ◌∷◌, Bool, true, inl, inr, Option, Some, None, Result, Ok, Err}
 use Rattle.std.specs.Prelude.{◌⊎◌, IfOk, IfSome, insert, option_map, remove}
 use Rattle.std.specs.List.{AllByRecursion}
 use Rattle.tatp_rows.specs.declared.refusal.Refusal.{Refusal}
@@ -15,19 +15,14 @@ use Rattle.hlr_core.specs.Home.{IsBearerHome, IsHomeTo, IsHouseAfter, IsLaterDes
 use Rattle.hlr_core.specs.Inside.Asked.{IsAsked, action_asked}
 use Rattle.hlr_core.specs.Numbers.{bearer_id}
 use Rattle.hlr_core.specs.declared.event.Event.{Event}
-use Rattle.hlr_core.specs.declared.event.Event.TheVariants.{SubscriberData, NewDestination, AccessData, UpdateSubscriber}
 use Rattle.hlr_core.specs.declared.event.Event.TheVariants.{UpdateLocation, InsertForwarding, DeleteForwarding}
-use Rattle.hlr_core.specs.declared.event.Event.TheVariants.{AddSubscriber, AddAccess, AddFacility, SetActive, SetNumber}
 use Rattle.hlr_core.specs.declared.event.Event.TheVariants.{Post, Give, Take, Divide, Dissolve}
 use Rattle.hlr_core.specs.declared.event.Reply.{Reply}
 use Rattle.hlr_core.specs.declared.event.Reply.TheVariants as reply
 
 bearer_home : (sub_nbr : ℕ) (h : Seating) → AllHome h.seats → IsBearerHome sub_nbr h
-bearer_home sub_nbr h all = cases (bearer_id (book_in h.seats).subscribers sub_nbr)
-  where
-    cases : (o : Option ℕ) → IfSome o (λ s_id. IsHomeFor s_id h)
-    cases None = tt
-    cases (Some s_id) = home_of_all s_id h all
+bearer_home sub_nbr h all =
+    elim (bearer_id (book_in h.seats).subscribers sub_nbr) as (λ o. IfSome o (λ s_id. IsHomeFor s_id h)) [ None ↦ tt | Some s_id ↦ home_of_all s_id h all ]
 
 -- what each element keeps is kept with one element more that keeps it, or with one fewer
 all_with : {X : Type 0} (P : X → Type 0) (i : ℕ) (x : X) (xs : List X) → P x → AllByRecursion P xs → AllByRecursion P (insert xs i x)
@@ -95,30 +90,11 @@ home_without part before after gone all = rw (gone.homes) (all_without (λ (home
 abbrev pub HasMoved : Seating → Seating → Type 0
 HasMoved before after = IsSameHouse before after ⊎ ((part : ℕ) × (IsWithNew part before after ⊎ IsWithout part before after))
 
--- one of these is so after a divide, and after a dissolve, whatever is answered
-divided_moves : (part at : ℕ) (answer : Reply) (before after : Seating) → IsHouseAfter (Divide part at) answer before after → HasMoved before after
-divided_moves part at (reply.Divided new lo hi) before after house = inr (part, inl house)
-divided_moves part at _ before after house = inl house
-
-dissolved_moves : (part : ℕ) (answer : Reply) (before after : Seating) → IsHouseAfter (Dissolve part) answer before after → HasMoved before after
-dissolved_moves part (reply.Dissolved front lo hi) before after house = inr (part, inr house)
-dissolved_moves part _ before after house = inl house
-
 -- so it is after each event
-pub house_moves : (event : Event) (answer : Reply) (before after : Seating) → IsHouseAfter event answer before after → HasMoved before after
-house_moves (Divide part at) answer before after house = divided_moves part at answer before after house
-house_moves (Dissolve part) answer before after house = dissolved_moves part answer before after house
-house_moves _ answer before after house = inl house
-
--- all are at home after an event where all were
-pub home_after : (event : Event) (answer : Reply) (before after : Seating) → IsHouseAfter event answer before after → AllHome before.seats → AllHome after.seats
-home_after event answer before after house all = elim (house_moves event answer before after house) [
-  | inl same ↦ still_home before after same all
-  | inr moved ↦ elim moved.1 [
-    | inl new ↦ home_with_new moved.0 before after new all
-    | inr gone ↦ home_without moved.0 before after gone all
-  ]
-]
+house_moves : (event : Event) (answer : Reply) (before after : Seating) → IsHouseAfter event answer before after → HasMoved before after
+house_moves (Divide part at) (reply.Divided new lo hi) before after house = inr (part, inl house)
+house_moves (Dissolve part) (reply.Dissolved front lo hi) before after house = inr (part, inr house)
+house_moves _ _ before after house = inl house
 
 -- the desk of the free slots is a later one where it stays, gives a slot up or takes one in
 pub desk_same : (before after : Station) → after ≡ before → IsLaterDesk before after
@@ -133,14 +109,22 @@ desk_with_new part before after new = rw (new.spare) (record { board = refl; see
 desk_without : (part : ℕ) (before after : Seating) → IsWithout part before after → IsLaterDesk before.spare after.spare
 desk_without part before after gone = record { board = ap (λ (d : Station). d.board) gone.spare; seen = gone.seen }
 
-pub desk_after : (event : Event) (answer : Reply) (before after : Seating) → IsHouseAfter event answer before after → IsLaterDesk before.spare after.spare
-desk_after event answer before after house = elim (house_moves event answer before after house) [
-  | inl same ↦ desk_kept before after same
-  | inr moved ↦ (elim moved.1 [
-    | inl new ↦ desk_with_new moved.0 before after new
-    | inr gone ↦ desk_without moved.0 before after gone
-  ])
+-- after an event all are at home where all were, and that desk is a later one
+after_event : (event : Event) (answer : Reply) (before after : Seating) → IsHouseAfter event answer before after
+    → (AllHome before.seats → AllHome after.seats) × IsLaterDesk before.spare after.spare
+after_event event answer before after house = elim (house_moves event answer before after house) [
+  | inl same ↦ (still_home before after same, desk_kept before after same)
+  | inr moved ↦ elim moved.1 [
+    | inl new ↦ (home_with_new moved.0 before after new, desk_with_new moved.0 before after new)
+    | inr gone ↦ (home_without moved.0 before after gone, desk_without moved.0 before after gone)
+  ]
 ]
+
+pub home_after : (event : Event) (answer : Reply) (before after : Seating) → IsHouseAfter event answer before after → AllHome before.seats → AllHome after.seats
+home_after event answer before after house = (after_event event answer before after house).0
+
+pub desk_after : (event : Event) (answer : Reply) (before after : Seating) → IsHouseAfter event answer before after → IsLaterDesk before.spare after.spare
+desk_after event answer before after house = (after_event event answer before after house).1
 
 -- one after another
 pub desk_later : (a b c : Station) → IsLaterDesk a b → IsLaterDesk b c → IsLaterDesk a c

@@ -71,14 +71,6 @@ index_parts : (k : ℕ) (row : SubscriberRow) (rows : List SubscriberRow) → Ha
 index_parts k row rows single found =
     sym (ap index_of (with_row_at_same subscriber_key k row rows found)) ∙ index-with_row_at k row row rows found (others_differ k row rows single found)
 
--- a row replaced by one of the same number and subscriber
-pub index_kept : (k : ℕ) (new old : SubscriberRow) (rows : List SubscriberRow) → HasNoTwin rows → row_at subscriber_key k rows ≡ Some old → number_pair new ≡ number_pair old
-    → index_of (with_row_at subscriber_key k new rows) ≡ index_of rows
-index_kept k new old rows single found same =
-    let number : old.sub_nbr ≡ new.sub_nbr = sym (ap (λ (p : ℕ × ℕ). p.0) same) in
-    let others : AllDiffer new.sub_nbr (without_row subscriber_key k rows) = rw number at (others_differ k old rows single found) in
-    index-with_row_at k new old rows found others ∙ ap (λ (p : ℕ × ℕ). with_row key_of_pair p (index_of (without_row subscriber_key k rows))) same ∙ sym (index_parts k old rows single found)
-
 -- a row replaced by one of the same subscriber with a new number
 pub index_renamed : (k : ℕ) (new old : SubscriberRow) (rows : List SubscriberRow) → HasNoTwin rows → row_at subscriber_key k rows ≡ Some old → bearer_of rows new.sub_nbr ≡ None
     → index_of (with_row_at subscriber_key k new rows) ≡ renamed old.sub_nbr new.sub_nbr new.s_id (index_of rows)
@@ -95,35 +87,30 @@ index_renamed k new old rows single found free =
 
 -- the subscriber who has a number in the index is the number's owner
 pub bearer_indexed : (book : Book) (pairs : List (ℕ × ℕ)) (n : ℕ) → IsRegister book pairs → bearer_in n pairs ≡ bearer_id book.subscribers n
-bearer_indexed book pairs n register = rw (register.index, index_finds book.subscribers n register.alone) (cases (bearer_of book.subscribers n))
-  where
-    cases : (o : Option SubscriberRow) → option_map (λ (pair : ℕ × ℕ). pair.1) (option_map number_pair o) ≡ option_map (λ (row : SubscriberRow). row.s_id) o
-    cases None = refl
-    cases (Some row) = refl
+bearer_indexed book pairs n register =
+    rw (register.index, index_finds book.subscribers n register.alone)
+    (elim (bearer_of book.subscribers n) as (λ o. option_map (λ (pair : ℕ × ℕ). pair.1) (option_map number_pair o) ≡ option_map (λ (row : SubscriberRow). row.s_id) o) [ None ↦ refl | Some row ↦ refl ])
 
 -- the owner of a number is one of all subscribers
 pub bearer_within : (book : Book) (pairs : List (ℕ × ℕ)) (n s : ℕ) → IsRegister book pairs → Some s ≡ bearer_in n pairs → IsWithin 1 (LAST_SUBSCRIBER + 1) s
-bearer_within book pairs n s register found = cases (bearer_of book.subscribers n) refl
-  where
-    cases : (o : Option SubscriberRow) → bearer_of book.subscribers n ≡ o → IsWithin 1 (LAST_SUBSCRIBER + 1) s
-    cases None e = let no : Some s ≡ None = found ∙ bearer_indexed book pairs n register ∙ ap (option_map (λ (row : SubscriberRow). row.s_id)) e in absurd cc
-    cases (Some row) e =
-        let own : Some s ≡ Some row.s_id = found ∙ bearer_indexed book pairs n register ∙ ap (option_map (λ (row : SubscriberRow). row.s_id)) e in
-        let same : row.s_id ≡ s = cc in
-        subst (λ (k : ℕ). IsWithin 1 (LAST_SUBSCRIBER + 1) k) same
-        (each_found (λ (r : SubscriberRow). r.sub_nbr) (λ (r : SubscriberRow). IsWithin 1 (LAST_SUBSCRIBER + 1) r.s_id) n book.subscribers row register.rows.subscribers e)
+bearer_within book pairs n s register found =
+    let is : Some s ≡ bearer_id book.subscribers n = found ∙ bearer_indexed book pairs n register in
+    (elim (bearer_of book.subscribers n) as (λ o. bearer_of book.subscribers n ≡ o → IsWithin 1 (LAST_SUBSCRIBER + 1) s) [
+      | None ↦ λ e. let no : Some s ≡ None = is ∙ ap (option_map (λ (row : SubscriberRow). row.s_id)) e in absurd cc
+      | Some row ↦ λ e.
+          let own : Some s ≡ Some row.s_id = is ∙ ap (option_map (λ (row : SubscriberRow). row.s_id)) e in
+          let same : row.s_id ≡ s = cc in
+          subst (λ (k : ℕ). IsWithin 1 (LAST_SUBSCRIBER + 1) k) same
+          (each_found (λ (r : SubscriberRow). r.sub_nbr) (λ (r : SubscriberRow). IsWithin 1 (LAST_SUBSCRIBER + 1) r.s_id) n book.subscribers row register.rows.subscribers e)
+    ]) refl
 
 -- a number that has no pair has no owner, and one that has a pair has one
 pub free_number : (book : Book) (pairs : List (ℕ × ℕ)) (n : ℕ) → IsRegister book pairs → pair_of n pairs ≡ None → bearer_of book.subscribers n ≡ None
-free_number book pairs n register free = cases (bearer_of book.subscribers n) (sym (index_finds book.subscribers n register.alone) ∙ rw register.index at free)
-  where
-    cases : (o : Option SubscriberRow) → option_map number_pair o ≡ None → o ≡ None
-    cases None e = refl
-    cases (Some row) e = absurd cc
+free_number book pairs n register free =
+    (elim (bearer_of book.subscribers n) as (λ o. option_map number_pair o ≡ None → o ≡ None) [ None ↦ λ e. refl | Some row ↦ λ e. absurd cc ])
+    (sym (index_finds book.subscribers n register.alone) ∙ rw register.index at free)
 
 pub taken_number : (book : Book) (pairs : List (ℕ × ℕ)) (n : ℕ) (pair : ℕ × ℕ) → IsRegister book pairs → pair_of n pairs ≡ Some pair → is_some (bearer_of book.subscribers n) ≡ true
-taken_number book pairs n pair register taken = cases (bearer_of book.subscribers n) (sym (index_finds book.subscribers n register.alone) ∙ rw register.index at taken)
-  where
-    cases : (o : Option SubscriberRow) → option_map number_pair o ≡ Some pair → is_some o ≡ true
-    cases None e = absurd cc
-    cases (Some row) e = refl
+taken_number book pairs n pair register taken =
+    (elim (bearer_of book.subscribers n) as (λ o. option_map number_pair o ≡ Some pair → is_some o ≡ true) [ None ↦ λ e. absurd cc | Some row ↦ λ e. refl ])
+    (sym (index_finds book.subscribers n register.alone) ∙ rw register.index at taken)

@@ -1,14 +1,12 @@
 -- A register with seats that stand for others keeps its rules, with the same index.
-use Rattle.std.proofs.Common.{◌≡◌, ◌∙◌, refl, sym, ap, ℕ, zero, suc, List, [], ◌∷◌, set, map, inl, inr, true, Some, None}
-use Rattle.std.specs.Prelude.{◌==◌, ◌≢◌, Option, option_map, slice_get}
-use Rattle.std.specs.List.{AllZip, AllByRecursion}
+use Rattle.std.proofs.Common.{◌≡◌, ◌∙◌, ◌+◌, refl, sym, ap, ℕ, zero, suc, List, [], ◌∷◌, set, map, inl, inr, Bool, true, false, Some, None}
+use Rattle.std.specs.Prelude.{Option, option_map, slice_get}
+use Rattle.std.specs.List.{AllZip}
 use Rattle.std.proofs.lemmas.List.{map-append}
-use Rattle.tatp_rows.proofs.OrderedLemmas.{by_test}
-use Rattle.tatp_rows.specs.Keys.{key_of, subscriber_key}
-use Rattle.tatp_rows.specs.Ordered.{in_order, row_at, with_row_at}
+use Rattle.tatp_rows.specs.Keys.{key_of}
 use Rattle.tatp_rows.specs.Rows.{SubscriberRow}
 use Rattle.tatp_actions.specs.Action.{IsOutcome, effect}
-use Rattle.tatp_actions.specs.Book.{Book, subscriber_at}
+use Rattle.tatp_actions.specs.Book.{Book, IsRowsOf, subscriber_at}
 use Rattle.tatp_actions.specs.Part.{PartState}
 use Rattle.tatp_actions.specs.declared.action.Action.{Action}
 use Rattle.tatp_actions.specs.declared.action.RowReply.{RowReply}
@@ -25,46 +23,36 @@ use Rattle.hlr_owners.proofs.HeldLemmas.{holding_keeps}
 use Rattle.hlr_owners.proofs.LendLemmas.{later_self, seated_later}
 use Rattle.hlr_owners.proofs.OwnerLemmas.{owner_rows, zip_weaker}
 use Rattle.hlr_owners.proofs.SeatLemmas.{owned}
+use Rattle.tatp_rows.specs.declared.ranges.TheConstants.{LAST_SUBSCRIBER}
+use Rattle.hlr_owners.specs.Answered.{IsAnswered}
 use Rattle.hlr_core.specs.Index.{number_pair, IsRegister}
 use Rattle.hlr_core.specs.Later.{IsLater, AreLater, IsBackWith, with_seats}
-use Rattle.hlr_core.specs.Numbers.{HasNoTwin, bearer_id}
+use Rattle.hlr_core.specs.Numbers.{bearer_id}
 use Rattle.hlr_core.specs.Session.{IsJobDone, IsJobOf, IsDoneAt}
 use Rattle.hlr_core.specs.Step.{given_number}
 use Rattle.hlr_core.specs.declared.event.Reply.{Reply}
-use Rattle.mr_node.specs.Rows.{key_of_pair}
-use Rattle.hlr_core.proofs.NumbersLemmas.{AllDiffer}
-use Rattle.hlr_core.proofs.PairsLemmas.{KeepsPairs, IsShaped, effect_shaped, outcome_book}
-
--- a row replaced by one of the same number and subscriber
-pairs_with_row_at : (k : ℕ) (new old : SubscriberRow) (rows : List SubscriberRow) → row_at subscriber_key k rows ≡ Some old → number_pair new ≡ number_pair old
-    → map number_pair (with_row_at subscriber_key k new rows) ≡ map number_pair rows
-pairs_with_row_at k new old [] found same = refl
-pairs_with_row_at k new old (x ∷ xs) found same =
-    by_test (subscriber_key x == k)
-    (λ e. let one : Some x ≡ Some old = rw e at found in
-    let is : x ≡ old = cc in
-    rw e (ap (λ (pair : ℕ × ℕ). pair ∷ map number_pair xs) (same ∙ ap number_pair (sym is))))
-    (λ e. rw e (ap (λ (pairs : List (ℕ × ℕ)). number_pair x ∷ pairs) (pairs_with_row_at k new old xs (rw e at found) same)))
-
-kept_pairs : (before after : List SubscriberRow) → KeepsPairs before after → map number_pair after ≡ map number_pair before
-kept_pairs before after keeps = elim keeps [
-  | inl same ↦ ap (map number_pair) same
-  | inr swap ↦ ap (map number_pair) swap.is ∙ pairs_with_row_at swap.key swap.new swap.old before swap.found swap.same
-]
+use Rattle.hlr_core.proofs.PairsLemmas.{HaveSame, effect_shaped, have_same, outcome_book, same_registered}
 
 -- an action that gives no number leaves the numbers
 pub outcome_numbers : (act : Action) (before after : Book) (answer : RowReply) → given_number act ≡ None → IsOutcome act before answer after
     → map number_pair after.subscribers ≡ map number_pair before.subscribers
-outcome_numbers act before after answer none outcome = elim (outcome_book act before after answer outcome) [
-  | inl same ↦ ap (λ (b : Book). map number_pair b.subscribers) same
-  | inr done ↦ ap (λ (x : RowReply × Book). map number_pair x.1.subscribers) done ∙ shaped (effect_shaped act before)
-]
-  where
-    shaped : IsShaped act before (effect act before) → map number_pair (effect act before).1.subscribers ≡ map number_pair before.subscribers
-    shaped shape = elim shape [
+outcome_numbers act before after answer none outcome =
+    let shaped : map number_pair (effect act before).1.subscribers ≡ map number_pair before.subscribers =
+    elim (effect_shaped act before) [ inl same ↦ ap (λ (b : Book). map number_pair b.subscribers) same | inr is ↦ is.1 none ] in
+    elim (outcome_book act before after answer outcome) [
       | inl same ↦ ap (λ (b : Book). map number_pair b.subscribers) same
-      | inr is ↦ kept_pairs before.subscribers (effect act before).1.subscribers (is.1 none)
+      | inr done ↦ ap (λ (x : RowReply × Book). map number_pair x.1.subscribers) done ∙ shaped
     ]
+
+-- so the rows after it are those of a register with the same index, also where the rows' owner answers for them
+pub kept_registered : (act : Action) (before after : Book) (answer : RowReply) (pairs : List (ℕ × ℕ)) → given_number act ≡ None → IsRegister before pairs → IsRowsOf 1 (LAST_SUBSCRIBER + 1) after
+    → IsOutcome act before answer after → IsRegister after pairs
+kept_registered act before after answer pairs leaves register rows outcome = same_registered before after pairs register rows (outcome_numbers act before after answer leaves outcome)
+
+pub answered_registered : (loose : Bool) (act : Action) (before after : Book) (answer : RowReply) (pairs : List (ℕ × ℕ)) → given_number act ≡ None → IsRegister before pairs
+    → IsRowsOf 1 (LAST_SUBSCRIBER + 1) after → IsAnswered loose act before answer after → IsRegister after pairs
+answered_registered true act before after answer pairs leaves register rows answered = rw (answered.1) register
+answered_registered false act before after answer pairs leaves register rows outcome = kept_registered act before after answer pairs leaves register rows outcome
 
 -- what a job leaves
 pub job_later : (regions : List Region) (p : ℕ) (job : Job) (l m : Lodged) (answer : Reply) → IsJobOf regions p job → IsJobDone job l.holding answer m.holding → IsLater (Part l) (Part m)
@@ -151,12 +139,12 @@ done_later regions p job before after answer of done =
 
 -- a holding that comes home
 pub back_later : (seats : List Seat) (i : ℕ) (k : HoldingState) → IsBackWith (slice_get seats i) k → IsHolding k → AreLater seats (set seats i (Part (record { holding = k; home = true })))
-back_later seats i k back keeps = cases (slice_get seats i) refl back
-  where
-    cases : (o : Option Seat) → slice_get seats i ≡ o → IsBackWith o k → AreLater seats (set seats i (Part (record { holding = k; home = true })))
-    cases (Some (Part l)) e back = put_later seats i (Part l) (Part (record { holding = k; home = true })) e (record { seat = (back.0.1, λ lawful. holding_keeps k keeps, λ wide. keeps.wide); numbers = back.1 })
-    cases (Some (Piece b)) e back = absurd back.0
-    cases None e back = absurd back.0
+back_later seats i k back keeps =
+    (elim (slice_get seats i) as (λ o. slice_get seats i ≡ o → IsBackWith o k → AreLater seats (set seats i (Part (record { holding = k; home = true })))) [
+      | Some (Part l) ↦ λ e back. put_later seats i (Part l) (Part (record { holding = k; home = true })) e (record { seat = (back.0.1, λ lawful. holding_keeps k keeps, λ wide. keeps.wide); numbers = back.1 })
+      | Some (Piece b) ↦ λ e back. absurd back.0
+      | None ↦ λ e back. absurd back.0
+    ]) refl back
 
 -- the numbers of all
 pub numbers_later : (seats ks : List Seat) → AreLater seats ks → map number_pair (book_in ks).subscribers ≡ map number_pair (book_in seats).subscribers
@@ -169,31 +157,7 @@ numbers_later (s ∷ seats) (k ∷ ks) later =
     map-append number_pair (owner_of k).part.book.subscribers (book_in ks).subscribers
     ∙ rw (here, rest) (sym (map-append number_pair (owner_of s).part.book.subscribers (book_in seats).subscribers))
 
--- what is of the pairs alone: which number a subscriber has, who has a number, and that no number stands twice
-record HaveSame (rows others : List SubscriberRow) : Type 0 where
-  number : (k : ℕ) → option_map (λ (row : SubscriberRow). row.sub_nbr) (row_at subscriber_key k others) ≡ option_map (λ (row : SubscriberRow). row.sub_nbr) (row_at subscriber_key k rows)
-  bearer : (n : ℕ) → bearer_id others n ≡ bearer_id rows n
-  differ : (n : ℕ) → AllDiffer n rows → AllDiffer n others
-  alone : HasNoTwin rows → HasNoTwin others
-
-have_same : (rows others : List SubscriberRow) → map number_pair others ≡ map number_pair rows → HaveSame rows others
-have_same [] [] same = record { number = λ k. refl; bearer = λ n. refl; differ = λ n each. tt; alone = λ alone. tt }
-have_same [] (y ∷ ys) same = absurd cc
-have_same (x ∷ xs) [] same = absurd cc
-have_same (x ∷ xs) (y ∷ ys) same =
-    let pair : number_pair y ≡ number_pair x = cc in
-    let number : y.sub_nbr ≡ x.sub_nbr = ap (λ (one : ℕ × ℕ). one.0) pair in
-    let bearer : y.s_id ≡ x.s_id = ap (λ (one : ℕ × ℕ). one.1) pair in
-    let key : subscriber_key y ≡ subscriber_key x = ap (λ (one : ℕ × ℕ). key_of one.1 0 0) pair in
-    let tail : map number_pair ys ≡ map number_pair xs = cc in
-    let rest = have_same xs ys tail in
-    record {
-      number = λ k. by_test (subscriber_key x == k) (λ e. rw (key, e, number) refl) (λ e. rw (key, e) (rest.number k));
-      bearer = λ n. by_test (x.sub_nbr == n) (λ e. rw (number, e) (ap Some bearer)) (λ e. rw (number, e) (rest.bearer n));
-      differ = λ n each. (λ e. each.0 (e ∙ number), rest.differ n each.1);
-      alone = λ alone. (rw (← number) at (rest.differ x.sub_nbr alone.0), rest.alone alone.1);
-    }
-
+-- each subscriber keeps the number
 later_same : (seats ks : List Seat) → AreLater seats ks → HaveSame (book_in seats).subscribers (book_in ks).subscribers
 later_same seats ks later = have_same (book_in seats).subscribers (book_in ks).subscribers (numbers_later seats ks later)
 
@@ -215,8 +179,5 @@ all_seated_later h ks are later = seated_later h ks are (each_seat h.seats ks la
 pub registered_later : (h : Seating) (ks : List Seat) (pairs : List (ℕ × ℕ)) → AreSeated h → AreLater h.seats ks → IsRegister (book_in h.seats) pairs → IsRegister (book_in ks) pairs
 registered_later h ks pairs are later register =
     let now = all_seated_later h ks are later in
-    record {
-      rows = owner_rows h.width 1 h.regions (owners_in ks) (owned h.width h.regions ks now.each) now.are.consecutive;
-      alone = (later_same h.seats ks later).alone register.alone;
-      index = register.index ∙ sym (ap (in_order key_of_pair) (numbers_later h.seats ks later));
-    }
+    same_registered (book_in h.seats) (book_in ks) pairs register
+    (owner_rows h.width 1 h.regions (owners_in ks) (owned h.width h.regions ks now.each) now.are.consecutive) (numbers_later h.seats ks later)

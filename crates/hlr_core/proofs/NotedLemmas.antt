@@ -1,5 +1,5 @@
 -- Pairs that are put in one after another: what their sums say of the rows, in whatever order these come.
-use Rattle.std.proofs.Common.{◌≡◌, ◌∙◌, refl, sym, ap, subst, ℕ, ◌+◌, ◌<◌, ◌≤◌, ◌≢◌, List, [], ◌∷◌, ◌++◌, Bool, true, false, Option, Some, None, length, map, inl, inr, arith}
+use Rattle.std.proofs.Common.{◌≡◌, ◌∙◌, refl, sym, ap, subst, ℕ, ◌+◌, ◌<◌, ◌≤◌, ◌≢◌, List, [], ◌∷◌, ◌++◌, Bool, true, false, Some, None, length, map, inl, inr, arith}
 use Rattle.std.specs.Prelude.{◌==◌, ◌&&◌, nat_le, sum_by, is_some, ◌⊎◌, option_map, if◌then◌else◌}
 use Rattle.std.specs.List.{AllByRecursion, filter}
 use Rattle.std.proofs.lemmas.Bool.Decides.{nat_tests}
@@ -256,11 +256,11 @@ twin_one row pairs pair found =
 -- why a row isn't noted
 one_refused : (row : SubscriberRow) (pairs : List (ℕ × ℕ)) (why : Refusal) → why ≡ (if is_some (pair_of row.sub_nbr pairs) then NumberTaken else Memory)
     → ((why ≡ NumberTaken) × HasTwin (row ∷ []) pairs) ⊎ (why ≡ Memory)
-one_refused row pairs why is = cases (pair_of row.sub_nbr pairs) refl
-  where
-    cases : (o : Option (ℕ × ℕ)) → pair_of row.sub_nbr pairs ≡ o → ((why ≡ NumberTaken) × HasTwin (row ∷ []) pairs) ⊎ (why ≡ Memory)
-    cases None e = inr (rw e at is)
-    cases (Some pair) e = inl (rw e at is, twin_one row pairs pair e)
+one_refused row pairs why is =
+    (elim (pair_of row.sub_nbr pairs) as (λ o. pair_of row.sub_nbr pairs ≡ o → ((why ≡ NumberTaken) × HasTwin (row ∷ []) pairs) ⊎ (why ≡ Memory)) [
+      | None ↦ λ e. inr (rw e at is)
+      | Some pair ↦ λ e. inl (rw e at is, twin_one row pairs pair e)
+    ]) refl
 
 -- the rows from a subscriber on
 abbrev pub rows_from : ℕ → List SubscriberRow → List SubscriberRow

@@ -1,5 +1,5 @@
 -- The parts on which an event works: where these are at home, so is whoever the event needs.
-use Rattle.std.proofs.Common.{◌≡◌, refl, ℕ, zero, suc, ◌+◌, ◌<◌, ◌≤◌, arith, List, [], ◌∷◌, drop, get_or, length, Bool, true, false, None, inl, inr}
+use Rattle.std.proofs.Common.{◌≡◌, refl, ℕ, zero, suc, ◌<◌, ◌≤◌, arith, List, [], ◌∷◌, drop, get_or, length, Bool, true, false, None, inl, inr}
 use Rattle.std.specs.Prelude.{◌↔◌, ◌⊎◌, Ok, Err}
 use Rattle.std.specs.List.{AllByRecursion}
 use Rattle.std.proofs.lemmas.Bool.{cases_lt}
@@ -23,13 +23,6 @@ use Rattle.hlr_core.specs.declared.route.Parts.{Parts}
 -- none are at home in any case
 pub none_home : (parts : Parts) (h : Seating) → parts.end ≤ parts.first → AreHome parts h
 none_home parts h none = λ part from low. absurd (omega arith)
-
--- one is at home, if it is
-pub one_home : (parts : Parts) (h : Seating) → parts.end ≡ parts.first + 1 → AreHome parts h ↔ IsPartHome parts.first h
-one_home parts h end = (
-  λ all. all parts.first (omega arith) (omega arith),
-  λ home part from low. let same : part ≡ parts.first = omega arith in rw same home,
-)
 
 -- a part that isn't there counts as at home
 pub past_home : (h : Seating) (are : AreSeated h) (p : ℕ) → length (parts_of h.regions) ≤ p → IsPartHome p h

@@ -4,6 +4,7 @@ use Rattle.std.specs.Prelude.{is_some, option_map, ◌||◌, if◌then◌else◌
 use Rattle.tatp_rows.specs.Rows.{SubscriberRow}
 use Rattle.tatp_rows.specs.declared.refusal.Refusal.TheVariants as refusal
 use Rattle.tatp_rows.specs.Keys.{subscriber_key}
+use Rattle.tatp_rows.proofs.OrderedLemmas.{by_test}
 use Rattle.tatp_rows.specs.Ordered.{with_row, without_row}
 use Rattle.tatp_rows.specs.declared.ranges.TheConstants.{LAST_SUBSCRIBER}
 use Rattle.tatp_rows.specs.declared.refusal.Refusal.{Refusal}
@@ -20,7 +21,7 @@ use Rattle.hlr_core.specs.Inside.Asked.{IsAsked, IsRowStep}
 use Rattle.hlr_owners.specs.Answered.{IsAnswered, is_loose}
 use Rattle.hlr_core.specs.Index.{IsRegister}
 use Rattle.hlr_core.specs.Numbers.{bearer_of}
-use Rattle.hlr_core.specs.Step.{IsPostStep, IsWholeOutcome, posted_reply, given_number, takes_number, changes_number, whole_effect, reply_of, edited_reply}
+use Rattle.hlr_core.specs.Step.{IsPostStep, IsWholeOutcome, posted_reply, given_number, takes_number, changes_number, reply_of, edited_reply}
 use Rattle.hlr_owners.specs.Posting.{IsPosting}
 use Rattle.hlr_owners.specs.Store.{Store}
 use Rattle.hlr_core.specs.declared.event.Reply.{Reply}
@@ -103,11 +104,8 @@ not_done why is = cc
 
 -- a refusal of the rows comes before that of a number
 pub refused_step : (act : Action) (before : Store) (why : Refusal) → is_loose (s_id_of act) before.regions ≡ false → effect act before.book ≡ (row_reply.Refused why, before.book) → IsRowStep true (Some act) before (reply.Refused why) before
-refused_step act before why home is = rw home (row_reply.Refused why, before.book, inl (cases (takes_number (given_number act) before.book) refl), refl, refl)
-  where
-    cases : (b : Bool) → takes_number (given_number act) before.book ≡ b → (row_reply.Refused why, before.book) ≡ whole_effect act before.book
-    cases true e = rw (e, is) refl
-    cases false e = rw (e, is) refl
+refused_step act before why home is =
+    rw home (row_reply.Refused why, before.book, inl (by_test (takes_number (given_number act) before.book) (λ e. rw (e, is) refl) (λ e. rw (e, is) refl)), refl, refl)
 
 -- a subscriber whose row has another number, or who has none
 abbrev HasNot : Book → ℕ → ℕ → Type 0
@@ -151,11 +149,9 @@ at_home s row store number has same home is there = record {
 
 -- a subscriber who has a row is refused
 pub exists_step : (row : SubscriberRow) (before : Store) → IsHome row before true → IsRowStep true (Some (action.AddSubscriber row)) before (reply.Refused refusal.Exists) before
-exists_step row before here = refused_step (action.AddSubscriber row) before refusal.Exists here.home (cases (subscriber_at before.book row.s_id) here.there)
-  where
-    cases : (o : Option SubscriberRow) → is_some o ≡ true → add_subscriber before.book row o ≡ (row_reply.Refused refusal.Exists, before.book)
-    cases None has = absurd cc
-    cases (Some other) has = refl
+exists_step row before here =
+    refused_step (action.AddSubscriber row) before refusal.Exists here.home
+    ((elim (subscriber_at before.book row.s_id) as (λ o. is_some o ≡ true → add_subscriber before.book row o ≡ (row_reply.Refused refusal.Exists, before.book)) [ None ↦ λ has. absurd cc | Some other ↦ λ has. refl ]) here.there)
 
 -- a subscriber without a row
 absent : (o : Option SubscriberRow) → is_some o ≡ false → o ≡ None

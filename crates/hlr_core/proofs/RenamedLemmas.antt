@@ -1,5 +1,5 @@
 -- A subscriber's number becomes another one, in the index first and then in the row.
-use Rattle.std.proofs.Common.{◌≡◌, ◌≢◌, ℕ, ◌+◌, refl, arith, List, true, false, Option, Some, None, Ok, Err, sym, ap, ◌∙◌, inl, inr}
+use Rattle.std.proofs.Common.{◌≡◌, ◌≢◌, ℕ, ◌+◌, refl, arith, List, map, true, false, Option, Some, None, Ok, Err, sym, ap, ◌∙◌, inl, inr}
 use Rattle.std.specs.Prelude.{option_map, nat_lt, Result}
 use Rattle.std.proofs.lemmas.Bool.Decides.{nat_tests}
 use Rattle.tatp_rows.specs.Number.{IsNumber}
@@ -10,12 +10,12 @@ use Rattle.tatp_rows.specs.declared.ranges.TheConstants.{LAST_SUBSCRIBER}
 use Rattle.tatp_rows.specs.declared.refusal.Refusal.{Refusal}
 use Rattle.tatp_rows.proofs.OrderedLemmas.{key_found, each-without_row}
 use Rattle.number_index.specs.Pairs.{bearer_in, renamed, IsRenamed}
-use Rattle.tatp_actions.specs.Action.{is_in_range, effect, IsOutcome}
+use Rattle.tatp_actions.specs.Action.{is_in_range, set_number, IsOutcome}
 use Rattle.tatp_actions.specs.Book.{Book, IsRowsOf, subscriber_at, put_subscriber}
 use Rattle.tatp_actions.specs.declared.action.Action.TheVariants as action
 use Rattle.tatp_actions.specs.declared.action.RowReply.{RowReply}
 use Rattle.tatp_actions.specs.declared.action.RowReply.TheVariants as row_reply
-use Rattle.hlr_core.specs.Index.{index_of, IsRegister}
+use Rattle.hlr_core.specs.Index.{index_of, IsRegister, number_pair}
 use Rattle.hlr_core.specs.Inside.Asked.{IsRowStep}
 use Rattle.hlr_owners.specs.Answered.{is_loose}
 use Rattle.hlr_core.specs.Step.{given_number, takes_number, reply_of}
@@ -24,7 +24,7 @@ use Rattle.hlr_core.specs.declared.event.Reply.{Reply}
 use Rattle.hlr_core.specs.declared.event.Reply.TheVariants as reply
 use Rattle.hlr_core.proofs.NumbersLemmas.{other_numbers, bearer_found, no_twin-with_row_at}
 use Rattle.hlr_core.proofs.IndexLemmas.{index_renamed, bearer_indexed, free_number}
-use Rattle.hlr_core.proofs.PairsLemmas.{swapped_registered}
+use Rattle.hlr_core.proofs.PairsLemmas.{pairs_with_row_at, same_registered}
 use Rattle.hlr_core.proofs.RegisterLemmas.{acted_step, refused_step, unpaired_step, free_to_take}
 
 -- a subscriber's row and the renaming of its number in the index
@@ -53,12 +53,9 @@ renaming s old n book pairs new result register number result_is = cases (subscr
 -- a subscriber without a row
 pub unnumbered_step : (s n : ℕ) (before : Store) → is_loose s before.regions ≡ false → None ≡ option_map (λ (row : SubscriberRow). row.sub_nbr) (subscriber_at before.book s)
     → IsRowStep true (Some (action.SetNumber s n)) before (reply.Refused refusal.NoSubscriber) before
-unnumbered_step s n before home none = refused_step (action.SetNumber s n) before refusal.NoSubscriber home (cases (subscriber_at before.book s) refl none)
-  where
-    cases : (o : Option SubscriberRow) → subscriber_at before.book s ≡ o → None ≡ option_map (λ (row : SubscriberRow). row.sub_nbr) o
-        → effect (action.SetNumber s n) before.book ≡ (row_reply.Refused refusal.NoSubscriber, before.book)
-    cases None e is = rw e refl
-    cases (Some row) e is = absurd cc
+unnumbered_step s n before home none =
+    refused_step (action.SetNumber s n) before refusal.NoSubscriber home
+    ((elim (subscriber_at before.book s) as (λ o. None ≡ option_map (λ (row : SubscriberRow). row.sub_nbr) o → set_number before.book s n o ≡ (row_reply.Refused refusal.NoSubscriber, before.book)) [ None ↦ λ is. refl | Some row ↦ λ is. absurd cc ]) none)
 
 -- a number that the index refuses
 pub unrenamed_step : (s old n : ℕ) (before : Store) (pairs new : List (ℕ × ℕ)) (why : Refusal) → IsRegister before.book pairs → is_loose s before.regions ≡ false
@@ -99,14 +96,9 @@ renamed_registered s old n before after pairs new answer register rows number ch
     let found = renaming s old n before pairs new (Ok tt) register number changed in
     let is = numbered_book s n found.row before after answer fits found.found outcome in
     elim (found.answer) [
-      | inl same ↦ rw (same.2) (swapped_registered before after pairs register rows (inr (record {
-        key = key_of s 0 0;
-        new = record found.row { sub_nbr = n };
-        old = found.row;
-        found = found.found;
-        same = ap (λ (k : ℕ). (k, found.row.s_id)) (sym same.0);
-        is = ap (λ (b : Book). b.subscribers) is;
-      })))
+      | inl same ↦ rw (same.2) (same_registered before after pairs register rows
+          (ap (λ (b : Book). map number_pair b.subscribers) is
+          ∙ pairs_with_row_at (key_of s 0 0) (record found.row { sub_nbr = n }) found.row before.subscribers found.found (ap (λ (k : ℕ). (k, found.row.s_id)) (sym same.0))))
       | inr other ↦ (let free = free_number before pairs n register other.1.0 in
           rw is (record {
             rows = rw is at rows;

@@ -1,5 +1,5 @@
 -- Where an event goes: what it asks for, and what may be answered to it at once, are the same whatever jobs are done.
-use Rattle.std.proofs.Common.{◌≡◌, ◌∙◌, refl, sym, ℕ, ◌<◌, ◌≤◌, arith, List, [], ◌∷◌, length, map, true, false, Option, Some, None, Ok, Err}
+use Rattle.std.proofs.Common.{◌≡◌, ◌∙◌, refl, sym, ℕ, ◌<◌, ◌≤◌, arith, List, [], ◌∷◌, length, map, true, false, Some, None, Err}
 use Rattle.std.specs.Prelude.{◌↔◌, position}
 use Rattle.std.specs.List.{list_any}
 use Rattle.std.proofs.lemmas.List.{length-map}
@@ -8,9 +8,8 @@ use Rattle.atomic_table.specs.Seated.{TableId}
 use Rattle.tatp_rows.proofs.OrderedLemmas.{by_test}
 use Rattle.tatp_rows.specs.declared.refusal.Refusal.{Refusal}
 use Rattle.tatp_rows.specs.declared.refusal.Refusal.TheVariants as refusal
-use Rattle.tatp_actions.specs.Action.{is_in_range, s_id_of}
+use Rattle.tatp_actions.specs.Action.{s_id_of}
 use Rattle.tatp_actions.specs.Book.{Book}
-use Rattle.tatp_actions.specs.declared.action.Action.{Action}
 use Rattle.part_table.specs.Region.{is_part, lies_in}
 use Rattle.part_table.specs.Regions.{place_of, parts_of}
 use Rattle.part_table.specs.declared.region.Place.TheVariants as place
@@ -32,11 +31,9 @@ use Rattle.hlr_core.specs.Kept.{is_on_rows}
 use Rattle.hlr_core.specs.Later.{AreLater, with_seats}
 use Rattle.hlr_core.specs.Numbers.{bearer_id}
 use Rattle.hlr_core.specs.Route.{IsRouted}
-use Rattle.hlr_core.specs.Step.{IsAskedStep, IsStep, action_for, given_number}
+use Rattle.hlr_core.specs.Step.{IsAskedStep, IsStep, action_for}
 use Rattle.hlr_core.specs.declared.event.Event.{Event}
-use Rattle.hlr_core.specs.declared.event.Event.TheVariants.{SubscriberData, NewDestination, AccessData, UpdateSubscriber}
 use Rattle.hlr_core.specs.declared.event.Event.TheVariants.{UpdateLocation, InsertForwarding, DeleteForwarding}
-use Rattle.hlr_core.specs.declared.event.Event.TheVariants.{AddSubscriber, AddAccess, AddFacility, SetActive, SetNumber}
 use Rattle.hlr_core.specs.declared.event.Event.TheVariants.{Post, Give, Take, Divide, Dissolve}
 use Rattle.hlr_core.specs.declared.event.Reply.{Reply}
 use Rattle.hlr_core.specs.declared.event.Reply.TheVariants as reply
@@ -76,11 +73,11 @@ part_stands s_id p (r ∷ regions) placed =
         (λ e. rw e at placed)
 
 pub part_index : (s_id p : ℕ) (regions : List Region) → place_of s_id regions ≡ Some (place.Part p) → (i : ℕ) × (position (is_part p) regions ≡ Some i)
-part_index s_id p regions placed = cases (position (is_part p) regions) refl
-  where
-    cases : (o : Option ℕ) → position (is_part p) regions ≡ o → (i : ℕ) × (position (is_part p) regions ≡ Some i)
-    cases (Some i) e = (i, e)
-    cases None e = let clash : true ≡ false = sym (part_stands s_id p regions placed) ∙ none_passes (is_part p) regions e in absurd cc
+part_index s_id p regions placed =
+    (elim (position (is_part p) regions) as (λ o. position (is_part p) regions ≡ o → (i : ℕ) × (position (is_part p) regions ≡ Some i)) [
+      | Some i ↦ λ e. (i, e)
+      | None ↦ λ e. let clash : true ≡ false = sym (part_stands s_id p regions placed) ∙ none_passes (is_part p) regions e in absurd cc
+    ]) refl
 
 part_low : (h : Seating) (are : AreSeated h) (p i : ℕ) → position (is_part p) h.regions ≡ Some i → p < length (homes_in h.seats)
 part_low h are p i index =
@@ -97,34 +94,28 @@ module _ (event : Event) (h : Seating) (rows : is_on_rows event ≡ true) where
   now_refused why asked = λ ks later.
       (row_step event (store_in (with_seats h ks)) (reply.Refused why) (store_in (with_seats h ks)) rows).1 (rw (asks_later ks later, asked) (refl, refl))
 
-  module _ (act : Action) (asked : action_for event (book_in h.seats) ≡ Ok act) where
-    -- its subscriber lies in a loose piece
-    now_moving : (n : ℕ) → place_of (s_id_of act) h.regions ≡ Some (place.Piece n) → IsRouted event h (Now (reply.Refused refusal.Moving))
-    now_moving n placed = λ ks later.
-        (row_step event (store_in (with_seats h ks)) (reply.Refused refusal.Moving) (store_in (with_seats h ks)) rows).1 (rw (asks_later ks later, asked, placed) (refl, refl))
-
-    -- the part of its subscriber does the action
-    to_part : (p : ℕ) → AreSeated h → given_number act ≡ None → is_in_range act ≡ true → place_of (s_id_of act) h.regions ≡ Some (place.Part p) → IsRouted event h (To p (jobs.Act act))
-    to_part p are gives fits placed = (
-      (let there = part_index (s_id_of act) p h.regions placed in part_low h are p there.0 there.1),
-      (placed, gives),
-      asked,
-      λ ks after answer later done.
-          (row_step event (store_in (with_seats h ks)) answer (store_in (with_seats h after)) rows).1
-          (rw (asks_later ks later, asked, done.is)
-          (acted_sent (with_seats h ks) (all_seated_later h ks are later) p done.index done.region done.lodged (record done.lodged { holding = done.holding })
-          (sym (get_or_from_slice_get ks done.index (Part done.lodged) (Part done.lodged) done.seat)) act placed answer gives fits done.done)),
-    )
-
-  -- so it is of the job that it asks for
   module _ (s_id : ℕ) where
+    -- the part of its subscriber does the job that it asks for
     pub job_to : (job : Job) → AsksFor (action_for event (book_in h.seats)) job → IsOn s_id job → (p : ℕ) → AreSeated h → place_of s_id h.regions ≡ Some (place.Part p) → IsRouted event h (To p job)
-    job_to (jobs.Act act) asks on p are placed = to_part act asks.0 p are asks.1.1 asks.2 (rw on at placed)
-    job_to (jobs.Post limit) asks on p are placed = absurd asks
+    job_to (jobs.Act act) asks on p are here =
+        let placed : place_of (s_id_of act) h.regions ≡ Some (place.Part p) = rw on at here in (
+          (let there = part_index (s_id_of act) p h.regions placed in part_low h are p there.0 there.1),
+          (placed, asks.1.1),
+          asks.0,
+          λ ks after answer later done.
+              (row_step event (store_in (with_seats h ks)) answer (store_in (with_seats h after)) rows).1
+              (rw (asks_later ks later, asks.0, done.is)
+              (acted_sent (with_seats h ks) (all_seated_later h ks are later) p done.index done.region done.lodged (record done.lodged { holding = done.holding })
+              (sym (get_or_from_slice_get ks done.index (Part done.lodged) (Part done.lodged) done.seat)) act placed answer asks.1.1 asks.2 done.done)),
+        )
+    job_to (jobs.Post limit) asks on p are here = absurd asks
 
+    -- its subscriber lies in a loose piece
     pub job_moving : (job : Job) → AsksFor (action_for event (book_in h.seats)) job → IsOn s_id job → (n : ℕ) → place_of s_id h.regions ≡ Some (place.Piece n) → IsRouted event h (Now (reply.Refused refusal.Moving))
-    job_moving (jobs.Act act) asks on n placed = now_moving act asks.0 n (rw on at placed)
-    job_moving (jobs.Post limit) asks on n placed = absurd asks
+    job_moving (jobs.Act act) asks on n here = λ ks later.
+        let placed : place_of (s_id_of act) h.regions ≡ Some (place.Piece n) = rw on at here in
+        (row_step event (store_in (with_seats h ks)) (reply.Refused refusal.Moving) (store_in (with_seats h ks)) rows).1 (rw (asks_later ks later, asks.0, placed) (refl, refl))
+    job_moving (jobs.Post limit) asks on n here = absurd asks
 
 -- a posting goes to its part, if there is such a part
 pub post_to : (h : Seating) (are : AreSeated h) (board : TableId) → AreDesks board h.spare (desks_in h.seats) → (p limit : ℕ) → p < length (parts_of h.regions)

@@ -6,7 +6,7 @@ use Rattle.tatp_rows.specs.Rows.{AccessInfoRow, SubscriberRow, is_between}
 use Rattle.tatp_rows.specs.declared.ranges.TheConstants.{LAST_SUBSCRIBER}
 use Rattle.tatp_rows.specs.declared.refusal.Refusal.{Refusal}
 use Rattle.tatp_rows.specs.declared.refusal.Refusal.TheVariants as refusal
-use Rattle.tatp_actions.specs.Action.{access_data, effect, is_in_range, subscriber_data}
+use Rattle.tatp_actions.specs.Action.{access_data, effect, is_in_range, subscriber_data, IsOutcome}
 use Rattle.tatp_actions.specs.Book.{IsWithin, access_at, subscriber_at}
 use Rattle.tatp_actions.specs.declared.action.Action.{Action}
 use Rattle.tatp_actions.specs.declared.action.Action.TheVariants as action
@@ -23,42 +23,24 @@ use Rattle.hlr_core.specs.declared.event.Reply.{Reply}
 use Rattle.hlr_core.specs.declared.event.Reply.TheVariants as reply
 
 -- what is asked for where fields are in range or not, and an action is wanted or none
-module _ (fits : Bool) (wanted : Option Action) where
-  pub refused_so : (why : Refusal) → IsAsked fits wanted (Err why) → checked fits wanted ≡ Err why
-  refused_so why asked = cases fits wanted asked
-    where
-      cases : (f : Bool) (w : Option Action) → IsAsked f w (Err why) → checked f w ≡ Err why
-      cases false w is = ap Err (sym is)
-      cases true None is = ap Err (sym is)
-      cases true (Some act) is = absurd is
+pub refused_so : (fits : Bool) (wanted : Option Action) (why : Refusal) → IsAsked fits wanted (Err why) → checked fits wanted ≡ Err why
+refused_so false wanted why is = ap Err (sym is)
+refused_so true None why is = ap Err (sym is)
+refused_so true (Some act) why is = absurd is
 
-  pub field_refused : (act : Action) → IsAsked fits wanted (Ok act) → is_in_range act ≡ false → checked fits wanted ≡ Err refusal.Field
-  field_refused act asked out = rw (asked.1 ∙ out) refl
-
-  pub asks_so : (act : Action) → IsAsked fits wanted (Ok act) → IsRowAction act → is_in_range act ≡ true → AsksFor (checked fits wanted) (job.Act act)
-  asks_so act asked row in_range = (rw (asked.1 ∙ in_range, asked.0) refl, row, in_range)
+pub asks_so : (fits : Bool) (wanted : Option Action) (act : Action) → IsAsked fits wanted (Ok act) → IsRowAction act → is_in_range act ≡ true → AsksFor (checked fits wanted) (job.Act act)
+asks_so fits wanted act asked row in_range = (rw (asked.1 ∙ in_range, asked.0) refl, row, in_range)
 
 -- what is read of a holding leaves it
 module _ (act : Action) (holding : HoldingState) (rules : IsHolding holding) where
+  kept_acted : (rows : RowReply) → IsOutcome act holding.part.book rows holding.part.book → IsActed act holding (reply_of rows) holding
+  kept_acted rows outcome = record { rows = rows; outcome = outcome; answered = refl; range = (refl, refl, refl); desk = (refl, refl); rules = rules }
+
   pub read_acted : (rows : RowReply) → is_in_range act ≡ true → effect act holding.part.book ≡ (rows, holding.part.book) → IsActed act holding (reply_of rows) holding
-  read_acted rows in_range does = record {
-    rows = rows;
-    outcome = inr (inl (in_range, sym does));
-    answered = refl;
-    range = (refl, refl, refl);
-    desk = (refl, refl);
-    rules = rules;
-  }
+  read_acted rows in_range does = kept_acted rows (inr (inl (in_range, sym does)))
 
   pub field_acted : is_in_range act ≡ false → IsActed act holding (reply.Refused refusal.Field) holding
-  field_acted out = record {
-    rows = row_reply.Refused refusal.Field;
-    outcome = inl (out, refl, refl);
-    answered = refl;
-    range = (refl, refl, refl);
-    desk = (refl, refl);
-    rules = rules;
-  }
+  field_acted out = kept_acted (row_reply.Refused refusal.Field) (inl (out, refl, refl))
 
 -- the subscriber of a holding's action is one of all
 pub held_fits : (holding : HoldingState) → IsHolding holding → (s_id : ℕ) → IsWithin holding.part.lo holding.part.hi s_id → is_between 1 LAST_SUBSCRIBER s_id ≡ true

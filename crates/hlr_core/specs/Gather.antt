@@ -1,5 +1,6 @@
 -- The numbers of what is brought home, and a right refusal of it.
-use Rattle.std.specs.Prelude.{◌≡◌, ◌⊎◌, List, [], ◌∷◌, ◌++◌, None, Some}
+use Rattle.std.specs.Prelude.{◌≡◌, ◌⊎◌, List, None, Some}
+use Rattle.std.specs.List.{flat_map}
 use Rattle.tatp_rows.specs.Rows.{SubscriberRow}
 use Rattle.tatp_rows.specs.declared.refusal.Refusal.{Refusal}
 use Rattle.tatp_rows.specs.declared.refusal.Refusal.TheVariants.{NumberTaken, Memory}
@@ -9,14 +10,9 @@ use Rattle.hlr_owners.specs.Scattered.{holdings_in, pieces_in, misfit_of}
 use Rattle.hlr_owners.specs.declared.scattered.Scattered.{Scattered}
 use Rattle.hlr_core.specs.Numbers.{HasNoTwin}
 
--- the rows of all in a list, one after another
-abbrev pub rows_of_each : {X : Type 0} → (X → List SubscriberRow) → List X → List SubscriberRow
-rows_of_each rows_in [] = []
-rows_of_each rows_in (x ∷ xs) = rows_in x ++ rows_of_each rows_in xs
-
 -- the Subscriber rows as they are handed in
 abbrev pub rows_of_all : List HoldingState → List PieceState → List SubscriberRow
-rows_of_all holdings pieces = rows_of_each (λ owner. owner.part.book.subscribers) (owners_of holdings pieces)
+rows_of_all holdings pieces = flat_map (λ owner. owner.part.book.subscribers) (owners_of holdings pieces)
 
 -- two of the rows have one number
 abbrev pub HasTwins : Scattered → Type 0

@@ -5,7 +5,8 @@ ghost use Rattle.tatp_rows.specs.Ordered.{IsOrderedBy};
 ghost use Rattle.tatp_rows.specs.Rows.{SubscriberRow};
 ghost use Rattle.tatp_actions.specs.Book.{first_subscriber};
 ghost use Rattle.hlr_core.specs.Inside.Noted.{AreNoted, HasTwin, IsIndexed};
-ghost use Rattle.hlr_core.specs.Gather.{HasTwins, rows_of_each};
+ghost use Rattle.std.specs.List.{flat_map};
+ghost use Rattle.hlr_core.specs.Gather.{HasTwins};
 
 use hlr_owners::Scattered;
 use holding::{Holding, Piece};
@@ -58,8 +59,8 @@ fn add_numbers_of_all<O: HasSubscribers>(
     index: &mut NumberIndex,
     owners: &[Box<O>],
 ) -> Result<(), Refusal>
-    ensures ok { OnOk result (AreNoted (rows_of_each (λ owner. O.rows_of owner.value) owners.now) index.old index.new) }
-    ensures err { IfErr result (λ why. ((why ≡ Refusal.NumberTaken) × HasTwin (rows_of_each (λ owner. O.rows_of owner.value) owners.now) index.old) ⊎ (why ≡ Refusal.Memory)) }
+    ensures ok { OnOk result (AreNoted (flat_map (λ owner. O.rows_of owner.value) owners.now) index.old index.new) }
+    ensures err { IfErr result (λ why. ((why ≡ Refusal.NumberTaken) × HasTwin (flat_map (λ owner. O.rows_of owner.value) owners.now) index.old) ⊎ (why ≡ Refusal.Memory)) }
 {
     for owner in owners {
         add_numbers_of::<O>(index, owner)?;

@@ -1,4 +1,4 @@
-use Rattle.std.proofs.Common.{arith}
+use Rattle.std.proofs.lemmas.List.{take_all}
 use Rattle.hlr_core.proofs.ManyLemmas.{one_access_within, one_more_taken}
 use Rattle.hlr_core.proofs.many.put_accesses.Goals as goal
 
@@ -9,4 +9,4 @@ loop-place-preserved c = record {
 }
 
 pub returns-clause-within : goal.returns-clause-within
-returns-clause-within c = λ done at a below. c.loop-place.invariant.within at a (omega (arith, c.loop-place-test.false, below))
+returns-clause-within c = λ done. rw (take_all c.loop-place.place c.args.asked.now c.loop-place-test.false) at c.loop-place.invariant.within

@@ -1,4 +1,4 @@
-use Rattle.std.proofs.Common.{arith}
+use Rattle.std.proofs.lemmas.List.{take_all}
 use Rattle.hlr_core.proofs.ManyLemmas.{one_call_within, one_more_call, one_more_id}
 use Rattle.hlr_core.proofs.many.put_calls.Goals as goal
 
@@ -13,4 +13,4 @@ loop-place-preserved c =
     }
 
 pub returns-clause-within : goal.returns-clause-within
-returns-clause-within c = λ done at q below. c.loop-place.invariant.within at q (omega (arith, c.loop-place-test.false, below))
+returns-clause-within c = λ done. rw (take_all c.loop-place.place c.args.asked.now c.loop-place-test.false) at c.loop-place.invariant.within

@@ -1,4 +1,5 @@
-use Rattle.std.proofs.Common.{◌≡◌, ◌+◌, ◌<◌, ℕ, get_or, map, take, true}
+use Rattle.std.proofs.Common.{◌≡◌, ◌+◌, ℕ, map, take, true}
+use Rattle.std.specs.List.{All}
 use Rattle.tatp_rows.specs.declared.ranges.TheConstants.{LAST_SUBSCRIBER}
 use Rattle.tatp_actions.specs.Action.{is_in_range}
 use Rattle.tatp_actions.specs.Book.{IsWithin}
@@ -9,5 +10,5 @@ abbrev pub invariant-loop-place : goal.invariant-loop-place
 invariant-loop-place l = record {
   same : l.calls.items ≡ take l.place l.asked;
   ids : l.s_ids.items ≡ map (λ (q : ℕ × ℕ × ℕ × ℕ). q.0) (take l.place l.asked);
-  within : (at : ℕ) (q : ℕ × ℕ × ℕ × ℕ) → at < l.place → IsWithin 1 (LAST_SUBSCRIBER + 1) (get_or l.asked at q).0 × (is_in_range (action.NewDestination (get_or l.asked at q).0 (get_or l.asked at q).1 (get_or l.asked at q).2 (get_or l.asked at q).3) ≡ true);
+  within : All (λ (q : ℕ × ℕ × ℕ × ℕ). IsWithin 1 (LAST_SUBSCRIBER + 1) q.0 × (is_in_range (action.NewDestination q.0 q.1 q.2 q.3) ≡ true)) (take l.place l.asked);
 }

@@ -1,8 +1,8 @@
 use Rattle.std.proofs.Common.{drop}
-use Rattle.hlr_core.specs.Gather.{rows_of_each}
+use Rattle.std.specs.List.{flat_map}
 use Rattle.hlr_core.proofs.NotedLemmas.{IsNoting}
 use Rattle.hlr_core.proofs.numbers.add_numbers_of_all.Given as goal
 
 abbrev pub invariant-loop-owner : goal.invariant-loop-owner
 invariant-loop-owner g l =
-    IsNoting (rows_of_each (λ owner. g.O.HasSubscribers.rows_of owner.value) (drop l.owner-index l.owners)) (rows_of_each (λ owner. g.O.HasSubscribers.rows_of owner.value) l.owners) l.fn.index l.index
+    IsNoting (flat_map (λ owner. g.O.HasSubscribers.rows_of owner.value) (drop l.owner-index l.owners)) (flat_map (λ owner. g.O.HasSubscribers.rows_of owner.value) l.owners) l.fn.index l.index

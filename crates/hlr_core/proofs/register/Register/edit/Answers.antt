@@ -1,7 +1,7 @@
 use Rattle.std.proofs.lemmas.Result.{err_from_is_err_and}
 use Rattle.tatp_actions.specs.Action.{done_reply}
 use Rattle.hlr_core.proofs.BesideLemmas.{asked_beside, unasked_beside}
-use Rattle.hlr_core.proofs.PairsLemmas.{answered_registered}
+use Rattle.hlr_core.proofs.LaterLemmas.{answered_registered}
 use Rattle.hlr_core.proofs.RegisterLemmas.{asked_step, edited_is, unasked_step}
 use Rattle.hlr_core.proofs.register.Register.edit.Goals as goal
 
