@@ -58,7 +58,7 @@ pub record IsBlankDesk (view : View) : Type 0 where
 pub record IsParted (at : ℕ) (before : HoldingState) (desk : Station) (new after : HoldingState) : Type 0 where
   pub given : IsGiven High at before (as_piece new) after
   pub counts : IsPiece (as_piece new)
-  pub seat : new.desk ≡ desk
+  pub own : new.desk ≡ desk
 
 -- a holding that was dissolved: the one in front of it took its rows, whose counts are pending there, and the desk that
 -- is left has taken back all that it had published

@@ -8,5 +8,5 @@ returns-in-Ok-fill-clause-parted c =
     record {
       given = c.in-Ok-fill.ensures.given;
       counts = c.in-Ok-fill.ensures.counts;
-      seat = c.fill.ensures.desk ∙ was ∙ c.in-Ok.ensures.desk;
+      own = c.fill.ensures.desk ∙ was ∙ c.in-Ok.ensures.desk;
     }
