@@ -1,6 +1,6 @@
 -- What is done to seats at home, done beside holdings that are out.
 use Rattle.std.proofs.Common.{◌≡◌, ◌∙◌, refl, ap, ℕ, List, get_or, set, true, Some, None}
-use Rattle.std.specs.Prelude.{Result, Ok, Err, position, insert, remove, Box, if◌then◌else◌}
+use Rattle.std.specs.Prelude.{Result, Ok, Err, position, Box, if◌then◌else◌}
 use Rattle.std.specs.declared.alloc.Global.{Global}
 use Rattle.atomic_table.specs.Seated.{TableId}
 use Rattle.tatp_rows.specs.declared.refusal.Refusal.{Refusal}
@@ -9,28 +9,22 @@ use Rattle.tatp_actions.specs.Action.{s_id_of, IsOutcome, is_in_range}
 use Rattle.tatp_actions.specs.declared.action.Action.{Action}
 use Rattle.tatp_actions.specs.declared.action.RowReply.{RowReply}
 use Rattle.tatp_actions.specs.declared.action.RowReply.TheVariants as row_reply
-use Rattle.part_table.specs.Give.{cut, give_answer, piece_index}
-use Rattle.part_table.specs.Region.{lies_in, is_part, is_piece}
-use Rattle.part_table.specs.Take.{joined, take_answer}
-use Rattle.part_table.specs.declared.region.Side.{Side}
-use Rattle.holding.specs.Held.{HoldingState, PieceState, IsHolding, IsPiece, count_of}
-use Rattle.holding.specs.Moved.{IsGiven, IsTaken}
+use Rattle.part_table.specs.Region.{lies_in, is_part}
+use Rattle.holding.specs.Held.{HoldingState, PieceState, IsHolding, count_of}
 use Rattle.holding.specs.Post as own
 use Rattle.hlr_owners.specs.Beside.{MayBecome, HasRowsBeside, IsAnsweredBeside, IsMovedBeside, IsPostedBeside}
 use Rattle.hlr_owners.specs.Desks.{AreDesks}
 use Rattle.hlr_owners.specs.Inside.{IsMovedAlone}
 use Rattle.hlr_owners.specs.Lodged.{Lodged}
 use Rattle.hlr_owners.specs.Out.{with_outs}
-use Rattle.hlr_owners.specs.Seats.{Seating, AreSeated, desks_in, taker}
+use Rattle.hlr_owners.specs.Seats.{Seating, AreSeated, desks_in}
 use Rattle.hlr_owners.specs.Store.{Store}
 use Rattle.hlr_owners.specs.declared.lodging.Seat.TheVariants.{Part, Piece}
-use Rattle.hlr_owners.proofs.EditLemmas.{given_store}
 use Rattle.hlr_owners.proofs.LendLemmas.{desks_later, seated_later}
 use Rattle.hlr_owners.proofs.ListingLemmas.{part_rows}
-use Rattle.hlr_owners.proofs.OutLemmas.{become_carried, outs-at, outs-insert, outs-remove, outs-set}
+use Rattle.hlr_owners.proofs.OutLemmas.{become_carried, outs-at, outs-set}
 use Rattle.hlr_owners.proofs.PostedLemmas.{none_posted, posted_right}
 use Rattle.hlr_owners.proofs.SeatLemmas.{parts-kept, acted_answer, piece_answer}
-use Rattle.hlr_owners.proofs.TakeLemmas.{taken_store}
 
 -- the seats with what the holdings that are out have become
 abbrev now : Seating → List HoldingState → Seating
@@ -70,26 +64,6 @@ posted_beside h are board rules p i index l is home m still limit posted lawful 
 
 pub none_posted_beside : (h : Seating) (are : AreSeated h) (p limit : ℕ) → position (is_part p) h.regions ≡ None → IsPostedBeside p limit h (Err refusal.NoPart) h
 none_posted_beside h are p limit none = λ ks become. none_posted (now h ks) (now_seated h ks are become) p limit none
-
--- a give
-pub given_beside : (h : Seating) (are : AreSeated h) (p : ℕ) (side : Side) (at : ℕ) (told : ℕ × ℕ × ℕ) (answer : give_answer p side at h.regions ≡ Ok told) (i : ℕ) (index : position (is_part p) h.regions ≡ Some i)
-    (l : Lodged) → Part l ≡ get_or h.seats i (Part l) → l.home ≡ true
-    → (m : Lodged) (b : Box PieceState Global) → IsGiven side at l.holding b.value m.holding → IsPiece b.value → IsHolding m.holding → m.home ≡ true
-    → IsMovedBeside h (record h { regions = cut p told.0 side at h.regions; seats = insert (set h.seats i (Part m)) (piece_index side i) (Piece b) })
-given_beside h are p side at told answer i index l is home m b parts piece kept still = λ ks become.
-    rw (outs-insert (set h.seats i (Part m)) ks (piece_index side i) b, outs-set h.seats ks i l m is still)
-    (given_store (now h ks) (now_seated h ks are become) p side at told answer i index l (outs-at h.seats ks i (Part l) is home) m b parts piece kept)
-
--- a take
-pub taken_beside : (h : Seating) (are : AreSeated h) (n q : ℕ) (side : Side) (j : ℕ) (index : position (is_piece n) h.regions ≡ Some j) (answer : take_answer n q h.regions ≡ Ok side)
-    (b : Box PieceState Global) → Piece b ≡ get_or h.seats j (Piece b) → (l : Lodged) → Part l ≡ get_or (remove h.seats j) (taker side j) (Part l) → l.home ≡ true
-    → (m : Lodged) → IsTaken l.holding b.value m.holding → IsHolding m.holding → m.home ≡ true
-    → IsMovedBeside h (record h { regions = joined n q h.regions; seats = set (remove h.seats j) (taker side j) (Part m) })
-taken_beside h are n q side j index answer b stood l is home m taken keeps still = λ ks become.
-    let left = outs-remove h.seats ks j b stood in
-    let there = rw left at (outs-at (remove h.seats j) ks (taker side j) (Part l) is home) in
-    rw (outs-set (remove h.seats j) ks (taker side j) l m is still, left)
-    (taken_store (now h ks) (now_seated h ks are become) n q side j index answer b (outs-at h.seats ks j (Piece b) stood refl) l there m taken keeps)
 
 -- one move after another
 pub moved_after : (a b c : Seating) → IsMovedAlone a b → IsMovedAlone b c → IsMovedAlone a c

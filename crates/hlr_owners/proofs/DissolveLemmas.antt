@@ -2,13 +2,13 @@
 use Rattle.std.proofs.Common.{◌≡◌, ◌∙◌, refl, sym, ap, ℕ, suc, ◌+◌, ◌-◌, ◌<◌, ◌≤◌, List, ◌∷◌, length, get_or, set, map, true, arith, Some}
 use Rattle.std.specs.Prelude.{Ok, position, insert, remove, option_map, slice_get, Box}
 use Rattle.std.specs.declared.alloc.Global.{Global}
-use Rattle.std.specs.List.{AllZip}
 use Rattle.std.proofs.lemmas.Option.{slice_get-map}
-use Rattle.std.proofs.lemmas.Slice.Zip.{AllZip-long}
 use Rattle.atomic_table.specs.Seated.{TableId}
 use Rattle.tatp_rows.proofs.PlaceLemmas.{each_at}
-use Rattle.part_table.specs.Dissolve.{dissolved, dissolve_answer}
+use Rattle.part_table.specs.Dissolve.{dissolved, dissolve_answer, place_lowered}
 use Rattle.part_table.specs.Region.{is_part}
+use Rattle.part_table.specs.declared.region.Place.{Place}
+use Rattle.part_table.specs.declared.region.Place.TheVariants as place
 use Rattle.part_table.specs.declared.region.Region.{Region}
 use Rattle.part_table.specs.declared.region.Side.TheVariants.{High}
 use Rattle.part_table.proofs.PlaceLemmas.{blank}
@@ -24,21 +24,25 @@ use Rattle.hlr_owners.specs.Lodged.{Lodged}
 use Rattle.hlr_owners.specs.Out.{out_of, with_outs}
 use Rattle.hlr_owners.specs.Parted.{words_back, IsDissolved, IsDissolvedBeside, IsWithout}
 use Rattle.hlr_owners.specs.Store.{slots_of}
-use Rattle.hlr_owners.specs.Seats.{owner_of, owners_in, book_in, desks_in, of_parts, store_in, IsSeat, IsHomeFrom, Seating, AreSeated}
+use Rattle.hlr_owners.specs.Seats.{book_in, desks_in, of_parts, store_in, IsKind, IsHomeFrom, Seating, AreSeated}
 use Rattle.hlr_owners.specs.declared.lodging.Seat.{Seat}
 use Rattle.hlr_owners.specs.declared.lodging.Seat.TheVariants.{Part, Piece}
-use Rattle.hlr_owners.proofs.HalvesLemmas.{HasRows}
+use Rattle.hlr_owners.proofs.HalvesLemmas.{merged_in}
 use Rattle.hlr_owners.proofs.HomeLemmas.{first_home, later_home}
 use Rattle.hlr_owners.proofs.IndexedLemmas.{set_same, put_back, other_left, both_edited, map-remove}
 use Rattle.hlr_owners.proofs.LendLemmas.{lodged_is, seated_later, desks_later}
 use Rattle.hlr_owners.proofs.OutLemmas.{none_out, outs-at, outs-set}
-use Rattle.hlr_owners.proofs.OwnerLemmas.{book_stays}
 use Rattle.hlr_owners.proofs.PartLemmas.{ahead, at_number, get_number, part_number_at, part_seat, part_sits, part_sits_there, part_is_home}
 use Rattle.hlr_owners.proofs.PartedDeskLemmas.{desks_dissolved, words_dissolved, seen_grows}
 use Rattle.hlr_owners.proofs.PutLemmas.{parts-remove_part, outs-remove_part, AreHomeFrom}
-use Rattle.hlr_owners.proofs.SeatLemmas.{part_kind, parts-kept, seated_rows, each_rows, rows_at, zip_owners}
-use Rattle.hlr_owners.proofs.TwoPartsLemmas.{lowered_seat, merged_owned, merged_rows}
+use Rattle.hlr_owners.proofs.SeatLemmas.{IsSeatIn, part_kind, parts-kept, placed_in, seated_rows, each_in, seats_in}
 use Rattle.hlr_owners.proofs.ZipLemmas.{zip_set, zip_remove}
+
+-- a region's place tells of a part that it is one, so its number may fall
+lowered_kind : (p : Place) (s : Seat) → IsKind p s → IsKind (place_lowered p) s
+lowered_kind (place.Part p) (Part l) kind = tt
+lowered_kind (place.Part p) (Piece b) kind = absurd kind
+lowered_kind (place.Piece n) s kind = kind
 
 -- the spare desk with the one that a holding leaves
 abbrev spare_with : Station → HoldingState → Station
@@ -76,20 +80,17 @@ module _ (h : Seating) (are : AreSeated h) (p : ℕ) (told : ℕ × ℕ × ℕ) 
     abbrev front : Region
     front = get_or h.regions (i - 1) blank
 
-    seat : IsSeat h.width part (Part l)
+    seat : IsSeatIn h.width (book_in h.seats) part (Part l)
     seat = part_seat h are p i index (Part l) is
 
-    front_seat : IsSeat h.width front (Part k)
+    front_seat : IsSeatIn h.width (book_in h.seats) front (Part k)
     front_seat = part_seat h are (p - 1) (i - 1) front_at (Part k) (stays (Part k) stood)
 
-    meets : front.hi ≡ part.lo
-    meets = ranges_meet p h.regions told dissolving are.are i index
-
     pub dissolver_width : k.holding.part.width ≡ l.holding.part.width
-    dissolver_width = front_seat.owner.zones ∙ sym seat.owner.zones
+    dissolver_width = front_seat.owner.is.zones ∙ sym seat.owner.is.zones
 
     pub dissolver_meets : k.holding.part.hi ≡ l.holding.part.lo
-    dissolver_meets = front_seat.owner.to ∙ meets ∙ sym seat.owner.from
+    dissolver_meets = front_seat.owner.is.to ∙ ranges_meet p h.regions told dissolving are.are i index ∙ sym seat.owner.is.from
 
     home_behind : IsHomeFrom (p - 1) h → IsHomeFrom p h
     home_behind home =
@@ -125,22 +126,6 @@ module _ (h : Seating) (are : AreSeated h) (p : ℕ) (told : ℕ × ℕ × ℕ) 
           parts-kept f (remove h.seats i) (i - 1) k m same stood
           ∙ (parts-remove_part f h.seats i l within is ∙ ap (remove (of_parts f h.seats)) (part_number_at h are p i index))
 
-      -- who is at home and who is out
-      house_without : (gone : HoldingState) → slice_get (desks_in h.seats) p ≡ Some gone.desk → IsLeastSlot gone.desk.view gone.slot
-          → ((w : ℕ) → get_or h.spare.view.seen w 0 ≤ get_or (spare_with h.spare gone).view.seen w 0) → k.home ≡ true → m.home ≡ true
-          → IsWithout p h (record { regions = dissolved p h.regions; seats = seats_without; spare = spare_with h.spare gone; width = h.width })
-      house_without gone there least seen was still = record {
-        homes = parts_without (λ (o : Lodged). o.home) (still ∙ sym was);
-        outs = parts_without out_of (none_out k m was still);
-        gone = gone.desk;
-        there = there;
-        slot = gone.slot;
-        least = least;
-        spare = refl;
-        seen = seen;
-        width = refl;
-      }
-
       -- and with what those that are out have become
       outs_without : (ks : List HoldingState) → IsHomeFrom (p - 1) h → m.home ≡ true → with_outs seats_without ks ≡ set (remove (with_outs h.seats ks) i) (i - 1) (Part m)
       outs_without ks home still =
@@ -149,30 +134,16 @@ module _ (h : Seating) (are : AreSeated h) (p : ℕ) (told : ℕ × ℕ × ℕ) 
 
     -- a part that was dissolved
     module _ (m : Lodged) (desk : Station) (merged : IsMerged k.holding l.holding desk m.holding) (kept : IsHolding m.holding) where
-      -- what holds of both together and of all others, whatever their numbers, holds of all
-      edit_zip : (P : Region → Seat → Type 0) → ((r : Region) (s : Seat) → P r s → P (region_lowered r) s) → AllZip P h.regions h.seats → P (both_ranges front part) (Part m) → AllZip P (dissolved p h.regions) (seats_without m)
-      edit_zip P lowers each one = rw (without_is m, dissolved_edit p h.regions i behind index)
-          (zip_remove P (set (anew_from region_lowered (i + 1) h.regions) (i - 1) (both_ranges front part)) (set h.seats (i - 1) (Part m)) i
-          (zip_set P (anew_from region_lowered (i + 1) h.regions) h.seats (i - 1) (both_ranges front part) (Part m) (zip_anew region_lowered P lowers (i + 1) h.regions h.seats each) one))
-
-      seats_dissolved : (spare : Station) → AreSeated (record { regions = dissolved p h.regions; seats = seats_without m; spare = spare; width = h.width })
-      seats_dissolved spare = record {
-        are = regions-dissolved p h.regions told dissolving are.are i index;
-        each = edit_zip (IsSeat h.width) (lowered_seat h.width) are.each
-            (record { kind = part_kind front.place k m front_seat.kind; owner = merged_owned h.width front part k.holding l.holding desk m.holding front_seat.owner seat.owner meets merged kept });
-        zones = are.zones;
-      }
-
-      book_dissolved : book_in (seats_without m) ≡ book_in h.seats
-      book_dissolved =
-          let long = AllZip-long (IsSeat h.width) h.regions h.seats are.each in
-          let there : i < length h.regions = omega (arith, within) in
-          let before : i - 1 < length h.regions = omega (arith, within) in
-          book_stays (dissolved p h.regions) (owners_in (seats_without m)) (book_in h.seats) (seated_rows h are) (regions-dissolved p h.regions told dissolving are.are i index).consecutive
-          (zip_owners (HasRows (book_in h.seats)) (dissolved p h.regions) (seats_without m)
-          (edit_zip (λ (r : Region) (s : Seat). HasRows (book_in h.seats) r (owner_of s)) (λ r s has. has) (each_rows h are)
-          (merged_rows h.width front part k.holding l.holding desk m.holding front_seat.owner seat.owner meets merged (book_in h.seats) (seated_rows h are)
-          (rows_at h are (i - 1) (Part k) (stays (Part k) stood) before) (rows_at h are i (Part l) is there))))
+      dissolved_seats : (spare : Station) → AreSeated (record { regions = dissolved p h.regions; seats = seats_without m; spare = spare; width = h.width }) × (book_in (seats_without m) ≡ book_in h.seats)
+      dissolved_seats spare =
+          seats_in h are (dissolved p h.regions) (seats_without m) spare (regions-dissolved p h.regions told dissolving are.are i index) (rw (without_is m, dissolved_edit p h.regions i behind index)
+          (zip_remove (IsSeatIn h.width (book_in h.seats)) (set (anew_from region_lowered (i + 1) h.regions) (i - 1) (both_ranges front part)) (set h.seats (i - 1) (Part m)) i
+          (zip_set (IsSeatIn h.width (book_in h.seats)) (anew_from region_lowered (i + 1) h.regions) h.seats (i - 1) (both_ranges front part) (Part m)
+          (zip_anew region_lowered (IsSeatIn h.width (book_in h.seats)) (λ r s in_r. placed_in h.width (book_in h.seats) r s (place_lowered r.place) (lowered_kind r.place s in_r.kind) in_r) (i + 1) h.regions h.seats (each_in h are))
+          (record {
+            kind = part_kind front.place k m front_seat.kind;
+            owner = merged_in h.width (book_in h.seats) front part k.holding l.holding desk m.holding (seated_rows h are) front_seat.owner seat.owner dissolver_meets merged kept;
+          }))))
 
       -- its slot is free
       module _ (board : TableId) (rules : AreDesks board h.spare (desks_in h.seats)) (lawful : IsHolding l.holding) where
@@ -195,7 +166,7 @@ module _ (h : Seating) (are : AreSeated h) (p : ℕ) (told : ℕ × ℕ × ℕ) 
 
         store_dissolved : IsDissolved p (Ok told) (store_in h) (store_in (record { regions = dissolved p h.regions; seats = seats_without m; spare = spare_with h.spare l.holding; width = h.width }))
         store_dissolved = (
-          rw (book_dissolved, left_words, left_slots) refl,
+          rw ((dissolved_seats (spare_with h.spare l.holding)).1, left_words, left_slots) refl,
           seen_grows board h.spare (desks_in h.seats) rules p l.holding.desk desk_at l.holding.slot lawful.slot,
         )
 
@@ -232,11 +203,20 @@ module _ (h : Seating) (are : AreSeated h) (p : ℕ) (told : ℕ × ℕ × ℕ) 
       let here = dissolved_home h are p told answer i index l is k stood home in
       let back = home_behind h are p told answer i index l is k stood home in
       rw now (record {
-        seated = seats_dissolved h are p told answer i index l is k stood m desk merged kept (spare_with h.spare l.holding);
+        seated = (dissolved_seats h are p told answer i index l is k stood m desk merged kept (spare_with h.spare l.holding)).0;
         desks = left_desks h are p told answer i index l is k stood m desk merged kept board rules lawful;
         store = store_dissolved h are p told answer i index l is k stood m desk merged kept board rules lawful;
-        house = house_without h are p told answer i index l is k stood m l.holding desk_there lawful.slot
-            (seen_grows board h.spare (desks_in h.seats) rules p l.holding.desk desk_there l.holding.slot lawful.slot) was still;
+        house = record {
+          homes = parts_without h are p told answer i index l is k stood m (λ (o : Lodged). o.home) (still ∙ sym was);
+          outs = parts_without h are p told answer i index l is k stood m out_of (none_out k m was still);
+          gone = l.holding.desk;
+          there = desk_there;
+          slot = l.holding.slot;
+          least = lawful.slot;
+          spare = refl;
+          seen = seen_grows board h.spare (desks_in h.seats) rules p l.holding.desk desk_there l.holding.slot lawful.slot;
+          width = refl;
+        };
         beside = λ ks become.
             let left = outs-remove_part h.seats ks i l (within h are p told answer i index) is (rw (part_number_at h are p i index) back) in
             rw (outs_without h are p told answer i index l is k stood m ks home still)

@@ -1,11 +1,12 @@
 -- A divide among all seats: the part's seat exchanged, and that of the new part put in behind it.
 use Rattle.std.proofs.Common.{◌≡◌, ◌∙◌, refl, sym, ap, ℕ, suc, ◌+◌, ◌<◌, ◌≤◌, List, [], ◌∷◌, length, get_or, set, map, true, arith, Some}
 use Rattle.std.specs.Prelude.{Ok, position, insert}
-use Rattle.std.specs.List.{AllZip}
 use Rattle.std.proofs.lemmas.Slice.Zip.{AllZip-long}
 use Rattle.atomic_table.specs.Seated.{TableId}
-use Rattle.part_table.specs.Divide.{divided, divide_answer}
+use Rattle.part_table.specs.Divide.{divided, divide_answer, place_raised}
 use Rattle.part_table.specs.Region.{is_part}
+use Rattle.part_table.specs.declared.region.Place.{Place}
+use Rattle.part_table.specs.declared.region.Place.TheVariants as place
 use Rattle.part_table.specs.declared.region.Region.{Region}
 use Rattle.part_table.proofs.PlaceLemmas.{blank}
 use Rattle.part_table.proofs.BehindLemmas.{anew_from, zip_anew}
@@ -20,21 +21,25 @@ use Rattle.hlr_owners.specs.Desks.{AreDesks, slots_in, words_of}
 use Rattle.hlr_owners.specs.Lodged.{Lodged}
 use Rattle.hlr_owners.specs.Out.{out_of, with_outs}
 use Rattle.hlr_owners.specs.Parted.{free_slot, IsDivided, IsDividedBeside, IsWithNew}
-use Rattle.hlr_owners.specs.Seats.{owner_of, owners_in, book_in, desks_in, of_parts, store_in, IsSeat, IsHomeFrom, Seating, AreSeated}
+use Rattle.hlr_owners.specs.Seats.{book_in, desks_in, of_parts, store_in, IsKind, IsSeat, IsHomeFrom, Seating, AreSeated}
 use Rattle.hlr_owners.specs.declared.lodging.Seat.{Seat}
-use Rattle.hlr_owners.specs.declared.lodging.Seat.TheVariants.{Part}
-use Rattle.hlr_owners.proofs.HalvesLemmas.{HasRows}
+use Rattle.hlr_owners.specs.declared.lodging.Seat.TheVariants.{Part, Piece}
+use Rattle.hlr_owners.proofs.HalvesLemmas.{parted_in}
 use Rattle.hlr_owners.proofs.HomeLemmas.{first_home, later_home}
 use Rattle.hlr_owners.proofs.IndexedLemmas.{map-insert}
 use Rattle.hlr_owners.proofs.LendLemmas.{seated_later, desks_later}
 use Rattle.hlr_owners.proofs.OutLemmas.{none_out, outs-at, outs-set}
-use Rattle.hlr_owners.proofs.OwnerLemmas.{book_stays}
 use Rattle.hlr_owners.proofs.PartLemmas.{ahead, at_number, count_parts, part_number_at, part_seat, part_sits_there, part_is_home}
 use Rattle.hlr_owners.proofs.PartedDeskLemmas.{desks_divided, words_divided, slots_new, free, rejoined}
 use Rattle.hlr_owners.proofs.PutLemmas.{ahead_behind, parts-insert_part, outs-insert_part, AreHomeFrom}
-use Rattle.hlr_owners.proofs.SeatLemmas.{part_kind, parts-kept, seated_rows, each_rows, rows_at, zip_owners}
-use Rattle.hlr_owners.proofs.TwoPartsLemmas.{raised_seat, parted_owned, parted_rows}
+use Rattle.hlr_owners.proofs.SeatLemmas.{IsSeatIn, part_kind, parts-kept, placed_in, each_in, seats_in}
 use Rattle.hlr_owners.proofs.ZipLemmas.{zip_set, zip_insert}
+
+-- a region's place tells of a part that it is one, so its number may rise
+raised_kind : (p : Place) (s : Seat) → IsKind p s → IsKind (place_raised p) s
+raised_kind (place.Part p) (Part l) kind = tt
+raised_kind (place.Part p) (Piece b) kind = absurd kind
+raised_kind (place.Piece n) s kind = kind
 
 module _ (h : Seating) (are : AreSeated h) (p at : ℕ) (told : ℕ × ℕ × ℕ) (answer : divide_answer p at h.regions ≡ Ok told) where
   dividing : IsDivide p at h.regions told
@@ -58,11 +63,11 @@ module _ (h : Seating) (are : AreSeated h) (p at : ℕ) (told : ℕ × ℕ × �
     within : i < length h.seats
     within = part_sits_there h are p i index
 
-    seat : IsSeat h.width region (Part l)
+    seat : IsSeatIn h.width (book_in h.seats) region (Part l)
     seat = part_seat h are p i index (Part l) is
 
     pub divider_inside : IsInside at l.holding.part
-    divider_inside = rw (seat.owner.from, seat.owner.to) (bound_inside p at h.regions told dividing are.are i index)
+    divider_inside = rw (seat.owner.is.from, seat.owner.is.to) (bound_inside p at h.regions told dividing are.are i index)
 
     pub divider_home : IsHomeFrom p h → l.home ≡ true
     divider_home home = part_is_home h are p i index l is (first_home p h home)
@@ -82,18 +87,6 @@ module _ (h : Seating) (are : AreSeated h) (p at : ℕ) (told : ℕ × ℕ × �
       parts_with : {X : Type 0} (f : Lodged → X) → f m ≡ f l → of_parts f seats_with ≡ insert (of_parts f h.seats) (p + 1) (f n)
       parts_with f same = parts-insert_part f (set h.seats i (Part m)) (i + 1) n ∙ rw (number_behind, parts-kept f h.seats i l m same is) refl
 
-      -- who is at home and who is out
-      house_with : (slot : ℕ) → IsLeastSlot h.spare.view slot → l.home ≡ true → m.home ≡ true → n.home ≡ true
-          → IsWithNew p h (record { regions = divided p at h.regions; seats = seats_with; spare = with_view h.spare (without h.spare.view slot); width = h.width })
-      house_with slot least was still new = record {
-        homes = parts_with (λ (o : Lodged). o.home) (still ∙ sym was) ∙ rw new refl;
-        outs = parts_with out_of (none_out l m was still) ∙ rw new refl;
-        slot = slot;
-        least = least;
-        spare = refl;
-        width = refl;
-      }
-
       -- and with what those that are out have become
       outs_with : (ks : List HoldingState) → IsHomeFrom p h → m.home ≡ true → n.home ≡ true → with_outs seats_with ks ≡ insert (set (with_outs h.seats ks) i (Part m)) (i + 1) (Part n)
       outs_with ks home still new =
@@ -105,30 +98,14 @@ module _ (h : Seating) (are : AreSeated h) (p at : ℕ) (told : ℕ × ℕ × �
 
     -- a part that was divided
     module _ (m n : Lodged) (desk : Station) (parted : IsParted at l.holding desk n.holding m.holding) (new : IsHolding n.holding) (kept : IsHolding m.holding) where
-      -- what holds of both halves and of all others, whatever their numbers, holds of all
-      edit_zip : (P : Region → Seat → Type 0) → ((r : Region) (s : Seat) → P r s → P (region_raised r) s) → AllZip P h.regions h.seats → P (low_half at region) (Part m) → P (high_half p at region) (Part n)
-          → AllZip P (divided p at h.regions) (seats_with m n)
-      edit_zip P raises each one other = rw (divided_edit p at h.regions i index)
-          (zip_insert P (set (anew_from region_raised (i + 1) h.regions) i (low_half at region)) (set h.seats i (Part m)) (i + 1) (high_half p at region) (Part n)
-          (zip_set P (anew_from region_raised (i + 1) h.regions) h.seats i (low_half at region) (Part m) (zip_anew region_raised P raises (i + 1) h.regions h.seats each) one) other)
-
-      seats_divided : (spare : Station) → AreSeated (record { regions = divided p at h.regions; seats = seats_with m n; spare = spare; width = h.width })
-      seats_divided spare =
-          let both = parted_owned h.width region at l.holding desk n.holding m.holding seat.owner parted p new kept in
-          record {
-            are = regions-divided p at h.regions told dividing are.are i index;
-            each = edit_zip (IsSeat h.width) (raised_seat h.width) are.each (record { kind = part_kind region.place l m seat.kind; owner = both.0 }) (record { kind = tt; owner = both.1 });
-            zones = are.zones;
-          }
-
-      book_divided : book_in (seats_with m n) ≡ book_in h.seats
-      book_divided =
-          let long = AllZip-long (IsSeat h.width) h.regions h.seats are.each in
-          let there : i < length h.regions = omega (arith, within) in
-          let both = parted_rows h.width region at l.holding desk n.holding m.holding seat.owner parted p (book_in h.seats) (rows_at h are i (Part l) is there) in
-          book_stays (divided p at h.regions) (owners_in (seats_with m n)) (book_in h.seats) (seated_rows h are) (regions-divided p at h.regions told dividing are.are i index).consecutive
-          (zip_owners (HasRows (book_in h.seats)) (divided p at h.regions) (seats_with m n)
-          (edit_zip (λ (r : Region) (s : Seat). HasRows (book_in h.seats) r (owner_of s)) (λ r s has. has) (each_rows h are) both.0 both.1))
+      divided_seats : (spare : Station) → AreSeated (record { regions = divided p at h.regions; seats = seats_with m n; spare = spare; width = h.width }) × (book_in (seats_with m n) ≡ book_in h.seats)
+      divided_seats spare =
+          let both = parted_in h.width (book_in h.seats) region l.holding seat.owner at m.holding kept p desk n.holding parted new in
+          seats_in h are (divided p at h.regions) (seats_with m n) spare (regions-divided p at h.regions told dividing are.are i index) (rw (divided_edit p at h.regions i index)
+          (zip_insert (IsSeatIn h.width (book_in h.seats)) (set (anew_from region_raised (i + 1) h.regions) i (low_half at region)) (set h.seats i (Part m)) (i + 1) (high_half p at region) (Part n)
+          (zip_set (IsSeatIn h.width (book_in h.seats)) (anew_from region_raised (i + 1) h.regions) h.seats i (low_half at region) (Part m)
+          (zip_anew region_raised (IsSeatIn h.width (book_in h.seats)) (λ r s in_r. placed_in h.width (book_in h.seats) r s (place_raised r.place) (raised_kind r.place s in_r.kind) in_r) (i + 1) h.regions h.seats (each_in h are))
+          (record { kind = part_kind region.place l m seat.kind; owner = both.0 })) (record { kind = tt; owner = both.1 })))
 
       -- the new part has the least slot that no part had
       module _ (board : TableId) (rules : AreDesks board h.spare (desks_in h.seats)) (slot : ℕ) (in_board : slot < SLOTS) (least : IsLeastSlot h.spare.view slot) (own : desk ≡ with_view h.spare (alone h.spare.view slot)) where
@@ -151,7 +128,7 @@ module _ (h : Seating) (are : AreSeated h) (p at : ℕ) (told : ℕ × ℕ × �
             (slots_new board h.spare (desks_in h.seats) rules slot in_board least ∙ ap (λ s. s ∷ []) (free board h.spare (desks_in h.seats) rules slot in_board least))
 
         store_divided : IsDivided p at (Ok told) (store_in h) (store_in (record { regions = divided p at h.regions; seats = seats_with m n; spare = with_view h.spare (without h.spare.view slot); width = h.width }))
-        store_divided = rw (book_divided, new_words, new_slots) refl
+        store_divided = rw ((divided_seats (with_view h.spare (without h.spare.view slot))).1, new_words, new_slots) refl
 
 -- what a divide leaves
 pub record LeavesDivided (board : TableId) (p at : ℕ) (told : ℕ × ℕ × ℕ) (before after : Seating) : Type 0 where
@@ -170,10 +147,17 @@ module _ (h : Seating) (are : AreSeated h) (p at : ℕ) (told : ℕ × ℕ × �
   all_divided m n desk parted new kept own home still at_home spare left =
       let was = divider_home h are p at told answer i index l is home in
       rw left (record {
-        seated = seats_divided h are p at told answer i index l is m n desk parted new kept (with_view h.spare (without h.spare.view slot));
+        seated = (divided_seats h are p at told answer i index l is m n desk parted new kept (with_view h.spare (without h.spare.view slot))).0;
         desks = new_desks h are p at told answer i index l is m n desk parted new kept board rules slot in_board least own;
         store = store_divided h are p at told answer i index l is m n desk parted new kept board rules slot in_board least own;
-        house = house_with h are p at told answer i index l is m n slot least was still at_home;
+        house = record {
+          homes = parts_with h are p at told answer i index l is m n (λ (o : Lodged). o.home) (still ∙ sym was) ∙ rw at_home refl;
+          outs = parts_with h are p at told answer i index l is m n out_of (none_out l m was still) ∙ rw at_home refl;
+          slot = slot;
+          least = least;
+          spare = refl;
+          width = refl;
+        };
         beside = λ ks become.
             rw (outs_with h are p at told answer i index l is m n ks home still at_home)
             (store_divided (record h { seats = with_outs h.seats ks }) (seated_later h (with_outs h.seats ks) are become) p at told answer i index l (outs-at h.seats ks i (Part l) is was) m n desk parted new kept

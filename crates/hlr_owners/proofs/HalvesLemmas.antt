@@ -1,46 +1,57 @@
--- One owner and its two halves, a piece and a part: their rules and their rows.
-use Rattle.std.proofs.Common.{◌≡◌, ℕ, ◌<◌, arith, sym, ◌∙◌, ap}
+-- A part cut in two, and two parts joined: their rules, and their rows in a book.
+use Rattle.std.proofs.Common.{inl, inr, ◌≡◌, ◌≢◌, ◌+◌, ◌∙◌, refl, sym, ap, ℕ, arith, true, false}
+use Rattle.std.specs.Prelude.{Some, None, ◌==◌}
+use Rattle.std.proofs.lemmas.Bool.Decides.{nat_tests}
+use Rattle.tatp_rows.proofs.OrderedLemmas.{by_test}
 use Rattle.tatp_actions.specs.Book.{Book, IsRowsOf, rows_between}
+use Rattle.tatp_actions.specs.Cut.{Touch}
 use Rattle.tatp_actions.specs.Joined.{join_books, cut_low, cut_high}
-use Rattle.tatp_actions.specs.Part.{IsPart}
+use Rattle.tatp_actions.specs.Part.{PartState, IsPart}
+use Rattle.tatp_actions.proofs.BetweenLemmas.{low_between, high_between}
 use Rattle.tatp_actions.proofs.CutLemmas.{cut_joined, cut_low_rows, cut_high_rows}
+use Rattle.part_table.proofs.DissolveLemmas.{both_ranges}
+use Rattle.part_table.proofs.DivideLemmas.{low_half, high_half}
 use Rattle.part_table.proofs.GivingLemmas.{part_half, piece_half}
 use Rattle.part_table.proofs.PairLemmas.{joint_region}
+use Rattle.part_table.specs.Take.{touching}
+use Rattle.part_table.specs.declared.region.Place.{Place}
+use Rattle.part_table.specs.declared.region.Place.TheVariants as place
 use Rattle.part_table.specs.declared.region.Region.{Region}
 use Rattle.part_table.specs.declared.region.Side.{Side}
 use Rattle.part_table.specs.declared.region.Side.TheVariants.{Low, High}
-use Rattle.hlr_owners.specs.Held.{Owner, IsLawful, IsOwner}
-use Rattle.tatp_actions.proofs.BetweenLemmas.{low_between, high_between}
 use Rattle.part_table.specs.declared.region.TheConstants.{END}
+use Rattle.view_board.specs.Desks.{Station}
+use Rattle.holding.specs.Held.{HoldingState, PieceState, IsHolding, IsPiece}
+use Rattle.holding.specs.Moved.{IsInside, IsGiven, IsTaken, IsParted, IsMerged, as_piece}
+use Rattle.hlr_owners.specs.Held.{Owner, of_holding, of_piece, IsLawful, IsOwner}
+use Rattle.hlr_owners.proofs.HeldLemmas.{holding_keeps, piece_keeps}
 use Rattle.hlr_owners.proofs.StretchLemmas.{between_inside, between_halves}
 
--- two owners whose ranges meet at a bound, and one that has the rows of both
-pub record AreHalves (at : ℕ) (whole low high : Owner) : Type 0 where
-  pub from : low.part.lo ≡ whole.part.lo
-  pub below : low.part.hi ≡ at
-  pub above : high.part.lo ≡ at
-  pub to : high.part.hi ≡ whole.part.hi
-  pub low_zones : low.part.width ≡ whole.part.width
-  pub high_zones : high.part.width ≡ whole.part.width
-  pub low_rules : IsPart low.part
-  pub high_rules : IsPart high.part
-  pub rows : join_books low.part.book high.part.book ≡ whole.part.book
+-- two parts whose ranges meet at a bound, and one that has the rows of both
+pub record AreHalves (at : ℕ) (whole low high : PartState) : Type 0 where
+  pub from : low.lo ≡ whole.lo
+  pub below : low.hi ≡ at
+  pub above : high.lo ≡ at
+  pub to : high.hi ≡ whole.hi
+  pub low_zones : low.width ≡ whole.width
+  pub high_zones : high.width ≡ whole.width
+  pub low_rules : IsPart low
+  pub high_rules : IsPart high
+  pub rows : join_books low.book high.book ≡ whole.book
 
-module _ (at : ℕ) (whole low high : Owner) (two : AreHalves at whole low high) where
-  -- the ranges of their rows
-  pub of_low : IsRowsOf low.part.lo at low.part.book
-  of_low = rw two.below at two.low_rules.rows
+-- what equal parts have
+fields : (p q : PartState) → p ≡ q → (p.lo ≡ q.lo) × (p.hi ≡ q.hi) × (p.width ≡ q.width) × (p.book ≡ q.book)
+fields p q same = (ap (λ (one : PartState). one.lo) same, ap (λ (one : PartState). one.hi) same, ap (λ (one : PartState). one.width) same, ap (λ (one : PartState). one.book) same)
 
-  pub of_high : IsRowsOf at high.part.hi high.part.book
-  of_high = rw two.above at two.high_rules.rows
-
--- an owner cut at a bound inside its range
-pub cut_halves : (at : ℕ) (whole low high : Owner) → whole.part.lo < at → at < whole.part.hi → IsPart whole.part
-    → (low.part.lo ≡ whole.part.lo) × (low.part.hi ≡ at) × (low.part.width ≡ whole.part.width) × (low.part.book ≡ cut_low at whole.part.book)
-    → (high.part.lo ≡ at) × (high.part.hi ≡ whole.part.hi) × (high.part.width ≡ whole.part.width) × (high.part.book ≡ cut_high at whole.part.book)
+-- a part cut at a bound inside its range
+cut_halves : (at : ℕ) (whole low high : PartState) → IsInside at whole → IsPart whole
+    → (low.lo ≡ whole.lo) × (low.hi ≡ at) × (low.width ≡ whole.width) × (low.book ≡ cut_low at whole.book)
+    → (high.lo ≡ at) × (high.hi ≡ whole.hi) × (high.width ≡ whole.width) × (high.book ≡ cut_high at whole.book)
     → AreHalves at whole low high
-cut_halves at whole low high above below rules is_low is_high =
+cut_halves at whole low high inside rules is_low is_high =
     let range = rules.range in
+    let above = inside.0 in
+    let below = inside.1 in
     record {
       from = is_low.0;
       below = is_low.1;
@@ -51,105 +62,163 @@ cut_halves at whole low high above below rules is_low is_high =
       low_rules = record {
         range = rw (is_low.0, is_low.1) (omega arith, above, omega arith);
         width = rw is_low.2 rules.width;
-        rows = rw (is_low.0, is_low.1, is_low.3) (cut_low_rows whole.part.lo at whole.part.hi whole.part.book rules.rows);
+        rows = rw (is_low.0, is_low.1, is_low.3) (cut_low_rows whole.lo at whole.hi whole.book rules.rows);
       };
       high_rules = record {
         range = rw (is_high.0, is_high.1) (omega arith, below, omega arith);
         width = rw is_high.2 rules.width;
-        rows = rw (is_high.0, is_high.1, is_high.3) (cut_high_rows whole.part.lo at whole.part.hi whole.part.book rules.rows);
+        rows = rw (is_high.0, is_high.1, is_high.3) (cut_high_rows whole.lo at whole.hi whole.book rules.rows);
       };
-      rows = rw (is_low.3, is_high.3) (cut_joined at whole.part.book rules.rows.rules);
+      rows = rw (is_low.3, is_high.3) (cut_joined at whole.book rules.rows.rules);
     }
 
--- two owners joined where their ranges meet
-pub meld_halves : (at : ℕ) (whole low high : Owner) → IsPart low.part → IsPart high.part → low.part.hi ≡ at → high.part.lo ≡ at
-    → (low.part.width ≡ whole.part.width) × (high.part.width ≡ whole.part.width)
-    → (whole.part.lo ≡ low.part.lo) × (whole.part.hi ≡ high.part.hi) × (whole.part.book ≡ join_books low.part.book high.part.book)
-    → AreHalves at whole low high
-meld_halves at whole low high is_low is_high below above zones is = record {
-  from = sym is.0;
-  below = below;
-  above = above;
-  to = sym is.1;
-  low_zones = zones.0;
-  high_zones = zones.1;
-  low_rules = is_low;
-  high_rules = is_high;
-  rows = sym is.2;
-}
-
 -- the halves are a piece on one side of the bound, and a part
-abbrev pub AreSides : Side → ℕ → Owner → Owner → Owner → Type 0
+abbrev AreSides : Side → ℕ → PartState → PartState → PartState → Type 0
 AreSides Low at whole piece part = AreHalves at whole piece part
 AreSides High at whole piece part = AreHalves at whole part piece
 
--- each of them keeps the rules beside its half of the region
-pub halves_owned : (width : ℕ) (region : Region) (n : ℕ) (side : Side) (at : ℕ) (owner given kept : Owner) → IsOwner width region owner
-    → AreSides side at owner given kept → IsLawful given → IsLawful kept → IsOwner width (part_half side at region) kept × IsOwner width (piece_half n side at region) given
-halves_owned width region n Low at owner given kept is two of_given of_kept = (
-  record { from = two.above; to = two.to ∙ is.to; zones = two.high_zones ∙ is.zones; keeps = of_kept },
-  record { from = two.from ∙ is.from; to = two.below; zones = two.low_zones ∙ is.zones; keeps = of_given },
-)
-halves_owned width region n High at owner given kept is two of_given of_kept = (
-  record { from = two.from ∙ is.from; to = two.below; zones = two.low_zones ∙ is.zones; keeps = of_kept },
-  record { from = two.above; to = two.to ∙ is.to; zones = two.high_zones ∙ is.zones; keeps = of_given },
-)
+-- what was given and what is left are the two sides of a bound
+given_sides : (side : Side) (at : ℕ) (before : HoldingState) (given : PieceState) (after : HoldingState) → IsPart before.part → IsGiven side at before given after → AreSides side at before.part given.part after.part
+given_sides Low at before given after rules is = cut_halves at before.part given.part after.part is.inside rules (fields _ _ is.given) (fields _ _ is.kept)
+given_sides High at before given after rules is = cut_halves at before.part after.part given.part is.inside rules (fields _ _ is.kept) (fields _ _ is.given)
 
--- a part that took a piece keeps the rules beside the region of both
-pub joint_owned : (width : ℕ) (first second : Region) (side : Side) (at : ℕ) (piece part whole : Owner) → IsOwner width first piece → IsOwner width second part
-    → AreSides side at whole piece part → IsLawful whole → IsOwner width (joint_region side first second) whole
-joint_owned width first second Low at piece part whole is_piece is_part two keeps =
-    record { from = sym two.from ∙ is_piece.from; to = sym two.to ∙ is_part.to; zones = sym two.high_zones ∙ is_part.zones; keeps = keeps }
-joint_owned width first second High at piece part whole is_piece is_part two keeps =
-    record { from = sym two.from ∙ is_part.from; to = sym two.to ∙ is_piece.to; zones = sym two.low_zones ∙ is_part.zones; keeps = keeps }
+-- where a piece on one side of a part meets it
+abbrev pub Meets : Side → PartState → PartState → Type 0
+Meets Low piece part = piece.hi ≡ part.lo
+Meets High piece part = part.hi ≡ piece.lo
+
+-- so it is where their regions touch
+pub meets_from : (side : Side) (first second : Region) (piece part : PartState) → (piece.lo ≡ first.lo) × (piece.hi ≡ first.hi) → (part.lo ≡ second.lo) × (part.hi ≡ second.hi) → touching first second ≡ Some side → Meets side piece part
+meets_from Low first second piece part one other touch =
+    by_test (first.hi == second.lo)
+    (λ e. let meet : first.hi ≡ second.lo = grind (arith, nat_tests) in one.1 ∙ meet ∙ sym other.0)
+    (λ e. by_test (second.hi == first.lo)
+    (λ f. let no : Some High ≡ Some Low = rw (e, f) at touch in absurd cc)
+    (λ f. let no : None ≡ Some Low = rw (e, f) at touch in absurd cc))
+meets_from High first second piece part one other touch =
+    by_test (first.hi == second.lo)
+    (λ e. let no : Some Low ≡ Some High = rw e at touch in absurd cc)
+    (λ e. by_test (second.hi == first.lo)
+    (λ f. let meet : second.hi ≡ first.lo = grind (arith, nat_tests) in other.1 ∙ meet ∙ sym one.0)
+    (λ f. let no : None ≡ Some High = rw (e, f) at touch in absurd cc))
+
+pub meets_touch : (side : Side) (piece part : PartState) → Meets side piece part → Touch part piece
+meets_touch Low piece part meets = inr meets
+meets_touch High piece part meets = inl meets
+
+-- the bound where they meet
+abbrev bound_of : Side → PartState → ℕ
+bound_of Low piece = piece.hi
+bound_of High piece = piece.lo
+
+-- a piece that was taken and the part as it was are the two sides of that bound
+taken_sides : (side : Side) (piece : PieceState) (before after : HoldingState) → IsPart piece.part → IsPart before.part → piece.part.width ≡ before.part.width → Meets side piece.part before.part → IsTaken before piece after
+    → AreSides side (bound_of side piece.part) after.part piece.part before.part
+taken_sides Low piece before after is_piece is_part zones meets is =
+    let range = is_piece.range in
+    let range' = is_part.range in
+    let differ : before.part.hi ≢ piece.part.lo = omega arith in
+    let e : (before.part.hi == piece.part.lo) ≡ false = grind (arith, nat_tests) in
+    let whole = fields _ _ (rw e at is.whole) in
+    record { from = sym whole.0; below = refl; above = sym meets; to = sym whole.1; low_zones = zones ∙ sym whole.2; high_zones = sym whole.2; low_rules = is_piece; high_rules = is_part; rows = sym whole.3 }
+taken_sides High piece before after is_piece is_part zones meets is =
+    let e : (before.part.hi == piece.part.lo) ≡ true = grind (arith, nat_tests) in
+    let whole = fields _ _ (rw e at is.whole) in
+    record { from = sym whole.0; below = meets; above = refl; to = sym whole.1; low_zones = sym whole.2; high_zones = zones ∙ sym whole.2; low_rules = is_part; high_rules = is_piece; rows = sym whole.3 }
 
 -- an owner's rows are those of its region in a book
 abbrev pub HasRows : Book → Region → Owner → Type 0
 HasRows book region owner = rows_between region.lo region.hi book ≡ owner.part.book
 
--- the halves of an owner have the rows of the halves of its region
-pub two_rows : (region : Region) (at : ℕ) (owner low high : Owner) (book : Book) → HasRows book region owner → owner.part.lo ≡ region.lo → owner.part.hi ≡ region.hi → AreHalves at owner low high
-    → (rows_between region.lo at book ≡ low.part.book) × (rows_between at region.hi book ≡ high.part.book)
-two_rows region at owner low high book has from to two =
+-- an owner that keeps the rules beside a region, and has its rows
+pub record IsOwnerIn (width : ℕ) (book : Book) (region : Region) (owner : Owner) : Type 0 where
+  pub is : IsOwner width region owner
+  pub has : HasRows book region owner
+
+-- the halves have the rows of the halves of a region
+two_rows : (region : Region) (at : ℕ) (whole low high : PartState) (book : Book) → rows_between region.lo region.hi book ≡ whole.book → whole.lo ≡ region.lo → whole.hi ≡ region.hi → AreHalves at whole low high
+    → (rows_between region.lo at book ≡ low.book) × (rows_between at region.hi book ≡ high.book)
+two_rows region at whole low high book has from to two =
     let low_range = two.low_rules.range in
     let high_range = two.high_rules.range in
-    let begins = two.from in
-    let ends = two.to in
     let below = two.below in
     let above = two.above in
-    let whole : rows_between region.lo region.hi book ≡ join_books low.part.book high.part.book = has ∙ sym two.rows in
-    let one = low_between low.part.lo at high.part.hi low.part.book high.part.book (of_low at owner low high two) (of_high at owner low high two) in
-    let other = high_between low.part.lo at high.part.hi low.part.book high.part.book (of_low at owner low high two) (of_high at owner low high two) in
-    let same_lo : low.part.lo ≡ region.lo = begins ∙ from in
-    let same_hi : high.part.hi ≡ region.hi = ends ∙ to in (
-      sym (between_inside region.lo region.lo at region.hi book (omega arith) (omega arith)) ∙ ap (λ (b : Book). rows_between region.lo at b) whole ∙ rw same_lo at one,
-      sym (between_inside region.lo at region.hi region.hi book (omega arith) (omega arith)) ∙ ap (λ (b : Book). rows_between at region.hi b) whole ∙ rw same_hi at other,
+    let of_low : IsRowsOf low.lo at low.book = rw two.below at two.low_rules.rows in
+    let of_high : IsRowsOf at high.hi high.book = rw two.above at two.high_rules.rows in
+    let rows : rows_between region.lo region.hi book ≡ join_books low.book high.book = has ∙ sym two.rows in
+    let same_lo : low.lo ≡ region.lo = two.from ∙ from in
+    let same_hi : high.hi ≡ region.hi = two.to ∙ to in (
+      sym (between_inside region.lo region.lo at region.hi book (omega arith) (omega arith)) ∙ ap (λ (b : Book). rows_between region.lo at b) rows ∙ rw same_lo at (low_between low.lo at high.hi low.book high.book of_low of_high),
+      sym (between_inside region.lo at region.hi region.hi book (omega arith) (omega arith)) ∙ ap (λ (b : Book). rows_between at region.hi b) rows ∙ rw same_hi at (high_between low.lo at high.hi low.book high.book of_low of_high),
     )
 
-pub halves_rows : (region : Region) (n : ℕ) (side : Side) (at : ℕ) (owner given kept : Owner) (book : Book) → HasRows book region owner → owner.part.lo ≡ region.lo → owner.part.hi ≡ region.hi
-    → AreSides side at owner given kept → HasRows book (part_half side at region) kept × HasRows book (piece_half n side at region) given
-halves_rows region n Low at owner given kept book has from to two = let both = two_rows region at owner given kept book has from to two in (both.1, both.0)
-halves_rows region n High at owner given kept book has from to two = let both = two_rows region at owner kept given book has from to two in (both.0, both.1)
+module _ (width : ℕ) (book : Book) (at : ℕ) where
+  -- each half of an owner has its half of the region
+  module _ (region : Region) (whole : Owner) (owned : IsOwnerIn width book region whole) where
+    low_in : (low : Owner) (high : PartState) → AreHalves at whole.part low.part high → IsLawful low → (q : Place) → IsOwnerIn width book (record { lo = region.lo; hi = at; place = q }) low
+    low_in low high two keeps q = record {
+      is = record { from = two.from ∙ owned.is.from; to = two.below; zones = two.low_zones ∙ owned.is.zones; keeps = keeps };
+      has = (two_rows region at whole.part low.part high book owned.has owned.is.from owned.is.to two).0;
+    }
 
--- a part that took a piece has the rows of the region of both
-pub two_regions : (width : ℕ) (first second : Region) (at : ℕ) (low high whole : Owner) (book : Book) → IsRowsOf 1 END book → IsOwner width first low → IsOwner width second high
-    → HasRows book first low → HasRows book second high → AreHalves at whole low high → rows_between first.lo second.hi book ≡ whole.part.book
-two_regions width first second at low high whole book rows is_low is_high of_first of_second both =
-    let from = is_low.from in
-    let ends = is_low.to in
-    let begins = is_high.from in
-    let to = is_high.to in
-    let below = both.below in
-    let above = both.above in
-    let low_range = is_low.keeps.rules.range in
-    let high_range = is_high.keeps.rules.range in
-    let meets : first.hi ≡ second.lo = sym ends ∙ below ∙ sym above ∙ begins in
-    let behind : rows_between first.hi second.hi book ≡ high.part.book = rw (← meets) at of_second in
-    sym (between_halves 1 END book rows first.lo first.hi second.hi (omega arith) (omega arith) (omega arith) (omega arith))
-    ∙ ap (λ (b : Book). join_books b (rows_between first.hi second.hi book)) of_first ∙ ap (λ (b : Book). join_books low.part.book b) behind ∙ both.rows
+    high_in : (low : PartState) (high : Owner) → AreHalves at whole.part low high.part → IsLawful high → (q : Place) → IsOwnerIn width book (record { lo = at; hi = region.hi; place = q }) high
+    high_in low high two keeps q = record {
+      is = record { from = two.above; to = two.to ∙ owned.is.to; zones = two.high_zones ∙ owned.is.zones; keeps = keeps };
+      has = (two_rows region at whole.part low high.part book owned.has owned.is.from owned.is.to two).1;
+    }
 
-pub joint_rows : (width : ℕ) (first second : Region) (side : Side) (at : ℕ) (piece part whole : Owner) (book : Book) → IsRowsOf 1 END book
-    → IsOwner width first piece → IsOwner width second part → HasRows book first piece → HasRows book second part → AreSides side at whole piece part
-    → HasRows book (joint_region side first second) whole
-joint_rows width first second Low at piece part whole book rows is_piece is_part of_first of_second two = two_regions width first second at piece part whole book rows is_piece is_part of_first of_second two
-joint_rows width first second High at piece part whole book rows is_piece is_part of_first of_second two = two_regions width second first at part piece whole book rows is_part is_piece of_second of_first two
+  -- an owner of both has the regions of both
+  both_in : (first second : Region) (low high whole : Owner) → IsRowsOf 1 END book → IsOwnerIn width book first low → IsOwnerIn width book second high → AreHalves at whole.part low.part high.part → IsLawful whole
+      → (q : Place) → IsOwnerIn width book (record { lo = first.lo; hi = second.hi; place = q }) whole
+  both_in first second low high whole rows is_low is_high both keeps q =
+      let from = is_low.is.from in
+      let ends = is_low.is.to in
+      let begins = is_high.is.from in
+      let to = is_high.is.to in
+      let below = both.below in
+      let above = both.above in
+      let low_range = both.low_rules.range in
+      let high_range = both.high_rules.range in
+      let meets : first.hi ≡ second.lo = sym ends ∙ below ∙ sym above ∙ begins in
+      let behind : rows_between first.hi second.hi book ≡ high.part.book = rw (← meets) at is_high.has in
+      record {
+        is = record { from = sym both.from ∙ from; to = sym both.to ∙ to; zones = sym both.low_zones ∙ is_low.is.zones; keeps = keeps };
+        has = sym (between_halves 1 END book rows first.lo first.hi second.hi (omega arith) (omega arith) (omega arith) (omega arith))
+            ∙ ap (λ (b : Book). join_books b (rows_between first.hi second.hi book)) is_low.has ∙ ap (λ (b : Book). join_books low.part.book b) behind ∙ both.rows;
+      }
+
+module _ (width : ℕ) (book : Book) where
+  module _ (region : Region) (before : HoldingState) (owned : IsOwnerIn width book region (of_holding before)) (at : ℕ) (after : HoldingState) (kept : IsHolding after) where
+    -- a part that gave a piece away, and the piece
+    pub given_in : (n : ℕ) (side : Side) (given : PieceState) → IsGiven side at before given after → IsPiece given
+        → IsOwnerIn width book (part_half side at region) (of_holding after) × IsOwnerIn width book (piece_half n side at region) (of_piece given)
+    given_in n Low given is piece =
+        let two = given_sides Low at before given after owned.is.keeps.rules is in
+        (high_in width book at region (of_holding before) owned given.part (of_holding after) two (holding_keeps after kept) region.place, low_in width book at region (of_holding before) owned (of_piece given) after.part two (piece_keeps given piece) (place.Piece n))
+    given_in n High given is piece =
+        let two = given_sides High at before given after owned.is.keeps.rules is in
+        (low_in width book at region (of_holding before) owned (of_holding after) given.part two (holding_keeps after kept) region.place, high_in width book at region (of_holding before) owned after.part (of_piece given) two (piece_keeps given piece) (place.Piece n))
+
+    -- a part that was divided, and the new part
+    pub parted_in : (p : ℕ) (desk : Station) (new : HoldingState) → IsParted at before desk new after → IsHolding new
+        → IsOwnerIn width book (low_half at region) (of_holding after) × IsOwnerIn width book (high_half p at region) (of_holding new)
+    parted_in p desk new is is_new =
+        let two = given_sides High at before (as_piece new) after owned.is.keeps.rules is.given in
+        (low_in width book at region (of_holding before) owned (of_holding after) new.part two (holding_keeps after kept) region.place, high_in width book at region (of_holding before) owned after.part (of_holding new) two (holding_keeps new is_new) (place.Part (p + 1)))
+
+  -- a part that took a piece
+  pub taken_in : (first second : Region) (side : Side) (piece : PieceState) (before after : HoldingState) → IsRowsOf 1 END book → IsOwnerIn width book first (of_piece piece) → IsOwnerIn width book second (of_holding before)
+      → Meets side piece.part before.part → IsTaken before piece after → IsHolding after → IsOwnerIn width book (joint_region side first second) (of_holding after)
+  taken_in first second Low piece before after rows one other meets is keeps =
+      both_in width book piece.part.hi first second (of_piece piece) (of_holding before) (of_holding after) rows one other
+      (taken_sides Low piece before after one.is.keeps.rules other.is.keeps.rules (one.is.zones ∙ sym other.is.zones) meets is) (holding_keeps after keeps) second.place
+  taken_in first second High piece before after rows one other meets is keeps =
+      both_in width book piece.part.lo second first (of_holding before) (of_piece piece) (of_holding after) rows other one
+      (taken_sides High piece before after one.is.keeps.rules other.is.keeps.rules (one.is.zones ∙ sym other.is.zones) meets is) (holding_keeps after keeps) second.place
+
+  -- a part with the rows of the one behind it
+  pub merged_in : (front part : Region) (before gone : HoldingState) (desk : Station) (after : HoldingState) → IsRowsOf 1 END book → IsOwnerIn width book front (of_holding before) → IsOwnerIn width book part (of_holding gone)
+      → before.part.hi ≡ gone.part.lo → IsMerged before gone desk after → IsHolding after → IsOwnerIn width book (both_ranges front part) (of_holding after)
+  merged_in front part before gone desk after rows one other meets is keeps =
+      both_in width book gone.part.lo front part (of_holding before) (of_holding gone) (of_holding after) rows one other
+      (taken_sides High (record { part = gone.part; pending = is.counts }) before after other.is.keeps.rules one.is.keeps.rules (other.is.zones ∙ sym one.is.zones) meets is.taken) (holding_keeps after keeps) front.place

@@ -9,7 +9,6 @@ pub mod DissolveLemmas
 pub mod DivideLemmas
 pub mod EditLemmas
 pub mod FreeSlotLemmas
-pub mod GiveTakeLemmas
 pub mod HalvesLemmas
 pub mod HeldLemmas
 pub mod HomeLemmas
@@ -41,5 +40,4 @@ pub mod SightLemmas
 pub mod StretchLemmas
 pub mod SumLemmas
 pub mod TakeLemmas
-pub mod TwoPartsLemmas
 pub mod ZipLemmas

@@ -24,7 +24,7 @@ use Rattle.hlr_owners.specs.Store.{Store}
 use Rattle.hlr_owners.specs.declared.lodging.Seat.{Seat}
 use Rattle.hlr_owners.specs.declared.lodging.Seat.TheVariants.{Part}
 use Rattle.hlr_owners.proofs.OwnerLemmas.{lies_within}
-use Rattle.hlr_owners.proofs.SeatLemmas.{part_not_loose, read_answer, rows_at, seated_rows}
+use Rattle.hlr_owners.proofs.SeatLemmas.{part_not_loose, read_answer, seat_in, seated_rows}
 
 -- a row stands at a key among those that pass a test as it does among all, where each row at the key passes
 kept_at : {X : Type 0} (key : X → ℕ) (test : X → Bool) (k : ℕ) (rows : List X) → AllByRecursion (λ row. key row ≡ k → test row ≡ true) rows → row_at key k (filter test rows) ≡ row_at key k rows
@@ -65,7 +65,7 @@ module _ (h : Seating) (are : AreSeated h) (s_id i : ℕ) (at : position (lies_i
   here = position-Some (lies_in s_id) h.regions i blank at
 
   own : rows_between region.lo region.hi (book_in h.seats) ≡ l.holding.part.book
-  own = rows_at h are i (Part l) is here.0
+  own = (seat_in h are i (Part l) is here.0).owner.has
 
   pub part_rows : HasRowsOf s_id (store_in h) l.holding
   part_rows = record {

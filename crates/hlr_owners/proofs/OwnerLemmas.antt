@@ -16,6 +16,7 @@ use Rattle.part_table.specs.declared.region.TheConstants.{END}
 use Rattle.hlr_owners.proofs.StretchLemmas.{between_none, between_halves}
 use Rattle.hlr_owners.proofs.HeldLemmas.{empty_rows}
 use Rattle.hlr_owners.proofs.HalvesLemmas.{HasRows}
+use Rattle.hlr_owners.proofs.ZipLemmas.{zip_weaker}
 
 -- the rows of all owners, in their order
 abbrev pub book_of_owners : List Owner → Book
@@ -37,13 +38,6 @@ owner_rows width from (region ∷ regions) (owner ∷ owners) each consecutive =
     let end = within region.hi regions consecutive.2 in
     let own : IsRowsOf region.lo region.hi owner.part.book = own_region width region owner each.0 in
     rw (← begins) (rows_joined region.lo region.hi END owner.part.book (book_of_owners owners) own (owner_rows width region.hi regions owners each.1 consecutive.2) (omega arith) end)
-
--- a fact of each pair from another one
-pub zip_weaker : {A B : Type 0} {P Q : A → B → Type 0} → ((x : A) (y : B) → P x y → Q x y) → (xs : List A) (ys : List B) → AllZip P xs ys → AllZip Q xs ys
-zip_weaker weaker [] [] each = tt
-zip_weaker weaker [] (y ∷ ys) each = absurd each
-zip_weaker weaker (x ∷ xs) [] each = absurd each
-zip_weaker weaker (x ∷ xs) (y ∷ ys) each = (weaker x y each.0, zip_weaker weaker xs ys each.1)
 
 -- a region behind a number
 abbrev IsBehind : ℕ → Region → Type 0

@@ -19,10 +19,10 @@ use Rattle.part_table.proofs.IndexLemmas.{part_has, past_parts}
 use Rattle.part_table.proofs.PlaceLemmas.{blank}
 use Rattle.holding.specs.Held.{PieceState}
 use Rattle.hlr_owners.specs.Lodged.{Lodged}
-use Rattle.hlr_owners.specs.Seats.{of_part, of_parts, homes_in, IsKind, IsSeat, Seating, AreSeated, IsPartHome}
+use Rattle.hlr_owners.specs.Seats.{book_in, of_part, of_parts, homes_in, IsKind, IsSeat, Seating, AreSeated, IsPartHome}
 use Rattle.hlr_owners.specs.declared.lodging.Seat.{Seat}
 use Rattle.hlr_owners.specs.declared.lodging.Seat.TheVariants.{Part, Piece}
-use Rattle.hlr_owners.proofs.ZipLemmas.{zip_at}
+use Rattle.hlr_owners.proofs.SeatLemmas.{IsSeatIn, seat_in}
 
 -- how many parts sit in front of an index
 abbrev pub ahead : List Seat → ℕ → ℕ
@@ -125,8 +125,8 @@ module _ (h : Seating) (are : AreSeated h) (p i : ℕ) (index : position (is_par
   pub part_number_at : ahead h.seats i ≡ p
   part_number_at = number_at h are p i here.0 here.1
 
-  pub part_seat : (s : Seat) → s ≡ get_or h.seats i s → IsSeat h.width (get_or h.regions i blank) s
-  part_seat s is = rw is (zip_at (IsSeat h.width) h.regions h.seats i blank s are.each here.0)
+  pub part_seat : (s : Seat) → s ≡ get_or h.seats i s → IsSeatIn h.width (book_in h.seats) (get_or h.regions i blank) s
+  part_seat s is = seat_in h are i s is here.0
 
   -- no piece sits there
   pub part_sits : (b : Box PieceState Global) → Piece b ≡ get_or h.seats i (Piece b) → ⊥
@@ -147,7 +147,7 @@ module _ (h : Seating) (are : AreSeated h) (p i : ℕ) (index : position (is_par
   pub part_within : (s_id : ℕ) (l : Lodged) → Part l ≡ get_or h.seats i (Part l) → place_of s_id h.regions ≡ Some (place.Part p) → IsWithin l.holding.part.lo l.holding.part.hi s_id
   part_within s_id l is placed =
       let seat = part_seat (Part l) is in
-      rw (seat.owner.from, seat.owner.to) (lies_within s_id (get_or h.regions i blank) (part_has s_id p i h.regions are.are index placed))
+      rw (seat.owner.is.from, seat.owner.is.to) (lies_within s_id (get_or h.regions i blank) (part_has s_id p i h.regions are.are index placed))
 
   -- what it has stands among what all parts have under its number
   module _ {X : Type 0} (f : Lodged → X) (l : Lodged) (is : Part l ≡ get_or h.seats i (Part l)) where

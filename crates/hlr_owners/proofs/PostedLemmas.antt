@@ -5,7 +5,6 @@ use Rattle.std.proofs.Math.ListN.{get_or-map}
 use Rattle.std.proofs.Math.Seq.{map-set_same}
 use Rattle.std.proofs.lemmas.List.{length-map}
 use Rattle.std.proofs.lemmas.Option.{slice_get_read, slice_get_past}
-use Rattle.std.proofs.lemmas.List.Quantifiers.{position-Some}
 use Rattle.atomic_table.specs.Seated.{TableId}
 use Rattle.tatp_rows.proofs.PlaceLemmas.{each_at}
 use Rattle.tatp_rows.specs.declared.refusal.Refusal.{Refusal}
@@ -34,7 +33,7 @@ use Rattle.hlr_owners.specs.Posting.{IsPosting}
 use Rattle.hlr_owners.specs.Seats.{owners_in, book_in, desks_in, store_in, Seating, AreSeated}
 use Rattle.hlr_owners.specs.declared.lodging.Seat.TheVariants.{Part}
 use Rattle.hlr_owners.proofs.PartLemmas.{at_number, set_number, count_parts, part_sits_there, part_seat}
-use Rattle.hlr_owners.proofs.SeatLemmas.{owners-set, owner_is, exchanged, rows_at}
+use Rattle.hlr_owners.proofs.SeatLemmas.{owners-set, owner_is, exchanged}
 
 -- a posting of the slots of a part is a right one of the store
 right_posting : (store : Store) (region : Region) (before : HoldingState) (p limit : ℕ) (posted : Result ℕ Refusal) (words' slots : List ℕ) → slots_of store p ≡ Some slots
@@ -80,7 +79,7 @@ module _ (h : Seating) (are : AreSeated h) (board : TableId) (rules : AreDesks b
 
   -- its rows
   rows_here : HasRows (book_in h.seats) (get_or h.regions i blank) (of_holding l.holding)
-  rows_here = rows_at h are i (Part l) is (position-Some (is_part p) h.regions i blank index).0
+  rows_here = (part_seat h are p i index (Part l) is).owner.has
 
   module _ (m : Lodged) (limit : ℕ) (posted : Result ℕ Refusal) (lawful : IsHolding l.holding) (done : (posted, m.holding.desk.view) ≡ own.post (count_of l.holding.part) l.holding.slot limit l.holding.desk.view)
       (same : m.holding.part ≡ l.holding.part) (desk : (m.holding.desk.board ≡ l.holding.desk.board) × (m.holding.desk.view.owned ≡ l.holding.desk.view.owned) × (m.holding.slot ≡ l.holding.slot)) where
@@ -116,4 +115,4 @@ module _ (h : Seating) (are : AreSeated h) (board : TableId) (rules : AreDesks b
         let slots = slots_posted (desks_in h.seats) p l.holding.desk m.holding.desk desk_here desk.1 in
         rw (desks_now, book_now, slots)
         (right_posting (store_in h) (get_or h.regions i blank) l.holding p limit posted (words_of (h.spare ∷ set (desks_in h.seats) p m.holding.desk)) (slots_in l.holding.desk)
-        part_slots (find_index (is_part p) h.regions i blank index) rows_here (part_seat h are p i index (Part l) is).owner.zones (sym core.0))
+        part_slots (find_index (is_part p) h.regions i blank index) rows_here (part_seat h are p i index (Part l) is).owner.is.zones (sym core.0))

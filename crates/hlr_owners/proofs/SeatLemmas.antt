@@ -11,37 +11,31 @@ use Rattle.std.proofs.lemmas.List.Quantifiers.{position-Some}
 use Rattle.std.proofs.lemmas.Slice.Zip.{AllZip-long}
 use Rattle.std.proofs.Math.ListN.{get_or-map}
 use Rattle.tatp_actions.specs.Action.{s_id_of, IsOutcome, is_in_range}
-use Rattle.tatp_actions.specs.Book.{IsRowsOf, IsWithin, subscriber_at}
+use Rattle.tatp_actions.specs.Book.{Book, IsRowsOf, IsWithin, subscriber_at}
 use Rattle.tatp_actions.specs.declared.action.Action.{Action}
 use Rattle.tatp_actions.specs.declared.action.RowReply.{RowReply}
 use Rattle.tatp_actions.proofs.LocalLemmas.{apart, outcome-low, outcome-high}
 use Rattle.part_table.specs.Region.{lies_in}
-use Rattle.part_table.specs.Regions.{IsConsecutive}
+use Rattle.part_table.specs.Regions.{AreRegions, IsConsecutive}
 use Rattle.part_table.specs.declared.region.Place.{Place}
 use Rattle.part_table.specs.declared.region.Place.TheVariants as place
 use Rattle.part_table.specs.declared.region.Region.{Region}
 use Rattle.part_table.specs.declared.region.TheConstants.{END}
 use Rattle.part_table.proofs.PlaceLemmas.{blank, place_at}
+use Rattle.view_board.specs.Desks.{Station}
 use Rattle.holding.specs.Held.{PieceState, IsHolding}
-use Rattle.hlr_owners.specs.Held.{Owner, AreOwners, of_holding}
+use Rattle.hlr_owners.specs.Held.{Owner, IsOwner, AreOwners, of_holding}
 use Rattle.hlr_owners.specs.Answered.{IsAnswered, is_loose, is_loose_place}
 use Rattle.hlr_owners.proofs.HeldLemmas.{holding_keeps}
 use Rattle.hlr_owners.proofs.OwnerActLemmas.{owner_same}
-use Rattle.hlr_owners.proofs.HalvesLemmas.{HasRows}
-use Rattle.hlr_owners.proofs.OwnerLemmas.{book_of_owners, own_region, owner_rows, owners_rows, lies_within, HasSubscribers, owners_subscriber}
+use Rattle.hlr_owners.proofs.HalvesLemmas.{HasRows, IsOwnerIn}
+use Rattle.hlr_owners.proofs.OwnerLemmas.{book_of_owners, own_region, owner_rows, owners_rows, lies_within, book_stays, HasSubscribers, owners_subscriber}
 use Rattle.hlr_owners.specs.Lodged.{Lodged}
 use Rattle.hlr_owners.specs.Seats.{owner_of, owners_in, book_in, of_part, of_parts, IsKind, IsSeat, Seating, AreSeated}
 use Rattle.hlr_owners.specs.declared.lodging.Seat.{Seat}
 use Rattle.hlr_owners.specs.declared.lodging.Seat.TheVariants.{Part, Piece}
 use Rattle.hlr_owners.proofs.IndexedLemmas.{set_same}
-use Rattle.hlr_owners.proofs.ZipLemmas.{zip_at, zip_put}
-
--- the owners beside their regions
-pub owned : (width : ℕ) (regions : List Region) (seats : List Seat) → AllZip (IsSeat width) regions seats → AreOwners width regions (owners_in seats)
-owned width [] [] each = tt
-owned width [] (s ∷ seats) each = absurd each
-owned width (r ∷ regions) [] each = absurd each
-owned width (r ∷ regions) (s ∷ seats) each = (each.0.owner, owned width regions seats each.1)
+use Rattle.hlr_owners.proofs.ZipLemmas.{zip_at, zip_put, zip_from_two, zip_weaker}
 
 -- a fact of owners is one of seats
 pub zip_seats : (Q : Region → Owner → Type 0) (regions : List Region) (seats : List Seat) → AllZip Q regions (owners_in seats) → AllZip (λ (r : Region) (s : Seat). Q r (owner_of s)) regions seats
@@ -56,16 +50,47 @@ zip_owners Q [] (s ∷ seats) each = absurd each
 zip_owners Q (r ∷ regions) [] each = absurd each
 zip_owners Q (r ∷ regions) (s ∷ seats) each = (each.0, zip_owners Q regions seats each.1)
 
+-- the owners beside their regions
+pub owned : (width : ℕ) (regions : List Region) (seats : List Seat) → AllZip (IsSeat width) regions seats → AreOwners width regions (owners_in seats)
+owned width regions seats each = zip_owners (IsOwner width) regions seats (zip_weaker {P = IsSeat width} {Q = λ (r : Region) (s : Seat). IsOwner width r (owner_of s)} (λ r s is. is.owner) regions seats each)
+
+-- a seat beside a region, of its kind, with an owner who has its rows in a book
+pub record IsSeatIn (width : ℕ) (book : Book) (region : Region) (seat : Seat) : Type 0 where
+  pub kind : IsKind region.place seat
+  pub owner : IsOwnerIn width book region (owner_of seat)
+
+-- of the region's place the kind alone counts
+pub placed_in : (width : ℕ) (book : Book) (region : Region) (seat : Seat) (q : Place) → IsKind q seat → IsSeatIn width book region seat → IsSeatIn width book (record region { place = q }) seat
+placed_in width book region seat q kind is = record {
+  kind = kind;
+  owner = record { is = record { from = is.owner.is.from; to = is.owner.is.to; zones = is.owner.is.zones; keeps = is.owner.is.keeps }; has = is.owner.has };
+}
+
 -- the rows of seats are those of all subscribers, and each seat has those of its region
 module _ (h : Seating) (are : AreSeated h) where
   pub seated_rows : IsRowsOf 1 END (book_in h.seats)
   seated_rows = owner_rows h.width 1 h.regions (owners_in h.seats) (owned h.width h.regions h.seats are.each) are.are.consecutive
 
-  pub each_rows : AllZip (λ (r : Region) (s : Seat). HasRows (book_in h.seats) r (owner_of s)) h.regions h.seats
-  each_rows = zip_seats (HasRows (book_in h.seats)) h.regions h.seats (owners_rows h.width 1 h.regions (owners_in h.seats) (owned h.width h.regions h.seats are.each) are.are.consecutive)
+  pub each_in : AllZip (IsSeatIn h.width (book_in h.seats)) h.regions h.seats
+  each_in = zip_from_two {P = IsSeat h.width} {Q = λ (r : Region) (s : Seat). HasRows (book_in h.seats) r (owner_of s)} {R = IsSeatIn h.width (book_in h.seats)}
+      (λ r s is has. record { kind = is.kind; owner = record { is = is.owner; has = has } }) h.regions h.seats are.each
+      (zip_seats (HasRows (book_in h.seats)) h.regions h.seats (owners_rows h.width 1 h.regions (owners_in h.seats) (owned h.width h.regions h.seats are.each) are.are.consecutive))
 
-  pub rows_at : (i : ℕ) (s : Seat) → s ≡ get_or h.seats i s → i < length h.regions → HasRows (book_in h.seats) (get_or h.regions i blank) (owner_of s)
-  rows_at i s is within = rw is (zip_at (λ (r : Region) (s : Seat). HasRows (book_in h.seats) r (owner_of s)) h.regions h.seats i blank s each_rows within)
+  pub seat_in : (i : ℕ) (s : Seat) → s ≡ get_or h.seats i s → i < length h.regions → IsSeatIn h.width (book_in h.seats) (get_or h.regions i blank) s
+  seat_in i s is within = rw is (zip_at (IsSeatIn h.width (book_in h.seats)) h.regions h.seats i blank s each_in within)
+
+  -- seats that have the same rows beside other regions keep the rules, and have all rows
+  pub seats_in : (regions : List Region) (seats : List Seat) (spare : Station) → AreRegions regions → AllZip (IsSeatIn h.width (book_in h.seats)) regions seats
+      → AreSeated (record { regions = regions; seats = seats; spare = spare; width = h.width }) × (book_in seats ≡ book_in h.seats)
+  seats_in regions seats spare right each = (
+    record {
+      are = right;
+      each = zip_weaker {P = IsSeatIn h.width (book_in h.seats)} {Q = IsSeat h.width} (λ r s is. record { kind = is.kind; owner = is.owner.is }) regions seats each;
+      zones = are.zones;
+    },
+    book_stays regions (owners_in seats) (book_in h.seats) seated_rows right.consecutive (zip_owners (HasRows (book_in h.seats)) regions seats
+        (zip_weaker {P = IsSeatIn h.width (book_in h.seats)} {Q = λ (r : Region) (s : Seat). HasRows (book_in h.seats) r (owner_of s)} (λ r s is. is.owner.has) regions seats each)),
+  )
 
 -- a region with an index lies behind where they begin
 pub region_behind : (from : ℕ) (regions : List Region) (i : ℕ) (d : Region) → IsConsecutive from regions → i < length regions → from ≤ (get_or regions i d).lo

@@ -40,3 +40,13 @@ module _ {A B : Type 0} (P : A → B → Type 0) where
   zip_remove (a ∷ xs) [] i each = absurd each
   zip_remove (a ∷ xs) (b ∷ ys) zero each = each.1
   zip_remove (a ∷ xs) (b ∷ ys) (suc i) each = (each.0, zip_remove xs ys i each.1)
+
+-- a fact of each pair from two others, and from another one
+pub zip_from_two : {A B : Type 0} {P Q R : A → B → Type 0} → ((x : A) (y : B) → P x y → Q x y → R x y) → (xs : List A) (ys : List B) → AllZip P xs ys → AllZip Q xs ys → AllZip R xs ys
+zip_from_two from [] [] one other = tt
+zip_from_two from [] (y ∷ ys) one other = absurd one
+zip_from_two from (x ∷ xs) [] one other = absurd one
+zip_from_two from (x ∷ xs) (y ∷ ys) one other = (from x y one.0 other.0, zip_from_two from xs ys one.1 other.1)
+
+pub zip_weaker : {A B : Type 0} {P Q : A → B → Type 0} → ((x : A) (y : B) → P x y → Q x y) → (xs : List A) (ys : List B) → AllZip P xs ys → AllZip Q xs ys
+zip_weaker weaker xs ys each = zip_from_two (λ x y one other. weaker x y one) xs ys each each

@@ -1,11 +1,7 @@
-use Rattle.std.proofs.Common.{◌∙◌, refl, sym, arith}
+use Rattle.std.proofs.Common.{refl, arith, inl}
 use Rattle.std.proofs.lemmas.Result.{err_from_is_err_and}
-use Rattle.hlr_owners.specs.Lodged.{Lodged}
-use Rattle.hlr_owners.specs.Out.{out_of}
-use Rattle.hlr_owners.proofs.BesideLemmas.{given_beside}
-use Rattle.hlr_owners.proofs.OutLemmas.{none_out}
 use Rattle.hlr_owners.proofs.RefusedLemmas.{only_memory, may_refuse}
-use Rattle.hlr_owners.proofs.EditLemmas.{room_for_piece, giver_inside, piece_index-le, given_seated, given_desks, given_parts, given_store}
+use Rattle.hlr_owners.proofs.EditLemmas.{room_for_piece, giver_inside, piece_index-le, all_given}
 use Rattle.hlr_owners.proofs.PartLemmas.{part_sits_there, part_sits, part_is_home}
 use Rattle.hlr_owners.proofs.seats.Seats.give.Goals as goal
 
@@ -46,40 +42,19 @@ give_at-requires c = (c.args.part, c.in_ok-i.ensures.index, c.in_ok-i.ensures.an
 
 pub invariant_of-self-2 : goal.invariant_of-self-2
 invariant_of-self-2 c =
-    let seated = given_seated _ c.self.invariant.0 _ _ _ _ c.in_ok-i.ensures.answer _ c.in_ok-i.ensures.index c.in-Part.lodging (rw c.in-Part.is at c.index_mut.ensures.value) c.give.new.self c.in_ok-piece-in-Part.piece
-    c.in_ok-piece-in-Part.ensures.given c.in_ok-piece-in-Part.ensures.piece c.in_ok-piece-in-Part.ensures.after in
-    let desks = given_desks _ c.self.invariant.0 _ _ _ _ c.in_ok-i.ensures.answer _ c.in_ok-i.ensures.index c.in-Part.lodging (rw c.in-Part.is at c.index_mut.ensures.value) c.give.new.self c.in_ok-piece-in-Part.piece
-    c.in_ok-piece-in-Part.ensures.given c.in_ok-piece-in-Part.ensures.piece c.in_ok-piece-in-Part.ensures.after in
-    rw (c.give_at.ensures c.args.part c.in_ok-i.ensures.index, c.insert_reserved.ensures.items, c.piece_index.ensures, desks) (seated, c.self.invariant.1, omega (arith, c.self.invariant.2, c.insert_reserved.ensures.capacity))
+    let all = all_given _ c.self.invariant.0 _ _ _ _ c.in_ok-i.ensures.answer _ c.in_ok-i.ensures.index c.in-Part.lodging (rw c.in-Part.is at c.index_mut.ensures.value) (rw (← c.self.view_is) at c.requires.home)
+    c.give.new.self c.in_ok-piece-in-Part.piece c.in_ok-piece-in-Part.ensures.given c.in_ok-piece-in-Part.ensures.piece c.in_ok-piece-in-Part.ensures.after c.give.ensures.home in
+    rw (c.give_at.ensures c.args.part c.in_ok-i.ensures.index, c.insert_reserved.ensures.items, c.piece_index.ensures, all.desks) (all.seated, c.self.invariant.1, omega (arith, c.self.invariant.2, c.insert_reserved.ensures.capacity))
 
-pub returns-clause-after : goal.returns-clause-after
-returns-clause-after c =
-    let store = given_store _ c.self.invariant.0 _ _ _ _ c.in_ok-i.ensures.answer _ c.in_ok-i.ensures.index c.in-Part.lodging (rw c.in-Part.is at c.index_mut.ensures.value) c.give.new.self c.in_ok-piece-in-Part.piece
-    c.in_ok-piece-in-Part.ensures.given c.in_ok-piece-in-Part.ensures.piece c.in_ok-piece-in-Part.ensures.after in
-    rw (← c.self.view_is, c.give_at.ensures c.args.part c.in_ok-i.ensures.index, c.insert_reserved.ensures.items, c.piece_index.ensures) store
-
-pub returns-clause-homes : goal.returns-clause-homes
-returns-clause-homes c =
-    let is = rw c.in-Part.is at c.index_mut.ensures.value in
-    let was = part_is_home _ c.self.invariant.0 c.args.part _ c.in_ok-i.ensures.index c.in-Part.lodging is (rw (← c.self.view_is) at c.requires.home) in
-    rw (← c.self.view_is, c.insert_reserved.ensures.items, c.piece_index.ensures)
-    (given_parts _ c.self.invariant.0 _ _ _ _ c.in_ok-i.ensures.answer _ c.in_ok-i.ensures.index c.in-Part.lodging is c.give.new.self c.in_ok-piece-in-Part.piece
-    c.in_ok-piece-in-Part.ensures.given c.in_ok-piece-in-Part.ensures.piece c.in_ok-piece-in-Part.ensures.after
-    (λ (o : Lodged). o.home) (c.give.ensures.home ∙ sym was))
-
-pub returns-clause-outs : goal.returns-clause-outs
-returns-clause-outs c =
-    let is = rw c.in-Part.is at c.index_mut.ensures.value in
-    let was = part_is_home _ c.self.invariant.0 c.args.part _ c.in_ok-i.ensures.index c.in-Part.lodging is (rw (← c.self.view_is) at c.requires.home) in
-    rw (← c.self.view_is, c.insert_reserved.ensures.items, c.piece_index.ensures)
-    (given_parts _ c.self.invariant.0 _ _ _ _ c.in_ok-i.ensures.answer _ c.in_ok-i.ensures.index c.in-Part.lodging is c.give.new.self c.in_ok-piece-in-Part.piece
-    c.in_ok-piece-in-Part.ensures.given c.in_ok-piece-in-Part.ensures.piece c.in_ok-piece-in-Part.ensures.after
-    out_of (none_out _ _ was c.give.ensures.home))
-
-pub returns-clause-beside : goal.returns-clause-beside
-returns-clause-beside c =
-    let is = rw c.in-Part.is at c.index_mut.ensures.value in
-    let was = part_is_home _ c.self.invariant.0 c.args.part _ c.in_ok-i.ensures.index c.in-Part.lodging is (rw (← c.self.view_is) at c.requires.home) in
-    rw (← c.self.view_is, c.give_at.ensures c.args.part c.in_ok-i.ensures.index, c.insert_reserved.ensures.items, c.piece_index.ensures)
-    (given_beside _ c.self.invariant.0 _ _ _ _ c.in_ok-i.ensures.answer _ c.in_ok-i.ensures.index c.in-Part.lodging is was c.give.new.self c.in_ok-piece-in-Part.piece
-    c.in_ok-piece-in-Part.ensures.given c.in_ok-piece-in-Part.ensures.piece c.in_ok-piece-in-Part.ensures.after c.give.ensures.home)
+pub returns : goal.returns
+returns c =
+    let all = all_given _ c.self.invariant.0 _ _ _ _ c.in_ok-i.ensures.answer _ c.in_ok-i.ensures.index c.in-Part.lodging (rw c.in-Part.is at c.index_mut.ensures.value) (rw (← c.self.view_is) at c.requires.home)
+    c.give.new.self c.in_ok-piece-in-Part.piece c.in_ok-piece-in-Part.ensures.given c.in_ok-piece-in-Part.ensures.piece c.in_ok-piece-in-Part.ensures.after c.give.ensures.home in
+    rw (← c.self.view_is, c.give_at.ensures c.args.part c.in_ok-i.ensures.index, c.insert_reserved.ensures.items, c.piece_index.ensures) (record {
+      answer = rw c.in_ok-i.ensures.answer (inl refl);
+      after = all.store;
+      same = refl;
+      homes = all.alone.homes;
+      outs = all.alone.outs;
+      beside = all.alone.beside;
+    })
