@@ -1,11 +1,13 @@
 -- Slots that no part has: where there are fewer parts than slots there is one, and the least is the spare desk's least.
-use Rattle.std.proofs.Common.{◌≡◌, ◌∙◌, refl, sym, ℕ, zero, suc, ◌+◌, ◌<◌, ◌≤◌, ◌==◌, ◌⊎◌, inl, inr, arith, List, [], ◌∷◌, length, map, Bool, true, false, not}
+use Rattle.std.proofs.lemmas.Bool.Decides.{nat_tests}
+use Rattle.part_table.proofs.NumberLemmas.{all_pieces}
+use Rattle.std.proofs.Common.{◌≡◌, ◌∙◌, refl, sym, ℕ, zero, suc, ◌+◌, ◌<◌, ◌≤◌, ◌==◌, ◌⊎◌, inl, inr, arith, List, [], ◌∷◌, length, map, Bool, true, false, not, ap, ◌-◌}
 use Rattle.std.specs.Prelude.{sum_by}
 use Rattle.std.specs.List.{AllByRecursion, list_any}
 use Rattle.std.proofs.lemmas.Bool.{cases_eq}
 use Rattle.std.proofs.lemmas.List.Sums.{sum_by-cons}
 use Rattle.tatp_rows.proofs.OrderedLemmas.{by_test}
-use Rattle.part_table.proofs.LeastLemmas.{least_here, least_more}
+use Rattle.part_table.proofs.LeastLemmas.{least_here, least_more, least_passes}
 use Rattle.part_table.specs.Least.{least}
 use Rattle.view_board.specs.Desks.{Station}
 use Rattle.view_board.specs.Views.{owned_at, Owns, OwnsAlone, IsLeastSlot}
@@ -15,86 +17,39 @@ use Rattle.hlr_owners.specs.Desks.{owns_one, slots_in, HasOneSlot}
 use Rattle.hlr_owners.specs.Parted.{free_slot}
 use Rattle.hlr_owners.proofs.SightLemmas.{is_listed}
 
--- how many of the slots below one a desk has
-abbrev slots_below : ℕ → Station → ℕ
-slots_below zero desk = 0
-slots_below (suc n) desk = slots_below n desk + owns_one n desk
+-- the slots of desks that have one each, counted from 1
+abbrev numbers_of : (desks : List Station) → AllByRecursion HasOneSlot desks → List ℕ
+numbers_of [] each = []
+numbers_of (desk ∷ desks) each = (each.0.0 + 1) ∷ numbers_of desks each.1
 
--- a desk of one slot has at most one
-module _ (desk : Station) (slot : ℕ) (one : OwnsAlone desk.view slot) where
-  none_below : (n : ℕ) → n ≤ slot → slots_below n desk ≡ 0
-  none_below zero under = refl
-  none_below (suc n) under =
-      let rest = none_below n (omega arith) in
-      by_test (owned_at desk.view n) (λ e. absurd (let same = one.1 n e in omega arith)) (λ e. rw e (omega arith))
+numbers_long : (desks : List Station) (each : AllByRecursion HasOneSlot desks) → length (numbers_of desks each) ≡ length desks
+numbers_long [] each = refl
+numbers_long (desk ∷ desks) each = ap suc (numbers_long desks each.1)
 
-  one_below : (n : ℕ) → slots_below n desk ≤ 1
-  one_below zero = omega arith
-  one_below (suc n) =
-      by_test (owned_at desk.view n)
-      (λ e. let same = one.1 n e in let none = none_below n (omega arith) in rw e (omega arith))
-      (λ e. let rest = one_below n in rw e (omega arith))
-
--- so desks of one slot each have at most as many as they are
-few_below : (n : ℕ) (desks : List Station) → AllByRecursion HasOneSlot desks → sum_by (slots_below n) desks ≤ length desks
-few_below n [] each = omega arith
-few_below n (desk ∷ desks) each =
-    let one : OwnsAlone desk.view each.0.0 = each.0.1 in
-    let first = one_below desk each.0.0 one n in
-    let rest = few_below n desks each.1 in
-    let sum = sum_by-cons (slots_below n) desk desks in
-    omega arith
-
--- of no slot they have none, and of one more those that have it too
-none_of_none : (desks : List Station) → sum_by (slots_below 0) desks ≡ 0
-none_of_none [] = refl
-none_of_none (desk ∷ desks) = let rest = none_of_none desks in let sum = sum_by-cons (slots_below 0) desk desks in omega arith
-
-one_more_below : (n : ℕ) (desks : List Station) → sum_by (slots_below (suc n)) desks ≡ sum_by (slots_below n) desks + sum_by (owns_one n) desks
-one_more_below n [] = refl
-one_more_below n (desk ∷ desks) =
-    let rest = one_more_below n desks in
-    let all = sum_by-cons (slots_below (suc n)) desk desks in
-    let some = sum_by-cons (slots_below n) desk desks in
-    let last = sum_by-cons (owns_one n) desk desks in
-    omega arith
-
--- and where each slot is one desk's, they have them all
-all_below : (n : ℕ) (desks : List Station) → ((slot : ℕ) → slot < n → sum_by (owns_one slot) desks ≡ 1) → sum_by (slots_below n) desks ≡ n
-all_below zero desks once = none_of_none desks
-all_below (suc n) desks once =
-    let rest = all_below n desks (λ slot below. once slot (omega arith)) in
-    let last = once n (omega arith) in
-    let more = one_more_below n desks in
-    omega arith
-
--- a desk has a slot below one, or none of these
-found_below : (v : View) (n : ℕ) → ((slot : ℕ) × Owns v slot) ⊎ ((slot : ℕ) → slot < n → owned_at v slot ≡ false)
-found_below v zero = inr (λ slot below. absurd (omega arith))
-found_below v (suc n) =
-    by_test (owned_at v n)
-    (λ e. inl (n, e))
-    (λ e. elim (found_below v n) [
-      | inl found ↦ inl found
-      | inr none ↦ inr (λ slot below. elim (cases_eq slot n) [
-        | inl same ↦ rw same e
-        | inr other ↦ none slot (omega arith)
-      ])
-    ])
+-- a slot of theirs is among them
+numbers_have : (n slot : ℕ) (desks : List Station) (each : AllByRecursion HasOneSlot desks) → n ≡ slot + 1 → 1 ≤ sum_by (owns_one slot) desks → list_any (λ m. m == n) (numbers_of desks each) ≡ true
+numbers_have n slot [] each next some = absurd (omega arith)
+numbers_have n slot (desk ∷ desks) each next some =
+    let sum = sum_by-cons (owns_one slot) desk desks in
+    by_test (owned_at desk.view slot)
+    (λ e. let same : slot ≡ each.0.0 = each.0.1.1 slot e in let here : (each.0.0 + 1 == n) ≡ true = grind (arith, nat_tests, same, next) in rw here refl)
+    (λ e. let none : owns_one slot desk ≡ 0 = rw e refl in
+    let rest = numbers_have n slot desks each.1 next (omega arith) in
+    by_test (each.0.0 + 1 == n) (λ f. rw f refl) (λ f. rw f rest))
 
 -- so a desk beside fewer desks than slots has one
-pub has_slot : (n : ℕ) (spare : Station) (desks : List Station) → ((slot : ℕ) → slot < n → sum_by (owns_one slot) (spare ∷ desks) ≡ 1) → AllByRecursion HasOneSlot desks → length desks < n
+pub has_slot : (spare : Station) (desks : List Station) → ((slot : ℕ) → slot < SLOTS → sum_by (owns_one slot) (spare ∷ desks) ≡ 1) → AllByRecursion HasOneSlot desks → length desks < SLOTS
     → (slot : ℕ) × Owns spare.view slot
-has_slot n spare desks once alone few = elim (found_below spare.view n) [
-  | inl found ↦ found
+has_slot spare desks once alone few = elim (least_passes (owned_at spare.view) 0 SLOTS) [
+  | inl found ↦ (least (owned_at spare.view) 0 SLOTS, found.0)
   | inr none ↦ absurd (
-      let all = all_below n desks (λ slot below. without_spare slot (none slot below) (once slot below)) in
-      let most = few_below n desks alone in
+      let many = all_pieces (numbers_of desks alone) (λ n from to. numbers_have n (n - 1) desks alone (omega arith) (theirs (n - 1) (none (n - 1) (omega arith) (omega arith)) (once (n - 1) (omega arith)))) in
+      let long = numbers_long desks alone in
       omega arith)
 ]
   where
-    without_spare : (slot : ℕ) → owned_at spare.view slot ≡ false → sum_by (owns_one slot) (spare ∷ desks) ≡ 1 → sum_by (owns_one slot) desks ≡ 1
-    without_spare slot free once =
+    theirs : (slot : ℕ) → owned_at spare.view slot ≡ false → sum_by (owns_one slot) (spare ∷ desks) ≡ 1 → 1 ≤ sum_by (owns_one slot) desks
+    theirs slot free once =
         let head = sum_by-cons (owns_one slot) spare desks in
         let none : owns_one slot spare ≡ 0 = rw free refl in
         omega arith

@@ -1,7 +1,8 @@
 -- Who is at home: all parts, the part with a number, and whoever has an s_id.
-use Rattle.std.proofs.Common.{◌≡◌, refl, ℕ, zero, suc, ◌<◌, List, [], ◌∷◌, Bool, true, length, get_or, drop, arith, Some, None, ◌-◌, Result, Ok, Err}
-use Rattle.std.specs.Prelude.{Option, position, IfOk}
-use Rattle.std.specs.List.{AllByRecursion}
+use Rattle.tatp_rows.proofs.OrderedLemmas.{by_test}
+use Rattle.std.proofs.Common.{◌≡◌, refl, ℕ, zero, suc, ◌<◌, List, [], ◌∷◌, Bool, true, length, get_or, drop, arith, Some, None, ◌-◌, Result, Ok, Err, false}
+use Rattle.std.specs.Prelude.{Option, position, IfOk, ◌↔◌, IsTrue}
+use Rattle.std.specs.List.{AllByRecursion, list_all}
 use Rattle.std.proofs.lemmas.List.{get_or_past}
 use Rattle.std.proofs.lemmas.List.Quantifiers.{position-Some}
 use Rattle.tatp_rows.specs.declared.refusal.Refusal.{Refusal}
@@ -90,6 +91,18 @@ pub all_home : (seats : List Seat) → AreHome seats → AllHome seats
 all_home [] each = tt
 all_home (Part l ∷ seats) each = (each.0, all_home seats each.1)
 all_home (Piece b ∷ seats) each = all_home seats each.1
+
+-- so the test of all seats tells it
+pub each_passes : {X : Type 0} (test : X → Bool) (xs : List X) → list_all test xs ≡ true → AllByRecursion (λ x. test x ≡ true) xs
+each_passes test [] all = tt
+each_passes test (x ∷ xs) all = by_test (test x) (λ e. (e, each_passes test xs (rw e at all))) (λ e. let no : false ≡ true = rw e at all in absurd cc)
+
+pub all_pass : {X : Type 0} (test : X → Bool) (xs : List X) → AllByRecursion (λ x. test x ≡ true) xs → list_all test xs ≡ true
+all_pass test [] each = refl
+all_pass test (x ∷ xs) each = rw each.0 (all_pass test xs each.1)
+
+pub all_home_is : (seats : List Seat) → IsTrue (list_all is_home seats) ↔ AllHome seats
+all_home_is seats = (λ all. all_home seats (each_passes is_home seats all), λ all. all_pass is_home seats (each_home seats all))
 
 pub home_at : (seats : List Seat) (i : ℕ) (s : Seat) → AllHome seats → i < length seats → s ≡ get_or seats i s → is_home s ≡ true
 home_at [] i s all within is = absurd (omega arith)

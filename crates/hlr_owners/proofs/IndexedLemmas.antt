@@ -1,19 +1,16 @@
 -- Lists edited at an index.
 use Rattle.std.proofs.Common.{◌≡◌, ◌∙◌, refl, ap, ℕ, zero, suc, ◌+◌, ◌<◌, List, [], ◌∷◌, length, get_or, set, map, arith}
 use Rattle.std.specs.Prelude.{insert, remove}
+use Rattle.std.proofs.lemmas.List.{set-get_or}
+use Rattle.std.proofs.lemmas.List.Edits.{get_or-remove_above, get_or-remove_below}
 use Rattle.part_table.specs.Give.{piece_index}
 use Rattle.part_table.specs.declared.region.Side.{Side}
 use Rattle.part_table.specs.declared.region.Side.TheVariants.{Low, High}
 use Rattle.part_table.proofs.PairLemmas.{part_index}
 
 -- an element put where it stands
-set_at : {X : Type 0} (xs : List X) (i : ℕ) (d : X) → set xs i (get_or xs i d) ≡ xs
-set_at [] i d = refl
-set_at (x ∷ xs) zero d = refl
-set_at (x ∷ xs) (suc i) d = ap (λ rest. x ∷ rest) (set_at xs i d)
-
 pub set_same : {X : Type 0} (xs : List X) (i : ℕ) (x : X) → x ≡ get_or xs i x → set xs i x ≡ xs
-set_same xs i x is = ap (λ y. set xs i y) is ∙ set_at xs i x
+set_same xs i x is = ap (λ y. set xs i y) is ∙ set-get_or xs i x
 
 -- an element that was taken out, put back
 put_back_at : {X : Type 0} (xs : List X) (i : ℕ) (d : X) → i < length xs → insert (remove xs i) i (get_or xs i d) ≡ xs
@@ -26,18 +23,8 @@ put_back xs i x within is = ap (λ y. insert (remove xs i) i y) is ∙ put_back_
 
 -- one of two neighbours taken out, the other one stands in the place of the first
 pub other_left : {X : Type 0} (side : Side) (xs : List X) (i : ℕ) (d : X) → i + 1 < length xs → get_or (remove xs (piece_index side i)) i d ≡ get_or xs (part_index side i) d
-other_left Low xs i d within = low xs i within
-  where
-    low : (xs : List _) (i : ℕ) → i + 1 < length xs → get_or (remove xs i) i d ≡ get_or xs (i + 1) d
-    low [] i within = absurd (omega arith)
-    low (x ∷ xs) zero within = refl
-    low (x ∷ xs) (suc i) within = let more : suc i + 1 ≡ suc (i + 1) = omega arith in rw more (low xs i (omega arith))
-other_left High xs i d within = high xs i within
-  where
-    high : (xs : List _) (i : ℕ) → i + 1 < length xs → get_or (remove xs (i + 1)) i d ≡ get_or xs i d
-    high [] i within = absurd (omega arith)
-    high (x ∷ xs) zero within = refl
-    high (x ∷ xs) (suc i) within = let more : suc i + 1 ≡ suc (i + 1) = omega arith in rw more (high xs i (omega arith))
+other_left Low xs i d within = get_or-remove_above xs i d i (omega arith) (omega arith)
+other_left High xs i d within = get_or-remove_below xs (i + 1) d i (omega arith) (omega arith)
 
 -- and an element in that place is one for both
 pub both_edited : {X : Type 0} (side : Side) (xs : List X) (i : ℕ) (x : X) → i + 1 < length xs → set (remove xs (piece_index side i)) i x ≡ remove (set xs i x) (i + 1)

@@ -1,4 +1,6 @@
 -- A part lent out, and seats that stand for others while parts are out.
+use Rattle.view_board.specs.Views.{IsWide}
+use Rattle.hlr_owners.proofs.ZipLemmas.{each_beside, sum_beside}
 use Rattle.std.proofs.Common.{◌≡◌, ◌∙◌, refl, sym, ap, ℕ, zero, suc, ◌<◌, ◌≤◌, List, [], ◌∷◌, length, get_or, set, arith, true, false, Some, subst}
 use Rattle.std.specs.Prelude.{Box, slice_get, position, nat_le, nat_lt, sum_by}
 use Rattle.std.specs.declared.alloc.Global.{Global}
@@ -51,49 +53,33 @@ zip_later width (r ∷ regions) (s ∷ seats) (k ∷ ks) later each = (seat_late
 pub seated_later : (h : Seating) (ks : List Seat) → AreSeated h → AllZip IsLaterSeat h.seats ks → AreSeated (record h { seats = ks })
 seated_later h ks are later = record { are = are.are; each = zip_later h.width h.regions h.seats ks later are.each; zones = are.zones }
 
+-- a desk that another one may stand for
+pub record IsLaterDesk (before after : Station) : Type 0 where
+  pub board : after.board ≡ before.board
+  pub owned : after.view.owned ≡ before.view.owned
+  pub wide : IsWide before.view → IsWide after.view
+
+desks_zip : (seats ks : List Seat) → AllZip IsLaterSeat seats ks → AllZip IsLaterDesk (desks_in seats) (desks_in ks)
+desks_zip [] [] later = tt
+desks_zip [] (k ∷ ks) later = absurd later
+desks_zip (s ∷ seats) [] later = absurd later
+desks_zip (Part l ∷ seats) (Part m ∷ ks) later = (record { board = later.0.0.board; owned = later.0.0.owned; wide = later.0.2 }, desks_zip seats ks later.1)
+desks_zip (Part l ∷ seats) (Piece b ∷ ks) later = absurd later.0
+desks_zip (Piece a ∷ seats) (Part m ∷ ks) later = absurd later.0
+desks_zip (Piece a ∷ seats) (Piece b ∷ ks) later = desks_zip seats ks later.1
+
 -- and their desks share the slots
-module _ (board : TableId) where
-  later_of_board : (seats ks : List Seat) → AllZip IsLaterSeat seats ks → AllByRecursion (IsOfBoard board) (desks_in seats) → AllByRecursion (IsOfBoard board) (desks_in ks)
-  later_of_board [] [] later each = tt
-  later_of_board [] (k ∷ ks) later each = absurd later
-  later_of_board (s ∷ seats) [] later each = absurd later
-  later_of_board (Part l ∷ seats) (Part m ∷ ks) later each = (record { same = later.0.0.board ∙ each.0.same; wide = later.0.2 each.0.wide }, later_of_board seats ks later.1 each.1)
-  later_of_board (Part l ∷ seats) (Piece b ∷ ks) later each = absurd later.0
-  later_of_board (Piece a ∷ seats) (Part m ∷ ks) later each = absurd later.0
-  later_of_board (Piece a ∷ seats) (Piece b ∷ ks) later each = later_of_board seats ks later.1 each
-
-later_owned : (slot : ℕ) (seats ks : List Seat) → AllZip IsLaterSeat seats ks → sum_by (owns_one slot) (desks_in ks) ≡ sum_by (owns_one slot) (desks_in seats)
-later_owned slot [] [] later = refl
-later_owned slot [] (k ∷ ks) later = absurd later
-later_owned slot (s ∷ seats) [] later = absurd later
-later_owned slot (Part l ∷ seats) (Part m ∷ ks) later =
-    let one : owns_one slot m.holding.desk ≡ owns_one slot l.holding.desk = rw later.0.0.owned refl in
-    let rest = later_owned slot seats ks later.1 in
-    sum_by-cons (owns_one slot) m.holding.desk (desks_in ks) ∙ rw (one, rest) (sym (sum_by-cons (owns_one slot) l.holding.desk (desks_in seats)))
-later_owned slot (Part l ∷ seats) (Piece b ∷ ks) later = absurd later.0
-later_owned slot (Piece a ∷ seats) (Part m ∷ ks) later = absurd later.0
-later_owned slot (Piece a ∷ seats) (Piece b ∷ ks) later = later_owned slot seats ks later.1
-
-later_alone : (seats ks : List Seat) → AllZip IsLaterSeat seats ks → AllByRecursion HasOneSlot (desks_in seats) → AllByRecursion HasOneSlot (desks_in ks)
-later_alone [] [] later each = tt
-later_alone [] (k ∷ ks) later each = absurd later
-later_alone (s ∷ seats) [] later each = absurd later
-later_alone (Part l ∷ seats) (Part m ∷ ks) later each = (same_one l.holding.desk m.holding.desk later.0.0.owned each.0, later_alone seats ks later.1 each.1)
-later_alone (Part l ∷ seats) (Piece b ∷ ks) later each = absurd later.0
-later_alone (Piece a ∷ seats) (Part m ∷ ks) later each = absurd later.0
-later_alone (Piece a ∷ seats) (Piece b ∷ ks) later each = later_alone seats ks later.1 each
-
 pub desks_later : (board : TableId) (spare : Station) (seats ks : List Seat) → AllZip IsLaterSeat seats ks → AreDesks board spare (desks_in seats) → AreDesks board spare (desks_in ks)
 desks_later board spare seats ks later are = record {
-  of_board = (are.of_board.0, later_of_board board seats ks later are.of_board.1);
+  of_board = (are.of_board.0, each_beside IsLaterDesk (IsOfBoard board) (IsOfBoard board) (λ one other pair is. record { same = pair.board ∙ is.same; wide = pair.wide is.wide }) (desks_in seats) (desks_in ks) (desks_zip seats ks later) are.of_board.1);
   shares = record {
     once = λ slot below. (
         let was = are.shares.once slot below in
         let one = sum_by-cons (owns_one slot) spare (desks_in ks) in
         let other = sum_by-cons (owns_one slot) spare (desks_in seats) in
-        let same = later_owned slot seats ks later in
+        let same = sum_beside IsLaterDesk (owns_one slot) (λ one other pair. rw pair.owned refl) (desks_in seats) (desks_in ks) (desks_zip seats ks later) in
         omega arith);
-    alone = later_alone seats ks later are.shares.alone;
+    alone = each_beside IsLaterDesk HasOneSlot HasOneSlot (λ one other pair is. same_one one other pair.owned is) (desks_in seats) (desks_in ks) (desks_zip seats ks later) are.shares.alone;
     idle = are.shares.idle;
   };
 }

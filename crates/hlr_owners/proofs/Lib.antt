@@ -1,4 +1,3 @@
-pub mod AllHomeLemmas
 pub mod ApartFitLemmas
 pub mod ApartLemmas
 pub mod ApartRegionsLemmas

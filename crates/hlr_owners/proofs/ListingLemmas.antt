@@ -17,7 +17,7 @@ use Rattle.part_table.specs.declared.region.Region.{Region}
 use Rattle.part_table.proofs.PlaceLemmas.{blank}
 use Rattle.holding.specs.Held.{HoldingState}
 use Rattle.hlr_owners.specs.Answered.{is_loose}
-use Rattle.hlr_owners.specs.Read.{HasRowsOf, facility_answer, forwarding_answer}
+use Rattle.hlr_owners.specs.Read.{HasRowsOf, facility_answer, forwarding_answer, row_answer}
 use Rattle.hlr_owners.specs.Lodged.{Lodged}
 use Rattle.hlr_owners.specs.Seats.{AreSeated, Seating, book_in, owner_of, store_in}
 use Rattle.hlr_owners.specs.Store.{Store}
@@ -78,19 +78,11 @@ module _ (h : Seating) (are : AreSeated h) (s_id i : ℕ) (at : position (lies_i
   }
 
 -- what a part's rows have is what is answered of all, and a loose piece answers Moving
-module _ (s_id : ℕ) (store : Store) where
-  pub facility_found : (holding : HoldingState) → HasRowsOf s_id store holding → (t : ℕ) → t < 256 → (o : Option SpecialFacilityRow) → o ≡ facility_at holding.part.book s_id t → ok_or o refusal.NoFacility ≡ facility_answer s_id t store
-  facility_found holding has t low o is = rw (has.home, has.facility t low, ← is) refl
+pub row_found : {R : Type 0} (s_id : ℕ) (store : Store) (found own o : Option R) (none : Refusal) → is_loose s_id store.regions ≡ false → found ≡ own → o ≡ own → ok_or o none ≡ row_answer s_id store found none
+row_found s_id store found own o none home has is = rw (home, has, ← is) refl
 
-  pub facility_loose : is_loose s_id store.regions ≡ true → (t : ℕ) → (why : Refusal) → why ≡ refusal.Moving → Err why ≡ facility_answer s_id t store
-  facility_loose loose t why is = rw (loose, is) refl
-
-  pub forwarding_found : (holding : HoldingState) → HasRowsOf s_id store holding → (t u : ℕ) → t < 256 → u < 256 → (o : Option CallForwardingRow) → o ≡ forwarding_at holding.part.book s_id t u
-      → ok_or o refusal.NoForwarding ≡ forwarding_answer s_id t u store
-  forwarding_found holding has t u low small o is = rw (has.home, has.forwarding t u low small, ← is) refl
-
-  pub forwarding_loose : is_loose s_id store.regions ≡ true → (t u : ℕ) → (why : Refusal) → why ≡ refusal.Moving → Err why ≡ forwarding_answer s_id t u store
-  forwarding_loose loose t u why is = rw (loose, is) refl
+pub row_loose : {R : Type 0} (s_id : ℕ) (store : Store) (found : Option R) (none why : Refusal) → is_loose s_id store.regions ≡ true → why ≡ refusal.Moving → Err why ≡ row_answer s_id store found none
+row_loose s_id store found none why loose is = rw (loose, is) refl
 
 -- where the first rows have none from a subscriber on, the first is that of the rest
 pub first_behind : (s_id : ℕ) (rows others : List SubscriberRow) → None ≡ first_subscriber s_id rows → first_subscriber s_id (rows ++ others) ≡ first_subscriber s_id others

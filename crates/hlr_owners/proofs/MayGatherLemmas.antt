@@ -11,6 +11,7 @@ use Rattle.view_board.specs.Desks.{Station, with_view}
 use Rattle.view_board.specs.Views.{first_view, looked}
 use Rattle.view_board.specs.declared.words.TheConstants.{WORDS}
 use Rattle.holding.specs.Held.{HoldingState}
+use Rattle.tatp_rows.proofs.AppendLemmas.{each-append, each-left, each-right}
 use Rattle.hlr_owners.specs.Desks.{desk_of, owns_one, AreOpening, HasOneSlot}
 use Rattle.hlr_owners.specs.Gather.{MayGather}
 use Rattle.hlr_owners.specs.Boxed.{map_boxed, unboxed}
@@ -30,15 +31,6 @@ desks_in boxes = map_twice (λ (b : Box HoldingState Global). b.value) desk_of b
 -- one more at the end
 desks_pushed : (boxes : List (Box HoldingState Global)) (b : Box HoldingState Global) → map_boxed desk_of (boxes ++ b ∷ []) ≡ map_boxed desk_of boxes ++ b.value.desk ∷ []
 desks_pushed boxes b = map-append (λ (one : Box HoldingState Global). desk_of one.value) boxes (b ∷ [])
-
--- each of a list and one behind it
-each_front : {X : Type 0} (P : X → Type 0) (xs : List X) (x : X) → AllByRecursion P (xs ++ x ∷ []) → AllByRecursion P xs × P x
-each_front P [] x each = (tt, each.0)
-each_front P (first ∷ xs) x each = let rest = each_front P xs x each.1 in ((each.0, rest.0), rest.1)
-
-each_back : {X : Type 0} (P : X → Type 0) (xs : List X) (x : X) → AllByRecursion P xs → P x → AllByRecursion P (xs ++ x ∷ [])
-each_back P [] x each here = (here, tt)
-each_back P (first ∷ xs) x each here = (each.0, each_back P xs x each.1 here)
 
 same_owns : (slot : ℕ) (before after : Station) → IsSameDesk before after → owns_one slot after ≡ owns_one slot before
 same_owns slot before after same = rw same.owned refl
@@ -70,13 +62,16 @@ module _ (rest : List (Box HoldingState Global)) (first second : Box HoldingStat
 
   -- what holds of each of their desks and of each in front of them
   each_with_two : (P : Station → Type 0) → AllByRecursion P (map_boxed desk_of rest) → P first.value.desk → P second.value.desk → AllByRecursion P (map desk_of (unboxed ((rest ++ first ∷ []) ++ second ∷ [])))
-  each_with_two P others one other = rw desks_of_two (each_back P (map_boxed desk_of rest ++ first.value.desk ∷ []) second.value.desk (each_back P (map_boxed desk_of rest) first.value.desk others one) other)
+  each_with_two P others one other = rw desks_of_two (each-append P (map_boxed desk_of rest ++ first.value.desk ∷ []) (second.value.desk ∷ []) (each-append P (map_boxed desk_of rest) (first.value.desk ∷ []) others (one, tt)) (other, tt))
 
   each_of_two : (P : Station → Type 0) → AllByRecursion P (map desk_of (unboxed ((rest ++ first ∷ []) ++ second ∷ []))) → AllByRecursion P (map_boxed desk_of rest) × P first.value.desk × P second.value.desk
   each_of_two P each =
-      let last = each_front P (map_boxed desk_of rest ++ first.value.desk ∷ []) second.value.desk (rw desks_of_two at each) in
-      let before = each_front P (map_boxed desk_of rest) first.value.desk last.0 in
-      (before.0, before.1, last.1)
+      let all = rw desks_of_two at each in
+      let before = each-left P (map_boxed desk_of rest ++ first.value.desk ∷ []) (second.value.desk ∷ []) all in (
+        each-left P (map_boxed desk_of rest) (first.value.desk ∷ []) before,
+        (each-right P (map_boxed desk_of rest) (first.value.desk ∷ []) before).0,
+        (each-right P (map_boxed desk_of rest ++ first.value.desk ∷ []) (second.value.desk ∷ []) all).0,
+      )
 
 -- they are taken out
 module _ (board : TableId) (spare : Station) (all some rest : List (Box HoldingState Global)) (first second : Box HoldingState Global) (are : all ≡ some ++ second ∷ []) (were : some ≡ rest ++ first ∷ []) (may : MayGather board spare (unboxed all)) where
@@ -96,36 +91,34 @@ module _ (board : TableId) (spare : Station) (all some rest : List (Box HoldingS
   pub second_board : second.value.desk.board ≡ board
   second_board = boards.2
 
-  -- and put back, as they were or the other way round, over desks of the same slots
+  -- two others of the board are put back, which have one slot each, and both together the same slots
+  two_put : (one other : Box HoldingState Global) → (one.value.desk.board ≡ board) × HasOneSlot one.value.desk → (other.value.desk.board ≡ board) × HasOneSlot other.value.desk
+      → ((slot : ℕ) → owns_one slot one.value.desk + owns_one slot other.value.desk ≡ owns_one slot first.value.desk + owns_one slot second.value.desk)
+      → MayGather board spare (unboxed ((rest ++ one ∷ []) ++ other ∷ []))
+  two_put one other is_one is_other same = record {
+    same = (may.same.0, each_with_two rest one other (λ (desk : Station). desk.board ≡ board) boards.0 is_one.0 is_other.0);
+    shares = record {
+      once = λ slot within. (
+          let was = owned_by_two rest first second spare slot in
+          let now = owned_by_two rest one other spare slot in
+          let once = may_two.shares.once slot within in
+          let both = same slot in
+          omega arith);
+      alone = each_with_two rest one other HasOneSlot ones.0 is_one.1 is_other.1;
+      idle = may.shares.idle;
+    };
+  }
+
+  -- so it is with desks of the same slots, as they were or the other way round
   module _ (first' second' : Box HoldingState Global) (same_first : IsSameDesk first.value.desk first'.value.desk) (same_second : IsSameDesk second.value.desk second'.value.desk) where
+    one_is : (first'.value.desk.board ≡ board) × HasOneSlot first'.value.desk
+    one_is = (same_first.board ∙ first_board, same_one first.value.desk first'.value.desk same_first.owned ones.1)
+
+    other_is : (second'.value.desk.board ≡ board) × HasOneSlot second'.value.desk
+    other_is = (same_second.board ∙ second_board, same_one second.value.desk second'.value.desk same_second.owned ones.2)
+
     pub two_back : MayGather board spare (unboxed ((rest ++ first' ∷ []) ++ second' ∷ []))
-    two_back = record {
-      same = (may.same.0, each_with_two rest first' second' (λ (desk : Station). desk.board ≡ board) boards.0 (same_first.board ∙ first_board) (same_second.board ∙ second_board));
-      shares = record {
-        once = λ slot within. (
-            let was = owned_by_two rest first second spare slot in
-            let now = owned_by_two rest first' second' spare slot in
-            let once = may_two.shares.once slot within in
-            let one = same_owns slot first.value.desk first'.value.desk same_first in
-            let other = same_owns slot second.value.desk second'.value.desk same_second in
-            omega arith);
-        alone = each_with_two rest first' second' HasOneSlot ones.0 (same_one first.value.desk first'.value.desk same_first.owned ones.1) (same_one second.value.desk second'.value.desk same_second.owned ones.2);
-        idle = may.shares.idle;
-      };
-    }
+    two_back = two_put first' second' one_is other_is (λ slot. rw (same_owns slot first.value.desk first'.value.desk same_first, same_owns slot second.value.desk second'.value.desk same_second) refl)
 
     pub two_turned : MayGather board spare (unboxed ((rest ++ second' ∷ []) ++ first' ∷ []))
-    two_turned = record {
-      same = (may.same.0, each_with_two rest second' first' (λ (desk : Station). desk.board ≡ board) boards.0 (same_second.board ∙ second_board) (same_first.board ∙ first_board));
-      shares = record {
-        once = λ slot within. (
-            let was = owned_by_two rest first second spare slot in
-            let now = owned_by_two rest second' first' spare slot in
-            let once = may_two.shares.once slot within in
-            let one = same_owns slot first.value.desk first'.value.desk same_first in
-            let other = same_owns slot second.value.desk second'.value.desk same_second in
-            omega arith);
-        alone = each_with_two rest second' first' HasOneSlot ones.0 (same_one second.value.desk second'.value.desk same_second.owned ones.2) (same_one first.value.desk first'.value.desk same_first.owned ones.1);
-        idle = may.shares.idle;
-      };
-    }
+    two_turned = two_put second' first' other_is one_is (λ slot. rw (same_owns slot first.value.desk first'.value.desk same_first, same_owns slot second.value.desk second'.value.desk same_second) (omega arith))

@@ -6,6 +6,7 @@ use Rattle.std.proofs.lemmas.List.{take_more}
 use Rattle.std.proofs.lemmas.List.FromFn.{length-map-range_with_len}
 use Rattle.tatp_rows.specs.declared.refusal.Refusal.{Refusal}
 use Rattle.tatp_actions.specs.Part.{IsRange, IsWidth}
+use Rattle.std.proofs.lemmas.Slice.Zip.{all_zipped_more}
 use Rattle.part_table.proofs.BoundsLemmas.{length_parts, no_pieces, within}
 use Rattle.part_table.proofs.NumberLemmas.{length_regions}
 use Rattle.part_table.proofs.OpeningLemmas.{openable}
@@ -61,13 +62,6 @@ ranges_from from (region ∷ regions) above consecutive =
 pub range_at : (regions : List Region) (i : ℕ) (d : Region) → AreRegions regions → i < length regions → IsRange (get_or regions i d).lo (get_or regions i d).hi
 range_at regions i d are below = each_at (λ (region : Region). IsRange region.lo region.hi) regions i d (ranges_from 1 regions (omega arith) are.consecutive) below
 
--- one more at the end of both
-zip_push : {A B : Type 0} (R : A → B → Type 0) (xs : List A) (ys : List B) (x : A) (y : B) → AllZip R xs ys → R x y → AllZip R (xs ++ x ∷ []) (ys ++ y ∷ [])
-zip_push R [] [] x y each here = (here, tt)
-zip_push R [] (y' ∷ ys) x y each here = absurd each
-zip_push R (x' ∷ xs) [] x y each here = absurd each
-zip_push R (x' ∷ xs) (y' ∷ ys) x y each here = (each.0, zip_push R xs ys x y each.1 here)
-
 -- the first i holdings stand beside the first i regions, each with no row
 abbrev pub AreOpened : ℕ → List Region → List Owner → ℕ → Type 0
 AreOpened width regions holdings i = AllZip (IsFresh width) (take i regions) holdings
@@ -79,4 +73,4 @@ none_opened width (region ∷ regions) holdings none = rw none tt
 pub one_opened : (width i : ℕ) (d : Region) (regions : List Region) (holdings : List Owner) (holding : HoldingState) → i < length regions → AreOpened width regions holdings i
     → IsOpened (get_or regions i d) width holding → AreOpened width regions (holdings ++ of_holding holding ∷ []) (i + 1)
 one_opened width i d regions holdings holding below each is =
-    rw (take_more regions i d below) (zip_push (IsFresh width) (take i regions) holdings (get_or regions i d) (of_holding holding) each (fresh_holding width (get_or regions i d) holding is))
+    rw (take_more regions i d below) (all_zipped_more (IsFresh width) (take i regions) holdings (get_or regions i d) (of_holding holding) each (fresh_holding width (get_or regions i d) holding is))

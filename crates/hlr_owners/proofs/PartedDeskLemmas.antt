@@ -62,7 +62,7 @@ module _ (board : TableId) (spare : Station) (desks : List Station) (rules : Are
 
   -- where there are fewer parts than slots, the spare desk has one
   pub has_free : length desks < SLOTS → (slot : ℕ) × Owns spare.view slot
-  has_free few = has_slot SLOTS spare desks rules.shares.once rules.shares.alone few
+  has_free few = has_slot spare desks rules.shares.once rules.shares.alone few
 
   -- its least slot is split off
   module _ (slot : ℕ) (in_board : slot < SLOTS) (least : IsLeastSlot spare.view slot) where

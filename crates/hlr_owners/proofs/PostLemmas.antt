@@ -18,6 +18,7 @@ use Rattle.holding.proofs.HeldLemmas.{wide_posted}
 use Rattle.holding.specs.Post as own
 use Rattle.view_delta.specs.Pending.{is_zero}
 use Rattle.holding.specs.Post.{all_cells, due, post_cells}
+use Rattle.hlr_owners.proofs.PartedLemmas.{each_filtered, each_take}
 use Rattle.hlr_owners.specs.Desks.{owns_one, words_of, slots_in, HasOneSlot, IsOfBoard, AreDesks}
 use Rattle.hlr_owners.specs.Post.{raise_cells, post}
 use Rattle.hlr_owners.specs.Words.{net}
@@ -38,24 +39,14 @@ open_same gap gaps (c ∷ cells) same =
     let rest = open_same gap gaps cells same.1 in
     by_test (is_zero (gaps c)) (λ e. rw (same.0.1, e) rest) (λ e. rw (same.0.1, e) (ap (λ cs. c ∷ cs) rest))
 
-each_open : (P : ℕ → Type 0) (test : ℕ → Bool) (cells : List ℕ) → AllByRecursion P cells → AllByRecursion P (filter test cells)
-each_open P test [] each = tt
-each_open P test (c ∷ cells) each = by_test (test c) (λ e. rw e (each.0, each_open P test cells each.1)) (λ e. rw e (each_open P test cells each.1))
-
-each_taken : (P : ℕ → Type 0) (limit : ℕ) (cells : List ℕ) → AllByRecursion P cells → AllByRecursion P (take limit cells)
-each_taken P zero [] each = tt
-each_taken P (suc limit) [] each = tt
-each_taken P zero (c ∷ cells) each = tt
-each_taken P (suc limit) (c ∷ cells) each = (each.0, each_taken P limit cells each.1)
-
 -- the same cells are due
 due_same : (gap gaps : ℕ → ℤ) (limit : ℕ) → ((c : ℕ) → c < CELLS → gap c ≡ gaps c) → (due gap limit ≡ due gaps limit) × AreSameGaps gap gaps (due gap limit)
 unfolding all_cells
 due_same gap gaps limit same =
     let all = cells_same gap gaps 0 CELLS (omega arith) same in (
       ap (take limit) (open_same gap gaps (range_with_len 0 CELLS) all),
-      each_taken (λ c. (c < CELLS) × (gap c ≡ gaps c)) limit (filter (λ c. not (is_zero (gap c))) (range_with_len 0 CELLS))
-          (each_open (λ c. (c < CELLS) × (gap c ≡ gaps c)) (λ c. not (is_zero (gap c))) (range_with_len 0 CELLS) all),
+      each_take (λ c. (c < CELLS) × (gap c ≡ gaps c)) (filter (λ c. not (is_zero (gap c))) (range_with_len 0 CELLS)) limit
+          (each_filtered (λ c. not (is_zero (gap c))) (λ c. (c < CELLS) × (gap c ≡ gaps c)) (range_with_len 0 CELLS) all),
     )
 
 -- what holds of each holds with another one in the place of one

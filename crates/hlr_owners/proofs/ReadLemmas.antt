@@ -16,7 +16,7 @@ use Rattle.holding.specs.Held.{HoldingState}
 use Rattle.hlr_owners.specs.Answered.{is_loose}
 use Rattle.hlr_owners.specs.Beside.{HasRowsBeside, IsReadBeside, store_with}
 use Rattle.hlr_owners.specs.Read.{HasRowsOf, IsRead}
-use Rattle.hlr_owners.specs.Seats.{Seating}
+use Rattle.hlr_owners.specs.Seats.{Seating, store_in}
 use Rattle.hlr_owners.specs.Store.{Store}
 
 -- one of all subscribers has an s_id in range, and with a type in range both are
@@ -27,14 +27,15 @@ subscriber_fits s_id within =
     rw (from, to) refl
 
 -- an answer that leaves a part's rows, where the fields are in range
-module _ (act : Action) (store : Store) (holding : HoldingState) (has : HasRowsOf (s_id_of act) store holding) (fits : is_in_range act ≡ true) where
-  pub is_read : (answer : RowReply) → effect act holding.part.book ≡ (answer, holding.part.book) → IsRead act store answer
-  is_read answer does = rw (has.home) (has.answers act answer refl (inr (inl (fits, sym does))))
+pub is_read : (act : Action) (store : Store) (holding : HoldingState) (has : HasRowsOf (s_id_of act) store holding) (fits : is_in_range act ≡ true) (answer : RowReply)
+    → effect act holding.part.book ≡ (answer, holding.part.book) → IsRead act store answer
+is_read act store holding has fits answer does = rw (has.home) (has.answers act answer refl (inr (inl (fits, sym does))))
 
 -- the same whatever the holdings that are out have become; and so answers a loose piece
 module _ (act : Action) (h : Seating) (fits : is_in_range act ≡ true) where
-  pub read_beside : (holding : HoldingState) → HasRowsBeside (s_id_of act) h holding → (answer : RowReply) → effect act holding.part.book ≡ (answer, holding.part.book) → IsReadBeside act h answer
-  read_beside holding has answer does = λ ks become. is_read act (store_with h ks) holding (has ks become) fits answer does
+  pub reads : (holding : HoldingState) → HasRowsOf (s_id_of act) (store_in h) holding → HasRowsBeside (s_id_of act) h holding → (answer : RowReply) → effect act holding.part.book ≡ (answer, holding.part.book)
+      → IsRead act (store_in h) answer × IsReadBeside act h answer
+  reads holding has beside answer does = (is_read act (store_in h) holding has fits answer does, λ ks become. is_read act (store_with h ks) holding (beside ks become) fits answer does)
 
   pub moving_beside : (why : Refusal) → why ≡ refusal.Moving → is_loose (s_id_of act) h.regions ≡ true → IsReadBeside act h (row_reply.Refused why)
   moving_beside why is loose = λ ks become. rw (loose, fits, is) (refl, refl)

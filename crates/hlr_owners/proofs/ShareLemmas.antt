@@ -10,6 +10,7 @@ use Rattle.atomic_table.specs.Seated.{TableId}
 use Rattle.tatp_rows.proofs.BlankLemmas.{blank_at}
 use Rattle.tatp_rows.proofs.OrderedLemmas.{by_test}
 use Rattle.tatp_actions.specs.declared.cells.TheConstants.{CELLS}
+use Rattle.tatp_rows.proofs.AppendLemmas.{each-append}
 use Rattle.view_board.specs.Desks.{Station, with_view}
 use Rattle.view_board.specs.Nets.{net_of, net_from}
 use Rattle.view_board.specs.Views.{owned_at, Owns, IsWide, first_view, alone, without}
@@ -82,11 +83,6 @@ split_once desk slot other below wide own = elim (cases_eq other slot) [
   | inr differ ↦ rw (get_or-set_other desk.view.owned slot other false false differ, alone_else desk.view slot other differ) (omega arith)
 ]
 
--- each of a list and one behind it
-each_push : {X : Type 0} (P : X → Type 0) (xs : List X) (x : X) → AllByRecursion P xs → P x → AllByRecursion P (xs ++ x ∷ [])
-each_push P [] x each here = (here, tt)
-each_push P (first ∷ xs) x each here = (each.0, each_push P xs x each.1 here)
-
 -- lists of one number each, with one more
 numbered_from : (a n : ℕ) → map (λ p. p ∷ []) (range_with_len a (n + 1)) ≡ map (λ p. p ∷ []) (range_with_len a n) ++ ((a + n) ∷ []) ∷ []
 numbered_from a zero = let here : a + 0 ≡ a = omega arith in rw here refl
@@ -104,8 +100,8 @@ module _ (words : List ℕ) (spare : Station) (desks : List Station) (slot : ℕ
       → AllByRecursion (IsOfBoard board) (with_view spare (without spare.view slot) ∷ desks ++ with_view spare (alone spare.view slot) ∷ [])
   one_of_board board each = (
     record { same = each.0.same; wide = record { slots = length-set spare.view.owned slot false ∙ each.0.wide.slots; numbers = each.0.wide.numbers; seen = each.0.wide.seen } },
-    each_push (IsOfBoard board) desks (with_view spare (alone spare.view slot)) each.1
-        (record { same = each.0.same; wide = record { slots = length-set (replicate SLOTS false) slot true ∙ length-replicate SLOTS false; numbers = each.0.wide.numbers; seen = each.0.wide.seen } }),
+    each-append (IsOfBoard board) desks (with_view spare (alone spare.view slot) ∷ []) each.1
+        (record { same = each.0.same; wide = record { slots = length-set (replicate SLOTS false) slot true ∙ length-replicate SLOTS false; numbers = each.0.wide.numbers; seen = each.0.wide.seen } }, tt),
   )
 
   pub one_shared : IsWide spare.view → AreShared words spare desks → AreShared words (with_view spare (without spare.view slot)) (desks ++ with_view spare (alone spare.view slot) ∷ [])
@@ -118,8 +114,8 @@ module _ (words : List ℕ) (spare : Station) (desks : List Station) (slot : ℕ
         let push = sum_by_push (owns_one other) desks (with_view spare (alone spare.view slot)) in
         let moved = split_once spare slot other below wide (so_far.left slot (omega arith) below) in
         omega arith);
-    alone = each_push HasOneSlot desks (with_view spare (alone spare.view slot)) so_far.alone (slot, owns_alone spare.view slot below);
-    numbers = (so_far.numbers.0, each_push (λ (d : Station). d.view.numbers ≡ words) desks (with_view spare (alone spare.view slot)) so_far.numbers.1 so_far.numbers.0);
+    alone = each-append HasOneSlot desks (with_view spare (alone spare.view slot) ∷ []) so_far.alone ((slot, owns_alone spare.view slot below), tt);
+    numbers = (so_far.numbers.0, each-append (λ (d : Station). d.view.numbers ≡ words) desks (with_view spare (alone spare.view slot) ∷ []) so_far.numbers.1 (so_far.numbers.0, tt));
     slots = map-append slots_in desks (with_view spare (alone spare.view slot) ∷ []) ∙ rw (so_far.slots, alone_slots spare slot below, long, next) (numbered_more (length desks));
     seen = so_far.seen;
   }

@@ -14,7 +14,7 @@ use Rattle.view_board.specs.Words.{each_word}
 use Rattle.view_board.specs.declared.words.TheConstants.{SLOTS, SLOT_WORDS, WORDS}
 use Rattle.hlr_owners.specs.Desks.{owns_one, own_number, words_of, slots_in, AreDesks}
 use Rattle.hlr_owners.specs.Words.{all_slots}
-use Rattle.hlr_owners.proofs.DeskLemmas.{words_at}
+use Rattle.hlr_owners.proofs.DeskLemmas.{none_owns, words_at}
 
 -- a slot is one of all slots
 in_range : (a n slot : ℕ) → a ≤ slot → slot < a + n → list_any (λ own. own == slot) (range_with_len a n) ≡ true
@@ -43,11 +43,6 @@ module _ (slot : ℕ) (below : slot < SLOTS) where
   owned_by_none [] each = refl
   owned_by_none (desk ∷ desks) each = sum_by-cons (owns_one slot) desk desks ∙ rw (each.0, owned_by_none desks each.1) refl
 
--- and it has no part in a word of that slot
-no_number : (w : ℕ) (desks : List Station) → AllByRecursion (λ (d : Station). owned_at d.view (w / SLOT_WORDS) ≡ false) desks → sum_by (own_number w) desks ≡ 0
-no_number w [] each = refl
-no_number w (desk ∷ desks) each = sum_by-cons (own_number w) desk desks ∙ rw (each.0, no_number w desks each.1) refl
-
 module _ (board : TableId) (spare : Station) (desks : List Station) (are : AreDesks board spare desks) where
   -- a slot that no part has is the spare desk's
   spare_owns : (slot : ℕ) → slot < SLOTS → AllByRecursion (λ (d : Station). owned_at d.view slot ≡ false) desks → Owns spare.view slot
@@ -66,7 +61,7 @@ module _ (board : TableId) (spare : Station) (desks : List Station) (are : AreDe
       let own = spare_owns (w / SLOT_WORDS) in_board each in
       let mine : own_number w spare ≡ get_or spare.view.numbers w 0 = rw own refl in
       let head = sum_by-cons (own_number w) spare desks in
-      let rest = no_number w desks each in
+      let rest = none_owns desks (w / SLOT_WORDS) w refl (owned_by_none (w / SLOT_WORDS) in_board desks each) in
       right.own w own ∙ sym (words_at (spare ∷ desks) w below ∙ head ∙ rw (mine, rest) (omega arith))
 
   -- the rules of all desks after a look, which changes no word

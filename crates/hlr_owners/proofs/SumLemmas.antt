@@ -1,5 +1,6 @@
 -- Sums over all owners, one after another: what they have published, what is pending of them, and the counts of their
 -- rows.
+use Rattle.hlr_owners.proofs.ZipLemmas.{each_zipped}
 use Rattle.std.proofs.Common.{◌≡◌, refl, sym, ap, ℕ, zero, suc, ◌+◌, ◌^◌, ◌<◌, ◌≤◌, arith, List, [], ◌∷◌, length, get_or, take}
 use Rattle.std.specs.Prelude.{ℤ, pos, ◌+ℤ◌, sum_by}
 use Rattle.std.specs.List.{AllByRecursion}
@@ -20,8 +21,9 @@ use Rattle.view_board.specs.Desks.{Station}
 use Rattle.view_board.specs.Nets.{net_of}
 use Rattle.view_board.specs.Views.{IsWide}
 use Rattle.view_delta.specs.Pending.{pending_at}
+use Rattle.hlr_owners.proofs.PartedLemmas.{each_take}
 use Rattle.hlr_owners.specs.Desks.{AreDesks, IsOfBoard}
-use Rattle.hlr_owners.specs.Held.{Owner, AreOwners, pending_in}
+use Rattle.hlr_owners.specs.Held.{Owner, AreOwners, pending_in, IsOwner}
 use Rattle.hlr_owners.specs.Store.{published, unpublished}
 use Rattle.hlr_owners.proofs.DeskLemmas.{nets_of_desks}
 use Rattle.view_board.proofs.OwnLemmas.{net_none}
@@ -33,12 +35,6 @@ use Rattle.hlr_owners.specs.declared.lodging.Seat.{Seat}
 use Rattle.hlr_owners.specs.declared.lodging.Seat.TheVariants.{Part, Piece}
 use Rattle.hlr_owners.proofs.SeatLemmas.{owned, owner_is, seated_rows}
 
-each_take : {X : Type 0} (Q : X → Type 0) (xs : List X) (i : ℕ) → AllByRecursion Q xs → AllByRecursion Q (take i xs)
-each_take Q [] zero each = tt
-each_take Q [] (suc i) each = tt
-each_take Q (x ∷ xs) zero each = tt
-each_take Q (x ∷ xs) (suc i) each = (each.0, each_take Q xs i each.1)
-
 -- the zones of an owner have the width, and what it has published and what is pending of it are small
 pub record IsCountable (width : ℕ) (owner : Owner) : Type 0 where
   pub zones : owner.part.width ≡ width
@@ -46,17 +42,11 @@ pub record IsCountable (width : ℕ) (owner : Owner) : Type 0 where
   pub published : (c : ℕ) → c < CELLS → IsAtMost owner_most (net_of owner.view c)
 
 pub each_countable : (width : ℕ) (regions : List Region) (owners : List Owner) → AreOwners width regions owners → AllByRecursion (IsCountable width) owners
-each_countable width [] [] each = tt
-each_countable width [] (owner ∷ owners) each = absurd each
-each_countable width (region ∷ regions) [] each = absurd each
-each_countable width (region ∷ regions) (owner ∷ owners) each = (
-  record {
-    zones = each.0.zones;
-    pending = pending_fits owner each.0.keeps;
-    published = λ c below. (let low = (each.0.keeps.small c below).0 in let high = (each.0.keeps.small c below).1 in (omega (arith, ints), omega (arith, ints)));
-  },
-  each_countable width regions owners each.1,
-)
+each_countable width = each_zipped (IsOwner width) (IsCountable width) (λ region owner is. record {
+  zones = is.zones;
+  pending = pending_fits owner is.keeps;
+  published = λ c below. (let low = (is.keeps.small c below).0 in let high = (is.keeps.small c below).1 in (omega (arith, ints), omega (arith, ints)));
+})
 
 -- an amount for each cell of an owner: what it has published, and what is pending of it
 abbrev pub nets : Owner → ℕ → ℤ

@@ -1,7 +1,9 @@
 -- Lists whose elements stand beside one another, edited at an index.
-use Rattle.std.proofs.Common.{ℕ, zero, suc, ◌<◌, List, [], ◌∷◌, length, get_or, set, arith}
-use Rattle.std.specs.Prelude.{insert, remove}
-use Rattle.std.specs.List.{AllZip}
+use Rattle.std.proofs.lemmas.List.Sums.{sum_by-cons}
+use Rattle.std.proofs.Common.{ℕ, zero, suc, ◌<◌, List, [], ◌∷◌, length, get_or, set, arith, ◌≡◌, ◌∙◌, refl, sym}
+use Rattle.std.specs.Prelude.{insert, remove, sum_by}
+use Rattle.std.proofs.lemmas.List.{set-get_or}
+use Rattle.std.specs.List.{AllZip, AllByRecursion}
 
 module _ {A B : Type 0} (P : A → B → Type 0) where
   pub zip_at : (xs : List A) (ys : List B) (i : ℕ) (d : A) (e : B) → AllZip P xs ys → i < length xs → P (get_or xs i d) (get_or ys i e)
@@ -19,11 +21,7 @@ module _ {A B : Type 0} (P : A → B → Type 0) where
 
   -- one of them alone
   pub zip_put : (xs : List A) (ys : List B) (i : ℕ) (d : A) (y : B) → AllZip P xs ys → P (get_or xs i d) y → AllZip P xs (set ys i y)
-  zip_put [] [] i d y each one = tt
-  zip_put [] (b ∷ ys) i d y each one = absurd each
-  zip_put (a ∷ xs) [] i d y each one = absurd each
-  zip_put (a ∷ xs) (b ∷ ys) zero d y each one = (one, each.1)
-  zip_put (a ∷ xs) (b ∷ ys) (suc i) d y each one = (each.0, zip_put xs ys i d y each.1 one)
+  zip_put xs ys i d y each one = rw (set-get_or xs i d) at (zip_set xs ys i (get_or xs i d) y each one)
 
   pub zip_insert : (xs : List A) (ys : List B) (i : ℕ) (x : A) (y : B) → AllZip P xs ys → P x y → AllZip P (insert xs i x) (insert ys i y)
   zip_insert [] [] zero x y each one = (one, tt)
@@ -50,3 +48,24 @@ zip_from_two from (x ∷ xs) (y ∷ ys) one other = (from x y one.0 other.0, zip
 
 pub zip_weaker : {A B : Type 0} {P Q : A → B → Type 0} → ((x : A) (y : B) → P x y → Q x y) → (xs : List A) (ys : List B) → AllZip P xs ys → AllZip Q xs ys
 zip_weaker weaker xs ys each = zip_from_two (λ x y one other. weaker x y one) xs ys each each
+
+-- what holds of each of a list beside another one, from what holds of the pairs, and of each of the other one
+module _ {A B : Type 0} (R : A → B → Type 0) (Q : B → Type 0) where
+  pub each_zipped : ((x : A) (y : B) → R x y → Q y) → (xs : List A) (ys : List B) → AllZip R xs ys → AllByRecursion Q ys
+  each_zipped from [] [] zipped = tt
+  each_zipped from [] (y ∷ ys) zipped = absurd zipped
+  each_zipped from (x ∷ xs) [] zipped = absurd zipped
+  each_zipped from (x ∷ xs) (y ∷ ys) zipped = (from x y zipped.0, each_zipped from xs ys zipped.1)
+
+  pub each_beside : (P : A → Type 0) → ((x : A) (y : B) → R x y → P x → Q y) → (xs : List A) (ys : List B) → AllZip R xs ys → AllByRecursion P xs → AllByRecursion Q ys
+  each_beside P from [] [] zipped each = tt
+  each_beside P from [] (y ∷ ys) zipped each = absurd zipped
+  each_beside P from (x ∷ xs) [] zipped each = absurd zipped
+  each_beside P from (x ∷ xs) (y ∷ ys) zipped each = (from x y zipped.0 each.0, each_beside P from xs ys zipped.1 each.1)
+
+-- amounts that are the same of each pair have the same sum
+pub sum_beside : {A : Type 0} (R : A → A → Type 0) (f : A → ℕ) → ((x y : A) → R x y → f y ≡ f x) → (xs ys : List A) → AllZip R xs ys → sum_by f ys ≡ sum_by f xs
+sum_beside R f same [] [] zipped = refl
+sum_beside R f same [] (y ∷ ys) zipped = absurd zipped
+sum_beside R f same (x ∷ xs) [] zipped = absurd zipped
+sum_beside R f same (x ∷ xs) (y ∷ ys) zipped = sum_by-cons f y ys ∙ rw (same x y zipped.0, sum_beside R f same xs ys zipped.1) (sym (sum_by-cons f x xs))

@@ -1,4 +1,4 @@
-use Rattle.hlr_owners.proofs.AllHomeLemmas.{all_home_is}
+use Rattle.hlr_owners.proofs.HomeLemmas.{all_home_is}
 use Rattle.hlr_owners.proofs.seats.Seats.all_at_home.Goals as goal
 
 pub returns : goal.returns

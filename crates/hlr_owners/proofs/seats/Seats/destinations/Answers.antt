@@ -3,39 +3,25 @@ use Rattle.std.proofs.Common.{sym, ap, ◌∙◌}
 use Rattle.tatp_rows.proofs.RowLemmas.{both_from}
 use Rattle.tatp_actions.specs.Action.{new_destination}
 use Rattle.tatp_actions.specs.declared.action.Action.TheVariants as action
-use Rattle.hlr_owners.proofs.ReadLemmas.{subscriber_fits, is_read, read_beside, moving_beside, numbers_read, none_read}
+use Rattle.hlr_owners.proofs.ReadLemmas.{subscriber_fits, reads, moving_beside, numbers_read, none_read}
 use Rattle.hlr_owners.proofs.seats.Seats.destinations.Goals as goal
 
-pub returns-then-is_empty-clause-refused : goal.returns-then-is_empty-clause-refused
-returns-then-is_empty-clause-refused c =
+pub returns-then-is_empty : goal.returns-then-is_empty
+returns-then-is_empty c =
     let book = c.in_ok-holding.holding.now.part.book in
-    is_read (action.NewDestination c.args.s_id c.args.sf_type c.args.start_time c.args.end_time) _ c.in_ok-holding.holding.now c.in_ok-holding.ensures.home
-    (both_from _ _ (both_from _ _ (subscriber_fits _ c.requires.subscriber) c.requires.kind) (both_from _ _ c.requires.start c.requires.end)) _
-    (ap (new_destination book) (sym c.destinations-numbers.ensures) ∙ none_read book c.destinations-numbers.result.items (sym c.is_empty.ensures ∙ c.if-is_empty.true))
+    let both = reads (action.NewDestination c.args.s_id c.args.sf_type c.args.start_time c.args.end_time) c.args.self.now (both_from _ _ (both_from _ _ (subscriber_fits _ c.requires.subscriber) c.requires.kind) (both_from _ _ c.requires.start c.requires.end)) c.in_ok-holding.holding.now c.in_ok-holding.ensures.home c.in_ok-holding.ensures.beside _
+    (ap (new_destination book) (sym c.destinations-numbers.ensures) ∙ none_read book c.destinations-numbers.result.items (sym c.is_empty.ensures ∙ c.if-is_empty.true)) in
+    record { numbers = tt; refused = both.0; beside = both.1 }
 
-pub returns-clause-numbers : goal.returns-clause-numbers
-returns-clause-numbers c =
+pub returns : goal.returns
+returns c =
     let book = c.in_ok-holding.holding.now.part.book in
-    is_read (action.NewDestination c.args.s_id c.args.sf_type c.args.start_time c.args.end_time) _ c.in_ok-holding.holding.now c.in_ok-holding.ensures.home
-    (both_from _ _ (both_from _ _ (subscriber_fits _ c.requires.subscriber) c.requires.kind) (both_from _ _ c.requires.start c.requires.end)) _
-    (ap (new_destination book) (sym c.destinations-numbers.ensures) ∙ numbers_read book c.destinations-numbers.result (sym c.is_empty.ensures ∙ c.if-is_empty.false))
+    let both = reads (action.NewDestination c.args.s_id c.args.sf_type c.args.start_time c.args.end_time) c.args.self.now (both_from _ _ (both_from _ _ (subscriber_fits _ c.requires.subscriber) c.requires.kind) (both_from _ _ c.requires.start c.requires.end)) c.in_ok-holding.holding.now c.in_ok-holding.ensures.home c.in_ok-holding.ensures.beside _
+    (ap (new_destination book) (sym c.destinations-numbers.ensures) ∙ numbers_read book c.destinations-numbers.result (sym c.is_empty.ensures ∙ c.if-is_empty.false)) in
+    record { numbers = both.0; refused = tt; beside = both.1 }
 
 pub returns-in_err-holding-clause-beside : goal.returns-in_err-holding-clause-beside
 returns-in_err-holding-clause-beside c =
     let p = err_from_is_err_and c.from_residual.result c.from_residual.ensures.1 in
     let moving = c.in_err-holding.ensures.moving in
     rw (p.1, p.2) (moving_beside (action.NewDestination c.args.s_id c.args.sf_type c.args.start_time c.args.end_time) c.args.self.now (both_from _ _ (both_from _ _ (subscriber_fits _ c.requires.subscriber) c.requires.kind) (both_from _ _ c.requires.start c.requires.end)) c.in_err-holding.field-0.0 (let is = moving.0 in cc) moving.1)
-
-pub returns-then-is_empty-clause-beside : goal.returns-then-is_empty-clause-beside
-returns-then-is_empty-clause-beside c =
-    let book = c.in_ok-holding.holding.now.part.book in
-    read_beside (action.NewDestination c.args.s_id c.args.sf_type c.args.start_time c.args.end_time) c.args.self.now (both_from _ _ (both_from _ _ (subscriber_fits _ c.requires.subscriber) c.requires.kind) (both_from _ _ c.requires.start c.requires.end))
-    c.in_ok-holding.holding.now c.in_ok-holding.ensures.beside _
-    (ap (new_destination book) (sym c.destinations-numbers.ensures) ∙ none_read book c.destinations-numbers.result.items (sym c.is_empty.ensures ∙ c.if-is_empty.true))
-
-pub returns-clause-beside : goal.returns-clause-beside
-returns-clause-beside c =
-    let book = c.in_ok-holding.holding.now.part.book in
-    read_beside (action.NewDestination c.args.s_id c.args.sf_type c.args.start_time c.args.end_time) c.args.self.now (both_from _ _ (both_from _ _ (subscriber_fits _ c.requires.subscriber) c.requires.kind) (both_from _ _ c.requires.start c.requires.end))
-    c.in_ok-holding.holding.now c.in_ok-holding.ensures.beside _
-    (ap (new_destination book) (sym c.destinations-numbers.ensures) ∙ numbers_read book c.destinations-numbers.result (sym c.is_empty.ensures ∙ c.if-is_empty.false))

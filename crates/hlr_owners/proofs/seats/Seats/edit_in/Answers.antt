@@ -36,69 +36,34 @@ invariant_of-self g c =
       | in-Piece w ↦ rw (w.self-inside-is, set_same c.self.inside.seats.items _ _ c.index_mut.ensures.value) c.self.invariant
     ]
 
-pub returns-clause-answer : goal.returns-clause-answer
-returns-clause-answer g c =
-    let at = rw (← c.self.view_is) at c.requires.seat in
-    elim c.match-index_mut.branch [
-      | in-Part w ↦ rw (w.self-inside-is, w.result-is, ← c.self.view_is)
-          (acted_answer _ c.self.invariant.0 _ _ at w.in-Part.lodging (rw w.in-Part.is at c.index_mut.ensures.value) w.edit.new.self (g.E.Edit.action c.args.edit) _ refl w.edit.ensures.outcome)
-      | in-Piece w ↦ rw (w.self-inside-is, ← c.self.view_is, set_same c.self.inside.seats.items _ _ c.index_mut.ensures.value, w.result-is)
-          (piece_answer _ c.self.invariant.0 _ _ at _ (rw w.in-Piece.is at c.index_mut.ensures.value) (g.E.Edit.action c.args.edit) _ (rw w.to_action.ensures at w.moving.ensures))
-    ]
-
-pub returns-clause-store : goal.returns-clause-store
-returns-clause-store g c =
-    elim c.match-index_mut.branch [
-      | in-Part w ↦
-          let desks = parts-kept (λ (o : Lodged). o.holding.desk) c.self.inside.seats.items _ w.in-Part.lodging w.edit.new.self w.edit.ensures.desk.0 (rw w.in-Part.is at c.index_mut.ensures.value) in
-          rw (w.self-inside-is, ← c.self.view_is, desks) refl
-      | in-Piece w ↦ rw (w.self-inside-is, ← c.self.view_is, set_same c.self.inside.seats.items _ _ c.index_mut.ensures.value) refl
-    ]
-
-pub returns-clause-rows : goal.returns-clause-rows
-returns-clause-rows g c =
+pub returns : goal.returns
+returns g c =
     let at = rw (← c.self.view_is) at c.requires.seat in
     let there = seat_there _ c.self.invariant.0 _ _ at in
     elim c.match-index_mut.branch [
-      | in-Part w ↦ rw w.self-inside-is
-          (seated_rows _ (exchanged _ c.self.invariant.0 _ w.in-Part.lodging w.edit.new.self (rw w.in-Part.is at c.index_mut.ensures.value) there w.edit.ensures.range w.edit.ensures.rules))
-      | in-Piece w ↦ rw (w.self-inside-is, set_same c.self.inside.seats.items _ _ c.index_mut.ensures.value) (seated_rows _ c.self.invariant.0)
-    ]
-
-pub returns-clause-homes : goal.returns-clause-homes
-returns-clause-homes g c =
-    let at = rw (← c.self.view_is) at c.requires.seat in
-    let home = rw (← c.self.view_is) at c.requires.home in
-    elim c.match-index_mut.branch [
       | in-Part w ↦
           let is = rw w.in-Part.is at c.index_mut.ensures.value in
-          let was = seat_home _ c.self.invariant.0 _ _ at w.in-Part.lodging is home in
-          rw (w.self-inside-is, ← c.self.view_is) (parts-kept (λ (o : Lodged). o.home) c.self.inside.seats.items _ w.in-Part.lodging w.edit.new.self (w.edit.ensures.home ∙ sym was) is)
-      | in-Piece w ↦ rw (w.self-inside-is, ← c.self.view_is, set_same c.self.inside.seats.items _ _ c.index_mut.ensures.value) refl
-    ]
-
-pub returns-clause-outs : goal.returns-clause-outs
-returns-clause-outs g c =
-    let at = rw (← c.self.view_is) at c.requires.seat in
-    let home = rw (← c.self.view_is) at c.requires.home in
-    elim c.match-index_mut.branch [
-      | in-Part w ↦
-          let is = rw w.in-Part.is at c.index_mut.ensures.value in
-          let was = seat_home _ c.self.invariant.0 _ _ at w.in-Part.lodging is home in
-          rw (w.self-inside-is, ← c.self.view_is) (parts-kept out_of c.self.inside.seats.items _ w.in-Part.lodging w.edit.new.self (none_out _ _ was w.edit.ensures.home) is)
-      | in-Piece w ↦ rw (w.self-inside-is, ← c.self.view_is, set_same c.self.inside.seats.items _ _ c.index_mut.ensures.value) refl
-    ]
-
-pub returns-clause-beside : goal.returns-clause-beside
-returns-clause-beside g c =
-    let at = rw (← c.self.view_is) at c.requires.seat in
-    let home = rw (← c.self.view_is) at c.requires.home in
-    elim c.match-index_mut.branch [
-      | in-Part w ↦
-          let is = rw w.in-Part.is at c.index_mut.ensures.value in
-          let was = seat_home _ c.self.invariant.0 _ _ at w.in-Part.lodging is home in
-          rw (w.self-inside-is, w.result-is, ← c.self.view_is)
-          (acted_beside _ c.self.invariant.0 (g.E.Edit.action c.args.edit) _ at w.in-Part.lodging w.edit.new.self is was w.edit.ensures.home w.edit.ensures.desk.0 _ w.edit.ensures.outcome)
-      | in-Piece w ↦ rw (w.self-inside-is, w.result-is, ← c.self.view_is, set_same c.self.inside.seats.items _ _ c.index_mut.ensures.value)
-          (refused_beside _ c.self.invariant.0 (g.E.Edit.action c.args.edit) _ at _ (rw w.in-Piece.is at c.index_mut.ensures.value) _ (rw w.to_action.ensures at w.moving.ensures))
+          let was = seat_home _ c.self.invariant.0 _ _ at w.in-Part.lodging is (rw (← c.self.view_is) at c.requires.home) in
+          let desks = parts-kept (λ (o : Lodged). o.holding.desk) c.self.inside.seats.items _ w.in-Part.lodging w.edit.new.self w.edit.ensures.desk.0 is in
+          rw (w.self-inside-is, w.result-is, ← c.self.view_is) (record {
+            answer = acted_answer _ c.self.invariant.0 _ _ at w.in-Part.lodging is w.edit.new.self (g.E.Edit.action c.args.edit) _ refl w.edit.ensures.outcome;
+            store = rw desks refl;
+            rows = seated_rows _ (exchanged _ c.self.invariant.0 _ w.in-Part.lodging w.edit.new.self is there w.edit.ensures.range w.edit.ensures.rules);
+            same = refl;
+            homes = parts-kept (λ (o : Lodged). o.home) c.self.inside.seats.items _ w.in-Part.lodging w.edit.new.self (w.edit.ensures.home ∙ sym was) is;
+            outs = parts-kept out_of c.self.inside.seats.items _ w.in-Part.lodging w.edit.new.self (none_out _ _ was w.edit.ensures.home) is;
+            beside = acted_beside _ c.self.invariant.0 (g.E.Edit.action c.args.edit) _ at w.in-Part.lodging w.edit.new.self is was w.edit.ensures.home w.edit.ensures.desk.0 _ w.edit.ensures.outcome;
+          })
+      | in-Piece w ↦
+          let is = rw w.in-Piece.is at c.index_mut.ensures.value in
+          let told = rw w.to_action.ensures at w.moving.ensures in
+          rw (w.self-inside-is, w.result-is, ← c.self.view_is, set_same c.self.inside.seats.items _ _ c.index_mut.ensures.value) (record {
+            answer = piece_answer _ c.self.invariant.0 _ _ at _ is (g.E.Edit.action c.args.edit) _ told;
+            store = refl;
+            rows = seated_rows _ c.self.invariant.0;
+            same = refl;
+            homes = refl;
+            outs = refl;
+            beside = refused_beside _ c.self.invariant.0 (g.E.Edit.action c.args.edit) _ at _ is _ told;
+          })
     ]

@@ -36,41 +36,24 @@ invariant_of-self c =
       c.self.invariant.2,
     )
 
-pub returns-clause-holding : goal.returns-clause-holding
-returns-clause-holding c = rw (← c.self.view_is, c.lend.ensures.holding) (get_number _ c.self.invariant.0 c.args.part _ (rw c.from.ensures at (sym c.index_of_part.ensures ∙ c.in-Some.is)) (λ (o : Lodged). o.holding) c.in-Part.lodging (rw c.in-Part.is at c.index_mut.ensures.value))
-
-pub returns-clause-away : goal.returns-clause-away
-returns-clause-away c =
-    let gone = ap (λ (m : Lodged). m.home) c.lend.ensures.seat in
-    rw (← c.self.view_is, ← gone) (set_number _ c.self.invariant.0 c.args.part _ (rw c.from.ensures at (sym c.index_of_part.ensures ∙ c.in-Some.is)) (λ (o : Lodged). o.home) c.in-Part.lodging (rw c.in-Part.is at c.index_mut.ensures.value) c.lend.new.self)
-
-pub returns-clause-holdings : goal.returns-clause-holdings
-returns-clause-holdings c =
-    rw (← c.self.view_is)
-    (parts-kept (λ (o : Lodged). o.holding) c.self.inside.seats.items _ c.in-Part.lodging c.lend.new.self (ap (λ (m : Lodged). m.holding) c.lend.ensures.seat) (rw c.in-Part.is at c.index_mut.ensures.value))
-
-pub returns-clause-owners : goal.returns-clause-owners
-returns-clause-owners c =
-    rw (← c.self.view_is) (lent_owners c.self.inside.seats.items _ c.in-Part.lodging c.lend.new.self (rw c.in-Part.is at c.index_mut.ensures.value) (ap (λ (m : Lodged). m.holding) c.lend.ensures.seat))
-
-pub returns-clause-store : goal.returns-clause-store
-returns-clause-store c =
-    let owners = lent_owners c.self.inside.seats.items _ c.in-Part.lodging c.lend.new.self (rw c.in-Part.is at c.index_mut.ensures.value) (ap (λ (m : Lodged). m.holding) c.lend.ensures.seat) in
-    let desks = parts-kept (λ (o : Lodged). o.holding.desk) c.self.inside.seats.items _ c.in-Part.lodging c.lend.new.self (ap (λ (m : Lodged). m.holding.desk) c.lend.ensures.seat) (rw c.in-Part.is at c.index_mut.ensures.value) in
-    rw (← c.self.view_is, owners, desks) refl
-
-pub returns-clause-board : goal.returns-clause-board
-returns-clause-board c =
-    rw (← c.self.view_is, c.lend.ensures.holding)
-    (posted_before _ c.self.invariant.0 _ c.self.invariant.1 c.args.part _ (rw c.from.ensures at (sym c.index_of_part.ensures ∙ c.in-Some.is)) c.in-Part.lodging (rw c.in-Part.is at c.index_mut.ensures.value) ∙ sym c.self.invariant.1.of_board.0.same)
-
-pub returns-clause-within : goal.returns-clause-within
-returns-clause-within c = λ s_id placed.
-    rw c.lend.ensures.holding (part_within _ c.self.invariant.0 c.args.part _ (rw c.from.ensures at (sym c.index_of_part.ensures ∙ c.in-Some.is)) s_id c.in-Part.lodging (rw c.in-Part.is at c.index_mut.ensures.value) (rw (← c.self.view_is) at placed))
-
-pub returns-clause-lent : goal.returns-clause-lent
-returns-clause-lent c =
+pub returns : goal.returns
+returns c =
     let at = rw c.from.ensures at (sym c.index_of_part.ensures ∙ c.in-Some.is) in
+    let is = rw c.in-Part.is at c.index_mut.ensures.value in
     let there = part_sits_there _ c.self.invariant.0 c.args.part _ at in
-    let home = (at_number _ c.self.invariant.0 c.args.part _ at (λ (o : Lodged). o.home) c.in-Part.lodging (rw c.in-Part.is at c.index_mut.ensures.value) false).1 ∙ rw (← c.self.view_is) at c.requires in
-    rw (← c.self.view_is) (lent_from _ c.args.part c.in-Some.i c.in-Part.lodging c.lend.new.self c.lend.result.value at there (rw c.in-Part.is at c.index_mut.ensures.value) c.lend.ensures.holding home c.lend.ensures.seat)
+    let home = (at_number _ c.self.invariant.0 c.args.part _ at (λ (o : Lodged). o.home) c.in-Part.lodging is false).1 ∙ rw (← c.self.view_is) at c.requires in
+    let same = ap (λ (m : Lodged). m.holding) c.lend.ensures.seat in
+    let owners = lent_owners c.self.inside.seats.items _ c.in-Part.lodging c.lend.new.self is same in
+    let desks = parts-kept (λ (o : Lodged). o.holding.desk) c.self.inside.seats.items _ c.in-Part.lodging c.lend.new.self (ap (λ (k : HoldingState). k.desk) same) is in
+    rw (← c.self.view_is) (record {
+      lent = lent_from _ c.args.part c.in-Some.i c.in-Part.lodging c.lend.new.self c.lend.result.value at there is c.lend.ensures.holding home c.lend.ensures.seat;
+      holding = rw c.lend.ensures.holding (get_number _ c.self.invariant.0 c.args.part _ at (λ (o : Lodged). o.holding) c.in-Part.lodging is);
+      away = rw (← ap (λ (m : Lodged). m.home) c.lend.ensures.seat) (set_number _ c.self.invariant.0 c.args.part _ at (λ (o : Lodged). o.home) c.in-Part.lodging is c.lend.new.self);
+      holdings = parts-kept (λ (o : Lodged). o.holding) c.self.inside.seats.items _ c.in-Part.lodging c.lend.new.self same is;
+      owners = owners;
+      store = rw (owners, desks) refl;
+      same = refl;
+      board = rw c.lend.ensures.holding (posted_before _ c.self.invariant.0 _ c.self.invariant.1 c.args.part _ at c.in-Part.lodging is ∙ sym c.self.invariant.1.of_board.0.same);
+      within = λ s_id placed. rw c.lend.ensures.holding (part_within _ c.self.invariant.0 c.args.part _ at s_id c.in-Part.lodging is placed);
+      rules = c.lend.ensures.rules;
+    })

@@ -1,4 +1,4 @@
-use Rattle.std.proofs.Common.{◌∙◌, sym}
+use Rattle.std.proofs.Common.{◌∙◌, sym, refl}
 use Rattle.hlr_owners.specs.Lodged.{Lodged}
 use Rattle.hlr_owners.specs.Out.{out_of}
 use Rattle.hlr_owners.proofs.BesideLemmas.{none_posted_beside, posted_beside}
@@ -8,9 +8,14 @@ use Rattle.hlr_owners.proofs.PostedLemmas.{none_posted, posted_before, posted_de
 use Rattle.hlr_owners.proofs.SeatLemmas.{parts-kept}
 use Rattle.hlr_owners.proofs.seats.Seats.post.Goals as goal
 
-pub returns-in_default-clause-posted : goal.returns-in_default-clause-posted
-returns-in_default-clause-posted c =
-    rw (← c.self.view_is) (none_posted _ c.self.invariant.0 c.args.part c.args.limit (sym c.in_default.ensures))
+pub returns-in_default : goal.returns-in_default
+returns-in_default c = rw (← c.self.view_is) (record {
+  posted = none_posted _ c.self.invariant.0 c.args.part c.args.limit (sym c.in_default.ensures);
+  same = refl;
+  homes = refl;
+  outs = refl;
+  beside = none_posted_beside _ c.self.invariant.0 c.args.part c.args.limit (sym c.in_default.ensures);
+})
 
 pub index_mut-requires : goal.index_mut-requires
 index_mut-requires c = rw c.self.inside.seats.ok.0 (part_sits_there _ c.self.invariant.0 c.args.part _ (sym c.index_of_part.ensures ∙ c.in-Some.is))
@@ -34,31 +39,16 @@ invariant_of-self c =
     c.post.ensures.before c.post.ensures.posted c.post.ensures.part c.post.ensures.desk in
     (seated, desks, c.self.invariant.2)
 
-pub returns-clause-posted : goal.returns-clause-posted
-returns-clause-posted c =
-    rw (← c.self.view_is) (posted_right _ c.self.invariant.0 _ c.self.invariant.1 c.args.part _ (sym c.index_of_part.ensures ∙ c.in-Some.is) c.in-Part.lodging (rw c.in-Part.is at c.index_mut.ensures.value) c.post.new.self c.args.limit c.post.result
-    c.post.ensures.before c.post.ensures.posted c.post.ensures.part c.post.ensures.desk)
-
-pub returns-clause-homes : goal.returns-clause-homes
-returns-clause-homes c =
-    let is = rw c.in-Part.is at c.index_mut.ensures.value in
-    let was = part_is_home _ c.self.invariant.0 c.args.part _ (sym c.index_of_part.ensures ∙ c.in-Some.is) c.in-Part.lodging is (rw (← c.self.view_is) at c.requires.home) in
-    rw (← c.self.view_is) (parts-kept (λ (o : Lodged). o.home) c.self.inside.seats.items _ c.in-Part.lodging c.post.new.self (c.post.ensures.home ∙ sym was) is)
-
-pub returns-clause-outs : goal.returns-clause-outs
-returns-clause-outs c =
-    let is = rw c.in-Part.is at c.index_mut.ensures.value in
-    let was = part_is_home _ c.self.invariant.0 c.args.part _ (sym c.index_of_part.ensures ∙ c.in-Some.is) c.in-Part.lodging is (rw (← c.self.view_is) at c.requires.home) in
-    rw (← c.self.view_is) (parts-kept out_of c.self.inside.seats.items _ c.in-Part.lodging c.post.new.self (none_out _ _ was c.post.ensures.home) is)
-
-pub returns-in_default-clause-beside : goal.returns-in_default-clause-beside
-returns-in_default-clause-beside c =
-    rw (← c.self.view_is) (none_posted_beside _ c.self.invariant.0 c.args.part c.args.limit (sym c.in_default.ensures))
-
-pub returns-clause-beside : goal.returns-clause-beside
-returns-clause-beside c =
-    let is = rw c.in-Part.is at c.index_mut.ensures.value in
+pub returns : goal.returns
+returns c =
     let index = sym c.index_of_part.ensures ∙ c.in-Some.is in
+    let is = rw c.in-Part.is at c.index_mut.ensures.value in
     let was = part_is_home _ c.self.invariant.0 c.args.part _ index c.in-Part.lodging is (rw (← c.self.view_is) at c.requires.home) in
-    rw (← c.self.view_is) (posted_beside _ c.self.invariant.0 _ c.self.invariant.1 c.args.part _ index c.in-Part.lodging is was c.post.new.self c.post.ensures.home c.args.limit c.post.result
-    c.post.ensures.before c.post.ensures.posted c.post.ensures.part c.post.ensures.desk)
+    rw (← c.self.view_is) (record {
+      posted = posted_right _ c.self.invariant.0 _ c.self.invariant.1 c.args.part _ index c.in-Part.lodging is c.post.new.self c.args.limit c.post.result c.post.ensures.before c.post.ensures.posted c.post.ensures.part c.post.ensures.desk;
+      same = refl;
+      homes = parts-kept (λ (o : Lodged). o.home) c.self.inside.seats.items _ c.in-Part.lodging c.post.new.self (c.post.ensures.home ∙ sym was) is;
+      outs = parts-kept out_of c.self.inside.seats.items _ c.in-Part.lodging c.post.new.self (none_out _ _ was c.post.ensures.home) is;
+      beside = posted_beside _ c.self.invariant.0 _ c.self.invariant.1 c.args.part _ index c.in-Part.lodging is was c.post.new.self c.post.ensures.home c.args.limit c.post.result
+          c.post.ensures.before c.post.ensures.posted c.post.ensures.part c.post.ensures.desk;
+    })

@@ -19,12 +19,19 @@ move_bound-requires-clause-home c =
     let began : Seating = record { regions = c.self.inside.regions; seats = c.self.inside.seats.items; spare = c.self.inside.spare; width = c.self.inside.width } in
     cut_move_home c.args.bounds.now began c.loop-bound_move.self _ _ _ answer (rw (← c.self.view_is) at c.requires.home) c.loop-bound_move-test.true same
 
-pub returns-in_err-move_bound-clause-recut : goal.returns-in_err-move_bound-clause-recut
-returns-in_err-move_bound-clause-recut c =
+pub returns-in_err-move_bound : goal.returns-in_err-move_bound
+returns-in_err-move_bound c =
     let why = err_from_is_err_and c.from_residual-in_err-move_bound.result c.from_residual-in_err-move_bound.ensures.1 in
     let answer = rw (← c.as_slice-bound_move-items.ensures.value) at c.in_ok-moves.ensures.answer in
     let moving = rw (← c.self.view_is) at c.loop-bound_move.invariant.0 in
-    rw (← c.self.view_is, why.1, why.2, answer) (moving_stopped _ _ _ _ _ _ c.loop-bound_move-test.true moving _ _ c.in_err-move_bound.ensures.handed)
+    let all = moved_after _ _ _ c.loop-bound_move.invariant.1 c.in_err-move_bound.ensures.moved in
+    record {
+      recut = rw (← c.self.view_is, why.1, why.2, answer) (moving_stopped _ _ _ _ _ _ c.loop-bound_move-test.true moving _ _ c.in_err-move_bound.ensures.handed);
+      homes = all.homes;
+      outs = all.outs;
+      same = all.same;
+      beside = all.beside;
+    }
 
 pub loop-bound_move-preserved : goal.loop-bound_move-preserved
 loop-bound_move-preserved c =
@@ -35,15 +42,3 @@ returns-clause-recut c =
     let answer = rw (← c.as_slice-bound_move-items.ensures.value) at c.in_ok-moves.ensures.answer in
     let moving = rw (← c.self.view_is) at c.loop-bound_move.invariant.0 in
     rw (← c.self.view_is, answer) (c.len.ensures.value ∙ ap length (sym c.as_slice-bound_move-items.ensures.value), all_moves _ _ _ _ _ c.loop-bound_move-test.false moving)
-
-pub returns-in_err-move_bound-clause-homes : goal.returns-in_err-move_bound-clause-homes
-returns-in_err-move_bound-clause-homes c = (moved_after _ _ _ c.loop-bound_move.invariant.1 c.in_err-move_bound.ensures.moved).homes
-
-pub returns-in_err-move_bound-clause-outs : goal.returns-in_err-move_bound-clause-outs
-returns-in_err-move_bound-clause-outs c = (moved_after _ _ _ c.loop-bound_move.invariant.1 c.in_err-move_bound.ensures.moved).outs
-
-pub returns-in_err-move_bound-clause-same : goal.returns-in_err-move_bound-clause-same
-returns-in_err-move_bound-clause-same c = (moved_after _ _ _ c.loop-bound_move.invariant.1 c.in_err-move_bound.ensures.moved).same
-
-pub returns-in_err-move_bound-clause-beside : goal.returns-in_err-move_bound-clause-beside
-returns-in_err-move_bound-clause-beside c = (moved_after _ _ _ c.loop-bound_move.invariant.1 c.in_err-move_bound.ensures.moved).beside
