@@ -4,7 +4,6 @@ use Rattle.std.specs.Prelude.{Ok, position, insert, remove, option_map, slice_ge
 use Rattle.std.specs.declared.alloc.Global.{Global}
 use Rattle.std.proofs.lemmas.Option.{slice_get-map}
 use Rattle.atomic_table.specs.Seated.{TableId}
-use Rattle.tatp_rows.proofs.PlaceLemmas.{each_at}
 use Rattle.part_table.specs.Dissolve.{dissolved, dissolve_answer, place_lowered}
 use Rattle.part_table.specs.Region.{is_part}
 use Rattle.part_table.specs.declared.region.Place.{Place}
@@ -19,7 +18,7 @@ use Rattle.view_board.specs.Desks.{Station, with_view}
 use Rattle.view_board.specs.Views.{IsLeastSlot, both, taken_back}
 use Rattle.holding.specs.Held.{HoldingState, PieceState, IsHolding}
 use Rattle.holding.specs.Moved.{IsMerged}
-use Rattle.hlr_owners.specs.Desks.{AreDesks, HasOneSlot, IsOfBoard, slots_in, words_of}
+use Rattle.hlr_owners.specs.Desks.{AreDesks, slots_in, words_of}
 use Rattle.hlr_owners.specs.Lodged.{Lodged}
 use Rattle.hlr_owners.specs.Out.{out_of, with_outs}
 use Rattle.hlr_owners.specs.Parted.{words_back, IsDissolved, IsDissolvedBeside, IsWithout}
@@ -32,7 +31,7 @@ use Rattle.hlr_owners.proofs.HomeLemmas.{first_home, later_home}
 use Rattle.hlr_owners.proofs.IndexedLemmas.{set_same, put_back, other_left, both_edited, map-remove}
 use Rattle.hlr_owners.proofs.LendLemmas.{lodged_is, seated_later, desks_later}
 use Rattle.hlr_owners.proofs.OutLemmas.{none_out, outs-at, outs-set}
-use Rattle.hlr_owners.proofs.PartLemmas.{ahead, at_number, get_number, part_number_at, part_seat, part_sits, part_sits_there, part_is_home}
+use Rattle.hlr_owners.proofs.PartLemmas.{ahead, get_number, part_number_at, part_seat, part_sits, part_sits_there, part_is_home}
 use Rattle.hlr_owners.proofs.PartedDeskLemmas.{desks_dissolved, words_dissolved, seen_grows}
 use Rattle.hlr_owners.proofs.PutLemmas.{parts-remove_part, outs-remove_part, AreHomeFrom}
 use Rattle.hlr_owners.proofs.SeatLemmas.{IsSeatIn, part_kind, parts-kept, placed_in, seated_rows, each_in, seats_in}
@@ -66,9 +65,6 @@ module _ (h : Seating) (are : AreSeated h) (p : ℕ) (told : ℕ × ℕ × ℕ) 
   stays s stood =
       let next : i ≡ i - 1 + 1 = omega (arith, behind) in
       stood ∙ (ap (λ k. get_or (remove h.seats k) (i - 1) s) next ∙ other_left High h.seats (i - 1) s (omega (arith, behind, within)))
-
-  pub dissolved_is_part : (b : Box PieceState Global) → Piece b ≡ get_or h.seats i (Piece b) → ⊥
-  dissolved_is_part b is = part_sits h are p i index b is
 
   pub dissolver_is_part : (b : Box PieceState Global) → Piece b ≡ get_or (remove h.seats i) (i - 1) (Piece b) → ⊥
   dissolver_is_part b stood = part_sits h are (p - 1) (i - 1) front_at b (stays (Piece b) stood)
@@ -180,18 +176,6 @@ pub record LeavesDissolved (board : TableId) (p : ℕ) (told : ℕ × ℕ × ℕ
 
 module _ (h : Seating) (are : AreSeated h) (p : ℕ) (told : ℕ × ℕ × ℕ) (answer : dissolve_answer p h.regions ≡ Ok told) (i : ℕ) (index : position (is_part p) h.regions ≡ Some i) (l : Lodged) (is : Part l ≡ get_or h.seats i (Part l))
     (board : TableId) (rules : AreDesks board h.spare (desks_in h.seats)) where
-  -- the part's desk is of the board, and has one slot
-  desk_here : (p < length (desks_in h.seats)) × (l.holding.desk ≡ get_or (desks_in h.seats) p l.holding.desk)
-  desk_here = at_number h are p i index (λ (o : Lodged). o.holding.desk) l is l.holding.desk
-
-  pub dissolved_board : l.holding.desk.board ≡ board
-  dissolved_board =
-      let of_board : IsOfBoard board l.holding.desk = rw desk_here.1 (each_at (IsOfBoard board) (desks_in h.seats) p l.holding.desk rules.of_board.1 desk_here.0) in
-      of_board.same
-
-  pub dissolved_slot : HasOneSlot l.holding.desk
-  dissolved_slot = rw desk_here.1 (each_at HasOneSlot (desks_in h.seats) p l.holding.desk rules.shares.alone desk_here.0)
-
   -- it is so whatever those that are out have become, where nobody from the part in front on is
   pub all_dissolved : (k : Lodged) → Part k ≡ get_or (remove h.seats i) (i - 1) (Part k) → (m : Lodged) (desk : Station) → IsMerged k.holding l.holding desk m.holding → IsHolding m.holding → IsHolding l.holding
       → IsHomeFrom (p - 1) h → m.home ≡ true → (spare : Station) → spare ≡ with_view h.spare (both h.spare.view desk.view)

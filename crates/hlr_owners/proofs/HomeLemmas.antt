@@ -61,14 +61,11 @@ place_home_of_all None h all = tt
 pub home_of_all : (s_id : ℕ) (h : Seating) → AllHome h.seats → IsHomeFor s_id h
 home_of_all s_id h all = place_home_of_all (place_of s_id h.regions) h all
 
--- with the same parts at home a bound may move, and with all at home a re-cut
-pub move_home : (before after : Seating) (move : CutMove) → homes_in after.seats ≡ homes_in before.seats → IsHomeToMove before move → IsHomeToMove after move
-move_home before after move same home = rw same home
-
+-- with the same parts at home a bound of a re-cut may move, and with all at home a re-cut
 pub cut_move_home : (bounds : List ℕ) (before now : Seating) (moves : List CutMove) (i : ℕ) (d : CutMove) → recut_answer before.regions bounds ≡ Ok moves → IsHomeToCut bounds before
     → i < length moves → homes_in now.seats ≡ homes_in before.seats → IsHomeToMove now (get_or moves i d)
 cut_move_home bounds before now moves i d answer home within same =
-    move_home before now (get_or moves i d) same (each_at (IsHomeToMove before) moves i d (rw answer at home) within)
+    rw same (each_at (IsHomeToMove before) moves i d (rw answer at home) within)
 
 moves_home : (h : Seating) (moves : List CutMove) → AllHome h.seats → AllByRecursion (IsHomeToMove h) moves
 moves_home h [] all = tt

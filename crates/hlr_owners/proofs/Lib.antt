@@ -20,7 +20,6 @@ pub mod MayGatherLemmas
 pub mod OpenLemmas
 pub mod OpenedLemmas
 pub mod OutLemmas
-pub mod OwnerActLemmas
 pub mod OwnerCountLemmas
 pub mod OwnerLemmas
 pub mod OwnerPostLemmas

@@ -6,12 +6,12 @@ use Rattle.std.proofs.lemmas.Bool.Decides.{nat_tests}
 use Rattle.std.proofs.lemmas.List.Quantifiers.{position-Some}
 use Rattle.tatp_rows.proofs.OrderedLemmas.{by_test, each-weaker}
 use Rattle.tatp_rows.proofs.RowLemmas.{facility_type, forwarding_type, forwarding_ranges}
-use Rattle.tatp_rows.specs.Keys.{key_of, facility_key, forwarding_key}
+use Rattle.tatp_rows.specs.Keys.{key_of, facility_key, forwarding_key, subscriber_key}
 use Rattle.tatp_rows.specs.Ordered.{row_at}
-use Rattle.tatp_rows.specs.Rows.{SubscriberRow, SpecialFacilityRow, CallForwardingRow, facility_in_range, forwarding_in_range}
+use Rattle.tatp_rows.specs.Rows.{SubscriberRow, SpecialFacilityRow, CallForwardingRow, facility_in_range, forwarding_in_range, subscriber_in_range}
 use Rattle.tatp_rows.specs.declared.refusal.Refusal.{Refusal}
 use Rattle.tatp_rows.specs.declared.refusal.Refusal.TheVariants as refusal
-use Rattle.tatp_actions.specs.Book.{Book, IsBook, IsWithin, facility_at, first_subscriber, forwarding_at, is_within, rows_between}
+use Rattle.tatp_actions.specs.Book.{Book, IsBook, IsWithin, facility_at, first_subscriber, forwarding_at, is_within, rows_between, subscriber_at}
 use Rattle.part_table.specs.Region.{lies_in}
 use Rattle.part_table.specs.declared.region.Region.{Region}
 use Rattle.part_table.proofs.PlaceLemmas.{blank}
@@ -56,6 +56,13 @@ module _ (lo hi s_id : ℕ) (book : Book) (rules : IsBook book) (within : IsWith
       let start = (forwarding_ranges row holds).start_time_below in
       let same : row.s_id ≡ s_id = omega arith in rw same inside) book.forwardings rules.forwardings_in_range)
 
+  -- and the subscriber's own row
+  pub subscriber_between : subscriber_at (rows_between lo hi book) s_id ≡ subscriber_at book s_id
+  subscriber_between =
+      kept_at subscriber_key (λ (row : SubscriberRow). is_within lo hi row.s_id) (key_of s_id 0 0) book.subscribers
+      (each-weaker {P = λ (row : SubscriberRow). subscriber_in_range row ≡ true} {Q = λ (row : SubscriberRow). subscriber_key row ≡ key_of s_id 0 0 → is_within lo hi row.s_id ≡ true}
+      (λ row holds at. let same : row.s_id ≡ s_id = omega arith in rw same inside) book.subscribers rules.subscribers_in_range)
+
 -- the part that has a subscriber has what all rows have of them
 module _ (h : Seating) (are : AreSeated h) (s_id i : ℕ) (at : position (lies_in s_id) h.regions ≡ Some i) (l : Lodged) (is : Part l ≡ get_or h.seats i (Part l)) where
   abbrev region : Region
@@ -76,6 +83,9 @@ module _ (h : Seating) (are : AreSeated h) (s_id i : ℕ) (at : position (lies_i
     forwarding = λ t u low small. sym (forwarding_between region.lo region.hi s_id (book_in h.seats) (seated_rows h are).rules (lies_within s_id region here.1) t u low small)
         ∙ ap (λ (book : Book). forwarding_at book s_id t u) own;
   }
+
+  pub part_subscriber : subscriber_at (book_in h.seats) s_id ≡ subscriber_at l.holding.part.book s_id
+  part_subscriber = sym (subscriber_between region.lo region.hi s_id (book_in h.seats) (seated_rows h are).rules (lies_within s_id region here.1)) ∙ ap (λ (book : Book). subscriber_at book s_id) own
 
 -- what a part's rows have is what is answered of all, and a loose piece answers Moving
 pub row_found : {R : Type 0} (s_id : ℕ) (store : Store) (found own o : Option R) (none : Refusal) → is_loose s_id store.regions ≡ false → found ≡ own → o ≡ own → ok_or o none ≡ row_answer s_id store found none

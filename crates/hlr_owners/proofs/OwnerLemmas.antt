@@ -1,14 +1,13 @@
 -- The owners of all regions, one beside each, and their rows as one book.
 use Rattle.std.proofs.Common.{◌≡◌, ℕ, ◌<◌, ◌≤◌, arith, List, [], ◌∷◌, sym, ◌∙◌, ap, true, map}
 use Rattle.std.specs.List.{AllZip}
-use Rattle.tatp_actions.specs.Book.{Book, IsRowsOf, IsWithin, rows_between, subscriber_at}
+use Rattle.tatp_actions.specs.Book.{Book, IsRowsOf, IsWithin, rows_between}
 use Rattle.tatp_actions.specs.Joined.{join_books, book_of}
 use Rattle.tatp_actions.proofs.JoinedLemmas.{rows_joined}
 use Rattle.part_table.specs.declared.region.Region.{Region}
 use Rattle.hlr_owners.specs.Held.{Owner, IsOwner, AreOwners}
 use Rattle.std.proofs.lemmas.Bool.Decides.{nat_tests}
 use Rattle.tatp_actions.proofs.BetweenLemmas.{low_between, own_rows, none_past, between_joined}
-use Rattle.tatp_actions.proofs.LocalLemmas.{apart, subscriber-low, subscriber-high}
 use Rattle.part_table.proofs.BoundsLemmas.{within}
 use Rattle.part_table.specs.Region.{lies_in}
 use Rattle.part_table.specs.Regions.{IsConsecutive}
@@ -99,25 +98,3 @@ book_stays regions owners book rows consecutive each = book_from 1 regions owner
 -- an s_id that lies in a region
 pub lies_within : (s_id : ℕ) (region : Region) → lies_in s_id region ≡ true → IsWithin region.lo region.hi s_id
 lies_within s_id region inside = (grind (arith, nat_tests), grind (arith, nat_tests))
-
--- an owner's subscribers are those of its region in a book
-abbrev pub HasSubscribers : Book → Region → Owner → Type 0
-HasSubscribers book region owner =
-    (s_id : ℕ) → lies_in s_id region ≡ true → IsWithin owner.part.lo owner.part.hi s_id × (subscriber_at book s_id ≡ subscriber_at owner.part.book s_id)
-
--- so are they in the rows of all
-pub owners_subscriber : (width from : ℕ) (regions : List Region) (owners : List Owner) → AreOwners width regions owners → IsConsecutive from regions
-    → AllZip (HasSubscribers (book_of_owners owners)) regions owners
-owners_subscriber width from [] [] each consecutive = tt
-owners_subscriber width from [] (owner ∷ owners) each consecutive = absurd each
-owners_subscriber width from (region ∷ regions) [] each consecutive = absurd each
-owners_subscriber width from (region ∷ regions) (owner ∷ owners) each consecutive =
-    let own = own_region width region owner each.0 in
-    let rest = book_of_owners owners in
-    let parts = apart region.lo region.hi END owner.part.book rest own (owner_rows width region.hi regions owners each.1 consecutive.2) in
-    let others = zip_behind (HasSubscribers rest) region.hi regions owners consecutive.2 (owners_subscriber width region.hi regions owners each.1 consecutive.2) in (
-      (λ s_id inside. let here = lies_within s_id region inside in (rw (each.0.from, each.0.to) here, subscriber-low region.hi owner.part.book rest s_id parts here.1)),
-      zip_weaker {P = λ (r : Region) (o : Owner). IsBehind region.hi r × HasSubscribers rest r o} {Q = HasSubscribers (join_books owner.part.book rest)}
-          (λ r o has s_id inside. let there = (lies_within s_id r inside).0 in let behind = has.0.0 in let known = has.1 s_id inside in
-          (known.0, subscriber-high region.hi owner.part.book rest s_id parts (omega arith) ∙ known.1)) regions owners others,
-    )

@@ -22,7 +22,7 @@ use Rattle.view_board.specs.declared.words.TheConstants.{SLOTS}
 use Rattle.view_board.proofs.ListLemmas.{set_within}
 use Rattle.holding.specs.Held.{HoldingState, IsHolding, count_of}
 use Rattle.holding.specs.Post as own
-use Rattle.hlr_owners.specs.Desks.{words_of, slots_in, IsOfBoard, AreDesks}
+use Rattle.hlr_owners.specs.Desks.{words_of, slots_in, IsOfBoard, AreDesks, HasOneSlot}
 use Rattle.hlr_owners.specs.Held.{Owner, of_holding}
 use Rattle.hlr_owners.specs.Post.{post}
 use Rattle.hlr_owners.specs.Store.{Store, slots_of}
@@ -53,29 +53,24 @@ none_posted h are p limit none =
 
 module _ (h : Seating) (are : AreSeated h) (board : TableId) (rules : AreDesks board h.spare (desks_in h.seats)) (p i : ℕ) (index : position (is_part p) h.regions ≡ Some i)
     (l : Lodged) (is : Part l ≡ get_or h.seats i (Part l)) where
-  there : i < length h.seats
-  there = part_sits_there h are p i index
-
   number : (p < length (desks_in h.seats)) × (l.holding.desk ≡ get_or (desks_in h.seats) p l.holding.desk)
   number = at_number h are p i index (λ (o : Lodged). o.holding.desk) l is l.holding.desk
 
-  inside : p < length (desks_in h.seats)
-  inside = number.0
-
-  desk_here : l.holding.desk ≡ get_or (desks_in h.seats) p l.holding.desk
-  desk_here = number.1
-
   -- the desk is the board's
   of_board : IsOfBoard board l.holding.desk
-  of_board = rw desk_here (each_at (IsOfBoard board) (desks_in h.seats) p l.holding.desk rules.of_board.1 inside)
+  of_board = rw number.1 (each_at (IsOfBoard board) (desks_in h.seats) p l.holding.desk rules.of_board.1 number.0)
 
   pub posted_before : l.holding.desk.board ≡ board
   posted_before = of_board.same
 
+  -- and has one slot
+  pub part_slot : HasOneSlot l.holding.desk
+  part_slot = rw number.1 (each_at HasOneSlot (desks_in h.seats) p l.holding.desk rules.shares.alone number.0)
+
   -- the slots of the part
   part_slots : slots_of (store_in h) p ≡ Some (slots_in l.holding.desk)
-  part_slots = slice_get_read (map slots_in (desks_in h.seats)) (length (desks_in h.seats)) p (slots_in l.holding.desk) (sym (length-map (desks_in h.seats) slots_in)) inside
-      (ap slots_in desk_here ∙ sym (get_or-map slots_in (desks_in h.seats) p l.holding.desk))
+  part_slots = slice_get_read (map slots_in (desks_in h.seats)) (length (desks_in h.seats)) p (slots_in l.holding.desk) (sym (length-map (desks_in h.seats) slots_in)) number.0
+      (ap slots_in number.1 ∙ sym (get_or-map slots_in (desks_in h.seats) p l.holding.desk))
 
   -- its rows
   rows_here : HasRows (book_in h.seats) (get_or h.regions i blank) (of_holding l.holding)
@@ -88,7 +83,7 @@ module _ (h : Seating) (are : AreSeated h) (board : TableId) (rules : AreDesks b
 
     core : (post (count_of l.holding.part) (slots_in l.holding.desk) limit (words_of (h.spare ∷ desks_in h.seats)) ≡ (posted, words_of (h.spare ∷ set (desks_in h.seats) p m.holding.desk))) × IsWide m.holding.desk.view
     core =
-        let all = post_same (h.spare ∷ desks_in h.seats) (suc p) l.holding.desk (omega (arith, inside)) desk_here rules.shares.once of_board.wide l.holding.slot in_board lawful.slot (count_of l.holding.part) limit in
+        let all = post_same (h.spare ∷ desks_in h.seats) (suc p) l.holding.desk (omega (arith, number.0)) number.1 rules.shares.once of_board.wide l.holding.slot in_board lawful.slot (count_of l.holding.part) limit in
         let is_now = desk_is l.holding.desk m.holding.desk desk.0 in
         let told = ap (λ (answer : Result ℕ Refusal × View). answer.0) done in
         let knows = ap (λ (answer : Result ℕ Refusal × View). answer.1) done in
@@ -98,10 +93,10 @@ module _ (h : Seating) (are : AreSeated h) (board : TableId) (rules : AreDesks b
     desks_now = set_number h are p i index (λ (o : Lodged). o.holding.desk) l is m
 
     pub posted_desks : AreDesks board h.spare (desks_in (set h.seats i (Part m)))
-    posted_desks = rw desks_now (desks_posted board h.spare (desks_in h.seats) p l.holding.desk m.holding.desk inside desk_here rules desk.0 desk.1 core.1)
+    posted_desks = rw desks_now (desks_posted board h.spare (desks_in h.seats) p l.holding.desk m.holding.desk number.0 number.1 rules desk.0 desk.1 core.1)
 
     pub posted_seated : IsHolding m.holding → AreSeated (record h { seats = set h.seats i (Part m) })
-    posted_seated keeps = exchanged h are i l m is there (ap (λ (part : PartState). part.lo) same, ap (λ (part : PartState). part.hi) same, ap (λ (part : PartState). part.width) same) keeps
+    posted_seated keeps = exchanged h are i l m is (part_sits_there h are p i index) (ap (λ (part : PartState). part.lo) same, ap (λ (part : PartState). part.hi) same, ap (λ (part : PartState). part.width) same) keeps
 
     book_now : book_in (set h.seats i (Part m)) ≡ book_in h.seats
     book_now =
@@ -112,7 +107,7 @@ module _ (h : Seating) (are : AreSeated h) (board : TableId) (rules : AreDesks b
     -- it is a right one
     pub posted_right : IsPosting (slots_of (store_in h) p) p limit (store_in h) posted (store_in (record h { seats = set h.seats i (Part m) }))
     posted_right =
-        let slots = slots_posted (desks_in h.seats) p l.holding.desk m.holding.desk desk_here desk.1 in
+        let slots = slots_posted (desks_in h.seats) p l.holding.desk m.holding.desk number.1 desk.1 in
         rw (desks_now, book_now, slots)
         (right_posting (store_in h) (get_or h.regions i blank) l.holding p limit posted (words_of (h.spare ∷ set (desks_in h.seats) p m.holding.desk)) (slots_in l.holding.desk)
         part_slots (find_index (is_part p) h.regions i blank index) rows_here (part_seat h are p i index (Part l) is).owner.is.zones (sym core.0))

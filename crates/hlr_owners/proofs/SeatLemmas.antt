@@ -11,7 +11,7 @@ use Rattle.std.proofs.lemmas.List.Quantifiers.{position-Some}
 use Rattle.std.proofs.lemmas.Slice.Zip.{AllZip-long}
 use Rattle.std.proofs.Math.ListN.{get_or-map}
 use Rattle.tatp_actions.specs.Action.{s_id_of, IsOutcome, is_in_range}
-use Rattle.tatp_actions.specs.Book.{Book, IsRowsOf, IsWithin, subscriber_at}
+use Rattle.tatp_actions.specs.Book.{Book, IsRowsOf, IsWithin}
 use Rattle.tatp_actions.specs.declared.action.Action.{Action}
 use Rattle.tatp_actions.specs.declared.action.RowReply.{RowReply}
 use Rattle.tatp_actions.proofs.LocalLemmas.{apart, outcome-low, outcome-high}
@@ -27,9 +27,8 @@ use Rattle.holding.specs.Held.{PieceState, IsHolding}
 use Rattle.hlr_owners.specs.Held.{Owner, IsOwner, AreOwners, of_holding}
 use Rattle.hlr_owners.specs.Answered.{IsAnswered, is_loose, is_loose_place}
 use Rattle.hlr_owners.proofs.HeldLemmas.{holding_keeps}
-use Rattle.hlr_owners.proofs.OwnerActLemmas.{owner_same}
 use Rattle.hlr_owners.proofs.HalvesLemmas.{HasRows, IsOwnerIn}
-use Rattle.hlr_owners.proofs.OwnerLemmas.{book_of_owners, own_region, owner_rows, owners_rows, lies_within, book_stays, HasSubscribers, owners_subscriber}
+use Rattle.hlr_owners.proofs.OwnerLemmas.{book_of_owners, own_region, owner_rows, owners_rows, lies_within, book_stays}
 use Rattle.hlr_owners.specs.Lodged.{Lodged}
 use Rattle.hlr_owners.specs.Seats.{owner_of, owners_in, book_in, of_part, of_parts, IsKind, IsSeat, Seating, AreSeated}
 use Rattle.hlr_owners.specs.declared.lodging.Seat.{Seat}
@@ -185,7 +184,7 @@ exchanged h are i l m is there same keeps =
       are = are.are;
       each = zip_put (IsSeat h.width) h.regions h.seats i blank (Part m) are.each (record {
         kind = part_kind (get_or h.regions i blank).place l m seat.kind;
-        owner = owner_same h.width (get_or h.regions i blank) (of_holding l.holding) (of_holding m.holding) seat.owner same (holding_keeps m.holding keeps);
+        owner = record { from = same.0 ∙ seat.owner.from; to = same.1 ∙ seat.owner.to; zones = same.2 ∙ seat.owner.zones; keeps = holding_keeps m.holding keeps };
       });
       zones = are.zones;
     }
@@ -203,11 +202,6 @@ module _ (h : Seating) (are : AreSeated h) (s_id i : ℕ) (at : position (lies_i
     seat_within =
         let seat = seat_is h are i s is seat_there in
         rw (seat.owner.from, seat.owner.to) (lies_within s_id (get_or h.regions i blank) here.1)
-
-    -- its subscribers are those of its region
-    pub seat_subscriber : subscriber_at (book_in h.seats) s_id ≡ subscriber_at (owner_of s).part.book s_id
-    seat_subscriber = rw is ((zip_at (λ (r : Region) (s : Seat). HasSubscribers (book_in h.seats) r (owner_of s)) h.regions h.seats i blank s
-        (zip_seats (HasSubscribers (book_in h.seats)) h.regions h.seats (owners_subscriber h.width 1 h.regions (owners_in h.seats) (owned h.width h.regions h.seats are.each) are.are.consecutive)) here.0 s_id here.1).1)
 
   -- a loose piece answers that it moves
   module _ (b : Box PieceState Global) (is : Piece b ≡ get_or h.seats i (Piece b)) where

@@ -1,5 +1,5 @@
 -- A take among all seats: the piece's seat goes, and the part's stands for both.
-use Rattle.std.proofs.Common.{◌≡◌, ◌∙◌, refl, sym, ℕ, ◌+◌, ◌<◌, List, length, get_or, set, arith, true, Some}
+use Rattle.std.proofs.Common.{◌≡◌, ◌∙◌, refl, sym, ℕ, ◌+◌, ◌<◌, List, length, get_or, set, arith, true, Some, subst}
 use Rattle.std.specs.Prelude.{Ok, remove, insert, position, Box}
 use Rattle.std.specs.declared.alloc.Global.{Global}
 use Rattle.std.proofs.lemmas.List.Quantifiers.{position-Some}
@@ -39,15 +39,6 @@ taker_is : (side : Side) (i : ℕ) → taker side (piece_index side i) ≡ i
 taker_is Low i = refl
 taker_is High i = omega arith
 
--- no part sits beside a piece's region, and no piece beside a part's
-no_part_there : (n : ℕ) (p : Place) (l : Lodged) → p ≡ place.Piece n → IsKind p (Part l) → ⊥
-no_part_there n (place.Part p) l placed kind = cc
-no_part_there n (place.Piece m) l placed kind = kind
-
-no_piece_there : (q : ℕ) (p : Place) (b : Box PieceState Global) → p ≡ place.Part q → IsKind p (Piece b) → ⊥
-no_piece_there q (place.Part p) b placed kind = kind
-no_piece_there q (place.Piece m) b placed kind = cc
-
 module _ (h : Seating) (are : AreSeated h) (n q : ℕ) (side : Side) (j : ℕ) (index : position (is_piece n) h.regions ≡ Some j) (answer : take_answer n q h.regions ≡ Ok side) where
   abbrev two : IsPair n q side h.regions
   two = pair n q side h.regions are.are j index answer
@@ -78,7 +69,7 @@ module _ (h : Seating) (are : AreSeated h) (n q : ℕ) (side : Side) (j : ℕ) (
   piece_seat s is = seat_in h are (piece_index side two.i) s (rw at at is) inside.0
 
   pub taken_is_piece : (l : Lodged) → Part l ≡ get_or h.seats j (Part l) → ⊥
-  taken_is_piece l is = no_part_there n piece.place l placed.0 (piece_seat (Part l) is).kind
+  taken_is_piece l is = subst (λ (one : Place). IsKind one (Part l)) placed.0 (piece_seat (Part l) is).kind
 
   -- and once it is gone the part has an index
   pub taker_there : taker side j < length (remove h.seats j)
@@ -99,7 +90,7 @@ module _ (h : Seating) (are : AreSeated h) (n q : ℕ) (side : Side) (j : ℕ) (
     part_seat = seat_in h are (part_index side two.i) s part_at inside.1
 
   pub taker_is_part : (b : Box PieceState Global) → Piece b ≡ get_or (remove h.seats j) (taker side j) (Piece b) → ⊥
-  taker_is_part b is = no_piece_there q part.place b placed.1 (part_seat (Piece b) is).kind
+  taker_is_part b is = subst (λ (one : Place). IsKind one (Piece b)) placed.1 (part_seat (Piece b) is).kind
 
   pub taker_home : (l : Lodged) → Part l ≡ get_or (remove h.seats j) (taker side j) (Part l) → IsPartHome q h → l.home ≡ true
   taker_home l is home = lodged_home h are q (part_index side two.i) inside.1 (is_part_there q part placed.1) l (part_at (Part l) is) home

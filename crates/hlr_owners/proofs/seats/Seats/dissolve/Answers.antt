@@ -1,6 +1,7 @@
 use Rattle.std.proofs.Common.{◌∙◌, ap, refl, inl, arith}
-use Rattle.hlr_owners.proofs.DissolveLemmas.{dissolved_is_part, dissolver_is_part, dissolver_width, dissolver_meets, dissolver_home, dissolved_home, part_again, dissolved_board, dissolved_slot, all_dissolved}
-use Rattle.hlr_owners.proofs.PartLemmas.{part_sits_there}
+use Rattle.hlr_owners.proofs.DissolveLemmas.{dissolver_is_part, dissolver_width, dissolver_meets, dissolver_home, dissolved_home, part_again, all_dissolved}
+use Rattle.hlr_owners.proofs.PartLemmas.{part_sits, part_sits_there}
+use Rattle.hlr_owners.proofs.PostedLemmas.{posted_before, part_slot}
 use Rattle.hlr_owners.proofs.RefusedLemmas.{only_memory, may_refuse}
 use Rattle.hlr_owners.proofs.seats.Seats.dissolve.Goals as goal
 
@@ -8,7 +9,7 @@ pub remove-requires : goal.remove-requires
 remove-requires c = rw c.self.inside.seats.ok.0 (part_sits_there _ c.self.invariant.0 c.args.part _ c.in_ok-i.ensures.index)
 
 pub unreachable-requires : goal.unreachable-requires
-unreachable-requires c = dissolved_is_part _ c.self.invariant.0 _ _ c.in_ok-i.ensures.answer _ c.in_ok-i.ensures.index c.in_default.field-0 c.in_default.ensures.value
+unreachable-requires c = part_sits _ c.self.invariant.0 c.args.part _ c.in_ok-i.ensures.index c.in_default.field-0 c.in_default.ensures.value
 
 pub lend-requires : goal.lend-requires
 lend-requires c =
@@ -24,17 +25,17 @@ dissolve-merged-requires-clause-width c =
 
 pub dissolve-merged-requires-clause-board : goal.dissolve-merged-requires-clause-board
 dissolve-merged-requires-clause-board c =
-    rw (c.lend.ensures.holding, c.deref.ensures) (dissolved_board _ c.self.invariant.0 _ _ c.in_ok-i.ensures.answer _ c.in_ok-i.ensures.index c.in-Part.lodging c.in-Part.ensures.value _ c.self.invariant.1)
+    rw (c.lend.ensures.holding, c.deref.ensures) (posted_before _ c.self.invariant.0 _ c.self.invariant.1 c.args.part _ c.in_ok-i.ensures.index c.in-Part.lodging c.in-Part.ensures.value)
 
 pub dissolve-merged-requires-clause-alone : goal.dissolve-merged-requires-clause-alone
-dissolve-merged-requires-clause-alone c = rw c.lend.ensures.holding (dissolved_slot _ c.self.invariant.0 _ _ c.in_ok-i.ensures.answer _ c.in_ok-i.ensures.index c.in-Part.lodging c.in-Part.ensures.value _ c.self.invariant.1)
+dissolve-merged-requires-clause-alone c = rw c.lend.ensures.holding (part_slot _ c.self.invariant.0 _ c.self.invariant.1 c.args.part _ c.in_ok-i.ensures.index c.in-Part.lodging c.in-Part.ensures.value)
 
 pub unreachable-requires-in-Piece : goal.unreachable-requires-in-Piece
 unreachable-requires-in-Piece c = dissolver_is_part _ c.self.invariant.0 _ _ c.in_ok-i.ensures.answer _ c.in_ok-i.ensures.index c.in-Piece.field-0 (rw (c.in-Piece.is, c.remove.ensures.items) at c.index_mut.ensures.value)
 
 pub join-requires-clause-other : goal.join-requires-clause-other
 join-requires-clause-other c =
-    rw (c.in-Ok.ensures.merged.back, c.lend.ensures.holding, c.deref-in-Ok.ensures) (dissolved_board _ c.self.invariant.0 _ _ c.in_ok-i.ensures.answer _ c.in_ok-i.ensures.index c.in-Part.lodging c.in-Part.ensures.value _ c.self.invariant.1)
+    rw (c.in-Ok.ensures.merged.back, c.lend.ensures.holding, c.deref-in-Ok.ensures) (posted_before _ c.self.invariant.0 _ c.self.invariant.1 c.args.part _ c.in_ok-i.ensures.index c.in-Part.lodging c.in-Part.ensures.value)
 
 pub invariant_of-self : goal.invariant_of-self
 invariant_of-self c =

@@ -1,7 +1,7 @@
+use Rattle.hlr_owners.proofs.ListingLemmas.{part_subscriber}
 use Rattle.std.proofs.Common.{refl}
 use Rattle.hlr_owners.proofs.HomeLemmas.{seat_home}
-use Rattle.hlr_owners.proofs.SeatLemmas.{seat_there, part_not_loose, piece_loose, seat_subscriber}
-use Rattle.hlr_owners.specs.declared.lodging.Seat.TheVariants.{Part}
+use Rattle.hlr_owners.proofs.SeatLemmas.{seat_there, part_not_loose, piece_loose}
 use Rattle.hlr_owners.proofs.seats.Seats.number_in.Goals as goal
 
 pub index-requires : goal.index-requires
@@ -15,7 +15,7 @@ holding-requires c =
 pub returns-in-Part-clause-number : goal.returns-in-Part-clause-number
 returns-in-Part-clause-number c =
     let at = rw (← c.self.view_is) at c.requires.seat in
-    rw (← c.self.view_is, seat_subscriber _ c.self.invariant.0 _ _ at (Part c.in-Part.lodging) (rw c.in-Part.is at c.index.ensures), c.number_of.ensures, c.holding.ensures.value) refl
+    rw (← c.self.view_is, part_subscriber _ c.self.invariant.0 _ _ at c.in-Part.lodging (rw c.in-Part.is at c.index.ensures), c.number_of.ensures, c.holding.ensures.value) refl
 
 pub returns-in-Part-clause-home : goal.returns-in-Part-clause-home
 returns-in-Part-clause-home c =
