@@ -13,13 +13,10 @@ pub set_same : {X : Type 0} (xs : List X) (i : ℕ) (x : X) → x ≡ get_or xs 
 set_same xs i x is = ap (λ y. set xs i y) is ∙ set-get_or xs i x
 
 -- an element that was taken out, put back
-put_back_at : {X : Type 0} (xs : List X) (i : ℕ) (d : X) → i < length xs → insert (remove xs i) i (get_or xs i d) ≡ xs
-put_back_at [] i d within = absurd (omega arith)
-put_back_at (x ∷ xs) zero d within = refl
-put_back_at (x ∷ xs) (suc i) d within = ap (λ rest. x ∷ rest) (put_back_at xs i d (omega arith))
-
 pub put_back : {X : Type 0} (xs : List X) (i : ℕ) (x : X) → i < length xs → x ≡ get_or xs i x → insert (remove xs i) i x ≡ xs
-put_back xs i x within is = ap (λ y. insert (remove xs i) i y) is ∙ put_back_at xs i x within
+put_back [] i x within is = absurd (omega arith)
+put_back (y ∷ xs) zero x within is = ap (λ z. z ∷ xs) is
+put_back (y ∷ xs) (suc i) x within is = ap (λ rest. y ∷ rest) (put_back xs i x (omega arith) is)
 
 -- one of two neighbours taken out, the other one stands in the place of the first
 pub other_left : {X : Type 0} (side : Side) (xs : List X) (i : ℕ) (d : X) → i + 1 < length xs → get_or (remove xs (piece_index side i)) i d ≡ get_or xs (part_index side i) d

@@ -7,18 +7,14 @@ holding-requires c =
     part_home _ c.self.invariant.0 _ _ (rw (← c.self.view_is) at c.seat_of-i.ensures.at) c.in-Part.lodging (rw c.in-Part.is at c.index.ensures) c.args.s_ids.now first.0 (first.1 0)
     (rw (← c.self.view_is) at c.requires.home)
 
-pub returns-in-Part-clause-home : goal.returns-in-Part-clause-home
-returns-in-Part-clause-home c =
-    rw (← c.self.view_is, c.holding.ensures.value)
-    (rows_of_all _ c.self.invariant.0 _ _ (rw (← c.self.view_is) at c.seat_of-i.ensures.at) c.in-Part.lodging (rw c.in-Part.is at c.index.ensures) c.args.s_ids.now c.all_lie_in.result c.requires.within c.if-not-all_lie_in.false
-    (rw c.list.ensures.value at c.all_lie_in.ensures))
-
-pub returns-in-Part-clause-beside : goal.returns-in-Part-clause-beside
-returns-in-Part-clause-beside c =
+pub returns-in-Part : goal.returns-in-Part
+returns-in-Part c =
     let first = c.in_ok-first.ensures.item.3 in
     let at = rw (← c.self.view_is) at c.seat_of-i.ensures.at in
     let is = rw c.in-Part.is at c.index.ensures in
+    let lie = rw c.list.ensures.value at c.all_lie_in.ensures in
     let home = part_home _ c.self.invariant.0 _ _ at c.in-Part.lodging is c.args.s_ids.now first.0 (first.1 0) (rw (← c.self.view_is) at c.requires.home) in
-    rw (← c.self.view_is, c.holding.ensures.value)
-    (rows_of_all_beside _ c.self.invariant.0 _ _ at c.in-Part.lodging is c.args.s_ids.now c.all_lie_in.result c.requires.within c.if-not-all_lie_in.false
-    (rw c.list.ensures.value at c.all_lie_in.ensures) home)
+    rw (← c.self.view_is, c.holding.ensures.value) (record {
+      home = rows_of_all _ c.self.invariant.0 _ _ at c.in-Part.lodging is c.args.s_ids.now c.all_lie_in.result c.requires.within c.if-not-all_lie_in.false lie;
+      beside = rows_of_all_beside _ c.self.invariant.0 _ _ at c.in-Part.lodging is c.args.s_ids.now c.all_lie_in.result c.requires.within c.if-not-all_lie_in.false lie home;
+    })

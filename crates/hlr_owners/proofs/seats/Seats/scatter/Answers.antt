@@ -17,27 +17,18 @@ parted-holdings-requires-clause-room_for_pieces c =
     let few = few_again _ c.self.invariant.0 (rw (← c.self.view_is) at c.requires.home) in
     omega (arith, few.2, c.rooms.invariant.3)
 
-pub returns-clause-desks : goal.returns-clause-desks
-returns-clause-desks c = rw c.parted-holdings.ensures.holdings
-    (desks_again _ c.self.invariant.0 (rw (← c.self.view_is) at c.requires.home) _ c.self.invariant.1)
-
-pub returns-clause-again : goal.returns-clause-again
-returns-clause-again c = rw (← c.self.view_is, c.parted-holdings.ensures.holdings, c.parted-holdings.ensures.pieces)
-    (store_again _ c.self.invariant.0 (rw (← c.self.view_is) at c.requires.home))
-
-pub returns-clause-fits : goal.returns-clause-fits
-returns-clause-fits c = rw (c.parted-holdings.ensures.holdings, c.parted-holdings.ensures.pieces)
-    (fits_again _ c.self.invariant.0 (rw (← c.self.view_is) at c.requires.home))
-
-pub returns-clause-pending : goal.returns-clause-pending
-returns-clause-pending c k = rw (← c.self.view_is, c.parted-holdings.ensures.holdings, c.parted-holdings.ensures.pieces)
-    (pending_again _ c.self.invariant.0 (rw (← c.self.view_is) at c.requires.home) k)
-
-pub returns-clause-store : goal.returns-clause-store
-returns-clause-store c = rw (← c.self.view_is, c.parted-holdings.ensures.holdings, c.parted-holdings.ensures.pieces, again _ c.self.invariant.0 (rw (← c.self.view_is) at c.requires.home)) refl
-
-pub returns-clause-held : goal.returns-clause-held
-returns-clause-held c = rw (← c.self.view_is, c.parted-holdings.ensures.holdings, c.parted-holdings.ensures.pieces, again _ c.self.invariant.0 (rw (← c.self.view_is) at c.requires.home)) c.self.invariant.0.each
-
-pub returns-clause-difference : goal.returns-clause-difference
-returns-clause-difference c = λ k below. returns-clause-pending c k ∙ rw (← c.self.view_is) (unposted_is _ c.self.invariant.0 _ c.self.invariant.1 k below)
+pub returns : goal.returns
+returns c =
+    let home = rw (← c.self.view_is) at c.requires.home in
+    rw (← c.self.view_is, c.parted-holdings.ensures.holdings, c.parted-holdings.ensures.pieces) (record {
+      holdings = refl;
+      pieces = refl;
+      store = rw (again _ c.self.invariant.0 home) refl;
+      held = rw (again _ c.self.invariant.0 home) c.self.invariant.0.each;
+      frame = (refl, refl);
+      desks = desks_again _ c.self.invariant.0 home _ c.self.invariant.1;
+      again = store_again _ c.self.invariant.0 home;
+      fits = fits_again _ c.self.invariant.0 home;
+      pending = pending_again _ c.self.invariant.0 home;
+      difference = λ k below. pending_again _ c.self.invariant.0 home k ∙ unposted_is _ c.self.invariant.0 _ c.self.invariant.1 k below;
+    })
