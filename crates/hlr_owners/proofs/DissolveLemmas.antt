@@ -23,7 +23,7 @@ use Rattle.hlr_owners.specs.Lodged.{Lodged}
 use Rattle.hlr_owners.specs.Out.{out_of, with_outs}
 use Rattle.hlr_owners.specs.Parted.{words_back, IsDissolved, IsDissolvedBeside, IsWithout}
 use Rattle.hlr_owners.specs.Store.{slots_of}
-use Rattle.hlr_owners.specs.Seats.{book_in, desks_in, of_parts, store_in, IsKind, IsHomeFrom, Seating, AreSeated}
+use Rattle.hlr_owners.specs.Seats.{book_in, desks_in, of_parts, store_in, IsKind, IsHomeFrom, Seating, AreSeated, homes_in}
 use Rattle.hlr_owners.specs.declared.lodging.Seat.{Seat}
 use Rattle.hlr_owners.specs.declared.lodging.Seat.TheVariants.{Part, Piece}
 use Rattle.hlr_owners.proofs.HalvesLemmas.{merged_in}
@@ -92,13 +92,13 @@ module _ (h : Seating) (are : AreSeated h) (p : ℕ) (told : ℕ × ℕ × ℕ) 
     home_behind home =
         let later = dissolving.later in
         let next : suc (p - 1) ≡ p = omega arith in
-        rw next at (later_home (p - 1) h home)
+        rw next at (later_home (homes_in h.seats) (p - 1) home)
 
     pub dissolver_home : IsHomeFrom (p - 1) h → k.home ≡ true
-    dissolver_home home = part_is_home h are (p - 1) (i - 1) front_at k (stays (Part k) stood) (first_home (p - 1) h home)
+    dissolver_home home = part_is_home h are (p - 1) (i - 1) front_at k (stays (Part k) stood) (first_home (homes_in h.seats) (p - 1) home)
 
     pub dissolved_home : IsHomeFrom (p - 1) h → l.home ≡ true
-    dissolved_home home = part_is_home h are p i index l is (first_home p h (home_behind home))
+    dissolved_home home = part_is_home h are p i index l is (first_home (homes_in h.seats) p (home_behind home))
 
     -- a refusal leaves all seats
     pub part_again : (m n : Lodged) → m ≡ k → n.holding ≡ l.holding → n.home ≡ true → IsHomeFrom (p - 1) h → insert (set (remove h.seats i) (i - 1) (Part m)) i (Part n) ≡ h.seats

@@ -21,7 +21,7 @@ use Rattle.hlr_owners.specs.Desks.{AreDesks, slots_in, words_of}
 use Rattle.hlr_owners.specs.Lodged.{Lodged}
 use Rattle.hlr_owners.specs.Out.{out_of, with_outs}
 use Rattle.hlr_owners.specs.Parted.{free_slot, IsDivided, IsDividedBeside, IsWithNew}
-use Rattle.hlr_owners.specs.Seats.{book_in, desks_in, of_parts, store_in, IsKind, IsSeat, IsHomeFrom, Seating, AreSeated}
+use Rattle.hlr_owners.specs.Seats.{book_in, desks_in, of_parts, store_in, IsKind, IsSeat, IsHomeFrom, Seating, AreSeated, homes_in}
 use Rattle.hlr_owners.specs.declared.lodging.Seat.{Seat}
 use Rattle.hlr_owners.specs.declared.lodging.Seat.TheVariants.{Part, Piece}
 use Rattle.hlr_owners.proofs.HalvesLemmas.{parted_in}
@@ -70,7 +70,7 @@ module _ (h : Seating) (are : AreSeated h) (p at : ℕ) (told : ℕ × ℕ × �
     divider_inside = rw (seat.owner.is.from, seat.owner.is.to) (bound_inside p at h.regions told dividing are.are i index)
 
     pub divider_home : IsHomeFrom p h → l.home ≡ true
-    divider_home home = part_is_home h are p i index l is (first_home p h home)
+    divider_home home = part_is_home h are p i index l is (first_home (homes_in h.seats) p home)
 
     -- the seats with another holding of the part, and a new part behind it
     module _ (m n : Lodged) where
@@ -93,7 +93,7 @@ module _ (h : Seating) (are : AreSeated h) (p at : ℕ) (told : ℕ × ℕ × �
           let was = divider_home home in
           let next : suc p ≡ p + 1 = omega arith in
           let behind : AreHomeFrom (ahead (set h.seats i (Part m)) (i + 1)) (set h.seats i (Part m)) =
-          rw (number_behind, parts-kept (λ (o : Lodged). o.home) h.seats i l m (still ∙ sym was) is, ← next) (later_home p h home) in
+          rw (number_behind, parts-kept (λ (o : Lodged). o.home) h.seats i l m (still ∙ sym was) is, ← next) (later_home (homes_in h.seats) p home) in
           outs-insert_part (set h.seats i (Part m)) ks (i + 1) n new behind ∙ ap (λ (seats : List Seat). insert seats (i + 1) (Part n)) (outs-set h.seats ks i l m is still)
 
     -- a part that was divided

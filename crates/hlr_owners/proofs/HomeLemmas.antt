@@ -30,24 +30,17 @@ trues_at [] p all = get_or_past [] p true (omega arith)
 trues_at (home ∷ homes) zero all = all.0
 trues_at (home ∷ homes) (suc p) all = trues_at homes p all.1
 
--- so it is with those from one on
-trues_from : (homes : List Bool) (p : ℕ) → AllByRecursion (λ (home : Bool). home ≡ true) (drop p homes) → get_or homes p true ≡ true
-trues_from [] p all = get_or_past [] p true (omega arith)
-trues_from (home ∷ homes) zero all = all.0
-trues_from (home ∷ homes) (suc p) all = trues_from homes p all
+-- with all from one on at home that one is, and so are all behind it
+pub first_home : (homes : List Bool) (p : ℕ) → AllByRecursion (λ (home : Bool). home ≡ true) (drop p homes) → get_or homes p true ≡ true
+first_home [] p all = get_or_past [] p true (omega arith)
+first_home (home ∷ homes) zero all = all.0
+first_home (home ∷ homes) (suc p) all = first_home homes p all
 
-trues_behind : (homes : List Bool) (p : ℕ) → AllByRecursion (λ (home : Bool). home ≡ true) (drop p homes) → AllByRecursion (λ (home : Bool). home ≡ true) (drop (suc p) homes)
-trues_behind [] zero all = tt
-trues_behind [] (suc p) all = tt
-trues_behind (home ∷ homes) zero all = all.1
-trues_behind (home ∷ homes) (suc p) all = trues_behind homes p all
-
--- with all parts from one on at home that one is, and so are all behind it
-pub first_home : (p : ℕ) (h : Seating) → IsHomeFrom p h → IsPartHome p h
-first_home p h all = trues_from (homes_in h.seats) p all
-
-pub later_home : (p : ℕ) (h : Seating) → IsHomeFrom p h → IsHomeFrom (suc p) h
-later_home p h all = trues_behind (homes_in h.seats) p all
+pub later_home : (homes : List Bool) (p : ℕ) → AllByRecursion (λ (home : Bool). home ≡ true) (drop p homes) → AllByRecursion (λ (home : Bool). home ≡ true) (drop (suc p) homes)
+later_home [] zero all = tt
+later_home [] (suc p) all = tt
+later_home (home ∷ homes) zero all = all.1
+later_home (home ∷ homes) (suc p) all = later_home homes p all
 
 -- with all parts at home each is, and whoever has an s_id
 pub part_home_of_all : (p : ℕ) (h : Seating) → AllHome h.seats → IsPartHome p h

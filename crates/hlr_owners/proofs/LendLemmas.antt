@@ -2,7 +2,7 @@
 use Rattle.view_board.specs.Views.{IsWide}
 use Rattle.hlr_owners.proofs.ZipLemmas.{each_beside, sum_beside}
 use Rattle.std.proofs.Common.{◌≡◌, ◌∙◌, refl, sym, ap, ℕ, zero, suc, ◌<◌, ◌≤◌, List, [], ◌∷◌, length, get_or, set, arith, true, false, Some, subst}
-use Rattle.std.specs.Prelude.{Box, slice_get, position, nat_le, nat_lt, sum_by}
+use Rattle.std.specs.Prelude.{Box, slice_get, position, nat_le, nat_lt, sum_by, Option}
 use Rattle.std.specs.declared.alloc.Global.{Global}
 use Rattle.std.specs.List.{AllZip, AllByRecursion}
 use Rattle.std.proofs.lemmas.List.Sums.{sum_by-cons}
@@ -143,12 +143,9 @@ lodged_is m k same home = rw (← same, ← home) refl
 
 module _ (h : Seating) (are : AreSeated h) (i : ℕ) (k : HoldingState) (back : IsBackFor (slice_get h.seats i) k) (l : Lodged) (is : Part l ≡ get_or h.seats i (Part l)) where
   facts : (i < length h.seats) × IsBackFor (Some (Part l)) k
-  facts = at h.seats i back is
-    where
-      at : (seats : List Seat) (i : ℕ) → IsBackFor (slice_get seats i) k → Part l ≡ get_or seats i (Part l) → (i < length seats) × IsBackFor (Some (Part l)) k
-      at [] i back is = absurd back
-      at (s ∷ seats) zero back is = (omega arith, subst (λ (t : Seat). IsBackFor (Some t) k) (sym is) back)
-      at (s ∷ seats) (suc i) back is = let rest = at seats i back is in let lt = rest.0 in (omega arith, rest.1)
+  facts =
+      let low = (back_there h.seats i k back).2 in
+      (low, subst (λ (o : Option Seat). IsBackFor o k) (slice_get_read h.seats (length h.seats) i (Part l) refl low is) back)
 
   pub home_is : l.home ≡ false
   home_is = facts.1.0
@@ -165,9 +162,7 @@ module _ (h : Seating) (are : AreSeated h) (i : ℕ) (k : HoldingState) (back : 
 
 -- a piece is not one that may come home
 pub back_piece : (seats : List Seat) (i : ℕ) (k : HoldingState) (b : Box PieceState Global) → IsBackFor (slice_get seats i) k → Piece b ≡ get_or seats i (Piece b) → ⊥
-back_piece [] i k b back is = back
-back_piece (s ∷ seats) zero k b back is = subst (λ (t : Seat). IsBackFor (Some t) k) (sym is) back
-back_piece (s ∷ seats) (suc i) k b back is = back_piece seats i k b back is
+back_piece seats i k b back is = subst (λ (o : Option Seat). IsBackFor o k) (slice_get_read seats (length seats) i (Piece b) refl (back_there seats i k back).2 is) back
 
 -- a part whose holding goes out
 pub lent_from : (h : Seating) (p i : ℕ) (l m : Lodged) (k : HoldingState) → position (is_part p) h.regions ≡ Some i → i < length h.seats → Part l ≡ get_or h.seats i (Part l)

@@ -2,7 +2,7 @@
 use Rattle.std.proofs.Common.{◌≡◌, ◌∙◌, refl, sym, ap, ℕ, suc, ◌≤◌, arith, List, [], ◌∷◌, ◌++◌, length, append_assoc, true}
 use Rattle.std.specs.Prelude.{Ok}
 use Rattle.std.specs.List.{AllZip, AllByRecursion}
-use Rattle.std.proofs.lemmas.List.{take_all, map-append, length-map}
+use Rattle.std.proofs.lemmas.List.{take_all, length-map}
 use Rattle.std.proofs.lemmas.Slice.Zip.{AllZip-long}
 use Rattle.part_table.proofs.BoundsLemmas.{no_pieces}
 use Rattle.part_table.specs.Opening as table
@@ -14,7 +14,6 @@ use Rattle.part_table.specs.declared.region.Place.TheVariants as place
 use Rattle.part_table.specs.declared.region.Region.{Region}
 use Rattle.view_board.specs.Desks.{Station}
 use Rattle.view_board.specs.declared.words.TheConstants.{WORDS}
-use Rattle.hlr_owners.specs.Held.{of_holding}
 use Rattle.hlr_owners.specs.Store.{opening_from}
 use Rattle.hlr_owners.proofs.HeldLemmas.{IsFresh}
 use Rattle.hlr_owners.proofs.OpenLemmas.{AreOpened, bounds_opened, regions_are, regions_long, width_fits}
@@ -31,16 +30,9 @@ IsLodgedHome (Part l) = l.home ≡ true
 IsLodgedHome (Piece b) = ⊥
 
 -- one more part
-pub owners-push : (seats : List Seat) (m : Lodged) → owners_in (seats ++ Part m ∷ []) ≡ owners_in seats ++ of_holding m.holding ∷ []
-owners-push seats m = map-append owner_of seats (Part m ∷ [])
-
 pub desks-push : (seats : List Seat) (m : Lodged) → desks_in (seats ++ Part m ∷ []) ≡ desks_in seats ++ m.holding.desk ∷ []
 desks-push [] m = refl
 desks-push (s ∷ seats) m = ap (λ rest. of_part (λ (o : Lodged). o.holding.desk) s ++ rest) (desks-push seats m) ∙ sym (append_assoc (of_part (λ (o : Lodged). o.holding.desk) s) (desks_in seats) (m.holding.desk ∷ []))
-
-pub home-push : (seats : List Seat) (m : Lodged) → AllByRecursion IsLodgedHome seats → m.home ≡ true → AllByRecursion IsLodgedHome (seats ++ Part m ∷ [])
-home-push [] m all home = (home, tt)
-home-push (s ∷ seats) m all home = (all.0, home-push seats m all.1 home)
 
 -- of parts alone each has a desk
 pub desks_long : (seats : List Seat) → AllByRecursion IsLodgedHome seats → length (desks_in seats) ≡ length seats

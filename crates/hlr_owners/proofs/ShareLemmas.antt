@@ -1,4 +1,5 @@
 -- The slots of the board, shared out among desks one after another.
+use Rattle.std.proofs.lemmas.List.FromFn.{map-range_with_len_more}
 use Rattle.std.proofs.Common.{◌≡◌, ◌≢◌, ◌∙◌, refl, sym, ap, ℕ, zero, suc, ◌+◌, ◌*◌, ◌/◌, ◌<◌, ◌≤◌, arith, List, [], ◌∷◌, ◌++◌, length, get_or, set, map, replicate, true, false, Bool, inl, inr}
 use Rattle.std.specs.Prelude.{pos, sum_by}
 use Rattle.std.specs.List.{AllByRecursion, filter, range_with_len}
@@ -84,15 +85,8 @@ split_once desk slot other below wide own = elim (cases_eq other slot) [
 ]
 
 -- lists of one number each, with one more
-numbered_from : (a n : ℕ) → map (λ p. p ∷ []) (range_with_len a (n + 1)) ≡ map (λ p. p ∷ []) (range_with_len a n) ++ ((a + n) ∷ []) ∷ []
-numbered_from a zero = let here : a + 0 ≡ a = omega arith in rw here refl
-numbered_from a (suc n) =
-    let more : suc n + 1 ≡ suc (n + 1) = omega arith in
-    let next : a + suc n ≡ a + 1 + n = omega arith in
-    rw (more, next) (ap (λ rest. (a ∷ []) ∷ rest) (numbered_from (a + 1) n))
-
 numbered_more : (n : ℕ) → map (λ p. p ∷ []) (range_with_len 0 n) ++ (n ∷ []) ∷ [] ≡ map (λ p. p ∷ []) (range_with_len 0 (n + 1))
-numbered_more n = let begins : 0 + n ≡ n = omega arith in sym (rw begins at (numbered_from 0 n))
+numbered_more n = sym (map-range_with_len_more (λ p. p ∷ []) 0 n n (omega arith))
 
 -- one more slot is split off
 module _ (words : List ℕ) (spare : Station) (desks : List Station) (slot : ℕ) (below : slot < SLOTS) (next : slot ≡ length desks) where

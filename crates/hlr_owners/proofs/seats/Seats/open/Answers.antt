@@ -1,8 +1,12 @@
-use Rattle.std.proofs.Common.{◌≡◌, ◌∙◌, arith, refl, sym, rules, length}
+use Rattle.std.proofs.lemmas.List.{map-append}
+use Rattle.tatp_rows.proofs.AppendLemmas.{each-append}
+use Rattle.hlr_owners.specs.Seats.{owner_of}
+use Rattle.hlr_owners.specs.declared.lodging.Seat.TheVariants.{Part}
+use Rattle.std.proofs.Common.{◌≡◌, ◌∙◌, arith, refl, sym, rules, length, ◌∷◌, []}
 use Rattle.view_board.specs.declared.words.TheConstants.{WORDS}
 use Rattle.hlr_owners.proofs.OpenLemmas.{regions_few, width_fits, range_at, none_opened, one_opened}
 use Rattle.hlr_owners.proofs.ShareLemmas.{none_shared, first_of_board, one_of_board, one_shared, level_small, shared_desks}
-use Rattle.hlr_owners.proofs.OpenedLemmas.{owners-push, desks-push, home-push, desks_long, opened_home, opened_seated, opened_store}
+use Rattle.hlr_owners.proofs.OpenedLemmas.{IsLodgedHome, desks-push, desks_long, opened_home, opened_seated, opened_store}
 use Rattle.hlr_owners.proofs.seats.Seats.open.Goals as goal
 
 pub loop-region-init : goal.loop-region-init
@@ -60,8 +64,8 @@ loop-region-preserved c =
     record {
       room = rw c.push_reserved.ensures.capacity c.loop-region.invariant.room;
       long = omega (arith, c.push_reserved.ensures.len);
-      home = rw c.push_reserved.ensures.items (home-push c.loop-region.seats.items c.of.result c.loop-region.invariant.home c.of.ensures.1);
-      opened = rw (c.push_reserved.ensures.items, owners-push c.loop-region.seats.items c.of.result, c.of.ensures.0) (one_opened _ _ _ _ _ _ c.loop-region-test.true c.loop-region.invariant.opened is.0);
+      home = rw c.push_reserved.ensures.items (each-append IsLodgedHome c.loop-region.seats.items (Part c.of.result ∷ []) c.loop-region.invariant.home (c.of.ensures.1, tt));
+      opened = rw (c.push_reserved.ensures.items, map-append owner_of c.loop-region.seats.items (Part c.of.result ∷ []), c.of.ensures.0) (one_opened _ _ _ _ _ _ c.loop-region-test.true c.loop-region.invariant.opened is.0);
       of_board = rw (c.push_reserved.ensures.items, desks-push c.loop-region.seats.items c.of.result, c.of.ensures.0, is.1, is.2) (one_of_board c.args.words.now c.loop-region.spare _ c.len-slot.result (omega (arith, c.len-slot.ensures))
           (omega (arith, c.len-slot.ensures, c.loop-region.seats.ok.0)) _ c.loop-region.invariant.of_board);
       shared = rw (c.push_reserved.ensures.items, desks-push c.loop-region.seats.items c.of.result, c.of.ensures.0, is.1, is.2) (one_shared c.args.words.now c.loop-region.spare _ c.len-slot.result (omega (arith, c.len-slot.ensures))
