@@ -1,4 +1,5 @@
 -- A dissolve among all seats: the part's seat goes, and that of the part in front stands for both.
+use Rattle.hlr_owners.proofs.DivideLemmas.{LeavesParted}
 use Rattle.std.proofs.Common.{◌≡◌, ◌∙◌, refl, sym, ap, ℕ, suc, ◌+◌, ◌-◌, ◌<◌, ◌≤◌, List, ◌∷◌, length, get_or, set, map, true, arith, Some}
 use Rattle.std.specs.Prelude.{Ok, position, insert, remove, option_map, slice_get, Box}
 use Rattle.std.specs.declared.alloc.Global.{Global}
@@ -21,7 +22,7 @@ use Rattle.holding.specs.Moved.{IsMerged}
 use Rattle.hlr_owners.specs.Desks.{AreDesks, slots_in, words_of}
 use Rattle.hlr_owners.specs.Lodged.{Lodged}
 use Rattle.hlr_owners.specs.Out.{out_of, with_outs}
-use Rattle.hlr_owners.specs.Parted.{words_back, IsDissolved, IsDissolvedBeside, IsWithout}
+use Rattle.hlr_owners.specs.Parted.{words_back, IsDissolved, IsWithout}
 use Rattle.hlr_owners.specs.Store.{slots_of}
 use Rattle.hlr_owners.specs.Seats.{book_in, desks_in, of_parts, store_in, IsKind, IsHomeFrom, Seating, AreSeated, homes_in}
 use Rattle.hlr_owners.specs.declared.lodging.Seat.{Seat}
@@ -166,20 +167,12 @@ module _ (h : Seating) (are : AreSeated h) (p : ℕ) (told : ℕ × ℕ × ℕ) 
           seen_grows board h.spare (desks_in h.seats) rules p l.holding.desk desk_at l.holding.slot lawful.slot,
         )
 
--- what a dissolve leaves
-pub record LeavesDissolved (board : TableId) (p : ℕ) (told : ℕ × ℕ × ℕ) (before after : Seating) : Type 0 where
-  pub seated : AreSeated after
-  pub desks : AreDesks board after.spare (desks_in after.seats)
-  pub store : IsDissolved p (Ok told) (store_in before) (store_in after)
-  pub house : IsWithout p before after
-  pub beside : IsDissolvedBeside p (Ok told) before after
-
 module _ (h : Seating) (are : AreSeated h) (p : ℕ) (told : ℕ × ℕ × ℕ) (answer : dissolve_answer p h.regions ≡ Ok told) (i : ℕ) (index : position (is_part p) h.regions ≡ Some i) (l : Lodged) (is : Part l ≡ get_or h.seats i (Part l))
     (board : TableId) (rules : AreDesks board h.spare (desks_in h.seats)) where
   -- it is so whatever those that are out have become, where nobody from the part in front on is
   pub all_dissolved : (k : Lodged) → Part k ≡ get_or (remove h.seats i) (i - 1) (Part k) → (m : Lodged) (desk : Station) → IsMerged k.holding l.holding desk m.holding → IsHolding m.holding → IsHolding l.holding
       → IsHomeFrom (p - 1) h → m.home ≡ true → (spare : Station) → spare ≡ with_view h.spare (both h.spare.view desk.view)
-      → LeavesDissolved board p told h (record { regions = dissolved p h.regions; seats = set (remove h.seats i) (i - 1) (Part m); spare = spare; width = h.width })
+      → LeavesParted board (IsDissolved p (Ok told)) (IsWithout p) h (record { regions = dissolved p h.regions; seats = set (remove h.seats i) (i - 1) (Part m); spare = spare; width = h.width })
   all_dissolved k stood m desk merged kept lawful home still spare joined =
       let now : spare ≡ spare_with h.spare l.holding = joined ∙ ap (λ (d : Station). with_view h.spare (both h.spare.view d.view)) merged.back in
       let was = dissolver_home h are p told answer i index l is k stood home in

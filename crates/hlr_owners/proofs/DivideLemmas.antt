@@ -1,4 +1,6 @@
 -- A divide among all seats: the part's seat exchanged, and that of the new part put in behind it.
+use Rattle.hlr_owners.specs.Store.{Store}
+use Rattle.hlr_owners.specs.Beside.{MayBecome, store_with}
 use Rattle.std.proofs.Common.{◌≡◌, ◌∙◌, refl, sym, ap, ℕ, suc, ◌+◌, ◌<◌, ◌≤◌, List, [], ◌∷◌, length, get_or, set, map, true, arith, Some}
 use Rattle.std.specs.Prelude.{Ok, position, insert}
 use Rattle.std.proofs.lemmas.Slice.Zip.{AllZip-long}
@@ -20,7 +22,7 @@ use Rattle.holding.specs.Moved.{IsInside, IsParted}
 use Rattle.hlr_owners.specs.Desks.{AreDesks, slots_in, words_of}
 use Rattle.hlr_owners.specs.Lodged.{Lodged}
 use Rattle.hlr_owners.specs.Out.{out_of, with_outs}
-use Rattle.hlr_owners.specs.Parted.{free_slot, IsDivided, IsDividedBeside, IsWithNew}
+use Rattle.hlr_owners.specs.Parted.{free_slot, IsDivided, IsWithNew}
 use Rattle.hlr_owners.specs.Seats.{book_in, desks_in, of_parts, store_in, IsKind, IsSeat, IsHomeFrom, Seating, AreSeated, homes_in}
 use Rattle.hlr_owners.specs.declared.lodging.Seat.{Seat}
 use Rattle.hlr_owners.specs.declared.lodging.Seat.TheVariants.{Part, Piece}
@@ -130,20 +132,20 @@ module _ (h : Seating) (are : AreSeated h) (p at : ℕ) (told : ℕ × ℕ × �
         store_divided : IsDivided p at (Ok told) (store_in h) (store_in (record { regions = divided p at h.regions; seats = seats_with m n; spare = with_view h.spare (without h.spare.view slot); width = h.width }))
         store_divided = rw ((divided_seats (with_view h.spare (without h.spare.view slot))).1, new_words, new_slots) refl
 
--- what a divide leaves
-pub record LeavesDivided (board : TableId) (p at : ℕ) (told : ℕ × ℕ × ℕ) (before after : Seating) : Type 0 where
+-- what a divide and a dissolve leave
+pub record LeavesParted (board : TableId) (right : Store → Store → Type 0) (who : Seating → Seating → Type 0) (before after : Seating) : Type 0 where
   pub seated : AreSeated after
   pub desks : AreDesks board after.spare (desks_in after.seats)
-  pub store : IsDivided p at (Ok told) (store_in before) (store_in after)
-  pub house : IsWithNew p before after
-  pub beside : IsDividedBeside p at (Ok told) before after
+  pub store : right (store_in before) (store_in after)
+  pub house : who before after
+  pub beside : (holdings : List HoldingState) → MayBecome before.seats holdings → right (store_with before holdings) (store_with after holdings)
 
 module _ (h : Seating) (are : AreSeated h) (p at : ℕ) (told : ℕ × ℕ × ℕ) (answer : divide_answer p at h.regions ≡ Ok told) (i : ℕ) (index : position (is_part p) h.regions ≡ Some i) (l : Lodged) (is : Part l ≡ get_or h.seats i (Part l))
     (board : TableId) (rules : AreDesks board h.spare (desks_in h.seats)) (slot : ℕ) (in_board : slot < SLOTS) (least : IsLeastSlot h.spare.view slot) where
   -- it is so whatever those that are out have become, where nobody from the part on is
   pub all_divided : (m n : Lodged) (desk : Station) → IsParted at l.holding desk n.holding m.holding → IsHolding n.holding → IsHolding m.holding → desk ≡ with_view h.spare (alone h.spare.view slot)
       → IsHomeFrom p h → m.home ≡ true → n.home ≡ true → (spare : Station) → spare ≡ with_view h.spare (without h.spare.view slot)
-      → LeavesDivided board p at told h (record { regions = divided p at h.regions; seats = insert (set h.seats i (Part m)) (i + 1) (Part n); spare = spare; width = h.width })
+      → LeavesParted board (IsDivided p at (Ok told)) (IsWithNew p) h (record { regions = divided p at h.regions; seats = insert (set h.seats i (Part m)) (i + 1) (Part n); spare = spare; width = h.width })
   all_divided m n desk parted new kept own home still at_home spare left =
       let was = divider_home h are p at told answer i index l is home in
       rw left (record {

@@ -63,11 +63,9 @@ module _ (bounds : List ℕ) (moves : List CutMove) (i : ℕ) (d : CutMove) (bef
 pub all_moves : (bounds : List ℕ) (moves : List CutMove) (i : ℕ) (before now : Store) → length moves ≤ i → IsMoving bounds moves (drop i moves) before now
     → now ≡ record before { regions = parts_between 0 1 bounds }
 all_moves bounds moves i before now past moving =
-    let ends : now.regions ≡ parts_between 0 1 bounds = one now.regions (parts_between 0 1 bounds) (rw (drop_all i moves past) at moving.leads) in
+    let told = rw (drop_all i moves past) at moving.leads in
+    let ends : now.regions ≡ parts_between 0 1 bounds = cc in
     moving.same ∙ ap (λ (regions : List Region). record before { regions = regions }) ends
-  where
-    one : (xs ys : List Region) → ◌≡◌ {A = Result (List Region) Refusal} (Ok xs) (Ok ys) → xs ≡ ys
-    one xs ys is = cc
 
 -- a re-cut leaves the book
 pub recut_stays : (moves : Result (List CutMove) Refusal) (bounds : List ℕ) (before after : Store) (answer : Result ℕ Refusal) → IsRecutBy moves bounds before answer after → after.book ≡ before.book
