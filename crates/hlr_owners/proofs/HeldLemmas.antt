@@ -1,5 +1,5 @@
 -- The rules of one owner: those of a holding and of a loose piece, and what follows from them.
-use Rattle.std.proofs.Common.{◌≡◌, ℕ, ◌<◌, ◌^◌, refl, arith}
+use Rattle.std.proofs.Common.{◌≡◌, ℕ, ◌<◌, ◌^◌, refl, arith, rules}
 use Rattle.std.specs.Prelude.{ℤ, pos, neg_ℤ, ◌≤ℤ◌}
 use Rattle.std.proofs.lemmas.Int.{ints}
 use Rattle.tatp_actions.specs.Book.{empty_book, IsRowsOf}
@@ -15,25 +15,7 @@ use Rattle.hlr_owners.specs.Inside.{IsOpened}
 
 -- an empty book keeps the rules
 pub empty_rows : (lo hi : ℕ) → IsRowsOf lo hi empty_book
-empty_rows lo hi = record {
-  rules = record {
-    subscribers_ordered = tt;
-    access_ordered = tt;
-    facilities_ordered = tt;
-    forwardings_ordered = tt;
-    subscribers_in_range = tt;
-    access_in_range = tt;
-    facilities_in_range = tt;
-    forwardings_in_range = tt;
-    access_have_subscriber = tt;
-    facilities_have_subscriber = tt;
-    forwardings_have_facility = tt;
-  };
-  subscribers = tt;
-  access = tt;
-  facilities = tt;
-  forwardings = tt;
-}
+empty_rows lo hi = search rules
 
 -- a holding keeps the local law
 pub holding_keeps : (holding : HoldingState) → IsHolding holding → IsLawful (of_holding holding)

@@ -22,7 +22,6 @@ pub mod OpenedLemmas
 pub mod OutLemmas
 pub mod OwnerCountLemmas
 pub mod OwnerLemmas
-pub mod OwnerPostLemmas
 pub mod PartLemmas
 pub mod PartedDeskLemmas
 pub mod PartedLemmas

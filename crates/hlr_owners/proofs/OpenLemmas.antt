@@ -1,5 +1,8 @@
 -- The store at opening: an empty holding for each region, one after another.
-use Rattle.std.proofs.Common.{◌≡◌, ap, ℕ, ◌+◌, ◌-◌, ◌<◌, ◌≤◌, arith, List, [], ◌∷◌, ◌++◌, length, get_or, take, map, true}
+use Rattle.hlr_owners.proofs.OwnerLemmas.{book_of_owners}
+use Rattle.tatp_actions.specs.Joined.{join_books}
+use Rattle.tatp_actions.specs.Book.{Book, empty_book}
+use Rattle.std.proofs.Common.{◌≡◌, ap, ℕ, ◌+◌, ◌-◌, ◌<◌, ◌≤◌, arith, List, [], ◌∷◌, ◌++◌, length, get_or, take, map, true, ◌∙◌, refl}
 use Rattle.std.specs.Prelude.{Result, Ok}
 use Rattle.std.specs.List.{AllZip, AllByRecursion, range_with_len}
 use Rattle.std.proofs.lemmas.List.{take_more}
@@ -25,13 +28,10 @@ use Rattle.tatp_rows.proofs.PlaceLemmas.{each_at}
 abbrev pub bounds_opened : ℕ → ℕ → List ℕ
 bounds_opened parts width = map (opening_bound parts width) (range_with_len 1 (parts - 1))
 
-ok_same : (one other : List Region) → (let answer : Result (List Region) Refusal = Ok one in answer) ≡ Ok other → one ≡ other
-ok_same one other same = cc
-
 module _ (parts width : ℕ) (regions : List Region) (can : can_open parts width ≡ true) (is : Ok regions ≡ table.opening parts width) where
   -- they make the regions
   pub regions_are : regions ≡ parts_between 0 1 (bounds_opened parts width)
-  regions_are = ok_same regions (parts_between 0 1 (bounds_opened parts width)) (rw can at is)
+  regions_are = let told = rw can at is in cc
 
   -- as many as parts
   pub regions_long : length regions ≡ parts
@@ -74,3 +74,10 @@ pub one_opened : (width i : ℕ) (d : Region) (regions : List Region) (holdings 
     → IsOpened (get_or regions i d) width holding → AreOpened width regions (holdings ++ of_holding holding ∷ []) (i + 1)
 one_opened width i d regions holdings holding below each is =
     rw (take_more regions i d below) (all_zipped_more (IsFresh width) (take i regions) holdings (get_or regions i d) (of_holding holding) each (fresh_holding width (get_or regions i d) holding is))
+
+-- fresh owners have no rows
+pub opened_book : (width : ℕ) (regions : List Region) (owners : List Owner) → AllZip (IsFresh width) regions owners → book_of_owners owners ≡ empty_book
+opened_book width [] [] each = refl
+opened_book width [] (owner ∷ owners) each = absurd each
+opened_book width (region ∷ regions) [] each = absurd each
+opened_book width (region ∷ regions) (owner ∷ owners) each = ap (λ (book : Book). join_books book (book_of_owners owners)) each.0.no_rows ∙ opened_book width regions owners each.1

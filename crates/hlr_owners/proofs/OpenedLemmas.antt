@@ -16,8 +16,7 @@ use Rattle.view_board.specs.Desks.{Station}
 use Rattle.view_board.specs.declared.words.TheConstants.{WORDS}
 use Rattle.hlr_owners.specs.Store.{opening_from}
 use Rattle.hlr_owners.proofs.HeldLemmas.{IsFresh}
-use Rattle.hlr_owners.proofs.OpenLemmas.{AreOpened, bounds_opened, regions_are, regions_long, width_fits}
-use Rattle.hlr_owners.proofs.OwnerPostLemmas.{opened_book}
+use Rattle.hlr_owners.proofs.OpenLemmas.{AreOpened, bounds_opened, regions_are, regions_long, width_fits, opened_book}
 use Rattle.hlr_owners.proofs.ShareLemmas.{AreShared, shared_words}
 use Rattle.hlr_owners.specs.Lodged.{Lodged}
 use Rattle.hlr_owners.specs.Seats.{owner_of, owners_in, of_part, desks_in, AllHome, IsKind, IsSeat, AreSeated, store_in}

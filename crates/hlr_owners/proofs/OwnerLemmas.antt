@@ -42,39 +42,31 @@ owner_rows width from (region ∷ regions) (owner ∷ owners) each consecutive =
 abbrev IsBehind : ℕ → Region → Type 0
 IsBehind from region = (from ≤ region.lo) × (region.lo < region.hi) × (region.hi ≤ END)
 
--- regions that follow one another are behind the number where they begin
-zip_behind : (P : Region → Owner → Type 0) (from : ℕ) (regions : List Region) (owners : List Owner) → IsConsecutive from regions → AllZip P regions owners
-    → AllZip (λ (region : Region) (owner : Owner). IsBehind from region × P region owner) regions owners
-zip_behind P from [] [] consecutive each = tt
-zip_behind P from [] (owner ∷ owners) consecutive each = absurd each
-zip_behind P from (region ∷ regions) [] consecutive each = absurd each
-zip_behind P from (region ∷ regions) (owner ∷ owners) consecutive each =
+-- regions that follow one another are behind the number where they begin, and the rows of each are its owner's
+rows_behind : (width from : ℕ) (regions : List Region) (owners : List Owner) → AreOwners width regions owners → IsConsecutive from regions
+    → AllZip (λ (region : Region) (owner : Owner). IsBehind from region × HasRows (book_of_owners owners) region owner) regions owners
+rows_behind width from [] [] each consecutive = tt
+rows_behind width from [] (owner ∷ owners) each consecutive = absurd each
+rows_behind width from (region ∷ regions) [] each consecutive = absurd each
+rows_behind width from (region ∷ regions) (owner ∷ owners) each consecutive =
     let begins = consecutive.0 in
     let some = consecutive.1 in
     let end = within region.hi regions consecutive.2 in
-    let rest = zip_behind P region.hi regions owners consecutive.2 each.1 in (
-      ((omega arith, some, end), each.0),
-      zip_weaker {P = λ (r : Region) (o : Owner). IsBehind region.hi r × P r o} {Q = λ (r : Region) (o : Owner). IsBehind from r × P r o}
-          (λ r o has. let later = has.0.0 in ((omega arith, has.0.1, has.0.2), has.1)) regions owners rest,
-    )
-
--- so the rows of each region are its owner's
-pub owners_rows : (width from : ℕ) (regions : List Region) (owners : List Owner) → AreOwners width regions owners → IsConsecutive from regions
-    → AllZip (HasRows (book_of_owners owners)) regions owners
-owners_rows width from [] [] each consecutive = tt
-owners_rows width from [] (owner ∷ owners) each consecutive = absurd each
-owners_rows width from (region ∷ regions) [] each consecutive = absurd each
-owners_rows width from (region ∷ regions) (owner ∷ owners) each consecutive =
     let own = own_region width region owner each.0 in
     let rest = book_of_owners owners in
-    let of_rest = owner_rows width region.hi regions owners each.1 consecutive.2 in
-    let others = zip_behind (HasRows rest) region.hi regions owners consecutive.2 (owners_rows width region.hi regions owners each.1 consecutive.2) in (
-      low_between region.lo region.hi END owner.part.book rest own of_rest,
-      zip_weaker {P = λ (r : Region) (o : Owner). IsBehind region.hi r × HasRows rest r o} {Q = HasRows (join_books owner.part.book rest)}
-          (λ r o has. between_joined r.lo r.hi owner.part.book rest
-          ∙ ap (λ (book : Book). join_books book (rows_between r.lo r.hi rest)) (none_past region.lo region.hi r.lo r.hi owner.part.book has.0.0 own)
-          ∙ has.1) regions owners others,
+    let of_rest = owner_rows width region.hi regions owners each.1 consecutive.2 in (
+      ((omega arith, some, end), low_between region.lo region.hi END owner.part.book rest own of_rest),
+      zip_weaker {P = λ (r : Region) (o : Owner). IsBehind region.hi r × HasRows rest r o} {Q = λ (r : Region) (o : Owner). IsBehind from r × HasRows (join_books owner.part.book rest) r o}
+          (λ r o has. let later = has.0.0 in (
+          (omega arith, has.0.1, has.0.2),
+          between_joined r.lo r.hi owner.part.book rest
+          ∙ ap (λ (book : Book). join_books book (rows_between r.lo r.hi rest)) (none_past region.lo region.hi r.lo r.hi owner.part.book later own) ∙ has.1,
+          )) regions owners (rows_behind width region.hi regions owners each.1 consecutive.2),
     )
+
+pub owners_rows : (width from : ℕ) (regions : List Region) (owners : List Owner) → AreOwners width regions owners → IsConsecutive from regions → AllZip (HasRows (book_of_owners owners)) regions owners
+owners_rows width from regions owners each consecutive =
+    zip_weaker {P = λ (r : Region) (o : Owner). IsBehind from r × HasRows (book_of_owners owners) r o} {Q = HasRows (book_of_owners owners)} (λ r o has. has.1) regions owners (rows_behind width from regions owners each consecutive)
 
 -- owners of regions that follow one another have the rows of a book from where they begin, where each has those of its
 -- region

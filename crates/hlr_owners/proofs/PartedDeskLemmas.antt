@@ -47,14 +47,7 @@ each_remove P (first ∷ xs) (suc i) each = (each.0, each_remove P xs i each.1)
 -- a number that either of two desks has, where their flags add up to that of one desk
 number_of_two : (one other whole : Bool) (n : ℕ) → (if one then 1 else 0) + (if other then 1 else 0) ≡ (if whole then 1 else 0)
     → (if one then n else 0) + (if other then n else 0) ≡ (if whole then n else 0)
-number_of_two true true true n sum = absurd (omega arith)
-number_of_two true true false n sum = absurd (omega arith)
-number_of_two true false true n sum = omega arith
-number_of_two true false false n sum = absurd (omega arith)
-number_of_two false true true n sum = omega arith
-number_of_two false true false n sum = absurd (omega arith)
-number_of_two false false true n sum = absurd (omega arith)
-number_of_two false false false n sum = omega arith
+number_of_two one other whole n sum = grind (arith, nat_tests)
 
 module _ (board : TableId) (spare : Station) (desks : List Station) (rules : AreDesks board spare desks) where
   spare_wide : IsWide spare.view
