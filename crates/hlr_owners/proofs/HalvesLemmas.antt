@@ -89,18 +89,8 @@ Meets High piece part = part.hi ≡ piece.lo
 
 -- so it is where their regions touch
 pub meets_from : (side : Side) (first second : Region) (piece part : PartState) → (piece.lo ≡ first.lo) × (piece.hi ≡ first.hi) → (part.lo ≡ second.lo) × (part.hi ≡ second.hi) → touching first second ≡ Some side → Meets side piece part
-meets_from Low first second piece part one other touch =
-    by_test (first.hi == second.lo)
-    (λ e. let meet : first.hi ≡ second.lo = grind (arith, nat_tests) in one.1 ∙ meet ∙ sym other.0)
-    (λ e. by_test (second.hi == first.lo)
-    (λ f. let no : Some High ≡ Some Low = rw (e, f) at touch in absurd cc)
-    (λ f. let no : None ≡ Some Low = rw (e, f) at touch in absurd cc))
-meets_from High first second piece part one other touch =
-    by_test (first.hi == second.lo)
-    (λ e. let no : Some Low ≡ Some High = rw e at touch in absurd cc)
-    (λ e. by_test (second.hi == first.lo)
-    (λ f. let meet : second.hi ≡ first.lo = grind (arith, nat_tests) in other.1 ∙ meet ∙ sym one.0)
-    (λ f. let no : None ≡ Some High = rw (e, f) at touch in absurd cc))
+meets_from Low first second piece part one other touch = let meet : first.hi ≡ second.lo = grind (arith, nat_tests) in one.1 ∙ meet ∙ sym other.0
+meets_from High first second piece part one other touch = let meet : second.hi ≡ first.lo = grind (arith, nat_tests) in other.1 ∙ meet ∙ sym one.0
 
 pub meets_touch : (side : Side) (piece part : PartState) → Meets side piece part → Touch part piece
 meets_touch Low piece part meets = inr meets

@@ -125,14 +125,8 @@ back_index h are k keeps i j index back =
     let lo = there.4.lo in
     let hi = there.4.hi in
     let some = keeps.rules.range.1 in
-    let inside : lies_in k.part.lo (get_or h.regions j blank) ≡ true = lies (get_or h.regions j blank) k.part.lo (omega arith) (omega arith) in
+    let inside : lies_in k.part.lo (get_or h.regions j blank) ≡ true = grind (arith, nat_tests) in
     lies_once 1 k.part.lo h.regions i j are.are.consecutive here.0 (region_there h are j (Part there.0) there.1 there.2) here.1 inside
-  where
-    lies : (r : Region) (s_id : ℕ) → r.lo ≤ s_id → s_id < r.hi → lies_in s_id r ≡ true
-    lies r s_id from to =
-        let a : nat_le r.lo s_id ≡ true = grind (arith, nat_tests) in
-        let b : nat_lt s_id r.hi ≡ true = grind (arith, nat_tests) in
-        rw (a, b) refl
 
 pub back_here : (h : Seating) (are : AreSeated h) (k : HoldingState) → IsHolding k → (i : ℕ) → position (lies_in k.part.lo) h.regions ≡ Some i → ((j : ℕ) × IsBackFor (slice_get h.seats j) k) → IsBackFor (slice_get h.seats i) k
 back_here h are k keeps i index back = subst (λ (n : ℕ). IsBackFor (slice_get h.seats n) k) (sym (back_index h are k keeps i back.0 index back.1)) back.1

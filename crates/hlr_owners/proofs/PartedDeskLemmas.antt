@@ -134,10 +134,7 @@ twin_within slot w in_board own =
 
 -- a flag of two, of which not both are set
 one_of_two : (one other : Bool) → (one ≡ true → other ≡ true → ⊥) → (if one || other then 1 else 0) ≡ (if one then 1 else 0) + (if other then 1 else 0)
-one_of_two true true apart = absurd (apart refl refl)
-one_of_two true false apart = refl
-one_of_two false true apart = refl
-one_of_two false false apart = refl
+one_of_two one other apart = grind (arith, nat_tests)
 
 module _ (board : TableId) (spare : Station) (desks : List Station) (rules : AreDesks board spare desks) (i : ℕ) (d : Station) (there : slice_get desks i ≡ Some d) (slot : ℕ) (least : IsLeastSlot d.view slot) where
   -- the desk takes back what it has published, and is joined to the spare desk

@@ -21,10 +21,7 @@ use Rattle.hlr_owners.specs.Store.{Store}
 
 -- one of all subscribers has an s_id in range, and with a type in range both are
 pub subscriber_fits : (s_id : ℕ) → IsWithin 1 (LAST_SUBSCRIBER + 1) s_id → is_between 1 LAST_SUBSCRIBER s_id ≡ true
-subscriber_fits s_id within =
-    let from : nat_le 1 s_id ≡ true = grind (arith, nat_tests) in
-    let to : nat_le s_id LAST_SUBSCRIBER ≡ true = grind (arith, nat_tests) in
-    rw (from, to) refl
+subscriber_fits s_id within = grind (arith, nat_tests)
 
 -- an answer that leaves a part's rows, where the fields are in range
 pub is_read : (act : Action) (store : Store) (holding : HoldingState) (has : HasRowsOf (s_id_of act) store holding) (fits : is_in_range act ≡ true) (answer : RowReply)
