@@ -115,7 +115,7 @@ module _ (h : Seating) (are : AreSeated h) (p at : ℕ) (told : ℕ × ℕ × �
         number_fits = let fits = (at_number h are p i index (λ (o : Lodged). o.holding.desk) l is l.holding.desk).0 in omega arith
 
         desks_with : desks_in (seats_with m n) ≡ insert (desks_in h.seats) (p + 1) (with_view h.spare (alone h.spare.view slot))
-        desks_with = parts_with m n (λ (o : Lodged). o.holding.desk) parted.given.desk ∙ ap (λ (d : Station). insert (desks_in h.seats) (p + 1) d) (parted.seat ∙ own)
+        desks_with = parts_with m n (λ (o : Lodged). o.holding.desk) parted.given.desk ∙ ap (λ (d : Station). insert (desks_in h.seats) (p + 1) d) (parted.own ∙ own)
 
         new_desks : AreDesks board (with_view h.spare (without h.spare.view slot)) (desks_in (seats_with m n))
         new_desks = rw desks_with (desks_divided board h.spare (desks_in h.seats) rules slot in_board least (p + 1) number_fits)
