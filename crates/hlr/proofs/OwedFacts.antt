@@ -9,7 +9,7 @@ use Rattle.csv.specs.declared.parser.State.TheVariants as st
 use Rattle.arrayvec.specs.ArrayVec.{ArrayVec}
 use Rattle.tatp_rows.specs.declared.refusal.Refusal.{Refusal}
 use Rattle.hlr_owners.specs.Recut.{IsRecut}
-use Rattle.hlr_owners.specs.Seats.{Seating, store_in}
+use Rattle.hlr_owners.specs.Owners.{OwnersState, store_in}
 use Rattle.hlr_owners.specs.Store.{Store}
 use Rattle.hlr_core.specs.Run.{IsRun}
 use Rattle.hlr_core.specs.declared.event.Event.{Event}
@@ -66,12 +66,12 @@ owed_more rows before a b fields event owes is took = record {
 }
 
 -- an engine is at rest that was opened over a register
-pub opened_at_rest : (e : Engaged) (h : Seating) → e.house ≡ h → e.replies ≡ [] → Stands e (store_in h) [] → IsAtRest e
-opened_at_rest e h is none stands = record { none = none; stands = subst (λ (h : Seating). Stands e (store_in h) []) (sym is) stands }
+pub opened_at_rest : (e : Engaged) (h : OwnersState) → e.register ≡ h → e.replies ≡ [] → Stands e (store_in h) [] → IsAtRest e
+opened_at_rest e h is none stands = record { none = none; stands = subst (λ (h : OwnersState). Stands e (store_in h) []) (sym is) stands }
 
 -- an engine at rest owes nothing, whatever was seen of the words
-owed_none : (sight : List ℕ) (e : Engaged) → IsAtRest e → IsOwed [] (with_sight sight e.house) e
-owed_none sight e rest = record { events = []; asked = tt; stands = stands_unseen sight e (store_in e.house) [] rest.stands }
+owed_none : (sight : List ℕ) (e : Engaged) → IsAtRest e → IsOwed [] (with_sight sight e.register) e
+owed_none sight e rest = record { events = []; asked = tt; stands = stands_unseen sight e (store_in e.register) [] rest.stands }
 
 -- the lines of the replies to events answer the records that ask for them
 events_text : (rows : List (List (List ℕ))) (events : List Event) (replies : List (ℕ × Reply)) (before after : Store) → AskFor rows events → length replies ≡ length events
@@ -87,12 +87,12 @@ events_text (row ∷ rows) (event ∷ events) (one ∷ replies) before after ask
     (reply_line one.1, run.0, replies_text replies, right, events_text rows events replies run.0 after asked.1 (omega arith) run.2, refl)
 
 -- what was owed is answered by the lines of the replies of a settle
-owed_text : (rows : List (List (List ℕ))) (before : Store) (e : Engaged) (replies : List (ℕ × Reply)) (house : Seating) → IsOwed rows before e → IsSettled e replies house
-    → length replies ≡ length e.replies → RecordsText rows before (replies_text replies) (with_sight before.sight house)
-owed_text rows before e replies house owes settled each =
+owed_text : (rows : List (List (List ℕ))) (before : Store) (e : Engaged) (replies : List (ℕ × Reply)) (register : OwnersState) → IsOwed rows before e → IsSettled e replies register
+    → length replies ≡ length e.replies → RecordsText rows before (replies_text replies) (with_sight before.sight register)
+owed_text rows before e replies register owes settled each =
     let count = owes.stands.0 in
     let taken = events_taken owes.events in
-    events_text rows owes.events replies before (with_sight before.sight house) owes.asked (omega arith) (settled before (map Took owes.events) owes.stands)
+    events_text rows owes.events replies before (with_sight before.sight register) owes.asked (omega arith) (settled before (map Took owes.events) owes.stands)
 
 -- records answered one after another, and then more
 records_after : (rows more : List (List (List ℕ))) (s m t : Store) (text behind : List ℕ) → RecordsText rows s text m → RecordsText more m behind t
@@ -103,15 +103,15 @@ records_after (row ∷ rows) more s m t text behind h k =
     (h.0, h.1, h.2 ++ behind, h.3, records_after rows more h.1 m t h.2 behind h.4 k, ap (λ w. w ++ behind) h.5 ∙ append_assoc h.0 h.2 behind)
 
 -- what is owed is written
-module _ (rows : List (List (List ℕ))) (start : Store) (e : Engaged) (replies : List (ℕ × Reply)) (house : Seating) (settled : IsSettled e replies house)
+module _ (rows : List (List (List ℕ))) (start : Store) (e : Engaged) (replies : List (ℕ × Reply)) (register : OwnersState) (settled : IsSettled e replies register)
     (each : length replies ≡ length e.replies) (old mid new : Option (List ℕ)) (under : IsUnderway rows start e old mid) where
-  whole_text : RecordsText rows start (under.text ++ replies_text replies) (with_sight under.now.sight house)
+  whole_text : RecordsText rows start (under.text ++ replies_text replies) (with_sight under.now.sight register)
   whole_text =
-      rw under.all (records_after under.answered under.owed start under.now (with_sight under.now.sight house) under.text (replies_text replies) under.answers
-      (owed_text under.owed under.now e replies house under.owes settled each))
+      rw under.all (records_after under.answered under.owed start under.now (with_sight under.now.sight register) under.text (replies_text replies) under.answers
+      (owed_text under.owed under.now e replies register under.owes settled each))
 
   pub settled_text : (stalled : Bool) (r : Result (Unit {0}) Stalled) → Puts (replies_text replies) mid new stalled r
-      → MatchResult r (λ done. AreAnswered rows start house old new) (λ why. AreBrokenOff rows start old new stalled)
+      → MatchResult r (λ done. AreAnswered rows start register old new) (λ why. AreBrokenOff rows start old new stalled)
   settled_text stalled (Ok done) put = record {
     text = under.text ++ replies_text replies;
     sight = under.now.sight;
@@ -120,30 +120,30 @@ module _ (rows : List (List (List ℕ))) (start : Store) (e : Engaged) (replies 
   }
   settled_text stalled (Err why) put = record {
     text = under.text ++ replies_text replies;
-    end = with_sight under.now.sight house;
+    end = with_sight under.now.sight register;
     answers = whole_text;
     front = front_after old mid new under.text (replies_text replies) under.grew put.0;
     told = put.1;
   }
 
 -- records that are answered by an engine which is at rest
-pub underway_at_rest : (rows : List (List (List ℕ))) (start : Store) (e : Engaged) (old new : Option (List ℕ)) → IsAtRest e → AreAnswered rows start e.house old new → IsUnderway rows start e old new
+pub underway_at_rest : (rows : List (List (List ℕ))) (start : Store) (e : Engaged) (old new : Option (List ℕ)) → IsAtRest e → AreAnswered rows start e.register old new → IsUnderway rows start e old new
 underway_at_rest rows start e old new rest done = record {
   answered = rows;
   owed = [];
   all = sym (append-nil rows);
   text = done.text;
-  now = with_sight done.sight e.house;
+  now = with_sight done.sight e.register;
   answers = done.answers;
   grew = done.grew;
   owes = owed_none done.sight e rest;
 }
 
 -- no record is answered yet
-pub underway_none : (e : Engaged) (old : Option (List ℕ)) → IsAtRest e → IsUnderway [] (store_in e.house) e old old
+pub underway_none : (e : Engaged) (old : Option (List ℕ)) → IsAtRest e → IsUnderway [] (store_in e.register) e old old
 unfolding RecordsText
 underway_none e old rest =
-    underway_at_rest [] (store_in e.house) e old old rest (record { text = []; sight = e.house.spare.view.seen; answers = (refl, refl); grew = appends_none old })
+    underway_at_rest [] (store_in e.register) e old old rest (record { text = []; sight = e.register.spare.view.seen; answers = (refl, refl); grew = appends_none old })
 
 -- one more record is owed
 pub underway_more : (rows : List (List (List ℕ))) (start : Store) (a b : Engaged) (old new : Option (List ℕ)) (fields : List (List ℕ)) (event : Event) → IsUnderway rows start a old new
@@ -179,16 +179,16 @@ text_unseen w fields (Ok command.Recut) before text after told = recut_text_unse
 text_unseen w fields (Err why) before text after told = (told.0, ap (seen_as w) told.1)
 
 -- the text of records that are answered, and of one more behind them
-module _ (rows : List (List (List ℕ))) (fields : List (List ℕ)) (start : Store) (before : Seating) (e : Engaged) (old mid new : Option (List ℕ)) (stalled : Bool)
-    (r : Result (Unit {0}) Stalled) (all : AreAnswered rows start before old mid) (one : Answers fields (store_in before) (store_in e.house) mid new stalled r) where
-  next_text : RecordsText (rows ++ fields ∷ []) start (all.text ++ one.text) (with_sight all.sight e.house)
+module _ (rows : List (List (List ℕ))) (fields : List (List ℕ)) (start : Store) (before : OwnersState) (e : Engaged) (old mid new : Option (List ℕ)) (stalled : Bool)
+    (r : Result (Unit {0}) Stalled) (all : AreAnswered rows start before old mid) (one : Answers fields (store_in before) (store_in e.register) mid new stalled r) where
+  next_text : RecordsText (rows ++ fields ∷ []) start (all.text ++ one.text) (with_sight all.sight e.register)
   next_text =
-      records_more rows fields start (with_sight all.sight before) (with_sight all.sight e.house) all.text one.text all.answers
-      (text_unseen all.sight fields (command_of fields) (store_in before) one.text (store_in e.house) one.answer)
+      records_more rows fields start (with_sight all.sight before) (with_sight all.sight e.register) all.text one.text all.answers
+      (text_unseen all.sight fields (command_of fields) (store_in before) one.text (store_in e.register) one.answer)
 
 -- so that one is answered too
-pub answered_next : (rows : List (List (List ℕ))) (fields : List (List ℕ)) (start : Store) (before : Seating) (e : Engaged) (old mid new : Option (List ℕ)) (stalled : Bool)
-    (r : Result (Unit {0}) Stalled) → AreAnswered rows start before old mid → Answers fields (store_in before) (store_in e.house) mid new stalled r → IsAtRest e
+pub answered_next : (rows : List (List (List ℕ))) (fields : List (List ℕ)) (start : Store) (before : OwnersState) (e : Engaged) (old mid new : Option (List ℕ)) (stalled : Bool)
+    (r : Result (Unit {0}) Stalled) → AreAnswered rows start before old mid → Answers fields (store_in before) (store_in e.register) mid new stalled r → IsAtRest e
     → HasAnswered rows fields start e old new stalled r
 answered_next rows fields start before e old mid new stalled (Ok done) all one rest = underway_at_rest (rows ++ fields ∷ []) start e old new rest (record {
   text = all.text ++ one.text;
@@ -198,20 +198,20 @@ answered_next rows fields start before e old mid new stalled (Ok done) all one r
 })
 answered_next rows fields start before e old mid new stalled (Err why) all one rest = inr (record {
   text = all.text ++ one.text;
-  end = with_sight all.sight e.house;
+  end = with_sight all.sight e.register;
   answers = next_text rows fields start before e old mid new stalled (Err why) all one;
   front = front_after old mid new all.text one.text all.grew one.put.0;
   told = one.put.1;
 })
 
 -- a re-cut by an engine at rest
-pub recut_settled : (bounds : List ℕ) (done : Result ℕ Refusal) (a b : Engaged) → IsAtRest a → TookNext (Cut bounds done) a b → IsSettled b [] b.house
-    → b.house.spare ≡ a.house.spare → IsRecut bounds (store_in a.house) done (store_in b.house)
+pub recut_settled : (bounds : List ℕ) (done : Result ℕ Refusal) (a b : Engaged) → IsAtRest a → TookNext (Cut bounds done) a b → IsSettled b [] b.register
+    → b.register.spare ≡ a.register.spare → IsRecut bounds (store_in a.register) done (store_in b.register)
 recut_settled bounds done a b rest took settled first =
-    let run = settled (store_in a.house) (Cut bounds done ∷ []) (took (store_in a.house) [] rest.stands) in
-    let sight : a.house.spare.view.seen ≡ b.house.spare.view.seen = sym (rw first refl) in
-    let after : run.0 ≡ store_in b.house = sym run.2 ∙ ap (λ (sight : List ℕ). record (store_in b.house) { sight = sight }) sight in
-    subst (λ (s : Store). IsRecut bounds (store_in a.house) done s) after run.1
+    let run = settled (store_in a.register) (Cut bounds done ∷ []) (took (store_in a.register) [] rest.stands) in
+    let sight : a.register.spare.view.seen ≡ b.register.spare.view.seen = sym (rw first refl) in
+    let after : run.0 ≡ store_in b.register = sym run.2 ∙ ap (λ (sight : List ℕ). record (store_in b.register) { sight = sight }) sight in
+    subst (λ (s : Store). IsRecut bounds (store_in a.register) done s) after run.1
 
 -- no replies stay none
 pub nothing_more : (before after : List (ℕ × Reply)) → before ≡ [] → length after ≡ length before → after ≡ []
@@ -220,17 +220,17 @@ nothing_more [] (r ∷ after) none same = absurd (omega (arith, same))
 nothing_more (b ∷ before) (r ∷ after) none same = absurd cc
 
 -- records that are answered, and the sink was flushed
-pub answered_kept : (rows : List (List (List ℕ))) (start : Store) (house : Seating) (old mid new : Option (List ℕ)) → AreAnswered rows start house old mid → Keeps mid new
-    → AreAnswered rows start house old new
-answered_kept rows start house old mid new done kept =
+pub answered_kept : (rows : List (List (List ℕ))) (start : Store) (register : OwnersState) (old mid new : Option (List ℕ)) → AreAnswered rows start register old mid → Keeps mid new
+    → AreAnswered rows start register old new
+answered_kept rows start register old mid new done kept =
     record { text = done.text; sight = done.sight; answers = done.answers; grew = appends_kept old mid new done.text done.grew kept }
 
 -- or failed in that
-pub broken_kept : (rows : List (List (List ℕ))) (start : Store) (house : Seating) (old mid new : Option (List ℕ)) (stalled : Bool) → AreAnswered rows start house old mid
+pub broken_kept : (rows : List (List (List ℕ))) (start : Store) (register : OwnersState) (old mid new : Option (List ℕ)) (stalled : Bool) → AreAnswered rows start register old mid
     → Keeps mid new → stalled ≡ true → AreBrokenOff rows start old new stalled
-broken_kept rows start house old mid new stalled done kept told = record {
+broken_kept rows start register old mid new stalled done kept told = record {
   text = done.text;
-  end = with_sight done.sight house;
+  end = with_sight done.sight register;
   answers = done.answers;
   front = front_all old new done.text (appends_kept old mid new done.text done.grew kept);
   told = told;
@@ -271,12 +271,12 @@ front_until stops start bytes old new front = record { front = front; stopped = 
 
 -- and what is owed of all records is written, after no fault of the sink
 module _ (stops : List (List (List ℕ)) → Fault → Type 0) (start : Store) (bytes : List ℕ) (e : Engaged) (old mid new : Option (List ℕ)) where
-  stopped : (house : Seating) (why : Fault) → HasComeTo stops start bytes e old mid why → ((rows : List (List (List ℕ))) → IsUnderway rows start e old mid → AreAnswered rows start house old new)
+  stopped : (register : OwnersState) (why : Fault) → HasComeTo stops start bytes e old mid why → ((rows : List (List (List ℕ))) → IsUnderway rows start e old mid → AreAnswered rows start register old new)
       → StoppedFront stops start bytes old new why
-  stopped house why come write =
+  stopped register why come write =
       let all = write come.rows come.underway in
       record {
-        front = front_is_whole start bytes old new why (answered_records start come.rows all.text (with_sight all.sight house) come.few all.answers) come.state come.left come.are_first all.grew;
+        front = front_is_whole start bytes old new why (answered_records start come.rows all.text (with_sight all.sight register) come.few all.answers) come.state come.left come.are_first all.grew;
         stopped = λ unless. come.stopped;
       }
 
@@ -285,16 +285,16 @@ module _ (stops : List (List (List ℕ)) → Fault → Type 0) (start : Store) (
   cut why stalled come write =
       front_until stops start bytes old new (broken_front come.rows start bytes old new stalled come.state come.left (write come.rows come.underway) come.few come.are_first)
 
-  pub come_whole : (house : Seating) (done : Result (Unit {0}) Fault) → (done ≡ Err fault.Write → ⊥) → HasCome stops start bytes e old mid done
-      → ((rows : List (List (List ℕ))) → IsUnderway rows start e old mid → AreAnswered rows start house old new) → RanUntil stops start bytes old new done
-  come_whole house (Ok done) unless come write =
+  pub come_whole : (register : OwnersState) (done : Result (Unit {0}) Fault) → (done ≡ Err fault.Write → ⊥) → HasCome stops start bytes e old mid done
+      → ((rows : List (List (List ℕ))) → IsUnderway rows start e old mid → AreAnswered rows start register old new) → RanUntil stops start bytes old new done
+  come_whole register (Ok done) unless come write =
       let all = write come.rows come.underway in
-      record { answered = answered_records start come.rows all.text (with_sight all.sight house) come.few all.answers; are_records = come.are_records; grew = all.grew }
-  come_whole house (Err fault.Memory) unless come write = stopped house fault.Memory come write
-  come_whole house (Err fault.Field) unless come write = stopped house fault.Field come write
-  come_whole house (Err fault.Thread) unless come write = stopped house fault.Thread come write
-  come_whole house (Err fault.Read) unless come write = stopped house fault.Read come write
-  come_whole house (Err fault.Write) unless come write = absurd (unless refl)
+      record { answered = answered_records start come.rows all.text (with_sight all.sight register) come.few all.answers; are_records = come.are_records; grew = all.grew }
+  come_whole register (Err fault.Memory) unless come write = stopped register fault.Memory come write
+  come_whole register (Err fault.Field) unless come write = stopped register fault.Field come write
+  come_whole register (Err fault.Thread) unless come write = stopped register fault.Thread come write
+  come_whole register (Err fault.Read) unless come write = stopped register fault.Read come write
+  come_whole register (Err fault.Write) unless come write = absurd (unless refl)
 
   -- or the sink fails in that
   pub come_broken : (stalled : Bool) (done : Result (Unit {0}) Fault) → (done ≡ Err fault.Write → ⊥) → HasCome stops start bytes e old mid done
@@ -316,7 +316,7 @@ pub record SoFarOwed (start : Store) (known : Option (List ℕ)) (unread : Unrea
   pub read : IfSome known (λ bytes. AreRead bytes unread rows)
 
 -- nothing is read yet
-pub owed_started : (e : Engaged) (unread : Unread) (old : Option (List ℕ)) → IsAtRest e → unread.state ≡ st.StartRecord → SoFarOwed (store_in e.house) unread.bytes unread e old old 0
+pub owed_started : (e : Engaged) (unread : Unread) (old : Option (List ℕ)) → IsAtRest e → unread.state ≡ st.StartRecord → SoFarOwed (store_in e.register) unread.bytes unread e old old 0
 owed_started e unread old rest at_start = record {
   rows = [];
   many = refl;
@@ -428,7 +428,7 @@ answered_taken rows fields start e old new stalled (Err why) r held is = rw is h
 
 -- a record was taken, and then what is owed was handed on
 pub handed_taken : (rows : List (List (List ℕ))) (fields : List (List ℕ)) (start : Store) (e : Engaged) (old new : Option (List ℕ)) (stalled : Bool) (done : Result (Unit {0}) Stalled) (r : Result (Unit {0}) Fault)
-    → MatchResult done (λ unit. AreAnswered (rows ++ fields ∷ []) start e.house old new) (λ why. AreBrokenOff (rows ++ fields ∷ []) start old new stalled) → IsAtRest e
+    → MatchResult done (λ unit. AreAnswered (rows ++ fields ∷ []) start e.register old new) (λ why. AreBrokenOff (rows ++ fields ∷ []) start old new stalled) → IsAtRest e
     → MatchResult done (λ unit. r ≡ Ok unit) (λ why. r ≡ Err fault.Write) → HasTaken rows fields start e old new stalled r
 handed_taken rows fields start e old new stalled (Ok done) r held rest is = rw is (underway_at_rest (rows ++ fields ∷ []) start e old new rest held)
 handed_taken rows fields start e old new stalled (Err why) r held rest is = rw is (inr held)

@@ -14,7 +14,7 @@ use Rattle.hlr.specs.Command.{Command as command}
 use Rattle.hlr.specs.Lines.{reply_line}
 use Rattle.hlr.specs.Records.{command_of}
 use Rattle.tatp_actions.specs.Cell.{cell}
-use Rattle.hlr_owners.specs.Seats.{Seating, store_in}
+use Rattle.hlr_owners.specs.Owners.{OwnersState, store_in}
 use Rattle.hlr_owners.specs.Store.{Store, published, unpublished}
 use Rattle.hlr_core.specs.Index.{index_of}
 use Rattle.hlr.specs.Reports.{report_text, cells_where, is_standing, standing_line, is_counted, rows_line, index_text, regions_text, scan_text, views_text}
@@ -125,15 +125,15 @@ pub record IsUnderway (rows : List (List (List ℕ))) (start : Store) (engine : 
   pub owes : IsOwed owed now engine
 
 -- the store of a register, with some sight of the words, of which no text tells
-abbrev pub with_sight : List ℕ → Seating → Store
-with_sight sight house = record (store_in house) { sight = sight }
+abbrev pub with_sight : List ℕ → OwnersState → Store
+with_sight sight register = record (store_in register) { sight = sight }
 
 -- records from a store on are answered, up to the store of a register, and the sink took their text
-pub record AreAnswered (rows : List (List (List ℕ))) (start : Store) (house : Seating) (old new : Option (List ℕ))
+pub record AreAnswered (rows : List (List (List ℕ))) (start : Store) (register : OwnersState) (old new : Option (List ℕ))
     : Type 0 where
   pub text : List ℕ
   pub sight : List ℕ
-  pub answers : RecordsText rows start text (with_sight sight house)
+  pub answers : RecordsText rows start text (with_sight sight register)
   pub grew : Appends old new text
 
 -- records from a store on are answered, of whose text the sink took a front and then told of a fault
@@ -146,7 +146,7 @@ pub record AreBrokenOff (rows : List (List (List ℕ))) (start : Store) (old new
   pub told : stalled ≡ true
 
 -- whatever records are underway, what is owed of them is written, or the sink told of a fault in their text
-abbrev pub WritesOwed : Engaged → Seating → Option (List ℕ) → Option (List ℕ) → Bool → Result (Unit {0}) Stalled → Type 0
+abbrev pub WritesOwed : Engaged → OwnersState → Option (List ℕ) → Option (List ℕ) → Bool → Result (Unit {0}) Stalled → Type 0
 WritesOwed before after taken new stalled r =
     (rows : List (List (List ℕ))) (start : Store) (old : Option (List ℕ)) → IsUnderway rows start before old taken
     → MatchResult r (λ done. AreAnswered rows start after old new) (λ why. AreBrokenOff rows start old new stalled)
@@ -154,7 +154,7 @@ WritesOwed before after taken new stalled r =
 -- nothing is owed: no event is pending, and the engine stands at its register
 pub record IsAtRest (engine : Engaged) : Type 0 where
   pub none : engine.replies ≡ []
-  pub stands : Stands engine (store_in engine.house) []
+  pub stands : Stands engine (store_in engine.register) []
 
 -- behind records, one more is answered, or the sink told of a fault in the text of the others or in its own
 abbrev pub HasAnswered : List (List (List ℕ)) → List (List ℕ) → Store → Engaged → Option (List ℕ) → Option (List ℕ) → Bool

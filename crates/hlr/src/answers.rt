@@ -1,7 +1,7 @@
 //! The answers to reads, built from rows that the register lends.
 ghost use Rattle.std.specs.Prelude.{Some, IfOk, IfErr};
 ghost use Rattle.csv.specs.Records.{fields_of};
-ghost use Rattle.hlr_owners.specs.Seats.{AllHome, store_in};
+ghost use Rattle.hlr_owners.specs.Owners.{AllHome, store_in};
 ghost use Rattle.hlr.specs.Lines.{access_line, numbers_line, refused_line, subscriber_line};
 ghost use Rattle.hlr.specs.Records.{command_named};
 ghost use Rattle.hlr.specs.declared.records.Word.TheVariants as word;
@@ -16,7 +16,7 @@ use tatp_rows::{Access, Number, Refusal, Subscriber};
 
 /// Finds the row that `gsd,S` reads: `Syntax`, `Field`, `Moving`, `NoSubscriber`.
 fn find_subscriber<'a>(row: &ByteRecord, register: &'a Register) -> Result<&'a Subscriber, Refusal>
-    requires { AllHome register.now.seats }
+    requires { AllHome register.now.owners }
     ensures found { IfOk result (λ found. CommandText (fields_of row.now) (command_named (Some word.Gsd) (fields_of row.now)) (store_in register.now) (subscriber_line found.now) (store_in register.now)) }
     ensures refused { IfErr result (λ why. CommandText (fields_of row.now) (command_named (Some word.Gsd) (fields_of row.now)) (store_in register.now) (refused_line why) (store_in register.now)) }
 {
@@ -25,7 +25,7 @@ fn find_subscriber<'a>(row: &ByteRecord, register: &'a Register) -> Result<&'a S
 
 /// Finds the row that `gad,S,ai_type` reads: `Syntax`, `Field`, `Moving`, `NoAccess`.
 fn find_access<'a>(row: &ByteRecord, register: &'a Register) -> Result<&'a Access, Refusal>
-    requires { AllHome register.now.seats }
+    requires { AllHome register.now.owners }
     ensures found { IfOk result (λ found. CommandText (fields_of row.now) (command_named (Some word.Gad) (fields_of row.now)) (store_in register.now)
         (access_line found.now.data1 found.now.data2 found.now.data3 found.now.data4) (store_in register.now)) }
     ensures refused { IfErr result (λ why. CommandText (fields_of row.now) (command_named (Some word.Gad) (fields_of row.now)) (store_in register.now) (refused_line why) (store_in register.now)) }
@@ -36,7 +36,7 @@ fn find_access<'a>(row: &ByteRecord, register: &'a Register) -> Result<&'a Acces
 
 /// Finds the numbers that `gnd,S,sf_type,start_time,end_time` reads: `Syntax`, `Field`, `Moving`, `NoDestination`.
 fn find_numbers(row: &ByteRecord, register: &Register) -> Result<ArrayVec<Number, 3>, Refusal>
-    requires { AllHome register.now.seats }
+    requires { AllHome register.now.owners }
     ensures found { IfOk result (λ found. CommandText (fields_of row.now) (command_named (Some word.Gnd) (fields_of row.now)) (store_in register.now) (numbers_line found.items) (store_in register.now)) }
     ensures refused { IfErr result (λ why. CommandText (fields_of row.now) (command_named (Some word.Gnd) (fields_of row.now)) (store_in register.now) (refused_line why) (store_in register.now)) }
 {
@@ -46,7 +46,7 @@ fn find_numbers(row: &ByteRecord, register: &Register) -> Result<ArrayVec<Number
 
 /// Builds the answer to a record whose word is `gsd`: `gsd,S`.
 pub fn build_gsd(row: &ByteRecord, register: &Register, line: &mut Line)
-    requires { AllHome register.now.seats }
+    requires { AllHome register.now.owners }
     ensures { CommandText (fields_of row.now) (command_named (Some word.Gsd) (fields_of row.now)) (store_in register.now) line.new.items (store_in register.now) }
 {
     match find_subscriber(row, register) {
@@ -57,7 +57,7 @@ pub fn build_gsd(row: &ByteRecord, register: &Register, line: &mut Line)
 
 /// Builds the answer to a record whose word is `gad`: `gad,S,ai_type`.
 pub fn build_gad(row: &ByteRecord, register: &Register, line: &mut Line)
-    requires { AllHome register.now.seats }
+    requires { AllHome register.now.owners }
     ensures { CommandText (fields_of row.now) (command_named (Some word.Gad) (fields_of row.now)) (store_in register.now) line.new.items (store_in register.now) }
 {
     match find_access(row, register) {
@@ -74,7 +74,7 @@ pub fn build_gad(row: &ByteRecord, register: &Register, line: &mut Line)
 
 /// Builds the answer to a record whose word is `gnd`: `gnd,S,sf_type,start_time,end_time`.
 pub fn build_gnd(row: &ByteRecord, register: &Register, line: &mut Line)
-    requires { AllHome register.now.seats }
+    requires { AllHome register.now.owners }
     ensures { CommandText (fields_of row.now) (command_named (Some word.Gnd) (fields_of row.now)) (store_in register.now) line.new.items (store_in register.now) }
 {
     match find_numbers(row, register) {

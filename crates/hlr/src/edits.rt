@@ -1,7 +1,7 @@
 //! The records that change rows, done by the register's own calls.
 ghost use Rattle.std.specs.Prelude.{Some};
 ghost use Rattle.csv.specs.Records.{fields_of};
-ghost use Rattle.hlr_owners.specs.Seats.{AllHome, store_in};
+ghost use Rattle.hlr_owners.specs.Owners.{AllHome, store_in};
 ghost use Rattle.hlr_core.specs.Step.{edited_reply};
 ghost use Rattle.hlr.specs.Lines.{reply_line};
 ghost use Rattle.hlr.specs.Records.{command_named};
@@ -17,9 +17,9 @@ use tatp_rows::Refusal;
 
 /// Does `usd,S,sf_type,bit_1,data_a`: `Syntax`, `Field`, `Moving`, `NoSubscriber`, `NoFacility`.
 pub fn update_subscriber(row: &ByteRecord, register: &mut Register) -> Result<(), Refusal>
-    requires { AllHome register.old.seats }
+    requires { AllHome register.old.owners }
     ensures text { CommandText (fields_of row.now) (command_named (Some word.Usd) (fields_of row.now)) (store_in register.old) (reply_line (edited_reply result)) (store_in register.new) }
-    ensures home { AllHome register.new.seats }
+    ensures home { AllHome register.new.owners }
 {
     let (s_id, sf_type, bit_1, data_a) = read_usd(row)?;
     register.update_subscriber(s_id, sf_type, bit_1, data_a)
@@ -27,9 +27,9 @@ pub fn update_subscriber(row: &ByteRecord, register: &mut Register) -> Result<()
 
 /// Does `ul,N,vlr`: `Syntax`, `Field`, `NoNumber`, `Moving`.
 pub fn update_location(row: &ByteRecord, register: &mut Register) -> Result<(), Refusal>
-    requires { AllHome register.old.seats }
+    requires { AllHome register.old.owners }
     ensures text { CommandText (fields_of row.now) (command_named (Some word.Ul) (fields_of row.now)) (store_in register.old) (reply_line (edited_reply result)) (store_in register.new) }
-    ensures home { AllHome register.new.seats }
+    ensures home { AllHome register.new.owners }
 {
     let (sub_nbr, vlr_location) = read_ul(row)?;
     register.update_location(sub_nbr, vlr_location)
@@ -38,9 +38,9 @@ pub fn update_location(row: &ByteRecord, register: &mut Register) -> Result<(), 
 /// Does `icf,N,sf_type,start_time,end_time,numberx`: `Syntax`, `Field`, `NoNumber`, `Moving`, `NoFacility`, `Exists`,
 /// `Memory`.
 pub fn insert_forwarding(row: &ByteRecord, register: &mut Register) -> Result<(), Refusal>
-    requires { AllHome register.old.seats }
+    requires { AllHome register.old.owners }
     ensures text { CommandText (fields_of row.now) (command_named (Some word.Icf) (fields_of row.now)) (store_in register.old) (reply_line (edited_reply result)) (store_in register.new) }
-    ensures home { AllHome register.new.seats }
+    ensures home { AllHome register.new.owners }
 {
     let (sub_nbr, sf_type, start_time, end_time, numberx) = read_icf(row)?;
     register.insert_forwarding(sub_nbr, sf_type, start_time, end_time, numberx)
@@ -48,9 +48,9 @@ pub fn insert_forwarding(row: &ByteRecord, register: &mut Register) -> Result<()
 
 /// Does `dcf,N,sf_type,start_time`: `Syntax`, `Field`, `NoNumber`, `Moving`, `NoForwarding`.
 pub fn delete_forwarding(row: &ByteRecord, register: &mut Register) -> Result<(), Refusal>
-    requires { AllHome register.old.seats }
+    requires { AllHome register.old.owners }
     ensures text { CommandText (fields_of row.now) (command_named (Some word.Dcf) (fields_of row.now)) (store_in register.old) (reply_line (edited_reply result)) (store_in register.new) }
-    ensures home { AllHome register.new.seats }
+    ensures home { AllHome register.new.owners }
 {
     let (sub_nbr, sf_type, start_time) = read_dcf(row)?;
     register.delete_forwarding(sub_nbr, sf_type, start_time)
@@ -58,9 +58,9 @@ pub fn delete_forwarding(row: &ByteRecord, register: &mut Register) -> Result<()
 
 /// Does `sub,S,N,BITS,HEXES,BYTES,msc,vlr`: `Syntax`, `Field`, `Moving`, `Exists`, `NumberTaken`, `Memory`.
 pub fn add_subscriber(row: &ByteRecord, register: &mut Register) -> Result<(), Refusal>
-    requires { AllHome register.old.seats }
+    requires { AllHome register.old.owners }
     ensures text { CommandText (fields_of row.now) (command_named (Some word.Sub) (fields_of row.now)) (store_in register.old) (reply_line (edited_reply result)) (store_in register.new) }
-    ensures home { AllHome register.new.seats }
+    ensures home { AllHome register.new.owners }
 {
     let subscriber = read_sub(row)?;
     register.add_subscriber(subscriber)
@@ -68,9 +68,9 @@ pub fn add_subscriber(row: &ByteRecord, register: &mut Register) -> Result<(), R
 
 /// Does `acc,S,ai_type,data1,data2,data3,data4`: `Syntax`, `Field`, `Moving`, `NoSubscriber`, `Exists`, `Memory`.
 pub fn add_access(row: &ByteRecord, register: &mut Register) -> Result<(), Refusal>
-    requires { AllHome register.old.seats }
+    requires { AllHome register.old.owners }
     ensures text { CommandText (fields_of row.now) (command_named (Some word.Acc) (fields_of row.now)) (store_in register.old) (reply_line (edited_reply result)) (store_in register.new) }
-    ensures home { AllHome register.new.seats }
+    ensures home { AllHome register.new.owners }
 {
     let access = read_acc(row)?;
     register.add_access(access)
@@ -79,9 +79,9 @@ pub fn add_access(row: &ByteRecord, register: &mut Register) -> Result<(), Refus
 /// Does `fac,S,sf_type,is_active,error_cntrl,data_a,data_b`: `Syntax`, `Field`, `Moving`, `NoSubscriber`, `Exists`,
 /// `Memory`.
 pub fn add_facility(row: &ByteRecord, register: &mut Register) -> Result<(), Refusal>
-    requires { AllHome register.old.seats }
+    requires { AllHome register.old.owners }
     ensures text { CommandText (fields_of row.now) (command_named (Some word.Fac) (fields_of row.now)) (store_in register.old) (reply_line (edited_reply result)) (store_in register.new) }
-    ensures home { AllHome register.new.seats }
+    ensures home { AllHome register.new.owners }
 {
     let facility = read_fac(row)?;
     register.add_facility(facility)
@@ -89,9 +89,9 @@ pub fn add_facility(row: &ByteRecord, register: &mut Register) -> Result<(), Ref
 
 /// Does `active,S,sf_type,is_active`: `Syntax`, `Field`, `Moving`, `NoFacility`.
 pub fn set_active(row: &ByteRecord, register: &mut Register) -> Result<(), Refusal>
-    requires { AllHome register.old.seats }
+    requires { AllHome register.old.owners }
     ensures text { CommandText (fields_of row.now) (command_named (Some word.Active) (fields_of row.now)) (store_in register.old) (reply_line (edited_reply result)) (store_in register.new) }
-    ensures home { AllHome register.new.seats }
+    ensures home { AllHome register.new.owners }
 {
     let (s_id, sf_type, is_active) = read_active(row)?;
     register.set_active(s_id, sf_type, is_active)
@@ -99,9 +99,9 @@ pub fn set_active(row: &ByteRecord, register: &mut Register) -> Result<(), Refus
 
 /// Does `number,S,N`: `Syntax`, `Field`, `Moving`, `NoSubscriber`, `NumberTaken`, `Memory`.
 pub fn set_number(row: &ByteRecord, register: &mut Register) -> Result<(), Refusal>
-    requires { AllHome register.old.seats }
+    requires { AllHome register.old.owners }
     ensures text { CommandText (fields_of row.now) (command_named (Some word.Number) (fields_of row.now)) (store_in register.old) (reply_line (edited_reply result)) (store_in register.new) }
-    ensures home { AllHome register.new.seats }
+    ensures home { AllHome register.new.owners }
 {
     let (s_id, sub_nbr) = read_number(row)?;
     register.set_number(s_id, sub_nbr)

@@ -2,7 +2,7 @@
 ghost use Rattle.std.specs.Prelude.{◌≡◌, ◌≢◌, ◌⊎◌, ◌<◌, [], List, ℕ, Bool, Option, true, Some, Ok, Err, IfSome, OnErr, OnOk, MatchResult, length};
 ghost use Rattle.csv.specs.Records.{fields_of};
 ghost use Rattle.csv.specs.declared.parser.State.TheVariants as state;
-ghost use Rattle.hlr_owners.specs.Seats.{store_in};
+ghost use Rattle.hlr_owners.specs.Owners.{store_in};
 ghost use Rattle.hlr.specs.Command.{Command as command};
 ghost use Rattle.hlr.specs.Inside.{AnswersNext, HasCome, IsAtRest, TakesNext, WritesOwed, replies_text, word_of_report};
 ghost use Rattle.hlr.specs.Lines.{refused_line};
@@ -59,7 +59,7 @@ fn write_owed<H: Threads + Wait, S: Sink>(
     line: &mut Line,
     sink: &mut S,
 ) -> Result<(), Stalled>
-    ensures text { WritesOwed engine.old engine.new.house (S.taken sink.old) (S.taken sink.new) (S.has_stalled sink.new) result }
+    ensures text { WritesOwed engine.old engine.new.register (S.taken sink.old) (S.taken sink.new) (S.has_stalled sink.new) result }
     ensures told { OnErr result (S.has_stalled sink.new ≡ true) }
     ensures rest { IsAtRest engine.new }
 {
@@ -127,7 +127,7 @@ fn build_recut_by<H: Threads + Wait>(
     line: &mut Line,
 )
     requires rest { IsAtRest engine.old }
-    ensures text { RecutText (bounds_of (fields_of row.now)) (store_in engine.old.house) line.new.items (store_in engine.new.house) }
+    ensures text { RecutText (bounds_of (fields_of row.now)) (store_in engine.old.register) line.new.items (store_in engine.new.register) }
     ensures rest { IsAtRest engine.new }
 {
     match read_bounds(row) {
@@ -213,7 +213,7 @@ fn hand_on<H: Threads + Wait, S: Sink>(
     line: &mut Line,
     sink: &mut S,
 ) -> Result<(), Stalled>
-    ensures text { WritesOwed engine.old engine.new.house (S.taken sink.old) (S.taken sink.new) (S.has_stalled sink.new) result }
+    ensures text { WritesOwed engine.old engine.new.register (S.taken sink.old) (S.taken sink.new) (S.has_stalled sink.new) result }
     ensures rest { IsAtRest engine.new }
 {
     write_owed(rt, engine, line, sink)?;
@@ -262,7 +262,7 @@ fn take_all<T: Source, H: Threads + Wait + Copy + Send + Sync + 'static, S: Sink
     requires start { (T.unread source.old).state ≡ state.StartRecord }
     requires rest { IsAtRest engine.old }
     ensures text { IfSome (T.unread source.old).bytes
-        (λ bytes. HasCome (StopsBehind T.unread T.fails true bytes source.new) (store_in engine.old.house) bytes engine.new (S.taken sink.old) (S.taken sink.new) result) }
+        (λ bytes. HasCome (StopsBehind T.unread T.fails true bytes source.new) (store_in engine.old.register) bytes engine.new (S.taken sink.old) (S.taken sink.new) result) }
     ensures write { result ≡ Err fault.Write → S.has_stalled sink.new ≡ true }
     ensures field { result ≢ Err fault.Field }
 {
@@ -296,7 +296,7 @@ pub fn answer_all_by<T: Source, H: Threads + Wait + Copy + Send + Sync + 'static
     requires start { (T.unread source.old).state ≡ state.StartRecord }
     requires rest { IsAtRest engine.old }
     ensures text { IfSome (T.unread source.old).bytes
-        (λ bytes. RanUntil (StopsBehind T.unread T.fails true bytes source.new) (store_in engine.old.house) bytes (S.taken sink.old) (S.taken sink.new) result) }
+        (λ bytes. RanUntil (StopsBehind T.unread T.fails true bytes source.new) (store_in engine.old.register) bytes (S.taken sink.old) (S.taken sink.new) result) }
     ensures write { result ≡ Err fault.Write → S.has_stalled sink.new ≡ true }
     ensures field { result ≢ Err fault.Field }
 {

@@ -3,7 +3,7 @@ ghost use Rattle.std.specs.Prelude.{◌≡◌, ◌+◌, ◌-◌, ◌^◌, ◌<�
 ghost use Rattle.std.specs.List.{flat_map};
 ghost use Rattle.tatp_actions.specs.Cell.{cell};
 ghost use Rattle.view_delta.specs.Pending.{is_zero};
-ghost use Rattle.hlr_owners.specs.Seats.{AllHome, book_in, store_in};
+ghost use Rattle.hlr_owners.specs.Owners.{AllHome, book_in, store_in};
 ghost use Rattle.hlr_owners.specs.Store.{published, unpublished};
 ghost use Rattle.hlr.specs.Sink.{Puts};
 ghost use Rattle.hlr.specs.Lines.{number_line};
@@ -142,7 +142,7 @@ pub fn write_views<S: Sink>(
     line: &mut Line,
     sink: &mut S,
 ) -> Result<(), Stalled>
-    requires { AllHome register.now.seats }
+    requires { AllHome register.now.owners }
     ensures { Puts (views_text (published (store_in register.now)) (unpublished (store_in register.now))) (S.taken sink.old) (S.taken sink.new) (S.has_stalled sink.new) result }
 {
     let counts = Counts::Standing {
@@ -159,8 +159,8 @@ pub fn write_scan<S: Sink>(
     line: &mut Line,
     sink: &mut S,
 ) -> Result<(), Stalled>
-    requires { AllHome register.now.seats }
-    ensures { Puts (scan_text (λ c. cell register.now.width c (book_in register.now.seats))) (S.taken sink.old) (S.taken sink.new) (S.has_stalled sink.new) result }
+    requires { AllHome register.now.owners }
+    ensures { Puts (scan_text (λ c. cell register.now.width c (book_in register.now.owners))) (S.taken sink.old) (S.taken sink.new) (S.has_stalled sink.new) result }
 {
     write_cells(&Counts::Rows(&register.recount()), line, sink)
 }
@@ -243,7 +243,7 @@ pub fn write_proposal<S: Sink>(
     line: &mut Line,
     sink: &mut S,
 ) -> Result<(), Stalled>
-    requires { AllHome register.now.seats }
+    requires { AllHome register.now.owners }
     ensures { Puts (proposal_line (store_in register.now)) (S.taken sink.old) (S.taken sink.new) (S.has_stalled sink.new) result }
 {
     build_bounds(line, &register.propose());

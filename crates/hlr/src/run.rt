@@ -6,7 +6,7 @@ ghost use Rattle.csv.specs.Reading.{Ready, default_config, reader_config, reader
 ghost use Rattle.csv.specs.Records.{fields_of};
 ghost use Rattle.csv.specs.declared.parser.State.TheVariants as state;
 ghost use Rattle.csv.specs.declared.reader.Trim.TheVariants as trim;
-ghost use Rattle.hlr_owners.specs.Seats.{AllHome, store_in};
+ghost use Rattle.hlr_owners.specs.Owners.{AllHome, store_in};
 ghost use Rattle.hlr_owners.specs.Store.{HasOpening, opening};
 ghost use Rattle.hlr.specs.WholeRecords.{inner_remaining};
 ghost use Rattle.hlr.specs.Records.{command_of, field, word_named};
@@ -25,8 +25,8 @@ use crate::edits::{
 };
 use crate::fault::Fault;
 use crate::lines::{Line, build_done, build_recut, build_refused, empty_line};
-use crate::moves::{build_moved, build_post};
 use crate::owed::{OpenGate, answer_all_by};
+use crate::parts::{build_moved, build_post};
 use crate::records::{Report, Word, field, read_bounds, word_of};
 use crate::reports::{write_index, write_proposal, write_regions, write_scan, write_views};
 use crate::sink::{Sink, Stalled, put_all};
@@ -58,9 +58,9 @@ fn write_recut<S: Sink>(
     sink: &mut S,
 ) -> Result<(), Stalled>
     requires named { command_of (fields_of row.now) ≡ Ok command.Recut }
-    requires home { AllHome register.old.seats }
+    requires home { AllHome register.old.owners }
     ensures text { Answers (fields_of row.now) (store_in register.old) (store_in register.new) (S.taken sink.old) (S.taken sink.new) (S.has_stalled sink.new) result }
-    ensures home { AllHome register.new.seats }
+    ensures home { AllHome register.new.owners }
 {
     match read_bounds(row) {
         Ok(bounds) => build_recut(line, register.recut_to(bounds.as_slice())),
@@ -76,7 +76,7 @@ fn write_report<S: Sink>(
     line: &mut Line,
     sink: &mut S,
 ) -> Result<(), Stalled>
-    requires { AllHome register.now.seats }
+    requires { AllHome register.now.owners }
     ensures { Puts (report_on report (store_in register.now)) (S.taken sink.old) (S.taken sink.new) (S.has_stalled sink.new) result }
 {
     match report {
@@ -97,7 +97,7 @@ pub fn answer_report<S: Sink>(
     sink: &mut S,
 ) -> Result<(), Stalled>
     requires named { Some (word_of_report report) ≡ word_named (field (fields_of row.now) 0) }
-    requires home { AllHome register.now.seats }
+    requires home { AllHome register.now.owners }
     ensures { Answers (fields_of row.now) (store_in register.now) (store_in register.now) (S.taken sink.old) (S.taken sink.new) (S.has_stalled sink.new) result }
 {
     if row.len() != 1 {
@@ -116,9 +116,9 @@ fn answer_word<S: Sink>(
     sink: &mut S,
 ) -> Result<(), Stalled>
     requires named { Some word ≡ word_named (field (fields_of row.now) 0) }
-    requires home { AllHome register.old.seats }
+    requires home { AllHome register.old.owners }
     ensures text { Answers (fields_of row.now) (store_in register.old) (store_in register.new) (S.taken sink.old) (S.taken sink.new) (S.has_stalled sink.new) result }
-    ensures home { AllHome register.new.seats }
+    ensures home { AllHome register.new.owners }
 {
     match word {
         Word::Gsd => build_gsd(row, register, line),
@@ -156,9 +156,9 @@ fn answer<S: Sink>(
     line: &mut Line,
     sink: &mut S,
 ) -> Result<(), Stalled>
-    requires { AllHome register.old.seats }
+    requires { AllHome register.old.owners }
     ensures text { Answers (fields_of row.now) (store_in register.old) (store_in register.new) (S.taken sink.old) (S.taken sink.new) (S.has_stalled sink.new) result }
-    ensures home { AllHome register.new.seats }
+    ensures home { AllHome register.new.owners }
 {
     match word_of(field(row, 0)) {
         Some(word) => answer_word(word, row, register, line, sink),
@@ -178,9 +178,9 @@ fn answer_in_time<T: Source, S: Sink>(
     line: &mut Line,
     sink: &mut S,
 ) -> Result<(), Stalled>
-    requires { AllHome register.old.seats }
+    requires { AllHome register.old.owners }
     ensures text { Answers (fields_of row.now) (store_in register.old) (store_in register.new) (S.taken sink.old) (S.taken sink.new) (S.has_stalled sink.new) result }
-    ensures home { AllHome register.new.seats }
+    ensures home { AllHome register.new.owners }
 {
     if answer(row, register, line, sink).is_err() {
         return Err(Stalled);
@@ -205,7 +205,7 @@ pub fn answer_all<T: Source, S: Sink>(
 ) -> Result<(), Fault>
     requires open { T.is_open source.old }
     requires start { (T.unread source.old).state ≡ state.StartRecord }
-    requires home { AllHome register.old.seats }
+    requires home { AllHome register.old.owners }
     ensures text { IfSome (T.unread source.old).bytes
         (λ bytes. RanUntil (StopsBehind T.unread T.fails false bytes source.new) (store_in register.old) bytes (S.taken sink.old) (S.taken sink.new) result) }
     ensures write { result ≡ Err fault.Write → S.has_stalled sink.new ≡ true }
@@ -274,7 +274,7 @@ fn run_store<R: Read + Drop, S: Sink>(
     register: &mut Register,
     sink: &mut S,
 ) -> Result<(), Fault>
-    requires { AllHome register.old.seats }
+    requires { AllHome register.old.owners }
     ensures text { IfSome (R.remaining reader)
         (λ bytes. Ran (store_in register.old) (strip_bom bytes) (S.taken sink.old) (S.taken sink.new) result) }
     ensures write { result ≡ Err fault.Write → S.has_stalled sink.new ≡ true }
@@ -354,7 +354,7 @@ fn run_engine<R: Read + Drop, H: Threads + Wait + Copy + Send + Sync + 'static, 
 ) -> Result<(), Fault>
     requires rest { IsAtRest engine.old }
     ensures text { IfSome (R.remaining reader)
-        (λ bytes. Ran (store_in engine.old.house) (strip_bom bytes) (S.taken sink.old) (S.taken sink.new) result) }
+        (λ bytes. Ran (store_in engine.old.register) (strip_bom bytes) (S.taken sink.old) (S.taken sink.new) result) }
     ensures write { result ≡ Err fault.Write → S.has_stalled sink.new ≡ true }
     ensures field { result ≢ Err fault.Field }
     ensures flushed { IsFlushedAfter result (S.is_flushed sink.new) }
@@ -375,7 +375,7 @@ fn run_threads<R: Read + Drop, H: Threads + Wait + Copy + Send + Sync + 'static,
     register: Register,
     sink: &mut S,
 ) -> Result<(), Fault>
-    requires { AllHome register.seats }
+    requires { AllHome register.owners }
     ensures text { IfSome (R.remaining reader)
         (λ bytes. Ran (store_in register) (strip_bom bytes) (S.taken sink.old) (S.taken sink.new) result) }
     ensures write { result ≡ Err fault.Write → S.has_stalled sink.new ≡ true }

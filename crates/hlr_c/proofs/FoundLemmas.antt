@@ -2,8 +2,8 @@
 use Rattle.std.proofs.Common.{ℕ, List, get_or, map, inr, refl, arith, ◌∙◌}
 use Rattle.std.specs.Prelude.{Ok}
 use Rattle.std.proofs.lemmas.List.{get_or-map, length-map}
-use Rattle.hlr_owners.specs.Seats.{Seating}
-use Rattle.hlr_core.specs.Home.{IsHouseAfter}
+use Rattle.hlr_owners.specs.Owners.{OwnersState}
+use Rattle.hlr_core.specs.Home.{AreHomesAfter}
 use Rattle.hlr_core.specs.Rows.{AreFound}
 use Rattle.hlr_core.specs.declared.event.Event.{Event}
 use Rattle.hlr_core.specs.declared.event.Reply.{Reply}
@@ -11,24 +11,24 @@ use Rattle.hlr_c.specs.Call.{IsAnswer}
 use Rattle.hlr_c.specs.Inside.{AreTold}
 
 -- what was found for the events of questions was found for the questions
-pub found_of : {P Q F : Type 0} (asks : P → Event) (told : F → Reply) (h : Seating) (to_pair : Q → P) (none : P) (asked : List Q) (found : List F) → AreFound asks told h (map to_pair asked) found
+pub found_of : {P Q F : Type 0} (asks : P → Event) (told : F → Reply) (h : OwnersState) (to_pair : Q → P) (none : P) (asked : List Q) (found : List F) → AreFound asks told h (map to_pair asked) found
     → AreFound (λ q. asks (to_pair q)) told h asked found
 found_of asks told h to_pair none asked found are =
     let many = length-map asked to_pair in
     record {
       as_many = are.as_many ∙ many;
       steps = λ at question row below. rw (get_or-map to_pair asked at question none below) at (are.steps at none row (omega (arith, many, below)));
-      beside = λ at question row below. rw (get_or-map to_pair asked at question none below) at (are.beside at none row (omega (arith, many, below)));
+      while_out = λ at question row below. rw (get_or-map to_pair asked at question none below) at (are.while_out at none row (omega (arith, many, below)));
     }
 
 -- so it tells what the call for each answers, where that changes nothing
-pub told_of_found : {Q F X : Type 0} (asks : Q → Event) (told : F → Reply) (writes : Q → X → Reply → ℕ × X) (away : X → ℕ × X) (h : Seating) (asked : List Q) (found : List F) → ((q : Q) (one : F) → IsHouseAfter (asks q) (told one) h h)
+pub told_of_found : {Q F X : Type 0} (asks : Q → Event) (told : F → Reply) (writes : Q → X → Reply → ℕ × X) (away : X → ℕ × X) (h : OwnersState) (asked : List Q) (found : List F) → ((q : Q) (one : F) → AreHomesAfter (asks q) (told one) h h)
     → AreFound asks told h asked found → AreTold (λ q row. IsAnswer (Ok (asks q)) (writes q row) (away row)) (λ q row one. writes q row (told one)) h asked found
-told_of_found asks told writes away h asked found house are = record {
+told_of_found asks told writes away h asked found homes are = record {
   as_many = are.as_many;
   each = λ at question one row below. inr (
     told (get_or found at one),
-    record { step = are.steps at question one below; house = house (get_or asked at question) (get_or found at one); beside = are.beside at question one below },
+    record { step = are.steps at question one below; homes = homes (get_or asked at question) (get_or found at one); while_out = are.while_out at question one below },
     refl,
   );
 }

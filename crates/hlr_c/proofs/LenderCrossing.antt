@@ -21,10 +21,10 @@ use Rattle.holding.proofs.CrossingLemmas.{holding_send, piece_send}
 use Rattle.holding.specs.contracts.holding.Holding as Holding
 use Rattle.holding.specs.contracts.piece.Piece as Piece
 use Rattle.number_index.specs.contracts.index.NumberIndex as NumberIndex
-use Rattle.hlr_owners.specs.contracts.lodging.Lodging as Lodging
-use Rattle.hlr_owners.specs.contracts.lodging.Seat as Seat
+use Rattle.hlr_owners.specs.contracts.part_owner.PartOwner as PartOwner
+use Rattle.hlr_owners.specs.contracts.part_owner.RegionOwner as RegionOwner
 use Rattle.hlr_owners.specs.contracts.prepared.Rooms as Rooms
-use Rattle.hlr_owners.specs.contracts.seats.Seats as Seats
+use Rattle.hlr_owners.specs.contracts.owners.Owners as Owners
 use Rattle.hlr_core.specs.contracts.register.Register as Register
 use Rattle.hlr_lent.proofs.CrossingLemmas.{message_send}
 use Rattle.hlr_lent.specs.contracts.lender.Lender as Lender
@@ -38,17 +38,17 @@ boxed_holding_send = Box-send (Holding.the_row Trees.the_row ghosts) holding_sen
 boxed_piece_send : IsSend (Box.the_row Piece.the_row Heap.the_row heap.ghosts)
 boxed_piece_send = Box-send Piece.the_row piece_send
 
-lodging_send : IsSend Lodging.the_row
-lodging_send = let holding = boxed_holding_send in search (sendable, crosses) depth 20
+part_owner_send : IsSend PartOwner.the_row
+part_owner_send = let holding = boxed_holding_send in search (sendable, crosses) depth 20
 
-seat_send : IsSend Seat.the_row
-seat_send = let lodging = lodging_send in let piece = boxed_piece_send in search sendable depth 20
+region_owner_send : IsSend RegionOwner.the_row
+region_owner_send = let part_owner = part_owner_send in let piece = boxed_piece_send in search sendable depth 20
 
 board_shared_send : IsSend (Arc.the_row Board.the_row Heap.the_row heap.ghosts)
 board_shared_send = Arc-send Board.the_row board_send board_sync
 
-listed_send : IsSend (Vec.the_row Seat.the_row Heap.the_row heap.ghosts)
-listed_send = Vec-send Seat.the_row seat_send
+listed_send : IsSend (Vec.the_row RegionOwner.the_row Heap.the_row heap.ghosts)
+listed_send = Vec-send RegionOwner.the_row region_owner_send
 
 rooms_send : IsSend Rooms.the_row
 rooms_send =
@@ -56,9 +56,9 @@ rooms_send =
     let pieces = Vec-send (Box.the_row Piece.the_row Heap.the_row heap.ghosts) boxed_piece_send in
     search sendable depth 20
 
-seats_send : IsSend Seats.the_row
-seats_send =
-    let regions = regions_send in let seats = listed_send in let rooms = rooms_send in let board = board_shared_send in
+owners_send : IsSend Owners.the_row
+owners_send =
+    let regions = regions_send in let owners = listed_send in let rooms = rooms_send in let board = board_shared_send in
     let spare = desk_send in search sendable depth 20
 
 index_send : IsSend NumberIndex.the_row
@@ -66,7 +66,7 @@ index_send = let tree = tree_send u32-field.row (search sendable) in search send
 
 register_send : IsSend Register.the_row
 register_send =
-    let seats = seats_send in let index = index_send in let alloc = heap_send in search sendable depth 20
+    let owners = owners_send in let index = index_send in let alloc = heap_send in search sendable depth 20
 
 -- the register's end of a ring, where there is one
 ring_send : IsSend (Option.the_row (Consumer.the_row Message.the_row Heap.the_row ReturnRule.the_row heap.ghosts rule.ghosts))

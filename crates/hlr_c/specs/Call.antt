@@ -3,9 +3,9 @@ use Rattle.std.specs.Prelude.{◌≡◌, ◌⊎◌, List, ℕ, Option, Some, Non
 use Rattle.tatp_rows.specs.Refusal.{code_of}
 use Rattle.tatp_rows.specs.declared.refusal.Refusal.{Refusal}
 use Rattle.hlr_owners.specs.Recut.{IsHomeToCut, IsRecut}
-use Rattle.hlr_owners.specs.Seats.{AllHome, Seating, store_in}
-use Rattle.hlr_core.specs.Beside.{IsRecutBeside, IsStepBeside}
-use Rattle.hlr_core.specs.Home.{IsHouseAfter, IsSameHouse}
+use Rattle.hlr_owners.specs.Owners.{AllHome, OwnersState, store_in}
+use Rattle.hlr_core.specs.WhileOut.{IsRecutWhileOut, IsStepWhileOut}
+use Rattle.hlr_core.specs.Home.{AreHomesAfter, HaveSameHomes}
 use Rattle.hlr_core.specs.Step.{IsStep}
 use Rattle.hlr_core.specs.declared.event.Event.{Event}
 use Rattle.hlr_core.specs.declared.event.Reply.{Reply}
@@ -22,56 +22,56 @@ IsCall closed Does (Some kept) answer (Some next) = Does kept answer next
 
 -- a right step of a register: of the store that it is seen as, and whatever jobs have done to the parts that are out,
 -- which stay out
-pub record IsRegisterStep (event : Event) (before : Seating) (said : Reply) (after : Seating) : Type 0 where
+pub record IsRegisterStep (event : Event) (before : OwnersState) (said : Reply) (after : OwnersState) : Type 0 where
   pub step : IsStep event (store_in before) said (store_in after)
-  pub house : IsHouseAfter event said before after
-  pub beside : IsStepBeside event before said after
+  pub homes : AreHomesAfter event said before after
+  pub while_out : IsStepWhileOut event before said after
 
 -- a reply to what is asked for: a right step of the event; or the refusal of a field, and nothing changes
-abbrev pub IsReply : Result Event Refusal → Seating → Reply → Seating → Type 0
+abbrev pub IsReply : Result Event Refusal → OwnersState → Reply → OwnersState → Type 0
 IsReply (Ok event) before said after = IsRegisterStep event before said after
 IsReply (Err why) before said after = (said ≡ reply.Refused why) × (after ≡ before)
 
 -- what is asked for waits for a part that is out
-abbrev pub IsWaiting : Result Event Refusal → Seating → Type 0
+abbrev pub IsWaiting : Result Event Refusal → OwnersState → Type 0
 IsWaiting (Ok event) register = IsAway event register
 IsWaiting (Err why) register = ⊥
 
 -- an answer that tells such a reply; or that it waits, and nothing changes
-abbrev pub IsAnswer : {X : Type 0} → Result Event Refusal → (Reply → X) → X → Seating → X → Seating → Type 0
+abbrev pub IsAnswer : {X : Type 0} → Result Event Refusal → (Reply → X) → X → OwnersState → X → OwnersState → Type 0
 IsAnswer asked told away before answer after =
     ((answer ≡ away) × IsWaiting asked before × (after ≡ before))
     ⊎ ((said : Reply) × IsReply asked before said after × (answer ≡ told said))
 
 -- the code of an event of which a part is out: that of a refusal that is known without it, or AWAY
-abbrev pub IsAwayCode : Event → Seating → ℕ → Type 0
+abbrev pub IsAwayCode : Event → OwnersState → ℕ → Type 0
 IsAwayCode event register code =
     ((code ≡ AWAY) × IsAway event register)
     ⊎ ((why : Refusal) × IsRegisterStep event register (reply.Refused why) register × (code ≡ code_of why))
 
 -- a right re-cut of a register, in the same way
-pub record IsRegisterRecut (bounds : List ℕ) (before : Seating) (done : Result ℕ Refusal) (after : Seating) : Type 0 where
+pub record IsRegisterRecut (bounds : List ℕ) (before : OwnersState) (done : Result ℕ Refusal) (after : OwnersState) : Type 0 where
   pub recut : IsRecut bounds (store_in before) done (store_in after)
-  pub house : IsSameHouse before after
-  pub beside : IsRecutBeside bounds before done after
+  pub homes : HaveSameHomes before after
+  pub while_out : IsRecutWhileOut bounds before done after
 
 -- a re-cut to bounds, or the refusal of what they were handed in as
-abbrev pub IsRecutReply : Result (List ℕ) Refusal → Seating → Result ℕ Refusal → Seating → Type 0
+abbrev pub IsRecutReply : Result (List ℕ) Refusal → OwnersState → Result ℕ Refusal → OwnersState → Type 0
 IsRecutReply (Ok bounds) before done after = IsRegisterRecut bounds before done after
 IsRecutReply (Err why) before done after = (done ≡ Err why) × (after ≡ before)
 
 -- a bound between parts would move, one of which is out
-abbrev pub IsCutWaiting : Result (List ℕ) Refusal → Seating → Type 0
+abbrev pub IsCutWaiting : Result (List ℕ) Refusal → OwnersState → Type 0
 IsCutWaiting (Ok bounds) register = ¬ (IsHomeToCut bounds register)
 IsCutWaiting (Err why) register = ⊥
 
 -- an answer that tells what a re-cut did; or that it waits, and nothing changes
-abbrev pub IsRecutAnswer : {X : Type 0} → Result (List ℕ) Refusal → (Result ℕ Refusal → X) → X → Seating → X → Seating → Type 0
+abbrev pub IsRecutAnswer : {X : Type 0} → Result (List ℕ) Refusal → (Result ℕ Refusal → X) → X → OwnersState → X → OwnersState → Type 0
 IsRecutAnswer asked told away before answer after =
     ((answer ≡ away) × IsCutWaiting asked before × (after ≡ before))
     ⊎ ((done : Result ℕ Refusal) × IsRecutReply asked before done after × (answer ≡ told done))
 
 -- what is done with all parts at home; where one is out the answer says so, and nothing changes
-abbrev pub IsAtHome : {X : Type 0} → X → (Seating → X → Seating → Type 0) → Seating → X → Seating → Type 0
+abbrev pub IsAtHome : {X : Type 0} → X → (OwnersState → X → OwnersState → Type 0) → OwnersState → X → OwnersState → Type 0
 IsAtHome away Does before answer after =
-    ((answer ≡ away) × ¬ (AllHome before.seats) × (after ≡ before)) ⊎ (AllHome before.seats × Does before answer after)
+    ((answer ≡ away) × ¬ (AllHome before.owners) × (after ≡ before)) ⊎ (AllHome before.owners × Does before answer after)

@@ -9,27 +9,27 @@ use Rattle.tatp_actions.specs.Action.{is_typed}
 use Rattle.tatp_actions.specs.Book.{first_subscriber}
 use Rattle.holding.specs.Held.{HoldingState}
 use Rattle.hlr_owners.specs.Out.{with_outs}
-use Rattle.hlr_owners.specs.Seats.{Seating, IsHomeFor, book_in, store_in}
-use Rattle.hlr_core.specs.Beside.{beside}
+use Rattle.hlr_owners.specs.Owners.{OwnersState, IsHomeFor, book_in, store_in}
+use Rattle.hlr_core.specs.WhileOut.{while_out}
 use Rattle.hlr_core.specs.Later.{AreLater}
 use Rattle.hlr_core.specs.Rows.{bearer_answer, facility_read, forwarding_read}
 use Rattle.hlr_c.specs.declared.codes.TheConstants.{DONE}
 
 -- an answer that tells what is read, and the register stays
-abbrev pub IsRead : {R X : Type 0} → (Seating → Result R Refusal) → (Result R Refusal → X) → Seating → X → Seating → Type 0
+abbrev pub IsRead : {R X : Type 0} → (OwnersState → Result R Refusal) → (Result R Refusal → X) → OwnersState → X → OwnersState → Type 0
 IsRead read told before answer after = (after ≡ before) × (answer ≡ told (read before))
 
 -- the same, whatever jobs have done to the parts that are out
-pub record IsReadBeside {R X : Type 0} (read : Seating → Result R Refusal) (told : Result R Refusal → X) (before : Seating) (answer : X) (after : Seating) : Type 0 where
+pub record IsReadWhileOut {R X : Type 0} (read : OwnersState → Result R Refusal) (told : Result R Refusal → X) (before : OwnersState) (answer : X) (after : OwnersState) : Type 0 where
   pub here : IsRead read told before answer after
-  pub beside : (holdings : List HoldingState) → AreLater before.seats (with_outs before.seats holdings)
-      → answer ≡ told (read (beside before holdings))
+  pub while_out : (holdings : List HoldingState) → AreLater before.owners (with_outs before.owners holdings)
+      → answer ≡ told (read (while_out before holdings))
 
 -- the same of rows of a subscriber; or, where the fields are in range, that the part is out that has the subscriber
-abbrev pub IsReadAt : {R X : Type 0} → ℕ → Bool → (Seating → Result R Refusal) → (Result R Refusal → X) → X → Seating → X → Seating → Type 0
+abbrev pub IsReadAt : {R X : Type 0} → ℕ → Bool → (OwnersState → Result R Refusal) → (Result R Refusal → X) → X → OwnersState → X → OwnersState → Type 0
 IsReadAt s_id fits read told away before answer after =
     ((answer ≡ away) × (fits ≡ true) × ¬ (IsHomeFor s_id before) × (after ≡ before))
-    ⊎ IsReadBeside read told before answer after
+    ⊎ IsReadWhileOut read told before answer after
 
 -- the code, and what was read; after a refusal that stays as it was
 abbrev pub value_told : {R : Type 0} → R → Result R Refusal → ℕ × R
@@ -42,7 +42,7 @@ forwarding_told before (Ok row) = (DONE, (row.end_time, row.numberx))
 forwarding_told before (Err why) = (code_of why, before)
 
 -- the row of a facility
-abbrev pub facility_in : ℕ → ℕ → Seating → Result SpecialFacilityRow Refusal
+abbrev pub facility_in : ℕ → ℕ → OwnersState → Result SpecialFacilityRow Refusal
 facility_in s_id sf_type register = facility_read s_id sf_type (store_in register)
 
 -- the fields of a forwarding's key are in range
@@ -50,18 +50,18 @@ abbrev pub has_key : ℕ → ℕ → ℕ → Bool
 has_key s_id sf_type start_time = is_typed s_id sf_type && is_start_time start_time
 
 -- the row of a forwarding
-abbrev pub forwarding_in : ℕ → ℕ → ℕ → Seating → Result CallForwardingRow Refusal
+abbrev pub forwarding_in : ℕ → ℕ → ℕ → OwnersState → Result CallForwardingRow Refusal
 forwarding_in s_id sf_type start_time register = forwarding_read s_id sf_type start_time (store_in register)
 
 -- the subscriber who has a number, if it is one
-abbrev pub bearer_found : Result ℕ Refusal → Seating → Result ℕ Refusal
+abbrev pub bearer_found : Result ℕ Refusal → OwnersState → Result ℕ Refusal
 bearer_found (Ok number) register = bearer_answer number (store_in register)
 bearer_found (Err why) register = Err why
 
 -- the subscriber who has a number: Field where it is none, then NoNumber
-abbrev pub bearer_in : ℕ → Seating → Result ℕ Refusal
+abbrev pub bearer_in : ℕ → OwnersState → Result ℕ Refusal
 bearer_in sub_nbr = bearer_found (number_of sub_nbr)
 
 -- the first subscriber from an s_id on, or NoSubscriber
-abbrev pub subscriber_from : ℕ → Seating → Result SubscriberRow Refusal
-subscriber_from from register = ok_or (first_subscriber from (book_in register.seats).subscribers) NoSubscriber
+abbrev pub subscriber_from : ℕ → OwnersState → Result SubscriberRow Refusal
+subscriber_from from register = ok_or (first_subscriber from (book_in register.owners).subscribers) NoSubscriber

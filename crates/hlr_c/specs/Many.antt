@@ -3,7 +3,7 @@ use Rattle.std.specs.Prelude.{◌≡◌, ℕ, ◌<◌, List, length, slice_index
 use Rattle.tatp_rows.specs.Refusal.{code_of}
 use Rattle.tatp_rows.specs.Rows.{SubscriberRow, AccessInfoRow}
 use Rattle.tatp_rows.specs.declared.refusal.Refusal.TheVariants.{Field}
-use Rattle.hlr_owners.specs.Seats.{Seating}
+use Rattle.hlr_owners.specs.Owners.{OwnersState}
 use Rattle.tatp_actions.specs.declared.action.Action.TheVariants as action
 use Rattle.holding.specs.Held.{HoldingState}
 use Rattle.hlr_core.specs.declared.event.Event.TheVariants as event
@@ -16,15 +16,15 @@ use Rattle.hlr_c.specs.declared.rows.HlrDestinationAsked.{HlrDestinationAsked}
 use Rattle.hlr_c.specs.declared.rows.HlrNumbers.{HlrNumbers}
 
 -- one read of a subscriber, whose row was this before: its code and the row
-abbrev pub IsSubscriberRead : ℕ → SubscriberRow → Seating → ℕ × SubscriberRow → Seating → Type 0
+abbrev pub IsSubscriberRead : ℕ → SubscriberRow → OwnersState → ℕ × SubscriberRow → OwnersState → Type 0
 IsSubscriberRead s_id row = IsAnswer (Ok (event.SubscriberData s_id)) (subscriber_told row) (AWAY, row)
 
 -- one of an access
-abbrev pub IsAccessRead : HlrAccessAsked → AccessInfoRow → Seating → ℕ × AccessInfoRow → Seating → Type 0
+abbrev pub IsAccessRead : HlrAccessAsked → AccessInfoRow → OwnersState → ℕ × AccessInfoRow → OwnersState → Type 0
 IsAccessRead asked row = IsAnswer (Ok (event.AccessData asked.s_id asked.ai_type)) (access_told asked.s_id asked.ai_type row) (AWAY, row)
 
 -- one of the numbers that calls are forwarded to
-abbrev pub IsDestinationRead : HlrDestinationAsked → HlrNumbers → Seating → ℕ × HlrNumbers → Seating → Type 0
+abbrev pub IsDestinationRead : HlrDestinationAsked → HlrNumbers → OwnersState → ℕ × HlrNumbers → OwnersState → Type 0
 IsDestinationRead asked numbers =
     IsAnswer (Ok (event.NewDestination asked.s_id asked.sf_type asked.start_time asked.end_time)) (numbers_told numbers) (AWAY, numbers)
 

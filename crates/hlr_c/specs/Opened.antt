@@ -4,17 +4,17 @@ use Rattle.tatp_rows.specs.Refusal.{code_of}
 use Rattle.tatp_rows.specs.declared.refusal.Refusal.TheVariants.{Field, Memory, NoPart}
 use Rattle.part_table.specs.Regions.{parts_of}
 use Rattle.holding.specs.Held.{HoldingState}
-use Rattle.hlr_owners.specs.Seats.{AllHome, IsLent, IsPartHome, Seating, store_in}
+use Rattle.hlr_owners.specs.Owners.{AllHome, IsLent, IsPartHome, OwnersState, store_in}
 use Rattle.hlr_owners.specs.Store.{HasOpening, opening}
 use Rattle.hlr_lent.specs.Jobs.{IsBack}
 use Rattle.hlr_c.specs.declared.codes.TheConstants.{AWAY, DONE, NOT_OPEN, STILL_OPEN}
 
 -- a handle that is open stays as it is, and the answer says so; else it has an empty register, or stays closed:
 -- Field exactly where no register can be opened with so many parts and this width, or Memory
-abbrev pub IsOpening : ℕ → ℕ → Option Seating → ℕ → Option Seating → Type 0
+abbrev pub IsOpening : ℕ → ℕ → Option OwnersState → ℕ → Option OwnersState → Type 0
 IsOpening parts width (Some register) code after = (code ≡ STILL_OPEN) × (after ≡ Some register)
 IsOpening parts width None code (Some register) =
-    (code ≡ DONE) × HasOpening parts width × (store_in register ≡ opening parts width) × AllHome register.seats
+    (code ≡ DONE) × HasOpening parts width × (store_in register ≡ opening parts width) × AllHome register.owners
 IsOpening parts width None code None =
     ((code ≡ code_of Field) × ¬ (HasOpening parts width)) ⊎ ((code ≡ code_of Memory) × HasOpening parts width)
 
@@ -24,17 +24,17 @@ IsClosing None code after = (code ≡ NOT_OPEN) × (after ≡ None)
 IsClosing (Some kept) code after = (code ≡ DONE) × (after ≡ None)
 
 -- there is no such part
-abbrev pub IsNoPart : ℕ → Seating → Type 0
+abbrev pub IsNoPart : ℕ → OwnersState → Type 0
 IsNoPart part register = length (parts_of register.regions) ≤ part
 
 -- why a part isn't lent: there is none, it is out, or memory is wanted
-abbrev pub IsKept : ℕ → Seating → ℕ → Type 0
+abbrev pub IsKept : ℕ → OwnersState → ℕ → Type 0
 IsKept part register code =
     ((code ≡ code_of NoPart) × IsNoPart part register)
     ⊎ (((code ≡ AWAY) × ¬ (IsPartHome part register)) ⊎ ((code ≡ code_of Memory) × IsPartHome part register))
 
 -- a part goes out of an open handle into a closed one; or neither changes, and the answer says why
-abbrev pub IsLending : ℕ → Option Seating × Option HoldingState → ℕ → Option Seating × Option HoldingState → Type 0
+abbrev pub IsLending : ℕ → Option OwnersState × Option HoldingState → ℕ → Option OwnersState × Option HoldingState → Type 0
 IsLending part (None, owner) code after = (code ≡ NOT_OPEN) × (after ≡ (None, owner))
 IsLending part (Some register, Some other) code after = (code ≡ STILL_OPEN) × (after ≡ (Some register, Some other))
 IsLending part (Some register, None) code (None, owner) = ⊥
@@ -42,7 +42,7 @@ IsLending part (Some register, None) code (Some next, None) = (next ≡ register
 IsLending part (Some register, None) code (Some next, Some lent) = (code ≡ DONE) × IsLent part register lent next
 
 -- a part is at home: it was, or it was sent home; or it isn't, or there is none, and nothing changes
-abbrev pub IsComing : ℕ → Seating → ℕ → Seating → Type 0
+abbrev pub IsComing : ℕ → OwnersState → ℕ → OwnersState → Type 0
 IsComing part before code after =
     ((code ≡ DONE) × IsBack part before after)
     ⊎ ((after ≡ before)

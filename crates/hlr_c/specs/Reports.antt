@@ -7,7 +7,7 @@ use Rattle.part_table.specs.Proposal.{proposal}
 use Rattle.view_board.specs.Desks.{with_view}
 use Rattle.view_board.specs.Nets.{net_of}
 use Rattle.view_board.specs.Views.{first_view, looked}
-use Rattle.hlr_owners.specs.Seats.{Seating, book_in, store_in, unposted}
+use Rattle.hlr_owners.specs.Owners.{OwnersState, book_in, store_in, unposted}
 use Rattle.hlr_owners.specs.Sight.{IsSightOf}
 use Rattle.hlr_owners.specs.Store.{parts_in, published, unpublished}
 use Rattle.hlr_core.specs.Weights.{published_weights}
@@ -17,32 +17,32 @@ use Rattle.hlr_c.specs.declared.rows.HlrRegions.{HlrRegions}
 use Rattle.hlr_c.specs.Rows.{region_for_c}
 
 -- a report leaves the register, and its code is 0
-pub record IsReport {X : Type 0} (Tells : X → Type 0) (before : Seating) (answer : ℕ × X) (after : Seating) : Type 0 where
+pub record IsReport {X : Type 0} (Tells : X → Type 0) (before : OwnersState) (answer : ℕ × X) (after : OwnersState) : Type 0 where
   pub same : after ≡ before
   pub code : answer.0 ≡ DONE
   pub told : Tells answer.1
 
 -- each cell as published; and what is pending of it in all owners, which is what isn't published of it
-pub record AreViews (register : Seating) (views : List ℤ × List ℤ) : Type 0 where
+pub record AreViews (register : OwnersState) (views : List ℤ × List ℤ) : Type 0 where
   pub published : (c : ℕ) → c < CELLS → slice_index_or views.0 c (pos 0) ≡ published (store_in register) c
-  pub pending : (c : ℕ) → c < CELLS → slice_index_or views.1 c (pos 0) ≡ unposted register.seats c
+  pub pending : (c : ℕ) → c < CELLS → slice_index_or views.1 c (pos 0) ≡ unposted register.owners c
   pub difference : (c : ℕ) → c < CELLS → slice_index_or views.1 c (pos 0) ≡ unpublished (store_in register) c
 
 -- each cell counted over the rows
-abbrev pub AreCounts : Seating → List ℕ → Type 0
-AreCounts register counts = (c : ℕ) → c < CELLS → slice_index_or counts c 0 ≡ cell register.width c (book_in register.seats)
+abbrev pub AreCounts : OwnersState → List ℕ → Type 0
+AreCounts register counts = (c : ℕ) → c < CELLS → slice_index_or counts c 0 ≡ cell register.width c (book_in register.owners)
 
 -- so many of the first regions as there are
-abbrev pub AreListed : Seating → HlrRegions → Type 0
+abbrev pub AreListed : OwnersState → HlrRegions → Type 0
 AreListed register list =
     (list.count ≡ length register.regions) × (take list.count list.regions ≡ map region_for_c register.regions)
 
 -- the bounds that are proposed
-abbrev pub proposal_for : Seating → List ℕ
+abbrev pub proposal_for : OwnersState → List ℕ
 proposal_for register = proposal (published_weights (store_in register)) (parts_in (store_in register)) register.width
 
 -- so many of the first bounds as are proposed
-abbrev pub AreProposed : Seating → HlrBounds → Type 0
+abbrev pub AreProposed : OwnersState → HlrBounds → Type 0
 AreProposed register bounds =
     (bounds.count ≡ length (proposal_for register)) × (take bounds.count bounds.bounds ≡ proposal_for register)
 
@@ -52,7 +52,7 @@ nearest n = int_max (negsuc 9223372036854775807) (int_min (pos 92233720368547758
 
 -- a right sight of the register's words, which it has seen then; of each cell what is published by them, or of 64 bits
 -- what is nearest, since a sight is no moment of all words
-pub record IsLook (before : Seating) (answer : ℕ × List ℤ) (after : Seating) : Type 0 where
+pub record IsLook (before : OwnersState) (answer : ℕ × List ℤ) (after : OwnersState) : Type 0 where
   pub words : List ℕ
   pub sight : IsSightOf (store_in before) words
   pub seen : after ≡ record before { spare = with_view before.spare (looked before.spare.view words) }

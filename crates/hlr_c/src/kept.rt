@@ -1,6 +1,6 @@
 //! The address of a register, with no type, as a handle keeps it.
 ghost use Rattle.std.specs.Prelude.{◌≡◌, ◌≢◌, Option, None, Some};
-ghost use Rattle.hlr_owners.specs.Seats.{Seating};
+ghost use Rattle.hlr_owners.specs.Owners.{OwnersState};
 ghost use Rattle.hlr_lent.specs.contracts.lender.Lender.{the_row};
 ghost use Rattle.hlr_c.specs.Held.{held};
 
@@ -17,7 +17,7 @@ use std::ptr;
 pub struct Kept {
     address: *mut u8,
     /// The register that lies there, if one does.
-    pub ghost register: { Option Seating },
+    pub ghost register: { Option OwnersState },
 }
 
 impl Model for Kept {

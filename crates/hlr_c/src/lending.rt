@@ -1,6 +1,6 @@
 //! Parts go out into handles of their own, and come home.
 ghost use Rattle.std.specs.Prelude.{◌≡◌, IfErr, IfOk};
-ghost use Rattle.hlr_owners.specs.Seats.{IsLent};
+ghost use Rattle.hlr_owners.specs.Owners.{IsLent};
 ghost use Rattle.hlr_c.specs.Call.{IsCall};
 ghost use Rattle.hlr_c.specs.Opened.{IsClosing, IsComing, IsKept, IsLending};
 ghost use Rattle.hlr_c.specs.declared.codes.TheConstants.{NOT_OPEN};

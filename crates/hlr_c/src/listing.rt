@@ -1,9 +1,9 @@
 //! Rows that no transaction reads: with these calls C can find who has a number, and write all rows out.
 ghost use Rattle.std.specs.Prelude.{◌≡◌};
 ghost use Rattle.tatp_actions.specs.Action.{is_typed};
-ghost use Rattle.hlr_owners.specs.Seats.{AllHome};
+ghost use Rattle.hlr_owners.specs.Owners.{AllHome};
 ghost use Rattle.hlr_c.specs.Call.{IsAtHome, IsCall};
-ghost use Rattle.hlr_c.specs.Listing.{IsRead, IsReadAt, IsReadBeside, bearer_in, facility_in, forwarding_in, forwarding_told, has_key, subscriber_from, value_told};
+ghost use Rattle.hlr_c.specs.Listing.{IsRead, IsReadAt, IsReadWhileOut, bearer_in, facility_in, forwarding_in, forwarding_told, has_key, subscriber_from, value_told};
 ghost use Rattle.hlr_c.specs.declared.codes.TheConstants.{AWAY, NOT_OPEN};
 
 use crate::codes::{AWAY, DONE};
@@ -31,14 +31,14 @@ fn facility_for_c(row: &Facility) -> HlrFacility
 }
 
 fn find(register: &Register, sub_nbr: u64) -> Result<u32, Refusal>
-    ensures { IsReadBeside (bearer_in sub_nbr) (λ found. found) register.now result register.now }
+    ensures { IsReadWhileOut (bearer_in sub_nbr) (λ found. found) register.now result register.now }
 {
     let sub_nbr = Number::try_new(sub_nbr)?;
     register.find(sub_nbr)
 }
 
 fn write_bearer(register: &Register, sub_nbr: u64, s_id: &mut u64) -> u8
-    ensures { IsReadBeside (bearer_in sub_nbr) (value_told s_id.old) register.now (result, s_id.new) register.now }
+    ensures { IsReadWhileOut (bearer_in sub_nbr) (value_told s_id.old) register.now (result, s_id.new) register.now }
 {
     match find(register, sub_nbr) {
         Ok(found) => {
@@ -94,7 +94,7 @@ fn write_forwarding(
 }
 
 fn write_next(register: &Register, from: u64, row: &mut HlrSubscriber) -> u8
-    requires { AllHome register.now.seats }
+    requires { AllHome register.now.owners }
     ensures { IsRead (subscriber_from from) (value_told row.old) register.now (result, row.new) register.now }
 {
     match register.next_subscriber(from) {
@@ -110,7 +110,7 @@ fn write_next(register: &Register, from: u64, row: &mut HlrSubscriber) -> u8
 /// below 10^15, `NoNumber`.
 #[unsafe(no_mangle)]
 pub extern "C" fn hlr_find(alloc: Global, handle: &mut Hlr, sub_nbr: u64, s_id: &mut u64) -> u8
-    ensures { IsCall (NOT_OPEN, s_id.old) (IsReadBeside (bearer_in sub_nbr) (value_told s_id.old))
+    ensures { IsCall (NOT_OPEN, s_id.old) (IsReadWhileOut (bearer_in sub_nbr) (value_told s_id.old))
         handle.old.kept.register (result, s_id.new) handle.new.kept.register }
 {
     with_register!(handle, alloc, |register| {

@@ -1,7 +1,7 @@
 //! Opening and closing.
 ghost use Rattle.std.specs.Prelude.{◌≡◌, ◌⊎◌, IfOk, IfErr};
 ghost use Rattle.tatp_rows.specs.declared.refusal.Refusal.TheVariants as refusal;
-ghost use Rattle.hlr_owners.specs.Seats.{AllHome, store_in};
+ghost use Rattle.hlr_owners.specs.Owners.{AllHome, store_in};
 ghost use Rattle.hlr_owners.specs.Store.{HasOpening, opening};
 ghost use Rattle.hlr_c.specs.Opened.{IsClosing, IsOpening};
 
@@ -14,7 +14,7 @@ use std::alloc::Global;
 /// An empty register in a box, all of whose parts are at home. `Field` where parts isn't in 1..=16 or the width isn't in 1..=524,288; `Memory`.
 fn open_boxed(alloc: Global, parts: u64, width: u64) -> Result<Box<Lender>, Refusal>
     ensures ok { IfOk result (λ register. HasOpening parts width × (store_in register.value ≡ opening parts width)) }
-    ensures home { IfOk result (λ register. AllHome register.value.seats) }
+    ensures home { IfOk result (λ register. AllHome register.value.owners) }
     ensures err { IfErr result (λ why. ((why ≡ refusal.Field) × ¬ (HasOpening parts width)) ⊎ ((why ≡ refusal.Memory) × HasOpening parts width)) }
 {
     let (Ok(parts), Ok(width)) = (u8::try_from(parts), u32::try_from(width)) else {

@@ -2,7 +2,7 @@
 ghost use Rattle.std.specs.Prelude.{◌≡◌, ◌<◌, ◌≤◌, ℕ, length, pos, slice_index, slice_index_or};
 ghost use Rattle.view_board.specs.Nets.{net_of};
 ghost use Rattle.view_board.specs.Views.{first_view};
-ghost use Rattle.hlr_owners.specs.Seats.{AllHome};
+ghost use Rattle.hlr_owners.specs.Owners.{AllHome};
 ghost use Rattle.tatp_actions.specs.declared.cells.TheConstants.{CELLS};
 ghost use Rattle.hlr_c.specs.Call.{IsAtHome, IsCall};
 ghost use Rattle.hlr_c.specs.Reports.{AreCounts, AreListed, AreProposed, AreViews, IsLook, IsReport, nearest};
@@ -63,7 +63,7 @@ fn write_views(
     published: &mut [i64; CELLS as usize],
     unposted: &mut [i64; CELLS as usize],
 )
-    requires { AllHome register.now.seats }
+    requires { AllHome register.now.owners }
     ensures { AreViews register.now (published.new, unposted.new) }
 {
     *published = register.published();
@@ -71,7 +71,7 @@ fn write_views(
 }
 
 fn write_counts(register: &Register, counts: &mut [u64; CELLS as usize])
-    requires { AllHome register.now.seats }
+    requires { AllHome register.now.owners }
     ensures { AreCounts register.now counts.new }
 {
     *counts = counts_of(&register.recount());
@@ -84,7 +84,7 @@ fn write_regions(register: &Register, regions: &mut HlrRegions)
 }
 
 fn write_proposal(register: &Register, bounds: &mut HlrBounds)
-    requires { AllHome register.now.seats }
+    requires { AllHome register.now.owners }
     ensures { AreProposed register.now bounds.new }
 {
     *bounds = bounds_for_c(register.propose().list());

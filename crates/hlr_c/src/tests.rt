@@ -7,8 +7,8 @@ use crate::changes::{
 };
 use crate::codes::{DONE, NOT_OPEN, STILL_OPEN};
 use crate::handle::Hlr;
-use crate::moves::{hlr_dissolve, hlr_divide, hlr_give, hlr_post, hlr_recut, hlr_take};
 use crate::opening::{hlr_close, hlr_open};
+use crate::parts::{hlr_dissolve, hlr_divide, hlr_give, hlr_post, hlr_recut, hlr_take};
 use crate::reads::{hlr_access_data, hlr_new_destination, hlr_subscriber_data};
 use crate::reports::{hlr_propose, hlr_regions, hlr_scan, hlr_views};
 use crate::rows::{

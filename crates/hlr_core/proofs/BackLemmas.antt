@@ -7,9 +7,9 @@ use Rattle.tatp_actions.specs.declared.action.Action.{Action}
 use Rattle.tatp_actions.specs.declared.action.RowReply.{RowReply}
 use Rattle.view_board.specs.Desks.{Station}
 use Rattle.holding.specs.Held.{HoldingState}
-use Rattle.hlr_owners.specs.Seats.{Seating, IsLent}
-use Rattle.hlr_owners.specs.declared.lodging.Seat.{Seat}
-use Rattle.hlr_owners.specs.declared.lodging.Seat.TheVariants.{Part}
+use Rattle.hlr_owners.specs.Owners.{OwnersState, IsLent}
+use Rattle.hlr_owners.specs.declared.part_owner.RegionOwner.{RegionOwner}
+use Rattle.hlr_owners.specs.declared.part_owner.RegionOwner.TheVariants.{Part}
 use Rattle.hlr_core.specs.Index.{number_pair}
 use Rattle.hlr_core.specs.Later.{IsBackWith}
 use Rattle.hlr_core.specs.Step.{given_number}
@@ -41,10 +41,10 @@ put_there [] i x y stood = absurd (let no : None ≡ Some x = stood in cc)
 put_there (z ∷ xs) zero x y stood = refl
 put_there (z ∷ xs) (suc i) x y stood = put_there xs i x y stood
 
--- the part that was lent has a seat to which its holding may come home
-pub lent_back : (p : ℕ) (before after : Seating) (had k : HoldingState) → IsLent p before had after → IsBackWith (Some (Part (record { holding = had; home = false }))) k
-    → (i : ℕ) × IsBackWith (slice_get after.seats i) k
+-- the part that was lent has an owner to which its holding may come home
+pub lent_back : (p : ℕ) (before after : OwnersState) (had k : HoldingState) → IsLent p before had after → IsBackWith (Some (Part (record { holding = had; home = false }))) k
+    → (i : ℕ) × IsBackWith (slice_get after.owners i) k
 lent_back p before after had k lent back =
-    let went : Seat = Part (record { holding = had; home = false }) in
-    let stood : Seat = Part (record { holding = had; home = true }) in
-    (lent.index, rw (lent.away, put_there before.seats lent.index stood went lent.seat) back)
+    let went : RegionOwner = Part (record { holding = had; home = false }) in
+    let stood : RegionOwner = Part (record { holding = had; home = true }) in
+    (lent.index, rw (lent.away, put_there before.owners lent.index stood went lent.owner) back)

@@ -12,9 +12,9 @@ use Rattle.part_table.specs.declared.region.Place.TheVariants as place
 use Rattle.part_table.specs.declared.region.Region.{Region}
 use Rattle.part_table.proofs.PlaceLemmas.{blank}
 use Rattle.holding.specs.declared.job.Job.{Job}
-use Rattle.hlr_owners.specs.declared.lodging.Seat.{Seat}
-use Rattle.hlr_owners.specs.declared.lodging.Seat.TheVariants.{Part}
-use Rattle.hlr_core.specs.Session.{AreDone, IsDoneAt, JobReply, JobsCommute, jobs_beside, jobs_of}
+use Rattle.hlr_owners.specs.declared.part_owner.RegionOwner.{RegionOwner}
+use Rattle.hlr_owners.specs.declared.part_owner.RegionOwner.TheVariants.{Part}
+use Rattle.hlr_core.specs.Session.{AreDone, IsDoneAt, JobReply, JobsCommute, jobs_while_out, jobs_of}
 use Rattle.hlr_core.specs.declared.event.Reply.{Reply}
 
 -- a place is that of one part
@@ -40,38 +40,38 @@ others_stay (y ∷ xs) (suc i) zero x other = refl
 others_stay (y ∷ xs) (suc i) (suc j) x other = others_stay xs i j x (λ same. other (ap suc same))
 
 -- two jobs of different parts, done in either order
-exchanged : (regions : List Region) (p q : ℕ) → p ≢ q → (job next : Job) (a b c : List Seat) (answer told : Reply) → IsDoneAt regions p job a answer b → IsDoneAt regions q next b told c
-    → (d : List Seat) × IsDoneAt regions q next a told d × IsDoneAt regions p job d answer c
+exchanged : (regions : List Region) (p q : ℕ) → p ≢ q → (job next : Job) (a b c : List RegionOwner) (answer told : Reply) → IsDoneAt regions p job a answer b → IsDoneAt regions q next b told c
+    → (d : List RegionOwner) × IsDoneAt regions q next a told d × IsDoneAt regions p job d answer c
 exchanged regions p q other job next a b c answer told first second =
     let differ = apart regions p q first.index second.index other first.region second.region in
-    let here : Seat = Part (record first.lodged { holding = first.holding }) in
-    let there : Seat = Part (record second.lodged { holding = second.holding }) in
-    let stood : slice_get a second.index ≡ Some (Part second.lodged) = sym (others_stay a first.index second.index here differ) ∙ rw first.is at second.seat in
-    let stands : slice_get (set a second.index there) first.index ≡ Some (Part first.lodged) = others_stay a second.index first.index there (λ same. differ (sym same)) ∙ first.seat in (
+    let here : RegionOwner = Part (record first.part_owner_state { holding = first.holding }) in
+    let there : RegionOwner = Part (record second.part_owner_state { holding = second.holding }) in
+    let stood : slice_get a second.index ≡ Some (Part second.part_owner_state) = sym (others_stay a first.index second.index here differ) ∙ rw first.is at second.owner in
+    let stands : slice_get (set a second.index there) first.index ≡ Some (Part first.part_owner_state) = others_stay a second.index first.index there (λ same. differ (sym same)) ∙ first.owner in (
       set a second.index there,
-      record { index = second.index; lodged = second.lodged; holding = second.holding; region = second.region; seat = stood; done = second.done; is = refl },
+      record { index = second.index; part_owner_state = second.part_owner_state; holding = second.holding; region = second.region; owner = stood; done = second.done; is = refl },
       record {
         index = first.index;
-        lodged = first.lodged;
+        part_owner_state = first.part_owner_state;
         holding = first.holding;
         region = first.region;
-        seat = stands;
+        owner = stands;
         done = first.done;
-        is = second.is ∙ ap (λ (seats : List Seat). set seats second.index there) first.is ∙ set_comm a first.index second.index here there differ;
+        is = second.is ∙ ap (λ (owners : List RegionOwner). set owners second.index there) first.is ∙ set_comm a first.index second.index here there differ;
       },
     )
 
 -- a job before those of another part, and behind them
 module _ (regions : List Region) (p : ℕ) (one : JobReply) (other : one.part ≢ p) (ys : List JobReply) where
-  moved_behind : (xs : List JobReply) → AllByRecursion (λ x. x.part ≡ p) xs → (a b c : List Seat) → IsDoneAt regions one.part one.job a one.answer b → AreDone regions b (xs ++ ys) c
+  moved_behind : (xs : List JobReply) → AllByRecursion (λ x. x.part ≡ p) xs → (a b c : List RegionOwner) → IsDoneAt regions one.part one.job a one.answer b → AreDone regions b (xs ++ ys) c
       → AreDone regions a (xs ++ one ∷ ys) c
   moved_behind [] own a b c first rest = (b, first, rest)
   moved_behind (x ∷ xs) own a b c first rest =
       let turned = exchanged regions one.part x.part (λ same. other (same ∙ own.0)) one.job x.job a b rest.0 one.answer x.answer first rest.1 in
       (turned.0, turned.1, moved_behind xs own.1 turned.0 rest.0 c turned.2 rest.2)
 
-  moved_before : (xs : List JobReply) → AllByRecursion (λ x. x.part ≡ p) xs → (a c : List Seat) → AreDone regions a (xs ++ one ∷ ys) c
-      → (b : List Seat) × IsDoneAt regions one.part one.job a one.answer b × AreDone regions b (xs ++ ys) c
+  moved_before : (xs : List JobReply) → AllByRecursion (λ x. x.part ≡ p) xs → (a c : List RegionOwner) → AreDone regions a (xs ++ one ∷ ys) c
+      → (b : List RegionOwner) × IsDoneAt regions one.part one.job a one.answer b × AreDone regions b (xs ++ ys) c
   moved_before [] own a c done = done
   moved_before (x ∷ xs) own a c done =
       let rest = moved_before xs own.1 done.0 c done.2 in
@@ -96,7 +96,7 @@ jobs_commute regions p (one ∷ jobs) before after =
     (λ e.
     let other : one.part ≢ p = grind (arith, nat_tests) in
     rw e (
-      λ done. moved_behind regions p one other (jobs_beside p jobs) (jobs_of p jobs) (each_own p jobs) before done.0 after done.1 ((jobs_commute regions p jobs done.0 after).0 done.2),
-      λ done. (let first = moved_before regions p one other (jobs_beside p jobs) (jobs_of p jobs) (each_own p jobs) before after done in
+      λ done. moved_behind regions p one other (jobs_while_out p jobs) (jobs_of p jobs) (each_own p jobs) before done.0 after done.1 ((jobs_commute regions p jobs done.0 after).0 done.2),
+      λ done. (let first = moved_before regions p one other (jobs_while_out p jobs) (jobs_of p jobs) (each_own p jobs) before after done in
           (first.0, first.1, (jobs_commute regions p jobs first.0 after).1 first.2)),
     ))

@@ -8,10 +8,10 @@ use Rattle.tatp_actions.specs.declared.action.Action.{Action}
 use Rattle.view_board.specs.Desks.{Station}
 use Rattle.hlr_owners.specs.Out.{outs_in}
 use Rattle.hlr_owners.specs.Parted.{IsWithNew, IsWithout}
-use Rattle.hlr_owners.specs.Seats.{AllHome, IsHomeFor, IsHomeFrom, Seating, book_in, homes_in}
+use Rattle.hlr_owners.specs.Owners.{AllHome, IsHomeFor, IsHomeFrom, OwnersState, book_in, homes_in}
 use Rattle.hlr_owners.proofs.HomeLemmas.{home_of_all, part_home_of_all}
 use Rattle.hlr_core.proofs.PartsLemmas.{trues_each, trues_to}
-use Rattle.hlr_core.specs.Home.{IsBearerHome, IsHomeTo, IsHouseAfter, IsLaterDesk, IsSameHouse}
+use Rattle.hlr_core.specs.Home.{IsBearerHome, IsHomeTo, AreHomesAfter, IsLaterDesk, HaveSameHomes}
 use Rattle.hlr_core.specs.Inside.Asked.{IsAsked, action_asked}
 use Rattle.hlr_core.specs.Numbers.{bearer_id}
 use Rattle.hlr_core.specs.declared.event.Event.{Event}
@@ -20,9 +20,9 @@ use Rattle.hlr_core.specs.declared.event.Event.TheVariants.{Post, Give, Take, Di
 use Rattle.hlr_core.specs.declared.event.Reply.{Reply}
 use Rattle.hlr_core.specs.declared.event.Reply.TheVariants as reply
 
-bearer_home : (sub_nbr : ℕ) (h : Seating) → AllHome h.seats → IsBearerHome sub_nbr h
+bearer_home : (sub_nbr : ℕ) (h : OwnersState) → AllHome h.owners → IsBearerHome sub_nbr h
 bearer_home sub_nbr h all =
-    elim (bearer_id (book_in h.seats).subscribers sub_nbr) as (λ o. IfSome o (λ s_id. IsHomeFor s_id h)) [ None ↦ tt | Some s_id ↦ home_of_all s_id h all ]
+    elim (bearer_id (book_in h.owners).subscribers sub_nbr) as (λ o. IfSome o (λ s_id. IsHomeFor s_id h)) [ None ↦ tt | Some s_id ↦ home_of_all s_id h all ]
 
 -- what each element keeps is kept with one element more that keeps it, or with one fewer
 all_with : {X : Type 0} (P : X → Type 0) (i : ℕ) (x : X) (xs : List X) → P x → AllByRecursion P xs → AllByRecursion P (insert xs i x)
@@ -37,11 +37,11 @@ all_without P zero (x ∷ xs) all = all.1
 all_without P (suc i) (x ∷ xs) all = (all.0, all_without P i xs all.1)
 
 -- where all are at home, so are all from one on
-pub home_from_all : (part : ℕ) (h : Seating) → AllHome h.seats → IsHomeFrom part h
-home_from_all part h all = trues_to (homes_in h.seats) part (λ q from low. trues_each (homes_in h.seats) 0 q all (omega arith))
+pub home_from_all : (part : ℕ) (h : OwnersState) → AllHome h.owners → IsHomeFrom part h
+home_from_all part h all = trues_to (homes_in h.owners) part (λ q from low. trues_each (homes_in h.owners) 0 q all (omega arith))
 
 -- where all are at home, the one is whom an event needs
-pub home_to_all : (event : Event) (h : Seating) → AllHome h.seats → IsHomeTo event h
+pub home_to_all : (event : Event) (h : OwnersState) → AllHome h.owners → IsHomeTo event h
 home_to_all (UpdateLocation sub_nbr vlr_location) h all = bearer_home sub_nbr h all
 home_to_all (InsertForwarding sub_nbr sf_type start_time end_time numberx) h all = bearer_home sub_nbr h all
 home_to_all (DeleteForwarding sub_nbr sf_type start_time) h all = bearer_home sub_nbr h all
@@ -53,13 +53,13 @@ home_to_all (Dissolve part) h all = home_from_all (part - 1) h all
 home_to_all _ h all = home_of_all _ h all
 
 -- an edit that was asked for is of the subscriber who was named
-pub home_of_asked : {E : Type 0} (action : E → Action) (fits : Bool) (act : Action) (h : Seating) (asked : Result E Refusal)
+pub home_of_asked : {E : Type 0} (action : E → Action) (fits : Bool) (act : Action) (h : OwnersState) (asked : Result E Refusal)
     → IsHomeFor (s_id_of act) h → IsAsked fits (Some act) (action_asked action asked) → IfOk asked (λ edit. IsHomeFor (s_id_of (action edit)) h)
 home_of_asked action fits act h (Err why) home is = tt
 home_of_asked action fits act h (Ok edit) home is = let same : act ≡ action edit = (let one = is.0 in cc) in rw same at home
 
 -- or of the one who has the number
-pub home_of_bearer : {E : Type 0} (action : E → Action) (fits : Bool) (wanted : ℕ → Action) (bearer : Option ℕ) (h : Seating) (asked : Result E Refusal) → ((s_id : ℕ) → s_id_of (wanted s_id) ≡ s_id)
+pub home_of_bearer : {E : Type 0} (action : E → Action) (fits : Bool) (wanted : ℕ → Action) (bearer : Option ℕ) (h : OwnersState) (asked : Result E Refusal) → ((s_id : ℕ) → s_id_of (wanted s_id) ≡ s_id)
     → IfSome bearer (λ s_id. IsHomeFor s_id h) → IsAsked fits (option_map wanted bearer) (action_asked action asked) → IfOk asked (λ edit. IsHomeFor (s_id_of (action edit)) h)
 home_of_bearer action fits wanted bearer h (Err why) own home is = tt
 home_of_bearer action fits wanted None h (Ok edit) own home is = absurd (let none = is.0 in cc)
@@ -68,51 +68,51 @@ home_of_bearer action fits wanted (Some s_id) h (Ok edit) own home is =
     let named : s_id ≡ s_id_of (action edit) = rw same at (sym (own s_id)) in
     rw named at home
 
--- what changes nothing, and what changes seats alone and nobody's being at home or out
-pub house_kept : (h : Seating) → IsSameHouse h h
-house_kept h = record { homes = refl; outs = refl; spare = refl }
+-- what changes nothing, and what changes owners alone and nobody's being at home or out
+pub homes_kept : (h : OwnersState) → HaveSameHomes h h
+homes_kept h = record { homes = refl; outs = refl; spare = refl }
 
-pub house_edited : (before after : Seating) → homes_in after.seats ≡ homes_in before.seats → outs_in after.seats ≡ outs_in before.seats → after ≡ record before { seats = after.seats } → IsSameHouse before after
-house_edited before after homes outs same = record { homes = homes; outs = outs; spare = ap (λ (h : Seating). h.spare) same }
+pub homes_edited : (before after : OwnersState) → homes_in after.owners ≡ homes_in before.owners → outs_in after.owners ≡ outs_in before.owners → after ≡ record before { owners = after.owners } → HaveSameHomes before after
+homes_edited before after homes outs same = record { homes = homes; outs = outs; spare = ap (λ (h : OwnersState). h.spare) same }
 
 -- all are at home where all were, if the same parts are at home
-pub still_home : (before after : Seating) → IsSameHouse before after → AllHome before.seats → AllHome after.seats
+pub still_home : (before after : OwnersState) → HaveSameHomes before after → AllHome before.owners → AllHome after.owners
 still_home before after same all = rw (same.homes) all
 
 -- and all are at home with a new part, and without one
-pub home_with_new : (part : ℕ) (before after : Seating) → IsWithNew part before after → AllHome before.seats → AllHome after.seats
-home_with_new part before after new all = rw (new.homes) (all_with (λ (home : Bool). home ≡ true) (part + 1) true (homes_in before.seats) refl all)
+pub home_with_new : (part : ℕ) (before after : OwnersState) → IsWithNew part before after → AllHome before.owners → AllHome after.owners
+home_with_new part before after new all = rw (new.homes) (all_with (λ (home : Bool). home ≡ true) (part + 1) true (homes_in before.owners) refl all)
 
-pub home_without : (part : ℕ) (before after : Seating) → IsWithout part before after → AllHome before.seats → AllHome after.seats
-home_without part before after gone all = rw (gone.homes) (all_without (λ (home : Bool). home ≡ true) part (homes_in before.seats) all)
+pub home_without : (part : ℕ) (before after : OwnersState) → IsWithout part before after → AllHome before.owners → AllHome after.owners
+home_without part before after gone all = rw (gone.homes) (all_without (λ (home : Bool). home ≡ true) part (homes_in before.owners) all)
 
 -- nobody came or went, or a part came or went
-abbrev pub HasMoved : Seating → Seating → Type 0
-HasMoved before after = IsSameHouse before after ⊎ ((part : ℕ) × (IsWithNew part before after ⊎ IsWithout part before after))
+abbrev pub HasMoved : OwnersState → OwnersState → Type 0
+HasMoved before after = HaveSameHomes before after ⊎ ((part : ℕ) × (IsWithNew part before after ⊎ IsWithout part before after))
 
 -- so it is after each event
-house_moves : (event : Event) (answer : Reply) (before after : Seating) → IsHouseAfter event answer before after → HasMoved before after
-house_moves (Divide part at) (reply.Divided new lo hi) before after house = inr (part, inl house)
-house_moves (Dissolve part) (reply.Dissolved front lo hi) before after house = inr (part, inr house)
-house_moves _ _ before after house = inl house
+homes_moves : (event : Event) (answer : Reply) (before after : OwnersState) → AreHomesAfter event answer before after → HasMoved before after
+homes_moves (Divide part at) (reply.Divided new lo hi) before after homes = inr (part, inl homes)
+homes_moves (Dissolve part) (reply.Dissolved front lo hi) before after homes = inr (part, inr homes)
+homes_moves _ _ before after homes = inl homes
 
 -- the desk of the free slots is a later one where it stays, gives a slot up or takes one in
 pub desk_same : (before after : Station) → after ≡ before → IsLaterDesk before after
 desk_same before after same = rw same (record { board = refl; seen = λ w. omega arith })
 
-pub desk_kept : (before after : Seating) → IsSameHouse before after → IsLaterDesk before.spare after.spare
+pub desk_kept : (before after : OwnersState) → HaveSameHomes before after → IsLaterDesk before.spare after.spare
 desk_kept before after same = desk_same before.spare after.spare same.spare
 
-desk_with_new : (part : ℕ) (before after : Seating) → IsWithNew part before after → IsLaterDesk before.spare after.spare
+desk_with_new : (part : ℕ) (before after : OwnersState) → IsWithNew part before after → IsLaterDesk before.spare after.spare
 desk_with_new part before after new = rw (new.spare) (record { board = refl; seen = λ w. omega arith })
 
-desk_without : (part : ℕ) (before after : Seating) → IsWithout part before after → IsLaterDesk before.spare after.spare
+desk_without : (part : ℕ) (before after : OwnersState) → IsWithout part before after → IsLaterDesk before.spare after.spare
 desk_without part before after gone = record { board = ap (λ (d : Station). d.board) gone.spare; seen = gone.seen }
 
 -- after an event all are at home where all were, and that desk is a later one
-after_event : (event : Event) (answer : Reply) (before after : Seating) → IsHouseAfter event answer before after
-    → (AllHome before.seats → AllHome after.seats) × IsLaterDesk before.spare after.spare
-after_event event answer before after house = elim (house_moves event answer before after house) [
+after_event : (event : Event) (answer : Reply) (before after : OwnersState) → AreHomesAfter event answer before after
+    → (AllHome before.owners → AllHome after.owners) × IsLaterDesk before.spare after.spare
+after_event event answer before after homes = elim (homes_moves event answer before after homes) [
   | inl same ↦ (still_home before after same, desk_kept before after same)
   | inr moved ↦ elim moved.1 [
     | inl new ↦ (home_with_new moved.0 before after new, desk_with_new moved.0 before after new)
@@ -120,11 +120,11 @@ after_event event answer before after house = elim (house_moves event answer bef
   ]
 ]
 
-pub home_after : (event : Event) (answer : Reply) (before after : Seating) → IsHouseAfter event answer before after → AllHome before.seats → AllHome after.seats
-home_after event answer before after house = (after_event event answer before after house).0
+pub home_after : (event : Event) (answer : Reply) (before after : OwnersState) → AreHomesAfter event answer before after → AllHome before.owners → AllHome after.owners
+home_after event answer before after homes = (after_event event answer before after homes).0
 
-pub desk_after : (event : Event) (answer : Reply) (before after : Seating) → IsHouseAfter event answer before after → IsLaterDesk before.spare after.spare
-desk_after event answer before after house = (after_event event answer before after house).1
+pub desk_after : (event : Event) (answer : Reply) (before after : OwnersState) → AreHomesAfter event answer before after → IsLaterDesk before.spare after.spare
+desk_after event answer before after homes = (after_event event answer before after homes).1
 
 -- one after another
 pub desk_later : (a b c : Station) → IsLaterDesk a b → IsLaterDesk b c → IsLaterDesk a c

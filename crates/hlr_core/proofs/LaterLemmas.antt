@@ -1,4 +1,4 @@
--- A register with seats that stand for others keeps its rules, with the same index.
+-- A register with owners that stand for others keeps its rules, with the same index.
 use Rattle.std.proofs.Common.{◌≡◌, ◌∙◌, ◌+◌, refl, sym, ap, ℕ, zero, suc, List, [], ◌∷◌, set, map, inl, inr, Bool, true, false, Some, None}
 use Rattle.std.specs.Prelude.{Option, option_map, slice_get}
 use Rattle.std.specs.List.{AllZip}
@@ -15,18 +15,18 @@ use Rattle.view_board.specs.Desks.{Station}
 use Rattle.holding.specs.Held.{HoldingState, IsHolding}
 use Rattle.holding.specs.declared.job.Job.{Job}
 use Rattle.holding.specs.declared.job.Job.TheVariants.{Act, Post}
-use Rattle.hlr_owners.specs.Lodged.{Lodged}
-use Rattle.hlr_owners.specs.Seats.{Seating, AreSeated, IsLaterSeat, owner_of, owners_in, book_in}
-use Rattle.hlr_owners.specs.declared.lodging.Seat.{Seat}
-use Rattle.hlr_owners.specs.declared.lodging.Seat.TheVariants.{Part, Piece}
+use Rattle.hlr_owners.specs.PartOwnerState.{PartOwnerState}
+use Rattle.hlr_owners.specs.Owners.{OwnersState, AreRuled, IsLaterOwner, state_of, states_in, book_in}
+use Rattle.hlr_owners.specs.declared.part_owner.RegionOwner.{RegionOwner}
+use Rattle.hlr_owners.specs.declared.part_owner.RegionOwner.TheVariants.{Part, Piece}
 use Rattle.hlr_owners.proofs.HeldLemmas.{holding_keeps}
-use Rattle.hlr_owners.proofs.LendLemmas.{later_self, seated_later}
-use Rattle.hlr_owners.proofs.OwnerLemmas.{owner_rows, zip_weaker}
-use Rattle.hlr_owners.proofs.SeatLemmas.{owned}
+use Rattle.hlr_owners.proofs.LendLemmas.{later_self, ruled_later}
+use Rattle.hlr_owners.proofs.StateLemmas.{state_rows, zip_weaker}
+use Rattle.hlr_owners.proofs.RegionOwnerLemmas.{owned}
 use Rattle.tatp_rows.specs.declared.ranges.TheConstants.{LAST_SUBSCRIBER}
 use Rattle.hlr_owners.specs.Answered.{IsAnswered}
 use Rattle.hlr_core.specs.Index.{number_pair, IsRegister}
-use Rattle.hlr_core.specs.Later.{IsLater, AreLater, IsBackWith, with_seats}
+use Rattle.hlr_core.specs.Later.{IsLater, AreLater, IsBackWith, with_owners}
 use Rattle.hlr_core.specs.Numbers.{bearer_id}
 use Rattle.hlr_core.specs.Session.{IsJobDone, IsJobOf, IsDoneAt}
 use Rattle.hlr_core.specs.Step.{given_number}
@@ -55,9 +55,9 @@ answered_registered true act before after answer pairs leaves register rows answ
 answered_registered false act before after answer pairs leaves register rows outcome = kept_registered act before after answer pairs leaves register rows outcome
 
 -- what a job leaves
-pub job_later : (regions : List Region) (p : ℕ) (job : Job) (l m : Lodged) (answer : Reply) → IsJobOf regions p job → IsJobDone job l.holding answer m.holding → IsLater (Part l) (Part m)
+pub job_later : (regions : List Region) (p : ℕ) (job : Job) (l m : PartOwnerState) (answer : Reply) → IsJobOf regions p job → IsJobDone job l.holding answer m.holding → IsLater (Part l) (Part m)
 job_later regions p (Act act) l m answer of done = record {
-  seat = (
+  owner = (
     record {
       lo = done.range.0;
       hi = done.range.1;
@@ -71,7 +71,7 @@ job_later regions p (Act act) l m answer of done = record {
   numbers = outcome_numbers act l.holding.part.book m.holding.part.book done.rows of.1 done.outcome;
 }
 job_later regions p (Post limit) l m answer of done = record {
-  seat = (
+  owner = (
     record {
       lo = ap (λ (part : PartState). part.lo) done.part;
       hi = ap (λ (part : PartState). part.hi) done.part;
@@ -85,17 +85,17 @@ job_later regions p (Post limit) l m answer of done = record {
   numbers = ap (λ (part : PartState). map number_pair part.book.subscribers) done.part;
 }
 
--- each seat may stand for itself
-each_self : (seats : List Seat) → AllZip IsLaterSeat seats seats → AreLater seats seats
+-- each owner may stand for itself
+each_self : (owners : List RegionOwner) → AllZip IsLaterOwner owners owners → AreLater owners owners
 each_self [] each = tt
-each_self (s ∷ seats) each = (record { seat = each.0; numbers = refl }, each_self seats each.1)
+each_self (s ∷ owners) each = (record { owner = each.0; numbers = refl }, each_self owners each.1)
 
-pub all_later_self : (seats : List Seat) → AreLater seats seats
-all_later_self seats = each_self seats (later_self seats)
+pub all_later_self : (owners : List RegionOwner) → AreLater owners owners
+all_later_self owners = each_self owners (later_self owners)
 
 -- one that stands for another stands for all that this one stood for
-later_seat : (s t u : Seat) → IsLaterSeat s t → IsLaterSeat t u → IsLaterSeat s u
-later_seat (Part l) (Part m) (Part n) one two = (
+later_owner : (s t u : RegionOwner) → IsLaterOwner s t → IsLaterOwner t u → IsLaterOwner s u
+later_owner (Part l) (Part m) (Part n) one two = (
   record {
     lo = two.0.lo ∙ one.0.lo;
     hi = two.0.hi ∙ one.0.hi;
@@ -106,16 +106,16 @@ later_seat (Part l) (Part m) (Part n) one two = (
   λ lawful. two.1 (one.1 lawful),
   λ wide. two.2 (one.2 wide),
 )
-later_seat (Part l) (Part m) (Piece c) one two = absurd two
-later_seat (Part l) (Piece b) u one two = absurd one
-later_seat (Piece a) (Part m) u one two = absurd one
-later_seat (Piece a) (Piece b) (Part n) one two = absurd two
-later_seat (Piece a) (Piece b) (Piece c) one two = two ∙ one
+later_owner (Part l) (Part m) (Piece c) one two = absurd two
+later_owner (Part l) (Piece b) u one two = absurd one
+later_owner (Piece a) (Part m) u one two = absurd one
+later_owner (Piece a) (Piece b) (Part n) one two = absurd two
+later_owner (Piece a) (Piece b) (Piece c) one two = two ∙ one
 
-pub later_after : (s t u : Seat) → IsLater s t → IsLater t u → IsLater s u
-later_after s t u one two = record { seat = later_seat s t u one.seat two.seat; numbers = two.numbers ∙ one.numbers }
+pub later_after : (s t u : RegionOwner) → IsLater s t → IsLater t u → IsLater s u
+later_after s t u one two = record { owner = later_owner s t u one.owner two.owner; numbers = two.numbers ∙ one.numbers }
 
-pub all_later_after : (xs ys zs : List Seat) → AreLater xs ys → AreLater ys zs → AreLater xs zs
+pub all_later_after : (xs ys zs : List RegionOwner) → AreLater xs ys → AreLater ys zs → AreLater xs zs
 all_later_after [] [] [] one two = tt
 all_later_after [] [] (z ∷ zs) one two = absurd two
 all_later_after [] (y ∷ ys) zs one two = absurd one
@@ -123,61 +123,61 @@ all_later_after (x ∷ xs) [] zs one two = absurd one
 all_later_after (x ∷ xs) (y ∷ ys) [] one two = absurd two
 all_later_after (x ∷ xs) (y ∷ ys) (z ∷ zs) one two = (later_after x y z one.0 two.0, all_later_after xs ys zs one.1 two.1)
 
--- one seat that stands for the one that was there
-pub put_later : (seats : List Seat) (i : ℕ) (s t : Seat) → slice_get seats i ≡ Some s → IsLater s t → AreLater seats (set seats i t)
+-- one owner that stands for the one that was there
+pub put_later : (owners : List RegionOwner) (i : ℕ) (s t : RegionOwner) → slice_get owners i ≡ Some s → IsLater s t → AreLater owners (set owners i t)
 put_later [] i s t at later = tt
-put_later (x ∷ seats) zero s t at later =
+put_later (x ∷ owners) zero s t at later =
     let is : x ≡ s = cc in
-    (rw is later, all_later_self seats)
-put_later (x ∷ seats) (suc i) s t at later = ((all_later_self (x ∷ seats)).0, put_later seats i s t at later)
+    (rw is later, all_later_self owners)
+put_later (x ∷ owners) (suc i) s t at later = ((all_later_self (x ∷ owners)).0, put_later owners i s t at later)
 
--- so jobs change neither index nor regions: the seats after one may stand for those before it
-pub done_later : (regions : List Region) (p : ℕ) (job : Job) (before after : List Seat) (answer : Reply) → IsJobOf regions p job → IsDoneAt regions p job before answer after → AreLater before after
+-- so jobs change neither index nor regions: the owners after one may stand for those before it
+pub done_later : (regions : List Region) (p : ℕ) (job : Job) (before after : List RegionOwner) (answer : Reply) → IsJobOf regions p job → IsDoneAt regions p job before answer after → AreLater before after
 done_later regions p job before after answer of done =
-    rw done.is (put_later before done.index (Part done.lodged) (Part (record done.lodged { holding = done.holding })) done.seat
-    (job_later regions p job done.lodged (record done.lodged { holding = done.holding }) answer of done.done))
+    rw done.is (put_later before done.index (Part done.part_owner_state) (Part (record done.part_owner_state { holding = done.holding })) done.owner
+    (job_later regions p job done.part_owner_state (record done.part_owner_state { holding = done.holding }) answer of done.done))
 
 -- a holding that comes home
-pub back_later : (seats : List Seat) (i : ℕ) (k : HoldingState) → IsBackWith (slice_get seats i) k → IsHolding k → AreLater seats (set seats i (Part (record { holding = k; home = true })))
-back_later seats i k back keeps =
-    (elim (slice_get seats i) as (λ o. slice_get seats i ≡ o → IsBackWith o k → AreLater seats (set seats i (Part (record { holding = k; home = true })))) [
-      | Some (Part l) ↦ λ e back. put_later seats i (Part l) (Part (record { holding = k; home = true })) e (record { seat = (back.0.1, λ lawful. holding_keeps k keeps, λ wide. keeps.wide); numbers = back.1 })
+pub back_later : (owners : List RegionOwner) (i : ℕ) (k : HoldingState) → IsBackWith (slice_get owners i) k → IsHolding k → AreLater owners (set owners i (Part (record { holding = k; home = true })))
+back_later owners i k back keeps =
+    (elim (slice_get owners i) as (λ o. slice_get owners i ≡ o → IsBackWith o k → AreLater owners (set owners i (Part (record { holding = k; home = true })))) [
+      | Some (Part l) ↦ λ e back. put_later owners i (Part l) (Part (record { holding = k; home = true })) e (record { owner = (back.0.1, λ lawful. holding_keeps k keeps, λ wide. keeps.wide); numbers = back.1 })
       | Some (Piece b) ↦ λ e back. absurd back.0
       | None ↦ λ e back. absurd back.0
     ]) refl back
 
 -- the numbers of all
-pub numbers_later : (seats ks : List Seat) → AreLater seats ks → map number_pair (book_in ks).subscribers ≡ map number_pair (book_in seats).subscribers
+pub numbers_later : (owners ks : List RegionOwner) → AreLater owners ks → map number_pair (book_in ks).subscribers ≡ map number_pair (book_in owners).subscribers
 numbers_later [] [] later = refl
 numbers_later [] (k ∷ ks) later = absurd later
-numbers_later (s ∷ seats) [] later = absurd later
-numbers_later (s ∷ seats) (k ∷ ks) later =
+numbers_later (s ∷ owners) [] later = absurd later
+numbers_later (s ∷ owners) (k ∷ ks) later =
     let here = later.0.numbers in
-    let rest = numbers_later seats ks later.1 in
-    map-append number_pair (owner_of k).part.book.subscribers (book_in ks).subscribers
-    ∙ rw (here, rest) (sym (map-append number_pair (owner_of s).part.book.subscribers (book_in seats).subscribers))
+    let rest = numbers_later owners ks later.1 in
+    map-append number_pair (state_of k).part.book.subscribers (book_in ks).subscribers
+    ∙ rw (here, rest) (sym (map-append number_pair (state_of s).part.book.subscribers (book_in owners).subscribers))
 
 -- each subscriber keeps the number
-later_same : (seats ks : List Seat) → AreLater seats ks → HaveSame (book_in seats).subscribers (book_in ks).subscribers
-later_same seats ks later = have_same (book_in seats).subscribers (book_in ks).subscribers (numbers_later seats ks later)
+later_same : (owners ks : List RegionOwner) → AreLater owners ks → HaveSame (book_in owners).subscribers (book_in ks).subscribers
+later_same owners ks later = have_same (book_in owners).subscribers (book_in ks).subscribers (numbers_later owners ks later)
 
-pub number_later : (seats ks : List Seat) → AreLater seats ks → (s_id : ℕ)
-    → option_map (λ (row : SubscriberRow). row.sub_nbr) (subscriber_at (book_in ks) s_id) ≡ option_map (λ (row : SubscriberRow). row.sub_nbr) (subscriber_at (book_in seats) s_id)
-number_later seats ks later s_id = (later_same seats ks later).number (key_of s_id 0 0)
+pub number_later : (owners ks : List RegionOwner) → AreLater owners ks → (s_id : ℕ)
+    → option_map (λ (row : SubscriberRow). row.sub_nbr) (subscriber_at (book_in ks) s_id) ≡ option_map (λ (row : SubscriberRow). row.sub_nbr) (subscriber_at (book_in owners) s_id)
+number_later owners ks later s_id = (later_same owners ks later).number (key_of s_id 0 0)
 
-pub bearer_later : (seats ks : List Seat) → AreLater seats ks → (n : ℕ) → bearer_id (book_in ks).subscribers n ≡ bearer_id (book_in seats).subscribers n
-bearer_later seats ks later n = (later_same seats ks later).bearer n
+pub bearer_later : (owners ks : List RegionOwner) → AreLater owners ks → (n : ℕ) → bearer_id (book_in ks).subscribers n ≡ bearer_id (book_in owners).subscribers n
+bearer_later owners ks later n = (later_same owners ks later).bearer n
 
--- seats that stand for others keep the rules of seats
-pub each_seat : (seats ks : List Seat) → AreLater seats ks → AllZip IsLaterSeat seats ks
-each_seat seats ks later = zip_weaker (λ s k is. is.seat) seats ks later
+-- owners that stand for others keep the rules of owners
+pub each_owner : (owners ks : List RegionOwner) → AreLater owners ks → AllZip IsLaterOwner owners ks
+each_owner owners ks later = zip_weaker (λ s k is. is.owner) owners ks later
 
-pub all_seated_later : (h : Seating) (ks : List Seat) → AreSeated h → AreLater h.seats ks → AreSeated (with_seats h ks)
-all_seated_later h ks are later = seated_later h ks are (each_seat h.seats ks later)
+pub all_ruled_later : (h : OwnersState) (ks : List RegionOwner) → AreRuled h → AreLater h.owners ks → AreRuled (with_owners h ks)
+all_ruled_later h ks are later = ruled_later h ks are (each_owner h.owners ks later)
 
 -- and those of a register, beside the same index
-pub registered_later : (h : Seating) (ks : List Seat) (pairs : List (ℕ × ℕ)) → AreSeated h → AreLater h.seats ks → IsRegister (book_in h.seats) pairs → IsRegister (book_in ks) pairs
+pub registered_later : (h : OwnersState) (ks : List RegionOwner) (pairs : List (ℕ × ℕ)) → AreRuled h → AreLater h.owners ks → IsRegister (book_in h.owners) pairs → IsRegister (book_in ks) pairs
 registered_later h ks pairs are later register =
-    let now = all_seated_later h ks are later in
-    same_registered (book_in h.seats) (book_in ks) pairs register
-    (owner_rows h.width 1 h.regions (owners_in ks) (owned h.width h.regions ks now.each) now.are.consecutive) (numbers_later h.seats ks later)
+    let now = all_ruled_later h ks are later in
+    same_registered (book_in h.owners) (book_in ks) pairs register
+    (state_rows h.width 1 h.regions (states_in ks) (owned h.width h.regions ks now.each) now.are.consecutive) (numbers_later h.owners ks later)

@@ -1,6 +1,6 @@
 pub mod AtHomeLemmas
 pub mod BackLemmas
-pub mod BesideLemmas
+pub mod WhileOutLemmas
 pub mod CommuteLemmas
 pub mod GatheredRowsLemmas
 pub mod HomeLemmas

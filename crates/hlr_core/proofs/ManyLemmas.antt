@@ -15,13 +15,13 @@ use Rattle.tatp_actions.specs.Book.{IsWithin, access_at, subscriber_at}
 use Rattle.tatp_actions.specs.declared.action.Action.TheVariants as action
 use Rattle.tatp_actions.specs.declared.action.RowReply.TheVariants as row_reply
 use Rattle.holding.specs.Held.{HoldingState}
-use Rattle.hlr_owners.specs.Beside.{HasRowsBeside}
+use Rattle.hlr_owners.specs.WhileOut.{HasRowsWhileOut}
 use Rattle.hlr_owners.specs.Out.{with_outs}
 use Rattle.hlr_owners.specs.Read.{HasRowsOf}
-use Rattle.hlr_owners.specs.Seats.{Seating, store_in}
+use Rattle.hlr_owners.specs.Owners.{OwnersState, store_in}
 use Rattle.hlr_owners.specs.Store.{Store}
 use Rattle.hlr_owners.proofs.ReadLemmas.{is_read, subscriber_fits}
-use Rattle.hlr_core.specs.Beside.{IsStepBeside, beside}
+use Rattle.hlr_core.specs.WhileOut.{IsStepWhileOut, while_out}
 use Rattle.hlr_core.specs.Rows.{AreFound, access_reply, numbers_reply, subscriber_reply}
 use Rattle.hlr_core.specs.Inside.Asked.{IsActionStep}
 use Rattle.hlr_core.specs.Step.{IsStep, given_number, reply_of}
@@ -30,8 +30,8 @@ use Rattle.tatp_actions.specs.declared.action.RowReply.{RowReply}
 use Rattle.hlr_core.specs.declared.event.Event.{Event}
 use Rattle.hlr_core.specs.declared.event.Event.TheVariants as event
 use Rattle.hlr_core.specs.declared.event.Reply.{Reply}
-use Rattle.hlr_core.proofs.BesideLemmas.{own_step}
-use Rattle.hlr_core.proofs.LaterLemmas.{each_seat}
+use Rattle.hlr_core.proofs.WhileOutLemmas.{own_step}
+use Rattle.hlr_core.proofs.LaterLemmas.{each_owner}
 use Rattle.hlr_core.proofs.LentLemmas.{read_step}
 
 module _ (store : Store) (holding : HoldingState) where
@@ -62,15 +62,15 @@ module _ (store : Store) (holding : HoldingState) where
       held_read (action.NewDestination s_id t start end) (row_reply.Numbers (record { items = n ∷ ns })) refl has fits (ap (new_destination holding.part.book) (sym is))
 
 -- what is found for each question is the reply to its event, if the reply to each event is what is found for it
-module _ {Q F : Type 0} (asks : Q → Event) (told : F → Reply) (find : Q → F) (h : Seating) where
-  pub all_found : (asked : List Q) (rows : List F) → rows ≡ map find asked → All (λ q. IsStepBeside (asks q) h (told (find q)) h) asked → AreFound asks told h asked rows
+module _ {Q F : Type 0} (asks : Q → Event) (told : F → Reply) (find : Q → F) (h : OwnersState) where
+  pub all_found : (asked : List Q) (rows : List F) → rows ≡ map find asked → All (λ q. IsStepWhileOut (asks q) h (told (find q)) h) asked → AreFound asks told h asked rows
   all_found asked rows found right =
-      let each : (at : ℕ) (question : Q) (row : F) → at < length asked → IsStepBeside (asks (get_or asked at question)) h (told (get_or rows at row)) h =
+      let each : (at : ℕ) (question : Q) (row : F) → at < length asked → IsStepWhileOut (asks (get_or asked at question)) h (told (get_or rows at row)) h =
       λ at question row below. rw (found, get_or-map find asked at question row below) (right at question below) in
       record {
         as_many = rw found (length-map asked find);
         steps = λ at question row below. own_step (asks (get_or asked at question)) h h (told (get_or rows at row)) refl (each at question row below);
-        beside = each;
+        while_out = each;
       }
 
 -- a number that is between the bounds of all subscribers
@@ -122,25 +122,25 @@ module _ {A : Type 0} (make : A → ℕ) (d : A) (P : ℕ → Type 0) (asked : L
   all_of_made all = λ at question below. rw (get_or-map make asked at question 0 below) at (all at 0 (omega (arith, below, length-map asked make)))
 
 -- so it is with what is found in the part that has all of these subscribers
-module _ (h : Seating) (holding : HoldingState) where
-  pub subscribers_found : (s_ids : List ℕ) (rows : List (Option SubscriberRow)) → All (IsWithin 1 (LAST_SUBSCRIBER + 1)) s_ids → All (λ s_id. HasRowsBeside s_id h holding) s_ids
+module _ (h : OwnersState) (holding : HoldingState) where
+  pub subscribers_found : (s_ids : List ℕ) (rows : List (Option SubscriberRow)) → All (IsWithin 1 (LAST_SUBSCRIBER + 1)) s_ids → All (λ s_id. HasRowsWhileOut s_id h holding) s_ids
       → rows ≡ map (subscriber_at holding.part.book) s_ids → AreFound event.SubscriberData subscriber_reply h s_ids rows
   subscribers_found s_ids rows within have found =
       all_found event.SubscriberData subscriber_reply (subscriber_at holding.part.book) h s_ids rows found
-      (λ at d below ks later. subscriber_read (store_in (beside h ks)) holding (get_or s_ids at d) (within at d below) (have at d below ks (each_seat h.seats (with_outs h.seats ks) later)) (subscriber_at holding.part.book (get_or s_ids at d)) refl)
+      (λ at d below ks later. subscriber_read (store_in (while_out h ks)) holding (get_or s_ids at d) (within at d below) (have at d below ks (each_owner h.owners (with_outs h.owners ks) later)) (subscriber_at holding.part.book (get_or s_ids at d)) refl)
 
   pub accesses_found : (asked : List (ℕ × ℕ)) (rows : List (Option AccessInfoRow)) → All (λ a. IsWithin 1 (LAST_SUBSCRIBER + 1) a.0 × (is_between 1 4 a.1 ≡ true)) asked
-      → All (λ s_id. HasRowsBeside s_id h holding) (map (λ a. a.0) asked)
+      → All (λ s_id. HasRowsWhileOut s_id h holding) (map (λ a. a.0) asked)
       → rows ≡ map (λ a. access_at holding.part.book a.0 a.1) asked → AreFound (λ a. event.AccessData a.0 a.1) access_reply h asked rows
   accesses_found asked rows within have found =
       all_found (λ a. event.AccessData a.0 a.1) access_reply (λ a. access_at holding.part.book a.0 a.1) h asked rows found
       (λ at d below ks later. let a = get_or asked at d in let fits = within at d below in
-      access_read (store_in (beside h ks)) holding a.0 a.1 fits.0 fits.1 (all_of_made (λ (a : ℕ × ℕ). a.0) d (λ s_id. HasRowsBeside s_id h holding) asked have at d below ks (each_seat h.seats (with_outs h.seats ks) later)) (access_at holding.part.book a.0 a.1) refl)
+      access_read (store_in (while_out h ks)) holding a.0 a.1 fits.0 fits.1 (all_of_made (λ (a : ℕ × ℕ). a.0) d (λ s_id. HasRowsWhileOut s_id h holding) asked have at d below ks (each_owner h.owners (with_outs h.owners ks) later)) (access_at holding.part.book a.0 a.1) refl)
 
   pub destinations_found : (asked : List (ℕ × ℕ × ℕ × ℕ)) (numbers : List (ArrayVec ℕ)) → All (λ q. IsWithin 1 (LAST_SUBSCRIBER + 1) q.0 × (is_in_range (action.NewDestination q.0 q.1 q.2 q.3) ≡ true)) asked
-      → All (λ s_id. HasRowsBeside s_id h holding) (map (λ q. q.0) asked)
+      → All (λ s_id. HasRowsWhileOut s_id h holding) (map (λ q. q.0) asked)
       → numbers ≡ map (λ q. record { items = destinations holding.part.book q.0 q.1 q.2 q.3 }) asked → AreFound (λ q. event.NewDestination q.0 q.1 q.2 q.3) (λ (found : ArrayVec ℕ). numbers_reply found.items) h asked numbers
   destinations_found asked numbers within have found =
       all_found (λ (q : ℕ × ℕ × ℕ × ℕ). event.NewDestination q.0 q.1 q.2 q.3) (λ (found : ArrayVec ℕ). numbers_reply found.items) (λ (q : ℕ × ℕ × ℕ × ℕ). record { items = destinations holding.part.book q.0 q.1 q.2 q.3 }) h asked numbers found
       (λ at d below ks later. let q = get_or asked at d in
-      destinations_read (store_in (beside h ks)) holding q.0 q.1 q.2 q.3 (within at d below).1 (all_of_made (λ (q : ℕ × ℕ × ℕ × ℕ). q.0) d (λ s_id. HasRowsBeside s_id h holding) asked have at d below ks (each_seat h.seats (with_outs h.seats ks) later)) (destinations holding.part.book q.0 q.1 q.2 q.3) refl)
+      destinations_read (store_in (while_out h ks)) holding q.0 q.1 q.2 q.3 (within at d below).1 (all_of_made (λ (q : ℕ × ℕ × ℕ × ℕ). q.0) d (λ s_id. HasRowsWhileOut s_id h holding) asked have at d below ks (each_owner h.owners (with_outs h.owners ks) later)) (destinations holding.part.book q.0 q.1 q.2 q.3) refl)

@@ -13,22 +13,22 @@ use Rattle.part_table.specs.Region.{lies_in}
 use Rattle.part_table.specs.Regions.{IsConsecutive, parts_of, place_of}
 use Rattle.part_table.specs.declared.region.Region.{Region}
 use Rattle.part_table.specs.declared.region.TheConstants.{END}
-use Rattle.hlr_owners.specs.Lodged.{Lodged}
-use Rattle.hlr_owners.specs.Seats.{AreSeated, IsHomeFor, IsHomeFrom, IsPartHome, Seating, homes_in}
-use Rattle.hlr_owners.proofs.OwnerLemmas.{lies_within}
+use Rattle.hlr_owners.specs.PartOwnerState.{PartOwnerState}
+use Rattle.hlr_owners.specs.Owners.{AreRuled, IsHomeFor, IsHomeFrom, IsPartHome, OwnersState, homes_in}
+use Rattle.hlr_owners.proofs.StateLemmas.{lies_within}
 use Rattle.hlr_owners.proofs.PartLemmas.{count_parts}
 use Rattle.hlr_core.specs.Home.{AreHome}
 use Rattle.hlr_core.specs.declared.route.Parts.{Parts}
 
 -- none are at home in any case
-pub none_home : (parts : Parts) (h : Seating) → parts.end ≤ parts.first → AreHome parts h
+pub none_home : (parts : Parts) (h : OwnersState) → parts.end ≤ parts.first → AreHome parts h
 none_home parts h none = λ part from low. absurd (omega arith)
 
 -- a part that isn't there counts as at home
-pub past_home : (h : Seating) (are : AreSeated h) (p : ℕ) → length (parts_of h.regions) ≤ p → IsPartHome p h
+pub past_home : (h : OwnersState) (are : AreRuled h) (p : ℕ) → length (parts_of h.regions) ≤ p → IsPartHome p h
 past_home h are p past =
-    let count = count_parts (λ (o : Lodged). o.home) h.width h.regions h.seats are.each in
-    get_or_past (homes_in h.seats) p true (omega arith)
+    let count = count_parts (λ (o : PartOwnerState). o.home) h.width h.regions h.owners are.each in
+    get_or_past (homes_in h.owners) p true (omega arith)
 
 -- the trues of a list from one on
 pub trues_to : (homes : List Bool) (first : ℕ) → ((q : ℕ) → first ≤ q → q < length homes → get_or homes q true ≡ true) → AllByRecursion (λ (home : Bool). home ≡ true) (drop first homes)
@@ -45,18 +45,18 @@ trues_each (home ∷ homes) (suc first) zero all from = absurd (omega arith)
 trues_each (home ∷ homes) (suc first) (suc q) all from = trues_each homes first q all (omega arith)
 
 -- all from one on are at home, if they are
-pub all_from : (parts : Parts) (h : Seating) (are : AreSeated h) → parts.end ≡ length (parts_of h.regions) → AreHome parts h ↔ IsHomeFrom parts.first h
+pub all_from : (parts : Parts) (h : OwnersState) (are : AreRuled h) → parts.end ≡ length (parts_of h.regions) → AreHome parts h ↔ IsHomeFrom parts.first h
 all_from parts h are end =
-    let count = count_parts (λ (o : Lodged). o.home) h.width h.regions h.seats are.each in (
-      λ all. trues_to (homes_in h.seats) parts.first (λ q from low. all q from (omega arith)),
-      λ all part from low. trues_each (homes_in h.seats) parts.first part all from,
+    let count = count_parts (λ (o : PartOwnerState). o.home) h.width h.regions h.owners are.each in (
+      λ all. trues_to (homes_in h.owners) parts.first (λ q from low. all q from (omega arith)),
+      λ all part from low. trues_each (homes_in h.owners) parts.first part all from,
     )
 
 -- behind the last there are none
-pub none_from : (h : Seating) (are : AreSeated h) (p : ℕ) → length (parts_of h.regions) ≤ p → IsHomeFrom p h
+pub none_from : (h : OwnersState) (are : AreRuled h) (p : ℕ) → length (parts_of h.regions) ≤ p → IsHomeFrom p h
 none_from h are p past =
-    let count = count_parts (λ (o : Lodged). o.home) h.width h.regions h.seats are.each in
-    trues_to (homes_in h.seats) p (λ q from low. absurd (omega arith))
+    let count = count_parts (λ (o : PartOwnerState). o.home) h.width h.regions h.owners are.each in
+    trues_to (homes_in h.owners) p (λ q from low. absurd (omega arith))
 
 -- a number out of range lies in no region
 nowhere : (from s_id : ℕ) (regions : List Region) → IsConsecutive from regions → (s_id < from) ⊎ (END ≤ s_id) → place_of s_id regions ≡ None
@@ -81,7 +81,7 @@ nowhere from s_id (r ∷ regions) consecutive out =
     consecutive_end from (r ∷ regions) is = let lo = is.0 in let some = is.1 in let rest = consecutive_end r.hi regions is.2 in omega arith
 
 -- whoever has it is at home
-nobody : (h : Seating) (are : AreSeated h) (s_id : ℕ) → is_between 1 LAST_SUBSCRIBER s_id ≡ false → IsHomeFor s_id h
+nobody : (h : OwnersState) (are : AreRuled h) (s_id : ℕ) → is_between 1 LAST_SUBSCRIBER s_id ≡ false → IsHomeFor s_id h
 nobody h are s_id out = rw (nowhere 1 s_id h.regions are.are.consecutive sides) tt
   where
     sides : (s_id < 1) ⊎ (END ≤ s_id)
@@ -93,7 +93,7 @@ nobody h are s_id out = rw (nowhere 1 s_id h.regions are.are.consecutive sides) 
       ]
     ]
 
-pub nobody_home : (h : Seating) (are : AreSeated h) (s_id : ℕ) (why : Refusal) → Err why ≡ between 1 LAST_SUBSCRIBER s_id → IsHomeFor s_id h
+pub nobody_home : (h : OwnersState) (are : AreRuled h) (s_id : ℕ) (why : Refusal) → Err why ≡ between 1 LAST_SUBSCRIBER s_id → IsHomeFor s_id h
 nobody_home h are s_id why is =
     nobody h are s_id
     (by_test (is_between 1 LAST_SUBSCRIBER s_id) (λ e. let ok : Err why ≡ Ok s_id = rw e at is in absurd cc) (λ e. e))

@@ -1,4 +1,4 @@
--- Right steps of the register, from what its seats and its index do.
+-- Right steps of the register, from what its owners and its index do.
 use Rattle.std.proofs.Common.{◌≡◌, ◌≢◌, ℕ, ◌+◌, refl, List, Bool, true, false, Option, Some, None, Result, Ok, Err, sym, ap, ◌∙◌, inl, inr}
 use Rattle.std.specs.Prelude.{is_some, option_map, ◌||◌, if◌then◌else◌}
 use Rattle.tatp_rows.specs.Rows.{SubscriberRow}

@@ -19,16 +19,16 @@ use Rattle.part_table.proofs.IndexLemmas.{is_part_there}
 use Rattle.holding.specs.declared.job.Job.{Job}
 use Rattle.holding.specs.declared.job.Job.TheVariants as jobs
 use Rattle.hlr_owners.specs.Desks.{AreDesks, slots_in}
-use Rattle.hlr_owners.specs.Lodged.{Lodged}
-use Rattle.hlr_owners.specs.Seats.{Seating, AreSeated, book_in, desks_in, homes_in, store_in}
+use Rattle.hlr_owners.specs.PartOwnerState.{PartOwnerState}
+use Rattle.hlr_owners.specs.Owners.{OwnersState, AreRuled, book_in, desks_in, homes_in, store_in}
 use Rattle.hlr_owners.specs.Store.{Store, slots_of}
-use Rattle.hlr_owners.specs.declared.lodging.Seat.{Seat}
-use Rattle.hlr_owners.specs.declared.lodging.Seat.TheVariants.{Part}
+use Rattle.hlr_owners.specs.declared.part_owner.RegionOwner.{RegionOwner}
+use Rattle.hlr_owners.specs.declared.part_owner.RegionOwner.TheVariants.{Part}
 use Rattle.hlr_owners.proofs.LendLemmas.{desks_later}
-use Rattle.hlr_owners.proofs.PartLemmas.{at_number, count_parts, part_lodged}
+use Rattle.hlr_owners.proofs.PartLemmas.{at_number, count_parts, part_state_at}
 use Rattle.hlr_core.specs.Inside.Routed.{AsksFor, IsOn}
 use Rattle.hlr_core.specs.Kept.{is_on_rows}
-use Rattle.hlr_core.specs.Later.{AreLater, with_seats}
+use Rattle.hlr_core.specs.Later.{AreLater, with_owners}
 use Rattle.hlr_core.specs.Numbers.{bearer_id}
 use Rattle.hlr_core.specs.Route.{IsRouted}
 use Rattle.hlr_core.specs.Step.{IsAskedStep, IsStep, action_for}
@@ -38,7 +38,7 @@ use Rattle.hlr_core.specs.declared.event.Event.TheVariants.{Post, Give, Take, Di
 use Rattle.hlr_core.specs.declared.event.Reply.{Reply}
 use Rattle.hlr_core.specs.declared.event.Reply.TheVariants as reply
 use Rattle.hlr_core.specs.declared.route.Route.TheVariants.{Now, To}
-use Rattle.hlr_core.proofs.LaterLemmas.{all_seated_later, bearer_later, each_seat}
+use Rattle.hlr_core.proofs.LaterLemmas.{all_ruled_later, bearer_later, each_owner}
 use Rattle.hlr_core.proofs.SentLemmas.{acted_sent, posted_sent}
 
 -- a right step of an event on rows is one of what it asks for
@@ -79,61 +79,61 @@ part_index s_id p regions placed =
       | None ↦ λ e. let clash : true ≡ false = sym (part_stands s_id p regions placed) ∙ none_passes (is_part p) regions e in absurd cc
     ]) refl
 
-part_low : (h : Seating) (are : AreSeated h) (p i : ℕ) → position (is_part p) h.regions ≡ Some i → p < length (homes_in h.seats)
+part_low : (h : OwnersState) (are : AreRuled h) (p i : ℕ) → position (is_part p) h.regions ≡ Some i → p < length (homes_in h.owners)
 part_low h are p i index =
-    let sits = part_lodged h are p i index in
-    (at_number h are p i index (λ (o : Lodged). o.home) sits.0 sits.1 false).0
+    let stands = part_state_at h are p i index in
+    (at_number h are p i index (λ (o : PartOwnerState). o.home) stands.0 stands.1 false).0
 
-module _ (event : Event) (h : Seating) (rows : is_on_rows event ≡ true) where
+module _ (event : Event) (h : OwnersState) (rows : is_on_rows event ≡ true) where
   -- what an event asks for is what it asked for when it was routed
-  pub asks_later : (ks : List Seat) → AreLater h.seats ks → action_for event (book_in ks) ≡ action_for event (book_in h.seats)
-  asks_later ks later = asked_same event (book_in h.seats) (book_in ks) (bearer_later h.seats ks later)
+  pub asks_later : (ks : List RegionOwner) → AreLater h.owners ks → action_for event (book_in ks) ≡ action_for event (book_in h.owners)
+  asks_later ks later = asked_same event (book_in h.owners) (book_in ks) (bearer_later h.owners ks later)
 
   -- it is refused at once
-  pub now_refused : (why : Refusal) → action_for event (book_in h.seats) ≡ Err why → IsRouted event h (Now (reply.Refused why))
+  pub now_refused : (why : Refusal) → action_for event (book_in h.owners) ≡ Err why → IsRouted event h (Now (reply.Refused why))
   now_refused why asked = λ ks later.
-      (row_step event (store_in (with_seats h ks)) (reply.Refused why) (store_in (with_seats h ks)) rows).1 (rw (asks_later ks later, asked) (refl, refl))
+      (row_step event (store_in (with_owners h ks)) (reply.Refused why) (store_in (with_owners h ks)) rows).1 (rw (asks_later ks later, asked) (refl, refl))
 
   module _ (s_id : ℕ) where
     -- the part of its subscriber does the job that it asks for
-    pub job_to : (job : Job) → AsksFor (action_for event (book_in h.seats)) job → IsOn s_id job → (p : ℕ) → AreSeated h → place_of s_id h.regions ≡ Some (place.Part p) → IsRouted event h (To p job)
+    pub job_to : (job : Job) → AsksFor (action_for event (book_in h.owners)) job → IsOn s_id job → (p : ℕ) → AreRuled h → place_of s_id h.regions ≡ Some (place.Part p) → IsRouted event h (To p job)
     job_to (jobs.Act act) asks on p are here =
         let placed : place_of (s_id_of act) h.regions ≡ Some (place.Part p) = rw on at here in (
           (let there = part_index (s_id_of act) p h.regions placed in part_low h are p there.0 there.1),
           (placed, asks.1.1),
           asks.0,
           λ ks after answer later done.
-              (row_step event (store_in (with_seats h ks)) answer (store_in (with_seats h after)) rows).1
+              (row_step event (store_in (with_owners h ks)) answer (store_in (with_owners h after)) rows).1
               (rw (asks_later ks later, asks.0, done.is)
-              (acted_sent (with_seats h ks) (all_seated_later h ks are later) p done.index done.region done.lodged (record done.lodged { holding = done.holding })
-              (sym (get_or_from_slice_get ks done.index (Part done.lodged) (Part done.lodged) done.seat)) act placed answer asks.1.1 asks.2 done.done)),
+              (acted_sent (with_owners h ks) (all_ruled_later h ks are later) p done.index done.region done.part_owner_state (record done.part_owner_state { holding = done.holding })
+              (sym (get_or_from_slice_get ks done.index (Part done.part_owner_state) (Part done.part_owner_state) done.owner)) act placed answer asks.1.1 asks.2 done.done)),
         )
     job_to (jobs.Post limit) asks on p are here = absurd asks
 
     -- its subscriber lies in a loose piece
-    pub job_moving : (job : Job) → AsksFor (action_for event (book_in h.seats)) job → IsOn s_id job → (n : ℕ) → place_of s_id h.regions ≡ Some (place.Piece n) → IsRouted event h (Now (reply.Refused refusal.Moving))
+    pub job_moving : (job : Job) → AsksFor (action_for event (book_in h.owners)) job → IsOn s_id job → (n : ℕ) → place_of s_id h.regions ≡ Some (place.Piece n) → IsRouted event h (Now (reply.Refused refusal.Moving))
     job_moving (jobs.Act act) asks on n here = λ ks later.
         let placed : place_of (s_id_of act) h.regions ≡ Some (place.Piece n) = rw on at here in
-        (row_step event (store_in (with_seats h ks)) (reply.Refused refusal.Moving) (store_in (with_seats h ks)) rows).1 (rw (asks_later ks later, asks.0, placed) (refl, refl))
+        (row_step event (store_in (with_owners h ks)) (reply.Refused refusal.Moving) (store_in (with_owners h ks)) rows).1 (rw (asks_later ks later, asks.0, placed) (refl, refl))
     job_moving (jobs.Post limit) asks on n here = absurd asks
 
 -- a posting goes to its part, if there is such a part
-pub post_to : (h : Seating) (are : AreSeated h) (board : TableId) → AreDesks board h.spare (desks_in h.seats) → (p limit : ℕ) → p < length (parts_of h.regions)
+pub post_to : (h : OwnersState) (are : AreRuled h) (board : TableId) → AreDesks board h.spare (desks_in h.owners) → (p limit : ℕ) → p < length (parts_of h.regions)
     → IsRouted (Post p limit) h (To p (jobs.Post limit))
 post_to h are board rules p limit low = (
-  (let count = count_parts (λ (o : Lodged). o.home) h.width h.regions h.seats are.each in omega arith),
+  (let count = count_parts (λ (o : PartOwnerState). o.home) h.width h.regions h.owners are.each in omega arith),
   tt,
   refl,
   λ ks after answer later done.
       rw done.is
-      (posted_sent (with_seats h ks) (all_seated_later h ks are later) p done.index done.region done.lodged (record done.lodged { holding = done.holding })
-      (sym (get_or_from_slice_get ks done.index (Part done.lodged) (Part done.lodged) done.seat)) board (desks_later board h.spare h.seats ks (each_seat h.seats ks later) rules) limit answer done.done),
+      (posted_sent (with_owners h ks) (all_ruled_later h ks are later) p done.index done.region done.part_owner_state (record done.part_owner_state { holding = done.holding })
+      (sym (get_or_from_slice_get ks done.index (Part done.part_owner_state) (Part done.part_owner_state) done.owner)) board (desks_later board h.spare h.owners ks (each_owner h.owners ks later) rules) limit answer done.done),
 )
 
-pub post_nowhere : (h : Seating) (are : AreSeated h) (p limit : ℕ) → length (parts_of h.regions) ≤ p → IsRouted (Post p limit) h (Now (reply.Refused refusal.NoPart))
+pub post_nowhere : (h : OwnersState) (are : AreRuled h) (p limit : ℕ) → length (parts_of h.regions) ≤ p → IsRouted (Post p limit) h (Now (reply.Refused refusal.NoPart))
 post_nowhere h are p limit past = λ ks later.
-    let now = all_seated_later h ks are later in
-    let count = count_parts (λ (o : Lodged). o.holding.desk) h.width h.regions ks now.each in
+    let now = all_ruled_later h ks are later in
+    let count = count_parts (λ (o : PartOwnerState). o.holding.desk) h.width h.regions ks now.each in
     let long = length-map (desks_in ks) slots_in in
-    let none : slots_of (store_in (with_seats h ks)) p ≡ None = slice_get_past (map slots_in (desks_in ks)) p (omega arith) in
+    let none : slots_of (store_in (with_owners h ks)) p ≡ None = slice_get_past (map slots_in (desks_in ks)) p (omega arith) in
     rw none (Err refusal.NoPart, (refl, refl), refl)

@@ -17,41 +17,41 @@ use Rattle.holding.specs.declared.job.Job.{Job}
 use Rattle.holding.specs.declared.job.Job.TheVariants as jobs
 use Rattle.hlr_owners.specs.Desks.{AreDesks}
 use Rattle.hlr_owners.specs.Held.{of_holding}
-use Rattle.hlr_owners.specs.Lodged.{Lodged}
-use Rattle.hlr_owners.specs.Seats.{Seating, AreSeated, book_in, desks_in, owners_in, store_in}
+use Rattle.hlr_owners.specs.PartOwnerState.{PartOwnerState}
+use Rattle.hlr_owners.specs.Owners.{OwnersState, AreRuled, book_in, desks_in, states_in, store_in}
 use Rattle.hlr_owners.specs.Store.{slots_of}
-use Rattle.hlr_owners.specs.declared.lodging.Seat.TheVariants.{Part}
-use Rattle.hlr_owners.proofs.PartLemmas.{part_sits_there}
+use Rattle.hlr_owners.specs.declared.part_owner.RegionOwner.TheVariants.{Part}
+use Rattle.hlr_owners.proofs.PartLemmas.{part_has_place}
 use Rattle.hlr_owners.proofs.PostedLemmas.{posted_right}
-use Rattle.hlr_owners.proofs.SeatLemmas.{acts_at, owned, owner_is, owners-set, parts-kept, region_there}
-use Rattle.hlr_core.specs.Later.{with_seats}
+use Rattle.hlr_owners.proofs.RegionOwnerLemmas.{acts_at, owned, state_is, states-set, parts-kept, region_there}
+use Rattle.hlr_core.specs.Later.{with_owners}
 use Rattle.hlr_core.specs.Session.{IsActed, IsJobOf, IsPosted, IsWithinJob}
 use Rattle.hlr_core.specs.Step.{IsAskedStep, IsStep, given_number}
 use Rattle.hlr_core.specs.declared.event.Event.TheVariants.{Post}
 use Rattle.hlr_core.specs.declared.event.Reply.{Reply}
 use Rattle.hlr_core.proofs.RegisterLemmas.{acted_step, posted_step}
 
-module _ (h : Seating) (are : AreSeated h) (p i : ℕ) (index : position (is_part p) h.regions ≡ Some i) (l m : Lodged) (is : Part l ≡ get_or h.seats i (Part l)) where
+module _ (h : OwnersState) (are : AreRuled h) (p i : ℕ) (index : position (is_part p) h.regions ≡ Some i) (l m : PartOwnerState) (is : Part l ≡ get_or h.owners i (Part l)) where
   -- an action on a subscriber of the part
   module _ (act : Action) (placed : place_of (s_id_of act) h.regions ≡ Some (place.Part p)) where
-    sent_outcome : (rows : RowReply) → IsOutcome act l.holding.part.book rows m.holding.part.book → IsOutcome act (book_in h.seats) rows (book_in (set h.seats i (Part m)))
+    sent_outcome : (rows : RowReply) → IsOutcome act l.holding.part.book rows m.holding.part.book → IsOutcome act (book_in h.owners) rows (book_in (set h.owners i (Part m)))
     sent_outcome rows outcome =
-        rw (owners-set h.seats i (Part m))
-        (acts_at h.width 1 h.regions (owners_in h.seats) i blank act (of_holding l.holding) (of_holding m.holding) rows (owned h.width h.regions h.seats are.each) are.are.consecutive
-        (region_there h are i (Part l) is (part_sits_there h are p i index)) (owner_is h.seats i (Part l) is) (part_has (s_id_of act) p i h.regions are.are index placed) outcome)
+        rw (states-set h.owners i (Part m))
+        (acts_at h.width 1 h.regions (states_in h.owners) i blank act (of_holding l.holding) (of_holding m.holding) rows (owned h.width h.regions h.owners are.each) are.are.consecutive
+        (region_there h are i (Part l) is (part_has_place h are p i index)) (state_is h.owners i (Part l) is) (part_has (s_id_of act) p i h.regions are.are index placed) outcome)
 
     pub acted_sent : (answer : Reply) → given_number act ≡ None → is_in_range act ≡ true → IsActed act l.holding answer m.holding
-        → IsAskedStep (Ok act) (store_in h) answer (store_in (with_seats h (set h.seats i (Part m))))
+        → IsAskedStep (Ok act) (store_in h) answer (store_in (with_owners h (set h.owners i (Part m))))
     acted_sent answer none fits done =
-        let desks = parts-kept (λ (o : Lodged). o.holding.desk) h.seats i l m done.desk.0 is in
-        acted_step act (store_in h) (store_in (with_seats h (set h.seats i (Part m)))) done.rows answer fits (rw placed refl) (rw none refl) (sent_outcome done.rows done.outcome) (rw desks refl) done.answered
+        let desks = parts-kept (λ (o : PartOwnerState). o.holding.desk) h.owners i l m done.desk.0 is in
+        acted_step act (store_in h) (store_in (with_owners h (set h.owners i (Part m)))) done.rows answer fits (rw placed refl) (rw none refl) (sent_outcome done.rows done.outcome) (rw desks refl) done.answered
 
   -- a posting of the part
-  pub posted_sent : (board : TableId) → AreDesks board h.spare (desks_in h.seats) → (limit : ℕ) (answer : Reply) → IsPosted limit l.holding answer m.holding
-      → IsStep (Post p limit) (store_in h) answer (store_in (with_seats h (set h.seats i (Part m))))
+  pub posted_sent : (board : TableId) → AreDesks board h.spare (desks_in h.owners) → (limit : ℕ) (answer : Reply) → IsPosted limit l.holding answer m.holding
+      → IsStep (Post p limit) (store_in h) answer (store_in (with_owners h (set h.owners i (Part m))))
   posted_sent board rules limit answer done =
       rw done.answered
-      (posted_step (slots_of (store_in h) p) p limit (store_in h) (store_in (with_seats h (set h.seats i (Part m)))) done.posted
+      (posted_step (slots_of (store_in h) p) p limit (store_in h) (store_in (with_owners h (set h.owners i (Part m)))) done.posted
       (posted_right h are board rules p i index l is m limit done.posted done.lawful done.done done.part done.desk))
 
 -- a part's holding may be asked for each job of the part

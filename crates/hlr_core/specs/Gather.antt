@@ -5,14 +5,14 @@ use Rattle.tatp_rows.specs.Rows.{SubscriberRow}
 use Rattle.tatp_rows.specs.declared.refusal.Refusal.{Refusal}
 use Rattle.tatp_rows.specs.declared.refusal.Refusal.TheVariants.{NumberTaken, Memory}
 use Rattle.holding.specs.Held.{HoldingState, PieceState}
-use Rattle.hlr_owners.specs.Gather.{owners_of}
+use Rattle.hlr_owners.specs.Gather.{states_of}
 use Rattle.hlr_owners.specs.Scattered.{holdings_in, pieces_in, misfit_of}
 use Rattle.hlr_owners.specs.declared.scattered.Scattered.{Scattered}
 use Rattle.hlr_core.specs.Numbers.{HasNoTwin}
 
 -- the Subscriber rows as they are handed in
 abbrev pub rows_of_all : List HoldingState → List PieceState → List SubscriberRow
-rows_of_all holdings pieces = flat_map (λ owner. owner.part.book.subscribers) (owners_of holdings pieces)
+rows_of_all holdings pieces = flat_map (λ owner. owner.part.book.subscribers) (states_of holdings pieces)
 
 -- two of the rows have one number
 abbrev pub HasTwins : Scattered → Type 0

@@ -3,7 +3,7 @@ use Rattle.std.specs.Prelude.{◌≡◌, ◌-◌, ◌<◌, ◌≤◌, ◌↔◌,
 use Rattle.view_board.specs.Desks.{Station}
 use Rattle.hlr_owners.specs.Out.{outs_in}
 use Rattle.hlr_owners.specs.Parted.{IsWithNew, IsWithout}
-use Rattle.hlr_owners.specs.Seats.{Seating, IsHomeFor, IsHomeFrom, IsPartHome, book_in, homes_in}
+use Rattle.hlr_owners.specs.Owners.{OwnersState, IsHomeFor, IsHomeFrom, IsPartHome, book_in, homes_in}
 use Rattle.hlr_core.specs.Numbers.{bearer_id}
 use Rattle.hlr_core.specs.declared.event.Event.{Event}
 use Rattle.hlr_core.specs.declared.event.Event.TheVariants.{SubscriberData, NewDestination, AccessData, UpdateSubscriber, UpdateLocation, InsertForwarding, DeleteForwarding, AddSubscriber, AddAccess, AddFacility, SetActive, SetNumber, Post, Give, Take, Divide, Dissolve}
@@ -12,12 +12,12 @@ use Rattle.hlr_core.specs.declared.event.Reply.TheVariants.{Divided, Dissolved}
 use Rattle.hlr_core.specs.declared.route.Parts.{Parts}
 
 -- whoever has the subscriber with a number is at home, if there is such a subscriber
-abbrev pub IsBearerHome : ℕ → Seating → Type 0
-IsBearerHome sub_nbr h = IfSome (bearer_id (book_in h.seats).subscribers sub_nbr) (λ s_id. IsHomeFor s_id h)
+abbrev pub IsBearerHome : ℕ → OwnersState → Type 0
+IsBearerHome sub_nbr h = IfSome (bearer_id (book_in h.owners).subscribers sub_nbr) (λ s_id. IsHomeFor s_id h)
 
 -- the owner of the rows on which an event works is at home, or the part that posts, gives or takes; or the part that is
 -- divided, or stands in front of one that is dissolved, and all behind it, whose numbers change
-abbrev pub IsHomeTo : Event → Seating → Type 0
+abbrev pub IsHomeTo : Event → OwnersState → Type 0
 IsHomeTo (SubscriberData s_id) h = IsHomeFor s_id h
 IsHomeTo (NewDestination s_id sf_type start_time end_time) h = IsHomeFor s_id h
 IsHomeTo (AccessData s_id ai_type) h = IsHomeFor s_id h
@@ -37,11 +37,11 @@ IsHomeTo (Divide part at) h = IsHomeFrom part h
 IsHomeTo (Dissolve part) h = IsHomeFrom (part - 1) h
 
 -- each of these parts that is there is at home
-abbrev pub AreHome : Parts → Seating → Type 0
+abbrev pub AreHome : Parts → OwnersState → Type 0
 AreHome parts h = (part : ℕ) → parts.first ≤ part → part < parts.end → IsPartHome part h
 
--- in this seating they are at home just where what the event needs is
-abbrev pub WorksOn : Event → Parts → Seating → Type 0
+-- in this owners they are at home just where what the event needs is
+abbrev pub WorksOn : Event → Parts → OwnersState → Type 0
 WorksOn event parts h = AreHome parts h ↔ IsHomeTo event h
 
 -- an event names its subscriber by a number, so that the rows tell who it is
@@ -52,9 +52,9 @@ is_by_number (DeleteForwarding sub_nbr sf_type start_time) = true
 is_by_number _ = false
 
 -- the same parts are at home, the same holdings are out, and the desk of the slots that no part has is as it was
-pub record IsSameHouse (before after : Seating) : Type 0 where
-  pub homes : homes_in after.seats ≡ homes_in before.seats
-  pub outs : outs_in after.seats ≡ outs_in before.seats
+pub record HaveSameHomes (before after : OwnersState) : Type 0 where
+  pub homes : homes_in after.owners ≡ homes_in before.owners
+  pub outs : outs_in after.owners ≡ outs_in before.owners
   pub spare : after.spare ≡ before.spare
 
 -- a desk of the same board, which has seen at least as much of each word
@@ -64,7 +64,7 @@ pub record IsLaterDesk (before after : Station) : Type 0 where
 
 -- what an event leaves of that: a part that was divided has a new one behind it, which is at home, and one that was
 -- dissolved is gone; nothing else changes any of it
-abbrev pub IsHouseAfter : Event → Reply → Seating → Seating → Type 0
-IsHouseAfter (Divide part at) (Divided new lo hi) before after = IsWithNew part before after
-IsHouseAfter (Dissolve part) (Dissolved front lo hi) before after = IsWithout part before after
-IsHouseAfter event answer before after = IsSameHouse before after
+abbrev pub AreHomesAfter : Event → Reply → OwnersState → OwnersState → Type 0
+AreHomesAfter (Divide part at) (Divided new lo hi) before after = IsWithNew part before after
+AreHomesAfter (Dissolve part) (Dissolved front lo hi) before after = IsWithout part before after
+AreHomesAfter event answer before after = HaveSameHomes before after

@@ -1,4 +1,4 @@
-pub mod Beside
+pub mod WhileOut
 pub mod Gather
 pub mod Home
 pub mod Index

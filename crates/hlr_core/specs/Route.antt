@@ -2,9 +2,9 @@
 use Rattle.std.specs.Prelude.{◌≡◌, ℕ, ◌<◌, Bool, true, false, List, length, Ok}
 use Rattle.holding.specs.declared.job.Job.{Job}
 use Rattle.holding.specs.declared.job.Job.TheVariants as job
-use Rattle.hlr_owners.specs.Seats.{Seating, book_in, homes_in, store_in}
-use Rattle.hlr_owners.specs.declared.lodging.Seat.{Seat}
-use Rattle.hlr_core.specs.Later.{AreLater, with_seats}
+use Rattle.hlr_owners.specs.Owners.{OwnersState, book_in, homes_in, store_in}
+use Rattle.hlr_owners.specs.declared.part_owner.RegionOwner.{RegionOwner}
+use Rattle.hlr_core.specs.Later.{AreLater, with_owners}
 use Rattle.hlr_core.specs.Session.{IsDoneAt, IsJobOf}
 use Rattle.hlr_core.specs.Step.{IsStep, action_for}
 use Rattle.hlr_core.specs.declared.event.Event.{Event}
@@ -14,21 +14,21 @@ use Rattle.hlr_core.specs.declared.route.Route.{Route}
 use Rattle.hlr_core.specs.declared.route.Route.TheVariants.{Now, To, Here}
 
 -- the reply is right, and changes nothing
-abbrev pub IsRightNow : Event → Seating → Reply → Type 0
+abbrev pub IsRightNow : Event → OwnersState → Reply → Type 0
 IsRightNow event h answer =
-    (seats : List Seat) → AreLater h.seats seats
-    → IsStep event (store_in (with_seats h seats)) answer (store_in (with_seats h seats))
+    (owners : List RegionOwner) → AreLater h.owners owners
+    → IsStep event (store_in (with_owners h owners)) answer (store_in (with_owners h owners))
 
 -- the job is the action that the event asks for, or the posting
-abbrev pub IsAskedJob : Event → Seating → ℕ → Job → Type 0
-IsAskedJob event h p (job.Act act) = action_for event (book_in h.seats) ≡ Ok act
+abbrev pub IsAskedJob : Event → OwnersState → ℕ → Job → Type 0
+IsAskedJob event h p (job.Act act) = action_for event (book_in h.owners) ≡ Ok act
 IsAskedJob event h p (job.Post limit) = event ≡ Post p limit
 
 -- whatever the job does to the part's holding, and answers, is a right step of the whole store
-abbrev pub IsRightSent : Event → Seating → ℕ → Job → Type 0
+abbrev pub IsRightSent : Event → OwnersState → ℕ → Job → Type 0
 IsRightSent event h p job =
-    (seats after : List Seat) (answer : Reply) → AreLater h.seats seats → IsDoneAt h.regions p job seats answer after
-    → IsStep event (store_in (with_seats h seats)) answer (store_in (with_seats h after))
+    (owners after : List RegionOwner) (answer : Reply) → AreLater h.owners owners → IsDoneAt h.regions p job owners answer after
+    → IsStep event (store_in (with_owners h owners)) answer (store_in (with_owners h after))
 
 -- the event gives a number, moves regions, or has a part come or go
 abbrev pub is_here : Event → Bool
@@ -41,7 +41,7 @@ is_here (Dissolve part) = true
 is_here _ = false
 
 -- a right route: the reply, a job of a part that is there, which the event asks for, or the register itself
-abbrev pub IsRouted : Event → Seating → Route → Type 0
+abbrev pub IsRouted : Event → OwnersState → Route → Type 0
 IsRouted event h (Now answer) = IsRightNow event h answer
-IsRouted event h (To p job) = (p < length (homes_in h.seats)) × IsJobOf h.regions p job × IsAskedJob event h p job × IsRightSent event h p job
+IsRouted event h (To p job) = (p < length (homes_in h.owners)) × IsJobOf h.regions p job × IsAskedJob event h p job × IsRightSent event h p job
 IsRouted event h Here = is_here event ≡ true

@@ -7,9 +7,9 @@ use Rattle.tatp_rows.specs.declared.refusal.Refusal.TheVariants.{Field, NoAccess
 use Rattle.tatp_actions.specs.Action.{is_typed}
 use Rattle.tatp_actions.specs.declared.action.RowReply.TheVariants as row_reply
 use Rattle.hlr_owners.specs.Read.{facility_answer, forwarding_answer}
-use Rattle.hlr_owners.specs.Seats.{Seating, store_in}
+use Rattle.hlr_owners.specs.Owners.{OwnersState, store_in}
 use Rattle.hlr_owners.specs.Store.{Store}
-use Rattle.hlr_core.specs.Beside.{IsStepBeside}
+use Rattle.hlr_core.specs.WhileOut.{IsStepWhileOut}
 use Rattle.hlr_core.specs.Numbers.{bearer_id}
 use Rattle.hlr_core.specs.Step.{IsStep}
 use Rattle.hlr_core.specs.declared.event.Event.{Event}
@@ -46,9 +46,9 @@ numbers_reply (number ∷ numbers) = reply.Rows (row_reply.Numbers (record { ite
 
 -- what was found for each question is the reply to its event: a right step that changes nothing, whatever jobs have done
 -- to the holdings that are out
-pub record AreFound {Q F : Type 0} (event : Q → Event) (told : F → Reply) (h : Seating) (asked : List Q) (found : List F) : Type 0 where
+pub record AreFound {Q F : Type 0} (event : Q → Event) (told : F → Reply) (h : OwnersState) (asked : List Q) (found : List F) : Type 0 where
   pub as_many : length found ≡ length asked
   pub steps : (at : ℕ) (question : Q) (one : F) → at < length asked
       → IsStep (event (slice_index_or asked at question)) (store_in h) (told (slice_index_or found at one)) (store_in h)
-  pub beside : (at : ℕ) (question : Q) (one : F) → at < length asked
-      → IsStepBeside (event (slice_index_or asked at question)) h (told (slice_index_or found at one)) h
+  pub while_out : (at : ℕ) (question : Q) (one : F) → at < length asked
+      → IsStepWhileOut (event (slice_index_or asked at question)) h (told (slice_index_or found at one)) h

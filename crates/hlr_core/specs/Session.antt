@@ -14,9 +14,9 @@ use Rattle.holding.specs.Held.{HoldingState, IsHolding, count_of}
 use Rattle.holding.specs.Post as own
 use Rattle.holding.specs.declared.job.Job.{Job}
 use Rattle.holding.specs.declared.job.Job.TheVariants.{Act, Post}
-use Rattle.hlr_owners.specs.Lodged.{Lodged}
-use Rattle.hlr_owners.specs.declared.lodging.Seat.{Seat}
-use Rattle.hlr_owners.specs.declared.lodging.Seat.TheVariants.{Part}
+use Rattle.hlr_owners.specs.PartOwnerState.{PartOwnerState}
+use Rattle.hlr_owners.specs.declared.part_owner.RegionOwner.{RegionOwner}
+use Rattle.hlr_owners.specs.declared.part_owner.RegionOwner.TheVariants.{Part}
 use Rattle.hlr_core.specs.Step.{given_number, reply_of, posted_reply}
 use Rattle.hlr_core.specs.declared.event.Reply.{Reply}
 
@@ -54,15 +54,15 @@ abbrev pub IsWithinJob : HoldingState → Job → Type 0
 IsWithinJob holding (Act act) = IsWithin holding.part.lo holding.part.hi (s_id_of act)
 IsWithinJob holding (Post limit) = ⊤
 
--- a job done by the holding of a part, among all seats
-pub record IsDoneAt (regions : List Region) (p : ℕ) (job : Job) (before : List Seat) (answer : Reply) (after : List Seat) : Type 0 where
+-- a job done by the holding of a part, among all owners
+pub record IsDoneAt (regions : List Region) (p : ℕ) (job : Job) (before : List RegionOwner) (answer : Reply) (after : List RegionOwner) : Type 0 where
   pub index : ℕ
-  pub lodged : Lodged
+  pub part_owner_state : PartOwnerState
   pub holding : HoldingState
   pub region : position (is_part p) regions ≡ Some index
-  pub seat : slice_get before index ≡ Some (Part lodged)
-  pub done : IsJobDone job lodged.holding answer holding
-  pub is : after ≡ slice_set before index (Part (record lodged { holding = holding }))
+  pub owner : slice_get before index ≡ Some (Part part_owner_state)
+  pub done : IsJobDone job part_owner_state.holding answer holding
+  pub is : after ≡ slice_set before index (Part (record part_owner_state { holding = holding }))
 
 -- a job of a part, and the reply to it
 pub record JobReply : Type 0 where
@@ -71,22 +71,22 @@ pub record JobReply : Type 0 where
   pub answer : Reply
 
 -- jobs done one after another, each by the holding of its part, whatever the other parts are
-abbrev pub AreDone : List Region → List Seat → List JobReply → List Seat → Type 0
+abbrev pub AreDone : List Region → List RegionOwner → List JobReply → List RegionOwner → Type 0
 AreDone regions before [] after = after ≡ before
 AreDone regions before (one ∷ jobs) after =
-    (next : List Seat) × IsDoneAt regions one.part one.job before one.answer next × AreDone regions next jobs after
+    (next : List RegionOwner) × IsDoneAt regions one.part one.job before one.answer next × AreDone regions next jobs after
 
 -- those of a part, in order, and those of all others
 abbrev pub jobs_of : ℕ → List JobReply → List JobReply
 jobs_of p jobs = filter (λ one. one.part == p) jobs
 
 -- the jobs of all parts but one, in order
-abbrev pub jobs_beside : ℕ → List JobReply → List JobReply
-jobs_beside p jobs = filter (λ one. not (one.part == p)) jobs
+abbrev pub jobs_while_out : ℕ → List JobReply → List JobReply
+jobs_while_out p jobs = filter (λ one. not (one.part == p)) jobs
 
 -- jobs of different parts commute: those of any part may as well be done before all others, with the same replies, and
--- lead to the same seats
+-- lead to the same owners
 abbrev pub JobsCommute : List Region → Type 0
 JobsCommute regions =
-    (p : ℕ) (jobs : List JobReply) (before after : List Seat)
-    → AreDone regions before jobs after ↔ AreDone regions before (jobs_of p jobs ++ jobs_beside p jobs) after
+    (p : ℕ) (jobs : List JobReply) (before after : List RegionOwner)
+    → AreDone regions before jobs after ↔ AreDone regions before (jobs_of p jobs ++ jobs_while_out p jobs) after

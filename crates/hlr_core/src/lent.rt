@@ -6,10 +6,10 @@ ghost use Rattle.holding.specs.declared.job.Job.{Job as Jobs};
 ghost use Rattle.hlr_owners.specs.Desks.{AreDesks};
 ghost use Rattle.hlr_core.specs.Later.{AreLater, IsBackWith};
 ghost use Rattle.hlr_core.specs.Session.{IsDoneAt, IsJobOf, IsWithinJob, JobsCommute};
-ghost use Rattle.hlr_owners.specs.Seats.{AreSeated, IsLent, desks_in, holdings_seated, homes_in, store_in};
+ghost use Rattle.hlr_owners.specs.Owners.{AreRuled, IsLent, desks_in, part_holdings, homes_in, store_in};
 ghost use Rattle.hlr_core.specs.declared.event.Reply.{Reply as Replies};
-ghost use Rattle.hlr_owners.specs.declared.lodging.Seat.{Seat as Seats};
-ghost use Rattle.hlr_owners.specs.declared.lodging.Seat.TheVariants as seat;
+ghost use Rattle.hlr_owners.specs.declared.part_owner.RegionOwner.{RegionOwner as Owners};
+ghost use Rattle.hlr_owners.specs.declared.part_owner.RegionOwner.TheVariants as owner;
 
 use crate::register::Register;
 use holding::Holding;
@@ -21,51 +21,51 @@ impl Register {
     /// sends to the part. The register is seen as before, with that part as it is now. Such jobs change neither index nor
     /// regions, and those of different parts may be done in any order, with the same replies. It takes no memory.
     pub fn lend(&mut self, part: u8) -> Box<Holding>
-        requires { slice_index_or (homes_in self.old.seats) part false ≡ true }
+        requires { slice_index_or (homes_in self.old.owners) part false ≡ true }
         ensures lent { IsLent part self.old result.value self.new }
-        ensures holding { slice_get (holdings_seated self.old.seats) part ≡ Some result.value }
-        ensures away { homes_in self.new.seats ≡ slice_set (homes_in self.old.seats) part false }
-        ensures holdings { holdings_seated self.new.seats ≡ holdings_seated self.old.seats }
+        ensures holding { slice_get (part_holdings self.old.owners) part ≡ Some result.value }
+        ensures away { homes_in self.new.owners ≡ slice_set (homes_in self.old.owners) part false }
+        ensures holdings { part_holdings self.new.owners ≡ part_holdings self.old.owners }
         ensures store { store_in self.new ≡ store_in self.old }
-        ensures same { self.new ≡ record self.old { seats = self.new.seats } }
+        ensures same { self.new ≡ record self.old { owners = self.new.owners } }
         ensures board { result.value.desk.board ≡ self.old.spare.board }
         ensures within { (job : Jobs) → IsJobOf self.old.regions part job → IsWithinJob result.value job }
-        ensures later { (job : Jobs) (before after : List Seats) (answer : Replies) → IsJobOf self.old.regions part job
+        ensures later { (job : Jobs) (before after : List Owners) (answer : Replies) → IsJobOf self.old.regions part job
             → IsDoneAt self.old.regions part job before answer after → AreLater before after }
         ensures commute { JobsCommute self.old.regions }
         ensures rules { IsHolding result.value }
     {
-        self.seats.lend(part)
+        self.owners.lend(part)
     }
 
     /// Takes the holding of a part home that was lent, with what the jobs did that `Register::route` sent to the part:
     /// its range, its desk's board and slots, and its subscribers with their numbers are as they were. It takes no
     /// memory.
     pub fn back(&mut self, holding: Box<Holding>)
-        requires { (i : ℕ) × IsBackWith (slice_get self.old.seats i) holding.value }
-        ensures { (i : ℕ) → IsBackWith (slice_get self.old.seats i) holding.value
-            → self.new ≡ record self.old { seats = slice_set self.old.seats i (seat.Part (record { holding = holding.value; home = true })) } }
+        requires { (i : ℕ) × IsBackWith (slice_get self.old.owners i) holding.value }
+        ensures { (i : ℕ) → IsBackWith (slice_get self.old.owners i) holding.value
+            → self.new ≡ record self.old { owners = slice_set self.old.owners i (owner.Part (record { holding = holding.value; home = true })) } }
     {
-        // For the prover: the holding keeps the rules, as all who have a seat do.
+        // For the prover: the holding keeps the rules, as all who have an owner do.
         let _lo = holding.lo();
-        let _board = self.seats.board();
-        self.seats.back(holding);
+        let _board = self.owners.board();
+        self.owners.back(holding);
     }
 
     /// Whether the holding of a part is at home; where there is no such part, it isn't.
     pub fn at_home(&self, part: u8) -> bool
-        ensures { result ≡ slice_index_or (homes_in self.now.seats) part false }
+        ensures { result ≡ slice_index_or (homes_in self.now.owners) part false }
     {
-        self.seats.at_home(part)
+        self.owners.at_home(part)
     }
 
     /// The board to which the desks of all holdings belong, at home or lent. Each region has its owner beside it, and the
     /// desks share the board's slots. It takes no memory.
     pub fn board(&self) -> &Arc<Board>
         ensures board { arc_value result.now ≡ self.now.spare.board }
-        ensures seated { AreSeated self.now }
-        ensures desks { AreDesks (arc_value result.now) self.now.spare (desks_in self.now.seats) }
+        ensures ruled { AreRuled self.now }
+        ensures desks { AreDesks (arc_value result.now) self.now.spare (desks_in self.now.owners) }
     {
-        self.seats.board()
+        self.owners.board()
     }
 }

@@ -4,8 +4,8 @@ ghost use Rattle.std.specs.Prelude.{◌≡◌, List};
 ghost use Rattle.holding.specs.Held.{HoldingState};
 ghost use Rattle.tatp_actions.specs.Book.{first_subscriber};
 ghost use Rattle.hlr_owners.specs.Out.{with_outs};
-ghost use Rattle.hlr_owners.specs.Seats.{AllHome, IsHomeFor, book_in, store_in};
-ghost use Rattle.hlr_core.specs.Beside.{beside};
+ghost use Rattle.hlr_owners.specs.Owners.{AllHome, IsHomeFor, book_in, store_in};
+ghost use Rattle.hlr_core.specs.WhileOut.{while_out};
 ghost use Rattle.hlr_core.specs.Later.{AreLater};
 ghost use Rattle.hlr_core.specs.Rows.{bearer_answer, facility_read, forwarding_read};
 
@@ -21,11 +21,11 @@ impl Register {
     pub fn facility_data(&self, s_id: u64, sf_type: u64) -> Result<Facility, Refusal>
         requires { IsHomeFor s_id self.now }
         ensures value { result ≡ facility_read s_id sf_type (store_in self.now) }
-        ensures beside { (holdings : List HoldingState) → AreLater self.now.seats (with_outs self.now.seats holdings) → result ≡ facility_read s_id sf_type (store_in (beside self.now holdings)) }
+        ensures while_out { (holdings : List HoldingState) → AreLater self.now.owners (with_outs self.now.owners holdings) → result ≡ facility_read s_id sf_type (store_in (while_out self.now holdings)) }
     {
         let s_id = in_range(s_id, LAST_SUBSCRIBER)?;
         let sf_type = byte_in_range(sf_type, 4)?;
-        self.seats.facility(s_id, sf_type)
+        self.owners.facility(s_id, sf_type)
     }
 
     /// Returns the Call_Forwarding row of a facility that starts at an hour: `Field` where s_id isn't in 1..=16,777,216,
@@ -38,21 +38,21 @@ impl Register {
     ) -> Result<Forwarding, Refusal>
         requires { IsHomeFor s_id self.now }
         ensures value { result ≡ forwarding_read s_id sf_type start_time (store_in self.now) }
-        ensures beside { (holdings : List HoldingState) → AreLater self.now.seats (with_outs self.now.seats holdings) → result ≡ forwarding_read s_id sf_type start_time (store_in (beside self.now holdings)) }
+        ensures while_out { (holdings : List HoldingState) → AreLater self.now.owners (with_outs self.now.owners holdings) → result ≡ forwarding_read s_id sf_type start_time (store_in (while_out self.now holdings)) }
     {
         let s_id = in_range(s_id, LAST_SUBSCRIBER)?;
         let sf_type = byte_in_range(sf_type, 4)?;
         if !is_start_time(start_time) {
             return Err(Refusal::Field);
         }
-        self.seats.forwarding(s_id, sf_type, start_time as u8)
+        self.owners.forwarding(s_id, sf_type, start_time as u8)
     }
 
     /// Finds the subscriber who has a number, in the index: the s_id, 1..=16,777,216, or `NoNumber`. It takes no memory,
     /// and reads no row, so parts may be out.
     pub fn find(&self, sub_nbr: Number) -> Result<u32, Refusal>
         ensures value { result ≡ bearer_answer sub_nbr (store_in self.now) }
-        ensures beside { (holdings : List HoldingState) → AreLater self.now.seats (with_outs self.now.seats holdings) → result ≡ bearer_answer sub_nbr (store_in (beside self.now holdings)) }
+        ensures while_out { (holdings : List HoldingState) → AreLater self.now.owners (with_outs self.now.owners holdings) → result ≡ bearer_answer sub_nbr (store_in (while_out self.now holdings)) }
     {
         self.bearer(sub_nbr).ok_or(Refusal::NoNumber)
     }
@@ -60,9 +60,9 @@ impl Register {
     /// Returns the first Subscriber row with an s_id from one on, of a part or of a loose piece, or `None` behind the
     /// last. It takes no memory.
     pub fn next_subscriber(&self, from: u64) -> Option<Subscriber>
-        requires { AllHome self.now.seats }
-        ensures { result ≡ first_subscriber from (book_in self.now.seats).subscribers }
+        requires { AllHome self.now.owners }
+        ensures { result ≡ first_subscriber from (book_in self.now.owners).subscribers }
     {
-        self.seats.first_sub_from(from).copied()
+        self.owners.first_sub_from(from).copied()
     }
 }

@@ -106,7 +106,7 @@ impl Register {
         if !put_ids(s_ids, &mut ids) {
             return false;
         }
-        let Some(holding) = self.seats.holding_of_all(ids.as_slice()) else {
+        let Some(holding) = self.owners.holding_of_all(ids.as_slice()) else {
             return false;
         };
         holding.copy_subscribers(ids.as_slice(), rows);
@@ -128,7 +128,7 @@ impl Register {
         }
         let mut s_ids = ArrayVec::new();
         put_s_ids(accesses.as_slice(), &mut s_ids);
-        let Some(holding) = self.seats.holding_of_all(s_ids.as_slice()) else {
+        let Some(holding) = self.owners.holding_of_all(s_ids.as_slice()) else {
             return false;
         };
         holding.copy_access(accesses.as_slice(), rows);
@@ -153,7 +153,7 @@ impl Register {
         if !put_calls(asked, &mut calls, &mut s_ids) {
             return false;
         }
-        let Some(holding) = self.seats.holding_of_all(s_ids.as_slice()) else {
+        let Some(holding) = self.owners.holding_of_all(s_ids.as_slice()) else {
             return false;
         };
         holding.copy_destinations(calls.as_slice(), numbers);

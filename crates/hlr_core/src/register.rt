@@ -4,19 +4,19 @@ ghost use Rattle.view_board.specs.Desks.{with_view};
 ghost use Rattle.view_board.specs.Views.{looked};
 ghost use Rattle.tatp_actions.specs.Cell.{cell};
 ghost use Rattle.hlr_core.specs.Inside.Asked.{ChangesRows};
-ghost use Rattle.hlr_core.specs.Beside.{IsRecutBeside, IsStepBeside};
+ghost use Rattle.hlr_core.specs.WhileOut.{IsRecutWhileOut, IsStepWhileOut};
 ghost use Rattle.hlr_core.specs.Index.{index_of};
 ghost use Rattle.hlr_core.specs.Kept.{IsSameAtHome};
-ghost use Rattle.hlr_owners.specs.Apart.{pieces_seated};
+ghost use Rattle.hlr_owners.specs.Apart.{loose_pieces};
 ghost use Rattle.hlr_owners.specs.Boxed.{unboxed};
 ghost use Rattle.hlr_owners.specs.Recut.{IsHomeToCut, IsRecut};
 ghost use Rattle.hlr_core.specs.Run.{IsOrderStep, IsRun};
 ghost use Rattle.hlr_core.specs.Gather.{IsRefusedWhole};
-ghost use Rattle.hlr_core.specs.Home.{IsHomeTo, IsHouseAfter, IsLaterDesk, IsSameHouse};
+ghost use Rattle.hlr_core.specs.Home.{IsHomeTo, AreHomesAfter, IsLaterDesk, HaveSameHomes};
 ghost use Rattle.hlr_core.specs.Inside.Noted.{IsIndexed};
 ghost use Rattle.hlr_core.specs.Weights.{published_weights, counted_weights};
 ghost use Rattle.hlr_owners.specs.Scattered.{holdings_in, pieces_in, pending_together, MayBeGathered, IsSurveyed, misfit_of, store_from, store_by, AreOfRegions};
-ghost use Rattle.hlr_owners.specs.Seats.{AllHome, IsHomeFrom, IsPartHome, book_in, holdings_seated, store_in, unposted};
+ghost use Rattle.hlr_owners.specs.Owners.{AllHome, IsHomeFrom, IsPartHome, book_in, part_holdings, store_in, unposted};
 ghost use Rattle.hlr_core.specs.Step.{IsStep, edited_reply};
 ghost use Rattle.part_table.specs.Numbered.{numbered};
 ghost use Rattle.part_table.specs.Proposal.{proposal};
@@ -31,7 +31,7 @@ use crate::numbers::index_of;
 use crate::order::{Answer, Order};
 use crate::weights::zone_weights;
 use arrayvec::ArrayVec;
-use hlr_owners::{Prepared, Scattered, Seats};
+use hlr_owners::{Owners, Prepared, Scattered};
 use number_index::NumberIndex;
 use part_table::{Bounds, Regions, Side, can_open};
 use std::alloc::Global;
@@ -40,7 +40,7 @@ use tatp_actions::{CELLS, Cells, RowReply};
 use tatp_rows::{Access, Back, Number, Refusal, Subscriber};
 use view_board::{Sight, WORDS};
 
-/// A home location register, seen as its regions with the owner who sits beside each: a part's holding, which is at home
+/// A home location register, seen as its regions with the owner who owns each: a part's holding, which is at home
 /// or lent, or a loose piece. What they have together is the store of the definitions (`store_in`): the rows, the
 /// regions, the words of the board, what was seen of them, the slots of each part and the width of the zones. Of a part
 /// that is lent the register knows what it had then.
@@ -49,20 +49,20 @@ use view_board::{Sight, WORDS};
 /// is that cell counted over the rows.
 #[derive(Drop)]
 pub struct Register {
-    pub(crate) seats: Seats,
+    pub(crate) owners: Owners,
     pub(crate) index: NumberIndex,
     alloc: Global,
 }
 
 impl Model for Register {
-    ghost use Rattle.hlr_owners.specs.Seats.{Seating, book_in};
+    ghost use Rattle.hlr_owners.specs.Owners.{OwnersState, book_in};
     ghost use Rattle.hlr_core.specs.Index.{IsRegister};
 
-    ghost Value = { Seating };
+    ghost Value = { OwnersState };
 
-    ghost view = { λ r. r.seats };
+    ghost view = { λ r. r.owners };
 
-    ghost invariant = { λ r. IsRegister (book_in r.seats.seats) r.index };
+    ghost invariant = { λ r. IsRegister (book_in r.owners.owners) r.index };
 }
 
 /// Makes the reply to a read of a Subscriber row: the row, or why it was refused.
@@ -115,7 +115,7 @@ impl Register {
     #[inline(never)]
     pub fn open(alloc: Global, parts: u8, width: u32) -> Result<Register, Refusal>
         ensures ok { IfOk result (λ register. store_in register ≡ opening parts width) }
-        ensures home { IfOk result (λ register. AllHome register.seats) }
+        ensures home { IfOk result (λ register. AllHome register.owners) }
         ensures field { (result ≡ Err Refusal.Field) ↔ ¬ (HasOpening parts width) }
         ensures other { OnErr result ((result ≡ Err Refusal.Field) ⊎ (result ≡ Err Refusal.Memory)) }
     {
@@ -132,7 +132,7 @@ impl Register {
         words: &[u64; WORDS],
     ) -> Result<Register, Refusal>
         ensures ok { IfOk result (λ register. store_in register ≡ opening_from parts width words.now) }
-        ensures home { IfOk result (λ register. AllHome register.seats) }
+        ensures home { IfOk result (λ register. AllHome register.owners) }
         ensures field { (result ≡ Err Refusal.Field) ↔ ¬ (HasOpening parts width × AreOpening words.now) }
         ensures other { OnErr result ((result ≡ Err Refusal.Field) ⊎ (result ≡ Err Refusal.Memory)) }
     {
@@ -142,12 +142,12 @@ impl Register {
         if !are_level(words) {
             return Err(Refusal::Field);
         }
-        let seats = Seats::open(alloc, parts, width, words)?;
+        let owners = Owners::open(alloc, parts, width, words)?;
         let Ok(index) = NumberIndex::new(alloc) else {
             unreachable!()
         };
         Ok(Register {
-            seats,
+            owners,
             index,
             alloc,
         })
@@ -157,19 +157,19 @@ impl Register {
     /// ranges, and the frame. The index goes. It takes no memory. `gather` gives the register back, with its loose
     /// pieces numbered from 1 in the order of their ranges, and can be refused for want of memory alone.
     pub fn scatter(self) -> Scattered
-        requires { AllHome self.seats }
+        requires { AllHome self.owners }
         ensures store { store_by self.regions result ≡ store_in self }
         ensures held { AreOfRegions self.regions self.width result }
-        ensures holdings { holdings_in result ≡ holdings_seated self.seats }
-        ensures pieces { pieces_in result ≡ unboxed (pieces_seated self.seats) }
-        ensures pending { (c : ℕ) → pending_together result c ≡ unposted self.seats c }
+        ensures holdings { holdings_in result ≡ part_holdings self.owners }
+        ensures pieces { pieces_in result ≡ unboxed (loose_pieces self.owners) }
+        ensures pending { (c : ℕ) → pending_together result c ≡ unposted self.owners c }
         ensures difference { (c : ℕ) → c < CELLS → pending_together result c ≡ unpublished (store_in self) c }
         ensures desks { MayBeGathered result }
         ensures again { store_from result ≡ record (store_in self) { regions = numbered 0 1 self.regions } }
         ensures fits { (why : Refusal) → IsRefusedWhole result why → why ≡ Refusal.Memory }
     {
-        let Register { seats, .. } = self;
-        seats.scatter()
+        let Register { owners, .. } = self;
+        owners.scatter()
     }
 
     /// Makes a register of parts, loose pieces and a frame, whatever was done to them: the regions are their ranges,
@@ -185,15 +185,15 @@ impl Register {
         requires { MayBeGathered scattered }
         ensures gathered { IfOk result (λ register. (misfit_of scattered ≡ None)
             × (store_in register ≡ store_from scattered)) }
-        ensures home { IfOk result (λ register. AllHome register.seats) }
-        ensures pending { IfOk result (λ register. (c : ℕ) → unposted register.seats c ≡ pending_together scattered c) }
-        ensures difference { IfOk result (λ register. (c : ℕ) → c < CELLS → unposted register.seats c ≡ unpublished (store_in register) c) }
+        ensures home { IfOk result (λ register. AllHome register.owners) }
+        ensures pending { IfOk result (λ register. (c : ℕ) → unposted register.owners c ≡ pending_together scattered c) }
+        ensures difference { IfOk result (λ register. (c : ℕ) → c < CELLS → unposted register.owners c ≡ unpublished (store_in register) c) }
         ensures refused { IfErr result (λ back. (back.item ≡ scattered)
             × IsRefusedWhole scattered back.why) }
     {
         match prepare(alloc, &scattered) {
             Ok((prepared, index)) => Ok(Register {
-                seats: Seats::gathered(scattered, prepared),
+                owners: Owners::gathered(scattered, prepared),
                 index,
                 alloc,
             }),
@@ -209,8 +209,8 @@ impl Register {
     pub fn apply(&mut self, event: Event) -> Reply
         requires { IsHomeTo event self.old }
         ensures step { IsStep event (store_in self.old) result (store_in self.new) }
-        ensures house { IsHouseAfter event result self.old self.new }
-        ensures beside { IsStepBeside event self.old result self.new }
+        ensures homes { AreHomesAfter event result self.old self.new }
+        ensures while_out { IsStepWhileOut event self.old result self.new }
     {
         match event {
             Event::SubscriberData { s_id } => row_reply(self.lend_subscriber(s_id)),
@@ -243,8 +243,8 @@ impl Register {
         requires rows { ChangesRows event }
         requires home { IsHomeTo event self.old }
         ensures step { IsStep event (store_in self.old) (edited_reply result) (store_in self.new) }
-        ensures house { IsSameHouse self.old self.new }
-        ensures beside { IsStepBeside event self.old (edited_reply result) self.new }
+        ensures homes { HaveSameHomes self.old self.new }
+        ensures while_out { IsStepWhileOut event self.old (edited_reply result) self.new }
     {
         match event {
             Event::UpdateSubscriber {
@@ -290,11 +290,11 @@ impl Register {
     /// loose, the list without them, without postings and without what was answered `Moving` or `Memory` has the same
     /// answers, and leaves the same rows.
     pub fn apply_all(&mut self, orders: &[Order]) -> Result<Vec<Answer>, Refusal>
-        requires { AllHome self.old.seats }
+        requires { AllHome self.old.owners }
         ensures ok { IfOk result (λ answers. IsRun orders.now (store_in self.old) answers.items (store_in self.new)) }
-        ensures kept { IfOk result (λ answers. IsSameAtHome orders.now (book_in self.old.seats) answers.items (book_in self.new.seats)) }
+        ensures kept { IfOk result (λ answers. IsSameAtHome orders.now (book_in self.old.owners) answers.items (book_in self.new.owners)) }
         ensures err { OnErr result ((result ≡ Err Refusal.Memory) × (self.new ≡ self.old)) }
-        ensures home { AllHome self.new.seats }
+        ensures home { AllHome self.new.owners }
         ensures spare { IsLaterDesk self.old.spare self.new.spare }
     {
         // The borrow checker of the kit can push a reply only in a body that names each type inside it.
@@ -309,9 +309,9 @@ impl Register {
 
     /// Carries one order out.
     fn carry_out(&mut self, order: &Order) -> Answer
-        requires { AllHome self.old.seats }
+        requires { AllHome self.old.owners }
         ensures step { IsOrderStep order.now (store_in self.old) result (store_in self.new) }
-        ensures home { AllHome self.new.seats }
+        ensures home { AllHome self.new.owners }
         ensures spare { IsLaterDesk self.old.spare self.new.spare }
     {
         match order {
@@ -322,10 +322,10 @@ impl Register {
 
     /// Gives the cells as published: for each, the sum of its plus-words less the sum of its minus-words.
     pub fn published(&self) -> [i64; CELLS as usize]
-        requires { AllHome self.now.seats }
+        requires { AllHome self.now.owners }
         ensures { (c : ℕ) → c < CELLS → slice_index_or result c (pos 0) ≡ published (store_in self.now) c }
     {
-        self.seats.published()
+        self.owners.published()
     }
 
     /// Gives a sight of the board's words: those of slots that no part has as they are, each other one at least what was
@@ -335,7 +335,7 @@ impl Register {
         ensures seen { store_in self.new ≡ record (store_in self.old) { sight = result.words } }
         ensures same { self.new ≡ record self.old { spare = with_view self.old.spare (looked self.old.spare.view result.words) } }
     {
-        self.seats.look()
+        self.owners.look()
     }
 
     /// Looks as `look` does, into a sight that the caller has: its 18 KB aren't moved.
@@ -344,34 +344,34 @@ impl Register {
         ensures seen { store_in self.new ≡ record (store_in self.old) { sight = sight.new.words } }
         ensures same { self.new ≡ record self.old { spare = with_view self.old.spare (looked self.old.spare.view sight.new.words) } }
     {
-        self.seats.look_into(sight);
+        self.owners.look_into(sight);
     }
 
     /// Gives what is not posted yet of each cell, which is what the owners keep as pending, added up: with what is
     /// published, it is the cell counted over the rows now.
     pub fn unposted(&self) -> [i64; CELLS as usize]
-        requires { AllHome self.now.seats }
-        ensures pending { (c : ℕ) → c < CELLS → slice_index_or result c (pos 0) ≡ unposted self.now.seats c }
+        requires { AllHome self.now.owners }
+        ensures pending { (c : ℕ) → c < CELLS → slice_index_or result c (pos 0) ≡ unposted self.now.owners c }
         ensures difference { (c : ℕ) → c < CELLS → slice_index_or result c (pos 0) ≡ unpublished (store_in self.now) c }
         ensures counted { (c : ℕ) → c < CELLS
-            → published (store_in self.now) c +ℤ slice_index_or result c (pos 0) ≡ pos (cell self.now.width c (book_in self.now.seats)) }
+            → published (store_in self.now) c +ℤ slice_index_or result c (pos 0) ≡ pos (cell self.now.width c (book_in self.now.owners)) }
     {
-        self.seats.unposted()
+        self.owners.unposted()
     }
 
     /// Counts each cell over the rows, by a walk over all of them.
     pub fn recount(&self) -> Cells
-        requires { AllHome self.now.seats }
-        ensures { (c : ℕ) → c < CELLS → slice_index result c ≡ cell self.now.width c (book_in self.now.seats) }
+        requires { AllHome self.now.owners }
+        ensures { (c : ℕ) → c < CELLS → slice_index result c ≡ cell self.now.width c (book_in self.now.owners) }
     {
-        self.seats.recount()
+        self.owners.recount()
     }
 
     /// Tells whether all parts are at home, as the counts, the proposal and `scatter` want it.
     pub fn all_at_home(&self) -> bool
-        ensures { IsTrue result ↔ AllHome self.now.seats }
+        ensures { IsTrue result ↔ AllHome self.now.owners }
     {
-        self.seats.all_at_home()
+        self.owners.all_at_home()
     }
 
     /// Gives the regions of all subscribers, each of a part or of a loose piece.
@@ -379,22 +379,22 @@ impl Register {
         ensures value { result.now ≡ self.now.regions }
         ensures regions { AreRegions result.now }
     {
-        self.seats.regions()
+        self.owners.regions()
     }
 
     /// Proposes the bounds between zones that would give each part about its share of the rows, by what is published of
     /// the zones; where nothing is unposted, these are the counts of the rows. It takes no memory.
     pub fn propose(&self) -> Bounds
-        requires { AllHome self.now.seats }
+        requires { AllHome self.now.owners }
         ensures value { result ≡ proposal (published_weights (store_in self.now)) (parts_in (store_in self.now)) self.now.width }
-        ensures counted { ((c : ℕ) → c < CELLS → unposted self.now.seats c ≡ pos 0)
+        ensures counted { ((c : ℕ) → c < CELLS → unposted self.now.owners c ≡ pos 0)
             → result ≡ proposal (counted_weights (store_in self.now)) (parts_in (store_in self.now)) self.now.width }
     {
         // For the prover: each region has its owner beside it.
-        let _board = self.seats.board();
-        let parts = self.seats.parts();
+        let _board = self.owners.board();
+        let parts = self.owners.parts();
         let weights = zone_weights(&self.published());
-        Regions::propose(&weights, parts, self.seats.width())
+        Regions::propose(&weights, parts, self.owners.width())
     }
 
     /// Moves the bounds between parts to these: each that differs by a give and a take. The answer is how many were
@@ -405,15 +405,15 @@ impl Register {
     pub fn recut_to(&mut self, bounds: &[u64]) -> Result<u8, Refusal>
         requires { IsHomeToCut bounds.now self.old }
         ensures recut { IsRecut bounds.now (store_in self.old) result (store_in self.new) }
-        ensures house { IsSameHouse self.old self.new }
-        ensures beside { IsRecutBeside bounds.now self.old result self.new }
+        ensures homes { HaveSameHomes self.old self.new }
+        ensures while_out { IsRecutWhileOut bounds.now self.old result self.new }
     {
-        self.seats.recut_to(bounds)
+        self.owners.recut_to(bounds)
     }
 
     /// Gives the index of numbers: for each Subscriber row the pair of its number and its s_id.
     pub fn index(&self) -> &NumberIndex
-        ensures { result.now ≡ index_of (book_in self.now.seats).subscribers }
+        ensures { result.now ≡ index_of (book_in self.now.owners).subscribers }
     {
         &self.index
     }
@@ -423,20 +423,20 @@ impl Register {
     pub fn post(&mut self, part: u64, limit: u64) -> Reply
         requires { IsPartHome part self.old }
         ensures step { IsStep (Event.Post part limit) (store_in self.old) result (store_in self.new) }
-        ensures house { IsSameHouse self.old self.new }
-        ensures beside { IsStepBeside (Event.Post part limit) self.old result self.new }
+        ensures homes { HaveSameHomes self.old self.new }
+        ensures while_out { IsStepWhileOut (Event.Post part limit) self.old result self.new }
     {
-        Reply::of_posting(self.seats.post(part, limit))
+        Reply::of_posting(self.owners.post(part, limit))
     }
 
     #[inline(never)]
     fn give(&mut self, part: u64, side: Side, at: u64) -> Reply
         requires { IsPartHome part self.old }
         ensures step { IsStep (Event.Give part side at) (store_in self.old) result (store_in self.new) }
-        ensures house { IsSameHouse self.old self.new }
-        ensures beside { IsStepBeside (Event.Give part side at) self.old result self.new }
+        ensures homes { HaveSameHomes self.old self.new }
+        ensures while_out { IsStepWhileOut (Event.Give part side at) self.old result self.new }
     {
-        match self.seats.give(part, side, at) {
+        match self.owners.give(part, side, at) {
             Ok((piece, lo, hi)) => Reply::Given { piece, lo, hi },
             Err(why) => Reply::Refused(why),
         }
@@ -446,12 +446,12 @@ impl Register {
     fn take(&mut self, piece: u64, part: u64) -> Reply
         requires { IsPartHome part self.old }
         ensures step { IsStep (Event.Take piece part) (store_in self.old) result (store_in self.new) }
-        ensures house { IsSameHouse self.old self.new }
-        ensures beside { IsStepBeside (Event.Take piece part) self.old result self.new }
+        ensures homes { HaveSameHomes self.old self.new }
+        ensures while_out { IsStepWhileOut (Event.Take piece part) self.old result self.new }
     {
         // For the prover: the regions tell that a piece and a part that are there have small numbers.
-        let _regions = self.seats.regions();
-        match self.seats.take(piece, part) {
+        let _regions = self.owners.regions();
+        match self.owners.take(piece, part) {
             Ok(_) => Reply::Taken {
                 piece: piece as u8,
                 part: part as u8,
@@ -464,10 +464,10 @@ impl Register {
     fn divide(&mut self, part: u64, at: u64) -> Reply
         requires { IsHomeFrom part self.old }
         ensures step { IsStep (Event.Divide part at) (store_in self.old) result (store_in self.new) }
-        ensures house { IsHouseAfter (Event.Divide part at) result self.old self.new }
-        ensures beside { IsStepBeside (Event.Divide part at) self.old result self.new }
+        ensures homes { AreHomesAfter (Event.Divide part at) result self.old self.new }
+        ensures while_out { IsStepWhileOut (Event.Divide part at) self.old result self.new }
     {
-        match self.seats.divide(part, at) {
+        match self.owners.divide(part, at) {
             Ok((part, lo, hi)) => Reply::Divided { part, lo, hi },
             Err(why) => Reply::Refused(why),
         }
@@ -477,10 +477,10 @@ impl Register {
     fn dissolve(&mut self, part: u64) -> Reply
         requires { IsHomeFrom (part - 1) self.old }
         ensures step { IsStep (Event.Dissolve part) (store_in self.old) result (store_in self.new) }
-        ensures house { IsHouseAfter (Event.Dissolve part) result self.old self.new }
-        ensures beside { IsStepBeside (Event.Dissolve part) self.old result self.new }
+        ensures homes { AreHomesAfter (Event.Dissolve part) result self.old self.new }
+        ensures while_out { IsStepWhileOut (Event.Dissolve part) self.old result self.new }
     {
-        match self.seats.dissolve(part) {
+        match self.owners.dissolve(part) {
             Ok((part, lo, hi)) => Reply::Dissolved { part, lo, hi },
             Err(why) => Reply::Refused(why),
         }

@@ -10,7 +10,7 @@ ghost use Rattle.hlr_core.specs.Tasks.{route_of};
 ghost use Rattle.hlr_core.specs.declared.event.Event.{Event as Events};
 ghost use Rattle.hlr_core.specs.declared.event.Event.TheVariants as event;
 ghost use Rattle.part_table.specs.Regions.{parts_of};
-ghost use Rattle.hlr_owners.specs.Seats.{AreSeated, IsHomeFor, IsHomeFrom, IsPartHome, Seating, book_in};
+ghost use Rattle.hlr_owners.specs.Owners.{AreRuled, IsHomeFor, IsHomeFrom, IsPartHome, OwnersState, book_in};
 ghost use Rattle.tatp_actions.specs.declared.action.Action.{Action as Actions};
 ghost use Rattle.tatp_rows.specs.declared.refusal.Refusal.{Refusal as Refusals};
 
@@ -78,12 +78,12 @@ impl Register {
     /// subscriber, or no part has a number from there on. It takes no memory.
     pub fn parts_for(&self, event: &Event) -> Parts
         ensures now { WorksOn event.now result self.now }
-        ensures same { (h : Seating) → AreSeated h → h.regions ≡ self.now.regions → (book_in h.seats).subscribers ≡ (book_in self.now.seats).subscribers → WorksOn event.now result h }
-        ensures here { is_by_number event.now ≡ false → (h : Seating) → AreSeated h → h.regions ≡ self.now.regions → WorksOn event.now result h }
+        ensures same { (h : OwnersState) → AreRuled h → h.regions ≡ self.now.regions → (book_in h.owners).subscribers ≡ (book_in self.now.owners).subscribers → WorksOn event.now result h }
+        ensures here { is_by_number event.now ≡ false → (h : OwnersState) → AreRuled h → h.regions ≡ self.now.regions → WorksOn event.now result h }
         ensures few { result.end ≤ length (parts_of self.now.regions) }
     {
         // For the prover: each region has its owner beside it.
-        let _board = self.seats.board();
+        let _board = self.owners.board();
         let event = *event;
         match event {
             Event::SubscriberData { s_id }
@@ -108,10 +108,10 @@ impl Register {
 
     /// The part with a number, if there is one.
     fn part_numbered(&self, part: u64) -> Parts
-        ensures home { (h : Seating) → AreSeated h → h.regions ≡ self.now.regions → AreHome result h ↔ IsPartHome part h }
+        ensures home { (h : OwnersState) → AreRuled h → h.regions ≡ self.now.regions → AreHome result h ↔ IsPartHome part h }
         ensures few { result.end ≤ length (parts_of self.now.regions) }
     {
-        if part >= u64::from(self.seats.parts()) {
+        if part >= u64::from(self.owners.parts()) {
             return Parts::NONE;
         }
         Parts {
@@ -122,10 +122,10 @@ impl Register {
 
     /// All parts from one on.
     fn parts_from(&self, part: u64) -> Parts
-        ensures home { (h : Seating) → AreSeated h → h.regions ≡ self.now.regions → AreHome result h ↔ IsHomeFrom part h }
+        ensures home { (h : OwnersState) → AreRuled h → h.regions ≡ self.now.regions → AreHome result h ↔ IsHomeFrom part h }
         ensures few { result.end ≤ length (parts_of self.now.regions) }
     {
-        let end = self.seats.parts();
+        let end = self.owners.parts();
         if part >= u64::from(end) {
             return Parts::NONE;
         }
@@ -137,13 +137,13 @@ impl Register {
 
     /// The part that has a subscriber, unless a loose piece has them, or nobody can have the s_id.
     fn part_of(&self, s_id: u64) -> Parts
-        ensures home { (h : Seating) → AreSeated h → h.regions ≡ self.now.regions → AreHome result h ↔ IsHomeFor s_id h }
+        ensures home { (h : OwnersState) → AreRuled h → h.regions ≡ self.now.regions → AreHome result h ↔ IsHomeFor s_id h }
         ensures few { result.end ≤ length (parts_of self.now.regions) }
     {
         let Ok(s_id) = in_range(s_id, LAST_SUBSCRIBER) else {
             return Parts::NONE;
         };
-        match self.seats.regions().place(s_id) {
+        match self.owners.regions().place(s_id) {
             Place::Part(part) => self.part_numbered(u64::from(part)),
             Place::Piece(_) => Parts::NONE,
         }
@@ -151,11 +151,11 @@ impl Register {
 
     /// The part that has the subscriber with a number, if there is one.
     fn part_of_bearer(&self, sub_nbr: Number) -> Parts
-        ensures home { (h : Seating) → AreSeated h → h.regions ≡ self.now.regions → (book_in h.seats).subscribers ≡ (book_in self.now.seats).subscribers → AreHome result h ↔ IsBearerHome sub_nbr h }
+        ensures home { (h : OwnersState) → AreRuled h → h.regions ≡ self.now.regions → (book_in h.owners).subscribers ≡ (book_in self.now.owners).subscribers → AreHome result h ↔ IsBearerHome sub_nbr h }
         ensures few { result.end ≤ length (parts_of self.now.regions) }
     {
         // For the prover: each region has its owner beside it.
-        let _board = self.seats.board();
+        let _board = self.owners.board();
         match self.bearer(sub_nbr) {
             Some(s_id) => self.part_of(u64::from(s_id)),
             None => Parts::NONE,
@@ -260,8 +260,8 @@ impl Register {
         ensures { IsRouted (event.Post part limit) self.now (route_of result) }
     {
         // For the prover: each region has its owner beside it, and the desks share the board's slots.
-        let _board = self.seats.board();
-        if part >= u64::from(self.seats.regions().parts()) {
+        let _board = self.owners.board();
+        if part >= u64::from(self.owners.regions().parts()) {
             return TaskRoute::Refused(Refusal::NoPart);
         }
         TaskRoute::To(part as u8, Task::Post(limit))
@@ -270,12 +270,12 @@ impl Register {
     /// What an event asks for goes to the part that has its subscriber, and is refused where a loose piece has them.
     fn route_asked(&self, asked: Result<Task, Refusal>) -> TaskRoute
         requires { (wanted : Result Actions Refusals) × IsTaskFor wanted asked }
-        ensures { (event : Events) → is_on_rows event ≡ true → IsTaskFor (action_for event (book_in self.now.seats)) asked → IsRouted event self.now (route_of result) }
+        ensures { (event : Events) → is_on_rows event ≡ true → IsTaskFor (action_for event (book_in self.now.owners)) asked → IsRouted event self.now (route_of result) }
     {
         // For the prover: each region has its owner beside it.
-        let _board = self.seats.board();
+        let _board = self.owners.board();
         match asked {
-            Ok(task) => match self.seats.regions().place(task.s_id()) {
+            Ok(task) => match self.owners.regions().place(task.s_id()) {
                 Place::Part(part) => TaskRoute::To(part, task),
                 Place::Piece(_) => TaskRoute::Refused(Refusal::Moving),
             },

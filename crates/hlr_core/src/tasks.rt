@@ -31,7 +31,9 @@ pub(crate) fn new_destination(
 ) -> Result<Task, Refusal>
     ensures { IsTaskFor (if_in_range (action.NewDestination s_id sf_type start_time end_time)) result }
 {
-    let (s_id, sf_type, start_time, end_time) = checked::new_destination(s_id, sf_type, start_time, end_time)?;
+    let (s_id, sf_type, start_time, end_time) = checked::new_destination(
+        s_id, sf_type, start_time, end_time,
+    )?;
     Ok(Task::NewDestination {
         s_id,
         sf_type,

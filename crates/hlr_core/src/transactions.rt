@@ -4,14 +4,14 @@
 //! are out.
 ghost use Rattle.std.specs.Prelude.{◌≡◌, ◌+◌, ℕ, Some, IfOk, IfErr, MatchResult, Bool, Option};
 ghost use Rattle.tatp_rows.specs.declared.ranges.TheConstants.{LAST_SUBSCRIBER};
-ghost use Rattle.hlr_core.specs.Inside.Asked.{IsAsked, IsRowAction, IsRowStep, IsRowStepBeside, action_asked};
+ghost use Rattle.hlr_core.specs.Inside.Asked.{IsAsked, IsRowAction, IsRowStep, IsRowStepWhileOut, action_asked};
 ghost use Rattle.hlr_core.specs.Step.{IsStep, edited_reply};
 ghost use Rattle.hlr_core.specs.declared.event.Event.TheVariants as event;
 ghost use Rattle.hlr_core.specs.declared.event.Reply.TheVariants as reply;
-ghost use Rattle.hlr_core.specs.Beside.{IsStepBeside};
-ghost use Rattle.hlr_core.specs.Home.{IsHomeTo, IsSameHouse};
+ghost use Rattle.hlr_core.specs.WhileOut.{IsStepWhileOut};
+ghost use Rattle.hlr_core.specs.Home.{IsHomeTo, HaveSameHomes};
 ghost use Rattle.hlr_core.specs.Numbers.{bearer_id};
-ghost use Rattle.hlr_owners.specs.Seats.{IsHomeFor, book_in, store_in};
+ghost use Rattle.hlr_owners.specs.Owners.{IsHomeFor, book_in, store_in};
 ghost use Rattle.tatp_actions.specs.Action.{s_id_of};
 ghost use Rattle.tatp_actions.specs.Book.{IsWithin};
 ghost use Rattle.tatp_actions.specs.declared.action.Action.{Action};
@@ -33,10 +33,10 @@ impl Register {
         requires { IsHomeTo (event.SubscriberData s_id) self.now }
         ensures row { IfOk result (λ row. IsStep (event.SubscriberData s_id) (store_in self.now) (reply.Rows (row_reply.Row row.now)) (store_in self.now)) }
         ensures refused { IfErr result (λ why. IsStep (event.SubscriberData s_id) (store_in self.now) (reply.Refused why) (store_in self.now)) }
-        ensures beside { MatchResult result (λ row. IsStepBeside (event.SubscriberData s_id) self.now (reply.Rows (row_reply.Row row.now)) self.now) (λ why. IsStepBeside (event.SubscriberData s_id) self.now (reply.Refused why) self.now) }
+        ensures while_out { MatchResult result (λ row. IsStepWhileOut (event.SubscriberData s_id) self.now (reply.Rows (row_reply.Row row.now)) self.now) (λ why. IsStepWhileOut (event.SubscriberData s_id) self.now (reply.Refused why) self.now) }
     {
         let s_id = in_range(s_id, LAST_SUBSCRIBER)?;
-        self.seats.lend_subscriber(s_id)
+        self.owners.lend_subscriber(s_id)
     }
 
     /// GET_ACCESS_DATA (TATP, section 3.3), as `Event::AccessData`, but the row is lent from where it lies: `Field`
@@ -46,11 +46,11 @@ impl Register {
         ensures row { IfOk result (λ row. IsStep (event.AccessData s_id ai_type) (store_in self.now)
             (reply.Rows (row_reply.AccessRow row.now.data1 row.now.data2 row.now.data3 row.now.data4)) (store_in self.now)) }
         ensures refused { IfErr result (λ why. IsStep (event.AccessData s_id ai_type) (store_in self.now) (reply.Refused why) (store_in self.now)) }
-        ensures beside { MatchResult result (λ row. IsStepBeside (event.AccessData s_id ai_type) self.now (reply.Rows (row_reply.AccessRow row.now.data1 row.now.data2 row.now.data3 row.now.data4)) self.now) (λ why. IsStepBeside (event.AccessData s_id ai_type) self.now (reply.Refused why) self.now) }
+        ensures while_out { MatchResult result (λ row. IsStepWhileOut (event.AccessData s_id ai_type) self.now (reply.Rows (row_reply.AccessRow row.now.data1 row.now.data2 row.now.data3 row.now.data4)) self.now) (λ why. IsStepWhileOut (event.AccessData s_id ai_type) self.now (reply.Refused why) self.now) }
     {
         let s_id = in_range(s_id, LAST_SUBSCRIBER)?;
         let ai_type = byte_in_range(ai_type, 4)?;
-        self.seats.lend_access(s_id, ai_type)
+        self.owners.lend_access(s_id, ai_type)
     }
 
     /// GET_NEW_DESTINATION (TATP, section 3.2), as `Event::NewDestination`: the numbers, one to three, of forwardings
@@ -66,12 +66,13 @@ impl Register {
         requires { IsHomeTo (event.NewDestination s_id sf_type start_time end_time) self.now }
         ensures numbers { IfOk result (λ numbers. IsStep (event.NewDestination s_id sf_type start_time end_time) (store_in self.now) (reply.Rows (row_reply.Numbers numbers)) (store_in self.now)) }
         ensures refused { IfErr result (λ why. IsStep (event.NewDestination s_id sf_type start_time end_time) (store_in self.now) (reply.Refused why) (store_in self.now)) }
-        ensures beside { MatchResult result (λ numbers. IsStepBeside (event.NewDestination s_id sf_type start_time end_time) self.now (reply.Rows (row_reply.Numbers numbers)) self.now) (λ why. IsStepBeside (event.NewDestination s_id sf_type start_time end_time) self.now (reply.Refused why) self.now) }
+        ensures while_out { MatchResult result (λ numbers. IsStepWhileOut (event.NewDestination s_id sf_type start_time end_time) self.now (reply.Rows (row_reply.Numbers numbers)) self.now) (λ why. IsStepWhileOut (event.NewDestination s_id sf_type start_time end_time) self.now (reply.Refused why) self.now) }
     {
         let (s_id, sf_type, start_time, end_time) = checked::new_destination(
             s_id, sf_type, start_time, end_time,
         )?;
-        self.seats.destinations(s_id, sf_type, start_time, end_time)
+        self.owners
+            .destinations(s_id, sf_type, start_time, end_time)
     }
 
     /// UPDATE_SUBSCRIBER_DATA (TATP, section 3.4), as `Event::UpdateSubscriber`: `Field` where s_id isn't in
@@ -85,8 +86,8 @@ impl Register {
     ) -> Result<(), Refusal>
         requires { IsHomeTo (event.UpdateSubscriber s_id sf_type bit_1 data_a) self.old }
         ensures step { IsStep (event.UpdateSubscriber s_id sf_type bit_1 data_a) (store_in self.old) (edited_reply result) (store_in self.new) }
-        ensures house { IsSameHouse self.old self.new }
-        ensures beside { IsStepBeside (event.UpdateSubscriber s_id sf_type bit_1 data_a) self.old (edited_reply result) self.new }
+        ensures homes { HaveSameHomes self.old self.new }
+        ensures while_out { IsStepWhileOut (event.UpdateSubscriber s_id sf_type bit_1 data_a) self.old (edited_reply result) self.new }
     {
         self.edit(checked::update_subscriber(s_id, sf_type, bit_1, data_a))
     }
@@ -96,8 +97,8 @@ impl Register {
     pub fn update_location(&mut self, sub_nbr: Number, vlr_location: u64) -> Result<(), Refusal>
         requires { IsHomeTo (event.UpdateLocation sub_nbr vlr_location) self.old }
         ensures step { IsStep (event.UpdateLocation sub_nbr vlr_location) (store_in self.old) (edited_reply result) (store_in self.new) }
-        ensures house { IsSameHouse self.old self.new }
-        ensures beside { IsStepBeside (event.UpdateLocation sub_nbr vlr_location) self.old (edited_reply result) self.new }
+        ensures homes { HaveSameHomes self.old self.new }
+        ensures while_out { IsStepWhileOut (event.UpdateLocation sub_nbr vlr_location) self.old (edited_reply result) self.new }
     {
         let bearer_id = self.bearer(sub_nbr);
         self.edit(checked::update_location(bearer_id, vlr_location))
@@ -116,8 +117,8 @@ impl Register {
     ) -> Result<(), Refusal>
         requires { IsHomeTo (event.InsertForwarding sub_nbr sf_type start_time end_time numberx) self.old }
         ensures step { IsStep (event.InsertForwarding sub_nbr sf_type start_time end_time numberx) (store_in self.old) (edited_reply result) (store_in self.new) }
-        ensures house { IsSameHouse self.old self.new }
-        ensures beside { IsStepBeside (event.InsertForwarding sub_nbr sf_type start_time end_time numberx) self.old (edited_reply result) self.new }
+        ensures homes { HaveSameHomes self.old self.new }
+        ensures while_out { IsStepWhileOut (event.InsertForwarding sub_nbr sf_type start_time end_time numberx) self.old (edited_reply result) self.new }
     {
         let bearer_id = self.bearer(sub_nbr);
         self.edit(checked::insert_forwarding(bearer_id, sf_type, start_time, end_time, numberx))
@@ -133,8 +134,8 @@ impl Register {
     ) -> Result<(), Refusal>
         requires { IsHomeTo (event.DeleteForwarding sub_nbr sf_type start_time) self.old }
         ensures step { IsStep (event.DeleteForwarding sub_nbr sf_type start_time) (store_in self.old) (edited_reply result) (store_in self.new) }
-        ensures house { IsSameHouse self.old self.new }
-        ensures beside { IsStepBeside (event.DeleteForwarding sub_nbr sf_type start_time) self.old (edited_reply result) self.new }
+        ensures homes { HaveSameHomes self.old self.new }
+        ensures while_out { IsStepWhileOut (event.DeleteForwarding sub_nbr sf_type start_time) self.old (edited_reply result) self.new }
     {
         let bearer_id = self.bearer(sub_nbr);
         self.edit(checked::delete_forwarding(bearer_id, sf_type, start_time))
@@ -144,8 +145,8 @@ impl Register {
     pub fn add_access(&mut self, row: Access) -> Result<(), Refusal>
         requires { IsHomeTo (event.AddAccess row) self.old }
         ensures step { IsStep (event.AddAccess row) (store_in self.old) (edited_reply result) (store_in self.new) }
-        ensures house { IsSameHouse self.old self.new }
-        ensures beside { IsStepBeside (event.AddAccess row) self.old (edited_reply result) self.new }
+        ensures homes { HaveSameHomes self.old self.new }
+        ensures while_out { IsStepWhileOut (event.AddAccess row) self.old (edited_reply result) self.new }
     {
         self.edit(checked::add_access(row))
     }
@@ -154,8 +155,8 @@ impl Register {
     pub fn add_facility(&mut self, row: Facility) -> Result<(), Refusal>
         requires { IsHomeTo (event.AddFacility row) self.old }
         ensures step { IsStep (event.AddFacility row) (store_in self.old) (edited_reply result) (store_in self.new) }
-        ensures house { IsSameHouse self.old self.new }
-        ensures beside { IsStepBeside (event.AddFacility row) self.old (edited_reply result) self.new }
+        ensures homes { HaveSameHomes self.old self.new }
+        ensures while_out { IsStepWhileOut (event.AddFacility row) self.old (edited_reply result) self.new }
     {
         self.edit(checked::add_facility(row))
     }
@@ -165,8 +166,8 @@ impl Register {
     pub fn set_active(&mut self, s_id: u64, sf_type: u64, is_active: u64) -> Result<(), Refusal>
         requires { IsHomeTo (event.SetActive s_id sf_type is_active) self.old }
         ensures step { IsStep (event.SetActive s_id sf_type is_active) (store_in self.old) (edited_reply result) (store_in self.new) }
-        ensures house { IsSameHouse self.old self.new }
-        ensures beside { IsStepBeside (event.SetActive s_id sf_type is_active) self.old (edited_reply result) self.new }
+        ensures homes { HaveSameHomes self.old self.new }
+        ensures while_out { IsStepWhileOut (event.SetActive s_id sf_type is_active) self.old (edited_reply result) self.new }
     {
         self.edit(checked::set_active(s_id, sf_type, is_active))
     }
@@ -175,19 +176,19 @@ impl Register {
     pub fn add_subscriber(&mut self, row: Subscriber) -> Result<(), Refusal>
         requires { IsHomeTo (event.AddSubscriber row) self.old }
         ensures step { IsStep (event.AddSubscriber row) (store_in self.old) (edited_reply result) (store_in self.new) }
-        ensures house { IsSameHouse self.old self.new }
-        ensures beside { IsStepBeside (event.AddSubscriber row) self.old (edited_reply result) self.new }
+        ensures homes { HaveSameHomes self.old self.new }
+        ensures while_out { IsStepWhileOut (event.AddSubscriber row) self.old (edited_reply result) self.new }
     {
         // For the prover: each region has its owner beside it.
-        let _board = self.seats.board();
+        let _board = self.owners.board();
         let s_id = row.s_id();
-        let seat = self.seats.seat_of(s_id);
-        if self.seats.number_in(seat, s_id)?.is_some() {
+        let owner = self.owners.owner_of(s_id);
+        if self.owners.number_in(owner, s_id)?.is_some() {
             return Err(Refusal::Exists);
         }
         let number = row.sub_nbr();
         self.index.add(number, s_id)?;
-        match self.seats.edit_in(seat, AddSubscriber { row }) {
+        match self.owners.edit_in(owner, AddSubscriber { row }) {
             Ok(()) => Ok(()),
             Err(why) => {
                 self.index.remove(number);
@@ -202,25 +203,25 @@ impl Register {
     pub fn set_number(&mut self, s_id: u64, sub_nbr: Number) -> Result<(), Refusal>
         requires { IsHomeTo (event.SetNumber s_id sub_nbr) self.old }
         ensures step { IsStep (event.SetNumber s_id sub_nbr) (store_in self.old) (edited_reply result) (store_in self.new) }
-        ensures house { IsSameHouse self.old self.new }
-        ensures beside { IsStepBeside (event.SetNumber s_id sub_nbr) self.old (edited_reply result) self.new }
+        ensures homes { HaveSameHomes self.old self.new }
+        ensures while_out { IsStepWhileOut (event.SetNumber s_id sub_nbr) self.old (edited_reply result) self.new }
     {
         // For the prover: each region has its owner beside it.
-        let _board = self.seats.board();
+        let _board = self.owners.board();
         let s_id = in_range(s_id, LAST_SUBSCRIBER)?;
-        let seat = self.seats.seat_of(s_id);
-        let Some(old) = self.seats.number_in(seat, s_id)? else {
+        let owner = self.owners.owner_of(s_id);
+        let Some(old) = self.owners.number_in(owner, s_id)? else {
             return Err(Refusal::NoSubscriber);
         };
         // For the prover: a number is in range, as its reader says.
         let _value = sub_nbr.value();
         self.index.rename(old, sub_nbr)?;
-        self.seats.edit_in(seat, SetNumber { s_id, sub_nbr })
+        self.owners.edit_in(owner, SetNumber { s_id, sub_nbr })
     }
 
     /// The s_id of the subscriber who has a number, or `None`.
     pub fn bearer(&self, sub_nbr: Number) -> Option<u32>
-        ensures value { result ≡ bearer_id (book_in self.now.seats).subscribers sub_nbr }
+        ensures value { result ≡ bearer_id (book_in self.now.owners).subscribers sub_nbr }
         ensures within { (s_id : ℕ) → result ≡ Some s_id → IsWithin 1 (LAST_SUBSCRIBER + 1) s_id }
     {
         self.index.find(sub_nbr)
@@ -230,11 +231,11 @@ impl Register {
     fn edit<E: Edit>(&mut self, asked: Result<E, Refusal>) -> Result<(), Refusal>
         requires action { IfOk asked (λ edit. IsRowAction (E.action edit)) }
         requires home { IfOk asked (λ edit. IsHomeFor (s_id_of (E.action edit)) self.old) }
-        ensures house { IsSameHouse self.old self.new }
+        ensures homes { HaveSameHomes self.old self.new }
         ensures step { (fits : Bool) (wanted : Option Action) → IsAsked fits wanted (action_asked E.action asked) → IsRowStep fits wanted (store_in self.old) (edited_reply result) (store_in self.new) }
-        ensures beside { (fits : Bool) (wanted : Option Action) → IsAsked fits wanted (action_asked E.action asked) → IsRowStepBeside fits wanted self.old (edited_reply result) self.new }
+        ensures while_out { (fits : Bool) (wanted : Option Action) → IsAsked fits wanted (action_asked E.action asked) → IsRowStepWhileOut fits wanted self.old (edited_reply result) self.new }
     {
         let edit = asked?;
-        self.seats.edit(edit)
+        self.owners.edit(edit)
     }
 }

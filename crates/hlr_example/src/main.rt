@@ -3,7 +3,7 @@
 #![tactic(auto)]
 
 ghost use Rattle.std.specs.Prelude.{◌≡◌, IfOk};
-ghost use Rattle.hlr_owners.specs.Seats.{AllHome};
+ghost use Rattle.hlr_owners.specs.Owners.{AllHome};
 
 use hlr_core::{
     Action, Board, CELLS, Event, FIRST_AREA, Frame, Holding, Number, Refusal, Register, Scattered,
@@ -37,7 +37,7 @@ fn subscriber(s_id: u32) -> Result<Subscriber, Refusal> {
 
 /// A register of two parts over zones of four subscribers, with one in each part.
 fn opened(alloc: Global) -> Result<Register, Refusal>
-    ensures { IfOk result (λ register. AllHome register.seats) }
+    ensures { IfOk result (λ register. AllHome register.owners) }
 {
     let mut register = Register::open(alloc, 2, 4)?;
     register.add_subscriber(subscriber(LOW)?)?;
@@ -93,8 +93,8 @@ fn owners_work<R: AllocGlobal + Threads + Sync>(
     rt: &R,
     register: Register,
 ) -> Result<Register, Refusal>
-    requires { AllHome register.seats }
-    ensures { IfOk result (λ register. AllHome register.seats) }
+    requires { AllHome register.owners }
+    ensures { IfOk result (λ register. AllHome register.owners) }
 {
     let Scattered {
         frame,
@@ -129,7 +129,7 @@ fn owners_work<R: AllocGlobal + Threads + Sync>(
 
 /// Prints the subscribers of areas 0 and 1: how many are published, and how many more are not posted yet.
 fn show<R: Print>(rt: &R, register: &Register)
-    requires { AllHome register.now.seats }
+    requires { AllHome register.now.owners }
 {
     let published = register.published();
     let unposted = register.unposted();

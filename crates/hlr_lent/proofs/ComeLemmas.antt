@@ -1,28 +1,28 @@
--- A holding comes out of its ring, and takes its seat again.
+-- A holding comes out of its ring, and takes its owner again.
 use Rattle.std.proofs.Common.{◌≡◌, ◌∙◌, sym, ℕ, List, get_or, set, Some, None}
 use Rattle.std.specs.Prelude.{Option, slice_get}
 use Rattle.rtrb.specs.Ring.{received}
 use Rattle.holding.specs.Held.{HoldingState}
 use Rattle.hlr_owners.specs.Out.{outs_in}
-use Rattle.hlr_owners.specs.Seats.{AreSeated, Seating}
+use Rattle.hlr_owners.specs.Owners.{AreRuled, OwnersState}
 use Rattle.hlr_core.specs.Later.{IsBackWith}
 use Rattle.hlr_lent.specs.Jobs.{IsBack}
 use Rattle.hlr_lent.specs.Rings.{HaveRings, MayComeHome}
 use Rattle.hlr_lent.proofs.RingLemmas.{Ring, ring_there, rings_taken, whose}
-use Rattle.hlr_lent.proofs.SeatLemmas.{at_home, home_back, home_outs, home_there, home_with}
+use Rattle.hlr_lent.proofs.RegionOwnerLemmas.{at_home, home_back, home_outs, home_there, home_with}
 
-module _ (h : Seating) (are : AreSeated h) (rings : List (Option Ring)) (have : HaveRings (outs_in h.seats) rings) (p : ℕ) (w : Ring) (is : get_or rings p None ≡ Some w)
+module _ (h : OwnersState) (are : AreRuled h) (rings : List (Option Ring)) (have : HaveRings (outs_in h.owners) rings) (p : ℕ) (w : Ring) (is : get_or rings p None ≡ Some w)
     (home : HoldingState) (may : MayComeHome (received w) home) where
-  pub out : get_or (outs_in h.seats) p None ≡ Some may.0
-  out = let own = whose (outs_in h.seats) rings have p w is in own.1 ∙ sym own.2 ∙ may.1
+  pub out : get_or (outs_in h.owners) p None ≡ Some may.0
+  out = let own = whose (outs_in h.owners) rings have p w is in own.1 ∙ sym own.2 ∙ may.1
 
-  abbrev pub come_with : (i : ℕ) × IsBackWith (slice_get h.seats i) home
+  abbrev pub come_with : (i : ℕ) × IsBackWith (slice_get h.owners i) home
   come_with = home_with h are p may.0 home out may.2
 
-  pub come_rings : HaveRings (outs_in (set h.seats come_with.0 (at_home home))) (set rings p None)
+  pub come_rings : HaveRings (outs_in (set h.owners come_with.0 (at_home home))) (set rings p None)
   come_rings =
       rw (home_outs h are p may.0 home out may.2)
-      (rings_taken (outs_in h.seats) rings have p (home_there h are p may.0 home out may.2) (ring_there (outs_in h.seats) rings have p w is))
+      (rings_taken (outs_in h.owners) rings have p (home_there h are p may.0 home out may.2) (ring_there (outs_in h.owners) rings have p w is))
 
-  pub come_back : IsBack p h (record h { seats = set h.seats come_with.0 (at_home home) })
+  pub come_back : IsBack p h (record h { owners = set h.owners come_with.0 (at_home home) })
   come_back = home_back h are p may.0 home out may.2

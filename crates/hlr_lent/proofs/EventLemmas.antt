@@ -20,10 +20,10 @@ use Rattle.holding.specs.declared.job.Job.TheVariants.{Act, Post as Posting}
 use Rattle.hlr_owners.specs.Answered.{MayAnswer}
 use Rattle.hlr_owners.specs.Out.{outs_in}
 use Rattle.hlr_owners.specs.Recut.{IsHomeToCut, IsHomeToMove}
-use Rattle.hlr_owners.specs.Seats.{AllHome, AreSeated, IsHomeFor, IsHomeFrom, Seating, book_in, homes_in, store_in}
+use Rattle.hlr_owners.specs.Owners.{AllHome, AreRuled, IsHomeFor, IsHomeFrom, OwnersState, book_in, homes_in, store_in}
 use Rattle.hlr_owners.specs.Store.{Store}
-use Rattle.hlr_owners.proofs.OwnerLemmas.{lies_within}
-use Rattle.hlr_core.specs.Home.{IsHomeTo, IsHouseAfter, IsSameHouse}
+use Rattle.hlr_owners.proofs.StateLemmas.{lies_within}
+use Rattle.hlr_core.specs.Home.{IsHomeTo, AreHomesAfter, HaveSameHomes}
 use Rattle.hlr_core.specs.Route.{IsRightNow, is_here}
 use Rattle.hlr_core.specs.Step.{IsAskedStep, IsStep, action_for, dissolved_reply, divided_reply, given_reply, taken_reply}
 use Rattle.hlr_core.proofs.HomeLemmas.{still_home}
@@ -46,8 +46,8 @@ each_from (home ∷ homes) (suc p) all zero from = absurd (omega arith)
 each_from (home ∷ homes) (suc p) all (suc q) from = each_from homes p all q (omega arith)
 
 -- nobody is out from a part on
-nobody_from : (p : ℕ) (h : Seating) → IsHomeFrom p h → (q : ℕ) → p ≤ q → get_or (outs_in h.seats) q None ≡ None
-nobody_from p h all q from = none_out h.seats q (each_from (homes_in h.seats) p all q from)
+nobody_from : (p : ℕ) (h : OwnersState) → IsHomeFrom p h → (q : ℕ) → p ≤ q → get_or (outs_in h.owners) q None ≡ None
+nobody_from p h all q from = none_out h.owners q (each_from (homes_in h.owners) p all q from)
 
 -- a place more or less among places where nobody is out
 insert_none : {X : Type 0} (xs : List (Option X)) (i : ℕ) → ((q : ℕ) → i ≤ q → get_or xs q None ≡ None) → (q : ℕ) → get_or (insert xs i None) q None ≡ get_or xs q None
@@ -66,73 +66,73 @@ remove_none (x ∷ xs) (suc i) none zero = refl
 remove_none (x ∷ xs) (suc i) none (suc q) = remove_none xs i (λ r from. none (suc r) (omega arith)) q
 
 -- so an event leaves who is out
-module _ (h g : Seating) where
+module _ (h g : OwnersState) where
   abbrev OutsKept : Type 0
-  OutsKept = (q : ℕ) → get_or (outs_in g.seats) q None ≡ get_or (outs_in h.seats) q None
+  OutsKept = (q : ℕ) → get_or (outs_in g.owners) q None ≡ get_or (outs_in h.owners) q None
 
-  same_outs : IsSameHouse h g → OutsKept
-  same_outs house q = ap (λ outs. get_or outs q None) house.outs
+  same_outs : HaveSameHomes h g → OutsKept
+  same_outs homes q = ap (λ outs. get_or outs q None) homes.outs
 
-  divided_outs : (part at : ℕ) (r : Reply) → IsHomeFrom part h → IsHouseAfter (Divide part at) r h g → OutsKept
-  divided_outs part at (reply.Divided new lo hi) home house q =
-      ap (λ outs. get_or outs q None) house.outs ∙ insert_none (outs_in h.seats) (part + 1) (λ r from. nobody_from part h home r (omega arith)) q
-  divided_outs part at (reply.Rows rows) home house q = same_outs house q
-  divided_outs part at (reply.Posted count) home house q = same_outs house q
-  divided_outs part at (reply.Given piece lo hi) home house q = same_outs house q
-  divided_outs part at (reply.Taken piece p) home house q = same_outs house q
-  divided_outs part at (reply.Dissolved front lo hi) home house q = same_outs house q
-  divided_outs part at (reply.Refused why) home house q = same_outs house q
+  divided_outs : (part at : ℕ) (r : Reply) → IsHomeFrom part h → AreHomesAfter (Divide part at) r h g → OutsKept
+  divided_outs part at (reply.Divided new lo hi) home homes q =
+      ap (λ outs. get_or outs q None) homes.outs ∙ insert_none (outs_in h.owners) (part + 1) (λ r from. nobody_from part h home r (omega arith)) q
+  divided_outs part at (reply.Rows rows) home homes q = same_outs homes q
+  divided_outs part at (reply.Posted count) home homes q = same_outs homes q
+  divided_outs part at (reply.Given piece lo hi) home homes q = same_outs homes q
+  divided_outs part at (reply.Taken piece p) home homes q = same_outs homes q
+  divided_outs part at (reply.Dissolved front lo hi) home homes q = same_outs homes q
+  divided_outs part at (reply.Refused why) home homes q = same_outs homes q
 
-  dissolved_outs : (part : ℕ) (r : Reply) → IsHomeFrom (part - 1) h → IsHouseAfter (Dissolve part) r h g → OutsKept
-  dissolved_outs part (reply.Dissolved front lo hi) home house q =
-      ap (λ outs. get_or outs q None) house.outs ∙ remove_none (outs_in h.seats) part (λ r from. nobody_from (part - 1) h home r (omega arith)) q
-  dissolved_outs part (reply.Rows rows) home house q = same_outs house q
-  dissolved_outs part (reply.Posted count) home house q = same_outs house q
-  dissolved_outs part (reply.Given piece lo hi) home house q = same_outs house q
-  dissolved_outs part (reply.Taken piece p) home house q = same_outs house q
-  dissolved_outs part (reply.Divided new lo hi) home house q = same_outs house q
-  dissolved_outs part (reply.Refused why) home house q = same_outs house q
+  dissolved_outs : (part : ℕ) (r : Reply) → IsHomeFrom (part - 1) h → AreHomesAfter (Dissolve part) r h g → OutsKept
+  dissolved_outs part (reply.Dissolved front lo hi) home homes q =
+      ap (λ outs. get_or outs q None) homes.outs ∙ remove_none (outs_in h.owners) part (λ r from. nobody_from (part - 1) h home r (omega arith)) q
+  dissolved_outs part (reply.Rows rows) home homes q = same_outs homes q
+  dissolved_outs part (reply.Posted count) home homes q = same_outs homes q
+  dissolved_outs part (reply.Given piece lo hi) home homes q = same_outs homes q
+  dissolved_outs part (reply.Taken piece p) home homes q = same_outs homes q
+  dissolved_outs part (reply.Divided new lo hi) home homes q = same_outs homes q
+  dissolved_outs part (reply.Refused why) home homes q = same_outs homes q
 
-  outs_after : (event : Event) (r : Reply) → IsHomeTo event h → IsHouseAfter event r h g → OutsKept
-  outs_after (Divide part at) r home house = divided_outs part at r home house
-  outs_after (Dissolve part) r home house = dissolved_outs part r home house
-  outs_after (SubscriberData s_id) r home house = same_outs house
-  outs_after (NewDestination s_id t a e) r home house = same_outs house
-  outs_after (AccessData s_id t) r home house = same_outs house
-  outs_after (UpdateSubscriber s_id t bit d) r home house = same_outs house
-  outs_after (UpdateLocation n v) r home house = same_outs house
-  outs_after (InsertForwarding n t a e x) r home house = same_outs house
-  outs_after (DeleteForwarding n t a) r home house = same_outs house
-  outs_after (AddSubscriber row) r home house = same_outs house
-  outs_after (AddAccess row) r home house = same_outs house
-  outs_after (AddFacility row) r home house = same_outs house
-  outs_after (SetActive s_id t v) r home house = same_outs house
-  outs_after (SetNumber s_id n) r home house = same_outs house
-  outs_after (Post part limit) r home house = same_outs house
-  outs_after (Give part side at) r home house = same_outs house
-  outs_after (Take piece part) r home house = same_outs house
+  outs_after : (event : Event) (r : Reply) → IsHomeTo event h → AreHomesAfter event r h g → OutsKept
+  outs_after (Divide part at) r home homes = divided_outs part at r home homes
+  outs_after (Dissolve part) r home homes = dissolved_outs part r home homes
+  outs_after (SubscriberData s_id) r home homes = same_outs homes
+  outs_after (NewDestination s_id t a e) r home homes = same_outs homes
+  outs_after (AccessData s_id t) r home homes = same_outs homes
+  outs_after (UpdateSubscriber s_id t bit d) r home homes = same_outs homes
+  outs_after (UpdateLocation n v) r home homes = same_outs homes
+  outs_after (InsertForwarding n t a e x) r home homes = same_outs homes
+  outs_after (DeleteForwarding n t a) r home homes = same_outs homes
+  outs_after (AddSubscriber row) r home homes = same_outs homes
+  outs_after (AddAccess row) r home homes = same_outs homes
+  outs_after (AddFacility row) r home homes = same_outs homes
+  outs_after (SetActive s_id t v) r home homes = same_outs homes
+  outs_after (SetNumber s_id n) r home homes = same_outs homes
+  outs_after (Post part limit) r home homes = same_outs homes
+  outs_after (Give part side at) r home homes = same_outs homes
+  outs_after (Take piece part) r home homes = same_outs homes
 
-  pub rings_after : (event : Event) (r : Reply) (rings : List (Option Ring)) → IsHomeTo event h → IsHouseAfter event r h g → HaveRings (outs_in h.seats) rings → HaveRings (outs_in g.seats) rings
-  rings_after event r rings home house have q = rw (outs_after event r home house q) (have q)
+  pub rings_after : (event : Event) (r : Reply) (rings : List (Option Ring)) → IsHomeTo event h → AreHomesAfter event r h g → HaveRings (outs_in h.owners) rings → HaveRings (outs_in g.owners) rings
+  rings_after event r rings home homes have q = rw (outs_after event r home homes q) (have q)
 
   -- a change leaves them too, and all at home where all were
-  pub kept_after : (rings : List (Option Ring)) (lends : Bool) → IsSameHouse h g
-      → HaveRings (outs_in h.seats) rings × (length rings ≡ MOST_PARTS) × (lends ≡ false → AllHome h.seats)
-      → HaveRings (outs_in g.seats) rings × (length rings ≡ MOST_PARTS) × (lends ≡ false → AllHome g.seats)
-  kept_after rings lends house kept = (λ q. rw (same_outs house q) (kept.0 q), kept.1, λ none. still_home h g house (kept.2 none))
+  pub kept_after : (rings : List (Option Ring)) (lends : Bool) → HaveSameHomes h g
+      → HaveRings (outs_in h.owners) rings × (length rings ≡ MOST_PARTS) × (lends ≡ false → AllHome h.owners)
+      → HaveRings (outs_in g.owners) rings × (length rings ≡ MOST_PARTS) × (lends ≡ false → AllHome g.owners)
+  kept_after rings lends homes kept = (λ q. rw (same_outs homes q) (kept.0 q), kept.1, λ none. still_home h g homes (kept.2 none))
 
 -- a refusal that is known at once is right
-pub right_here : (event : Event) (h : Seating) (r : Reply) → IsRightNow event h r → IsStep event (store_in h) r (store_in h)
-right_here event h r right = right h.seats (all_later_self h.seats)
+pub right_here : (event : Event) (h : OwnersState) (r : Reply) → IsRightNow event h r → IsStep event (store_in h) r (store_in h)
+right_here event h r right = right h.owners (all_later_self h.owners)
 
-pub refused_here : (event : Event) (h : Seating) (r : Reply) (o : Option Refusal) → IsRightNow event h r → IfSome o (λ why. r ≡ reply.Refused why)
+pub refused_here : (event : Event) (h : OwnersState) (r : Reply) (o : Option Refusal) → IsRightNow event h r → IfSome o (λ why. r ≡ reply.Refused why)
     → IfSome o (λ why. IsStep event (store_in h) (reply.Refused why) (store_in h))
 refused_here event h r None right is = tt
 refused_here event h r (Some why) right is = right_here event h (reply.Refused why) (rw is at right)
 
 -- what isn't refused at once asks for a job
-module _ (h : Seating) (said : Reply) (done : (why : Refusal) → said ≢ reply.Refused why) where
-  asks_action : (event : Event) (asked : Result Action Refusal) → action_for event (book_in h.seats) ≡ asked → IsAskedStep asked (store_in h) said (store_in h) → IsAsking event h
+module _ (h : OwnersState) (said : Reply) (done : (why : Refusal) → said ≢ reply.Refused why) where
+  asks_action : (event : Event) (asked : Result Action Refusal) → action_for event (book_in h.owners) ≡ asked → IsAskedStep asked (store_in h) said (store_in h) → IsAsking event h
   asks_action event (Ok act) is step = inr (0, Act act, is)
   asks_action event (Err why) is step = absurd (done why step.0)
 
@@ -166,21 +166,21 @@ barred_by : {A : Type 0} (wanted : Result A Refusal) (why : Refusal) → refusal
 barred_by (Ok done) why is = absurd (let clash : Ok tt ≡ Err why = is in cc)
 barred_by (Err other) why is = let same : other ≡ why = cc in ap Err (sym same)
 
-module _ (h : Seating) (why : Refusal) where
+module _ (h : OwnersState) (why : Refusal) where
   abbrev pub IsBarred : Event → Type 0
-  IsBarred event = ((s : Store) → s.regions ≡ h.regions → IsStep event s (reply.Refused why) s) × IsHouseAfter event (reply.Refused why) h h
+  IsBarred event = ((s : Store) → s.regions ≡ h.regions → IsStep event s (reply.Refused why) s) × AreHomesAfter event (reply.Refused why) h h
 
-  same_house : IsSameHouse h h
-  same_house = record { homes = refl; outs = refl; spare = refl }
+  same_homes : HaveSameHomes h h
+  same_homes = record { homes = refl; outs = refl; spare = refl }
 
   not_barred : {B : Type 0} (r : Result (Unit {0}) Refusal) → r ≡ Ok tt → r ≡ Err why → B
   not_barred r allows refuses = absurd (let clash = sym allows ∙ refuses in cc)
 
   pub barred : (event : Event) → allowed event h.regions ≡ Err why → IsBarred event
-  barred (Give part side at) is = (λ s same. (Err why, rw same (barred_by _ why is), refl, refl), same_house)
-  barred (Take piece part) is = (λ s same. (Err why, rw same (barred_by _ why is), refl, refl), same_house)
-  barred (Divide part at) is = (λ s same. (Err why, rw same (barred_by _ why is), refl, refl), same_house)
-  barred (Dissolve part) is = (λ s same. (Err why, rw same (barred_by _ why is), refl, refl), same_house)
+  barred (Give part side at) is = (λ s same. (Err why, rw same (barred_by _ why is), refl, refl), same_homes)
+  barred (Take piece part) is = (λ s same. (Err why, rw same (barred_by _ why is), refl, refl), same_homes)
+  barred (Divide part at) is = (λ s same. (Err why, rw same (barred_by _ why is), refl, refl), same_homes)
+  barred (Dissolve part) is = (λ s same. (Err why, rw same (barred_by _ why is), refl, refl), same_homes)
   barred (SubscriberData s_id) is = not_barred _ refl is
   barred (NewDestination s_id t a e) is = not_barred _ refl is
   barred (AccessData s_id t) is = not_barred _ refl is
@@ -196,7 +196,7 @@ module _ (h : Seating) (why : Refusal) where
   barred (Post part limit) is = not_barred _ refl is
 
 -- so is the refusal of the regions, if they refuse; else the event asks for what the register does
-module _ (h : Seating) (event : Event) where
+module _ (h : OwnersState) (event : Event) where
   pub here_barred : {P : Refusal → Type 0} (r : Result (Unit {0}) Refusal) → r ≡ allowed event h.regions → ((why : Refusal) → IsBarred h why event → P why)
       → IfSome (result_err r) P
   here_barred (Ok done) is gives = tt
@@ -226,7 +226,7 @@ nowhere from s_id (r ∷ regions) is out =
       | inl below ↦ (let from_lo = within.0 in omega arith)
       | inr above ↦ (let under = within.1 in omega arith)
     ]))
-    (λ beside. rw beside (nowhere r.hi s_id regions is.2 (elim out [
+    (λ while_out. rw while_out (nowhere r.hi s_id regions is.2 (elim out [
       | inl below ↦ inl (omega arith)
       | inr above ↦ inr above
     ])))
@@ -243,13 +243,13 @@ out_of_range s_id out = elim (cases_lt s_id 1) [
 refused_out : (s_id : ℕ) (why : Refusal) → between 1 LAST_SUBSCRIBER s_id ≡ Err why → is_between 1 LAST_SUBSCRIBER s_id ≡ false
 refused_out s_id why is = by_test (is_between 1 LAST_SUBSCRIBER s_id) (λ yes. let ok : Ok s_id ≡ Err why = rw yes at is in absurd cc) (λ e. e)
 
-pub nobody_home : (h : Seating) (are : AreSeated h) (s_id : ℕ) (why : Refusal) → between 1 LAST_SUBSCRIBER s_id ≡ Err why → IsHomeFor s_id h
+pub nobody_home : (h : OwnersState) (are : AreRuled h) (s_id : ℕ) (why : Refusal) → between 1 LAST_SUBSCRIBER s_id ≡ Err why → IsHomeFor s_id h
 nobody_home h are s_id why is = rw (nowhere 1 s_id h.regions are.are.consecutive (out_of_range s_id (refused_out s_id why is))) tt
 
 -- a re-cut finds at home the parts on which it works, where each move does
-moves_from : (h : Seating) (moves : List CutMove) → ((i : ℕ) (d : CutMove) → i < length moves → IsHomeToMove h (get_or moves i d)) → AllByRecursion (IsHomeToMove h) moves
+moves_from : (h : OwnersState) (moves : List CutMove) → ((i : ℕ) (d : CutMove) → i < length moves → IsHomeToMove h (get_or moves i d)) → AllByRecursion (IsHomeToMove h) moves
 moves_from h [] each = tt
 moves_from h (move ∷ moves) each = (each 0 move (omega arith), moves_from h moves (λ i d low. each (suc i) d (omega arith)))
 
-pub cut_from : (bounds : List ℕ) (h : Seating) (moves : List CutMove) → recut_answer h.regions bounds ≡ Ok moves → ((i : ℕ) (d : CutMove) → i < length moves → IsHomeToMove h (get_or moves i d)) → IsHomeToCut bounds h
+pub cut_from : (bounds : List ℕ) (h : OwnersState) (moves : List CutMove) → recut_answer h.regions bounds ≡ Ok moves → ((i : ℕ) (d : CutMove) → i < length moves → IsHomeToMove h (get_or moves i d)) → IsHomeToCut bounds h
 cut_from bounds h moves answer each = rw answer (moves_from h moves each)

@@ -5,8 +5,8 @@ use Rattle.tatp_actions.specs.Part.{PartState}
 use Rattle.holding.specs.Held.{HoldingState}
 use Rattle.holding.specs.declared.job.Job.{Job}
 use Rattle.holding.specs.declared.job.Job.TheVariants.{Act, Post}
-use Rattle.hlr_owners.specs.declared.lodging.Seat.{Seat}
-use Rattle.hlr_owners.specs.declared.lodging.Seat.TheVariants.{Part}
+use Rattle.hlr_owners.specs.declared.part_owner.RegionOwner.{RegionOwner}
+use Rattle.hlr_owners.specs.declared.part_owner.RegionOwner.TheVariants.{Part}
 use Rattle.hlr_owners.proofs.HeldLemmas.{holding_keeps}
 use Rattle.hlr_core.specs.Index.{number_pair}
 use Rattle.hlr_core.specs.Later.{IsBackWith, IsLater}
@@ -17,13 +17,13 @@ use Rattle.hlr_lent.specs.Jobs.{AreDone, IsNumberless, IsWorked}
 use Rattle.hlr_lent.specs.Rings.{MayComeHome}
 use Rattle.hlr_lent.specs.declared.ring.Message.{Message}
 
--- the seat of a part that is out, with what its holding is now
-abbrev pub away : HoldingState → Seat
+-- the owner of a part that is out, with what its holding is now
+abbrev pub away : HoldingState → RegionOwner
 away k = Part (record { holding = k; home = false })
 
 job_later : (job : Job) (a : HoldingState) (answer : Reply) (b : HoldingState) → IsNumberless job → IsJobDone job a answer b → IsLater (away a) (away b)
 job_later (Act act) a answer b none done = record {
-  seat = (
+  owner = (
     record {
       lo = done.range.0;
       hi = done.range.1;
@@ -37,7 +37,7 @@ job_later (Act act) a answer b none done = record {
   numbers = outcome_numbers act a.part.book b.part.book done.rows none done.outcome;
 }
 job_later (Post limit) a answer b none done = record {
-  seat = (
+  owner = (
     record {
       lo = ap (λ (part : PartState). part.lo) done.part;
       hi = ap (λ (part : PartState). part.hi) done.part;
@@ -56,11 +56,11 @@ done_later lent [] now is = rw is (all_later_self (away lent ∷ [])).0
 done_later lent (last ∷ earlier) now done =
     later_after (away lent) (away done.0) (away now) (done_later lent earlier done.0 done.1) (job_later last.0 done.0 last.1 now done.2 done.3)
 
--- a holding that jobs have made of the one that was lent may take its seat
+-- a holding that jobs have made of the one that was lent may take its owner
 pub worked_back : (lent now : HoldingState) → IsWorked lent now → IsBackWith (Some (away lent)) now
 worked_back lent now worked =
     let later = done_later lent worked.0 now worked.1 in
-    ((refl, later.seat.0), later.numbers)
+    ((refl, later.owner.0), later.numbers)
 
 -- one job more
 pub one_more : (past : List Message) (a b : HoldingState) (job : Job) (answer : Reply) → MayComeHome past a → IsNumberless job → IsJobDone job a answer b → MayComeHome past b

@@ -3,4 +3,4 @@ pub mod CrossingLemmas
 pub mod EventLemmas
 pub mod JobLemmas
 pub mod RingLemmas
-pub mod SeatLemmas
+pub mod RegionOwnerLemmas

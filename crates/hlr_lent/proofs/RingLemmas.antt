@@ -9,11 +9,11 @@ use Rattle.rtrb.specs.Ring.{received}
 use Rattle.rtrb.specs.declared.consumer.Consumer.{Consumer}
 use Rattle.tatp_rows.proofs.OrderedLemmas.{by_test}
 use Rattle.holding.specs.Held.{HoldingState}
-use Rattle.hlr_owners.specs.Lodged.{Lodged}
+use Rattle.hlr_owners.specs.PartOwnerState.{PartOwnerState}
 use Rattle.hlr_owners.specs.Out.{out_of, outs_in}
-use Rattle.hlr_owners.specs.Seats.{homes_in}
-use Rattle.hlr_owners.specs.declared.lodging.Seat.{Seat}
-use Rattle.hlr_owners.specs.declared.lodging.Seat.TheVariants.{Part, Piece}
+use Rattle.hlr_owners.specs.Owners.{homes_in}
+use Rattle.hlr_owners.specs.declared.part_owner.RegionOwner.{RegionOwner}
+use Rattle.hlr_owners.specs.declared.part_owner.RegionOwner.TheVariants.{Part, Piece}
 use Rattle.hlr_lent.specs.Rings.{HasRing, HaveRings, lent_as}
 use Rattle.hlr_lent.specs.declared.ring.Message.{Message}
 use Rattle.hlr_lent.specs.declared.ring.ReturnRule.{ReturnRule}
@@ -22,26 +22,26 @@ abbrev pub Ring : Type 0
 Ring = Consumer Message Global ReturnRule
 
 -- a part is at home where none of it is out
-pub out_of_home : (l : Lodged) → l.home ≡ true → out_of l ≡ None
+pub out_of_home : (l : PartOwnerState) → l.home ≡ true → out_of l ≡ None
 out_of_home l home = ap (λ (b : Bool). if b then None else Some l.holding) home
 
-pub home_of_out : (l : Lodged) → out_of l ≡ None → l.home ≡ true
+pub home_of_out : (l : PartOwnerState) → out_of l ≡ None → l.home ≡ true
 home_of_out l none =
     by_test l.home
     (λ e. e)
     (λ e. absurd (none-some l.holding (sym none ∙ ap (λ (b : Bool). if b then None else Some l.holding) e)))
 
-pub none_out : (seats : List Seat) (p : ℕ) → get_or (homes_in seats) p true ≡ true → get_or (outs_in seats) p None ≡ None
+pub none_out : (owners : List RegionOwner) (p : ℕ) → get_or (homes_in owners) p true ≡ true → get_or (outs_in owners) p None ≡ None
 none_out [] p home = refl
-none_out (Piece b ∷ seats) p home = none_out seats p home
-none_out (Part l ∷ seats) zero home = out_of_home l home
-none_out (Part l ∷ seats) (suc p) home = none_out seats p home
+none_out (Piece b ∷ owners) p home = none_out owners p home
+none_out (Part l ∷ owners) zero home = out_of_home l home
+none_out (Part l ∷ owners) (suc p) home = none_out owners p home
 
-home_there : (seats : List Seat) (p : ℕ) → get_or (outs_in seats) p None ≡ None → get_or (homes_in seats) p true ≡ true
+home_there : (owners : List RegionOwner) (p : ℕ) → get_or (outs_in owners) p None ≡ None → get_or (homes_in owners) p true ≡ true
 home_there [] p none = refl
-home_there (Piece b ∷ seats) p none = home_there seats p none
-home_there (Part l ∷ seats) zero none = home_of_out l none
-home_there (Part l ∷ seats) (suc p) none = home_there seats p none
+home_there (Piece b ∷ owners) p none = home_there owners p none
+home_there (Part l ∷ owners) zero none = home_of_out l none
+home_there (Part l ∷ owners) (suc p) none = home_there owners p none
 
 -- and where it has no ring
 ring_none : (out : Option HoldingState) (ring : Option Ring) → HasRing out ring → out ≡ None → ring ≡ None
@@ -55,15 +55,15 @@ out_none None ring has none = refl
 out_none (Some lent) None has none = absurd has
 out_none (Some lent) (Some ring) has none = absurd (none-some ring (sym none))
 
-pub ring_tells : (seats : List Seat) (rings : List (Option Ring)) → HaveRings (outs_in seats) rings → (p : ℕ) → (get_or rings p None ≡ None) ↔ (get_or (homes_in seats) p true ≡ true)
-ring_tells seats rings have p = (
-  λ none. home_there seats p (out_none (get_or (outs_in seats) p None) (get_or rings p None) (have p) none),
-  λ home. ring_none (get_or (outs_in seats) p None) (get_or rings p None) (have p) (none_out seats p home),
+pub ring_tells : (owners : List RegionOwner) (rings : List (Option Ring)) → HaveRings (outs_in owners) rings → (p : ℕ) → (get_or rings p None ≡ None) ↔ (get_or (homes_in owners) p true ≡ true)
+ring_tells owners rings have p = (
+  λ none. home_there owners p (out_none (get_or (outs_in owners) p None) (get_or rings p None) (have p) none),
+  λ home. ring_none (get_or (outs_in owners) p None) (get_or rings p None) (have p) (none_out owners p home),
 )
 
 -- where all are at home nobody has a ring
-pub no_rings : (seats : List Seat) (n : ℕ) → ((p : ℕ) → get_or (homes_in seats) p true ≡ true) → HaveRings (outs_in seats) (replicate n None)
-no_rings seats n home p = rw (none_out seats p (home p), none_each p) tt
+pub no_rings : (owners : List RegionOwner) (n : ℕ) → ((p : ℕ) → get_or (homes_in owners) p true ≡ true) → HaveRings (outs_in owners) (replicate n None)
+no_rings owners n home p = rw (none_out owners p (home p), none_each p) tt
   where
     none_each : (p : ℕ) → get_or {A = Option Ring} (replicate n None) p None ≡ None
     none_each p = elim (cases_lt p n) [
@@ -136,14 +136,14 @@ no_ring None false test = absurd cc
 no_ring (Some ring) true test = absurd cc
 no_ring (Some ring) false test = (λ yes. absurd cc, λ none. absurd (none-some ring (sym none)))
 
-pub test_tells : (seats : List Seat) (rings : List (Option Ring)) → HaveRings (outs_in seats) rings → (p : ℕ) (ring : Option Ring) (none : Bool) → p < length rings → ring ≡ get_or rings p ring → is_some ring ≡ not none
-    → (IsTrue none → get_or (homes_in seats) p true ≡ true) × (get_or (homes_in seats) p true ≡ true → IsTrue none)
-test_tells seats rings have p ring none there is test =
-    let tells = ring_tells seats rings have p in
+pub test_tells : (owners : List RegionOwner) (rings : List (Option Ring)) → HaveRings (outs_in owners) rings → (p : ℕ) (ring : Option Ring) (none : Bool) → p < length rings → ring ≡ get_or rings p ring → is_some ring ≡ not none
+    → (IsTrue none → get_or (homes_in owners) p true ≡ true) × (get_or (homes_in owners) p true ≡ true → IsTrue none)
+test_tells owners rings have p ring none there is test =
+    let tells = ring_tells owners rings have p in
     let own = no_ring ring none test in
     let same : ring ≡ get_or rings p None = is ∙ get_or_default rings p ring None there in
     (λ yes. tells.0 (sym same ∙ own.0 yes), λ home. own.1 (same ∙ tells.1 home))
 
 -- nobody is out behind the last ring
-pub past_home : (seats : List Seat) (rings : List (Option Ring)) → HaveRings (outs_in seats) rings → (p : ℕ) → length rings ≤ p → get_or (homes_in seats) p true ≡ true
-past_home seats rings have p past = (ring_tells seats rings have p).0 (get_or_past rings p None past)
+pub past_home : (owners : List RegionOwner) (rings : List (Option Ring)) → HaveRings (outs_in owners) rings → (p : ℕ) → length rings ≤ p → get_or (homes_in owners) p true ≡ true
+past_home owners rings have p past = (ring_tells owners rings have p).0 (get_or_past rings p None past)

@@ -7,7 +7,7 @@ use Rattle.part_table.specs.Give.{give_answer}
 use Rattle.part_table.specs.Take.{take_answer}
 use Rattle.part_table.specs.declared.region.Region.{Region}
 use Rattle.holding.specs.declared.job.Job.{Job}
-use Rattle.hlr_owners.specs.Seats.{Seating}
+use Rattle.hlr_owners.specs.Owners.{OwnersState}
 use Rattle.hlr_core.specs.Home.{IsHomeTo}
 use Rattle.hlr_core.specs.Route.{IsAskedJob, is_here}
 use Rattle.hlr_core.specs.declared.event.Event.{Event}
@@ -28,10 +28,10 @@ allowed event regions = Ok tt
 
 -- an event asks for a job, as it does where its fields are in range and its number is known, or for what the register
 -- itself does and the regions allow
-abbrev pub IsAsking : Event → Seating → Type 0
+abbrev pub IsAsking : Event → OwnersState → Type 0
 IsAsking event h = ((is_here event ≡ true) × (allowed event h.regions ≡ Ok tt)) ⊎ ((part : ℕ) × (job : Job) × IsAskedJob event h part job)
 
 -- an event waits for a part that is out
-pub record IsAway (event : Event) (h : Seating) : Type 0 where
+pub record IsAway (event : Event) (h : OwnersState) : Type 0 where
   pub out : ¬ (IsHomeTo event h)
   pub asking : IsAsking event h

@@ -5,8 +5,8 @@ use Rattle.holding.specs.Held.{HoldingState}
 use Rattle.holding.specs.declared.job.Job.{Job}
 use Rattle.holding.specs.declared.job.Job.TheVariants.{Act, Post}
 use Rattle.hlr_owners.specs.Out.{outs_in}
-use Rattle.hlr_owners.specs.Seats.{Seating}
-use Rattle.hlr_owners.specs.declared.lodging.Seat.TheVariants.{Part}
+use Rattle.hlr_owners.specs.Owners.{OwnersState}
+use Rattle.hlr_owners.specs.declared.part_owner.RegionOwner.TheVariants.{Part}
 use Rattle.hlr_core.specs.Session.{IsJobDone}
 use Rattle.hlr_core.specs.Step.{given_number}
 use Rattle.hlr_core.specs.declared.event.Reply.{Reply}
@@ -27,11 +27,11 @@ abbrev pub IsWorked : HoldingState → HoldingState → Type 0
 IsWorked lent now = (jobs : List (Job × Reply)) × AreDone lent jobs now
 
 -- a part that was out is at home, with a holding that such jobs have made of the one that was lent
-pub record IsBack (part : ℕ) (before after : Seating) : Type 0 where
+pub record IsBack (part : ℕ) (before after : OwnersState) : Type 0 where
   pub lent : HoldingState
   pub home : HoldingState
   pub index : ℕ
-  pub out : slice_get (outs_in before.seats) part ≡ Some (Some lent)
+  pub out : slice_get (outs_in before.owners) part ≡ Some (Some lent)
   pub worked : IsWorked lent home
   pub region : position (is_part part) before.regions ≡ Some index
-  pub seated : after ≡ record before { seats = slice_set before.seats index (Part (record { holding = home; home = true })) }
+  pub ruled : after ≡ record before { owners = slice_set before.owners index (Part (record { holding = home; home = true })) }

@@ -1,7 +1,7 @@
 //! Whether the parts are at home on which something works.
 ghost use Rattle.std.specs.Prelude.{◌≡◌, ◌↔◌, IsTrue};
 ghost use Rattle.hlr_owners.specs.Recut.{IsHomeToCut};
-ghost use Rattle.hlr_owners.specs.Seats.{AllHome, IsHomeFor, IsPartHome};
+ghost use Rattle.hlr_owners.specs.Owners.{AllHome, IsHomeFor, IsPartHome};
 ghost use Rattle.hlr_core.specs.Home.{AreHome, IsBearerHome, IsHomeTo};
 
 use crate::lender::Lender;
@@ -23,7 +23,7 @@ impl Lender {
 
     /// Tells whether all parts are at home.
     pub fn is_all_home(&self) -> bool
-        ensures { IsTrue result ↔ AllHome self.now.seats }
+        ensures { IsTrue result ↔ AllHome self.now.owners }
     {
         !self.lends || self.register.all_at_home()
     }

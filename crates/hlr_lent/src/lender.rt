@@ -3,10 +3,10 @@ ghost use Rattle.std.specs.Prelude.{◌≡◌, ◌≢◌, ◌<◌, true, false, 
 ghost use Rattle.view_board.specs.Desks.{with_view};
 ghost use Rattle.view_board.specs.Views.{looked};
 ghost use Rattle.hlr_owners.specs.Recut.{IsHomeToCut, IsRecut};
-ghost use Rattle.hlr_owners.specs.Seats.{AllHome, AreSeated, IsLent, homes_in, store_in};
+ghost use Rattle.hlr_owners.specs.Owners.{AllHome, AreRuled, IsLent, homes_in, store_in};
 ghost use Rattle.hlr_owners.specs.Sight.{IsSightOf};
-ghost use Rattle.hlr_core.specs.Beside.{IsRecutBeside, IsStepBeside};
-ghost use Rattle.hlr_core.specs.Home.{IsHomeTo, IsHouseAfter, IsSameHouse};
+ghost use Rattle.hlr_core.specs.WhileOut.{IsRecutWhileOut, IsStepWhileOut};
+ghost use Rattle.hlr_core.specs.Home.{IsHomeTo, AreHomesAfter, HaveSameHomes};
 ghost use Rattle.hlr_core.specs.Step.{IsStep};
 ghost use Rattle.tatp_rows.specs.declared.refusal.Refusal.{Refusal as Refusals};
 ghost use Rattle.hlr_lent.specs.Away.{IsAsking, IsAway, allowed};
@@ -36,14 +36,14 @@ impl Model for Lender {
     ghost use Rattle.std.specs.Prelude.{◌≡◌, false, length};
     ghost use Rattle.part_table.specs.declared.region.TheConstants.{MOST_PARTS};
     ghost use Rattle.hlr_owners.specs.Out.{outs_in};
-    ghost use Rattle.hlr_owners.specs.Seats.{AllHome, Seating};
+    ghost use Rattle.hlr_owners.specs.Owners.{AllHome, OwnersState};
     ghost use Rattle.hlr_lent.specs.Rings.{HaveRings};
 
-    ghost Value = { Seating };
+    ghost Value = { OwnersState };
 
     ghost view = { λ l. l.register };
 
-    ghost invariant = { λ l. HaveRings (outs_in l.register.seats) l.rings.items × (length l.rings.items ≡ MOST_PARTS) × (l.lends ≡ false → AllHome l.register.seats) };
+    ghost invariant = { λ l. HaveRings (outs_in l.register.owners) l.rings.items × (length l.rings.items ≡ MOST_PARTS) × (l.lends ≡ false → AllHome l.register.owners) };
 }
 
 /// Takes the ring of a part out of its place, if there is one.
@@ -106,7 +106,7 @@ fn allowed(regions: &Regions, event: &Event) -> Result<(), Refusal>
 impl Lender {
     /// Makes a lender of the parts of a register, which are all at home. It takes no memory.
     pub fn of(register: Register) -> Lender
-        requires { AllHome register.seats }
+        requires { AllHome register.owners }
         ensures { result ≡ register }
     {
         let mut rings = ArrayVec::new();
@@ -123,7 +123,7 @@ impl Lender {
     /// Gives the register, with the parts that are out as they were lent.
     pub fn register(&self) -> &Register
         ensures value { result.now ≡ self.now }
-        ensures seated { AreSeated self.now }
+        ensures ruled { AreRuled self.now }
     {
         // For the prover: each region has its owner beside it.
         let _board = self.register.board();
@@ -145,7 +145,7 @@ impl Lender {
     /// Lends a part that is at home to an owner, for whatever thread. `Memory` where a growth was refused: then nothing
     /// is changed.
     pub fn lend(&mut self, alloc: Global, part: u8) -> Result<Box<Owner>, Refusal>
-        requires { slice_index_or (homes_in self.old.seats) part false ≡ true }
+        requires { slice_index_or (homes_in self.old.owners) part false ≡ true }
         ensures lent { IfOk result (λ owner. IsLent part self.old owner.value self.new) }
         ensures refused { OnErr result ((self.new ≡ self.old) × (result ≡ Err Refusal.Memory)) }
     {
@@ -201,8 +201,8 @@ impl Lender {
     pub fn apply(&mut self, event: Event) -> Reply
         requires { IsHomeTo event self.old }
         ensures step { IsStep event (store_in self.old) result (store_in self.new) }
-        ensures house { IsHouseAfter event result self.old self.new }
-        ensures beside { IsStepBeside event self.old result self.new }
+        ensures homes { AreHomesAfter event result self.old self.new }
+        ensures while_out { IsStepWhileOut event self.old result self.new }
     {
         self.register.apply(event)
     }
@@ -212,8 +212,8 @@ impl Lender {
     /// whatever the regions refuse.
     pub fn known(&self, event: &Event) -> Option<Refusal>
         ensures step { IfSome result (λ why. IsStep event.now (store_in self.now) (Reply.Refused why) (store_in self.now)) }
-        ensures house { IfSome result (λ why. IsHouseAfter event.now (Reply.Refused why) self.now self.now) }
-        ensures beside { IfSome result (λ why. IsStepBeside event.now self.now (Reply.Refused why) self.now) }
+        ensures homes { IfSome result (λ why. AreHomesAfter event.now (Reply.Refused why) self.now self.now) }
+        ensures while_out { IfSome result (λ why. IsStepWhileOut event.now self.now (Reply.Refused why) self.now) }
         ensures asking { result ≡ None → IsAsking event.now self.now }
     {
         match self.register.route(event) {
@@ -227,8 +227,8 @@ impl Lender {
     /// `known` is answered even then.
     pub fn ask(&mut self, event: Event) -> Option<Reply>
         ensures step { IfSome result (λ reply. IsStep event (store_in self.old) reply (store_in self.new)) }
-        ensures house { IfSome result (λ reply. IsHouseAfter event reply self.old self.new) }
-        ensures beside { IfSome result (λ reply. IsStepBeside event self.old reply self.new) }
+        ensures homes { IfSome result (λ reply. AreHomesAfter event reply self.old self.new) }
+        ensures while_out { IfSome result (λ reply. IsStepWhileOut event self.old reply self.new) }
         ensures away { result ≡ None → IsAway event self.old }
         ensures same { result ≡ None → self.new ≡ self.old }
     {
@@ -246,8 +246,8 @@ impl Lender {
     pub fn recut_to(&mut self, bounds: &[u64]) -> Result<u8, Refusal>
         requires { IsHomeToCut bounds.now self.old }
         ensures recut { IsRecut bounds.now (store_in self.old) result (store_in self.new) }
-        ensures house { IsSameHouse self.old self.new }
-        ensures beside { IsRecutBeside bounds.now self.old result self.new }
+        ensures homes { HaveSameHomes self.old self.new }
+        ensures while_out { IsRecutWhileOut bounds.now self.old result self.new }
     {
         self.register.recut_to(bounds)
     }

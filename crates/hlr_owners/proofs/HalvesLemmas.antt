@@ -23,7 +23,7 @@ use Rattle.part_table.specs.declared.region.TheConstants.{END}
 use Rattle.view_board.specs.Desks.{Station}
 use Rattle.holding.specs.Held.{HoldingState, PieceState, IsHolding, IsPiece}
 use Rattle.holding.specs.Moved.{IsInside, IsGiven, IsTaken, IsParted, IsMerged, as_piece}
-use Rattle.hlr_owners.specs.Held.{Owner, of_holding, of_piece, IsLawful, IsOwner}
+use Rattle.hlr_owners.specs.Held.{OwnerState, of_holding, of_piece, IsLawful, IsOwnerState}
 use Rattle.hlr_owners.proofs.HeldLemmas.{holding_keeps, piece_keeps}
 use Rattle.hlr_owners.proofs.StretchLemmas.{between_inside, between_halves}
 
@@ -117,13 +117,13 @@ taken_sides High piece before after is_piece is_part zones meets is =
     record { from = sym whole.0; below = meets; above = refl; to = sym whole.1; low_zones = sym whole.2; high_zones = zones ∙ sym whole.2; low_rules = is_part; high_rules = is_piece; rows = sym whole.3 }
 
 -- an owner's rows are those of its region in a book
-abbrev pub HasRows : Book → Region → Owner → Type 0
-HasRows book region owner = rows_between region.lo region.hi book ≡ owner.part.book
+abbrev pub HasRows : Book → Region → OwnerState → Type 0
+HasRows book region state = rows_between region.lo region.hi book ≡ state.part.book
 
 -- an owner that keeps the rules beside a region, and has its rows
-pub record IsOwnerIn (width : ℕ) (book : Book) (region : Region) (owner : Owner) : Type 0 where
-  pub is : IsOwner width region owner
-  pub has : HasRows book region owner
+pub record IsOwnerIn (width : ℕ) (book : Book) (region : Region) (state : OwnerState) : Type 0 where
+  pub is : IsOwnerState width region state
+  pub has : HasRows book region state
 
 -- the halves have the rows of the halves of a region
 two_rows : (region : Region) (at : ℕ) (whole low high : PartState) (book : Book) → rows_between region.lo region.hi book ≡ whole.book → whole.lo ≡ region.lo → whole.hi ≡ region.hi → AreHalves at whole low high
@@ -144,21 +144,21 @@ two_rows region at whole low high book has from to two =
 
 module _ (width : ℕ) (book : Book) (at : ℕ) where
   -- each half of an owner has its half of the region
-  module _ (region : Region) (whole : Owner) (owned : IsOwnerIn width book region whole) where
-    low_in : (low : Owner) (high : PartState) → AreHalves at whole.part low.part high → IsLawful low → (q : Place) → IsOwnerIn width book (record { lo = region.lo; hi = at; place = q }) low
+  module _ (region : Region) (whole : OwnerState) (owned : IsOwnerIn width book region whole) where
+    low_in : (low : OwnerState) (high : PartState) → AreHalves at whole.part low.part high → IsLawful low → (q : Place) → IsOwnerIn width book (record { lo = region.lo; hi = at; place = q }) low
     low_in low high two keeps q = record {
       is = record { from = two.from ∙ owned.is.from; to = two.below; zones = two.low_zones ∙ owned.is.zones; keeps = keeps };
       has = (two_rows region at whole.part low.part high book owned.has owned.is.from owned.is.to two).0;
     }
 
-    high_in : (low : PartState) (high : Owner) → AreHalves at whole.part low high.part → IsLawful high → (q : Place) → IsOwnerIn width book (record { lo = at; hi = region.hi; place = q }) high
+    high_in : (low : PartState) (high : OwnerState) → AreHalves at whole.part low high.part → IsLawful high → (q : Place) → IsOwnerIn width book (record { lo = at; hi = region.hi; place = q }) high
     high_in low high two keeps q = record {
       is = record { from = two.above; to = two.to ∙ owned.is.to; zones = two.high_zones ∙ owned.is.zones; keeps = keeps };
       has = (two_rows region at whole.part low high.part book owned.has owned.is.from owned.is.to two).1;
     }
 
   -- an owner of both has the regions of both
-  both_in : (first second : Region) (low high whole : Owner) → IsRowsOf 1 END book → IsOwnerIn width book first low → IsOwnerIn width book second high → AreHalves at whole.part low.part high.part → IsLawful whole
+  both_in : (first second : Region) (low high whole : OwnerState) → IsRowsOf 1 END book → IsOwnerIn width book first low → IsOwnerIn width book second high → AreHalves at whole.part low.part high.part → IsLawful whole
       → (q : Place) → IsOwnerIn width book (record { lo = first.lo; hi = second.hi; place = q }) whole
   both_in first second low high whole rows is_low is_high both keeps q =
       let from = is_low.is.from in

@@ -10,7 +10,7 @@ use Rattle.view_board.specs.Views.{nobody}
 use Rattle.view_delta.specs.Pending.{pending_at}
 use Rattle.holding.specs.Held.{HoldingState, PieceState, IsHolding, IsPiece}
 use Rattle.holding.proofs.HeldLemmas.{few}
-use Rattle.hlr_owners.specs.Held.{Owner, of_holding, of_piece, IsLawful, IsOwner}
+use Rattle.hlr_owners.specs.Held.{OwnerState, of_holding, of_piece, IsLawful, IsOwnerState}
 use Rattle.hlr_owners.specs.Inside.{IsOpened}
 
 -- an empty book keeps the rules
@@ -35,9 +35,9 @@ piece_keeps piece is = record {
 }
 
 -- a holding with no row, for a region and a width of zones
-pub record IsFresh (width : ℕ) (region : Region) (owner : Owner) : Type 0 where
-  pub owned : IsOwner width region owner
-  pub no_rows : owner.part.book ≡ empty_book
+pub record IsFresh (width : ℕ) (region : Region) (state : OwnerState) : Type 0 where
+  pub owned : IsOwnerState width region state
+  pub no_rows : state.part.book ≡ empty_book
 
 pub fresh_holding : (width : ℕ) (region : Region) (holding : HoldingState) → IsOpened region width holding → IsFresh width region (of_holding holding)
 fresh_holding width region holding is = record {
@@ -50,13 +50,13 @@ abbrev pub IsAtMost : ℕ → ℤ → Type 0
 IsAtMost most z = (neg_ℤ (pos most) ≤ℤ z) × (z ≤ℤ pos most)
 
 -- the most that one owner has published of a cell, and that is pending of it: a net and a count of 2^40 at most
-abbrev pub owner_most : ℕ
-owner_most = 2 ^ 41
+abbrev pub state_most : ℕ
+state_most = 2 ^ 41
 
-pub pending_fits : (owner : Owner) → IsLawful owner → (c : ℕ) → c < CELLS → IsAtMost owner_most (pending_at owner.pending c)
-pending_fits owner is c below =
+pub pending_fits : (state : OwnerState) → IsLawful state → (c : ℕ) → c < CELLS → IsAtMost state_most (pending_at state.pending c)
+pending_fits state is c below =
     let law = is.law c below in
     let low = (is.small c below).0 in
     let high = (is.small c below).1 in
-    let most = few owner.part is.rules c in
+    let most = few state.part is.rules c in
     (omega (arith, ints), omega (arith, ints))

@@ -16,13 +16,13 @@ use Rattle.part_table.specs.declared.region.Place.TheVariants as place
 use Rattle.part_table.proofs.IndexLemmas.{is_part_there}
 use Rattle.part_table.proofs.PlaceLemmas.{blank, place_at}
 use Rattle.hlr_owners.specs.Inside.{AreHome}
-use Rattle.hlr_owners.specs.Lodged.{Lodged}
+use Rattle.hlr_owners.specs.PartOwnerState.{PartOwnerState}
 use Rattle.hlr_owners.specs.Recut.{IsHomeToCut, IsHomeToMove}
-use Rattle.hlr_owners.specs.Seats.{is_home, homes_in, IsKind, Seating, AreSeated, IsPartHome, IsPlaceHome, IsHomeFor, IsHomeFrom, AllHome}
-use Rattle.hlr_owners.specs.declared.lodging.Seat.{Seat}
-use Rattle.hlr_owners.specs.declared.lodging.Seat.TheVariants.{Part, Piece}
-use Rattle.hlr_owners.proofs.PartLemmas.{lodged_home}
-use Rattle.hlr_owners.proofs.SeatLemmas.{seat_is, seat_there}
+use Rattle.hlr_owners.specs.Owners.{is_home, homes_in, IsKind, OwnersState, AreRuled, IsPartHome, IsPlaceHome, IsHomeFor, IsHomeFrom, AllHome}
+use Rattle.hlr_owners.specs.declared.part_owner.RegionOwner.{RegionOwner}
+use Rattle.hlr_owners.specs.declared.part_owner.RegionOwner.TheVariants.{Part, Piece}
+use Rattle.hlr_owners.proofs.PartLemmas.{part_state_home}
+use Rattle.hlr_owners.proofs.RegionOwnerLemmas.{owner_is, owner_there}
 
 -- each of a list of trues is true, and what is behind them counts as true
 trues_at : (homes : List Bool) (p : ℕ) → AllByRecursion (λ (home : Bool). home ≡ true) homes → get_or homes p true ≡ true
@@ -43,46 +43,46 @@ later_home (home ∷ homes) zero all = all.1
 later_home (home ∷ homes) (suc p) all = later_home homes p all
 
 -- with all parts at home each is, and whoever has an s_id
-pub part_home_of_all : (p : ℕ) (h : Seating) → AllHome h.seats → IsPartHome p h
-part_home_of_all p h all = trues_at (homes_in h.seats) p all
+pub part_home_of_all : (p : ℕ) (h : OwnersState) → AllHome h.owners → IsPartHome p h
+part_home_of_all p h all = trues_at (homes_in h.owners) p all
 
-place_home_of_all : (o : Option Place) (h : Seating) → AllHome h.seats → IsPlaceHome o h
+place_home_of_all : (o : Option Place) (h : OwnersState) → AllHome h.owners → IsPlaceHome o h
 place_home_of_all (Some (place.Part p)) h all = part_home_of_all p h all
 place_home_of_all (Some (place.Piece n)) h all = tt
 place_home_of_all None h all = tt
 
-pub home_of_all : (s_id : ℕ) (h : Seating) → AllHome h.seats → IsHomeFor s_id h
+pub home_of_all : (s_id : ℕ) (h : OwnersState) → AllHome h.owners → IsHomeFor s_id h
 home_of_all s_id h all = place_home_of_all (place_of s_id h.regions) h all
 
 -- with the same parts at home a bound of a re-cut may move, and with all at home a re-cut
-pub cut_move_home : (bounds : List ℕ) (before now : Seating) (moves : List CutMove) (i : ℕ) (d : CutMove) → recut_answer before.regions bounds ≡ Ok moves → IsHomeToCut bounds before
-    → i < length moves → homes_in now.seats ≡ homes_in before.seats → IsHomeToMove now (get_or moves i d)
+pub cut_move_home : (bounds : List ℕ) (before now : OwnersState) (moves : List CutMove) (i : ℕ) (d : CutMove) → recut_answer before.regions bounds ≡ Ok moves → IsHomeToCut bounds before
+    → i < length moves → homes_in now.owners ≡ homes_in before.owners → IsHomeToMove now (get_or moves i d)
 cut_move_home bounds before now moves i d answer home within same =
     rw same (each_at (IsHomeToMove before) moves i d (rw answer at home) within)
 
-moves_home : (h : Seating) (moves : List CutMove) → AllHome h.seats → AllByRecursion (IsHomeToMove h) moves
+moves_home : (h : OwnersState) (moves : List CutMove) → AllHome h.owners → AllByRecursion (IsHomeToMove h) moves
 moves_home h [] all = tt
 moves_home h (move ∷ moves) all = ((part_home_of_all (move.bound - 1) h all, part_home_of_all move.bound h all), moves_home h moves all)
 
-pub cut_home_of_all : (bounds : List ℕ) (h : Seating) → AllHome h.seats → IsHomeToCut bounds h
+pub cut_home_of_all : (bounds : List ℕ) (h : OwnersState) → AllHome h.owners → IsHomeToCut bounds h
 cut_home_of_all bounds h all = of_answer (recut_answer h.regions bounds)
   where
     of_answer : (answer : Result (List CutMove) Refusal) → IfOk answer (AllByRecursion (IsHomeToMove h))
     of_answer (Ok moves) = moves_home h moves all
     of_answer (Err why) = tt
 
--- so is each seat
-pub each_home : (seats : List Seat) → AllHome seats → AreHome seats
+-- so is each owner
+pub each_home : (owners : List RegionOwner) → AllHome owners → AreHome owners
 each_home [] all = tt
-each_home (Part l ∷ seats) all = (all.0, each_home seats all.1)
-each_home (Piece b ∷ seats) all = (refl, each_home seats all)
+each_home (Part l ∷ owners) all = (all.0, each_home owners all.1)
+each_home (Piece b ∷ owners) all = (refl, each_home owners all)
 
-pub all_home : (seats : List Seat) → AreHome seats → AllHome seats
+pub all_home : (owners : List RegionOwner) → AreHome owners → AllHome owners
 all_home [] each = tt
-all_home (Part l ∷ seats) each = (each.0, all_home seats each.1)
-all_home (Piece b ∷ seats) each = all_home seats each.1
+all_home (Part l ∷ owners) each = (each.0, all_home owners each.1)
+all_home (Piece b ∷ owners) each = all_home owners each.1
 
--- so the test of all seats tells it
+-- so the test of all owners tells it
 pub each_passes : {X : Type 0} (test : X → Bool) (xs : List X) → list_all test xs ≡ true → AllByRecursion (λ x. test x ≡ true) xs
 each_passes test [] all = tt
 each_passes test (x ∷ xs) all = by_test (test x) (λ e. (e, each_passes test xs (rw e at all))) (λ e. let no : false ≡ true = rw e at all in absurd cc)
@@ -91,24 +91,24 @@ pub all_pass : {X : Type 0} (test : X → Bool) (xs : List X) → AllByRecursion
 all_pass test [] each = refl
 all_pass test (x ∷ xs) each = rw each.0 (all_pass test xs each.1)
 
-pub all_home_is : (seats : List Seat) → IsTrue (list_all is_home seats) ↔ AllHome seats
-all_home_is seats = (λ all. all_home seats (each_passes is_home seats all), λ all. all_pass is_home seats (each_home seats all))
+pub all_home_is : (owners : List RegionOwner) → IsTrue (list_all is_home owners) ↔ AllHome owners
+all_home_is owners = (λ all. all_home owners (each_passes is_home owners all), λ all. all_pass is_home owners (each_home owners all))
 
-pub home_at : (seats : List Seat) (i : ℕ) (s : Seat) → AllHome seats → i < length seats → s ≡ get_or seats i s → is_home s ≡ true
+pub home_at : (owners : List RegionOwner) (i : ℕ) (s : RegionOwner) → AllHome owners → i < length owners → s ≡ get_or owners i s → is_home s ≡ true
 home_at [] i s all within is = absurd (omega arith)
-home_at (Part l ∷ seats) zero s all within is = rw is all.0
-home_at (Part l ∷ seats) (suc i) s all within is = home_at seats i s all.1 (omega arith) is
-home_at (Piece b ∷ seats) zero s all within is = rw is refl
-home_at (Piece b ∷ seats) (suc i) s all within is = home_at seats i s all (omega arith) is
+home_at (Part l ∷ owners) zero s all within is = rw is all.0
+home_at (Part l ∷ owners) (suc i) s all within is = home_at owners i s all.1 (omega arith) is
+home_at (Piece b ∷ owners) zero s all within is = rw is refl
+home_at (Piece b ∷ owners) (suc i) s all within is = home_at owners i s all (omega arith) is
 
 -- the part who has an s_id is at home
-module _ (h : Seating) (are : AreSeated h) (s_id i : ℕ) (at : position (lies_in s_id) h.regions ≡ Some i) (l : Lodged) (is : Part l ≡ get_or h.seats i (Part l)) where
+module _ (h : OwnersState) (are : AreRuled h) (s_id i : ℕ) (at : position (lies_in s_id) h.regions ≡ Some i) (l : PartOwnerState) (is : Part l ≡ get_or h.owners i (Part l)) where
   within : i < length h.regions
   within = (position-Some (lies_in s_id) h.regions i blank at).0
 
   of_place : (q : Place) → (get_or h.regions i blank).place ≡ q → IsKind q (Part l) → IsPlaceHome (Some q) h → l.home ≡ true
-  of_place (place.Part p) placed kind home = lodged_home h are p i within (is_part_there p (get_or h.regions i blank) placed) l is home
+  of_place (place.Part p) placed kind home = part_state_home h are p i within (is_part_there p (get_or h.regions i blank) placed) l is home
   of_place (place.Piece n) placed kind home = absurd kind
 
-  pub seat_home : IsHomeFor s_id h → l.home ≡ true
-  seat_home home = of_place (get_or h.regions i blank).place refl (seat_is h are i (Part l) is (seat_there h are s_id i at)).kind (rw (place_at s_id h.regions i blank at) at home)
+  pub owner_home : IsHomeFor s_id h → l.home ≡ true
+  owner_home home = of_place (get_or h.regions i blank).place refl (owner_is h are i (Part l) is (owner_there h are s_id i at)).kind (rw (place_at s_id h.regions i blank at) at home)

@@ -1,6 +1,6 @@
--- A part lent out, and seats that stand for others while parts are out.
+-- A part lent out, and owners that stand for others while parts are out.
 use Rattle.view_board.specs.Views.{IsWide}
-use Rattle.hlr_owners.proofs.ZipLemmas.{each_beside, sum_beside}
+use Rattle.hlr_owners.proofs.ZipLemmas.{each_while_out, sum_while_out}
 use Rattle.std.proofs.Common.{◌≡◌, ◌∙◌, refl, sym, ap, ℕ, zero, suc, ◌<◌, ◌≤◌, List, [], ◌∷◌, length, get_or, set, arith, true, false, Some, subst}
 use Rattle.std.specs.Prelude.{Box, slice_get, position, nat_le, nat_lt, sum_by, Option}
 use Rattle.std.specs.declared.alloc.Global.{Global}
@@ -12,7 +12,7 @@ use Rattle.std.proofs.lemmas.List.Quantifiers.{position-Some}
 use Rattle.std.proofs.lemmas.Option.{slice_get_read}
 use Rattle.part_table.specs.Region.{is_part, lies_in}
 use Rattle.part_table.specs.Regions.{IsConsecutive}
-use Rattle.hlr_owners.proofs.OwnerLemmas.{lies_within}
+use Rattle.hlr_owners.proofs.StateLemmas.{lies_within}
 use Rattle.atomic_table.specs.Seated.{TableId}
 use Rattle.part_table.specs.declared.region.Region.{Region}
 use Rattle.part_table.proofs.PlaceLemmas.{blank}
@@ -22,36 +22,36 @@ use Rattle.view_board.specs.Desks.{Station}
 use Rattle.hlr_owners.specs.Desks.{AreDesks, HasOneSlot, IsOfBoard, owns_one}
 use Rattle.hlr_owners.proofs.DeskLemmas.{same_one}
 use Rattle.hlr_owners.proofs.PostLemmas.{desks_posted}
-use Rattle.hlr_owners.specs.Lodged.{Lodged}
-use Rattle.hlr_owners.specs.Seats.{owner_of, owners_in, IsSeat, Seating, AreSeated, IsSameOwner, IsLaterSeat, IsBackFor, IsLent, desks_in}
-use Rattle.hlr_owners.specs.declared.lodging.Seat.{Seat}
-use Rattle.hlr_owners.specs.declared.lodging.Seat.TheVariants.{Part, Piece}
+use Rattle.hlr_owners.specs.PartOwnerState.{PartOwnerState}
+use Rattle.hlr_owners.specs.Owners.{state_of, states_in, IsRegionOwner, OwnersState, AreRuled, IsSameOwner, IsLaterOwner, IsBackFor, IsLent, desks_in}
+use Rattle.hlr_owners.specs.declared.part_owner.RegionOwner.{RegionOwner}
+use Rattle.hlr_owners.specs.declared.part_owner.RegionOwner.TheVariants.{Part, Piece}
 use Rattle.hlr_owners.proofs.PartLemmas.{ahead, at_ahead, set_ahead}
-use Rattle.hlr_owners.proofs.SeatLemmas.{exchanged, part_kind, seat_is, region_there, region_behind}
+use Rattle.hlr_owners.proofs.RegionOwnerLemmas.{exchanged, part_kind, owner_is, region_there, region_behind}
 
-pub lent_owners : (seats : List Seat) (i : ℕ) (l m : Lodged) → Part l ≡ get_or seats i (Part l) → m.holding ≡ l.holding → owners_in (set seats i (Part m)) ≡ owners_in seats
-lent_owners seats i l m is same = map-set_same owner_of seats i (Part m) (Part l) (ap of_holding same ∙ ap owner_of is)
+pub lent_states : (owners : List RegionOwner) (i : ℕ) (l m : PartOwnerState) → Part l ≡ get_or owners i (Part l) → m.holding ≡ l.holding → states_in (set owners i (Part m)) ≡ states_in owners
+lent_states owners i l m is same = map-set_same state_of owners i (Part m) (Part l) (ap of_holding same ∙ ap state_of is)
 
--- seats with others that stand for them keep the rules
-seat_later : (width : ℕ) (r : Region) (s t : Seat) → IsLaterSeat s t → IsSeat width r s → IsSeat width r t
-seat_later width r (Part l) (Part m) later is = record {
+-- owners with others that stand for them keep the rules
+owner_later : (width : ℕ) (r : Region) (s t : RegionOwner) → IsLaterOwner s t → IsRegionOwner width r s → IsRegionOwner width r t
+owner_later width r (Part l) (Part m) later is = record {
   kind = part_kind r.place l m is.kind;
-  owner = record { from = later.0.lo ∙ is.owner.from; to = later.0.hi ∙ is.owner.to; zones = later.0.width ∙ is.owner.zones; keeps = later.1 is.owner.keeps };
+  state = record { from = later.0.lo ∙ is.state.from; to = later.0.hi ∙ is.state.to; zones = later.0.width ∙ is.state.zones; keeps = later.1 is.state.keeps };
 }
-seat_later width r (Part l) (Piece b) later is = absurd later
-seat_later width r (Piece a) (Part m) later is = absurd later
-seat_later width r (Piece a) (Piece b) later is = rw later is
+owner_later width r (Part l) (Piece b) later is = absurd later
+owner_later width r (Piece a) (Part m) later is = absurd later
+owner_later width r (Piece a) (Piece b) later is = rw later is
 
-zip_later : (width : ℕ) (regions : List Region) (seats ks : List Seat) → AllZip IsLaterSeat seats ks → AllZip (IsSeat width) regions seats → AllZip (IsSeat width) regions ks
+zip_later : (width : ℕ) (regions : List Region) (owners ks : List RegionOwner) → AllZip IsLaterOwner owners ks → AllZip (IsRegionOwner width) regions owners → AllZip (IsRegionOwner width) regions ks
 zip_later width [] [] [] later each = tt
 zip_later width [] [] (k ∷ ks) later each = absurd later
-zip_later width [] (s ∷ seats) ks later each = absurd each
+zip_later width [] (s ∷ owners) ks later each = absurd each
 zip_later width (r ∷ regions) [] ks later each = absurd each
-zip_later width (r ∷ regions) (s ∷ seats) [] later each = absurd later
-zip_later width (r ∷ regions) (s ∷ seats) (k ∷ ks) later each = (seat_later width r s k later.0 each.0, zip_later width regions seats ks later.1 each.1)
+zip_later width (r ∷ regions) (s ∷ owners) [] later each = absurd later
+zip_later width (r ∷ regions) (s ∷ owners) (k ∷ ks) later each = (owner_later width r s k later.0 each.0, zip_later width regions owners ks later.1 each.1)
 
-pub seated_later : (h : Seating) (ks : List Seat) → AreSeated h → AllZip IsLaterSeat h.seats ks → AreSeated (record h { seats = ks })
-seated_later h ks are later = record { are = are.are; each = zip_later h.width h.regions h.seats ks later are.each; zones = are.zones }
+pub ruled_later : (h : OwnersState) (ks : List RegionOwner) → AreRuled h → AllZip IsLaterOwner h.owners ks → AreRuled (record h { owners = ks })
+ruled_later h ks are later = record { are = are.are; each = zip_later h.width h.regions h.owners ks later are.each; zones = are.zones }
 
 -- a desk that another one may stand for
 pub record IsLaterDesk (before after : Station) : Type 0 where
@@ -59,43 +59,43 @@ pub record IsLaterDesk (before after : Station) : Type 0 where
   pub owned : after.view.owned ≡ before.view.owned
   pub wide : IsWide before.view → IsWide after.view
 
-desks_zip : (seats ks : List Seat) → AllZip IsLaterSeat seats ks → AllZip IsLaterDesk (desks_in seats) (desks_in ks)
+desks_zip : (owners ks : List RegionOwner) → AllZip IsLaterOwner owners ks → AllZip IsLaterDesk (desks_in owners) (desks_in ks)
 desks_zip [] [] later = tt
 desks_zip [] (k ∷ ks) later = absurd later
-desks_zip (s ∷ seats) [] later = absurd later
-desks_zip (Part l ∷ seats) (Part m ∷ ks) later = (record { board = later.0.0.board; owned = later.0.0.owned; wide = later.0.2 }, desks_zip seats ks later.1)
-desks_zip (Part l ∷ seats) (Piece b ∷ ks) later = absurd later.0
-desks_zip (Piece a ∷ seats) (Part m ∷ ks) later = absurd later.0
-desks_zip (Piece a ∷ seats) (Piece b ∷ ks) later = desks_zip seats ks later.1
+desks_zip (s ∷ owners) [] later = absurd later
+desks_zip (Part l ∷ owners) (Part m ∷ ks) later = (record { board = later.0.0.board; owned = later.0.0.owned; wide = later.0.2 }, desks_zip owners ks later.1)
+desks_zip (Part l ∷ owners) (Piece b ∷ ks) later = absurd later.0
+desks_zip (Piece a ∷ owners) (Part m ∷ ks) later = absurd later.0
+desks_zip (Piece a ∷ owners) (Piece b ∷ ks) later = desks_zip owners ks later.1
 
 -- and their desks share the slots
-pub desks_later : (board : TableId) (spare : Station) (seats ks : List Seat) → AllZip IsLaterSeat seats ks → AreDesks board spare (desks_in seats) → AreDesks board spare (desks_in ks)
-desks_later board spare seats ks later are = record {
-  of_board = (are.of_board.0, each_beside IsLaterDesk (IsOfBoard board) (IsOfBoard board) (λ one other pair is. record { same = pair.board ∙ is.same; wide = pair.wide is.wide }) (desks_in seats) (desks_in ks) (desks_zip seats ks later) are.of_board.1);
+pub desks_later : (board : TableId) (spare : Station) (owners ks : List RegionOwner) → AllZip IsLaterOwner owners ks → AreDesks board spare (desks_in owners) → AreDesks board spare (desks_in ks)
+desks_later board spare owners ks later are = record {
+  of_board = (are.of_board.0, each_while_out IsLaterDesk (IsOfBoard board) (IsOfBoard board) (λ one other pair is. record { same = pair.board ∙ is.same; wide = pair.wide is.wide }) (desks_in owners) (desks_in ks) (desks_zip owners ks later) are.of_board.1);
   shares = record {
     once = λ slot below. (
         let was = are.shares.once slot below in
         let one = sum_by-cons (owns_one slot) spare (desks_in ks) in
-        let other = sum_by-cons (owns_one slot) spare (desks_in seats) in
-        let same = sum_beside IsLaterDesk (owns_one slot) (λ one other pair. rw pair.owned refl) (desks_in seats) (desks_in ks) (desks_zip seats ks later) in
+        let other = sum_by-cons (owns_one slot) spare (desks_in owners) in
+        let same = sum_while_out IsLaterDesk (owns_one slot) (λ one other pair. rw pair.owned refl) (desks_in owners) (desks_in ks) (desks_zip owners ks later) in
         omega arith);
-    alone = each_beside IsLaterDesk HasOneSlot HasOneSlot (λ one other pair is. same_one one other pair.owned is) (desks_in seats) (desks_in ks) (desks_zip seats ks later) are.shares.alone;
+    alone = each_while_out IsLaterDesk HasOneSlot HasOneSlot (λ one other pair is. same_one one other pair.owned is) (desks_in owners) (desks_in ks) (desks_zip owners ks later) are.shares.alone;
     idle = are.shares.idle;
   };
 }
 
--- each seat may stand for itself
-pub later_self : (seats : List Seat) → AllZip IsLaterSeat seats seats
+-- each owner may stand for itself
+pub later_self : (owners : List RegionOwner) → AllZip IsLaterOwner owners owners
 later_self [] = tt
-later_self (Part l ∷ seats) = ((record { lo = refl; hi = refl; width = refl; board = refl; owned = refl }, λ lawful. lawful, λ wide. wide), later_self seats)
-later_self (Piece b ∷ seats) = (refl, later_self seats)
+later_self (Part l ∷ owners) = ((record { lo = refl; hi = refl; width = refl; board = refl; owned = refl }, λ lawful. lawful, λ wide. wide), later_self owners)
+later_self (Piece b ∷ owners) = (refl, later_self owners)
 
--- a holding that comes home has a seat
-back_there : (seats : List Seat) (i : ℕ) (k : HoldingState) → IsBackFor (slice_get seats i) k → (l : Lodged) × (Part l ≡ get_or seats i (Part l)) × (i < length seats) × (l.home ≡ false) × IsSameOwner l.holding k
+-- a holding that comes home has an owner
+back_there : (owners : List RegionOwner) (i : ℕ) (k : HoldingState) → IsBackFor (slice_get owners i) k → (l : PartOwnerState) × (Part l ≡ get_or owners i (Part l)) × (i < length owners) × (l.home ≡ false) × IsSameOwner l.holding k
 back_there [] i k back = absurd back
-back_there (Part l ∷ seats) zero k back = (l, refl, omega arith, back.0, back.1)
-back_there (Piece b ∷ seats) zero k back = absurd back
-back_there (s ∷ seats) (suc i) k back = let rest = back_there seats i k back in let lt = rest.2 in (rest.0, rest.1, omega arith, rest.3, rest.4)
+back_there (Part l ∷ owners) zero k back = (l, refl, omega arith, back.0, back.1)
+back_there (Piece b ∷ owners) zero k back = absurd back
+back_there (s ∷ owners) (suc i) k back = let rest = back_there owners i k back in let lt = rest.2 in (rest.0, rest.1, omega arith, rest.3, rest.4)
 
 -- an s_id lies in one region
 pub lies_once : (from s_id : ℕ) (regions : List Region) (i j : ℕ) → IsConsecutive from regions → i < length regions → j < length regions
@@ -115,55 +115,55 @@ lies_once from s_id (r ∷ regions) (suc i) zero consecutive lt below one two =
 lies_once from s_id (r ∷ regions) (suc i) (suc j) consecutive lt below one two = ap suc (lies_once r.hi s_id regions i j consecutive.2 (omega arith) (omega arith) one two)
 
 -- which is that of its first subscriber
-pub back_index : (h : Seating) (are : AreSeated h) (k : HoldingState) → IsHolding k → (i j : ℕ) → position (lies_in k.part.lo) h.regions ≡ Some i → IsBackFor (slice_get h.seats j) k → i ≡ j
+pub back_index : (h : OwnersState) (are : AreRuled h) (k : HoldingState) → IsHolding k → (i j : ℕ) → position (lies_in k.part.lo) h.regions ≡ Some i → IsBackFor (slice_get h.owners j) k → i ≡ j
 back_index h are k keeps i j index back =
     let here = position-Some (lies_in k.part.lo) h.regions i blank index in
-    let there = back_there h.seats j k back in
-    let seat = seat_is h are j (Part there.0) there.1 there.2 in
-    let low = seat.owner.from in
-    let high = seat.owner.to in
+    let there = back_there h.owners j k back in
+    let owner = owner_is h are j (Part there.0) there.1 there.2 in
+    let low = owner.state.from in
+    let high = owner.state.to in
     let lo = there.4.lo in
     let hi = there.4.hi in
     let some = keeps.rules.range.1 in
     let inside : lies_in k.part.lo (get_or h.regions j blank) ≡ true = grind (arith, nat_tests) in
     lies_once 1 k.part.lo h.regions i j are.are.consecutive here.0 (region_there h are j (Part there.0) there.1 there.2) here.1 inside
 
-pub back_here : (h : Seating) (are : AreSeated h) (k : HoldingState) → IsHolding k → (i : ℕ) → position (lies_in k.part.lo) h.regions ≡ Some i → ((j : ℕ) × IsBackFor (slice_get h.seats j) k) → IsBackFor (slice_get h.seats i) k
-back_here h are k keeps i index back = subst (λ (n : ℕ). IsBackFor (slice_get h.seats n) k) (sym (back_index h are k keeps i back.0 index back.1)) back.1
+pub back_here : (h : OwnersState) (are : AreRuled h) (k : HoldingState) → IsHolding k → (i : ℕ) → position (lies_in k.part.lo) h.regions ≡ Some i → ((j : ℕ) × IsBackFor (slice_get h.owners j) k) → IsBackFor (slice_get h.owners i) k
+back_here h are k keeps i index back = subst (λ (n : ℕ). IsBackFor (slice_get h.owners n) k) (sym (back_index h are k keeps i back.0 index back.1)) back.1
 
 -- at home again
-pub lodged_is : (m : Lodged) (k : HoldingState) → m.holding ≡ k → m.home ≡ true → Part m ≡ Part (record { holding = k; home = true })
-lodged_is m k same home = rw (← same, ← home) refl
+pub part_state_is : (m : PartOwnerState) (k : HoldingState) → m.holding ≡ k → m.home ≡ true → Part m ≡ Part (record { holding = k; home = true })
+part_state_is m k same home = rw (← same, ← home) refl
 
-module _ (h : Seating) (are : AreSeated h) (i : ℕ) (k : HoldingState) (back : IsBackFor (slice_get h.seats i) k) (l : Lodged) (is : Part l ≡ get_or h.seats i (Part l)) where
-  facts : (i < length h.seats) × IsBackFor (Some (Part l)) k
+module _ (h : OwnersState) (are : AreRuled h) (i : ℕ) (k : HoldingState) (back : IsBackFor (slice_get h.owners i) k) (l : PartOwnerState) (is : Part l ≡ get_or h.owners i (Part l)) where
+  facts : (i < length h.owners) × IsBackFor (Some (Part l)) k
   facts =
-      let low = (back_there h.seats i k back).2 in
-      (low, subst (λ (o : Option Seat). IsBackFor o k) (slice_get_read h.seats (length h.seats) i (Part l) refl low is) back)
+      let low = (back_there h.owners i k back).2 in
+      (low, subst (λ (o : Option RegionOwner). IsBackFor o k) (slice_get_read h.owners (length h.owners) i (Part l) refl low is) back)
 
   pub home_is : l.home ≡ false
   home_is = facts.1.0
 
-  pub back_seated : (m : Lodged) → m.holding ≡ k → IsHolding k → AreSeated (record h { seats = set h.seats i (Part m) })
-  back_seated m same keeps = exchanged h are i l m is facts.0 (rw same (facts.1.1.lo, facts.1.1.hi, facts.1.1.width)) (rw same keeps)
+  pub back_ruled : (m : PartOwnerState) → m.holding ≡ k → IsHolding k → AreRuled (record h { owners = set h.owners i (Part m) })
+  back_ruled m same keeps = exchanged h are i l m is facts.0 (rw same (facts.1.1.lo, facts.1.1.hi, facts.1.1.width)) (rw same keeps)
 
   -- the desk that comes home has the slots that went
-  pub back_desks : (m : Lodged) (board : TableId) → m.holding ≡ k → IsHolding k → AreDesks board h.spare (desks_in h.seats) → AreDesks board h.spare (desks_in (set h.seats i (Part m)))
+  pub back_desks : (m : PartOwnerState) (board : TableId) → m.holding ≡ k → IsHolding k → AreDesks board h.spare (desks_in h.owners) → AreDesks board h.spare (desks_in (set h.owners i (Part m)))
   back_desks m board same keeps rules =
-      let at = at_ahead (λ (o : Lodged). o.holding.desk) h.seats i l l.holding.desk facts.0 is in
-      rw (set_ahead (λ (o : Lodged). o.holding.desk) h.seats i l m facts.0 is)
-      (desks_posted board h.spare (desks_in h.seats) (ahead h.seats i) l.holding.desk m.holding.desk at.0 at.1 rules (rw same facts.1.1.board) (rw same facts.1.1.owned) (rw same keeps.wide))
+      let at = at_ahead (λ (o : PartOwnerState). o.holding.desk) h.owners i l l.holding.desk facts.0 is in
+      rw (set_ahead (λ (o : PartOwnerState). o.holding.desk) h.owners i l m facts.0 is)
+      (desks_posted board h.spare (desks_in h.owners) (ahead h.owners i) l.holding.desk m.holding.desk at.0 at.1 rules (rw same facts.1.1.board) (rw same facts.1.1.owned) (rw same keeps.wide))
 
 -- a piece is not one that may come home
-pub back_piece : (seats : List Seat) (i : ℕ) (k : HoldingState) (b : Box PieceState Global) → IsBackFor (slice_get seats i) k → Piece b ≡ get_or seats i (Piece b) → ⊥
-back_piece seats i k b back is = subst (λ (o : Option Seat). IsBackFor o k) (slice_get_read seats (length seats) i (Piece b) refl (back_there seats i k back).2 is) back
+pub back_piece : (owners : List RegionOwner) (i : ℕ) (k : HoldingState) (b : Box PieceState Global) → IsBackFor (slice_get owners i) k → Piece b ≡ get_or owners i (Piece b) → ⊥
+back_piece owners i k b back is = subst (λ (o : Option RegionOwner). IsBackFor o k) (slice_get_read owners (length owners) i (Piece b) refl (back_there owners i k back).2 is) back
 
 -- a part whose holding goes out
-pub lent_from : (h : Seating) (p i : ℕ) (l m : Lodged) (k : HoldingState) → position (is_part p) h.regions ≡ Some i → i < length h.seats → Part l ≡ get_or h.seats i (Part l)
-    → k ≡ l.holding → l.home ≡ true → m ≡ record l { home = false } → IsLent p h k (record h { seats = set h.seats i (Part m) })
+pub lent_from : (h : OwnersState) (p i : ℕ) (l m : PartOwnerState) (k : HoldingState) → position (is_part p) h.regions ≡ Some i → i < length h.owners → Part l ≡ get_or h.owners i (Part l)
+    → k ≡ l.holding → l.home ≡ true → m ≡ record l { home = false } → IsLent p h k (record h { owners = set h.owners i (Part m) })
 lent_from h p i l m k at within is same home gone = record {
   index = i;
   region = at;
-  seat = slice_get_read h.seats (length h.seats) i (Part l) refl within is ∙ rw (same, ← home) refl;
+  owner = slice_get_read h.owners (length h.owners) i (Part l) refl within is ∙ rw (same, ← home) refl;
   away = rw (gone, ← same) refl;
 }

@@ -2,7 +2,7 @@ pub mod ApartFitLemmas
 pub mod ApartLemmas
 pub mod ApartRegionsLemmas
 pub mod ApartStoreLemmas
-pub mod BesideLemmas
+pub mod WhileOutLemmas
 pub mod DeskLemmas
 pub mod DissolveLemmas
 pub mod DivideLemmas
@@ -20,8 +20,8 @@ pub mod MayGatherLemmas
 pub mod OpenLemmas
 pub mod OpenedLemmas
 pub mod OutLemmas
-pub mod OwnerCountLemmas
-pub mod OwnerLemmas
+pub mod StateCountLemmas
+pub mod StateLemmas
 pub mod PartLemmas
 pub mod PartedDeskLemmas
 pub mod PartedLemmas
@@ -31,7 +31,7 @@ pub mod PutLemmas
 pub mod ReadLemmas
 pub mod RecutLemmas
 pub mod RefusedLemmas
-pub mod SeatLemmas
+pub mod RegionOwnerLemmas
 pub mod ShareLemmas
 pub mod SightLemmas
 pub mod StretchLemmas

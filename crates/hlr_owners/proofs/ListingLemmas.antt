@@ -18,13 +18,13 @@ use Rattle.part_table.proofs.PlaceLemmas.{blank}
 use Rattle.holding.specs.Held.{HoldingState}
 use Rattle.hlr_owners.specs.Answered.{is_loose}
 use Rattle.hlr_owners.specs.Read.{HasRowsOf, facility_answer, forwarding_answer, row_answer}
-use Rattle.hlr_owners.specs.Lodged.{Lodged}
-use Rattle.hlr_owners.specs.Seats.{AreSeated, Seating, book_in, owner_of, store_in}
+use Rattle.hlr_owners.specs.PartOwnerState.{PartOwnerState}
+use Rattle.hlr_owners.specs.Owners.{AreRuled, OwnersState, book_in, state_of, store_in}
 use Rattle.hlr_owners.specs.Store.{Store}
-use Rattle.hlr_owners.specs.declared.lodging.Seat.{Seat}
-use Rattle.hlr_owners.specs.declared.lodging.Seat.TheVariants.{Part}
-use Rattle.hlr_owners.proofs.OwnerLemmas.{lies_within}
-use Rattle.hlr_owners.proofs.SeatLemmas.{part_not_loose, read_answer, seat_in, seated_rows}
+use Rattle.hlr_owners.specs.declared.part_owner.RegionOwner.{RegionOwner}
+use Rattle.hlr_owners.specs.declared.part_owner.RegionOwner.TheVariants.{Part}
+use Rattle.hlr_owners.proofs.StateLemmas.{lies_within}
+use Rattle.hlr_owners.proofs.RegionOwnerLemmas.{part_not_loose, read_answer, owner_in, ruled_rows}
 
 -- a row stands at a key among those that pass a test as it does among all, where each row at the key passes
 kept_at : {X : Type 0} (key : X → ℕ) (test : X → Bool) (k : ℕ) (rows : List X) → AllByRecursion (λ row. key row ≡ k → test row ≡ true) rows → row_at key k (filter test rows) ≡ row_at key k rows
@@ -64,28 +64,28 @@ module _ (lo hi s_id : ℕ) (book : Book) (rules : IsBook book) (within : IsWith
       (λ row holds at. let same : row.s_id ≡ s_id = omega arith in rw same inside) book.subscribers rules.subscribers_in_range)
 
 -- the part that has a subscriber has what all rows have of them
-module _ (h : Seating) (are : AreSeated h) (s_id i : ℕ) (at : position (lies_in s_id) h.regions ≡ Some i) (l : Lodged) (is : Part l ≡ get_or h.seats i (Part l)) where
+module _ (h : OwnersState) (are : AreRuled h) (s_id i : ℕ) (at : position (lies_in s_id) h.regions ≡ Some i) (l : PartOwnerState) (is : Part l ≡ get_or h.owners i (Part l)) where
   abbrev region : Region
   region = get_or h.regions i blank
 
   here : (i < length h.regions) × (lies_in s_id region ≡ true) × ((k : ℕ) → k < i → lies_in s_id (get_or h.regions k blank) ≡ false)
   here = position-Some (lies_in s_id) h.regions i blank at
 
-  own : rows_between region.lo region.hi (book_in h.seats) ≡ l.holding.part.book
-  own = (seat_in h are i (Part l) is here.0).owner.has
+  own : rows_between region.lo region.hi (book_in h.owners) ≡ l.holding.part.book
+  own = (owner_in h are i (Part l) is here.0).state.has
 
   pub part_rows : HasRowsOf s_id (store_in h) l.holding
   part_rows = record {
     home = part_not_loose h are s_id i at l is;
     answers = read_answer h are s_id i at l is;
-    facility = λ t low. sym (facility_between region.lo region.hi s_id (book_in h.seats) (seated_rows h are).rules (lies_within s_id region here.1) t low)
+    facility = λ t low. sym (facility_between region.lo region.hi s_id (book_in h.owners) (ruled_rows h are).rules (lies_within s_id region here.1) t low)
         ∙ ap (λ (book : Book). facility_at book s_id t) own;
-    forwarding = λ t u low small. sym (forwarding_between region.lo region.hi s_id (book_in h.seats) (seated_rows h are).rules (lies_within s_id region here.1) t u low small)
+    forwarding = λ t u low small. sym (forwarding_between region.lo region.hi s_id (book_in h.owners) (ruled_rows h are).rules (lies_within s_id region here.1) t u low small)
         ∙ ap (λ (book : Book). forwarding_at book s_id t u) own;
   }
 
-  pub part_subscriber : subscriber_at (book_in h.seats) s_id ≡ subscriber_at l.holding.part.book s_id
-  part_subscriber = sym (subscriber_between region.lo region.hi s_id (book_in h.seats) (seated_rows h are).rules (lies_within s_id region here.1)) ∙ ap (λ (book : Book). subscriber_at book s_id) own
+  pub part_subscriber : subscriber_at (book_in h.owners) s_id ≡ subscriber_at l.holding.part.book s_id
+  part_subscriber = sym (subscriber_between region.lo region.hi s_id (book_in h.owners) (ruled_rows h are).rules (lies_within s_id region here.1)) ∙ ap (λ (book : Book). subscriber_at book s_id) own
 
 -- what a part's rows have is what is answered of all, and a loose piece answers Moving
 pub row_found : {R : Type 0} (s_id : ℕ) (store : Store) (found own o : Option R) (none : Refusal) → is_loose s_id store.regions ≡ false → found ≡ own → o ≡ own → ok_or o none ≡ row_answer s_id store found none
@@ -105,18 +105,18 @@ pub first_here : (s_id : ℕ) (rows others : List SubscriberRow) (row : Subscrib
 first_here s_id [] others row some = absurd cc
 first_here s_id (one ∷ rows) others row some = by_test (nat_le s_id one.s_id) (λ e. rw e (rw e at some)) (λ e. rw e (first_here s_id rows others row (rw e at some)))
 
--- the rows from a seat on
-abbrev pub rows_from : ℕ → List Seat → List SubscriberRow
-rows_from k seats = (book_in (drop k seats)).subscribers
+-- the rows from an owner on
+abbrev pub rows_from : ℕ → List RegionOwner → List SubscriberRow
+rows_from k owners = (book_in (drop k owners)).subscribers
 
--- one seat, and those behind it
-pub rows_next : (k : ℕ) (seats : List Seat) (seat : Seat) → k < length seats → seat ≡ get_or seats k seat → rows_from k seats ≡ (owner_of seat).part.book.subscribers ++ rows_from (suc k) seats
-rows_next k [] seat low is = absurd (omega arith)
-rows_next zero (one ∷ seats) seat low is = rw is refl
-rows_next (suc k) (one ∷ seats) seat low is = rows_next k seats seat (omega arith) is
+-- one owner, and those behind it
+pub rows_next : (k : ℕ) (owners : List RegionOwner) (owner : RegionOwner) → k < length owners → owner ≡ get_or owners k owner → rows_from k owners ≡ (state_of owner).part.book.subscribers ++ rows_from (suc k) owners
+rows_next k [] owner low is = absurd (omega arith)
+rows_next zero (one ∷ owners) owner low is = rw is refl
+rows_next (suc k) (one ∷ owners) owner low is = rows_next k owners owner (omega arith) is
 
-pub rows_past : (k : ℕ) (seats : List Seat) → length seats ≤ k → rows_from k seats ≡ []
+pub rows_past : (k : ℕ) (owners : List RegionOwner) → length owners ≤ k → rows_from k owners ≡ []
 rows_past zero [] past = refl
-rows_past zero (one ∷ seats) past = absurd (omega arith)
+rows_past zero (one ∷ owners) past = absurd (omega arith)
 rows_past (suc k) [] past = refl
-rows_past (suc k) (one ∷ seats) past = rows_past k seats (omega arith)
+rows_past (suc k) (one ∷ owners) past = rows_past k owners (omega arith)

@@ -10,13 +10,13 @@ use Rattle.part_table.specs.Regions.{IsConsecutive}
 use Rattle.part_table.specs.declared.region.Region.{Region}
 use Rattle.part_table.specs.declared.region.TheConstants.{END}
 use Rattle.part_table.proofs.PlaceLemmas.{blank, some_index}
-use Rattle.hlr_owners.specs.Beside.{HasRowsBeside}
-use Rattle.hlr_owners.specs.Lodged.{Lodged}
+use Rattle.hlr_owners.specs.WhileOut.{HasRowsWhileOut}
+use Rattle.hlr_owners.specs.PartOwnerState.{PartOwnerState}
 use Rattle.hlr_owners.specs.Read.{HasRowsOf}
-use Rattle.hlr_owners.specs.Seats.{AreSeated, IsHomeFor, Seating, store_in}
-use Rattle.hlr_owners.specs.declared.lodging.Seat.TheVariants.{Part}
-use Rattle.hlr_owners.proofs.BesideLemmas.{rows_beside}
-use Rattle.hlr_owners.proofs.HomeLemmas.{seat_home}
+use Rattle.hlr_owners.specs.Owners.{AreRuled, IsHomeFor, OwnersState, store_in}
+use Rattle.hlr_owners.specs.declared.part_owner.RegionOwner.TheVariants.{Part}
+use Rattle.hlr_owners.proofs.WhileOutLemmas.{rows_while_out}
+use Rattle.hlr_owners.proofs.HomeLemmas.{owner_home}
 use Rattle.hlr_owners.proofs.LendLemmas.{lies_once}
 use Rattle.hlr_owners.proofs.ListingLemmas.{part_rows}
 
@@ -29,10 +29,10 @@ lies_there s_id regions i consecutive within lt here = found (position (lies_in 
     found (Some j) at = let there = position-Some (lies_in s_id) regions j blank at in ap Some (lies_once 1 s_id regions j i consecutive there.0 lt there.1 here)
 
 -- the part of one of several subscribers who all lie in its region has the rows of all
-module _ (h : Seating) (are : AreSeated h) (s_id i : ℕ) (at : position (lies_in s_id) h.regions ≡ Some i) (l : Lodged) (is : Part l ≡ get_or h.seats i (Part l)) where
+module _ (h : OwnersState) (are : AreRuled h) (s_id i : ℕ) (at : position (lies_in s_id) h.regions ≡ Some i) (l : PartOwnerState) (is : Part l ≡ get_or h.owners i (Part l)) where
   -- it is at home where the first one's is
   pub part_home : (s_ids : List ℕ) → 0 < length s_ids → s_id ≡ get_or s_ids 0 0 → All (λ n. IsHomeFor n h) s_ids → l.home ≡ true
-  part_home s_ids some first home = seat_home h are s_id i at l is (rw first (home 0 0 some))
+  part_home s_ids some first home = owner_home h are s_id i at l is (rw first (home 0 0 some))
 
   lie_there : (s_ids : List ℕ) (b : Bool) → All (IsWithin 1 END) s_ids → b ≡ true → b ≡ list_all (λ n. lies_in n (get_or h.regions i blank)) s_ids
       → (k d : ℕ) → k < length s_ids → position (lies_in (get_or s_ids k d)) h.regions ≡ Some i
@@ -45,5 +45,5 @@ module _ (h : Seating) (are : AreSeated h) (s_id i : ℕ) (at : position (lies_i
   pub rows_of_all : (s_ids : List ℕ) (b : Bool) → All (IsWithin 1 END) s_ids → b ≡ true → b ≡ list_all (λ n. lies_in n (get_or h.regions i blank)) s_ids → All (λ n. HasRowsOf n (store_in h) l.holding) s_ids
   rows_of_all s_ids b within passed told = λ k d below. part_rows h are (get_or s_ids k d) i (lie_there s_ids b within passed told k d below) l is
 
-  pub rows_of_all_beside : (s_ids : List ℕ) (b : Bool) → All (IsWithin 1 END) s_ids → b ≡ true → b ≡ list_all (λ n. lies_in n (get_or h.regions i blank)) s_ids → l.home ≡ true → All (λ n. HasRowsBeside n h l.holding) s_ids
-  rows_of_all_beside s_ids b within passed told home = λ k d below. rows_beside h are (get_or s_ids k d) i (lie_there s_ids b within passed told k d below) l is home
+  pub rows_of_all_while_out : (s_ids : List ℕ) (b : Bool) → All (IsWithin 1 END) s_ids → b ≡ true → b ≡ list_all (λ n. lies_in n (get_or h.regions i blank)) s_ids → l.home ≡ true → All (λ n. HasRowsWhileOut n h l.holding) s_ids
+  rows_of_all_while_out s_ids b within passed told home = λ k d below. rows_while_out h are (get_or s_ids k d) i (lie_there s_ids b within passed told k d below) l is home

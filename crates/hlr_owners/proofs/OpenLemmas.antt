@@ -1,5 +1,5 @@
 -- The store at opening: an empty holding for each region, one after another.
-use Rattle.hlr_owners.proofs.OwnerLemmas.{book_of_owners}
+use Rattle.hlr_owners.proofs.StateLemmas.{book_of_states}
 use Rattle.tatp_actions.specs.Joined.{join_books}
 use Rattle.tatp_actions.specs.Book.{Book, empty_book}
 use Rattle.std.proofs.Common.{◌≡◌, ap, ℕ, ◌+◌, ◌-◌, ◌<◌, ◌≤◌, arith, List, [], ◌∷◌, ◌++◌, length, get_or, take, map, true, ◌∙◌, refl}
@@ -18,7 +18,7 @@ use Rattle.part_table.specs.Opening as table
 use Rattle.part_table.specs.Opening.{can_open, opening_bound}
 use Rattle.part_table.specs.Regions.{AreRegions, IsConsecutive}
 use Rattle.part_table.specs.declared.region.Region.{Region}
-use Rattle.hlr_owners.specs.Held.{Owner, of_holding}
+use Rattle.hlr_owners.specs.Held.{OwnerState, of_holding}
 use Rattle.hlr_owners.specs.Inside.{IsOpened}
 use Rattle.holding.specs.Held.{HoldingState}
 use Rattle.hlr_owners.proofs.HeldLemmas.{IsFresh, fresh_holding}
@@ -63,21 +63,21 @@ pub range_at : (regions : List Region) (i : ℕ) (d : Region) → AreRegions reg
 range_at regions i d are below = each_at (λ (region : Region). IsRange region.lo region.hi) regions i d (ranges_from 1 regions (omega arith) are.consecutive) below
 
 -- the first i holdings stand beside the first i regions, each with no row
-abbrev pub AreOpened : ℕ → List Region → List Owner → ℕ → Type 0
+abbrev pub AreOpened : ℕ → List Region → List OwnerState → ℕ → Type 0
 AreOpened width regions holdings i = AllZip (IsFresh width) (take i regions) holdings
 
-pub none_opened : (width : ℕ) (regions : List Region) (holdings : List Owner) → holdings ≡ [] → AreOpened width regions holdings 0
+pub none_opened : (width : ℕ) (regions : List Region) (holdings : List OwnerState) → holdings ≡ [] → AreOpened width regions holdings 0
 none_opened width [] holdings none = rw none tt
 none_opened width (region ∷ regions) holdings none = rw none tt
 
-pub one_opened : (width i : ℕ) (d : Region) (regions : List Region) (holdings : List Owner) (holding : HoldingState) → i < length regions → AreOpened width regions holdings i
+pub one_opened : (width i : ℕ) (d : Region) (regions : List Region) (holdings : List OwnerState) (holding : HoldingState) → i < length regions → AreOpened width regions holdings i
     → IsOpened (get_or regions i d) width holding → AreOpened width regions (holdings ++ of_holding holding ∷ []) (i + 1)
 one_opened width i d regions holdings holding below each is =
     rw (take_more regions i d below) (all_zipped_more (IsFresh width) (take i regions) holdings (get_or regions i d) (of_holding holding) each (fresh_holding width (get_or regions i d) holding is))
 
 -- fresh owners have no rows
-pub opened_book : (width : ℕ) (regions : List Region) (owners : List Owner) → AllZip (IsFresh width) regions owners → book_of_owners owners ≡ empty_book
+pub opened_book : (width : ℕ) (regions : List Region) (states : List OwnerState) → AllZip (IsFresh width) regions states → book_of_states states ≡ empty_book
 opened_book width [] [] each = refl
-opened_book width [] (owner ∷ owners) each = absurd each
+opened_book width [] (state ∷ states) each = absurd each
 opened_book width (region ∷ regions) [] each = absurd each
-opened_book width (region ∷ regions) (owner ∷ owners) each = ap (λ (book : Book). join_books book (book_of_owners owners)) each.0.no_rows ∙ opened_book width regions owners each.1
+opened_book width (region ∷ regions) (state ∷ states) each = ap (λ (book : Book). join_books book (book_of_states states)) each.0.no_rows ∙ opened_book width regions states each.1

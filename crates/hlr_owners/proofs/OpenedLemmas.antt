@@ -1,4 +1,4 @@
--- Seats at opening: a part at home beside each region, one after another.
+-- Owners at opening: a part at home beside each region, one after another.
 use Rattle.std.proofs.Common.{◌≡◌, ◌∙◌, refl, sym, ap, ℕ, suc, ◌≤◌, arith, List, [], ◌∷◌, ◌++◌, length, append_assoc, true}
 use Rattle.std.specs.Prelude.{Ok}
 use Rattle.std.specs.List.{AllZip, AllByRecursion}
@@ -18,68 +18,68 @@ use Rattle.hlr_owners.specs.Store.{opening_from}
 use Rattle.hlr_owners.proofs.HeldLemmas.{IsFresh}
 use Rattle.hlr_owners.proofs.OpenLemmas.{AreOpened, bounds_opened, regions_are, regions_long, width_fits, opened_book}
 use Rattle.hlr_owners.proofs.ShareLemmas.{AreShared, shared_words}
-use Rattle.hlr_owners.specs.Lodged.{Lodged}
-use Rattle.hlr_owners.specs.Seats.{owner_of, owners_in, of_part, desks_in, AllHome, IsKind, IsSeat, AreSeated, store_in}
-use Rattle.hlr_owners.specs.declared.lodging.Seat.{Seat}
-use Rattle.hlr_owners.specs.declared.lodging.Seat.TheVariants.{Part, Piece}
+use Rattle.hlr_owners.specs.PartOwnerState.{PartOwnerState}
+use Rattle.hlr_owners.specs.Owners.{state_of, states_in, of_part, desks_in, AllHome, IsKind, IsRegionOwner, AreRuled, store_in}
+use Rattle.hlr_owners.specs.declared.part_owner.RegionOwner.{RegionOwner}
+use Rattle.hlr_owners.specs.declared.part_owner.RegionOwner.TheVariants.{Part, Piece}
 
 -- a part that is at home
-abbrev pub IsLodgedHome : Seat → Type 0
-IsLodgedHome (Part l) = l.home ≡ true
-IsLodgedHome (Piece b) = ⊥
+abbrev pub IsPartOwnerHome : RegionOwner → Type 0
+IsPartOwnerHome (Part l) = l.home ≡ true
+IsPartOwnerHome (Piece b) = ⊥
 
 -- one more part
-pub desks-push : (seats : List Seat) (m : Lodged) → desks_in (seats ++ Part m ∷ []) ≡ desks_in seats ++ m.holding.desk ∷ []
+pub desks-push : (owners : List RegionOwner) (m : PartOwnerState) → desks_in (owners ++ Part m ∷ []) ≡ desks_in owners ++ m.holding.desk ∷ []
 desks-push [] m = refl
-desks-push (s ∷ seats) m = ap (λ rest. of_part (λ (o : Lodged). o.holding.desk) s ++ rest) (desks-push seats m) ∙ sym (append_assoc (of_part (λ (o : Lodged). o.holding.desk) s) (desks_in seats) (m.holding.desk ∷ []))
+desks-push (s ∷ owners) m = ap (λ rest. of_part (λ (o : PartOwnerState). o.holding.desk) s ++ rest) (desks-push owners m) ∙ sym (append_assoc (of_part (λ (o : PartOwnerState). o.holding.desk) s) (desks_in owners) (m.holding.desk ∷ []))
 
 -- of parts alone each has a desk
-pub desks_long : (seats : List Seat) → AllByRecursion IsLodgedHome seats → length (desks_in seats) ≡ length seats
+pub desks_long : (owners : List RegionOwner) → AllByRecursion IsPartOwnerHome owners → length (desks_in owners) ≡ length owners
 desks_long [] all = refl
-desks_long (Part l ∷ seats) all = ap suc (desks_long seats all.1)
-desks_long (Piece b ∷ seats) all = absurd all.0
+desks_long (Part l ∷ owners) all = ap suc (desks_long owners all.1)
+desks_long (Piece b ∷ owners) all = absurd all.0
 
 -- and all are at home
-pub opened_home : (seats : List Seat) → AllByRecursion IsLodgedHome seats → AllHome seats
+pub opened_home : (owners : List RegionOwner) → AllByRecursion IsPartOwnerHome owners → AllHome owners
 opened_home [] all = tt
-opened_home (Part l ∷ seats) all = (all.0, opened_home seats all.1)
-opened_home (Piece b ∷ seats) all = absurd all.0
+opened_home (Part l ∷ owners) all = (all.0, opened_home owners all.1)
+opened_home (Piece b ∷ owners) all = absurd all.0
 
 -- they sit beside regions of parts
-seats_fresh : (width : ℕ) (regions : List Region) (seats : List Seat) → pieces_of regions ≡ [] → AllByRecursion IsLodgedHome seats → AllZip (IsFresh width) regions (owners_in seats) → AllZip (IsSeat width) regions seats
-seats_fresh width [] [] none all each = tt
-seats_fresh width [] (s ∷ seats) none all each = absurd each
-seats_fresh width (r ∷ regions) [] none all each = absurd each
-seats_fresh width (r ∷ regions) (s ∷ seats) none all each =
+owners_fresh : (width : ℕ) (regions : List Region) (owners : List RegionOwner) → pieces_of regions ≡ [] → AllByRecursion IsPartOwnerHome owners → AllZip (IsFresh width) regions (states_in owners) → AllZip (IsRegionOwner width) regions owners
+owners_fresh width [] [] none all each = tt
+owners_fresh width [] (s ∷ owners) none all each = absurd each
+owners_fresh width (r ∷ regions) [] none all each = absurd each
+owners_fresh width (r ∷ regions) (s ∷ owners) none all each =
     let both = kind r.place s none all.0 in
-    (record { kind = both.0; owner = each.0.owned }, seats_fresh width regions seats both.1 all.1 each.1)
+    (record { kind = both.0; state = each.0.owned }, owners_fresh width regions owners both.1 all.1 each.1)
   where
-    kind : (q : Place) (t : Seat) → piece_number q ++ pieces_of regions ≡ [] → IsLodgedHome t → IsKind q t × (pieces_of regions ≡ [])
+    kind : (q : Place) (t : RegionOwner) → piece_number q ++ pieces_of regions ≡ [] → IsPartOwnerHome t → IsKind q t × (pieces_of regions ≡ [])
     kind (place.Part p) (Part l) none home = (tt, none)
     kind (place.Part p) (Piece b) none home = absurd home
     kind (place.Piece n) t none home = absurd cc
 
-module _ (parts width i : ℕ) (regions : List Region) (seats : List Seat) (can : can_open parts width ≡ true) (is : Ok regions ≡ table.opening parts width)
-    (each : AreOpened width regions (owners_in seats) i) (past : length regions ≤ i) (home : AllByRecursion IsLodgedHome seats) where
-  all : AllZip (IsFresh width) regions (owners_in seats)
+module _ (parts width i : ℕ) (regions : List Region) (owners : List RegionOwner) (can : can_open parts width ≡ true) (is : Ok regions ≡ table.opening parts width)
+    (each : AreOpened width regions (states_in owners) i) (past : length regions ≤ i) (home : AllByRecursion IsPartOwnerHome owners) where
+  all : AllZip (IsFresh width) regions (states_in owners)
   all = rw (take_all i regions past) at each
 
-  pub opened_seated : (spare : Station) → AreRegions regions → AreSeated (record { regions = regions; seats = seats; spare = spare; width = width })
-  opened_seated spare are = record {
+  pub opened_ruled : (spare : Station) → AreRegions regions → AreRuled (record { regions = regions; owners = owners; spare = spare; width = width })
+  opened_ruled spare are = record {
     are = are;
-    each = seats_fresh width regions seats (rw (regions_are parts width regions can is) (no_pieces 0 1 (bounds_opened parts width))) home all;
+    each = owners_fresh width regions owners (rw (regions_are parts width regions can is) (no_pieces 0 1 (bounds_opened parts width))) home all;
     zones = width_fits parts width regions can is;
   }
 
-  long : length (desks_in seats) ≡ parts
+  long : length (desks_in owners) ≡ parts
   long =
-      let zipped = AllZip-long (IsFresh width) regions (owners_in seats) all in
-      let same = length-map seats owner_of in
-      let desks = desks_long seats home in
+      let zipped = AllZip-long (IsFresh width) regions (states_in owners) all in
+      let same = length-map owners state_of in
+      let desks = desks_long owners home in
       let count = regions_long parts width regions can is in
       omega arith
 
-  pub opened_store : (words : List ℕ) (spare : Station) → AreShared words spare (desks_in seats) → length words ≡ WORDS
-      → store_in (record { regions = regions; seats = seats; spare = spare; width = width }) ≡ opening_from parts width words
+  pub opened_store : (words : List ℕ) (spare : Station) → AreShared words spare (desks_in owners) → length words ≡ WORDS
+      → store_in (record { regions = regions; owners = owners; spare = spare; width = width }) ≡ opening_from parts width words
   opened_store words spare shared wide =
-      rw (opened_book width regions (owners_in seats) all, shared_words words spare (desks_in seats) shared wide, shared.slots, shared.seen, long, regions_are parts width regions can is) refl
+      rw (opened_book width regions (states_in owners) all, shared_words words spare (desks_in owners) shared wide, shared.slots, shared.seen, long, regions_are parts width regions can is) refl

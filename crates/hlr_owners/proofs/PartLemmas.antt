@@ -1,4 +1,4 @@
--- The seats of parts, in order: the part with a number has the seat beside its region.
+-- The owners of parts, in order: the part with a number has the owner beside its region.
 use Rattle.std.proofs.Common.{◌≡◌, ◌∙◌, refl, sym, ap, ℕ, zero, suc, ◌+◌, ◌<◌, List, [], ◌∷◌, ◌++◌, length, get_or, set, arith, true, false, Some, None, subst}
 use Rattle.std.specs.Prelude.{position, Box, slice_get}
 use Rattle.std.specs.declared.alloc.Global.{Global}
@@ -11,50 +11,50 @@ use Rattle.std.proofs.lemmas.Slice.Zip.{AllZip-long}
 use Rattle.part_table.specs.Region.{is_part, is_part_place, part_number}
 use Rattle.part_table.specs.Regions.{parts_of, place_of}
 use Rattle.tatp_actions.specs.Book.{IsWithin}
-use Rattle.hlr_owners.proofs.OwnerLemmas.{lies_within}
+use Rattle.hlr_owners.proofs.StateLemmas.{lies_within}
 use Rattle.part_table.specs.declared.region.Place.{Place}
 use Rattle.part_table.specs.declared.region.Place.TheVariants as place
 use Rattle.part_table.specs.declared.region.Region.{Region}
 use Rattle.part_table.proofs.IndexLemmas.{part_has, past_parts}
 use Rattle.part_table.proofs.PlaceLemmas.{blank}
 use Rattle.holding.specs.Held.{PieceState}
-use Rattle.hlr_owners.specs.Lodged.{Lodged}
-use Rattle.hlr_owners.specs.Seats.{book_in, of_part, of_parts, homes_in, IsKind, IsSeat, Seating, AreSeated, IsPartHome}
-use Rattle.hlr_owners.specs.declared.lodging.Seat.{Seat}
-use Rattle.hlr_owners.specs.declared.lodging.Seat.TheVariants.{Part, Piece}
-use Rattle.hlr_owners.proofs.SeatLemmas.{IsSeatIn, seat_in}
+use Rattle.hlr_owners.specs.PartOwnerState.{PartOwnerState}
+use Rattle.hlr_owners.specs.Owners.{book_in, of_part, of_parts, homes_in, IsKind, IsRegionOwner, OwnersState, AreRuled, IsPartHome}
+use Rattle.hlr_owners.specs.declared.part_owner.RegionOwner.{RegionOwner}
+use Rattle.hlr_owners.specs.declared.part_owner.RegionOwner.TheVariants.{Part, Piece}
+use Rattle.hlr_owners.proofs.RegionOwnerLemmas.{IsRegionOwnerIn, owner_in}
 
 -- how many parts sit in front of an index
-abbrev pub ahead : List Seat → ℕ → ℕ
+abbrev pub ahead : List RegionOwner → ℕ → ℕ
 ahead [] i = 0
-ahead (seat ∷ seats) zero = 0
-ahead (Part l ∷ seats) (suc i) = suc (ahead seats i)
-ahead (Piece b ∷ seats) (suc i) = ahead seats i
+ahead (owner ∷ owners) zero = 0
+ahead (Part l ∷ owners) (suc i) = suc (ahead owners i)
+ahead (Piece b ∷ owners) (suc i) = ahead owners i
 
-module _ {X : Type 0} (f : Lodged → X) where
+module _ {X : Type 0} (f : PartOwnerState → X) where
   -- what the part at an index has
-  pub at_ahead : (seats : List Seat) (i : ℕ) (l : Lodged) (d : X) → i < length seats → Part l ≡ get_or seats i (Part l)
-      → (ahead seats i < length (of_parts f seats)) × (f l ≡ get_or (of_parts f seats) (ahead seats i) d)
+  pub at_ahead : (owners : List RegionOwner) (i : ℕ) (l : PartOwnerState) (d : X) → i < length owners → Part l ≡ get_or owners i (Part l)
+      → (ahead owners i < length (of_parts f owners)) × (f l ≡ get_or (of_parts f owners) (ahead owners i) d)
   at_ahead [] i l d lt is = absurd (omega arith)
-  at_ahead (s ∷ seats) zero l d lt is = subst (λ (t : Seat). (0 < length (of_part f t ++ of_parts f seats)) × (f l ≡ get_or (of_part f t ++ of_parts f seats) 0 d)) is (omega arith, refl)
-  at_ahead (Part m ∷ seats) (suc i) l d lt is = let rest = at_ahead seats i l d (omega arith) is in let low = rest.0 in (omega arith, rest.1)
-  at_ahead (Piece b ∷ seats) (suc i) l d lt is = at_ahead seats i l d (omega arith) is
+  at_ahead (s ∷ owners) zero l d lt is = subst (λ (t : RegionOwner). (0 < length (of_part f t ++ of_parts f owners)) × (f l ≡ get_or (of_part f t ++ of_parts f owners) 0 d)) is (omega arith, refl)
+  at_ahead (Part m ∷ owners) (suc i) l d lt is = let rest = at_ahead owners i l d (omega arith) is in let low = rest.0 in (omega arith, rest.1)
+  at_ahead (Piece b ∷ owners) (suc i) l d lt is = at_ahead owners i l d (omega arith) is
 
   -- and another one in its place
-  pub set_ahead : (seats : List Seat) (i : ℕ) (l m : Lodged) → i < length seats → Part l ≡ get_or seats i (Part l) → of_parts f (set seats i (Part m)) ≡ set (of_parts f seats) (ahead seats i) (f m)
+  pub set_ahead : (owners : List RegionOwner) (i : ℕ) (l m : PartOwnerState) → i < length owners → Part l ≡ get_or owners i (Part l) → of_parts f (set owners i (Part m)) ≡ set (of_parts f owners) (ahead owners i) (f m)
   set_ahead [] i l m lt is = absurd (omega arith)
-  set_ahead (s ∷ seats) zero l m lt is = subst (λ (t : Seat). f m ∷ of_parts f seats ≡ set (of_part f t ++ of_parts f seats) 0 (f m)) is refl
-  set_ahead (Part k ∷ seats) (suc i) l m lt is = ap (λ rest. f k ∷ rest) (set_ahead seats i l m (omega arith) is)
-  set_ahead (Piece b ∷ seats) (suc i) l m lt is = set_ahead seats i l m (omega arith) is
+  set_ahead (s ∷ owners) zero l m lt is = subst (λ (t : RegionOwner). f m ∷ of_parts f owners ≡ set (of_part f t ++ of_parts f owners) 0 (f m)) is refl
+  set_ahead (Part k ∷ owners) (suc i) l m lt is = ap (λ rest. f k ∷ rest) (set_ahead owners i l m (omega arith) is)
+  set_ahead (Piece b ∷ owners) (suc i) l m lt is = set_ahead owners i l m (omega arith) is
 
   -- there are as many as parts
-  pub count_parts : (width : ℕ) (regions : List Region) (seats : List Seat) → AllZip (IsSeat width) regions seats → length (of_parts f seats) ≡ length (parts_of regions)
+  pub count_parts : (width : ℕ) (regions : List Region) (owners : List RegionOwner) → AllZip (IsRegionOwner width) regions owners → length (of_parts f owners) ≡ length (parts_of regions)
   count_parts width [] [] each = refl
-  count_parts width [] (s ∷ seats) each = absurd each
+  count_parts width [] (s ∷ owners) each = absurd each
   count_parts width (r ∷ regions) [] each = absurd each
-  count_parts width (r ∷ regions) (s ∷ seats) each = one r.place s each.0.kind (count_parts width regions seats each.1)
+  count_parts width (r ∷ regions) (s ∷ owners) each = one r.place s each.0.kind (count_parts width regions owners each.1)
     where
-      one : (q : Place) (t : Seat) → IsKind q t → length (of_parts f seats) ≡ length (parts_of regions) → length (of_part f t ++ of_parts f seats) ≡ length (part_number q ++ parts_of regions)
+      one : (q : Place) (t : RegionOwner) → IsKind q t → length (of_parts f owners) ≡ length (parts_of regions) → length (of_part f t ++ of_parts f owners) ≡ length (part_number q ++ parts_of regions)
       one (place.Part p) (Part l) kind rest = ap suc rest
       one (place.Part p) (Piece b) kind rest = absurd kind
       one (place.Piece n) (Part l) kind rest = absurd kind
@@ -69,93 +69,93 @@ number_here p a (suc n) (place.Part m) others test order =
     sym first ∙ same
 number_here p a n (place.Piece m) others test order = absurd cc
 
-number_behind : (a n : ℕ) (q : Place) (s : Seat) (seats : List Seat) (others : List ℕ) (i p : ℕ) → IsKind q s → part_number q ++ others ≡ range_with_len a n
-    → ((b m : ℕ) → others ≡ range_with_len b m → b + ahead seats i ≡ p) → a + ahead (s ∷ seats) (suc i) ≡ p
-number_behind a zero (place.Part m) (Part l) seats others i p kind order more = absurd cc
-number_behind a (suc n) (place.Part m) (Part l) seats others i p kind order more =
+number_behind : (a n : ℕ) (q : Place) (s : RegionOwner) (owners : List RegionOwner) (others : List ℕ) (i p : ℕ) → IsKind q s → part_number q ++ others ≡ range_with_len a n
+    → ((b m : ℕ) → others ≡ range_with_len b m → b + ahead owners i ≡ p) → a + ahead (s ∷ owners) (suc i) ≡ p
+number_behind a zero (place.Part m) (Part l) owners others i p kind order more = absurd cc
+number_behind a (suc n) (place.Part m) (Part l) owners others i p kind order more =
     let rest : others ≡ range_with_len (a + 1) n = cc in
     let number = more (a + 1) n rest in
     omega arith
-number_behind a n (place.Part m) (Piece b) seats others i p kind order more = absurd kind
-number_behind a n (place.Piece m) (Part l) seats others i p kind order more = absurd kind
-number_behind a n (place.Piece m) (Piece b) seats others i p kind order more = more a n order
+number_behind a n (place.Part m) (Piece b) owners others i p kind order more = absurd kind
+number_behind a n (place.Piece m) (Part l) owners others i p kind order more = absurd kind
+number_behind a n (place.Piece m) (Piece b) owners others i p kind order more = more a n order
 
-number_ahead : (width a n p : ℕ) (regions : List Region) (seats : List Seat) (i : ℕ) → AllZip (IsSeat width) regions seats → parts_of regions ≡ range_with_len a n → i < length regions
-    → is_part p (get_or regions i blank) ≡ true → a + ahead seats i ≡ p
-number_ahead width a n p [] seats i each order lt is = absurd (omega arith)
+number_ahead : (width a n p : ℕ) (regions : List Region) (owners : List RegionOwner) (i : ℕ) → AllZip (IsRegionOwner width) regions owners → parts_of regions ≡ range_with_len a n → i < length regions
+    → is_part p (get_or regions i blank) ≡ true → a + ahead owners i ≡ p
+number_ahead width a n p [] owners i each order lt is = absurd (omega arith)
 number_ahead width a n p (r ∷ regions) [] i each order lt is = absurd each
-number_ahead width a n p (r ∷ regions) (s ∷ seats) zero each order lt is = let here = number_here p a n r.place (parts_of regions) is order in omega arith
-number_ahead width a n p (r ∷ regions) (s ∷ seats) (suc i) each order lt is =
-    number_behind a n r.place s seats (parts_of regions) i p each.0.kind order (λ b m rest. number_ahead width b m p regions seats i each.1 rest (omega arith) is)
+number_ahead width a n p (r ∷ regions) (s ∷ owners) zero each order lt is = let here = number_here p a n r.place (parts_of regions) is order in omega arith
+number_ahead width a n p (r ∷ regions) (s ∷ owners) (suc i) each order lt is =
+    number_behind a n r.place s owners (parts_of regions) i p each.0.kind order (λ b m rest. number_ahead width b m p regions owners i each.1 rest (omega arith) is)
 
 -- no part at home has a number behind the last
-pub none_home : (h : Seating) (are : AreSeated h) (p : ℕ) → position (is_part p) h.regions ≡ None → get_or (homes_in h.seats) p false ≡ false
+pub none_home : (h : OwnersState) (are : AreRuled h) (p : ℕ) → position (is_part p) h.regions ≡ None → get_or (homes_in h.owners) p false ≡ false
 none_home h are p none =
     let past = past_parts p h.regions are.are none in
-    let count = count_parts (λ (o : Lodged). o.home) h.width h.regions h.seats are.each in
-    get_or_past (homes_in h.seats) p false (omega arith)
+    let count = count_parts (λ (o : PartOwnerState). o.home) h.width h.regions h.owners are.each in
+    get_or_past (homes_in h.owners) p false (omega arith)
 
--- the seat of a part: beside its region
-module _ (h : Seating) (are : AreSeated h) (p i : ℕ) (within : i < length h.regions) (of_part_p : is_part p (get_or h.regions i blank) ≡ true) where
-  there : i < length h.seats
-  there = let long = AllZip-long (IsSeat h.width) h.regions h.seats are.each in omega arith
+-- the owner of a part: beside its region
+module _ (h : OwnersState) (are : AreRuled h) (p i : ℕ) (within : i < length h.regions) (of_part_p : is_part p (get_or h.regions i blank) ≡ true) where
+  there : i < length h.owners
+  there = let long = AllZip-long (IsRegionOwner h.width) h.regions h.owners are.each in omega arith
 
   -- it stands among those of parts under its number
-  pub number_at : ahead h.seats i ≡ p
-  number_at = let start : 0 + ahead h.seats i ≡ ahead h.seats i = omega arith in sym start ∙ number_ahead h.width 0 (length (parts_of h.regions)) p h.regions h.seats i are.each are.are.in_order within of_part_p
+  pub number_at : ahead h.owners i ≡ p
+  number_at = let start : 0 + ahead h.owners i ≡ ahead h.owners i = omega arith in sym start ∙ number_ahead h.width 0 (length (parts_of h.regions)) p h.regions h.owners i are.each are.are.in_order within of_part_p
 
   -- so it is at home where its part is
-  pub lodged_home : (l : Lodged) → Part l ≡ get_or h.seats i (Part l) → IsPartHome p h → l.home ≡ true
-  lodged_home l is home = (rw number_at at (at_ahead (λ (o : Lodged). o.home) h.seats i l true there is)).1 ∙ home
+  pub part_state_home : (l : PartOwnerState) → Part l ≡ get_or h.owners i (Part l) → IsPartHome p h → l.home ≡ true
+  part_state_home l is home = (rw number_at at (at_ahead (λ (o : PartOwnerState). o.home) h.owners i l true there is)).1 ∙ home
 
 -- who sits where no piece does
-lodged_there : (seats : List Seat) (i : ℕ) → i < length seats → ((b : Box PieceState Global) → Piece b ≡ get_or seats i (Piece b) → ⊥) → (l : Lodged) × (Part l ≡ get_or seats i (Part l))
-lodged_there [] i low none = absurd (omega arith)
-lodged_there (Part l ∷ seats) zero low none = (l, refl)
-lodged_there (Piece b ∷ seats) zero low none = absurd (none b refl)
-lodged_there (s ∷ seats) (suc i) low none = lodged_there seats i (omega arith) none
+part_state_there : (owners : List RegionOwner) (i : ℕ) → i < length owners → ((b : Box PieceState Global) → Piece b ≡ get_or owners i (Piece b) → ⊥) → (l : PartOwnerState) × (Part l ≡ get_or owners i (Part l))
+part_state_there [] i low none = absurd (omega arith)
+part_state_there (Part l ∷ owners) zero low none = (l, refl)
+part_state_there (Piece b ∷ owners) zero low none = absurd (none b refl)
+part_state_there (s ∷ owners) (suc i) low none = part_state_there owners i (omega arith) none
 
-module _ (h : Seating) (are : AreSeated h) (p i : ℕ) (index : position (is_part p) h.regions ≡ Some i) where
+module _ (h : OwnersState) (are : AreRuled h) (p i : ℕ) (index : position (is_part p) h.regions ≡ Some i) where
   here : (i < length h.regions) × (is_part p (get_or h.regions i blank) ≡ true) × ((k : ℕ) → k < i → is_part p (get_or h.regions k blank) ≡ false)
   here = position-Some (is_part p) h.regions i blank index
 
-  pub part_sits_there : i < length h.seats
-  part_sits_there = there h are p i here.0 here.1
+  pub part_has_place : i < length h.owners
+  part_has_place = there h are p i here.0 here.1
 
-  pub part_number_at : ahead h.seats i ≡ p
+  pub part_number_at : ahead h.owners i ≡ p
   part_number_at = number_at h are p i here.0 here.1
 
-  pub part_seat : (s : Seat) → s ≡ get_or h.seats i s → IsSeatIn h.width (book_in h.seats) (get_or h.regions i blank) s
-  part_seat s is = seat_in h are i s is here.0
+  pub part_owner_at : (s : RegionOwner) → s ≡ get_or h.owners i s → IsRegionOwnerIn h.width (book_in h.owners) (get_or h.regions i blank) s
+  part_owner_at s is = owner_in h are i s is here.0
 
-  -- no piece sits there
-  pub part_sits : (b : Box PieceState Global) → Piece b ≡ get_or h.seats i (Piece b) → ⊥
-  part_sits b is = no (get_or h.regions i blank).place here.1 (part_seat (Piece b) is).kind
+  -- no piece owns it
+  pub owner_is_part : (b : Box PieceState Global) → Piece b ≡ get_or h.owners i (Piece b) → ⊥
+  owner_is_part b is = no (get_or h.regions i blank).place here.1 (part_owner_at (Piece b) is).kind
     where
       no : (q : Place) → is_part_place p q ≡ true → IsKind q (Piece b) → ⊥
       no (place.Part q) test kind = kind
       no (place.Piece q) test kind = cc
 
   -- but a part
-  pub part_lodged : (l : Lodged) × (Part l ≡ get_or h.seats i (Part l))
-  part_lodged = lodged_there h.seats i part_sits_there part_sits
+  pub part_state_at : (l : PartOwnerState) × (Part l ≡ get_or h.owners i (Part l))
+  part_state_at = part_state_there h.owners i part_has_place owner_is_part
 
-  pub part_is_home : (l : Lodged) → Part l ≡ get_or h.seats i (Part l) → IsPartHome p h → l.home ≡ true
-  part_is_home = lodged_home h are p i here.0 here.1
+  pub part_is_home : (l : PartOwnerState) → Part l ≡ get_or h.owners i (Part l) → IsPartHome p h → l.home ≡ true
+  part_is_home = part_state_home h are p i here.0 here.1
 
   -- it has the subscribers of the part
-  pub part_within : (s_id : ℕ) (l : Lodged) → Part l ≡ get_or h.seats i (Part l) → place_of s_id h.regions ≡ Some (place.Part p) → IsWithin l.holding.part.lo l.holding.part.hi s_id
+  pub part_within : (s_id : ℕ) (l : PartOwnerState) → Part l ≡ get_or h.owners i (Part l) → place_of s_id h.regions ≡ Some (place.Part p) → IsWithin l.holding.part.lo l.holding.part.hi s_id
   part_within s_id l is placed =
-      let seat = part_seat (Part l) is in
-      rw (seat.owner.is.from, seat.owner.is.to) (lies_within s_id (get_or h.regions i blank) (part_has s_id p i h.regions are.are index placed))
+      let owner = part_owner_at (Part l) is in
+      rw (owner.state.is.from, owner.state.is.to) (lies_within s_id (get_or h.regions i blank) (part_has s_id p i h.regions are.are index placed))
 
   -- what it has stands among what all parts have under its number
-  module _ {X : Type 0} (f : Lodged → X) (l : Lodged) (is : Part l ≡ get_or h.seats i (Part l)) where
-    pub at_number : (d : X) → (p < length (of_parts f h.seats)) × (f l ≡ get_or (of_parts f h.seats) p d)
-    at_number d = let stands = at_ahead f h.seats i l d part_sits_there is in rw (number_at h are p i here.0 here.1) at stands
+  module _ {X : Type 0} (f : PartOwnerState → X) (l : PartOwnerState) (is : Part l ≡ get_or h.owners i (Part l)) where
+    pub at_number : (d : X) → (p < length (of_parts f h.owners)) × (f l ≡ get_or (of_parts f h.owners) p d)
+    at_number d = let stands = at_ahead f h.owners i l d part_has_place is in rw (number_at h are p i here.0 here.1) at stands
 
-    pub get_number : slice_get (of_parts f h.seats) p ≡ Some (f l)
-    get_number = let stands = at_number (f l) in slice_get_read (of_parts f h.seats) (length (of_parts f h.seats)) p (f l) refl stands.0 stands.1
+    pub get_number : slice_get (of_parts f h.owners) p ≡ Some (f l)
+    get_number = let stands = at_number (f l) in slice_get_read (of_parts f h.owners) (length (of_parts f h.owners)) p (f l) refl stands.0 stands.1
 
-    pub set_number : (m : Lodged) → of_parts f (set h.seats i (Part m)) ≡ set (of_parts f h.seats) p (f m)
-    set_number m = rw (number_at h are p i here.0 here.1) at (set_ahead f h.seats i l m part_sits_there is)
+    pub set_number : (m : PartOwnerState) → of_parts f (set h.owners i (Part m)) ≡ set (of_parts f h.owners) p (f m)
+    set_number m = rw (number_at h are p i here.0 here.1) at (set_ahead f h.owners i l m part_has_place is)

@@ -14,9 +14,9 @@ use Rattle.tatp_actions.specs.declared.action.RowReply.{RowReply}
 use Rattle.tatp_actions.specs.declared.action.RowReply.TheVariants as row_reply
 use Rattle.holding.specs.Held.{HoldingState}
 use Rattle.hlr_owners.specs.Answered.{is_loose}
-use Rattle.hlr_owners.specs.Beside.{HasRowsBeside, IsReadBeside, store_with}
+use Rattle.hlr_owners.specs.WhileOut.{HasRowsWhileOut, IsReadWhileOut, store_with}
 use Rattle.hlr_owners.specs.Read.{HasRowsOf, IsRead}
-use Rattle.hlr_owners.specs.Seats.{Seating, store_in}
+use Rattle.hlr_owners.specs.Owners.{OwnersState, store_in}
 use Rattle.hlr_owners.specs.Store.{Store}
 
 -- one of all subscribers has an s_id in range, and with a type in range both are
@@ -29,13 +29,13 @@ pub is_read : (act : Action) (store : Store) (holding : HoldingState) (has : Has
 is_read act store holding has fits answer does = rw (has.home) (has.answers act answer refl (inr (inl (fits, sym does))))
 
 -- the same whatever the holdings that are out have become; and so answers a loose piece
-module _ (act : Action) (h : Seating) (fits : is_in_range act ≡ true) where
-  pub reads : (holding : HoldingState) → HasRowsOf (s_id_of act) (store_in h) holding → HasRowsBeside (s_id_of act) h holding → (answer : RowReply) → effect act holding.part.book ≡ (answer, holding.part.book)
-      → IsRead act (store_in h) answer × IsReadBeside act h answer
-  reads holding has beside answer does = (is_read act (store_in h) holding has fits answer does, λ ks become. is_read act (store_with h ks) holding (beside ks become) fits answer does)
+module _ (act : Action) (h : OwnersState) (fits : is_in_range act ≡ true) where
+  pub reads : (holding : HoldingState) → HasRowsOf (s_id_of act) (store_in h) holding → HasRowsWhileOut (s_id_of act) h holding → (answer : RowReply) → effect act holding.part.book ≡ (answer, holding.part.book)
+      → IsRead act (store_in h) answer × IsReadWhileOut act h answer
+  reads holding has while_out answer does = (is_read act (store_in h) holding has fits answer does, λ ks become. is_read act (store_with h ks) holding (while_out ks become) fits answer does)
 
-  pub moving_beside : (why : Refusal) → why ≡ refusal.Moving → is_loose (s_id_of act) h.regions ≡ true → IsReadBeside act h (row_reply.Refused why)
-  moving_beside why is loose = λ ks become. rw (loose, fits, is) (refl, refl)
+  pub moving_while_out : (why : Refusal) → why ≡ refusal.Moving → is_loose (s_id_of act) h.regions ≡ true → IsReadWhileOut act h (row_reply.Refused why)
+  moving_while_out why is loose = λ ks become. rw (loose, fits, is) (refl, refl)
 
 -- the answer to numbers that were found, and to none
 pub numbers_read : (book : Book) (numbers : ArrayVec ℕ) → (array_vec_len numbers == 0) ≡ false → new_destination book numbers.items ≡ (row_reply.Numbers numbers, book)

@@ -57,15 +57,15 @@ module _ {A B : Type 0} (R : A → B → Type 0) (Q : B → Type 0) where
   each_zipped from (x ∷ xs) [] zipped = absurd zipped
   each_zipped from (x ∷ xs) (y ∷ ys) zipped = (from x y zipped.0, each_zipped from xs ys zipped.1)
 
-  pub each_beside : (P : A → Type 0) → ((x : A) (y : B) → R x y → P x → Q y) → (xs : List A) (ys : List B) → AllZip R xs ys → AllByRecursion P xs → AllByRecursion Q ys
-  each_beside P from [] [] zipped each = tt
-  each_beside P from [] (y ∷ ys) zipped each = absurd zipped
-  each_beside P from (x ∷ xs) [] zipped each = absurd zipped
-  each_beside P from (x ∷ xs) (y ∷ ys) zipped each = (from x y zipped.0 each.0, each_beside P from xs ys zipped.1 each.1)
+  pub each_while_out : (P : A → Type 0) → ((x : A) (y : B) → R x y → P x → Q y) → (xs : List A) (ys : List B) → AllZip R xs ys → AllByRecursion P xs → AllByRecursion Q ys
+  each_while_out P from [] [] zipped each = tt
+  each_while_out P from [] (y ∷ ys) zipped each = absurd zipped
+  each_while_out P from (x ∷ xs) [] zipped each = absurd zipped
+  each_while_out P from (x ∷ xs) (y ∷ ys) zipped each = (from x y zipped.0 each.0, each_while_out P from xs ys zipped.1 each.1)
 
 -- amounts that are the same of each pair have the same sum
-pub sum_beside : {A : Type 0} (R : A → A → Type 0) (f : A → ℕ) → ((x y : A) → R x y → f y ≡ f x) → (xs ys : List A) → AllZip R xs ys → sum_by f ys ≡ sum_by f xs
-sum_beside R f same [] [] zipped = refl
-sum_beside R f same [] (y ∷ ys) zipped = absurd zipped
-sum_beside R f same (x ∷ xs) [] zipped = absurd zipped
-sum_beside R f same (x ∷ xs) (y ∷ ys) zipped = sum_by-cons f y ys ∙ rw (same x y zipped.0, sum_beside R f same xs ys zipped.1) (sym (sum_by-cons f x xs))
+pub sum_while_out : {A : Type 0} (R : A → A → Type 0) (f : A → ℕ) → ((x y : A) → R x y → f y ≡ f x) → (xs ys : List A) → AllZip R xs ys → sum_by f ys ≡ sum_by f xs
+sum_while_out R f same [] [] zipped = refl
+sum_while_out R f same [] (y ∷ ys) zipped = absurd zipped
+sum_while_out R f same (x ∷ xs) [] zipped = absurd zipped
+sum_while_out R f same (x ∷ xs) (y ∷ ys) zipped = sum_by-cons f y ys ∙ rw (same x y zipped.0, sum_while_out R f same xs ys zipped.1) (sym (sum_by-cons f x xs))

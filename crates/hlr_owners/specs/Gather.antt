@@ -13,12 +13,12 @@ use Rattle.part_table.specs.declared.region.TheConstants.{MOST_PARTS, MOST_PIECE
 use Rattle.view_board.specs.Desks.{Station}
 use Rattle.holding.specs.Held.{HoldingState, PieceState}
 use Rattle.hlr_owners.specs.Desks.{desk_of, ShareSlots, words_of, slots_in}
-use Rattle.hlr_owners.specs.Held.{Owner, of_holding, of_piece}
+use Rattle.hlr_owners.specs.Held.{OwnerState, of_holding, of_piece}
 use Rattle.hlr_owners.specs.Store.{Store}
 
 -- all owners as they are handed in
-abbrev pub owners_of : List HoldingState → List PieceState → List Owner
-owners_of holdings pieces = map of_holding holdings ++ map of_piece pieces
+abbrev pub states_of : List HoldingState → List PieceState → List OwnerState
+states_of holdings pieces = map of_holding holdings ++ map of_piece pieces
 
 -- the range of a holding, and of a piece: of the place only its kind counts
 abbrev pub holding_range : HoldingState → Region
@@ -42,14 +42,14 @@ abbrev pub misfit : ℕ → List HoldingState → List PieceState → Option Ref
 misfit width holdings pieces =
     if (length holdings == 0) || nat_lt MOST_PARTS (length holdings) then Some NoPart
     else if nat_lt MOST_PIECES (length pieces) then Some ManyPieces
-    else if not (list_all (λ owner. owner.part.width == width) (owners_of holdings pieces)) then Some Field
+    else if not (list_all (λ state. state.part.width == width) (states_of holdings pieces)) then Some Field
     else if not (do_follow 1 (ranges_of holdings pieces)) then Some NotAdjacent
     else None
 
 -- the store that they make: the rows in the order of the ranges, the parts and pieces numbered in that order
 abbrev pub gathered : ℕ → Station → List HoldingState → List PieceState → Store
 gathered width spare holdings pieces = record {
-  book = book_of (map (λ owner. owner.part) (in_order (λ owner. owner.part.lo) (owners_of holdings pieces)));
+  book = book_of (map (λ state. state.part) (in_order (λ state. state.part.lo) (states_of holdings pieces)));
   regions = numbered 0 1 (ranges_of holdings pieces);
   words = words_of (spare ∷ map desk_of holdings);
   sight = spare.view.seen;

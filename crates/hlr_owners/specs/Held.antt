@@ -11,37 +11,37 @@ use Rattle.view_delta.specs.Pending.{pending_at}
 use Rattle.holding.specs.Held.{HoldingState, PieceState, HasSmallNets, count_of}
 
 -- an owner of rows: a part's holding, or a loose piece, of which nobody has published anything
-pub record Owner : Type 0 where
+pub record OwnerState : Type 0 where
   pub part : PartState
   pub pending : List ℤ
   pub view : View
 
 -- a holding as an owner
-abbrev pub of_holding : HoldingState → Owner
+abbrev pub of_holding : HoldingState → OwnerState
 of_holding holding = record { part = holding.part; pending = holding.pending; view = holding.desk.view }
 
 -- a loose piece as an owner, whose desk is nobody's
-abbrev pub of_piece : PieceState → Owner
+abbrev pub of_piece : PieceState → OwnerState
 of_piece piece = record { part = piece.part; pending = piece.pending; view = nobody }
 
 -- what is pending of a cell in all owners together
-abbrev pub pending_in : List Owner → ℕ → ℤ
+abbrev pub pending_in : List OwnerState → ℕ → ℤ
 pending_in [] c = pos 0
-pending_in (owner ∷ owners) c = pending_at owner.pending c +ℤ pending_in owners c
+pending_in (state ∷ states) c = pending_at state.pending c +ℤ pending_in states c
 
 -- the local law: what is published of a cell and what is pending of it are the count over the owner's rows
-pub record IsLawful (owner : Owner) : Type 0 where
-  pub rules : IsPart owner.part
-  pub law : (c : ℕ) → c < CELLS → net_of owner.view c +ℤ pending_at owner.pending c ≡ pos (count_of owner.part c)
-  pub small : HasSmallNets owner.view
+pub record IsLawful (state : OwnerState) : Type 0 where
+  pub rules : IsPart state.part
+  pub law : (c : ℕ) → c < CELLS → net_of state.view c +ℤ pending_at state.pending c ≡ pos (count_of state.part c)
+  pub small : HasSmallNets state.view
 
 -- the rules of the owner of a region: it has the rows of the region and no others, and keeps the local law
-pub record IsOwner (width : ℕ) (region : Region) (owner : Owner) : Type 0 where
-  pub from : owner.part.lo ≡ region.lo
-  pub to : owner.part.hi ≡ region.hi
-  pub zones : owner.part.width ≡ width
-  pub keeps : IsLawful owner
+pub record IsOwnerState (width : ℕ) (region : Region) (state : OwnerState) : Type 0 where
+  pub from : state.part.lo ≡ region.lo
+  pub to : state.part.hi ≡ region.hi
+  pub zones : state.part.width ≡ width
+  pub keeps : IsLawful state
 
 -- each region has its owner, in order
-abbrev pub AreOwners : ℕ → List Region → List Owner → Type 0
-AreOwners width regions owners = AllZip (IsOwner width) regions owners
+abbrev pub AreOwnerStates : ℕ → List Region → List OwnerState → Type 0
+AreOwnerStates width regions states = AllZip (IsOwnerState width) regions states

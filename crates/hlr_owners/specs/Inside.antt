@@ -7,20 +7,20 @@ use Rattle.tatp_actions.specs.Book.{empty_book}
 use Rattle.tatp_actions.specs.declared.cells.TheConstants.{CELLS}
 use Rattle.part_table.specs.declared.region.Region.{Region}
 use Rattle.holding.specs.Held.{HoldingState, IsHolding}
-use Rattle.hlr_owners.specs.Beside.{IsMovedBeside}
+use Rattle.hlr_owners.specs.WhileOut.{IsMovedWhileOut}
 use Rattle.hlr_owners.specs.Out.{outs_in}
 use Rattle.view_board.specs.Desks.{Station}
-use Rattle.hlr_owners.specs.Seats.{Seating, homes_in, is_home, of_part}
+use Rattle.hlr_owners.specs.Owners.{OwnersState, homes_in, is_home, of_part}
 use Rattle.hlr_owners.specs.Store.{Store}
-use Rattle.hlr_owners.specs.declared.lodging.Seat.{Seat}
+use Rattle.hlr_owners.specs.declared.part_owner.RegionOwner.{RegionOwner}
 
 -- a sum for each cell is at most 2^60, either way
 abbrev pub AreSummable : (ℕ → ℤ) → Type 0
 AreSummable sum = (c : ℕ) → c < CELLS → (neg_ℤ (pos (2 ^ 60)) ≤ℤ sum c) × (sum c ≤ℤ pos (2 ^ 60))
 
--- whoever sits there is at home, seat by seat
-abbrev pub AreHome : List Seat → Type 0
-AreHome seats = AllByRecursion (λ (seat : Seat). is_home seat ≡ true) seats
+-- whoever owns it is at home, owner by owner
+abbrev pub AreHome : List RegionOwner → Type 0
+AreHome owners = AllByRecursion (λ (owner : RegionOwner). is_home owner ≡ true) owners
 
 -- a holding of a region that has no row
 pub record IsOpened (region : Region) (width : ℕ) (holding : HoldingState) : Type 0 where
@@ -39,12 +39,12 @@ IsHanded whole half before (Err why) after =
 
 -- what a move leaves: who is at home, which holdings are out, the desk of the slots that no part has, and the width;
 -- and of the store the regions alone move, whatever the holdings that are out have become
-pub record IsMovedAlone (before after : Seating) : Type 0 where
-  pub homes : homes_in after.seats ≡ homes_in before.seats
-  pub outs : outs_in after.seats ≡ outs_in before.seats
-  pub same : after ≡ record before { regions = after.regions; seats = after.seats }
-  pub beside : IsMovedBeside before after
+pub record IsMovedAlone (before after : OwnersState) : Type 0 where
+  pub homes : homes_in after.owners ≡ homes_in before.owners
+  pub outs : outs_in after.owners ≡ outs_in before.owners
+  pub same : after ≡ record before { regions = after.regions; owners = after.owners }
+  pub while_out : IsMovedWhileOut before after
 
 -- the desk of a part, and none of a piece
-abbrev pub desk_at : Seat → List Station
-desk_at seat = of_part (λ lodged. lodged.holding.desk) seat
+abbrev pub desk_at : RegionOwner → List Station
+desk_at owner = of_part (λ part_owner_state. part_owner_state.holding.desk) owner

@@ -1,12 +1,12 @@
 pub mod Answered
 pub mod Apart
-pub mod Beside
+pub mod WhileOut
 pub mod Boxed
 pub mod Desks
 pub mod Gather
 pub mod Held
 pub mod Inside
-pub mod Lodged
+pub mod PartOwnerState
 pub mod Out
 pub mod Parted
 pub mod Post
@@ -14,7 +14,7 @@ pub mod Posting
 pub mod Read
 pub mod Recut
 pub mod Scattered
-pub mod Seats
+pub mod Owners
 pub mod Sight
 pub mod Store
 pub mod Words

@@ -1,26 +1,26 @@
--- Parts whose holdings are out: as they were lent, and seats with what these holdings have become.
+-- Parts whose holdings are out: as they were lent, and owners with what these holdings have become.
 use Rattle.std.specs.Prelude.{List, [], ◌∷◌, Option, Some, None, if◌then◌else◌}
 use Rattle.holding.specs.Held.{HoldingState}
-use Rattle.hlr_owners.specs.Lodged.{Lodged}
-use Rattle.hlr_owners.specs.Seats.{of_parts}
-use Rattle.hlr_owners.specs.declared.lodging.Seat.{Seat}
-use Rattle.hlr_owners.specs.declared.lodging.Seat.TheVariants.{Part, Piece}
+use Rattle.hlr_owners.specs.PartOwnerState.{PartOwnerState}
+use Rattle.hlr_owners.specs.Owners.{of_parts}
+use Rattle.hlr_owners.specs.declared.part_owner.RegionOwner.{RegionOwner}
+use Rattle.hlr_owners.specs.declared.part_owner.RegionOwner.TheVariants.{Part, Piece}
 
 -- the holding of a part that is out, as it was lent
-abbrev pub out_of : Lodged → Option HoldingState
-out_of lodged = if lodged.home then None else Some lodged.holding
+abbrev pub out_of : PartOwnerState → Option HoldingState
+out_of part_owner_state = if part_owner_state.home then None else Some part_owner_state.holding
 
 -- the holdings that are out, by the numbers of their parts
-abbrev pub outs_in : List Seat → List (Option HoldingState)
-outs_in seats = of_parts out_of seats
+abbrev pub outs_in : List RegionOwner → List (Option HoldingState)
+outs_in owners = of_parts out_of owners
 
 -- a part with this holding in place of its own, where its own is out
-abbrev pub with_out : Lodged → HoldingState → Lodged
-with_out lodged holding = record lodged { holding = if lodged.home then lodged.holding else holding }
+abbrev pub with_out : PartOwnerState → HoldingState → PartOwnerState
+with_out part_owner_state holding = record part_owner_state { holding = if part_owner_state.home then part_owner_state.holding else holding }
 
--- the seats with these holdings in the places of those that are out, by the numbers of the parts
-abbrev pub with_outs : List Seat → List HoldingState → List Seat
+-- the owners with these holdings in the places of those that are out, by the numbers of the parts
+abbrev pub with_outs : List RegionOwner → List HoldingState → List RegionOwner
 with_outs [] holdings = []
-with_outs (Piece b ∷ seats) holdings = Piece b ∷ with_outs seats holdings
-with_outs (Part lodged ∷ seats) [] = Part lodged ∷ with_outs seats []
-with_outs (Part lodged ∷ seats) (holding ∷ holdings) = Part (with_out lodged holding) ∷ with_outs seats holdings
+with_outs (Piece b ∷ owners) holdings = Piece b ∷ with_outs owners holdings
+with_outs (Part part_owner_state ∷ owners) [] = Part part_owner_state ∷ with_outs owners []
+with_outs (Part part_owner_state ∷ owners) (holding ∷ holdings) = Part (with_out part_owner_state holding) ∷ with_outs owners holdings

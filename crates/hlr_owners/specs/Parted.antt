@@ -10,10 +10,10 @@ use Rattle.view_board.specs.Views.{IsLeastSlot, both, taken_back, without}
 use Rattle.view_board.specs.Words.{leveled}
 use Rattle.view_board.specs.declared.words.TheConstants.{SLOTS}
 use Rattle.holding.specs.Held.{HoldingState}
-use Rattle.hlr_owners.specs.Beside.{MayBecome, store_with}
+use Rattle.hlr_owners.specs.WhileOut.{MayBecome, store_with}
 use Rattle.hlr_owners.specs.Out.{outs_in}
 use Rattle.hlr_owners.specs.Post.{least_slot}
-use Rattle.hlr_owners.specs.Seats.{Seating, desks_in, homes_in}
+use Rattle.hlr_owners.specs.Owners.{OwnersState, desks_in, homes_in}
 use Rattle.hlr_owners.specs.Store.{Store, slots_of}
 
 -- the least slot that no part has
@@ -46,42 +46,42 @@ IsDissolved part (Ok front) before after =
     }) × ((w : ℕ) → slice_index before.sight w ≤ slice_index after.sight w)
 
 -- who is at home and who is out, with a new part behind one; the desk of the free slots gave up its least one
-pub record IsWithNew (part : ℕ) (before after : Seating) : Type 0 where
-  pub homes : homes_in after.seats ≡ insert (homes_in before.seats) (part + 1) true
-  pub outs : outs_in after.seats ≡ insert (outs_in before.seats) (part + 1) None
+pub record IsWithNew (part : ℕ) (before after : OwnersState) : Type 0 where
+  pub homes : homes_in after.owners ≡ insert (homes_in before.owners) (part + 1) true
+  pub outs : outs_in after.owners ≡ insert (outs_in before.owners) (part + 1) None
   pub slot : ℕ
   pub least : IsLeastSlot before.spare.view slot
   pub spare : after.spare ≡ with_view before.spare (without before.spare.view slot)
   pub width : after.width ≡ before.width
 
 -- and without a part; the desk of the free slots took in the part's, which had taken back what it had published
-pub record IsWithout (part : ℕ) (before after : Seating) : Type 0 where
-  pub homes : homes_in after.seats ≡ remove (homes_in before.seats) part
-  pub outs : outs_in after.seats ≡ remove (outs_in before.seats) part
+pub record IsWithout (part : ℕ) (before after : OwnersState) : Type 0 where
+  pub homes : homes_in after.owners ≡ remove (homes_in before.owners) part
+  pub outs : outs_in after.owners ≡ remove (outs_in before.owners) part
   pub gone : Station
-  pub there : slice_get (desks_in before.seats) part ≡ Some gone
+  pub there : slice_get (desks_in before.owners) part ≡ Some gone
   pub slot : ℕ
   pub least : IsLeastSlot gone.view slot
   pub spare : after.spare ≡ with_view before.spare (both before.spare.view (taken_back gone.view slot))
   pub seen : (w : ℕ) → slice_index before.spare.view.seen w ≤ slice_index after.spare.view.seen w
   pub width : after.width ≡ before.width
 
--- the house after a divide, and after a dissolve: a refusal leaves it
-abbrev pub IsHouseDivided : ℕ → Result (ℕ × ℕ × ℕ) Refusal → Seating → Seating → Type 0
-IsHouseDivided part (Err why) before after = after ≡ before
-IsHouseDivided part (Ok new) before after = IsWithNew part before after
+-- who is at home after a divide, and after a dissolve: a refusal leaves it
+abbrev pub AreHomesDivided : ℕ → Result (ℕ × ℕ × ℕ) Refusal → OwnersState → OwnersState → Type 0
+AreHomesDivided part (Err why) before after = after ≡ before
+AreHomesDivided part (Ok new) before after = IsWithNew part before after
 
 -- who is at home, and who is out, after a dissolve
-abbrev pub IsHouseDissolved : ℕ → Result (ℕ × ℕ × ℕ) Refusal → Seating → Seating → Type 0
-IsHouseDissolved part (Err why) before after = after ≡ before
-IsHouseDissolved part (Ok front) before after = IsWithout part before after
+abbrev pub AreHomesDissolved : ℕ → Result (ℕ × ℕ × ℕ) Refusal → OwnersState → OwnersState → Type 0
+AreHomesDissolved part (Err why) before after = after ≡ before
+AreHomesDissolved part (Ok front) before after = IsWithout part before after
 
 -- the same of the stores, whatever the holdings that are out have become
-abbrev pub IsDividedBeside : ℕ → ℕ → Result (ℕ × ℕ × ℕ) Refusal → Seating → Seating → Type 0
-IsDividedBeside part at done before after =
-    (holdings : List HoldingState) → MayBecome before.seats holdings → IsDivided part at done (store_with before holdings) (store_with after holdings)
+abbrev pub IsDividedWhileOut : ℕ → ℕ → Result (ℕ × ℕ × ℕ) Refusal → OwnersState → OwnersState → Type 0
+IsDividedWhileOut part at done before after =
+    (holdings : List HoldingState) → MayBecome before.owners holdings → IsDivided part at done (store_with before holdings) (store_with after holdings)
 
 -- a dissolve is right of the stores, whatever the holdings that are out have become
-abbrev pub IsDissolvedBeside : ℕ → Result (ℕ × ℕ × ℕ) Refusal → Seating → Seating → Type 0
-IsDissolvedBeside part done before after =
-    (holdings : List HoldingState) → MayBecome before.seats holdings → IsDissolved part done (store_with before holdings) (store_with after holdings)
+abbrev pub IsDissolvedWhileOut : ℕ → Result (ℕ × ℕ × ℕ) Refusal → OwnersState → OwnersState → Type 0
+IsDissolvedWhileOut part done before after =
+    (holdings : List HoldingState) → MayBecome before.owners holdings → IsDissolved part done (store_with before holdings) (store_with after holdings)

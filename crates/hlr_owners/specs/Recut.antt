@@ -10,7 +10,7 @@ use Rattle.part_table.specs.declared.moves.CutMove.{CutMove}
 use Rattle.part_table.specs.declared.region.Region.{Region}
 use Rattle.part_table.specs.declared.region.Side.{Side}
 use Rattle.part_table.specs.declared.region.Side.TheVariants.{Low, High}
-use Rattle.hlr_owners.specs.Seats.{Seating, IsPartHome}
+use Rattle.hlr_owners.specs.Owners.{OwnersState, IsPartHome}
 use Rattle.hlr_owners.specs.Store.{Store}
 
 -- the regions after a part gave a stretch away, where it is not refused
@@ -24,11 +24,11 @@ half_moved move regions =
     else given_away (move.bound - 1) High move.to regions
 
 -- the parts on both sides of a bound that moves are at home
-abbrev pub IsHomeToMove : Seating → CutMove → Type 0
+abbrev pub IsHomeToMove : OwnersState → CutMove → Type 0
 IsHomeToMove h move = IsPartHome (move.bound - 1) h × IsPartHome move.bound h
 
 -- the parts on which a re-cut works are at home: those on both sides of each bound that it moves
-abbrev pub IsHomeToCut : List ℕ → Seating → Type 0
+abbrev pub IsHomeToCut : List ℕ → OwnersState → Type 0
 IsHomeToCut bounds h = IfOk (recut_answer h.regions bounds) (AllByRecursion (IsHomeToMove h))
 
 -- moves that want of memory stopped: those in front of one are done, and of that one nothing, or its give

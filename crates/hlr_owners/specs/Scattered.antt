@@ -9,13 +9,13 @@ use Rattle.part_table.specs.Regions.{AreRegions}
 use Rattle.part_table.specs.declared.region.Region.{Region}
 use Rattle.part_table.specs.declared.region.TheConstants.{MOST_PARTS, MOST_PIECES}
 use Rattle.holding.specs.Held.{HoldingState, PieceState, IsHolding, IsPiece}
-use Rattle.hlr_owners.specs.Gather.{owners_of, ranges_of, MayGather, misfit, gathered}
+use Rattle.hlr_owners.specs.Gather.{states_of, ranges_of, MayGather, misfit, gathered}
 use Rattle.hlr_owners.specs.Held.{pending_in}
 use Rattle.hlr_owners.specs.Boxed.{unboxed}
 use Rattle.hlr_owners.specs.Store.{Store}
-use Rattle.hlr_owners.specs.Apart.{seats_from}
-use Rattle.hlr_owners.specs.Seats.{IsSeat, store_in}
-use Rattle.hlr_owners.specs.declared.lodging.Seat.{Seat}
+use Rattle.hlr_owners.specs.Apart.{owners_from}
+use Rattle.hlr_owners.specs.Owners.{IsRegionOwner, store_in}
+use Rattle.hlr_owners.specs.declared.part_owner.RegionOwner.{RegionOwner}
 use Rattle.hlr_owners.specs.declared.scattered.Scattered.{Scattered}
 
 -- its holdings, and its pieces
@@ -28,7 +28,7 @@ pieces_in apart = unboxed apart.pieces.items
 
 -- what is pending of a cell in all of them
 abbrev pub pending_together : Scattered → ℕ → ℤ
-pending_together apart c = pending_in (owners_of (holdings_in apart) (pieces_in apart)) c
+pending_together apart c = pending_in (states_of (holdings_in apart) (pieces_in apart)) c
 
 -- its desks are the board's, and share its slots
 abbrev pub MayBeGathered : Scattered → Type 0
@@ -42,17 +42,17 @@ misfit_of apart = misfit apart.frame.width (holdings_in apart) (pieces_in apart)
 abbrev pub store_from : Scattered → Store
 store_from apart = gathered apart.frame.width apart.frame.spare (holdings_in apart) (pieces_in apart)
 
--- its owners by where their ranges begin, as seats
-abbrev pub seats_in : Scattered → List Seat
-seats_in apart = seats_from (holdings_in apart) apart.pieces.items
+-- its owners by where their ranges begin, as owners
+abbrev pub owners_in : Scattered → List RegionOwner
+owners_in apart = owners_from (holdings_in apart) apart.pieces.items
 
 -- the store that it is beside regions of which each has its owner, in order
 abbrev pub store_by : List Region → Scattered → Store
-store_by regions apart = store_in (record { regions = regions; seats = seats_in apart; spare = apart.frame.spare; width = apart.frame.width })
+store_by regions apart = store_in (record { regions = regions; owners = owners_in apart; spare = apart.frame.spare; width = apart.frame.width })
 
 -- they are those of the regions
 abbrev pub AreOfRegions : List Region → ℕ → Scattered → Type 0
-AreOfRegions regions width apart = AllZip (IsSeat width) regions (seats_in apart)
+AreOfRegions regions width apart = AllZip (IsRegionOwner width) regions (owners_in apart)
 
 -- there is a holding, and few of each
 pub record AreFew (holdings : List HoldingState) (pieces : List PieceState) : Type 0 where

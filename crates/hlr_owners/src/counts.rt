@@ -1,4 +1,4 @@
-//! Counts over all seats: what is published, what is pending, and what the rows have.
+//! Counts over all owners: what is published, what is pending, and what the rows have.
 ghost use Rattle.std.specs.Prelude.{◌≡◌, ℕ, ◌<◌, ◌+ℤ◌, true, pos, slice_index, slice_index_or};
 ghost use Rattle.tatp_actions.specs.Cell.{cell};
 ghost use Rattle.tatp_actions.specs.declared.cells.TheConstants.{CELLS};
@@ -9,98 +9,98 @@ ghost use Rattle.std.specs.List.{AllByRecursion};
 ghost use Rattle.hlr_owners.specs.Desks.{HasOneSlot};
 ghost use Rattle.hlr_owners.specs.Inside.{AreSummable, desk_at};
 ghost use Rattle.hlr_owners.specs.Store.{published, unpublished};
-ghost use Rattle.hlr_owners.specs.Seats.{AllHome, is_home, owner_of, book_in, store_in, unposted};
+ghost use Rattle.hlr_owners.specs.Owners.{AllHome, is_home, state_of, book_in, store_in, unposted};
 
-use crate::lodging::Seat;
-use crate::owner::Owner;
-use crate::seats::Seats;
+use crate::owners::Owners;
+use crate::part_owner::RegionOwner;
+use crate::range_owner::RangeOwner;
 use tatp_actions::{CELLS, Cells};
 
-impl Seat {
+impl RegionOwner {
     /// The count of each cell, taken by a walk over the rows.
     fn recount(&self) -> Cells
         requires { is_home self.now ≡ true }
-        ensures { (c : ℕ) → c < CELLS → slice_index result c ≡ count_of (owner_of self.now).part c }
+        ensures { (c : ℕ) → c < CELLS → slice_index result c ≡ count_of (state_of self.now).part c }
     {
         match self {
-            Seat::Part(lodging) => lodging.holding().recount(),
-            Seat::Piece(piece) => piece.recount(),
+            RegionOwner::Part(part_owner) => part_owner.holding().recount(),
+            RegionOwner::Piece(piece) => piece.recount(),
         }
     }
 }
 
-/// Adds what a seat's owner has published of each cell to a sum: of a loose piece nobody has published anything.
-fn add_published(sums: &mut [i64; CELLS as usize], seat: &Seat)
-    requires home { is_home seat.now ≡ true }
-    requires alone { AllByRecursion HasOneSlot (desk_at seat.now) }
+/// Adds what an owner's owner has published of each cell to a sum: of a loose piece nobody has published anything.
+fn add_published(sums: &mut [i64; CELLS as usize], owner: &RegionOwner)
+    requires home { is_home owner.now ≡ true }
+    requires alone { AllByRecursion HasOneSlot (desk_at owner.now) }
     requires sums { AreSummable (pending_at sums.old) }
-    ensures { (c : ℕ) → c < CELLS → pending_at sums.new c ≡ pending_at sums.old c +ℤ net_of (owner_of seat.now).view c }
+    ensures { (c : ℕ) → c < CELLS → pending_at sums.new c ≡ pending_at sums.old c +ℤ net_of (state_of owner.now).view c }
 {
-    match seat {
-        Seat::Part(lodging) => lodging.holding().add_nets(sums),
-        Seat::Piece(_) => {}
+    match owner {
+        RegionOwner::Part(part_owner) => part_owner.holding().add_nets(sums),
+        RegionOwner::Piece(_) => {}
     }
 }
 
 /// Adds what is pending of each cell with an owner to a sum. Neither is past 2^60, either way.
-fn add_deltas<O: Owner>(sums: &mut [i64; CELLS as usize], owner: &O)
+fn add_deltas<O: RangeOwner>(sums: &mut [i64; CELLS as usize], state: &O)
     requires sums { AreSummable (pending_at sums.old) }
-    requires pending { AreSummable (pending_at (O.deltas_of owner.now)) }
-    ensures { (c : ℕ) → c < CELLS → pending_at sums.new c ≡ pending_at sums.old c +ℤ pending_at (O.deltas_of owner.now) c }
+    requires pending { AreSummable (pending_at (O.deltas_of state.now)) }
+    ensures { (c : ℕ) → c < CELLS → pending_at sums.new c ≡ pending_at sums.old c +ℤ pending_at (O.deltas_of state.now) c }
 {
     for cell in 0..CELLS {
-        sums[usize::from(cell)] += owner.delta(cell);
+        sums[usize::from(cell)] += state.delta(cell);
     }
 }
 
-/// The same with the owner who sits there.
-fn add_pending(sums: &mut [i64; CELLS as usize], seat: &Seat)
-    requires home { is_home seat.now ≡ true }
+/// The same with the owner who owns it.
+fn add_pending(sums: &mut [i64; CELLS as usize], owner: &RegionOwner)
+    requires home { is_home owner.now ≡ true }
     requires sums { AreSummable (pending_at sums.old) }
-    requires pending { AreSummable (pending_at (owner_of seat.now).pending) }
-    ensures { (c : ℕ) → c < CELLS → pending_at sums.new c ≡ pending_at sums.old c +ℤ pending_at (owner_of seat.now).pending c }
+    requires pending { AreSummable (pending_at (state_of owner.now).pending) }
+    ensures { (c : ℕ) → c < CELLS → pending_at sums.new c ≡ pending_at sums.old c +ℤ pending_at (state_of owner.now).pending c }
 {
-    match seat {
-        Seat::Part(lodging) => add_deltas(sums, lodging.holding()),
-        Seat::Piece(piece) => add_deltas(sums, &**piece),
+    match owner {
+        RegionOwner::Part(part_owner) => add_deltas(sums, part_owner.holding()),
+        RegionOwner::Piece(piece) => add_deltas(sums, &**piece),
     }
 }
 
-impl Seats {
+impl Owners {
     /// The cells as published: the sum of what the parts' desks have published. The desk of the other slots has a net
     /// of 0.
     pub fn published(&self) -> [i64; CELLS as usize]
-        requires { AllHome self.now.seats }
+        requires { AllHome self.now.owners }
         ensures { (c : ℕ) → c < CELLS → slice_index_or result c (pos 0) ≡ published (store_in self.now) c }
     {
         let mut sums = [0; CELLS as usize];
-        for seat in &self.seats {
-            add_published(&mut sums, seat);
+        for owner in &self.owners {
+            add_published(&mut sums, owner);
         }
         sums
     }
 
     /// What is not posted yet of each cell: the sum of what is pending in all parts and loose pieces.
     pub fn unposted(&self) -> [i64; CELLS as usize]
-        requires { AllHome self.now.seats }
-        ensures pending { (c : ℕ) → c < CELLS → slice_index_or result c (pos 0) ≡ unposted self.now.seats c }
+        requires { AllHome self.now.owners }
+        ensures pending { (c : ℕ) → c < CELLS → slice_index_or result c (pos 0) ≡ unposted self.now.owners c }
         ensures difference { (c : ℕ) → c < CELLS → slice_index_or result c (pos 0) ≡ unpublished (store_in self.now) c }
     {
         let mut sums = [0; CELLS as usize];
-        for seat in &self.seats {
-            add_pending(&mut sums, seat);
+        for owner in &self.owners {
+            add_pending(&mut sums, owner);
         }
         sums
     }
 
     /// The count of each cell, taken by a walk over all rows, those of loose pieces too.
     pub fn recount(&self) -> Cells
-        requires { AllHome self.now.seats }
-        ensures { (c : ℕ) → c < CELLS → slice_index result c ≡ cell self.now.width c (book_in self.now.seats) }
+        requires { AllHome self.now.owners }
+        ensures { (c : ℕ) → c < CELLS → slice_index result c ≡ cell self.now.width c (book_in self.now.owners) }
     {
         let mut counts = Cells::zero();
-        for seat in &self.seats {
-            counts.add(&seat.recount());
+        for owner in &self.owners {
+            counts.add(&owner.recount());
         }
         counts
     }

@@ -1,38 +1,38 @@
 //! Whether all parts are at home.
 ghost use Rattle.std.specs.Prelude.{◌≡◌, ◌↔◌, IsTrue};
 ghost use Rattle.std.specs.List.{list_all};
-ghost use Rattle.hlr_owners.specs.Seats.{AllHome, is_home};
+ghost use Rattle.hlr_owners.specs.Owners.{AllHome, is_home};
 
-use crate::lodging::Seat;
-use crate::seats::Seats;
+use crate::owners::Owners;
+use crate::part_owner::RegionOwner;
 
-/// Whether nobody who sits there is out.
-fn is_home(seat: &Seat) -> bool
-    ensures { result ≡ is_home seat.now }
+/// Whether nobody who owns it is out.
+fn is_home(owner: &RegionOwner) -> bool
+    ensures { result ≡ is_home owner.now }
 {
-    match seat {
-        Seat::Part(lodging) => lodging.is_home(),
-        Seat::Piece(_) => true,
+    match owner {
+        RegionOwner::Part(part_owner) => part_owner.is_home(),
+        RegionOwner::Piece(_) => true,
     }
 }
 
 /// Whether nobody is out.
-fn are_home(seats: &[Seat]) -> bool
-    ensures { result ≡ list_all is_home seats.now }
+fn are_home(owners: &[RegionOwner]) -> bool
+    ensures { result ≡ list_all is_home owners.now }
 {
-    for seat in seats {
-        if !is_home(seat) {
+    for owner in owners {
+        if !is_home(owner) {
             return false;
         }
     }
     true
 }
 
-impl Seats {
+impl Owners {
     /// Whether all parts are at home.
     pub fn all_at_home(&self) -> bool
-        ensures { IsTrue result ↔ AllHome self.now.seats }
+        ensures { IsTrue result ↔ AllHome self.now.owners }
     {
-        are_home(&self.seats)
+        are_home(&self.owners)
     }
 }

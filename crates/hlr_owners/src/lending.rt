@@ -5,22 +5,22 @@ ghost use Rattle.tatp_rows.specs.declared.ranges.TheConstants.{LAST_SUBSCRIBER};
 ghost use Rattle.tatp_actions.specs.Book.{IsWithin};
 ghost use Rattle.tatp_actions.specs.declared.action.Action.TheVariants as action;
 ghost use Rattle.tatp_actions.specs.declared.action.RowReply.TheVariants as row_reply;
-ghost use Rattle.hlr_owners.specs.Beside.{IsReadBeside};
+ghost use Rattle.hlr_owners.specs.WhileOut.{IsReadWhileOut};
 ghost use Rattle.hlr_owners.specs.Read.{IsRead};
-ghost use Rattle.hlr_owners.specs.Seats.{IsHomeFor, store_in};
+ghost use Rattle.hlr_owners.specs.Owners.{IsHomeFor, store_in};
 
-use crate::seats::Seats;
+use crate::owners::Owners;
 use arrayvec::ArrayVec;
 use tatp_rows::{Access, Number, Refusal, Subscriber};
 
-impl Seats {
+impl Owners {
     /// The Subscriber row of a subscriber: `Moving`, `NoSubscriber`.
     pub fn lend_subscriber(&self, s_id: u32) -> Result<&Subscriber, Refusal>
         requires subscriber { IsWithin 1 (LAST_SUBSCRIBER + 1) s_id }
         requires home { IsHomeFor s_id self.now }
         ensures row { IfOk result (λ row. IsRead (action.SubscriberData s_id) (store_in self.now) (row_reply.Row row.now)) }
         ensures refused { IfErr result (λ why. IsRead (action.SubscriberData s_id) (store_in self.now) (row_reply.Refused why)) }
-        ensures beside { MatchResult result (λ row. IsReadBeside (action.SubscriberData s_id) self.now (row_reply.Row row.now)) (λ why. IsReadBeside (action.SubscriberData s_id) self.now (row_reply.Refused why)) }
+        ensures while_out { MatchResult result (λ row. IsReadWhileOut (action.SubscriberData s_id) self.now (row_reply.Row row.now)) (λ why. IsReadWhileOut (action.SubscriberData s_id) self.now (row_reply.Refused why)) }
     {
         let holding = self.holding_of(s_id)?;
         match holding.lend_subscriber(s_id) {
@@ -36,7 +36,7 @@ impl Seats {
         requires kind { is_between 1 4 ai_type ≡ true }
         ensures row { IfOk result (λ row. IsRead (action.AccessData s_id ai_type) (store_in self.now) (row_reply.AccessRow row.now.data1 row.now.data2 row.now.data3 row.now.data4)) }
         ensures refused { IfErr result (λ why. IsRead (action.AccessData s_id ai_type) (store_in self.now) (row_reply.Refused why)) }
-        ensures beside { MatchResult result (λ row. IsReadBeside (action.AccessData s_id ai_type) self.now (row_reply.AccessRow row.now.data1 row.now.data2 row.now.data3 row.now.data4)) (λ why. IsReadBeside (action.AccessData s_id ai_type) self.now (row_reply.Refused why)) }
+        ensures while_out { MatchResult result (λ row. IsReadWhileOut (action.AccessData s_id ai_type) self.now (row_reply.AccessRow row.now.data1 row.now.data2 row.now.data3 row.now.data4)) (λ why. IsReadWhileOut (action.AccessData s_id ai_type) self.now (row_reply.Refused why)) }
     {
         let holding = self.holding_of(s_id)?;
         match holding.lend_access(s_id, ai_type) {
@@ -61,7 +61,7 @@ impl Seats {
         requires end { is_between 1 24 end_time ≡ true }
         ensures numbers { IfOk result (λ numbers. IsRead (action.NewDestination s_id sf_type start_time end_time) (store_in self.now) (row_reply.Numbers numbers)) }
         ensures refused { IfErr result (λ why. IsRead (action.NewDestination s_id sf_type start_time end_time) (store_in self.now) (row_reply.Refused why)) }
-        ensures beside { MatchResult result (λ numbers. IsReadBeside (action.NewDestination s_id sf_type start_time end_time) self.now (row_reply.Numbers numbers)) (λ why. IsReadBeside (action.NewDestination s_id sf_type start_time end_time) self.now (row_reply.Refused why)) }
+        ensures while_out { MatchResult result (λ numbers. IsReadWhileOut (action.NewDestination s_id sf_type start_time end_time) self.now (row_reply.Numbers numbers)) (λ why. IsReadWhileOut (action.NewDestination s_id sf_type start_time end_time) self.now (row_reply.Refused why)) }
     {
         let holding = self.holding_of(s_id)?;
         let numbers = holding.destinations(s_id, sf_type, start_time, end_time);

@@ -4,12 +4,12 @@ ghost use Rattle.std.specs.List.{All, list_all};
 ghost use Rattle.tatp_rows.specs.declared.ranges.TheConstants.{LAST_SUBSCRIBER};
 ghost use Rattle.part_table.specs.Region.{lies_in};
 ghost use Rattle.tatp_actions.specs.Book.{IsWithin};
-ghost use Rattle.hlr_owners.specs.Beside.{HasRowsBeside};
+ghost use Rattle.hlr_owners.specs.WhileOut.{HasRowsWhileOut};
 ghost use Rattle.hlr_owners.specs.Read.{HasRowsOf};
-ghost use Rattle.hlr_owners.specs.Seats.{IsHomeFor, store_in};
+ghost use Rattle.hlr_owners.specs.Owners.{IsHomeFor, store_in};
 
-use crate::lodging::Seat;
-use crate::seats::Seats;
+use crate::owners::Owners;
+use crate::part_owner::RegionOwner;
 use holding::Holding;
 use part_table::Region;
 
@@ -32,22 +32,22 @@ fn all_lie_in(region: &Region, s_ids: &[u32]) -> bool
     true
 }
 
-impl Seats {
+impl Owners {
     /// The holding of all of these subscribers, to be read, where one part has them all. It takes no memory.
     pub fn holding_of_all(&self, s_ids: &[u32]) -> Option<&Holding>
         requires within { All (IsWithin 1 (LAST_SUBSCRIBER + 1)) s_ids.now }
         requires home { All (λ s_id. IsHomeFor s_id self.now) s_ids.now }
         ensures home { IfSome result (λ holding. All (λ s_id. HasRowsOf s_id (store_in self.now) holding.now) s_ids.now) }
-        ensures beside { IfSome result (λ holding. All (λ s_id. HasRowsBeside s_id self.now holding.now) s_ids.now) }
+        ensures while_out { IfSome result (λ holding. All (λ s_id. HasRowsWhileOut s_id self.now holding.now) s_ids.now) }
     {
-        let i = self.seat_of(*s_ids.first()?);
+        let i = self.owner_of(*s_ids.first()?);
         let region = self.regions.list()[i];
         if !all_lie_in(&region, s_ids) {
             return None;
         }
-        match &self.seats[i] {
-            Seat::Part(lodging) => Some(lodging.holding()),
-            Seat::Piece(_) => None,
+        match &self.owners[i] {
+            RegionOwner::Part(part_owner) => Some(part_owner.holding()),
+            RegionOwner::Piece(_) => None,
         }
     }
 }

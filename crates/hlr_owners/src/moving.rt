@@ -3,17 +3,17 @@ ghost use Rattle.std.specs.Prelude.{◌≡◌, ◌+◌, ◌<◌};
 ghost use Rattle.part_table.specs.Give.{give_answer, after_give, piece_index};
 ghost use Rattle.part_table.specs.Take.{take_answer, after_take};
 ghost use Rattle.hlr_owners.specs.Answered.{MayAnswer};
-ghost use Rattle.hlr_owners.specs.Beside.{IsMovedBeside};
+ghost use Rattle.hlr_owners.specs.WhileOut.{IsMovedWhileOut};
 ghost use Rattle.hlr_owners.specs.Out.{outs_in};
-ghost use Rattle.hlr_owners.specs.Seats.{IsPartHome, taker, homes_in, store_in};
+ghost use Rattle.hlr_owners.specs.Owners.{IsPartHome, taker, homes_in, store_in};
 
-use crate::lodging::Seat;
+use crate::owners::Owners;
+use crate::part_owner::RegionOwner;
 use crate::room::insert_reserved;
-use crate::seats::Seats;
 use part_table::Side;
 use tatp_rows::Refusal;
 
-/// Where a piece stands that a seat gives away.
+/// Where a piece stands that an owner gives away.
 fn piece_index(side: Side, i: usize) -> usize
     requires { i < 32 }
     ensures { result ≡ piece_index side i }
@@ -24,7 +24,7 @@ fn piece_index(side: Side, i: usize) -> usize
     }
 }
 
-/// Where the part stands that takes a piece from a seat, once that seat is gone.
+/// Where the part stands that takes a piece from an owner, once that owner is gone.
 fn taker(side: Side, i: usize) -> usize
     ensures { result ≡ taker side i }
 {
@@ -34,7 +34,7 @@ fn taker(side: Side, i: usize) -> usize
     }
 }
 
-impl Seats {
+impl Owners {
     /// A part gives the stretch on one side of `at` away, as a loose piece with the least free number; the answer is
     /// that number, and where the piece begins and ends. `NoPart`, `OutOfRange`, `ManyPieces`, `Memory`; a refusal
     /// changes nothing.
@@ -42,17 +42,21 @@ impl Seats {
         requires home { IsPartHome part self.old }
         ensures answer { MayAnswer (give_answer part side at self.old.regions) result }
         ensures after { store_in self.new ≡ record (store_in self.old) { regions = after_give part side at result self.old.regions } }
-        ensures same { self.new ≡ record self.old { regions = self.new.regions; seats = self.new.seats } }
-        ensures homes { homes_in self.new.seats ≡ homes_in self.old.seats }
-        ensures outs { outs_in self.new.seats ≡ outs_in self.old.seats }
-        ensures beside { IsMovedBeside self.old self.new }
+        ensures same { self.new ≡ record self.old { regions = self.new.regions; owners = self.new.owners } }
+        ensures homes { homes_in self.new.owners ≡ homes_in self.old.owners }
+        ensures outs { outs_in self.new.owners ≡ outs_in self.old.owners }
+        ensures while_out { IsMovedWhileOut self.old self.new }
     {
         let (i, told) = self.regions.giving(part, side, at)?;
-        let piece = match &mut self.seats[i] {
-            Seat::Part(lodging) => lodging.give(side, at as u32)?,
-            Seat::Piece(_) => unreachable!(),
+        let piece = match &mut self.owners[i] {
+            RegionOwner::Part(part_owner) => part_owner.give(side, at as u32)?,
+            RegionOwner::Piece(_) => unreachable!(),
         };
-        insert_reserved(&mut self.seats, piece_index(side, i), Seat::Piece(piece));
+        insert_reserved(
+            &mut self.owners,
+            piece_index(side, i),
+            RegionOwner::Piece(piece),
+        );
         self.regions.give_at(i, side, at, told);
         Ok(told)
     }
@@ -63,21 +67,21 @@ impl Seats {
         requires home { IsPartHome part self.old }
         ensures answer { MayAnswer (take_answer piece part self.old.regions) result }
         ensures after { store_in self.new ≡ record (store_in self.old) { regions = after_take piece part result self.old.regions } }
-        ensures same { self.new ≡ record self.old { regions = self.new.regions; seats = self.new.seats } }
-        ensures homes { homes_in self.new.seats ≡ homes_in self.old.seats }
-        ensures outs { outs_in self.new.seats ≡ outs_in self.old.seats }
-        ensures beside { IsMovedBeside self.old self.new }
+        ensures same { self.new ≡ record self.old { regions = self.new.regions; owners = self.new.owners } }
+        ensures homes { homes_in self.new.owners ≡ homes_in self.old.owners }
+        ensures outs { outs_in self.new.owners ≡ outs_in self.old.owners }
+        ensures while_out { IsMovedWhileOut self.old self.new }
     {
         let (i, side) = self.regions.taking(piece, part)?;
-        let Seat::Piece(taken) = self.seats.remove(i) else {
+        let RegionOwner::Piece(taken) = self.owners.remove(i) else {
             unreachable!()
         };
-        let done = match &mut self.seats[taker(side, i)] {
-            Seat::Part(lodging) => lodging.take(taken),
-            Seat::Piece(_) => unreachable!(),
+        let done = match &mut self.owners[taker(side, i)] {
+            RegionOwner::Part(part_owner) => part_owner.take(taken),
+            RegionOwner::Piece(_) => unreachable!(),
         };
         if let Err(back) = done {
-            insert_reserved(&mut self.seats, i, Seat::Piece(back.item));
+            insert_reserved(&mut self.owners, i, RegionOwner::Piece(back.item));
             return Err(back.why);
         }
         self.regions.take_at(i, side);

@@ -1,4 +1,4 @@
-//! Seats of parts that have no row.
+//! Owners of parts that have no row.
 ghost use Rattle.std.specs.Prelude.{◌≡◌, ◌<◌, ◌⊎◌, true, Err, IfOk, OnErr};
 ghost use Rattle.tatp_actions.specs.Part.{IsRange, IsWidth};
 ghost use Rattle.view_board.specs.Desks.{with_view};
@@ -9,11 +9,11 @@ ghost use Rattle.holding.specs.Held.{HasSmallNets};
 ghost use Rattle.hlr_owners.specs.Desks.{AreLevel};
 ghost use Rattle.hlr_owners.specs.Inside.{IsOpened};
 ghost use Rattle.hlr_owners.specs.Store.{HasOpening, opening_from};
-ghost use Rattle.hlr_owners.specs.Seats.{AllHome, store_in};
+ghost use Rattle.hlr_owners.specs.Owners.{AllHome, store_in};
 
-use crate::lodging::{Lodging, Seat};
-use crate::prepared::{Rooms, SEATS};
-use crate::seats::Seats;
+use crate::owners::Owners;
+use crate::part_owner::{PartOwner, RegionOwner};
+use crate::prepared::{MOST_OWNERS, Rooms};
 use holding::Holding;
 use part_table::{Region, Regions};
 use std::alloc::Global;
@@ -80,29 +80,29 @@ fn opened(
     boxed(alloc, Holding::of(alloc, part, desk))
 }
 
-impl Seats {
+impl Owners {
     /// Empty parts with their shares of all subscribers, no loose piece, and a board of these words, of which each part
     /// has one slot; `Field` where a word passes `LIMIT`, else `Memory` where a growth was refused.
     pub fn open(alloc: Global, parts: u8, width: u32, words: &[u64; WORDS]) -> Result<Self, Refusal>
         requires can { HasOpening parts width }
         requires level { AreLevel words.now }
-        ensures ok { IfOk result (λ seats. AreSmall words.now × (store_in seats ≡ opening_from parts width words.now)) }
-        ensures home { IfOk result (λ seats. AllHome seats.seats) }
+        ensures ok { IfOk result (λ owners. AreSmall words.now × (store_in owners ≡ opening_from parts width words.now)) }
+        ensures home { IfOk result (λ owners. AllHome owners.owners) }
         ensures err { OnErr result (((result ≡ Err Refusal.Field) × HasGreat words.now) ⊎ ((result ≡ Err Refusal.Memory) × AreSmall words.now)) }
     {
         let regions = Regions::opening(parts, width)?;
         let (board, mut spare) = opened_board(alloc, words)?;
         let board = Arc::new(alloc, board)?;
-        let mut seats = Vec::with_capacity(alloc, SEATS)?;
+        let mut owners = Vec::with_capacity(alloc, MOST_OWNERS)?;
         let rooms = Rooms::new(alloc)?;
         for region in regions.list() {
-            let slot = seats.len() as u8;
+            let slot = owners.len() as u8;
             let holding = opened(alloc, &board, &mut spare, slot, *region, width)?;
-            seats.push_reserved(Seat::Part(Lodging::of(holding)));
+            owners.push_reserved(RegionOwner::Part(PartOwner::of(holding)));
         }
-        Ok(Seats {
+        Ok(Owners {
             regions,
-            seats,
+            owners,
             rooms,
             board,
             spare,

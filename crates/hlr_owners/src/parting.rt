@@ -3,16 +3,16 @@ ghost use Rattle.std.specs.Prelude.{◌-◌};
 ghost use Rattle.part_table.specs.Dissolve.{dissolve_answer};
 ghost use Rattle.part_table.specs.Divide.{divide_answer};
 ghost use Rattle.hlr_owners.specs.Answered.{MayAnswer};
-ghost use Rattle.hlr_owners.specs.Parted.{IsDissolved, IsDissolvedBeside, IsDivided, IsDividedBeside, IsHouseDissolved, IsHouseDivided};
-ghost use Rattle.hlr_owners.specs.Seats.{IsHomeFrom, store_in};
+ghost use Rattle.hlr_owners.specs.Parted.{IsDissolved, IsDissolvedWhileOut, IsDivided, IsDividedWhileOut, AreHomesDissolved, AreHomesDivided};
+ghost use Rattle.hlr_owners.specs.Owners.{IsHomeFrom, store_in};
 
-use crate::lodging::{Lodging, Seat};
 use crate::opening::split_off;
+use crate::owners::Owners;
+use crate::part_owner::{PartOwner, RegionOwner};
 use crate::room::insert_reserved;
-use crate::seats::Seats;
 use tatp_rows::Refusal;
 
-impl Seats {
+impl Owners {
     /// Divides a part at a subscriber: it keeps what is below, a new part with the next number has the rest and the
     /// least free slot, and later parts' numbers rise by one. The answer is the new part's number, and where it begins
     /// and ends. `NoPart`, `OutOfRange`, `ManyParts`, `Memory`; a refusal changes nothing. The part and all behind it
@@ -21,17 +21,17 @@ impl Seats {
         requires home { IsHomeFrom part self.old }
         ensures answer { MayAnswer (divide_answer part at self.old.regions) result }
         ensures after { IsDivided part at result (store_in self.old) (store_in self.new) }
-        ensures house { IsHouseDivided part result self.old self.new }
-        ensures beside { IsDividedBeside part at result self.old self.new }
+        ensures homes { AreHomesDivided part result self.old self.new }
+        ensures while_out { IsDividedWhileOut part at result self.old self.new }
     {
         let (i, told) = self.regions.dividing(part, at)?;
         let Some(slot) = self.spare.least_slot() else {
             unreachable!()
         };
         let desk = split_off(&self.board, &mut self.spare, slot)?;
-        let parted = match &mut self.seats[i] {
-            Seat::Part(lodging) => lodging.divide(at as u32, desk),
-            Seat::Piece(_) => unreachable!(),
+        let parted = match &mut self.owners[i] {
+            RegionOwner::Part(part_owner) => part_owner.divide(at as u32, desk),
+            RegionOwner::Piece(_) => unreachable!(),
         };
         let holding = match parted {
             Ok(holding) => holding,
@@ -40,7 +40,11 @@ impl Seats {
                 return Err(back.why);
             }
         };
-        insert_reserved(&mut self.seats, i + 1, Seat::Part(Lodging::of(holding)));
+        insert_reserved(
+            &mut self.owners,
+            i + 1,
+            RegionOwner::Part(PartOwner::of(holding)),
+        );
         self.regions.divide_at(i, at);
         Ok(told)
     }
@@ -53,21 +57,25 @@ impl Seats {
         requires home { IsHomeFrom (part - 1) self.old }
         ensures answer { MayAnswer (dissolve_answer part self.old.regions) result }
         ensures after { IsDissolved part result (store_in self.old) (store_in self.new) }
-        ensures house { IsHouseDissolved part result self.old self.new }
-        ensures beside { IsDissolvedBeside part result self.old self.new }
+        ensures homes { AreHomesDissolved part result self.old self.new }
+        ensures while_out { IsDissolvedWhileOut part result self.old self.new }
     {
         let (i, told) = self.regions.dissolving(part)?;
-        let Seat::Part(mut lodging) = self.seats.remove(i) else {
+        let RegionOwner::Part(mut part_owner) = self.owners.remove(i) else {
             unreachable!()
         };
-        let merged = match &mut self.seats[i - 1] {
-            Seat::Part(front) => front.dissolve(&self.board, lodging.lend()),
-            Seat::Piece(_) => unreachable!(),
+        let merged = match &mut self.owners[i - 1] {
+            RegionOwner::Part(front) => front.dissolve(&self.board, part_owner.lend()),
+            RegionOwner::Piece(_) => unreachable!(),
         };
         match merged {
             Ok(desk) => self.board.join(&mut self.spare, desk),
             Err(back) => {
-                insert_reserved(&mut self.seats, i, Seat::Part(Lodging::of(back.item)));
+                insert_reserved(
+                    &mut self.owners,
+                    i,
+                    RegionOwner::Part(PartOwner::of(back.item)),
+                );
                 return Err(back.why);
             }
         }

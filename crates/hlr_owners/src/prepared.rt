@@ -1,7 +1,7 @@
-//! Memory for seats that are made of what comes home, and for seats that are taken apart.
+//! Memory for owners that are made of what comes home, and for owners that are taken apart.
 ghost use Rattle.std.specs.Prelude.{◌≡◌, IfOk, OnErr};
 
-use crate::lodging::Seat;
+use crate::part_owner::RegionOwner;
 use crate::room::places;
 use holding::{Holding, Piece};
 use part_table::{MOST_PARTS, MOST_PIECES, Regions};
@@ -9,7 +9,7 @@ use std::alloc::Global;
 use std::marker::Model;
 use tatp_rows::Refusal;
 
-/// Two empty lists, with room for the holdings and the loose pieces of seats that are taken apart.
+/// Two empty lists, with room for the holdings and the loose pieces of owners that are taken apart.
 #[derive(Drop)]
 pub(crate) struct Rooms {
     pub(crate) holdings: Vec<Box<Holding>>,
@@ -39,37 +39,37 @@ impl Rooms {
     }
 }
 
-/// For how many seats there is room: the most regions that there can be.
-pub(crate) const SEATS: usize = MOST_PARTS as usize + MOST_PIECES as usize;
+/// For how many owners there is room: the most regions that there can be.
+pub(crate) const MOST_OWNERS: usize = MOST_PARTS as usize + MOST_PIECES as usize;
 
-/// All that seats need besides what is handed in: the regions over it, as which this is seen, and room for what is
+/// All that owners need besides what is handed in: the regions over it, as which this is seen, and room for what is
 /// moved.
 #[derive(Drop)]
 pub struct Prepared {
     pub(crate) regions: Regions,
-    pub(crate) room: Vec<Seat>,
+    pub(crate) room: Vec<RegionOwner>,
     pub(crate) rooms: Rooms,
 }
 
 impl Model for Prepared {
     ghost use Rattle.std.specs.Prelude.{◌≡◌, ◌≤◌, [], List, vec_capacity};
     ghost use Rattle.part_table.specs.declared.region.Region.{Region};
-    ghost use Rattle.hlr_owners.specs.declared.prepared.TheConstants.{SEATS};
+    ghost use Rattle.hlr_owners.specs.declared.prepared.TheConstants.{MOST_OWNERS};
 
     ghost Value = { List Region };
 
     ghost view = { λ p. p.regions };
 
-    ghost invariant = { λ p. (p.room.items ≡ []) × (SEATS ≤ vec_capacity p.room) };
+    ghost invariant = { λ p. (p.room.items ≡ []) × (MOST_OWNERS ≤ vec_capacity p.room) };
 }
 
 impl Prepared {
-    /// Regions, and room for the seats beside them; `Memory` where that is refused.
+    /// Regions, and room for the owners beside them; `Memory` where that is refused.
     pub(crate) fn over(alloc: Global, regions: Regions) -> Result<Prepared, Refusal>
         ensures ok { IfOk result (λ prepared. prepared ≡ regions) }
         ensures err { OnErr result (result ≡ Err Refusal.Memory) }
     {
-        let room = Vec::with_capacity(alloc, SEATS)?;
+        let room = Vec::with_capacity(alloc, MOST_OWNERS)?;
         let rooms = Rooms::new(alloc)?;
         Ok(Prepared {
             regions,

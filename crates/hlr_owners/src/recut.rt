@@ -2,17 +2,17 @@
 ghost use Rattle.std.specs.Prelude.{◌≡◌};
 ghost use Rattle.std.specs.Result.{IsOk};
 ghost use Rattle.part_table.specs.Recut.{handed_over, moved};
-ghost use Rattle.hlr_owners.specs.Beside.{IsMovedBeside};
+ghost use Rattle.hlr_owners.specs.WhileOut.{IsMovedWhileOut};
 ghost use Rattle.hlr_owners.specs.Inside.{IsHanded, IsMovedAlone};
 ghost use Rattle.hlr_owners.specs.Out.{outs_in};
 ghost use Rattle.hlr_owners.specs.Recut.{IsHomeToCut, IsHomeToMove, IsRecut, given_away, half_moved};
-ghost use Rattle.hlr_owners.specs.Seats.{IsPartHome, homes_in, store_in};
+ghost use Rattle.hlr_owners.specs.Owners.{IsPartHome, homes_in, store_in};
 
-use crate::seats::Seats;
+use crate::owners::Owners;
 use part_table::{CutMove, Side};
 use tatp_rows::Refusal;
 
-impl Seats {
+impl Owners {
     /// Moves the bounds between parts to these: each that differs by a give and a take. The answer is how many were
     /// moved. `Field` where the bounds aren't strictly rising ones in 2..=16,777,216, one less than there are parts;
     /// then `Moving` where a piece is loose; then `Memory`, after which the moves that were done stand, and where a
@@ -20,10 +20,10 @@ impl Seats {
     pub fn recut_to(&mut self, bounds: &[u64]) -> Result<u8, Refusal>
         requires home { IsHomeToCut bounds.now self.old }
         ensures recut { IsRecut bounds.now (store_in self.old) result (store_in self.new) }
-        ensures homes { homes_in self.new.seats ≡ homes_in self.old.seats }
-        ensures outs { outs_in self.new.seats ≡ outs_in self.old.seats }
-        ensures same { self.new ≡ record self.old { regions = self.new.regions; seats = self.new.seats } }
-        ensures beside { IsMovedBeside self.old self.new }
+        ensures homes { homes_in self.new.owners ≡ homes_in self.old.owners }
+        ensures outs { outs_in self.new.owners ≡ outs_in self.old.owners }
+        ensures same { self.new ≡ record self.old { regions = self.new.regions; owners = self.new.owners } }
+        ensures while_out { IsMovedWhileOut self.old self.new }
     {
         let moves = self.regions.moves_to(bounds)?;
         for bound_move in moves.as_slice() {

@@ -4,7 +4,7 @@ use Rattle.tatp_actions.specs.Part.{PartState}
 use Rattle.holding.specs.Held.{HoldingState}
 use Rattle.holding.specs.declared.job.Job.{Job}
 use Rattle.holding.specs.declared.job.Job.TheVariants.{Act, Post}
-use Rattle.hlr_owners.specs.declared.lodging.Seat.TheVariants.{Part}
+use Rattle.hlr_owners.specs.declared.part_owner.RegionOwner.TheVariants.{Part}
 use Rattle.hlr_core.specs.Index.{number_pair}
 use Rattle.hlr_core.specs.Later.{IsBackWith, numbers_of}
 use Rattle.hlr_core.specs.Session.{IsJobDone}

@@ -11,21 +11,21 @@ use Rattle.holding.specs.Held.{HoldingState}
 use Rattle.holding.specs.declared.job.Job.{Job}
 use Rattle.view_board.specs.Desks.{Station, with_view}
 use Rattle.view_board.specs.Views.{looked}
-use Rattle.hlr_owners.specs.Lodged.{Lodged}
+use Rattle.hlr_owners.specs.PartOwnerState.{PartOwnerState}
 use Rattle.hlr_owners.specs.Out.{out_of, outs_in, with_out, with_outs}
 use Rattle.part_table.specs.Recut.{recut_answer}
 use Rattle.part_table.specs.declared.moves.CutMove.{CutMove}
 use Rattle.part_table.specs.Regions.{parts_of}
 use Rattle.hlr_owners.specs.Recut.{IsHomeToCut, IsHomeToMove}
-use Rattle.hlr_owners.specs.Seats.{AllHome, AreSeated, IsLent, Seating, desks_in, holdings_seated, homes_in, of_parts, store_in}
+use Rattle.hlr_owners.specs.Owners.{AllHome, AreRuled, IsLent, OwnersState, desks_in, part_holdings, homes_in, of_parts, store_in}
 use Rattle.hlr_owners.specs.Store.{Store}
-use Rattle.hlr_owners.specs.declared.lodging.Seat.{Seat}
-use Rattle.hlr_owners.specs.declared.lodging.Seat.TheVariants.{Part, Piece}
+use Rattle.hlr_owners.specs.declared.part_owner.RegionOwner.{RegionOwner}
+use Rattle.hlr_owners.specs.declared.part_owner.RegionOwner.TheVariants.{Part, Piece}
 use Rattle.hlr_owners.proofs.PartLemmas.{ahead, set_number}
 use Rattle.hlr_owners.proofs.SightLemmas.{words_looked}
-use Rattle.hlr_core.specs.Beside.{IsRecutBeside, IsStepBeside, beside}
-use Rattle.hlr_core.specs.Home.{IsLaterDesk, IsSameHouse, is_by_number}
-use Rattle.hlr_core.specs.Later.{AreLater, IsLater, with_seats}
+use Rattle.hlr_core.specs.WhileOut.{IsRecutWhileOut, IsStepWhileOut, while_out}
+use Rattle.hlr_core.specs.Home.{IsLaterDesk, HaveSameHomes, is_by_number}
+use Rattle.hlr_core.specs.Later.{AreLater, IsLater, with_owners}
 use Rattle.hlr_core.specs.Run.{IsRun}
 use Rattle.hlr_core.specs.Route.{IsRightNow, IsRightSent, is_here}
 use Rattle.hlr_core.specs.Session.{IsJobDone, IsJobOf}
@@ -34,17 +34,17 @@ use Rattle.hlr_core.specs.declared.event.Event.{Event}
 use Rattle.hlr_core.specs.declared.event.Event.TheVariants.{SubscriberData, NewDestination, AccessData, UpdateSubscriber, UpdateLocation, InsertForwarding, DeleteForwarding, AddSubscriber, AddAccess, AddFacility, SetActive, SetNumber, Post, Give, Take, Divide, Dissolve}
 use Rattle.hlr_core.specs.declared.event.Reply.{Reply}
 use Rattle.hlr_core.proofs.HomeLemmas.{desk_same}
-use Rattle.hlr_core.proofs.LaterLemmas.{all_later_after, all_later_self, all_seated_later, put_later}
-use Rattle.hlr_workers.specs.Inside.{AreBrought, AreIdle, IsAnswered, IsBehind, IsHomeAgain, IsOut, IsCrewParted, IsSentTo, Parting, land, parted, parting_of}
-use Rattle.hlr_workers.specs.Kept.{AllNumberless, Crewed, IsKept, NoneOut, engaged}
+use Rattle.hlr_core.proofs.LaterLemmas.{all_later_after, all_later_self, all_ruled_later, put_later}
+use Rattle.hlr_workers.specs.Inside.{AreBrought, AreIdle, IsAnswered, IsBehind, IsHomeAgain, IsOut, AreWorkersParted, IsSentTo, Parting, put_answers, parted, parting_of}
+use Rattle.hlr_workers.specs.Kept.{AllNumberless, WorkersState, IsKept, NoneOut, engaged}
 use Rattle.hlr_workers.specs.Relay.{nothing}
 use Rattle.hlr_workers.specs.Session.{AreNumberless}
 use Rattle.hlr_workers.specs.Standing.{AreEnds, Cut, IsAsBefore, IsSettled, Stands, Took, TookNext, answers_by, answers_with, changes_parts, orders_of, store_at}
-use Rattle.hlr_workers.proofs.CrewLemmas.{as_homes, as_parts, lent_outs, numberless_of, out_part}
-use Rattle.hlr_workers.proofs.HouseLemmas.{IsPartAt, ends_later, out_done, out_ends, out_seats, part_at, seat_store, with_outs_same}
+use Rattle.hlr_workers.proofs.WorkersLemmas.{as_homes, as_parts, lent_outs, numberless_of, out_part}
+use Rattle.hlr_workers.proofs.RegisterLemmas.{IsPartAt, ends_later, out_done, out_ends, out_owners, part_at, owner_store, with_outs_same}
 use Rattle.hlr_workers.proofs.PartingLemmas.{all_parted, ends_alike, ends_parted, numbered_parted, order_parted, parted_long, undone}
 use Rattle.hlr_workers.proofs.SessionLemmas.{numberless_more}
-use Rattle.hlr_workers.proofs.StandingLemmas.{CameHome, came_home, ends_long, get_there, land-length, leads_back, leads_cut, leads_lent, leads_new, leads_sent, leads_settled, leads_told, order_new, order_sent, order_told}
+use Rattle.hlr_workers.proofs.StandingLemmas.{CameHome, came_home, ends_long, get_there, put_answers-length, leads_back, leads_cut, leads_lent, leads_new, leads_sent, leads_settled, leads_told, order_new, order_sent, order_told}
 use Rattle.hlr_workers.proofs.UnseenLemmas.{recut_unseen, seen_as, step_unseen}
 
 -- jobs of all parts that give no number, with those of one part changed
@@ -59,168 +59,168 @@ numberless_at (js ∷ jobs) zero none = none.0
 numberless_at (js ∷ jobs) (suc p) none = numberless_at jobs p none.1
 
 -- a part that isn't out is at home
-at_home : (l : Lodged) → out_of l ≡ None → l.home ≡ true
+at_home : (l : PartOwnerState) → out_of l ≡ None → l.home ≡ true
 at_home l none = by_test l.home (λ e. e) (λ e. absurd (none-some l.holding (sym none ∙ ap (λ (b : Bool). if b then None else Some l.holding) e)))
 
 -- a part in the place of another
-module _ (h : Seating) (are : AreSeated h) (p i : ℕ) (l : Lodged) (at : IsPartAt h p i l) where
+module _ (h : OwnersState) (are : AreRuled h) (p i : ℕ) (l : PartOwnerState) (at : IsPartAt h p i l) where
   -- a part at home and one that is out, with the same holding, make the same store
-  flag_store : (a : Store) (ends : List HoldingState) (m n : Lodged) (y : HoldingState) → slice_get ends p ≡ Some y → (with_out m y).holding ≡ (with_out n y).holding
-      → store_at a (record h { seats = set h.seats i (Part m) }) ends ≡ store_at a (record h { seats = set h.seats i (Part n) }) ends
+  flag_store : (a : Store) (ends : List HoldingState) (m n : PartOwnerState) (y : HoldingState) → slice_get ends p ≡ Some y → (with_out m y).holding ≡ (with_out n y).holding
+      → store_at a (record h { owners = set h.owners i (Part m) }) ends ≡ store_at a (record h { owners = set h.owners i (Part n) }) ends
   flag_store a ends m n y end same =
-      let end_at : slice_get ends (ahead h.seats i) ≡ Some y = rw at.number end in
-      let one : store_in (with_seats h (with_outs (set h.seats i (Part m)) ends)) ≡ store_in (with_seats h (with_outs (set h.seats i (Part n)) ends)) =
-      rw (out_seats h.seats ends i l m y at.seat at.there end_at, out_seats h.seats ends i l n y at.seat at.there end_at)
-      (seat_store h (with_outs h.seats ends) i (with_out m y) (with_out n y) same) in
+      let end_at : slice_get ends (ahead h.owners i) ≡ Some y = rw at.number end in
+      let one : store_in (with_owners h (with_outs (set h.owners i (Part m)) ends)) ≡ store_in (with_owners h (with_outs (set h.owners i (Part n)) ends)) =
+      rw (out_owners h.owners ends i l m y at.owner at.there end_at, out_owners h.owners ends i l n y at.owner at.there end_at)
+      (owner_store h (with_outs h.owners ends) i (with_out m y) (with_out n y) same) in
       ap (seen_as a.sight) one
 
-  set_own : set h.seats i (Part l) ≡ h.seats
-  set_own = ap (set h.seats i) at.seat ∙ set-get_or h.seats i (Part l)
+  set_own : set h.owners i (Part l) ≡ h.owners
+  set_own = ap (set h.owners i) at.owner ∙ set-get_or h.owners i (Part l)
 
 -- an event was answered at once, and changed nothing
-module _ (crew : Crewed) (replies : List (ℕ × Reply)) (kept : IsKept crew replies) where
-  pub now_took : (event : Event) (r : Reply) → IsRightNow event crew.house r → TookNext (Took event) (engaged crew replies) (engaged crew (replies ++ (length replies, r) ∷ []))
+module _ (workers : WorkersState) (replies : List (ℕ × Reply)) (kept : IsKept workers replies) where
+  pub now_took : (event : Event) (r : Reply) → IsRightNow event workers.register r → TookNext (Took event) (engaged workers replies) (engaged workers (replies ++ (length replies, r) ∷ []))
   now_took event r right = λ start asked stands.
-      leads_told (outs_in crew.house.seats) crew.jobs replies kept.order (store_at start crew.house) (store_at start crew.house) start asked
-      (outs_in crew.house.seats) crew.jobs (λ ends. ends) (λ k. refl) (λ reply ends are. are) event r
+      leads_told (outs_in workers.register.owners) workers.jobs replies kept.order (store_at start workers.register) (store_at start workers.register) start asked
+      (outs_in workers.register.owners) workers.jobs (λ ends. ends) (λ k. refl) (λ reply ends are. are) event r
       (λ reply ends are.
-      let later = ends_later reply crew.house.seats crew.jobs ends kept.none are in
-      step_unseen start.sight event (store_in (beside crew.house ends)) r (store_in (beside crew.house ends)) (right (with_outs crew.house.seats ends) later)) stands
+      let later = ends_later reply workers.register.owners workers.jobs ends kept.none are in
+      step_unseen start.sight event (store_in (while_out workers.register ends)) r (store_in (while_out workers.register ends)) (right (with_outs workers.register.owners ends) later)) stands
 
-  pub now_kept : (r : Reply) → IsKept crew (replies ++ (length replies, r) ∷ [])
-  now_kept r = record { paired = kept.paired; none = kept.none; order = order_told (outs_in crew.house.seats) crew.jobs replies kept.order r }
+  pub now_kept : (r : Reply) → IsKept workers (replies ++ (length replies, r) ∷ [])
+  now_kept r = record { paired = kept.paired; none = kept.none; order = order_told (outs_in workers.register.owners) workers.jobs replies kept.order r }
 
   -- the register itself moved bounds
-  module _ (after : Crewed) (house : IsSameHouse crew.house after.house) (jobs : after.jobs ≡ crew.jobs) where
-    pub cut_took : (bounds : List ℕ) (done : Result ℕ Refusal) → IsRecutBeside bounds crew.house done after.house → TookNext (Cut bounds done) (engaged crew replies) (engaged after replies)
+  module _ (after : WorkersState) (register : HaveSameHomes workers.register after.register) (jobs : after.jobs ≡ workers.jobs) where
+    pub cut_took : (bounds : List ℕ) (done : Result ℕ Refusal) → IsRecutWhileOut bounds workers.register done after.register → TookNext (Cut bounds done) (engaged workers replies) (engaged after replies)
     cut_took bounds done right = λ start asked stands.
-        rw (jobs, house.outs)
-        (leads_cut (outs_in crew.house.seats) crew.jobs replies kept.order (store_at start crew.house) (store_at start after.house) start asked bounds done
+        rw (jobs, register.outs)
+        (leads_cut (outs_in workers.register.owners) workers.jobs replies kept.order (store_at start workers.register) (store_at start after.register) start asked bounds done
         (λ reply ends are.
-        let later = ends_later reply crew.house.seats crew.jobs ends kept.none are in
-        recut_unseen start.sight bounds (store_in (beside crew.house ends)) done (store_in (beside after.house ends)) (right ends later)) stands)
+        let later = ends_later reply workers.register.owners workers.jobs ends kept.none are in
+        recut_unseen start.sight bounds (store_in (while_out workers.register ends)) done (store_in (while_out after.register ends)) (right ends later)) stands)
 
-    pub house_kept : IsKept after replies
-    house_kept = record {
-      paired = rw (jobs, house.outs) kept.paired;
+    pub register_kept : IsKept after replies
+    register_kept = record {
+      paired = rw (jobs, register.outs) kept.paired;
       none = rw jobs kept.none;
       order = rw jobs kept.order;
     }
 
   -- the register itself did an event
-  module _ (after : Crewed) (told : Parting) (is : IsCrewParted told crew after) where
-    pub here_took : (event : Event) (r : Reply) → IsStepBeside event crew.house r after.house → TookNext (Took event) (engaged crew replies) (engaged after (replies ++ (length replies, r) ∷ []))
+  module _ (after : WorkersState) (told : Parting) (is : AreWorkersParted told workers after) where
+    pub here_took : (event : Event) (r : Reply) → IsStepWhileOut event workers.register r after.register → TookNext (Took event) (engaged workers replies) (engaged after (replies ++ (length replies, r) ∷ []))
     here_took event r right = λ start asked stands.
         rw (is.jobs, is.outs)
-        (leads_told (outs_in crew.house.seats) crew.jobs replies kept.order (store_at start crew.house) (store_at start after.house) start asked
-        (parted told None (outs_in crew.house.seats)) (parted told [] crew.jobs) back (λ k. numbered_parted k told crew.jobs idle) ends_back event r
+        (leads_told (outs_in workers.register.owners) workers.jobs replies kept.order (store_at start workers.register) (store_at start after.register) start asked
+        (parted told None (outs_in workers.register.owners)) (parted told [] workers.jobs) back (λ k. numbered_parted k told workers.jobs idle) ends_back event r
         (λ reply ends are.
-        let later = ends_later reply crew.house.seats crew.jobs (back ends) kept.none (ends_back reply ends are) in
-        let long = ends_long reply (parted told None (outs_in crew.house.seats)) (parted told [] crew.jobs) ends are in
-        step_unseen start.sight event (store_in (beside crew.house (back ends))) r (store_in (beside after.house ends))
-        (subst (λ (seats : List Seat). IsStep event (store_in (beside crew.house (back ends))) r (store_in (with_seats after.house seats))) (same ends long) (right (back ends) later))) stands)
+        let later = ends_later reply workers.register.owners workers.jobs (back ends) kept.none (ends_back reply ends are) in
+        let long = ends_long reply (parted told None (outs_in workers.register.owners)) (parted told [] workers.jobs) ends are in
+        step_unseen start.sight event (store_in (while_out workers.register (back ends))) r (store_in (while_out after.register ends))
+        (subst (λ (owners : List RegionOwner). IsStep event (store_in (while_out workers.register (back ends))) r (store_in (with_owners after.register owners))) (same ends long) (right (back ends) later))) stands)
       where
-        idle : (q : ℕ) → IsBehind told q → get_or crew.jobs q [] ≡ []
+        idle : (q : ℕ) → IsBehind told q → get_or workers.jobs q [] ≡ []
         idle q behind = is.idle q (is.home q behind)
 
         back : List HoldingState → List HoldingState
         back ends = parted (undone told) nothing ends
 
-        ends_back : (reply : ℕ → Reply) (ends : List HoldingState) → AreEnds reply (parted told None (outs_in crew.house.seats)) (parted told [] crew.jobs) ends → AreEnds reply (outs_in crew.house.seats) crew.jobs (back ends)
-        ends_back reply ends are = ends_parted reply told (outs_in crew.house.seats) crew.jobs ends kept.paired is.place is.home are
+        ends_back : (reply : ℕ → Reply) (ends : List HoldingState) → AreEnds reply (parted told None (outs_in workers.register.owners)) (parted told [] workers.jobs) ends → AreEnds reply (outs_in workers.register.owners) workers.jobs (back ends)
+        ends_back reply ends are = ends_parted reply told (outs_in workers.register.owners) workers.jobs ends kept.paired is.place is.home are
 
-        same : (ends : List HoldingState) → length ends ≡ length (parted told None (outs_in crew.house.seats)) → with_outs after.house.seats (back ends) ≡ with_outs after.house.seats ends
-        same ends long = with_outs_same after.house.seats (back ends) ends (rw (is.outs) (ends_alike told (outs_in crew.house.seats) ends is.place long is.home))
+        same : (ends : List HoldingState) → length ends ≡ length (parted told None (outs_in workers.register.owners)) → with_outs after.register.owners (back ends) ≡ with_outs after.register.owners ends
+        same ends long = with_outs_same after.register.owners (back ends) ends (rw (is.outs) (ends_alike told (outs_in workers.register.owners) ends is.place long is.home))
 
     pub here_kept : (r : Reply) → IsKept after (replies ++ (length replies, r) ∷ [])
     here_kept r = record {
-      paired = rw (is.jobs, is.outs) (parted_long told [] None crew.jobs (outs_in crew.house.seats) kept.paired);
-      none = rw (is.jobs) (all_parted AreNumberless told [] crew.jobs tt kept.none);
-      order = rw (is.jobs) (order_parted told crew.jobs (replies ++ (length replies, r) ∷ []) (λ q behind. is.idle q (is.home q behind)) (order_told (outs_in crew.house.seats) crew.jobs replies kept.order r));
+      paired = rw (is.jobs, is.outs) (parted_long told [] None workers.jobs (outs_in workers.register.owners) kept.paired);
+      none = rw (is.jobs) (all_parted AreNumberless told [] workers.jobs tt kept.none);
+      order = rw (is.jobs) (order_parted told workers.jobs (replies ++ (length replies, r) ∷ []) (λ q behind. is.idle q (is.home q behind)) (order_told (outs_in workers.register.owners) workers.jobs replies kept.order r));
     }
 
--- seats that differ in whether a part is at home
-out_later : (p : ℕ) (crew mid : Crewed) → IsOut p crew mid → AreLater crew.house.seats mid.house.seats × (mid.house ≡ with_seats crew.house mid.house.seats)
-out_later p crew mid out = elim out.1 [
-  | inl same ↦ (rw same (all_later_self crew.house.seats), rw same refl)
+-- owners that differ in whether a part is at home
+out_later : (p : ℕ) (workers mid : WorkersState) → IsOut p workers mid → AreLater workers.register.owners mid.register.owners × (mid.register ≡ with_owners workers.register mid.register.owners)
+out_later p workers mid out = elim out.1 [
+  | inl same ↦ (rw same (all_later_self workers.register.owners), rw same refl)
   | inr goes ↦
       let away = goes.1.away in
-      let one = put_later crew.house.seats goes.1.index (Part (record { holding = goes.0; home = true })) (Part (record { holding = goes.0; home = false })) goes.1.seat (away_later goes.0) in
-      (rw away one, away ∙ ap (λ (seats : List Seat). with_seats crew.house seats) (sym (ap (λ (g : Seating). g.seats) away)))
+      let one = put_later workers.register.owners goes.1.index (Part (record { holding = goes.0; home = true })) (Part (record { holding = goes.0; home = false })) goes.1.owner (away_later goes.0) in
+      (rw away one, away ∙ ap (λ (owners : List RegionOwner). with_owners workers.register owners) (sym (ap (λ (g : OwnersState). g.owners) away)))
 ]
   where
     away_later : (k : HoldingState) → IsLater (Part (record { holding = k; home = true })) (Part (record { holding = k; home = false }))
-    away_later k = record { seat = (record { lo = refl; hi = refl; width = refl; board = refl; owned = refl }, λ lawful. lawful, λ wide. wide); numbers = refl }
+    away_later k = record { owner = (record { lo = refl; hi = refl; width = refl; board = refl; owned = refl }, λ lawful. lawful, λ wide. wide); numbers = refl }
 
-module _ (crew : Crewed) (replies : List (ℕ × Reply)) (kept : IsKept crew replies) (are : AreSeated crew.house) (p : ℕ) where
+module _ (workers : WorkersState) (replies : List (ℕ × Reply)) (kept : IsKept workers replies) (are : AreRuled workers.register) (p : ℕ) where
   -- a part went out
-  lent_stands : (k : HoldingState) (g : Seating) → IsLent p crew.house k g → get_or crew.jobs p [] ≡ [] → IsAsBefore (engaged crew replies) (engaged (record { house = g; jobs = crew.jobs }) replies)
+  lent_stands : (k : HoldingState) (g : OwnersState) → IsLent p workers.register k g → get_or workers.jobs p [] ≡ [] → IsAsBefore (engaged workers replies) (engaged (record { register = g; jobs = workers.jobs }) replies)
   lent_stands k g lent none = λ start asked stands.
-      let outs = lent_outs crew.house are p k g lent in
-      let found = part_at crew.house are p lent.index lent.region in
+      let outs = lent_outs workers.register are p k g lent in
+      let found = part_at workers.register are p lent.index lent.region in
       let l = found.0 in
       let at = found.1 in
       let same : l ≡ record { holding = k; home = true } =
-      (let one : ◌≡◌ {A = Option Seat} (Some (Part l)) (Some (Part (record { holding = k; home = true }))) =
-      sym (slice_get_read crew.house.seats (length crew.house.seats) lent.index (Part l) refl at.there at.seat) ∙ lent.seat in
+      (let one : ◌≡◌ {A = Option RegionOwner} (Some (Part l)) (Some (Part (record { holding = k; home = true }))) =
+      sym (slice_get_read workers.register.owners (length workers.register.owners) lent.index (Part l) refl at.there at.owner) ∙ lent.owner in
       cc) in
-      let low = slice_get_within (outs_in crew.house.seats) p None outs.0 in
+      let low = slice_get_within (outs_in workers.register.owners) p None outs.0 in
       let paired = kept.paired in
-      let jobs_at : slice_get crew.jobs p ≡ Some [] = slice_get-get_or crew.jobs p [] (omega arith) ∙ ap (λ (own : List (ℕ × Job)). Some own) none in
+      let jobs_at : slice_get workers.jobs p ≡ Some [] = slice_get-get_or workers.jobs p [] (omega arith) ∙ ap (λ (own : List (ℕ × Job)). Some own) none in
       rw outs.1
-      (leads_lent (outs_in crew.house.seats) crew.jobs replies kept.order (store_at start crew.house) (store_at start g) start asked p k outs.0 jobs_at
+      (leads_lent (outs_in workers.register.owners) workers.jobs replies kept.order (store_at start workers.register) (store_at start g) start asked p k outs.0 jobs_at
       (λ ends end.
       rw lent.away
-      (flag_store crew.house are p lent.index l at start ends (record { holding = k; home = false }) l k end (rw same refl)
-      ∙ ap (λ (seats : List Seat). store_at start (record crew.house { seats = seats }) ends) (set_own crew.house are p lent.index l at))) stands)
+      (flag_store workers.register are p lent.index l at start ends (record { holding = k; home = false }) l k end (rw same refl)
+      ∙ ap (λ (owners : List RegionOwner). store_at start (record workers.register { owners = owners }) ends) (set_own workers.register are p lent.index l at))) stands)
 
-  out_as : (mid : Crewed) → IsOut p crew mid → IsAsBefore (engaged crew replies) (engaged mid replies)
+  out_as : (mid : WorkersState) → IsOut p workers mid → IsAsBefore (engaged workers replies) (engaged mid replies)
   out_as mid out = elim out.1 [
     | inl same ↦ λ start asked stands. rw (same, out.0) stands
-    | inr goes ↦ λ start asked stands. rw out.0 (lent_stands goes.0 mid.house goes.1 goes.2 start asked stands)
+    | inr goes ↦ λ start asked stands. rw out.0 (lent_stands goes.0 mid.register goes.1 goes.2 start asked stands)
   ]
 
-  out_kept : (mid : Crewed) → IsOut p crew mid → IsKept mid replies
+  out_kept : (mid : WorkersState) → IsOut p workers mid → IsKept mid replies
   out_kept mid out = record {
     paired = (elim out.1 [
       | inl same ↦ rw (same, out.0) kept.paired
-      | inr goes ↦ let outs = lent_outs crew.house are p goes.0 mid.house goes.1 in rw (out.0, outs.1, length-set (outs_in crew.house.seats) p (Some goes.0)) kept.paired
+      | inr goes ↦ let outs = lent_outs workers.register are p goes.0 mid.register goes.1 in rw (out.0, outs.1, length-set (outs_in workers.register.owners) p (Some goes.0)) kept.paired
     ]);
     none = rw out.0 kept.none;
     order = rw out.0 kept.order;
   }
 
   -- a job was sent to a part that is out, and its place is blank
-  module _ (mid : Crewed) (out : IsOut p crew mid) (event : Event) (job : Job) (of : IsJobOf crew.house.regions p job) (right : IsRightSent event crew.house p job) (blank : Reply) where
-    abbrev after : Crewed
+  module _ (mid : WorkersState) (out : IsOut p workers mid) (event : Event) (job : Job) (of : IsJobOf workers.register.regions p job) (right : IsRightSent event workers.register p job) (blank : Reply) where
+    abbrev after : WorkersState
     after = record mid { jobs = set mid.jobs p (get_or mid.jobs p [] ++ (length replies, job) ∷ []) }
 
     low : p < length mid.jobs
     low =
         let paired = (out_kept mid out).paired in
-        let within = slice_get_within (outs_in mid.house.seats) p (Some out.2.0) out.2.1 in
+        let within = slice_get_within (outs_in mid.register.owners) p (Some out.2.0) out.2.1 in
         omega arith
 
-    sent_law : (start : Store) (reply : ℕ → Reply) (ends : List HoldingState) (m y : HoldingState) → AreEnds reply (outs_in mid.house.seats) mid.jobs ends → slice_get ends p ≡ Some m
-        → IsJobDone job m (reply (length replies)) y → IsStep event (store_at start mid.house ends) (reply (length replies)) (store_at start mid.house (set ends p y))
+    sent_law : (start : Store) (reply : ℕ → Reply) (ends : List HoldingState) (m y : HoldingState) → AreEnds reply (outs_in mid.register.owners) mid.jobs ends → slice_get ends p ≡ Some m
+        → IsJobDone job m (reply (length replies)) y → IsStep event (store_at start mid.register ends) (reply (length replies)) (store_at start mid.register (set ends p y))
     sent_law start reply ends m y ends_are end done =
-        let later = out_later p crew mid out in
-        let seated : AreSeated mid.house = rw later.1 (all_seated_later crew.house mid.house.seats are later.0) in
-        let found = out_part mid.house seated p out.2.0 out.2.1 in
-        let seats = with_outs mid.house.seats ends in
-        let next = with_outs mid.house.seats (set ends p y) in
-        let ends_after : AreLater mid.house.seats seats = ends_later reply mid.house.seats mid.jobs ends (out_kept mid out).none ends_are in
-        let from_first : AreLater crew.house.seats seats = all_later_after crew.house.seats mid.house.seats seats later.0 ends_after in
-        let at = out_done mid.house p found.0 (record { holding = out.2.0; home = false }) found.1 refl ends m y end job (reply (length replies)) done in
-        let regions : mid.house.regions ≡ crew.house.regions = ap (λ (g : Seating). g.regions) later.1 in
-        let step = right seats next (reply (length replies)) from_first (rw regions at at) in
-        let now = subst (λ (g : Seating). IsStep event (store_in (with_seats g seats)) (reply (length replies)) (store_in (with_seats g next))) (sym later.1) step in
-        step_unseen start.sight event (store_in (with_seats mid.house seats)) (reply (length replies)) (store_in (with_seats mid.house next)) now
+        let later = out_later p workers mid out in
+        let ruled : AreRuled mid.register = rw later.1 (all_ruled_later workers.register mid.register.owners are later.0) in
+        let found = out_part mid.register ruled p out.2.0 out.2.1 in
+        let owners = with_outs mid.register.owners ends in
+        let next = with_outs mid.register.owners (set ends p y) in
+        let ends_after : AreLater mid.register.owners owners = ends_later reply mid.register.owners mid.jobs ends (out_kept mid out).none ends_are in
+        let from_first : AreLater workers.register.owners owners = all_later_after workers.register.owners mid.register.owners owners later.0 ends_after in
+        let at = out_done mid.register p found.0 (record { holding = out.2.0; home = false }) found.1 refl ends m y end job (reply (length replies)) done in
+        let regions : mid.register.regions ≡ workers.register.regions = ap (λ (g : OwnersState). g.regions) later.1 in
+        let step = right owners next (reply (length replies)) from_first (rw regions at at) in
+        let now = subst (λ (g : OwnersState). IsStep event (store_in (with_owners g owners)) (reply (length replies)) (store_in (with_owners g next))) (sym later.1) step in
+        step_unseen start.sight event (store_in (with_owners mid.register owners)) (reply (length replies)) (store_in (with_owners mid.register next)) now
 
-    pub sent_took : TookNext (Took event) (engaged crew replies) (engaged after (replies ++ (length replies, blank) ∷ []))
+    pub sent_took : TookNext (Took event) (engaged workers replies) (engaged after (replies ++ (length replies, blank) ∷ []))
     sent_took = λ start asked stands.
         let order = (out_kept mid out).order in
-        leads_sent (outs_in mid.house.seats) mid.jobs replies order (store_at start mid.house) start asked p out.2.0 job blank event out.2.1 low (sent_law start) (out_as mid out start asked stands)
+        leads_sent (outs_in mid.register.owners) mid.jobs replies order (store_at start mid.register) start asked p out.2.0 job blank event out.2.1 low (sent_law start) (out_as mid out start asked stands)
 
     pub sent_kept : IsKept after (replies ++ (length replies, blank) ∷ [])
     sent_kept =
@@ -228,128 +228,128 @@ module _ (crew : Crewed) (replies : List (ℕ × Reply)) (kept : IsKept crew rep
         record {
           paired = length-set mid.jobs p (get_or mid.jobs p [] ++ (length replies, job) ∷ []) ∙ was.paired;
           none = numberless_set mid.jobs p (get_or mid.jobs p [] ++ (length replies, job) ∷ []) was.none
-              (numberless_more (get_or mid.jobs p []) (length replies, job) (numberless_at mid.jobs p was.none) (numberless_of crew.house.regions p job of));
-          order = order_sent (outs_in mid.house.seats) mid.jobs replies was.order p job blank low;
+              (numberless_more (get_or mid.jobs p []) (length replies, job) (numberless_at mid.jobs p was.none) (numberless_of workers.register.regions p job of));
+          order = order_sent (outs_in mid.register.owners) mid.jobs replies was.order p job blank low;
         }
 
   -- a part came home with its holding and its replies
-  module _ (answers : List (ℕ × Reply)) (after : Crewed) (again : IsHomeAgain p crew (Some answers) after) where
+  module _ (answers : List (ℕ × Reply)) (after : WorkersState) (again : IsHomeAgain p workers (Some answers) after) where
     abbrev x : HoldingState
     x = again.0
 
     abbrev y : HoldingState
     y = again.1
 
-    out_low : p < length (outs_in crew.house.seats)
-    out_low = slice_get_within (outs_in crew.house.seats) p (Some x) again.3
+    out_low : p < length (outs_in workers.register.owners)
+    out_low = slice_get_within (outs_in workers.register.owners) p (Some x) again.3
 
-    own : slice_get crew.jobs p ≡ Some (get_or crew.jobs p [])
-    own = let paired = kept.paired in let low = out_low in slice_get-get_or crew.jobs p [] (omega arith)
+    own : slice_get workers.jobs p ≡ Some (get_or workers.jobs p [])
+    own = let paired = kept.paired in let low = out_low in slice_get-get_or workers.jobs p [] (omega arith)
 
     -- where it sits
-    seat : IsPartAt crew.house p again.2 (record { holding = x; home = false })
-    seat =
-        let found = out_part crew.house are p x again.3 in
+    owner : IsPartAt workers.register p again.2 (record { holding = x; home = false })
+    owner =
+        let found = out_part workers.register are p x again.3 in
         let same : found.0 ≡ again.2 = same_Some found.0 again.2 (sym found.1.region ∙ again.5) in
-        subst (λ (i : ℕ). IsPartAt crew.house p i (record { holding = x; home = false })) same found.1
+        subst (λ (i : ℕ). IsPartAt workers.register p i (record { holding = x; home = false })) same found.1
 
-    pub home_outs : outs_in after.house.seats ≡ set (outs_in crew.house.seats) p None
+    pub home_outs : outs_in after.register.owners ≡ set (outs_in workers.register.owners) p None
     home_outs =
-        let house : after.house ≡ record crew.house { seats = set crew.house.seats again.2 (Part (record { holding = y; home = true })) } = ap (λ (c : Crewed). c.house) again.6 in
-        rw house (set_number crew.house are p again.2 again.5 out_of (record { holding = x; home = false }) seat.seat (record { holding = y; home = true }))
+        let register : after.register ≡ record workers.register { owners = set workers.register.owners again.2 (Part (record { holding = y; home = true })) } = ap (λ (c : WorkersState). c.register) again.6 in
+        rw register (set_number workers.register are p again.2 again.5 out_of (record { holding = x; home = false }) owner.owner (record { holding = y; home = true }))
 
-    home_law : (start : Store) (ends : List HoldingState) → length ends ≡ length (set (outs_in crew.house.seats) p (Some y)) → store_at start after.house ends ≡ store_at start crew.house (set ends p y)
+    home_law : (start : Store) (ends : List HoldingState) → length ends ≡ length (set (outs_in workers.register.owners) p (Some y)) → store_at start after.register ends ≡ store_at start workers.register (set ends p y)
     home_law start ends long =
-        let house : after.house ≡ record crew.house { seats = set crew.house.seats again.2 (Part (record { holding = y; home = true })) } = ap (λ (c : Crewed). c.house) again.6 in
+        let register : after.register ≡ record workers.register { owners = set workers.register.owners again.2 (Part (record { holding = y; home = true })) } = ap (λ (c : WorkersState). c.register) again.6 in
         let low = out_low in
-        let same = length-set (outs_in crew.house.seats) p (Some y) in
+        let same = length-set (outs_in workers.register.owners) p (Some y) in
         let z : HoldingState = get_or ends p y in
-        let end : slice_get ends (ahead crew.house.seats again.2) ≡ Some z = rw (seat.number) (slice_get-get_or ends p y (omega arith)) in
-        let one = out_seats crew.house.seats ends again.2 (record { holding = x; home = false }) (record { holding = y; home = true }) z seat.seat seat.there end in
-        let two = rw seat.number at (out_ends crew.house.seats ends again.2 (record { holding = x; home = false }) y z seat.seat seat.there end) in
-        let same_store : store_in (with_seats crew.house (with_outs (set crew.house.seats again.2 (Part (record { holding = y; home = true }))) ends)) ≡ store_in (with_seats crew.house (with_outs crew.house.seats (set ends p y))) =
-        rw (one, two) (seat_store crew.house (with_outs crew.house.seats ends) again.2 (with_out (record { holding = y; home = true }) z) (with_out (record { holding = x; home = false }) y) refl) in
-        ap (λ (g : Seating). store_at start g ends) house ∙ ap (seen_as start.sight) same_store
+        let end : slice_get ends (ahead workers.register.owners again.2) ≡ Some z = rw (owner.number) (slice_get-get_or ends p y (omega arith)) in
+        let one = out_owners workers.register.owners ends again.2 (record { holding = x; home = false }) (record { holding = y; home = true }) z owner.owner owner.there end in
+        let two = rw owner.number at (out_ends workers.register.owners ends again.2 (record { holding = x; home = false }) y z owner.owner owner.there end) in
+        let same_store : store_in (with_owners workers.register (with_outs (set workers.register.owners again.2 (Part (record { holding = y; home = true }))) ends)) ≡ store_in (with_owners workers.register (with_outs workers.register.owners (set ends p y))) =
+        rw (one, two) (owner_store workers.register (with_outs workers.register.owners ends) again.2 (with_out (record { holding = y; home = true }) z) (with_out (record { holding = x; home = false }) y) refl) in
+        ap (λ (g : OwnersState). store_at start g ends) register ∙ ap (seen_as start.sight) same_store
 
-    came : CameHome (outs_in crew.house.seats) crew.jobs replies p answers y
-    came = came_home (outs_in crew.house.seats) crew.jobs replies p (get_or crew.jobs p []) answers x y kept.order again.3 own again.4
+    came : CameHome (outs_in workers.register.owners) workers.jobs replies p answers y
+    came = came_home (outs_in workers.register.owners) workers.jobs replies p (get_or workers.jobs p []) answers x y kept.order again.3 own again.4
 
-    pub home_stands : IsAsBefore (engaged crew replies) (engaged after (land replies answers))
+    pub home_stands : IsAsBefore (engaged workers replies) (engaged after (put_answers replies answers))
     home_stands = λ start asked stands.
         let low = out_low in
         let paired = kept.paired in
-        let out_y = get_there (outs_in crew.house.seats) p (Some y) low in
-        let none = get_there crew.jobs p [] (omega arith) in
-        let led = leads_back (set (outs_in crew.house.seats) p (Some y)) (set crew.jobs p []) (land replies answers) came.0 (store_at start crew.house) (store_at start after.house) start asked p y out_y none
-        (home_law start) (came.1 (store_at start crew.house) start asked stands) in
-        let jobs : after.jobs ≡ set crew.jobs p [] = ap (λ (c : Crewed). c.jobs) again.6 in
-        rw (jobs, home_outs, sym (set-set (outs_in crew.house.seats) p (Some y) None)) led
+        let out_y = get_there (outs_in workers.register.owners) p (Some y) low in
+        let none = get_there workers.jobs p [] (omega arith) in
+        let led = leads_back (set (outs_in workers.register.owners) p (Some y)) (set workers.jobs p []) (put_answers replies answers) came.0 (store_at start workers.register) (store_at start after.register) start asked p y out_y none
+        (home_law start) (came.1 (store_at start workers.register) start asked stands) in
+        let jobs : after.jobs ≡ set workers.jobs p [] = ap (λ (c : WorkersState). c.jobs) again.6 in
+        rw (jobs, home_outs, sym (set-set (outs_in workers.register.owners) p (Some y) None)) led
 
-    pub home_kept : IsKept after (land replies answers)
+    pub home_kept : IsKept after (put_answers replies answers)
     home_kept =
-        let jobs : after.jobs ≡ set crew.jobs p [] = ap (λ (c : Crewed). c.jobs) again.6 in
+        let jobs : after.jobs ≡ set workers.jobs p [] = ap (λ (c : WorkersState). c.jobs) again.6 in
         record {
-          paired = rw (jobs, home_outs, length-set crew.jobs p [], length-set (outs_in crew.house.seats) p None) kept.paired;
-          none = rw jobs (numberless_set crew.jobs p [] kept.none tt);
+          paired = rw (jobs, home_outs, length-set workers.jobs p [], length-set (outs_in workers.register.owners) p None) kept.paired;
+          none = rw jobs (numberless_set workers.jobs p [] kept.none tt);
           order = rw jobs came.0;
         }
 
 -- the words were looked at
-pub looked_stands : (crew : Crewed) (replies : List (ℕ × Reply)) (words : List ℕ)
-    → IsAsBefore (engaged crew replies) (engaged (record crew { house = record crew.house { spare = with_view crew.house.spare (looked crew.house.spare.view words) } }) replies)
-looked_stands crew replies words = λ start asked stands. (
+pub looked_stands : (workers : WorkersState) (replies : List (ℕ × Reply)) (words : List ℕ)
+    → IsAsBefore (engaged workers replies) (engaged (record workers { register = record workers.register { spare = with_view workers.register.spare (looked workers.register.spare.view words) } }) replies)
+looked_stands workers replies words = λ start asked stands. (
   stands.0,
   λ reply ends kept are.
       subst (λ (s : Store). IsRun (orders_of asked) start (answers_by reply 0 asked) s) (sym (same start ends)) (stands.1 reply ends kept are),
 )
   where
-    now : Seating
-    now = record crew.house { spare = with_view crew.house.spare (looked crew.house.spare.view words) }
+    now : OwnersState
+    now = record workers.register { spare = with_view workers.register.spare (looked workers.register.spare.view words) }
 
-    same : (start : Store) (ends : List HoldingState) → store_at start now ends ≡ store_at start crew.house ends
-    same start ends = ap (λ (all : List ℕ). record (store_at start crew.house ends) { words = all }) (words_looked crew.house.spare (desks_in (with_outs crew.house.seats ends)) words)
+    same : (start : Store) (ends : List HoldingState) → store_at start now ends ≡ store_at start workers.register ends
+    same start ends = ap (λ (all : List ℕ). record (store_at start workers.register ends) { words = all }) (words_looked workers.register.spare (desks_in (with_outs workers.register.owners ends)) words)
 
 -- of each part one thing
-parts_long : {X Y : Type 0} (f : Lodged → X) (g : Lodged → Y) (seats : List Seat) → length (of_parts f seats) ≡ length (of_parts g seats)
+parts_long : {X Y : Type 0} (f : PartOwnerState → X) (g : PartOwnerState → Y) (owners : List RegionOwner) → length (of_parts f owners) ≡ length (of_parts g owners)
 parts_long f g [] = refl
-parts_long f g (Part l ∷ seats) = ap suc (parts_long f g seats)
-parts_long f g (Piece b ∷ seats) = parts_long f g seats
+parts_long f g (Part l ∷ owners) = ap suc (parts_long f g owners)
+parts_long f g (Piece b ∷ owners) = parts_long f g owners
 
 -- nobody is out
-with_none : (seats : List Seat) (ends : List HoldingState) → AllByRecursion (λ (out : Option HoldingState). out ≡ None) (outs_in seats) → with_outs seats ends ≡ seats
+with_none : (owners : List RegionOwner) (ends : List HoldingState) → AllByRecursion (λ (out : Option HoldingState). out ≡ None) (outs_in owners) → with_outs owners ends ≡ owners
 with_none [] ends none = refl
-with_none (Piece b ∷ seats) ends none = ap (λ (rest : List Seat). Piece b ∷ rest) (with_none seats ends none)
-with_none (Part l ∷ seats) [] none = ap (λ (rest : List Seat). Part l ∷ rest) (with_none seats [] none.1)
-with_none (Part l ∷ seats) (k ∷ ends) none =
+with_none (Piece b ∷ owners) ends none = ap (λ (rest : List RegionOwner). Piece b ∷ rest) (with_none owners ends none)
+with_none (Part l ∷ owners) [] none = ap (λ (rest : List RegionOwner). Part l ∷ rest) (with_none owners [] none.1)
+with_none (Part l ∷ owners) (k ∷ ends) none =
     let home = at_home l none.0 in
     let same : with_out l k ≡ l = ap (λ (b : Bool). record l { holding = if b then l.holding else k }) home in
-    rw (same, with_none seats ends none.1) refl
+    rw (same, with_none owners ends none.1) refl
 
-pub all_home : (seats : List Seat) → AllByRecursion (λ (out : Option HoldingState). out ≡ None) (outs_in seats) → AllHome seats
+pub all_home : (owners : List RegionOwner) → AllByRecursion (λ (out : Option HoldingState). out ≡ None) (outs_in owners) → AllHome owners
 all_home [] none = tt
-all_home (Piece b ∷ seats) none = all_home seats none
-all_home (Part l ∷ seats) none = (at_home l none.0, all_home seats none.1)
+all_home (Piece b ∷ owners) none = all_home owners none
+all_home (Part l ∷ owners) none = (at_home l none.0, all_home owners none.1)
 
-module _ (crew : Crewed) (none : NoneOut crew) where
-  same_at : (start : Store) (ends : List HoldingState) → store_at start crew.house ends ≡ record (store_in crew.house) { sight = start.sight }
-  same_at start ends = ap (λ (seats : List Seat). seen_as start.sight (store_in (with_seats crew.house seats))) (with_none crew.house.seats ends none)
+module _ (workers : WorkersState) (none : NoneOut workers) where
+  same_at : (start : Store) (ends : List HoldingState) → store_at start workers.register ends ≡ record (store_in workers.register) { sight = start.sight }
+  same_at start ends = ap (λ (owners : List RegionOwner). seen_as start.sight (store_in (with_owners workers.register owners))) (with_none workers.register.owners ends none)
 
-  pub new_stands : Stands (engaged crew []) (store_in crew.house) []
-  new_stands = leads_new (store_at (store_in crew.house) crew.house) (outs_in crew.house.seats) crew.jobs (store_in crew.house) (λ ends. same_at (store_in crew.house) ends)
+  pub new_stands : Stands (engaged workers []) (store_in workers.register) []
+  new_stands = leads_new (store_at (store_in workers.register) workers.register) (outs_in workers.register.owners) workers.jobs (store_in workers.register) (λ ends. same_at (store_in workers.register) ends)
 
-  pub settled : (replies : List (ℕ × Reply)) (blank : Reply) → IsKept crew replies → IsSettled (engaged crew replies) replies crew.house
+  pub settled : (replies : List (ℕ × Reply)) (blank : Reply) → IsKept workers replies → IsSettled (engaged workers replies) replies workers.register
   settled replies blank kept = λ start asked stands.
-      let ends : List HoldingState = holdings_seated crew.house.seats in
-      let long : length ends ≡ length (outs_in crew.house.seats) = parts_long (λ (o : Lodged). o.holding) out_of crew.house.seats in
+      let ends : List HoldingState = part_holdings workers.register.owners in
+      let long : length ends ≡ length (outs_in workers.register.owners) = parts_long (λ (o : PartOwnerState). o.holding) out_of workers.register.owners in
       subst (λ (s : Store). IsRun (orders_of asked) start (answers_with replies asked) s) (same_at start ends)
-      (leads_settled (store_at start crew.house) (outs_in crew.house.seats) crew.jobs replies start asked ends blank none kept.paired long stands)
+      (leads_settled (store_at start workers.register) (outs_in workers.register.owners) workers.jobs replies start asked ends blank none kept.paired long stands)
 
 -- a part that isn't out is at home, if there is such a part
-pub part_home : (seats : List Seat) (p : ℕ) → get_or (outs_in seats) p None ≡ None → get_or (homes_in seats) p true ≡ true
+pub part_home : (owners : List RegionOwner) (p : ℕ) → get_or (outs_in owners) p None ≡ None → get_or (homes_in owners) p true ≡ true
 part_home [] p none = refl
-part_home (Piece b ∷ seats) p none = part_home seats p none
-part_home (Part l ∷ seats) zero none = at_home l none
-part_home (Part l ∷ seats) (suc p) none = part_home seats p none
+part_home (Piece b ∷ owners) p none = part_home owners p none
+part_home (Part l ∷ owners) zero none = at_home l none
+part_home (Part l ∷ owners) (suc p) none = part_home owners p none
 
 -- what came home, or was at home
 pub still_none : (outs : List (Option HoldingState)) (p : ℕ) → get_or outs p None ≡ None → set outs p None ≡ outs
@@ -378,27 +378,27 @@ all_none (o ∷ outs) each = (each 0 (omega arith), all_none outs (λ q low. eac
 
 -- parts are brought home that are out, and then others
 module _ {Z : Type 0} where
-  pub brought_itself : (crew : Crewed) (replies : Vec (ℕ × Reply) Z) → IsKept crew replies.items → AreBrought crew replies crew replies
-  brought_itself crew replies kept = record { kept = kept; stands = λ start asked stood. stood; places = refl; capacity = refl; house = refl }
+  pub brought_itself : (workers : WorkersState) (replies : Vec (ℕ × Reply) Z) → IsKept workers replies.items → AreBrought workers replies workers replies
+  brought_itself workers replies kept = record { kept = kept; stands = λ start asked stood. stood; places = refl; capacity = refl; register = refl }
 
-  pub brought_some : (crew : Crewed) (replies : Vec (ℕ × Reply) Z) → IsKept crew replies.items → AreSeated crew.house → (p : ℕ) (answers : List (ℕ × Reply)) (after : Crewed) (landed : Vec (ℕ × Reply) Z)
-      → IsHomeAgain p crew (Some answers) after → landed.items ≡ land replies.items answers → vec_capacity landed ≡ vec_capacity replies → AreBrought crew replies after landed
-  brought_some crew replies kept are p answers after landed again items capacity = record {
-    kept = rw items (home_kept crew replies.items kept are p answers after again);
-    stands = rw items (home_stands crew replies.items kept are p answers after again);
-    places = rw items (land-length replies.items answers);
+  pub brought_some : (workers : WorkersState) (replies : Vec (ℕ × Reply) Z) → IsKept workers replies.items → AreRuled workers.register → (p : ℕ) (answers : List (ℕ × Reply)) (after : WorkersState) (filled : Vec (ℕ × Reply) Z)
+      → IsHomeAgain p workers (Some answers) after → filled.items ≡ put_answers replies.items answers → vec_capacity filled ≡ vec_capacity replies → AreBrought workers replies after filled
+  brought_some workers replies kept are p answers after filled again items capacity = record {
+    kept = rw items (home_kept workers replies.items kept are p answers after again);
+    stands = rw items (home_stands workers replies.items kept are p answers after again);
+    places = rw items (put_answers-length replies.items answers);
     capacity = capacity;
-    house = (let is = ap (λ (c : Crewed). c.house) again.6 in is ∙ ap (λ (seats : List Seat). record crew.house { seats = seats }) (sym (ap (λ (g : Seating). g.seats) is)));
+    register = (let is = ap (λ (c : WorkersState). c.register) again.6 in is ∙ ap (λ (owners : List RegionOwner). record workers.register { owners = owners }) (sym (ap (λ (g : OwnersState). g.owners) is)));
   }
 
-  pub brought_twice : (crew : Crewed) (replies : Vec (ℕ × Reply) Z) (mid : Crewed) (some : Vec (ℕ × Reply) Z) (after : Crewed) (landed : Vec (ℕ × Reply) Z)
-      → AreBrought crew replies mid some → AreBrought mid some after landed → AreBrought crew replies after landed
-  brought_twice crew replies mid some after landed one two = record {
+  pub brought_twice : (workers : WorkersState) (replies : Vec (ℕ × Reply) Z) (mid : WorkersState) (some : Vec (ℕ × Reply) Z) (after : WorkersState) (filled : Vec (ℕ × Reply) Z)
+      → AreBrought workers replies mid some → AreBrought mid some after filled → AreBrought workers replies after filled
+  brought_twice workers replies mid some after filled one two = record {
     kept = two.kept;
     stands = λ start asked stood. two.stands start asked (one.stands start asked stood);
     places = two.places ∙ one.places;
     capacity = two.capacity ∙ one.capacity;
-    house = two.house ∙ ap (λ (h : Seating). record h { seats = after.house.seats }) one.house;
+    register = two.register ∙ ap (λ (h : OwnersState). record h { owners = after.register.owners }) one.register;
   }
 
 -- the parts on both sides of a bound aren't out
@@ -415,17 +415,17 @@ sides_put outs move =
     (none_set (set outs (move.bound - 1) None) move.bound (move.bound - 1) (none_put outs (move.bound - 1)), none_put (set outs (move.bound - 1) None) move.bound)
 
 -- so a re-cut finds the parts at home on which it works
-sides_each : (h : Seating) (moves : List CutMove) → ((i : ℕ) (d : CutMove) → i < length moves → AreSidesHome (outs_in h.seats) (get_or moves i d)) → AllByRecursion (IsHomeToMove h) moves
+sides_each : (h : OwnersState) (moves : List CutMove) → ((i : ℕ) (d : CutMove) → i < length moves → AreSidesHome (outs_in h.owners) (get_or moves i d)) → AllByRecursion (IsHomeToMove h) moves
 sides_each h [] each = tt
 sides_each h (move ∷ moves) each =
     let one = each 0 move (omega arith) in
-    ((part_home h.seats (move.bound - 1) one.0, part_home h.seats move.bound one.1), sides_each h moves (λ i d low. each (suc i) d (omega arith)))
+    ((part_home h.owners (move.bound - 1) one.0, part_home h.owners move.bound one.1), sides_each h moves (λ i d low. each (suc i) d (omega arith)))
 
-pub sides_cut : (bounds : List ℕ) (h : Seating) (moves : List CutMove) → recut_answer h.regions bounds ≡ Ok moves
-    → ((i : ℕ) (d : CutMove) → i < length moves → AreSidesHome (outs_in h.seats) (get_or moves i d)) → IsHomeToCut bounds h
+pub sides_cut : (bounds : List ℕ) (h : OwnersState) (moves : List CutMove) → recut_answer h.regions bounds ≡ Ok moves
+    → ((i : ℕ) (d : CutMove) → i < length moves → AreSidesHome (outs_in h.owners) (get_or moves i d)) → IsHomeToCut bounds h
 sides_cut bounds h moves answer each = rw answer (sides_each h moves each)
 
-pub refused_cut : (bounds : List ℕ) (h : Seating) (why : Refusal) → recut_answer h.regions bounds ≡ Err why → IsHomeToCut bounds h
+pub refused_cut : (bounds : List ℕ) (h : OwnersState) (why : Refusal) → recut_answer h.regions bounds ≡ Err why → IsHomeToCut bounds h
 refused_cut bounds h why answer = rw answer tt
 
 -- an event that the register does itself names no subscriber by a number
@@ -456,12 +456,12 @@ none_next outs first p each q from low = elim (cases_lt q p) [
 ]
 
 -- all came home
-pub none_all : (before after : Crewed) → after.house ≡ record before.house { seats = after.house.seats } → AreSeated after.house → (end : ℕ) → end ≡ length (parts_of before.house.regions)
-    → ((q : ℕ) → q < end → get_or (outs_in after.house.seats) q None ≡ None) → NoneOut after
-none_all before after house are end is each =
-    let count = as_parts after.house are in
-    let regions = ap (λ (h : Seating). length (parts_of h.regions)) house in
-    all_none (outs_in after.house.seats) (λ q low. each q (omega arith))
+pub none_all : (before after : WorkersState) → after.register ≡ record before.register { owners = after.register.owners } → AreRuled after.register → (end : ℕ) → end ≡ length (parts_of before.register.regions)
+    → ((q : ℕ) → q < end → get_or (outs_in after.register.owners) q None ≡ None) → NoneOut after
+none_all before after register are end is each =
+    let count = as_parts after.register are in
+    let regions = ap (λ (h : OwnersState). length (parts_of h.regions)) register in
+    all_none (outs_in after.register.owners) (λ q low. each q (omega arith))
 
 pub sides_next : (outs : List (Option HoldingState)) (moves : List CutMove) (k : ℕ) (move : CutMove) → k < length moves → move ≡ get_or moves k move
     → ((i : ℕ) (d : CutMove) → i < k → AreSidesHome outs (get_or moves i d))
@@ -475,31 +475,31 @@ sides_next outs moves k move there is each i d low = elim (cases_lt i k) [
 ]
 
 -- the register itself did an event, after the parts came home that work on it
-pub here_after : {Z : Type 0} (crew : Crewed) (replies : Vec (ℕ × Reply) Z) (mid : Crewed) (landed : Vec (ℕ × Reply) Z) → AreBrought crew replies mid landed
-    → (now : Crewed) (r : Reply) → IsCrewParted (parting_of r) mid now → (event : Event) → IsStepBeside event mid.house r now.house
-    → (changes_parts event ≡ false → now.house.spare ≡ mid.house.spare) → IsLaterDesk mid.house.spare now.house.spare → IsAnswered event r crew replies now landed
-here_after crew replies mid landed was now r is event step same later = record {
+pub here_after : {Z : Type 0} (workers : WorkersState) (replies : Vec (ℕ × Reply) Z) (mid : WorkersState) (filled : Vec (ℕ × Reply) Z) → AreBrought workers replies mid filled
+    → (now : WorkersState) (r : Reply) → AreWorkersParted (parting_of r) mid now → (event : Event) → IsStepWhileOut event mid.register r now.register
+    → (changes_parts event ≡ false → now.register.spare ≡ mid.register.spare) → IsLaterDesk mid.register.spare now.register.spare → IsAnswered event r workers replies now filled
+here_after workers replies mid filled was now r is event step same later = record {
   kept = both.0;
   took = both.1;
   places = was.places;
   capacity = was.capacity;
   spare = λ none. same none ∙ spare;
-  desk = subst (λ (s : Station). IsLaterDesk s now.house.spare) spare later;
+  desk = subst (λ (s : Station). IsLaterDesk s now.register.spare) spare later;
 }
   where
-    spare : mid.house.spare ≡ crew.house.spare
-    spare = ap (λ (h : Seating). h.spare) was.house
+    spare : mid.register.spare ≡ workers.register.spare
+    spare = ap (λ (h : OwnersState). h.spare) was.register
 
-    both : IsKept now (landed.items ++ (length replies.items, r) ∷ []) × TookNext (Took event) (engaged crew replies.items) (engaged now (landed.items ++ (length replies.items, r) ∷ []))
+    both : IsKept now (filled.items ++ (length replies.items, r) ∷ []) × TookNext (Took event) (engaged workers replies.items) (engaged now (filled.items ++ (length replies.items, r) ∷ []))
     both =
-        subst (λ (n : ℕ). IsKept now (landed.items ++ (n, r) ∷ []) × TookNext (Took event) (engaged crew replies.items) (engaged now (landed.items ++ (n, r) ∷ []))) was.places (
-          here_kept mid landed.items was.kept now (parting_of r) is r,
-          λ start asked stood. here_took mid landed.items was.kept now (parting_of r) is event r step start asked (was.stands start asked stood),
+        subst (λ (n : ℕ). IsKept now (filled.items ++ (n, r) ∷ []) × TookNext (Took event) (engaged workers replies.items) (engaged now (filled.items ++ (n, r) ∷ []))) was.places (
+          here_kept mid filled.items was.kept now (parting_of r) is r,
+          λ start asked stood. here_took mid filled.items was.kept now (parting_of r) is event r step start asked (was.stands start asked stood),
         )
 
 -- an engine with no job out
-pub all_idle : (crew : Crewed) → length crew.jobs ≡ length (outs_in crew.house.seats) → NoneOut crew → AreIdle crew → AllByRecursion (λ (own : List (ℕ × Job)). own ≡ []) crew.jobs
-all_idle crew paired none idle = each crew.jobs (λ p. idle p (nothing (outs_in crew.house.seats) p none))
+pub all_idle : (workers : WorkersState) → length workers.jobs ≡ length (outs_in workers.register.owners) → NoneOut workers → AreIdle workers → AllByRecursion (λ (own : List (ℕ × Job)). own ≡ []) workers.jobs
+all_idle workers paired none idle = each workers.jobs (λ p. idle p (nothing (outs_in workers.register.owners) p none))
   where
     nothing : (outs : List (Option HoldingState)) (p : ℕ) → AllByRecursion (λ (out : Option HoldingState). out ≡ None) outs → get_or outs p None ≡ None
     nothing [] p none = refl
@@ -514,59 +514,59 @@ none_numberless : (jobs : List (List (ℕ × Job))) → AllByRecursion (λ (own 
 none_numberless [] none = tt
 none_numberless (own ∷ jobs) none = (let one : own ≡ [] = none.0 in rw one tt, none_numberless jobs none.1)
 
-pub new_kept : (crew : Crewed) → length crew.jobs ≡ length (outs_in crew.house.seats) → AllByRecursion (λ (own : List (ℕ × Job)). own ≡ []) crew.jobs → IsKept crew []
-new_kept crew paired none = record { paired = paired; none = none_numberless crew.jobs none; order = order_new crew.jobs none }
+pub new_kept : (workers : WorkersState) → length workers.jobs ≡ length (outs_in workers.register.owners) → AllByRecursion (λ (own : List (ℕ × Job)). own ≡ []) workers.jobs → IsKept workers []
+new_kept workers paired none = record { paired = paired; none = none_numberless workers.jobs none; order = order_new workers.jobs none }
 
 -- room for a job more
-pub few_jobs : (crew : Crewed) (replies : List (ℕ × Reply)) → IsKept crew replies → (p : ℕ) → length (get_or crew.jobs p []) ≤ length replies
-few_jobs crew replies kept p = elim (cases_lt p (length crew.jobs)) [
-  | inl below ↦ kept.order.few p (get_or crew.jobs p []) (slice_get-get_or crew.jobs p [] below)
-  | inr past ↦ let none = ap length (get_or_past crew.jobs p [] past) in omega arith
+pub few_jobs : (workers : WorkersState) (replies : List (ℕ × Reply)) → IsKept workers replies → (p : ℕ) → length (get_or workers.jobs p []) ≤ length replies
+few_jobs workers replies kept p = elim (cases_lt p (length workers.jobs)) [
+  | inl below ↦ kept.order.few p (get_or workers.jobs p []) (slice_get-get_or workers.jobs p [] below)
+  | inr past ↦ let none = ap length (get_or_past workers.jobs p [] past) in omega arith
 ]
 
 -- a part that is there has a place for its jobs
-pub part_there : (crew : Crewed) (replies : List (ℕ × Reply)) → IsKept crew replies → AreSeated crew.house → (p : ℕ) → p < length (homes_in crew.house.seats) → p < length crew.jobs
-part_there crew replies kept are p low = let homes = as_homes crew.house are in let paired = kept.paired in omega arith
+pub part_there : (workers : WorkersState) (replies : List (ℕ × Reply)) → IsKept workers replies → AreRuled workers.register → (p : ℕ) → p < length (homes_in workers.register.owners) → p < length workers.jobs
+part_there workers replies kept are p low = let homes = as_homes workers.register are in let paired = kept.paired in omega arith
 
 -- it was answered at once
-pub told_after : {Z : Type 0} (crew : Crewed) (replies : Vec (ℕ × Reply) Z) → IsKept crew replies.items → (event : Event) (r : Reply) → IsRightNow event crew.house r → IsAnswered event r crew replies crew replies
-told_after crew replies kept event r right = record {
-  kept = now_kept crew replies.items kept r;
-  took = now_took crew replies.items kept event r right;
+pub told_after : {Z : Type 0} (workers : WorkersState) (replies : Vec (ℕ × Reply) Z) → IsKept workers replies.items → (event : Event) (r : Reply) → IsRightNow event workers.register r → IsAnswered event r workers replies workers replies
+told_after workers replies kept event r right = record {
+  kept = now_kept workers replies.items kept r;
+  took = now_took workers replies.items kept event r right;
   places = refl;
   capacity = refl;
   spare = λ none. refl;
-  desk = desk_same crew.house.spare crew.house.spare refl;
+  desk = desk_same workers.register.spare workers.register.spare refl;
 }
 
 -- a job was sent, and its place is blank
-pub sent_after : {Z : Type 0} (crew : Crewed) (replies : Vec (ℕ × Reply) Z) → IsKept crew replies.items → AreSeated crew.house → (p : ℕ) (event : Event) (job : Job) → IsJobOf crew.house.regions p job
-    → IsRightSent event crew.house p job → (blank : Reply) (now : Crewed) → IsSentTo p (length replies.items, job) crew now → IsAnswered event blank crew replies now replies
-sent_after crew replies kept are p event job of right blank now sent = record {
-  kept = rw (sent.2) (sent_kept crew replies.items kept are p sent.0 sent.1 event job of right blank);
-  took = rw (sent.2) (sent_took crew replies.items kept are p sent.0 sent.1 event job of right blank);
+pub sent_after : {Z : Type 0} (workers : WorkersState) (replies : Vec (ℕ × Reply) Z) → IsKept workers replies.items → AreRuled workers.register → (p : ℕ) (event : Event) (job : Job) → IsJobOf workers.register.regions p job
+    → IsRightSent event workers.register p job → (blank : Reply) (now : WorkersState) → IsSentTo p (length replies.items, job) workers now → IsAnswered event blank workers replies now replies
+sent_after workers replies kept are p event job of right blank now sent = record {
+  kept = rw (sent.2) (sent_kept workers replies.items kept are p sent.0 sent.1 event job of right blank);
+  took = rw (sent.2) (sent_took workers replies.items kept are p sent.0 sent.1 event job of right blank);
   places = refl;
   capacity = refl;
   spare = λ none. spare;
-  desk = desk_same crew.house.spare now.house.spare spare;
+  desk = desk_same workers.register.spare now.register.spare spare;
 }
   where
-    spare : now.house.spare ≡ crew.house.spare
-    spare = ap (λ (c : Crewed). c.house.spare) sent.2 ∙ ap (λ (g : Seating). g.spare) (out_later p crew sent.0 sent.1).1
+    spare : now.register.spare ≡ workers.register.spare
+    spare = ap (λ (c : WorkersState). c.register.spare) sent.2 ∙ ap (λ (g : OwnersState). g.spare) (out_later p workers sent.0 sent.1).1
 
 -- no replies, where there were none
-pub no_more : (replies landed : List (ℕ × Reply)) → length landed ≡ length replies → landed ≡ [] → replies ≡ []
-no_more [] landed same none = refl
+pub no_more : (replies filled : List (ℕ × Reply)) → length filled ≡ length replies → filled ≡ [] → replies ≡ []
+no_more [] filled same none = refl
 no_more (r ∷ replies) [] same none = absurd (omega arith)
-no_more (r ∷ replies) (l ∷ landed) same none = absurd cc
+no_more (r ∷ replies) (l ∷ filled) same none = absurd cc
 
-pub none_yet : (replies landed : List (ℕ × Reply)) → length landed ≡ length replies → replies ≡ [] → landed ≡ []
-none_yet replies landed same none = no_more landed replies (sym same) none
+pub none_yet : (replies filled : List (ℕ × Reply)) → length filled ≡ length replies → replies ≡ [] → filled ≡ []
+none_yet replies filled same none = no_more filled replies (sym same) none
 
 -- bounds were moved, after the parts beside them came home
-pub cut_after : {Z : Type 0} (crew : Crewed) (replies : Vec (ℕ × Reply) Z) (mid : Crewed) (landed : Vec (ℕ × Reply) Z) → AreBrought crew replies mid landed → (now : Crewed) → IsSameHouse mid.house now.house → now.jobs ≡ mid.jobs → (bounds : List ℕ) (done : Result ℕ Refusal) → IsRecutBeside bounds mid.house done now.house
-    → IsKept now landed.items × TookNext (Cut bounds done) (engaged crew replies.items) (engaged now landed.items)
-cut_after crew replies mid landed was now house jobs bounds done right = (
-  house_kept mid landed.items was.kept now house jobs,
-  λ start asked stood. cut_took mid landed.items was.kept now house jobs bounds done right start asked (was.stands start asked stood),
+pub cut_after : {Z : Type 0} (workers : WorkersState) (replies : Vec (ℕ × Reply) Z) (mid : WorkersState) (filled : Vec (ℕ × Reply) Z) → AreBrought workers replies mid filled → (now : WorkersState) → HaveSameHomes mid.register now.register → now.jobs ≡ mid.jobs → (bounds : List ℕ) (done : Result ℕ Refusal) → IsRecutWhileOut bounds mid.register done now.register
+    → IsKept now filled.items × TookNext (Cut bounds done) (engaged workers replies.items) (engaged now filled.items)
+cut_after workers replies mid filled was now register jobs bounds done right = (
+  register_kept mid filled.items was.kept now register jobs,
+  λ start asked stood. cut_took mid filled.items was.kept now register jobs bounds done right start asked (was.stands start asked stood),
 )

@@ -1,8 +1,8 @@
 pub mod BackLemmas
-pub mod CrewLemmas
+pub mod WorkersLemmas
 pub mod CrossingLemmas
 pub mod EngineLemmas
-pub mod HouseLemmas
+pub mod RegisterLemmas
 pub mod PartedLemmas
 pub mod PartingLemmas
 pub mod RelayLemmas

@@ -22,22 +22,22 @@ use Rattle.part_table.proofs.FirstLemmas.{find_none}
 use Rattle.holding.specs.Held.{HoldingState}
 use Rattle.hlr_owners.specs.Answered.{MayAnswer, is_loose}
 use Rattle.hlr_owners.specs.Out.{out_of, outs_in}
-use Rattle.hlr_owners.specs.Seats.{AreSeated, IsHomeFrom, Seating, homes_in, store_in}
+use Rattle.hlr_owners.specs.Owners.{AreRuled, IsHomeFrom, OwnersState, homes_in, store_in}
 use Rattle.hlr_owners.specs.Store.{Store}
-use Rattle.hlr_owners.specs.declared.lodging.Seat.{Seat}
-use Rattle.hlr_owners.specs.declared.lodging.Seat.TheVariants.{Part, Piece}
-use Rattle.hlr_core.specs.Home.{IsHomeTo, IsHouseAfter, IsSameHouse}
+use Rattle.hlr_owners.specs.declared.part_owner.RegionOwner.{RegionOwner}
+use Rattle.hlr_owners.specs.declared.part_owner.RegionOwner.TheVariants.{Part, Piece}
+use Rattle.hlr_core.specs.Home.{IsHomeTo, AreHomesAfter, HaveSameHomes}
 use Rattle.hlr_core.specs.Step.{IsAskedStep, IsOwnedStep, IsStep, action_for, dissolved_reply, divided_reply, given_reply, posted_reply, reply_of, taken_reply}
 use Rattle.hlr_core.specs.declared.event.Event.{Event}
 use Rattle.hlr_core.specs.declared.event.Event.TheVariants.{SubscriberData, NewDestination, AccessData, UpdateSubscriber, UpdateLocation, InsertForwarding, DeleteForwarding}
 use Rattle.hlr_core.specs.declared.event.Event.TheVariants.{AddSubscriber, AddAccess, AddFacility, SetActive, SetNumber, Post, Give, Take, Divide, Dissolve}
 use Rattle.hlr_core.specs.declared.event.Reply.{Reply}
 use Rattle.hlr_workers.specs.Finish.{Sent}
-use Rattle.hlr_workers.specs.Inside.{IsBehind, IsCrewParted, IsPlace, New, Parting, Same, parted, parting_of}
-use Rattle.hlr_workers.specs.Kept.{Crewed, HasWorker, jobs_at}
+use Rattle.hlr_workers.specs.Inside.{IsBehind, AreWorkersParted, IsPlace, New, Parting, Same, parted, parting_of}
+use Rattle.hlr_workers.specs.Kept.{WorkersState, HasWorker, jobs_at}
 use Rattle.hlr_workers.specs.Standing.{changes_parts}
-use Rattle.hlr_workers.proofs.CrewLemmas.{as_parts, idle_parts, out_is, outs_home}
-use Rattle.hlr_workers.proofs.HouseLemmas.{part_at}
+use Rattle.hlr_workers.proofs.WorkersLemmas.{as_parts, idle_parts, out_is, outs_home}
+use Rattle.hlr_workers.proofs.RegisterLemmas.{part_at}
 use Rattle.hlr_workers.proofs.PartingLemmas.{map_parted, parted_zip}
 
 -- a reply to anything but a divide and a dissolve tells of no part that came or went
@@ -70,20 +70,20 @@ taken_told piece part (Err why) = refl
 
 -- what is so of each other event
 record IsOther (event : Event) : Type 0 where
-  house : (r : Reply) (h g : Seating) → IsHouseAfter event r h g → IsSameHouse h g
+  register : (r : Reply) (h g : OwnersState) → AreHomesAfter event r h g → HaveSameHomes h g
   told : (b : Store) (r : Reply) (c : Store) → IsStep event b r c → parting_of r ≡ Same
 
-rows_other : (event : Event) → ((r : Reply) (h g : Seating) → IsHouseAfter event r h g → IsSameHouse h g)
+rows_other : (event : Event) → ((r : Reply) (h g : OwnersState) → AreHomesAfter event r h g → HaveSameHomes h g)
     → ((b : Store) (r : Reply) (c : Store) → IsStep event b r c → IsAskedStep (action_for event b.book) b r c) → IsOther event
-rows_other event house step = record { house = house; told = λ b r c is. asked_told (action_for event b.book) b r c (step b r c is) }
+rows_other event register step = record { register = register; told = λ b r c is. asked_told (action_for event b.book) b r c (step b r c is) }
 
 -- an event is a divide, a dissolve or another one
 kind : (event : Event) → ((part : ℕ) × (at : ℕ) × (event ≡ Divide part at)) ⊎ (((part : ℕ) × (event ≡ Dissolve part)) ⊎ IsOther event)
 kind (Divide part at) = inl (part, at, refl)
 kind (Dissolve part) = inr (inl (part, refl))
-kind (Post part limit) = inr (inr (record { house = λ r h g is. is; told = λ b r c step. ap parting_of step.2 ∙ posted_told step.0 }))
-kind (Give part side at) = inr (inr (record { house = λ r h g is. is; told = λ b r c step. ap parting_of step.2 ∙ given_told step.0 }))
-kind (Take piece part) = inr (inr (record { house = λ r h g is. is; told = λ b r c step. ap parting_of step.2 ∙ taken_told piece part step.0 }))
+kind (Post part limit) = inr (inr (record { register = λ r h g is. is; told = λ b r c step. ap parting_of step.2 ∙ posted_told step.0 }))
+kind (Give part side at) = inr (inr (record { register = λ r h g is. is; told = λ b r c step. ap parting_of step.2 ∙ given_told step.0 }))
+kind (Take piece part) = inr (inr (record { register = λ r h g is. is; told = λ b r c step. ap parting_of step.2 ∙ taken_told piece part step.0 }))
 kind (SubscriberData s_id) = inr (inr (rows_other (SubscriberData s_id) (λ r h g is. is) (λ b r c step. step)))
 kind (NewDestination s_id t a e) = inr (inr (rows_other (NewDestination s_id t a e) (λ r h g is. is) (λ b r c step. step)))
 kind (AccessData s_id t) = inr (inr (rows_other (AccessData s_id t) (λ r h g is. is) (λ b r c step. step)))
@@ -98,12 +98,12 @@ kind (SetActive s_id t v) = inr (inr (rows_other (SetActive s_id t v) (λ r h g 
 kind (SetNumber s_id n) = inr (inr (rows_other (SetNumber s_id n) (λ r h g is. is) (λ b r c step. step)))
 
 -- where no part may come or go, the spare desk stays
-pub spare_after : (event : Event) (r : Reply) (h g : Seating) → IsHouseAfter event r h g → changes_parts event ≡ false → g.spare ≡ h.spare
-spare_after event r h g house calm = elim (kind event) [
+pub spare_after : (event : Event) (r : Reply) (h g : OwnersState) → AreHomesAfter event r h g → changes_parts event ≡ false → g.spare ≡ h.spare
+spare_after event r h g register calm = elim (kind event) [
   | inl divide ↦ absurd (let clash : true ≡ false = ap changes_parts (sym divide.2) ∙ calm in cc)
   | inr rest ↦ elim rest [
     | inl dissolve ↦ absurd (let clash : true ≡ false = ap changes_parts (sym dissolve.1) ∙ calm in cc)
-    | inr other ↦ (other.house r h g house).spare
+    | inr other ↦ (other.register r h g register).spare
   ]
 ]
 
@@ -113,25 +113,25 @@ none_at [] q none = refl
 none_at (o ∷ outs) zero none = none.0
 none_at (o ∷ outs) (suc q) none = none_at outs q none.1
 
-outs_from : (seats : List Seat) (first : ℕ) → AllByRecursion (λ (home : Bool). home ≡ true) (drop first (homes_in seats)) → (q : ℕ) → first ≤ q → get_or (outs_in seats) q None ≡ None
-outs_from seats zero all q from = none_at (outs_in seats) q (outs_home seats all)
+outs_from : (owners : List RegionOwner) (first : ℕ) → AllByRecursion (λ (home : Bool). home ≡ true) (drop first (homes_in owners)) → (q : ℕ) → first ≤ q → get_or (outs_in owners) q None ≡ None
+outs_from owners zero all q from = none_at (outs_in owners) q (outs_home owners all)
 outs_from [] (suc first) all q from = refl
-outs_from (Piece b ∷ seats) (suc first) all q from = outs_from seats (suc first) all q from
-outs_from (Part l ∷ seats) (suc first) all zero from = absurd (omega arith)
-outs_from (Part l ∷ seats) (suc first) all (suc q) from = outs_from seats first all q (omega arith)
+outs_from (Piece b ∷ owners) (suc first) all q from = outs_from owners (suc first) all q from
+outs_from (Part l ∷ owners) (suc first) all zero from = absurd (omega arith)
+outs_from (Part l ∷ owners) (suc first) all (suc q) from = outs_from owners first all q (omega arith)
 
-module _ (h : Seating) (are : AreSeated h) where
+module _ (h : OwnersState) (are : AreRuled h) where
   -- a part whose region is found has its place among all parts
-  found_low : (p : ℕ) (region : Region) → find (is_part p) h.regions ≡ Some region → p < length (outs_in h.seats)
+  found_low : (p : ℕ) (region : Region) → find (is_part p) h.regions ≡ Some region → p < length (outs_in h.owners)
   found_low p region found = cases (position (is_part p) h.regions) refl
     where
-      cases : (o : Option ℕ) → position (is_part p) h.regions ≡ o → p < length (outs_in h.seats)
+      cases : (o : Option ℕ) → position (is_part p) h.regions ≡ o → p < length (outs_in h.owners)
       cases None none = absurd (none-some region (sym (find_none (is_part p) h.regions none) ∙ found))
-      cases (Some i) index = let at = part_at h are p i index in slice_get_within (outs_in h.seats) p (out_of at.0) (out_is h are p i at.0 at.1)
+      cases (Some i) index = let at = part_at h are p i index in slice_get_within (outs_in h.owners) p (out_of at.0) (out_is h are p i at.0 at.1)
 
   -- a divide that is done makes the part behind a part that is there, and there was room
   divided_there : (p at : ℕ) (found : Option Region) (told : ℕ × ℕ × ℕ) → find (is_part p) h.regions ≡ found → MayAnswer (divide_answer_of found p at h.regions) (Ok told)
-      → (told.0 ≡ p + 1) × IsPlace (New (p + 1)) (length (outs_in h.seats))
+      → (told.0 ≡ p + 1) × IsPlace (New (p + 1)) (length (outs_in h.owners))
   divided_there p at None told is may = absurd cc
   divided_there p at (Some part) told is may =
       let low = found_low p part is in
@@ -151,7 +151,7 @@ module _ (h : Seating) (are : AreSeated h) where
 
   -- and a dissolve that is done has a part go that is there, and tells the one in front
   dissolved_there : (p : ℕ) (found front : Option Region) (told : ℕ × ℕ × ℕ) → find (is_part p) h.regions ≡ found → part_before p h.regions ≡ front → MayAnswer (dissolve_answer_of found front p) (Ok told)
-      → (told.0 + 1 ≡ p) × (p < length (outs_in h.seats))
+      → (told.0 + 1 ≡ p) × (p < length (outs_in h.owners))
   dissolved_there p None front told is before may = absurd cc
   dissolved_there p (Some part) None told is before may = absurd cc
   dissolved_there zero (Some part) (Some front) told is before may = absurd (none-some front before)
@@ -165,55 +165,55 @@ module _ (h : Seating) (are : AreSeated h) where
       (λ e. let clash = rw e at may in absurd cc)
 
 -- what the register leaves of who is out, where the parts that work on an event were at home
-record IsHouseParted (told : Parting) (h g : Seating) : Type 0 where
-  pub outs : outs_in g.seats ≡ parted told None (outs_in h.seats)
-  pub place : IsPlace told (length (outs_in h.seats))
-  pub home : (q : ℕ) → IsBehind told q → get_or (outs_in h.seats) q None ≡ None
+record AreHomesParted (told : Parting) (h g : OwnersState) : Type 0 where
+  pub outs : outs_in g.owners ≡ parted told None (outs_in h.owners)
+  pub place : IsPlace told (length (outs_in h.owners))
+  pub home : (q : ℕ) → IsBehind told q → get_or (outs_in h.owners) q None ≡ None
 
-same_parted : (h g : Seating) → outs_in g.seats ≡ outs_in h.seats → IsHouseParted Same h g
+same_parted : (h g : OwnersState) → outs_in g.owners ≡ outs_in h.owners → AreHomesParted Same h g
 same_parted h g same = record { outs = same; place = tt; home = λ q behind. absurd behind }
 
-module _ (h : Seating) (are : AreSeated h) (g : Seating) where
-  divide_parted : (p at : ℕ) (done : Result (ℕ × ℕ × ℕ) Refusal) → MayAnswer (divide_answer p at h.regions) done → IsHouseAfter (Divide p at) (divided_reply done) h g → IsHomeFrom p h
-      → IsHouseParted (parting_of (divided_reply done)) h g
-  divide_parted p at (Err why) may house home = same_parted h g house.outs
-  divide_parted p at (Ok new) may house home =
+module _ (h : OwnersState) (are : AreRuled h) (g : OwnersState) where
+  divide_parted : (p at : ℕ) (done : Result (ℕ × ℕ × ℕ) Refusal) → MayAnswer (divide_answer p at h.regions) done → AreHomesAfter (Divide p at) (divided_reply done) h g → IsHomeFrom p h
+      → AreHomesParted (parting_of (divided_reply done)) h g
+  divide_parted p at (Err why) may register home = same_parted h g register.outs
+  divide_parted p at (Ok new) may register home =
       let there = divided_there h are p at (find (is_part p) h.regions) new refl may in
-      rw (there.0) (record { outs = house.outs; place = there.1; home = λ q behind. outs_from h.seats p home q (omega arith) })
+      rw (there.0) (record { outs = register.outs; place = there.1; home = λ q behind. outs_from h.owners p home q (omega arith) })
 
-  dissolve_parted : (p : ℕ) (done : Result (ℕ × ℕ × ℕ) Refusal) → MayAnswer (dissolve_answer p h.regions) done → IsHouseAfter (Dissolve p) (dissolved_reply done) h g → IsHomeFrom (p - 1) h
-      → IsHouseParted (parting_of (dissolved_reply done)) h g
-  dissolve_parted p (Err why) may house home = same_parted h g house.outs
-  dissolve_parted p (Ok front) may house home =
+  dissolve_parted : (p : ℕ) (done : Result (ℕ × ℕ × ℕ) Refusal) → MayAnswer (dissolve_answer p h.regions) done → AreHomesAfter (Dissolve p) (dissolved_reply done) h g → IsHomeFrom (p - 1) h
+      → AreHomesParted (parting_of (dissolved_reply done)) h g
+  dissolve_parted p (Err why) may register home = same_parted h g register.outs
+  dissolve_parted p (Ok front) may register home =
       let there = dissolved_there h are p (find (is_part p) h.regions) (part_before p h.regions) front refl refl may in
-      rw (there.0) (record { outs = house.outs; place = there.1; home = λ q behind. outs_from h.seats (p - 1) home q (omega arith) })
+      rw (there.0) (record { outs = register.outs; place = there.1; home = λ q behind. outs_from h.owners (p - 1) home q (omega arith) })
 
-  house_parted : (event : Event) (r : Reply) → IsStep event (store_in h) r (store_in g) → IsHouseAfter event r h g → IsHomeTo event h → IsHouseParted (parting_of r) h g
-  house_parted event r step house home = elim (kind event) [
-    | inl divide ↦ divided (divide.0) (divide.1) (rw divide.2 at step) (rw divide.2 at house) (rw divide.2 at home)
+  register_parted : (event : Event) (r : Reply) → IsStep event (store_in h) r (store_in g) → AreHomesAfter event r h g → IsHomeTo event h → AreHomesParted (parting_of r) h g
+  register_parted event r step register home = elim (kind event) [
+    | inl divide ↦ divided (divide.0) (divide.1) (rw divide.2 at step) (rw divide.2 at register) (rw divide.2 at home)
     | inr rest ↦ elim rest [
-      | inl dissolve ↦ dissolved (dissolve.0) (rw dissolve.1 at step) (rw dissolve.1 at house) (rw dissolve.1 at home)
-      | inr other ↦ rw (other.told (store_in h) r (store_in g) step) (same_parted h g (other.house r h g house).outs)
+      | inl dissolve ↦ dissolved (dissolve.0) (rw dissolve.1 at step) (rw dissolve.1 at register) (rw dissolve.1 at home)
+      | inr other ↦ rw (other.told (store_in h) r (store_in g) step) (same_parted h g (other.register r h g register).outs)
     ]
   ]
     where
-      divided : (p at : ℕ) → IsStep (Divide p at) (store_in h) r (store_in g) → IsHouseAfter (Divide p at) r h g → IsHomeFrom p h → IsHouseParted (parting_of r) h g
-      divided p at step house home = rw (step.2) (divide_parted p at step.0 step.1 (rw (step.2) at house) home)
+      divided : (p at : ℕ) → IsStep (Divide p at) (store_in h) r (store_in g) → AreHomesAfter (Divide p at) r h g → IsHomeFrom p h → AreHomesParted (parting_of r) h g
+      divided p at step register home = rw (step.2) (divide_parted p at step.0 step.1 (rw (step.2) at register) home)
 
-      dissolved : (p : ℕ) → IsStep (Dissolve p) (store_in h) r (store_in g) → IsHouseAfter (Dissolve p) r h g → IsHomeFrom (p - 1) h → IsHouseParted (parting_of r) h g
-      dissolved p step house home = rw (step.2) (dissolve_parted p step.0 step.1 (rw (step.2) at house) home)
+      dissolved : (p : ℕ) → IsStep (Dissolve p) (store_in h) r (store_in g) → AreHomesAfter (Dissolve p) r h g → IsHomeFrom (p - 1) h → AreHomesParted (parting_of r) h g
+      dissolved p step register home = rw (step.2) (dissolve_parted p step.0 step.1 (rw (step.2) at register) home)
 
--- what that leaves of a crew: each part that is out keeps its worker
-pub record IsApplied (old : Crewed) (g : Seating) (ws : List (Option Sent)) (told : Parting) : Type 0 where
+-- what that leaves of a workers: each part that is out keeps its worker
+pub record IsApplied (old : WorkersState) (g : OwnersState) (ws : List (Option Sent)) (told : Parting) : Type 0 where
   pub room : IsPlace told (length ws)
-  pub each : AllZip HasWorker (outs_in g.seats) (parted told None ws)
-  pub now : IsCrewParted told old (record { house = g; jobs = map jobs_at (parted told None ws) })
+  pub each : AllZip HasWorker (outs_in g.owners) (parted told None ws)
+  pub now : AreWorkersParted told old (record { register = g; jobs = map jobs_at (parted told None ws) })
 
-crew_applied : (h : Seating) (ws : List (Option Sent)) → AllZip HasWorker (outs_in h.seats) ws → (told : Parting) (g : Seating) → IsHouseParted told h g
-    → IsApplied (record { house = h; jobs = map jobs_at ws }) g ws told
-crew_applied h ws each told g is = record {
-  room = subst (λ (n : ℕ). IsPlace told n) (sym (AllZip-long HasWorker (outs_in h.seats) ws each)) is.place;
-  each = rw (is.outs) (parted_zip HasWorker told None None (outs_in h.seats) ws tt each);
+workers_applied : (h : OwnersState) (ws : List (Option Sent)) → AllZip HasWorker (outs_in h.owners) ws → (told : Parting) (g : OwnersState) → AreHomesParted told h g
+    → IsApplied (record { register = h; jobs = map jobs_at ws }) g ws told
+workers_applied h ws each told g is = record {
+  room = subst (λ (n : ℕ). IsPlace told n) (sym (AllZip-long HasWorker (outs_in h.owners) ws each)) is.place;
+  each = rw (is.outs) (parted_zip HasWorker told None None (outs_in h.owners) ws tt each);
   now = record {
     outs = is.outs;
     jobs = map_parted jobs_at told None ws;
@@ -223,8 +223,8 @@ crew_applied h ws each told g is = record {
   };
 }
 
-pub applied : (old : Crewed) (h : Seating) (ws : List (Option Sent)) → record { house = h; jobs = map jobs_at ws } ≡ old → AreSeated h → AllZip HasWorker (outs_in h.seats) ws
-    → (event : Event) (r : Reply) (g : Seating) → IsHomeTo event old.house → IsStep event (store_in h) r (store_in g) → IsHouseAfter event r h g → IsApplied old g ws (parting_of r)
-applied old h ws view are each event r g home step house =
-    subst (λ (crew : Crewed). IsApplied crew g ws (parting_of r)) view
-    (crew_applied h ws each (parting_of r) g (house_parted h are g event r step house (subst (λ (crew : Crewed). IsHomeTo event crew.house) (sym view) home)))
+pub applied : (old : WorkersState) (h : OwnersState) (ws : List (Option Sent)) → record { register = h; jobs = map jobs_at ws } ≡ old → AreRuled h → AllZip HasWorker (outs_in h.owners) ws
+    → (event : Event) (r : Reply) (g : OwnersState) → IsHomeTo event old.register → IsStep event (store_in h) r (store_in g) → AreHomesAfter event r h g → IsApplied old g ws (parting_of r)
+applied old h ws view are each event r g home step register =
+    subst (λ (workers : WorkersState). IsApplied workers g ws (parting_of r)) view
+    (workers_applied h ws each (parting_of r) g (register_parted h are g event r step register (subst (λ (workers : WorkersState). IsHomeTo event workers.register) (sym view) home)))

@@ -5,7 +5,7 @@ use Rattle.tatp_actions.specs.Part.{PartState}
 use Rattle.holding.specs.Held.{HoldingState}
 use Rattle.holding.specs.declared.job.Job.{Job}
 use Rattle.holding.specs.declared.job.Job.TheVariants.{Act, Post}
-use Rattle.hlr_owners.specs.Seats.{IsSameOwner}
+use Rattle.hlr_owners.specs.Owners.{IsSameOwner}
 use Rattle.hlr_core.specs.Session.{IsJobDone, IsWithinJob}
 use Rattle.hlr_core.specs.declared.event.Reply.{Reply}
 use Rattle.hlr_workers.specs.Session.{AreNumberless, IsNumberless, IsSession}

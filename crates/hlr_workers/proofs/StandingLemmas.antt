@@ -22,7 +22,7 @@ use Rattle.hlr_core.specs.declared.order.Order.{Order}
 use Rattle.hlr_core.specs.declared.order.Order.TheVariants as order
 use Rattle.hlr_workers.specs.Session.{IsSession}
 use Rattle.hlr_workers.specs.Standing.{IsSessionBy, AreEnds, numbered, numbered_in, HasKept, Asked, Took, Cut, orders_of, events_in, answers_by, answers_with}
-use Rattle.hlr_workers.specs.Inside.{land}
+use Rattle.hlr_workers.specs.Inside.{put_answers}
 use Rattle.hlr_workers.specs.Kept.{InOrder}
 
 -- two numbers are the same, or not
@@ -187,19 +187,19 @@ sent_ends reply (o ∷ outs) (own ∷ jobs) (y ∷ ends) (suc p) x job out are =
     (rest.0, rest.1, rest.2, (are.0, rest.3), rest.4)
 
 -- the first job of a part that is out, put in front
-landed_ends : (reply : ℕ → Reply) (outs : List (Option HoldingState)) (jobs : List (List (ℕ × Job))) (ends : List HoldingState) (p : ℕ) (x m : HoldingState) (job : ℕ × Job) (own : List (ℕ × Job))
+filled_ends : (reply : ℕ → Reply) (outs : List (Option HoldingState)) (jobs : List (List (ℕ × Job))) (ends : List HoldingState) (p : ℕ) (x m : HoldingState) (job : ℕ × Job) (own : List (ℕ × Job))
     → slice_get outs p ≡ Some (Some x) → slice_get jobs p ≡ Some (job ∷ own) → IsJobDone job.1 x (reply job.0) m → AreEnds reply (set outs p (Some m)) (set jobs p own) ends
     → AreEnds reply outs jobs ends
-landed_ends reply [] jobs ends p x m job own out first done are = absurd (none-some (Some x) out)
-landed_ends reply (o ∷ outs) [] ends p x m job own out first done are = absurd (none-some (job ∷ own) first)
-landed_ends reply (o ∷ outs) (js ∷ jobs) [] zero x m job own out first done are = absurd are
-landed_ends reply (o ∷ outs) (js ∷ jobs) [] (suc p) x m job own out first done are = absurd are
-landed_ends reply (o ∷ outs) (js ∷ jobs) (y ∷ ends) zero x m job own out first done are =
+filled_ends reply [] jobs ends p x m job own out first done are = absurd (none-some (Some x) out)
+filled_ends reply (o ∷ outs) [] ends p x m job own out first done are = absurd (none-some (job ∷ own) first)
+filled_ends reply (o ∷ outs) (js ∷ jobs) [] zero x m job own out first done are = absurd are
+filled_ends reply (o ∷ outs) (js ∷ jobs) [] (suc p) x m job own out first done are = absurd are
+filled_ends reply (o ∷ outs) (js ∷ jobs) (y ∷ ends) zero x m job own out first done are =
     let o_is : o ≡ Some x = same_Some o (Some x) out in
     let js_is : js ≡ job ∷ own = same_Some js (job ∷ own) first in
     rw (o_is, js_is) ((m, done, are.0), are.1)
-landed_ends reply (o ∷ outs) (js ∷ jobs) (y ∷ ends) (suc p) x m job own out first done are =
-    (are.0, landed_ends reply outs jobs ends p x m job own out first done are.1)
+filled_ends reply (o ∷ outs) (js ∷ jobs) (y ∷ ends) (suc p) x m job own out first done are =
+    (are.0, filled_ends reply outs jobs ends p x m job own out first done are.1)
 
 -- a part at home goes out, with no job yet
 lent_ends : (reply : ℕ → Reply) (outs : List (Option HoldingState)) (jobs : List (List (ℕ × Job))) (ends : List HoldingState) (p : ℕ) (x : HoldingState)
@@ -374,46 +374,46 @@ module _ (outs : List (Option HoldingState)) (jobs : List (List (ℕ × Job))) (
 -- the first job of a part that is out was done, and its reply put at its number
 module _ (outs : List (Option HoldingState)) (jobs : List (List (ℕ × Job))) (replies : List (ℕ × Reply)) (order : InOrder jobs replies)
     (p : ℕ) (x m : HoldingState) (k : ℕ) (job : Job) (own : List (ℕ × Job)) (r : Reply) (out : slice_get outs p ≡ Some (Some x)) (first : slice_get jobs p ≡ Some ((k, job) ∷ own)) where
-  landed_numbered : (j : ℕ) → numbered_in j (set jobs p own) + numbered j ((k, job) ∷ []) ≡ numbered_in j jobs
-  landed_numbered j =
+  filled_numbered : (j : ℕ) → numbered_in j (set jobs p own) + numbered j ((k, job) ∷ []) ≡ numbered_in j jobs
+  filled_numbered j =
       let low = slice_get_within jobs p ((k, job) ∷ own) first in
       let was = numbered_set j jobs p own low in
       let had = ap (numbered j) (get_or_from_slice_get jobs p ((k, job) ∷ own) [] first) in
       omega arith
 
-  landed_none : numbered_in k (set jobs p own) ≡ 0
-  landed_none = let was = landed_numbered k in let self = numbered_self k job in let once = order.once k in omega arith
+  filled_none : numbered_in k (set jobs p own) ≡ 0
+  filled_none = let was = filled_numbered k in let self = numbered_self k job in let once = order.once k in omega arith
 
-  landed_low : k < length replies
-  landed_low = elim (cases_lt k (length replies)) [
+  filled_low : k < length replies
+  filled_low = elim (cases_lt k (length replies)) [
     | inl low ↦ low
-    | inr high ↦ absurd (let was = landed_numbered k in let self = numbered_self k job in let none = order.below k high in omega arith)
+    | inr high ↦ absurd (let was = filled_numbered k in let self = numbered_self k job in let none = order.below k high in omega arith)
   ]
 
-  leads_landed : (f : List HoldingState → Store) (before : Store) (asked : List Asked) → IsJobDone job x r m
+  leads_filled : (f : List HoldingState → Store) (before : Store) (asked : List Asked) → IsJobDone job x r m
       → Leads f outs jobs replies before asked → Leads f (set outs p (Some m)) (set jobs p own) (set replies k (k, r)) before asked
-  leads_landed f before asked done leads = (
+  leads_filled f before asked done leads = (
     leads.0 ∙ sym (length-set replies k (k, r)),
     λ reply ends kept are.
-        let is : reply k ≡ r = kept k (k, r) (get_there replies k (k, r) landed_low) landed_none in
+        let is : reply k ≡ r = kept k (k, r) (get_there replies k (k, r) filled_low) filled_none in
         let was : HasKept reply jobs replies = λ j one there none.
-        let apart : j ≢ k = λ e. (let self = numbered_self k job in let lands = landed_numbered k in let same = ap (λ (i : ℕ). numbered_in i jobs) e in absurd (omega arith)) in
-        let less = landed_numbered j in
+        let apart : j ≢ k = λ e. (let self = numbered_self k job in let lands = filled_numbered k in let same = ap (λ (i : ℕ). numbered_in i jobs) e in absurd (omega arith)) in
+        let less = filled_numbered j in
         kept j one (get_elsewhere replies k j (k, r) apart ∙ there) (omega arith) in
         leads.1 reply ends was
-        (landed_ends reply outs jobs ends p x m (k, job) own out first (subst (λ (z : Reply). IsJobDone job x z m) (sym is) done) are),
+        (filled_ends reply outs jobs ends p x m (k, job) own out first (subst (λ (z : Reply). IsJobDone job x z m) (sym is) done) are),
   )
 
-  order_landed : InOrder (set jobs p own) (set replies k (k, r))
-  order_landed =
+  order_filled : InOrder (set jobs p own) (set replies k (k, r))
+  order_filled =
       let long = length-set replies k (k, r) in
       record {
         places = λ j place is.
             by_number j k
-            (λ e. let one : place ≡ (k, r) = same_Some place (k, r) (sym is ∙ (ap (slice_get (set replies k (k, r))) e ∙ get_there replies k (k, r) landed_low)) in ap (λ (z : ℕ × Reply). z.0) one ∙ sym e)
+            (λ e. let one : place ≡ (k, r) = same_Some place (k, r) (sym is ∙ (ap (slice_get (set replies k (k, r))) e ∙ get_there replies k (k, r) filled_low)) in ap (λ (z : ℕ × Reply). z.0) one ∙ sym e)
             (λ apart. order.places j place (sym (get_elsewhere replies k j (k, r) apart) ∙ is));
-        once = λ j. let less = landed_numbered j in let was = order.once j in omega arith;
-        below = λ j high. let less = landed_numbered j in let was = order.below j (omega arith) in omega arith;
+        once = λ j. let less = filled_numbered j in let was = order.once j in omega arith;
+        below = λ j high. let less = filled_numbered j in let was = order.below j (omega arith) in omega arith;
         few = λ q there is.
             by_number q p
             (λ e.
@@ -425,27 +425,27 @@ module _ (outs : List (Option HoldingState)) (jobs : List (List (ℕ × Job))) (
       }
 
 -- a reply may be put before those of a session in which no job has its number
-land_first : (k : ℕ) (one : ℕ × Reply) (x y : HoldingState) (own : List (ℕ × Job)) (answers replies : List (ℕ × Reply)) → IsSession x own answers y → numbered k own ≡ 0
-    → land (set replies k one) answers ≡ set (land replies answers) k one
-land_first k one x y [] [] replies session none = refl
-land_first k one x y [] (a ∷ answers) replies session none = absurd session
-land_first k one x y (job ∷ own) [] replies session none = absurd session
-land_first k one x y (job ∷ own) (a ∷ answers) replies session none =
+put_first : (k : ℕ) (one : ℕ × Reply) (x y : HoldingState) (own : List (ℕ × Job)) (answers replies : List (ℕ × Reply)) → IsSession x own answers y → numbered k own ≡ 0
+    → put_answers (set replies k one) answers ≡ set (put_answers replies answers) k one
+put_first k one x y [] [] replies session none = refl
+put_first k one x y [] (a ∷ answers) replies session none = absurd session
+put_first k one x y (job ∷ own) [] replies session none = absurd session
+put_first k one x y (job ∷ own) (a ∷ answers) replies session none =
     let apart : k ≡ a.0 → ⊥ = λ e. (let self = numbered_self k job.1 in let same = ap (λ (n : ℕ). numbered k ((n, job.1) ∷ [])) (e ∙ session.0) in absurd (omega arith)) in
-    ap (λ (l : List (ℕ × Reply)). set l a.0 a) (land_first k one session.1.0 y own answers replies session.1.2 (omega arith))
-    ∙ set_apart (land replies answers) k a.0 one a apart
+    ap (λ (l : List (ℕ × Reply)). set l a.0 a) (put_first k one session.1.0 y own answers replies session.1.2 (omega arith))
+    ∙ set_apart (put_answers replies answers) k a.0 one a apart
 
 -- the last reply is put first
-pub land_last : (replies answers : List (ℕ × Reply)) (one : ℕ × Reply) → land replies (answers ++ one ∷ []) ≡ land (set replies one.0 one) answers
-land_last replies [] one = refl
-land_last replies (a ∷ answers) one = ap (λ (l : List (ℕ × Reply)). set l a.0 a) (land_last replies answers one)
+pub put_last : (replies answers : List (ℕ × Reply)) (one : ℕ × Reply) → put_answers replies (answers ++ one ∷ []) ≡ put_answers (set replies one.0 one) answers
+put_last replies [] one = refl
+put_last replies (a ∷ answers) one = ap (λ (l : List (ℕ × Reply)). set l a.0 a) (put_last replies answers one)
 
 -- a part came home with its holding and its replies
 abbrev pub CameHome : List (Option HoldingState) → List (List (ℕ × Job)) → List (ℕ × Reply) → ℕ → List (ℕ × Reply) → HoldingState → Type 0
 CameHome outs jobs replies p answers y =
-    InOrder (set jobs p []) (land replies answers)
+    InOrder (set jobs p []) (put_answers replies answers)
     × ((f : List HoldingState → Store) (before : Store) (asked : List Asked) → Leads f outs jobs replies before asked
-    → Leads f (set outs p (Some y)) (set jobs p []) (land replies answers) before asked)
+    → Leads f (set outs p (Some y)) (set jobs p []) (put_answers replies answers) before asked)
 
 pub came_home : (outs : List (Option HoldingState)) (jobs : List (List (ℕ × Job))) (replies : List (ℕ × Reply)) (p : ℕ) (own : List (ℕ × Job)) (answers : List (ℕ × Reply)) (x y : HoldingState)
     → InOrder jobs replies → slice_get outs p ≡ Some (Some x) → slice_get jobs p ≡ Some own → IsSession x own answers y → CameHome outs jobs replies p answers y
@@ -462,28 +462,28 @@ came_home outs jobs replies p (job ∷ own) (one ∷ answers) x y order out is s
     let replies_now = set replies job.0 (job.0, one.1) in
     let low = slice_get_within jobs p (job ∷ own) is in
     let out_low = slice_get_within outs p (Some x) out in
-    let order_now = order_landed outs jobs replies order p x m job.0 job.1 own one.1 out is in
+    let order_now = order_filled outs jobs replies order p x m job.0 job.1 own one.1 out is in
     let rest = came_home outs_now jobs_now replies_now p own answers m y order_now (get_there outs p (Some m) out_low) (get_there jobs p own low) session.1.2 in
     let numbered_one : numbered one.0 own ≡ 0 =
-    (let none = landed_none outs jobs replies order p x m job.0 job.1 own one.1 out is in
+    (let none = filled_none outs jobs replies order p x m job.0 job.1 own one.1 out is in
     let some = numbered_there job.0 jobs_now p own (get_there jobs p own low) in
     let same = ap (λ (k : ℕ). numbered k own) session.0 in
     omega (arith, none, some, same)) in
     let same_replies : replies_now ≡ set replies one.0 one = λ i. set replies (sym session.0 i) (sym session.0 i, one.1) in
-    let landed : land replies_now answers ≡ set (land replies answers) one.0 one =
-    ap (λ (l : List (ℕ × Reply)). land l answers) same_replies ∙ land_first one.0 one m y own answers replies session.1.2 numbered_one in
+    let filled : put_answers replies_now answers ≡ set (put_answers replies answers) one.0 one =
+    ap (λ (l : List (ℕ × Reply)). put_answers l answers) same_replies ∙ put_first one.0 one m y own answers replies session.1.2 numbered_one in
     let same_jobs : set jobs_now p [] ≡ set jobs p [] = set-set jobs p own [] in
     let same_outs : set outs_now p (Some y) ≡ set outs p (Some y) = set-set outs p (Some m) (Some y) in (
-      subst (λ (z : List (List (ℕ × Job)) × List (ℕ × Reply)). InOrder z.0 z.1) (λ i. (same_jobs i, landed i)) rest.0,
+      subst (λ (z : List (List (ℕ × Job)) × List (ℕ × Reply)). InOrder z.0 z.1) (λ i. (same_jobs i, filled i)) rest.0,
       λ f before asked leads.
-          subst (λ (z : List (Option HoldingState) × List (List (ℕ × Job)) × List (ℕ × Reply)). Leads f z.0 z.1 z.2 before asked) (λ i. (same_outs i, same_jobs i, landed i))
-          (rest.1 f before asked (leads_landed outs jobs replies order p x m job.0 job.1 own one.1 out is f before asked session.1.1 leads)),
+          subst (λ (z : List (Option HoldingState) × List (List (ℕ × Job)) × List (ℕ × Reply)). Leads f z.0 z.1 z.2 before asked) (λ i. (same_outs i, same_jobs i, filled i))
+          (rest.1 f before asked (leads_filled outs jobs replies order p x m job.0 job.1 own one.1 out is f before asked session.1.1 leads)),
     )
 
 -- as many places as before
-pub land-length : (replies answers : List (ℕ × Reply)) → length (land replies answers) ≡ length replies
-land-length replies [] = refl
-land-length replies (one ∷ answers) = length-set (land replies answers) one.0 one ∙ land-length replies answers
+pub put_answers-length : (replies answers : List (ℕ × Reply)) → length (put_answers replies answers) ≡ length replies
+put_answers-length replies [] = refl
+put_answers-length replies (one ∷ answers) = length-set (put_answers replies answers) one.0 one ∙ put_answers-length replies answers
 
 -- nothing was asked for yet
 pub leads_new : (f : List HoldingState → Store) (outs : List (Option HoldingState)) (jobs : List (List (ℕ × Job))) (before : Store) → ((ends : List HoldingState) → f ends ≡ before)

@@ -92,5 +92,5 @@ run_unseen w (one ∷ orders) b (told ∷ answers) c run = (seen_as w run.0, ord
 pub stands_unseen : (w : List ℕ) (e : Engaged) (start : Store) (asked : List Asked) → Stands e start asked → Stands e (seen_as w start) asked
 stands_unseen w e start asked stands = (
   stands.0,
-  λ reply ends kept are. run_unseen w (orders_of asked) start (answers_by reply 0 asked) (store_at start e.house ends) (stands.1 reply ends kept are),
+  λ reply ends kept are. run_unseen w (orders_of asked) start (answers_by reply 0 asked) (store_at start e.register ends) (stands.1 reply ends kept are),
 )

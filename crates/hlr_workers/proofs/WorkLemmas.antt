@@ -4,7 +4,7 @@ use Rattle.std.proofs.lemmas.List.{append-nil, length-map, map-append, take_more
 use Rattle.arrayvec.specs.ArrayVec.{ArrayVec}
 use Rattle.holding.specs.Held.{HoldingState}
 use Rattle.holding.specs.declared.job.Job.{Job}
-use Rattle.hlr_owners.specs.Seats.{IsSameOwner}
+use Rattle.hlr_owners.specs.Owners.{IsSameOwner}
 use Rattle.hlr_core.specs.Session.{IsJobDone, IsWithinJob}
 use Rattle.hlr_core.specs.Tasks.{job_of}
 use Rattle.hlr_core.specs.declared.event.Reply.{Reply}

@@ -5,34 +5,34 @@ use Rattle.part_table.specs.declared.region.TheConstants.{MOST_PARTS}
 use Rattle.holding.specs.Held.{HoldingState}
 use Rattle.holding.specs.declared.job.Job.{Job}
 use Rattle.hlr_owners.specs.Out.{outs_in}
-use Rattle.hlr_owners.specs.Seats.{IsLent}
-use Rattle.hlr_owners.specs.declared.lodging.Seat.TheVariants.{Part}
+use Rattle.hlr_owners.specs.Owners.{IsLent}
+use Rattle.hlr_owners.specs.declared.part_owner.RegionOwner.TheVariants.{Part}
 use Rattle.hlr_core.specs.Home.{IsLaterDesk}
 use Rattle.hlr_core.specs.declared.event.Event.{Event}
 use Rattle.hlr_core.specs.declared.event.Reply.{Reply}
 use Rattle.hlr_core.specs.declared.event.Reply.TheVariants.{Divided, Dissolved}
 use Rattle.hlr_core.specs.declared.route.Parts.{Parts}
 use Rattle.hlr_workers.specs.Finish.{Sent}
-use Rattle.hlr_workers.specs.Kept.{Crewed, IsKept, engaged}
+use Rattle.hlr_workers.specs.Kept.{WorkersState, IsKept, engaged}
 use Rattle.hlr_workers.specs.Session.{IsSession}
 use Rattle.hlr_workers.specs.Standing.{IsAsBefore, Took, TookNext, changes_parts}
 
 -- replies by their numbers, each put at its place, the last one first
-abbrev pub land : List (ℕ × Reply) → List (ℕ × Reply) → List (ℕ × Reply)
-land replies [] = replies
-land replies (one ∷ answers) = slice_set (land replies answers) one.0 one
+abbrev pub put_answers : List (ℕ × Reply) → List (ℕ × Reply) → List (ℕ × Reply)
+put_answers replies [] = replies
+put_answers replies (one ∷ answers) = slice_set (put_answers replies answers) one.0 one
 
 -- a part was out before, or has gone out, with no job yet
-abbrev pub IsOut : ℕ → Crewed → Crewed → Type 0
+abbrev pub IsOut : ℕ → WorkersState → WorkersState → Type 0
 IsOut part before after =
     (after.jobs ≡ before.jobs)
-    × ((after.house ≡ before.house)
-    ⊎ ((lent : HoldingState) × IsLent part before.house lent after.house × (slice_index_or before.jobs part [] ≡ [])))
-    × ((lent : HoldingState) × (slice_get (outs_in after.house.seats) part ≡ Some (Some lent)))
+    × ((after.register ≡ before.register)
+    ⊎ ((lent : HoldingState) × IsLent part before.register lent after.register × (slice_index_or before.jobs part [] ≡ [])))
+    × ((lent : HoldingState) × (slice_get (outs_in after.register.owners) part ≡ Some (Some lent)))
 
 -- a part that isn't out has no jobs
-abbrev pub AreIdle : Crewed → Type 0
-AreIdle crew = (p : ℕ) → slice_index_or (outs_in crew.house.seats) p None ≡ None → slice_index_or crew.jobs p [] ≡ []
+abbrev pub AreIdle : WorkersState → Type 0
+AreIdle workers = (p : ℕ) → slice_index_or (outs_in workers.register.owners) p None ≡ None → slice_index_or workers.jobs p [] ≡ []
 
 -- one job more
 abbrev pub is_sent_more : Option Sent → ℕ × Job → Option Sent
@@ -40,45 +40,45 @@ is_sent_more None job = None
 is_sent_more (Some sent) job = Some (record sent { jobs = sent.jobs ++ job ∷ [] })
 
 -- a job was sent to a part, which has gone out for it, or was out before
-abbrev pub IsSentTo : ℕ → ℕ × Job → Crewed → Crewed → Type 0
+abbrev pub IsSentTo : ℕ → ℕ × Job → WorkersState → WorkersState → Type 0
 IsSentTo part job before after =
-    (mid : Crewed) × IsOut part before mid
+    (mid : WorkersState) × IsOut part before mid
     × (after ≡ record mid { jobs = slice_set mid.jobs part (slice_index_or mid.jobs part [] ++ job ∷ []) })
 
 -- a part isn't out, or came home with its holding and the replies to its jobs
-abbrev pub IsHomeAgain : ℕ → Crewed → Option (List (ℕ × Reply)) → Crewed → Type 0
-IsHomeAgain part before None after = (after ≡ before) × (slice_index_or (outs_in before.house.seats) part None ≡ None)
+abbrev pub IsHomeAgain : ℕ → WorkersState → Option (List (ℕ × Reply)) → WorkersState → Type 0
+IsHomeAgain part before None after = (after ≡ before) × (slice_index_or (outs_in before.register.owners) part None ≡ None)
 IsHomeAgain part before (Some answers) after =
     (lent : HoldingState) × (home : HoldingState) × (index : ℕ)
-    × (slice_get (outs_in before.house.seats) part ≡ Some (Some lent))
+    × (slice_get (outs_in before.register.owners) part ≡ Some (Some lent))
     × IsSession lent (slice_index_or before.jobs part []) answers home
-    × (position (is_part part) before.house.regions ≡ Some index)
+    × (position (is_part part) before.register.regions ≡ Some index)
     × (after ≡ record {
-      house = record before.house { seats = slice_set before.house.seats index (Part (record { holding = home; home = true })) };
+      register = record before.register { owners = slice_set before.register.owners index (Part (record { holding = home; home = true })) };
       jobs = slice_set before.jobs part [];
     })
 
 -- none of these parts is out
-abbrev pub NoneOutOf : Parts → Crewed → Type 0
-NoneOutOf parts crew = (q : ℕ) → parts.first ≤ q → q < parts.end → slice_index_or (outs_in crew.house.seats) q None ≡ None
+abbrev pub NoneOutOf : Parts → WorkersState → Type 0
+NoneOutOf parts workers = (q : ℕ) → parts.first ≤ q → q < parts.end → slice_index_or (outs_in workers.register.owners) q None ≡ None
 
 -- parts came home: the rules are kept, and the engine stands where it did, with as many places for replies and as much room; the
--- register is the same but for its seats
-pub record AreBrought {Z : Type 0} (crew : Crewed) (replies : Vec (ℕ × Reply) Z) (after : Crewed) (landed : Vec (ℕ × Reply) Z) : Type 0 where
-  pub kept : IsKept after landed.items
-  pub stands : IsAsBefore (engaged crew replies.items) (engaged after landed.items)
-  pub places : length landed.items ≡ length replies.items
-  pub capacity : vec_capacity landed ≡ vec_capacity replies
-  pub house : after.house ≡ record crew.house { seats = after.house.seats }
+-- register is the same but for its owners
+pub record AreBrought {Z : Type 0} (workers : WorkersState) (replies : Vec (ℕ × Reply) Z) (after : WorkersState) (filled : Vec (ℕ × Reply) Z) : Type 0 where
+  pub kept : IsKept after filled.items
+  pub stands : IsAsBefore (engaged workers replies.items) (engaged after filled.items)
+  pub places : length filled.items ≡ length replies.items
+  pub capacity : vec_capacity filled ≡ vec_capacity replies
+  pub register : after.register ≡ record workers.register { owners = after.register.owners }
 
 -- an event is taken once this reply, or a blank while its job is out, stands behind the others; there is as much room
-pub record IsAnswered {Z : Type 0} (event : Event) (reply : Reply) (crew : Crewed) (replies : Vec (ℕ × Reply) Z) (after : Crewed) (landed : Vec (ℕ × Reply) Z) : Type 0 where
-  pub kept : IsKept after (landed.items ++ (length replies.items, reply) ∷ [])
-  pub took : TookNext (Took event) (engaged crew replies.items) (engaged after (landed.items ++ (length replies.items, reply) ∷ []))
-  pub places : length landed.items ≡ length replies.items
-  pub capacity : vec_capacity landed ≡ vec_capacity replies
-  pub spare : changes_parts event ≡ false → after.house.spare ≡ crew.house.spare
-  pub desk : IsLaterDesk crew.house.spare after.house.spare
+pub record IsAnswered {Z : Type 0} (event : Event) (reply : Reply) (workers : WorkersState) (replies : Vec (ℕ × Reply) Z) (after : WorkersState) (filled : Vec (ℕ × Reply) Z) : Type 0 where
+  pub kept : IsKept after (filled.items ++ (length replies.items, reply) ∷ [])
+  pub took : TookNext (Took event) (engaged workers replies.items) (engaged after (filled.items ++ (length replies.items, reply) ∷ []))
+  pub places : length filled.items ≡ length replies.items
+  pub capacity : vec_capacity filled ≡ vec_capacity replies
+  pub spare : changes_parts event ≡ false → after.register.spare ≡ workers.register.spare
+  pub desk : IsLaterDesk workers.register.spare after.register.spare
 
 -- what a reply tells of parts that came or went: a new part has this number, or the part that had it is gone
 pub data Parting : Type 0 where
@@ -110,10 +110,10 @@ IsBehind Same q = ⊥
 IsBehind (New part) q = part ≤ q
 IsBehind (Gone part) q = part ≤ q
 
--- a crew after it: a new part is at home, as the one that is gone was, and all the parts behind it were
-pub record IsCrewParted (told : Parting) (before after : Crewed) : Type 0 where
-  pub outs : outs_in after.house.seats ≡ parted told None (outs_in before.house.seats)
+-- a workers after it: a new part is at home, as the one that is gone was, and all the parts behind it were
+pub record AreWorkersParted (told : Parting) (before after : WorkersState) : Type 0 where
+  pub outs : outs_in after.register.owners ≡ parted told None (outs_in before.register.owners)
   pub jobs : after.jobs ≡ parted told [] before.jobs
-  pub place : IsPlace told (length (outs_in before.house.seats))
-  pub home : (q : ℕ) → IsBehind told q → slice_index_or (outs_in before.house.seats) q None ≡ None
+  pub place : IsPlace told (length (outs_in before.register.owners))
+  pub home : (q : ℕ) → IsBehind told q → slice_index_or (outs_in before.register.owners) q None ≡ None
   pub idle : AreIdle before

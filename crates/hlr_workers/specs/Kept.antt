@@ -4,15 +4,15 @@ use Rattle.std.specs.List.{AllByRecursion}
 use Rattle.holding.specs.Held.{HoldingState}
 use Rattle.holding.specs.declared.job.Job.{Job}
 use Rattle.hlr_owners.specs.Out.{outs_in}
-use Rattle.hlr_owners.specs.Seats.{Seating}
+use Rattle.hlr_owners.specs.Owners.{OwnersState}
 use Rattle.hlr_core.specs.declared.event.Reply.{Reply}
 use Rattle.hlr_workers.specs.Finish.{Sent}
 use Rattle.hlr_workers.specs.Session.{AreNumberless}
 use Rattle.hlr_workers.specs.Standing.{AreNumbered, Engaged, numbered_in}
 
 -- a register, with the parts that are out as they were lent, and the jobs that are out, by the numbers of their parts
-pub record Crewed : Type 0 where
-  pub house : Seating
+pub record WorkersState : Type 0 where
+  pub register : OwnersState
   pub jobs : List (List (ℕ × Job))
 
 -- the jobs that a worker has, if there is one
@@ -40,15 +40,15 @@ pub record InOrder (jobs : List (List (ℕ × Job))) (replies : List (ℕ × Rep
   pub few : (p : ℕ) (own : List (ℕ × Job)) → slice_get jobs p ≡ Some own → length own ≤ length replies
 
 -- what an engine has
-abbrev pub engaged : Crewed → List (ℕ × Reply) → Engaged
-engaged crew replies = record { house = crew.house; jobs = crew.jobs; replies = replies }
+abbrev pub engaged : WorkersState → List (ℕ × Reply) → Engaged
+engaged workers replies = record { register = workers.register; jobs = workers.jobs; replies = replies }
 
--- the rules that a crew and the replies kept keep together
-pub record IsKept (crew : Crewed) (replies : List (ℕ × Reply)) : Type 0 where
-  pub paired : length crew.jobs ≡ length (outs_in crew.house.seats)
-  pub none : AllNumberless crew.jobs
-  pub order : InOrder crew.jobs replies
+-- the rules that a workers and the replies kept keep together
+pub record IsKept (workers : WorkersState) (replies : List (ℕ × Reply)) : Type 0 where
+  pub paired : length workers.jobs ≡ length (outs_in workers.register.owners)
+  pub none : AllNumberless workers.jobs
+  pub order : InOrder workers.jobs replies
 
 -- nobody is out
-abbrev pub NoneOut : Crewed → Type 0
-NoneOut crew = AllByRecursion (λ (out : Option HoldingState). out ≡ None) (outs_in crew.house.seats)
+abbrev pub NoneOut : WorkersState → Type 0
+NoneOut workers = AllByRecursion (λ (out : Option HoldingState). out ≡ None) (outs_in workers.register.owners)

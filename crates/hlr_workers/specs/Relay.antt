@@ -82,11 +82,11 @@ IsWellSent messages = IsInShape messages × (length (jobs_of messages) ≤ MOST_
 
 -- what a pass knows is so: who may push knows all that was sent, who may pop all that was received
 abbrev pub IsKnown : ℕ → ℕ → List Message → List Message → ℕ → Log → Type 0
-IsKnown writer reader sent got port v =
-    (v.pushes ≡ true → (port ≡ writer) × (v.sent ≡ sent)) × (v.pops ≡ true → (port ≡ reader) × (v.got ≡ got))
+IsKnown writer reader sent got pass v =
+    (v.pushes ≡ true → (pass ≡ writer) × (v.sent ≡ sent)) × (v.pops ≡ true → (pass ≡ reader) × (v.got ≡ got))
 
 -- the rule of the queue
 abbrev pub IsRelayed : List Message → List Log → Type 0
 IsRelayed waiting views =
     (writer : ℕ) × (reader : ℕ) × (sent : List Message) × (got : List Message) × (sent ≡ got ++ waiting) × IsWellSent sent
-    × ((port : ℕ) (v : Log) → get_elem? views port ≡ some v → IsKnown writer reader sent got port v)
+    × ((pass : ℕ) (v : Log) → get_elem? views pass ≡ some v → IsKnown writer reader sent got pass v)

@@ -4,9 +4,9 @@ use Rattle.tatp_rows.specs.declared.refusal.Refusal.{Refusal}
 use Rattle.holding.specs.Held.{HoldingState}
 use Rattle.holding.specs.declared.job.Job.{Job}
 use Rattle.hlr_owners.specs.Out.{outs_in}
-use Rattle.hlr_owners.specs.Seats.{Seating, homes_in, store_in}
+use Rattle.hlr_owners.specs.Owners.{OwnersState, homes_in, store_in}
 use Rattle.hlr_owners.specs.Store.{Store}
-use Rattle.hlr_core.specs.Beside.{beside}
+use Rattle.hlr_core.specs.WhileOut.{while_out}
 use Rattle.hlr_core.specs.Route.{IsRouted}
 use Rattle.hlr_core.specs.Run.{IsRun}
 use Rattle.hlr_core.specs.Session.{IsJobDone}
@@ -50,7 +50,7 @@ numbered_in k (own ∷ jobs) = numbered k own + numbered_in k jobs
 -- numbers of their parts; and for each event since the last settle its number with its reply, of which nothing is said
 -- while a job with that number is out
 pub record Engaged : Type 0 where
-  pub house : Seating
+  pub register : OwnersState
   pub jobs : List (List (ℕ × Job))
   pub replies : List (ℕ × Reply)
 
@@ -90,8 +90,8 @@ answers_with (one ∷ replies) (Took event ∷ asked) = answer.Reply one.1 ∷ a
 answers_with replies (Cut bounds done ∷ asked) = answer.Recut done ∷ answers_with replies asked
 
 -- the store of a register where the parts that are out end so, and with the sight of the words that another one has
-abbrev pub store_at : Store → Seating → List HoldingState → Store
-store_at before h ends = record (store_in (beside h ends)) { sight = before.sight }
+abbrev pub store_at : Store → OwnersState → List HoldingState → Store
+store_at before h ends = record (store_in (while_out h ends)) { sight = before.sight }
 
 -- from a store, what was asked for leads where the engine stands: wherever right sessions of the jobs that are out
 -- lead, the replies that are kept and those of the sessions are right, by their numbers, and the register with the
@@ -100,8 +100,8 @@ abbrev pub Stands : Engaged → Store → List Asked → Type 0
 Stands e before asked =
     (events_in asked ≡ length e.replies)
     × ((reply : ℕ → Reply) (ends : List HoldingState) → HasKept reply e.jobs e.replies
-    → AreEnds reply (outs_in e.house.seats) e.jobs ends
-    → IsRun (orders_of asked) before (answers_by reply 0 asked) (store_at before e.house ends))
+    → AreEnds reply (outs_in e.register.owners) e.jobs ends
+    → IsRun (orders_of asked) before (answers_by reply 0 asked) (store_at before e.register ends))
 
 -- whatever was asked for before leads where the engine stands as it did
 abbrev pub IsAsBefore : Engaged → Engaged → Type 0
@@ -112,14 +112,14 @@ abbrev pub TookNext : Asked → Engaged → Engaged → Type 0
 TookNext next before after = (start : Store) (asked : List Asked) → Stands before start asked → Stands after start (asked ++ next ∷ [])
 
 -- all that was asked for is a right run with these replies to its events, in their order, and leads to the register
-abbrev pub IsSettled : Engaged → List (ℕ × Reply) → Seating → Type 0
-IsSettled before replies house =
+abbrev pub IsSettled : Engaged → List (ℕ × Reply) → OwnersState → Type 0
+IsSettled before replies register =
     (start : Store) (asked : List Asked) → Stands before start asked
-    → IsRun (orders_of asked) start (answers_with replies asked) (record (store_in house) { sight = start.sight })
+    → IsRun (orders_of asked) start (answers_with replies asked) (record (store_in register) { sight = start.sight })
 
 -- an event is a job of a part that is at home, and so has no worker
-abbrev pub WantsWorker : Event → Seating → Type 0
-WantsWorker event h = (part : ℕ) × (job : Job) × IsRouted event h (To part job) × (slice_index_or (homes_in h.seats) part false ≡ true)
+abbrev pub WantsWorker : Event → OwnersState → Type 0
+WantsWorker event h = (part : ℕ) × (job : Job) × IsRouted event h (To part job) × (slice_index_or (homes_in h.owners) part false ≡ true)
 
 -- an event has a part come or go
 abbrev pub changes_parts : Event → Bool

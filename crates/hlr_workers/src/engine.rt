@@ -5,18 +5,18 @@ ghost use Rattle.view_board.specs.Desks.{with_view};
 ghost use Rattle.view_board.specs.Views.{looked};
 ghost use Rattle.hlr_owners.specs.Out.{outs_in};
 ghost use Rattle.hlr_owners.specs.Recut.{IsHomeToCut};
-ghost use Rattle.hlr_owners.specs.Seats.{AllHome, store_in};
+ghost use Rattle.hlr_owners.specs.Owners.{AllHome, store_in};
 ghost use Rattle.hlr_owners.specs.Sight.{IsSightOf};
 ghost use Rattle.hlr_core.specs.Home.{IsHomeTo, IsLaterDesk};
 ghost use Rattle.hlr_core.specs.Route.{is_here};
-ghost use Rattle.hlr_workers.specs.Inside.{AreBrought, IsAnswered, NoneOutOf, land};
+ghost use Rattle.hlr_workers.specs.Inside.{AreBrought, IsAnswered, NoneOutOf, put_answers};
 ghost use Rattle.hlr_workers.specs.Kept.{IsKept, NoneOut, engaged};
 ghost use Rattle.hlr_workers.specs.Standing.{AreNumbered, Cut, IsAsBefore, IsSettled, Stands, Took, TookNext, WantsWorker, changes_parts};
 ghost use Rattle.hlr_workers.specs.declared.work.TheConstants.{MOST_PENDING};
 
-use crate::crew::Crew;
 use crate::gate::Gate;
 use crate::work::{EmptyList, MOST_PENDING};
+use crate::workers::Workers;
 use hlr_core::{Event, Parts, Register, Reply, TaskRoute};
 use std::alloc::Global;
 use std::marker::Model;
@@ -30,7 +30,7 @@ use view_board::Sight;
 /// A register that takes events while workers, a thread for each part that has jobs, do what its parts can do alone.
 /// It is ended by `close` alone, so no worker outlives it.
 pub struct Engine<G: Gate + 'static> {
-    crew: Crew,
+    workers: Workers,
     gate: Arc<G>,
     replies: Vec<(u64, Reply)>,
     alloc: Global,
@@ -44,9 +44,9 @@ impl<G: Gate + 'static> Model for Engine<G> {
 
     ghost Value = { Engaged };
 
-    ghost view = { λ e. engaged e.crew e.replies.items };
+    ghost view = { λ e. engaged e.workers e.replies.items };
 
-    ghost invariant = { λ e. IsKept e.crew e.replies.items × (e.replies.items ≡ [] → NoneOut e.crew) × ((e.replies.items ≡ []) ⊎ (MOST_PENDING ≤ vec_capacity e.replies)) };
+    ghost invariant = { λ e. IsKept e.workers e.replies.items × (e.replies.items ≡ [] → NoneOut e.workers) × ((e.replies.items ≡ []) ⊎ (MOST_PENDING ≤ vec_capacity e.replies)) };
 }
 
 /// Makes room for the replies to come.
@@ -97,8 +97,8 @@ fn put(replies: &mut Vec<(u64, Reply)>, answer: (u64, Reply))
 }
 
 /// Puts all replies of a list in their places.
-fn land(replies: &mut Vec<(u64, Reply)>, answers: &mut Vec<(u64, Reply)>)
-    ensures items { replies.new.items ≡ land replies.old.items answers.old.items }
+fn put_answers(replies: &mut Vec<(u64, Reply)>, answers: &mut Vec<(u64, Reply)>)
+    ensures items { replies.new.items ≡ put_answers replies.old.items answers.old.items }
     ensures capacity { vec_capacity replies.new ≡ vec_capacity replies.old }
     ensures none { answers.new.items ≡ [] }
     ensures room { vec_capacity answers.new ≡ vec_capacity answers.old }
@@ -111,92 +111,92 @@ fn land(replies: &mut Vec<(u64, Reply)>, answers: &mut Vec<(u64, Reply)>)
 /// Brings a part home, if it is out, whose worker was told to stop, and puts the replies to its jobs in their places.
 fn join<G: Gate, R: Threads + Wait>(
     rt: &R,
-    crew: &mut Crew,
+    workers: &mut Workers,
     replies: &mut Vec<(u64, Reply)>,
     gate: &Arc<G>,
     part: u8,
 )
-    requires kept { IsKept crew.old replies.old.items }
-    ensures brought { AreBrought crew.old replies.old crew.new replies.new }
-    ensures home { outs_in crew.new.house.seats ≡ slice_set (outs_in crew.old.house.seats) part None }
+    requires kept { IsKept workers.old replies.old.items }
+    ensures brought { AreBrought workers.old replies.old workers.new replies.new }
+    ensures home { outs_in workers.new.register.owners ≡ slice_set (outs_in workers.old.register.owners) part None }
 {
     // For the prover: each region has its owner beside it.
-    let _register = crew.register();
-    if let Some(mut answers) = crew.bring_home(rt, gate, part) {
-        land(replies, &mut answers);
-        crew.keep(EmptyList { list: answers });
+    let _register = workers.register();
+    if let Some(mut answers) = workers.bring_home(rt, gate, part) {
+        put_answers(replies, &mut answers);
+        workers.keep(EmptyList { list: answers });
     }
 }
 
 /// Brings parts home, whose workers were told to stop.
 fn join_parts<G: Gate, R: Threads + Wait>(
     rt: &R,
-    crew: &mut Crew,
+    workers: &mut Workers,
     replies: &mut Vec<(u64, Reply)>,
     gate: &Arc<G>,
     parts: Parts,
 )
-    requires kept { IsKept crew.old replies.old.items }
-    ensures brought { AreBrought crew.old replies.old crew.new replies.new }
-    ensures home { NoneOutOf parts crew.new }
+    requires kept { IsKept workers.old replies.old.items }
+    ensures brought { AreBrought workers.old replies.old workers.new replies.new }
+    ensures home { NoneOutOf parts workers.new }
 {
     for part in parts.first..parts.end {
-        join(rt, crew, replies, gate, part);
+        join(rt, workers, replies, gate, part);
     }
 }
 
 /// Brings parts home: all their workers are told to stop before the first is waited for.
 fn bring_parts_home<G: Gate, R: Threads + Wait>(
     rt: &R,
-    crew: &mut Crew,
+    workers: &mut Workers,
     replies: &mut Vec<(u64, Reply)>,
     gate: &Arc<G>,
     parts: Parts,
 )
-    requires kept { IsKept crew.old replies.old.items }
-    ensures brought { AreBrought crew.old replies.old crew.new replies.new }
-    ensures home { NoneOutOf parts crew.new }
+    requires kept { IsKept workers.old replies.old.items }
+    ensures brought { AreBrought workers.old replies.old workers.new replies.new }
+    ensures home { NoneOutOf parts workers.new }
 {
-    crew.hand_on(rt);
-    crew.stop_parts(rt, parts);
-    join_parts(rt, crew, replies, gate, parts);
+    workers.hand_on(rt);
+    workers.stop_parts(rt, parts);
+    join_parts(rt, workers, replies, gate, parts);
 }
 
 /// Brings all parts home.
 fn bring_all_home<G: Gate, R: Threads + Wait>(
     rt: &R,
-    crew: &mut Crew,
+    workers: &mut Workers,
     replies: &mut Vec<(u64, Reply)>,
     gate: &Arc<G>,
 )
-    requires kept { IsKept crew.old replies.old.items }
-    ensures brought { AreBrought crew.old replies.old crew.new replies.new }
-    ensures home { NoneOut crew.new }
-    ensures jobs { AllByRecursion (λ own. own ≡ []) crew.new.jobs }
+    requires kept { IsKept workers.old replies.old.items }
+    ensures brought { AreBrought workers.old replies.old workers.new replies.new }
+    ensures home { NoneOut workers.new }
+    ensures jobs { AllByRecursion (λ own. own ≡ []) workers.new.jobs }
 {
-    let end = crew.register().regions().parts();
-    bring_parts_home(rt, crew, replies, gate, Parts { first: 0, end });
+    let end = workers.register().regions().parts();
+    bring_parts_home(rt, workers, replies, gate, Parts { first: 0, end });
     // For the prover: a part that isn't out has no jobs.
-    let _register = crew.register();
+    let _register = workers.register();
 }
 
 /// Brings the parts home on which an event works that the register does itself.
 fn bring_workers_home<G: Gate, R: Threads + Wait>(
     rt: &R,
-    crew: &mut Crew,
+    workers: &mut Workers,
     replies: &mut Vec<(u64, Reply)>,
     gate: &Arc<G>,
     event: &Event,
 )
     requires here { is_here event.now ≡ true }
-    requires kept { IsKept crew.old replies.old.items }
-    ensures brought { AreBrought crew.old replies.old crew.new replies.new }
-    ensures home { IsHomeTo event.now crew.new.house }
+    requires kept { IsKept workers.old replies.old.items }
+    ensures brought { AreBrought workers.old replies.old workers.new replies.new }
+    ensures home { IsHomeTo event.now workers.new.register }
 {
-    let parts = crew.register().parts_for(event);
-    bring_parts_home(rt, crew, replies, gate, parts);
+    let parts = workers.register().parts_for(event);
+    bring_parts_home(rt, workers, replies, gate, parts);
     // For the prover: each region has its owner beside it.
-    let _register = crew.register();
+    let _register = workers.register();
 }
 
 /// Has the register itself do an event, which gives a number, moves regions, or has a part come or go: the parts that
@@ -204,17 +204,17 @@ fn bring_workers_home<G: Gate, R: Threads + Wait>(
 #[inline(never)]
 fn answer_here<G: Gate, R: Threads + Wait>(
     rt: &R,
-    crew: &mut Crew,
+    workers: &mut Workers,
     replies: &mut Vec<(u64, Reply)>,
     gate: &Arc<G>,
     event: Event,
 ) -> Reply
     requires here { is_here event ≡ true }
-    requires kept { IsKept crew.old replies.old.items }
-    ensures { IsAnswered event result crew.old replies.old crew.new replies.new }
+    requires kept { IsKept workers.old replies.old.items }
+    ensures { IsAnswered event result workers.old replies.old workers.new replies.new }
 {
-    bring_workers_home(rt, crew, replies, gate, &event);
-    crew.apply(event)
+    bring_workers_home(rt, workers, replies, gate, &event);
+    workers.apply(event)
 }
 
 /// Answers an event, or sends it to the worker of a part; its reply comes later then, and until it does a blank stands
@@ -222,92 +222,98 @@ fn answer_here<G: Gate, R: Threads + Wait>(
 fn answer<G: Gate + 'static, R: Threads + Wait + Copy + Send + Sync + 'static>(
     rt: &R,
     alloc: Global,
-    crew: &mut Crew,
+    workers: &mut Workers,
     replies: &mut Vec<(u64, Reply)>,
     gate: &Arc<G>,
     event: Event,
 ) -> Result<Reply, Refusal>
-    requires kept { IsKept crew.old replies.old.items }
+    requires kept { IsKept workers.old replies.old.items }
     requires room { length replies.old.items < MOST_PENDING }
-    ensures answered { IfOk result (λ reply. IsAnswered event reply crew.old replies.old crew.new replies.new) }
-    ensures refused { OnErr result (crew.new ≡ crew.old) }
+    ensures answered { IfOk result (λ reply. IsAnswered event reply workers.old replies.old workers.new replies.new) }
+    ensures refused { OnErr result (workers.new ≡ workers.old) }
     ensures same { OnErr result (replies.new ≡ replies.old) }
     ensures why { OnErr result ((result ≡ Err Refusal.Memory) ⊎ (result ≡ Err Refusal.Thread)) }
-    ensures wants { OnErr result (WantsWorker event crew.old.house) }
+    ensures wants { OnErr result (WantsWorker event workers.old.register) }
 {
-    match crew.register().route_task(&event) {
+    match workers.register().route_task(&event) {
         TaskRoute::Refused(why) => Ok(Reply::Refused(why)),
         TaskRoute::To(part, task) => {
             let number = replies.len() as u64;
-            crew.send(rt, alloc, gate, part, number, task)?;
+            workers.send(rt, alloc, gate, part, number, task)?;
             Ok(blank())
         }
-        TaskRoute::Here => Ok(answer_here(rt, crew, replies, gate, event)),
+        TaskRoute::Here => Ok(answer_here(rt, workers, replies, gate, event)),
     }
 }
 
 /// Brings the parts home on both sides of each bound that a re-cut moves; their workers were told to stop.
 fn join_sides<G: Gate, R: Threads + Wait>(
     rt: &R,
-    crew: &mut Crew,
+    workers: &mut Workers,
     replies: &mut Vec<(u64, Reply)>,
     gate: &Arc<G>,
     bounds: &[u64],
 )
-    requires kept { IsKept crew.old replies.old.items }
-    ensures brought { AreBrought crew.old replies.old crew.new replies.new }
-    ensures home { IsHomeToCut bounds.now crew.new.house }
-    ensures still { NoneOut crew.old → NoneOut crew.new }
+    requires kept { IsKept workers.old replies.old.items }
+    ensures brought { AreBrought workers.old replies.old workers.new replies.new }
+    ensures home { IsHomeToCut bounds.now workers.new.register }
+    ensures still { NoneOut workers.old → NoneOut workers.new }
 {
-    let Ok(moves) = crew.register().regions().moves_to(bounds) else {
+    let Ok(moves) = workers.register().regions().moves_to(bounds) else {
         return;
     };
     for bound_move in moves.as_slice() {
-        join(rt, crew, replies, gate, bound_move.bound.saturating_sub(1));
-        join(rt, crew, replies, gate, bound_move.bound);
+        join(
+            rt,
+            workers,
+            replies,
+            gate,
+            bound_move.bound.saturating_sub(1),
+        );
+        join(rt, workers, replies, gate, bound_move.bound);
     }
 }
 
 /// Tells the workers on both sides of each bound that a re-cut moves to stop.
-fn stop_sides<R: Wait>(rt: &R, crew: &mut Crew, bounds: &[u64])
-    ensures { crew.new ≡ crew.old }
+fn stop_sides<R: Wait>(rt: &R, workers: &mut Workers, bounds: &[u64])
+    ensures { workers.new ≡ workers.old }
 {
-    let Ok(moves) = crew.register().regions().moves_to(bounds) else {
+    let Ok(moves) = workers.register().regions().moves_to(bounds) else {
         return;
     };
-    crew.stop_sides(rt, moves.as_slice());
+    workers.stop_sides(rt, moves.as_slice());
 }
 
 /// Brings the parts home on both sides of each bound that a re-cut moves: all their workers are told to stop before the
 /// first is waited for.
 fn bring_sides_home<G: Gate, R: Threads + Wait>(
     rt: &R,
-    crew: &mut Crew,
+    workers: &mut Workers,
     replies: &mut Vec<(u64, Reply)>,
     gate: &Arc<G>,
     bounds: &[u64],
 )
-    requires kept { IsKept crew.old replies.old.items }
-    ensures brought { AreBrought crew.old replies.old crew.new replies.new }
-    ensures home { IsHomeToCut bounds.now crew.new.house }
-    ensures still { NoneOut crew.old → NoneOut crew.new }
+    requires kept { IsKept workers.old replies.old.items }
+    ensures brought { AreBrought workers.old replies.old workers.new replies.new }
+    ensures home { IsHomeToCut bounds.now workers.new.register }
+    ensures still { NoneOut workers.old → NoneOut workers.new }
 {
-    crew.hand_on(rt);
-    stop_sides(rt, crew, bounds);
-    join_sides(rt, crew, replies, gate, bounds);
+    workers.hand_on(rt);
+    stop_sides(rt, workers, bounds);
+    join_sides(rt, workers, replies, gate, bounds);
 }
 
 impl<G: Gate + 'static> Engine<G> {
     /// An engine over a register with all parts at home. The gate is called round each job, by the thread that does it.
     /// It takes no memory.
     pub fn new(alloc: Global, register: Register, gate: Arc<G>) -> Engine<G>
-        requires { AllHome register.seats }
-        ensures house { result.house ≡ register }
+        requires { AllHome register.owners }
+        ensures register { result.register ≡ register }
         ensures replies { result.replies ≡ [] }
         ensures stands { Stands result (store_in register) [] }
     {
         Engine {
-            crew: Crew::of(register),
+            workers: Workers::of(register),
             gate,
             replies: Vec::new(alloc),
             alloc,
@@ -324,12 +330,12 @@ impl<G: Gate + 'static> Engine<G> {
     /// The register, where no event is pending.
     pub fn register(&self) -> &Register
         requires { self.now.replies ≡ [] }
-        ensures value { result.now ≡ self.now.house }
-        ensures home { AllHome self.now.house.seats }
-        ensures right { IsSettled self.now [] self.now.house }
-        ensures stands { Stands self.now (store_in self.now.house) [] }
+        ensures value { result.now ≡ self.now.register }
+        ensures home { AllHome self.now.register.owners }
+        ensures right { IsSettled self.now [] self.now.register }
+        ensures stands { Stands self.now (store_in self.now.register) [] }
     {
-        self.crew.register()
+        self.workers.register()
     }
 
     /// Takes an event, where fewer than `MOST_PENDING` are pending: the answer is its number, counted from 0 after each
@@ -351,17 +357,17 @@ impl<G: Gate + 'static> Engine<G> {
         ensures took { OnOk result (TookNext (Took event) self.old self.new) }
         ensures refused { OnErr result (self.new ≡ self.old) }
         ensures why { OnErr result ((result ≡ Err Refusal.Memory) ⊎ (result ≡ Err Refusal.Thread)) }
-        ensures memory { result ≡ Err Refusal.Memory → (self.old.replies ≡ []) ⊎ WantsWorker event self.old.house }
-        ensures thread { result ≡ Err Refusal.Thread → WantsWorker event self.old.house }
-        ensures spare { changes_parts event ≡ false → self.new.house.spare ≡ self.old.house.spare }
-        ensures desk { IsLaterDesk self.old.house.spare self.new.house.spare }
+        ensures memory { result ≡ Err Refusal.Memory → (self.old.replies ≡ []) ⊎ WantsWorker event self.old.register }
+        ensures thread { result ≡ Err Refusal.Thread → WantsWorker event self.old.register }
+        ensures spare { changes_parts event ≡ false → self.new.register.spare ≡ self.old.register.spare }
+        ensures desk { IsLaterDesk self.old.register.spare self.new.register.spare }
     {
         reserve(&mut self.replies, self.alloc)?;
         let number = self.replies.len() as u64;
         let reply = answer(
             rt,
             self.alloc,
-            &mut self.crew,
+            &mut self.workers,
             &mut self.replies,
             &self.gate,
             event,
@@ -375,13 +381,13 @@ impl<G: Gate + 'static> Engine<G> {
     pub fn settle<R: Threads + Wait>(&mut self, rt: &R) -> Vec<(u64, Reply)>
         ensures each { length result.items ≡ length self.old.replies }
         ensures numbered { AreNumbered result.items }
-        ensures right { IsSettled self.old result.items self.new.house }
-        ensures home { AllHome self.new.house.seats }
+        ensures right { IsSettled self.old result.items self.new.register }
+        ensures home { AllHome self.new.register.owners }
         ensures replies { self.new.replies ≡ [] }
-        ensures stands { Stands self.new (store_in self.new.house) [] }
-        ensures spare { self.new.house.spare ≡ self.old.house.spare }
+        ensures stands { Stands self.new (store_in self.new.register) [] }
+        ensures spare { self.new.register.spare ≡ self.old.register.spare }
     {
-        bring_all_home(rt, &mut self.crew, &mut self.replies, &self.gate);
+        bring_all_home(rt, &mut self.workers, &mut self.replies, &self.gate);
         mem::replace(&mut self.replies, Vec::new(self.alloc))
     }
 
@@ -390,20 +396,20 @@ impl<G: Gate + 'static> Engine<G> {
     pub fn recut_to<R: Threads + Wait>(&mut self, rt: &R, bounds: &[u64]) -> Result<u8, Refusal>
         ensures took { TookNext (Cut bounds.now result) self.old self.new }
         ensures pending { length self.new.replies ≡ length self.old.replies }
-        ensures spare { self.new.house.spare ≡ self.old.house.spare }
+        ensures spare { self.new.register.spare ≡ self.old.register.spare }
     {
-        bring_sides_home(rt, &mut self.crew, &mut self.replies, &self.gate, bounds);
-        self.crew.recut_to(bounds)
+        bring_sides_home(rt, &mut self.workers, &mut self.replies, &self.gate, bounds);
+        self.workers.recut_to(bounds)
     }
 
     /// A sight of the board's words, as `Register::look`, while workers post. It takes no memory, and waits for nobody.
     pub fn sight(&mut self) -> Sight
-        ensures right { IsSightOf (store_in self.old.house) result.words }
+        ensures right { IsSightOf (store_in self.old.register) result.words }
         ensures stands { IsAsBefore self.old self.new }
-        ensures seen { self.new ≡ record self.old { house = record self.old.house { spare = with_view self.old.house.spare (looked self.old.house.spare.view result.words) } } }
+        ensures seen { self.new ≡ record self.old { register = record self.old.register { spare = with_view self.old.register.spare (looked self.old.register.spare.view result.words) } } }
     {
-        self.crew.offer();
-        self.crew.look()
+        self.workers.offer();
+        self.workers.look()
     }
 
     /// Ends the engine: its register, with all parts at home, and the replies as `settle` gives them. It may wait.
@@ -411,17 +417,17 @@ impl<G: Gate + 'static> Engine<G> {
         ensures each { length result.1.items ≡ length self.replies }
         ensures numbered { AreNumbered result.1.items }
         ensures right { IsSettled self result.1.items result.0 }
-        ensures home { AllHome result.0.seats }
-        ensures spare { result.0.spare ≡ self.house.spare }
+        ensures home { AllHome result.0.owners }
+        ensures spare { result.0.spare ≡ self.register.spare }
     {
         let mut engine = self;
         let replies = engine.settle(rt);
         let Engine {
-            crew,
+            workers,
             gate: _gate,
             replies: _replies,
             alloc: _alloc,
         } = engine;
-        (crew.into_register(), replies)
+        (workers.into_register(), replies)
     }
 }

@@ -7,7 +7,6 @@
 //! order of their events: these are the replies of one thread, and so is the register then.
 #![tactic(auto)]
 
-mod crew;
 mod engine;
 mod gate;
 mod inbox;
@@ -15,6 +14,7 @@ mod message;
 mod rule;
 mod work;
 mod worker;
+mod workers;
 
 pub use engine::Engine;
 pub use gate::Gate;

@@ -63,7 +63,7 @@ impl Lesson<Message, Log> for Rest {
 }
 
 /// A worker's queue.
-pub type Line = RuledArrayQueue<Message, Log, InOrder>;
+pub type Queue = RuledArrayQueue<Message, Log, InOrder>;
 
 /// A pass of it.
-pub type Port = Pass<Message, Log>;
+pub type QueuePass = Pass<Message, Log>;

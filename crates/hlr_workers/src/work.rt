@@ -9,7 +9,7 @@ ghost use Rattle.hlr_workers.specs.declared.work.TheConstants.{MOST_PENDING};
 use crate::gate::Gate;
 use crate::inbox::Inbox;
 use crate::message::{Batch, Lent, Message};
-use crate::rule::Port;
+use crate::rule::QueuePass;
 use hlr_core::Reply;
 use holding::Holding;
 use std::sync::Wait;
@@ -32,17 +32,17 @@ pub struct EmptyList {
 /// What the thread hands back: its pass, the holding as it is now, with its board, and the replies.
 #[derive(Drop)]
 pub(crate) struct Finished {
-    pub(crate) port: Port,
+    pub(crate) pass: QueuePass,
     pub(crate) lent: Lent,
     pub(crate) replies: Vec<(u64, Reply)>,
 }
 
 /// The first message, which is the holding.
-fn first<R: Wait>(rt: &R, inbox: &Inbox, port: &mut Port) -> Lent
-    requires { IsPassOf inbox.now.line port.old × (view port.old ≡ log false true [] []) }
-    ensures { IsPassOf inbox.now.line port.new × (view port.new ≡ log false true [] (Begin result ∷ [])) }
+fn first<R: Wait>(rt: &R, inbox: &Inbox, pass: &mut QueuePass) -> Lent
+    requires { IsPassOf inbox.now.queue pass.old × (view pass.old ≡ log false true [] []) }
+    ensures { IsPassOf inbox.now.queue pass.new × (view pass.new ≡ log false true [] (Begin result ∷ [])) }
 {
-    match inbox.pop(rt, port) {
+    match inbox.pop(rt, pass) {
         Message::Begin(lent) => lent,
         _ => unreachable!(),
     }
@@ -78,26 +78,26 @@ fn serve<G: Gate, R: Wait>(
     inbox: &Inbox,
     gate: &G,
     part: u8,
-    mut port: Port,
+    mut pass: QueuePass,
     board: &Board,
     mut holding: Box<Holding>,
     mut replies: Vec<(u64, Reply)>,
-) -> (Port, Box<Holding>, Vec<(u64, Reply)>)
-    requires port { IsPassOf inbox.now.line port }
+) -> (QueuePass, Box<Holding>, Vec<(u64, Reply)>)
+    requires pass { IsPassOf inbox.now.queue pass }
     requires board { holding.value.desk.board ≡ board.now }
-    requires work { IsAtWork (view port) replies.items holding.value }
+    requires work { IsAtWork (view pass) replies.items holding.value }
     requires room { MOST_PENDING ≤ vec_capacity replies }
-    ensures port { IsPassOf inbox.now.line result.0 }
+    ensures pass { IsPassOf inbox.now.queue result.0 }
     ensures board { result.1.value.desk.board ≡ board.now }
     ensures work { IsAtWork (view result.0) result.2.items result.1.value }
     ensures room { MOST_PENDING ≤ vec_capacity result.2 }
 {
     for _ in rt.forever() {
-        match inbox.pop(rt, &mut port) {
+        match inbox.pop(rt, &mut pass) {
             Message::Do(batch) => {
                 do_batch(gate, part, board, &mut holding, &mut replies, &batch);
             }
-            Message::Stop => return (port, holding, replies),
+            Message::Stop => return (pass, holding, replies),
             Message::Begin(_) => unreachable!(),
         }
     }
@@ -110,19 +110,19 @@ pub(crate) fn live<G: Gate, R: Wait>(
     inbox: &Inbox,
     gate: &G,
     part: u8,
-    mut port: Port,
+    mut pass: QueuePass,
     replies: Vec<(u64, Reply)>,
 ) -> Finished
-    requires port { IsPassOf inbox.now.line port × (view port ≡ log false true [] []) }
+    requires pass { IsPassOf inbox.now.queue pass × (view pass ≡ log false true [] []) }
     requires room { (MOST_PENDING ≤ vec_capacity replies) × (replies.items ≡ []) }
-    ensures port { IsPassOf inbox.now.line result.port }
-    ensures work { IsAtWork (view result.port) result.replies.items result.lent.holding.value }
+    ensures pass { IsPassOf inbox.now.queue result.pass }
+    ensures work { IsAtWork (view result.pass) result.replies.items result.lent.holding.value }
     ensures room { MOST_PENDING ≤ vec_capacity result.replies }
 {
-    let Lent { holding, board } = first(rt, inbox, &mut port);
-    let (port, holding, replies) = serve(rt, inbox, gate, part, port, &board, holding, replies);
+    let Lent { holding, board } = first(rt, inbox, &mut pass);
+    let (pass, holding, replies) = serve(rt, inbox, gate, part, pass, &board, holding, replies);
     Finished {
-        port,
+        pass,
         lent: Lent { holding, board },
         replies,
     }

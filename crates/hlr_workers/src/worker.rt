@@ -14,7 +14,7 @@ ghost use Rattle.hlr_workers.specs.declared.work.TheConstants.{MOST_PENDING};
 use crate::gate::Gate;
 use crate::inbox::Inbox;
 use crate::message::{Batch, Lent, MOST_JOBS, Message, Numbered};
-use crate::rule::{Line, Port, Roles};
+use crate::rule::{Queue, QueuePass, Roles};
 use crate::work::{EmptyList, Finished, do_batch, live};
 use arrayvec::ArrayVec;
 use crossbeam_utils::sync::EventCount;
@@ -43,13 +43,13 @@ impl Promise<Finished> for WorksOff {
     ghost use Rattle.hlr_workers.specs.Finish.{IsAtWork};
     ghost use Rattle.hlr_workers.specs.declared.work.TheConstants.{MOST_PENDING};
 
-    ghost kept_by = { λ p r. record { port : IsPassOf (arc_value p.0.value).line r.port; work : IsAtWork (view r.port) r.replies.items r.lent.holding.value; room : MOST_PENDING ≤ vec_capacity r.replies } };
+    ghost kept_by = { λ p r. record { pass : IsPassOf (arc_value p.0.value).queue r.pass; work : IsAtWork (view r.pass) r.replies.items r.lent.holding.value; room : MOST_PENDING ≤ vec_capacity r.replies } };
 }
 
 /// A worker to which nothing was sent yet, seen as the board to which its part posts.
 pub struct Idle {
     inbox: Arc<Inbox, Global>,
-    port: Port,
+    pass: QueuePass,
     board: Arc<Board>,
     thread: PromisedHandle<Finished, WorksOff>,
 }
@@ -65,14 +65,14 @@ impl Model for Idle {
 
     ghost view = { λ w. arc_value w.board };
 
-    ghost invariant = { λ w. IsPassOf (arc_value w.inbox).line w.port × (knows w.port ≡ log true false [] []) × (arc_value w.thread.promise.0.value ≡ arc_value w.inbox) };
+    ghost invariant = { λ w. IsPassOf (arc_value w.inbox).queue w.pass × (knows w.pass ≡ log true false [] []) × (arc_value w.thread.promise.0.value ≡ arc_value w.inbox) };
 }
 
 /// A worker at work, seen as the holding as it was lent, and the jobs that were sent since.
 #[derive(Drop)]
 pub struct Worker {
     inbox: Arc<Inbox, Global>,
-    port: Port,
+    pass: QueuePass,
     // Jobs that were not pushed yet.
     held: Batch,
     // Whether no job was sent yet.
@@ -88,9 +88,9 @@ impl Model for Worker {
 
     ghost Value = { Sent };
 
-    ghost view = { λ w. sent_with (knows w.port) w.held };
+    ghost view = { λ w. sent_with (knows w.pass) w.held };
 
-    ghost invariant = { λ w. record { port : IsPassOf (arc_value w.inbox).line w.port; may : MaySend (knows w.port) w.held; thread : arc_value w.thread.promise.0.value ≡ arc_value w.inbox } };
+    ghost invariant = { λ w. record { pass : IsPassOf (arc_value w.inbox).queue w.pass; may : MaySend (knows w.pass) w.held; thread : arc_value w.thread.promise.0.value ≡ arc_value w.inbox } };
 }
 
 impl Idle {
@@ -108,13 +108,13 @@ impl Idle {
         ensures board { IfOk result (λ idle. idle ≡ arc_value board.now) }
         ensures why { OnErr result ((result ≡ Err Refusal.Memory) ⊎ (result ≡ Err Refusal.Thread)) }
     {
-        let Ok((line, mut port)) = Line::ruled(alloc, PLACES) else {
+        let Ok((queue, mut pass)) = Queue::ruled(alloc, PLACES) else {
             return Err(Refusal::Memory);
         };
-        let theirs = line.another::<Roles>(&mut port);
+        let theirs = queue.another::<Roles>(&mut pass);
         let EmptyList { list: replies } = list;
         let inbox = Inbox {
-            line,
+            queue,
             pushes: EventCount::new(),
             pops,
         };
@@ -131,13 +131,13 @@ impl Idle {
         let rt2 = *rt;
         let promise = WorksOff(Snapshot::of(&inbox));
         let work = move || -> Finished
-            requires { IsPassOf (arc_value shared).line theirs × (view theirs ≡ log false true [] []) × (MOST_PENDING ≤ vec_capacity replies) × (replies.items ≡ []) }
-            ensures { record { port : IsPassOf (arc_value shared).line result.port; work : IsAtWork (view result.port) result.replies.items result.lent.holding.value; room : MOST_PENDING ≤ vec_capacity result.replies } }
+            requires { IsPassOf (arc_value shared).queue theirs × (view theirs ≡ log false true [] []) × (MOST_PENDING ≤ vec_capacity replies) × (replies.items ≡ []) }
+            ensures { record { pass : IsPassOf (arc_value shared).queue result.pass; work : IsAtWork (view result.pass) result.replies.items result.lent.holding.value; room : MOST_PENDING ≤ vec_capacity result.replies } }
         { live(&rt2, &*shared, &*gate, part, theirs, replies) };
         match thread::spawn_with(rt, promise, work) {
             Ok(thread) => Ok(Idle {
                 inbox,
-                port,
+                pass,
                 board,
                 thread,
             }),
@@ -153,14 +153,14 @@ impl Idle {
     {
         let Idle {
             inbox,
-            mut port,
+            mut pass,
             board,
             thread,
         } = self;
-        inbox.push(rt, &mut port, Message::Begin(Lent { holding, board }));
+        inbox.push(rt, &mut pass, Message::Begin(Lent { holding, board }));
         Worker {
             inbox,
-            port,
+            pass,
             held: ArrayVec::new(),
             is_fresh: true,
             thread,
@@ -170,64 +170,71 @@ impl Idle {
 
 /// Pushes the jobs that are held, once there is a place. It may wait.
 #[inline(never)]
-fn hand_on<R: Wait>(rt: &R, inbox: &Inbox, port: &mut Port, held: &mut Batch)
-    requires port { IsPassOf inbox.now.line port.old }
-    requires may { MaySend (view port.old) held.old }
-    ensures port { IsPassOf inbox.now.line port.new }
-    ensures may { MaySend (view port.new) held.new }
-    ensures same { sent_with (view port.new) held.new ≡ sent_with (view port.old) held.old }
+fn hand_on<R: Wait>(rt: &R, inbox: &Inbox, pass: &mut QueuePass, held: &mut Batch)
+    requires pass { IsPassOf inbox.now.queue pass.old }
+    requires may { MaySend (view pass.old) held.old }
+    ensures pass { IsPassOf inbox.now.queue pass.new }
+    ensures may { MaySend (view pass.new) held.new }
+    ensures same { sent_with (view pass.new) held.new ≡ sent_with (view pass.old) held.old }
     ensures none { held.new.items ≡ [] }
 {
     if held.is_empty() {
         return;
     }
     let batch = mem::replace(held, ArrayVec::new());
-    inbox.push(rt, port, Message::Do(batch));
+    inbox.push(rt, pass, Message::Do(batch));
 }
 
 /// Has room for one job more: where a whole message is held, it is pushed first, once there is a place. It may wait.
-fn make_room<R: Wait>(rt: &R, inbox: &Inbox, port: &mut Port, held: &mut Batch)
-    requires port { IsPassOf inbox.now.line port.old }
-    requires may { MaySend (view port.old) held.old }
-    ensures port { IsPassOf inbox.now.line port.new }
-    ensures may { MaySend (view port.new) held.new }
-    ensures same { sent_with (view port.new) held.new ≡ sent_with (view port.old) held.old }
+fn make_room<R: Wait>(rt: &R, inbox: &Inbox, pass: &mut QueuePass, held: &mut Batch)
+    requires pass { IsPassOf inbox.now.queue pass.old }
+    requires may { MaySend (view pass.old) held.old }
+    ensures pass { IsPassOf inbox.now.queue pass.new }
+    ensures may { MaySend (view pass.new) held.new }
+    ensures same { sent_with (view pass.new) held.new ≡ sent_with (view pass.old) held.old }
     ensures room { length held.new.items < MOST_JOBS }
 {
     if held.is_full() {
-        hand_on(rt, inbox, port, held);
+        hand_on(rt, inbox, pass, held);
     }
 }
 
 /// Holds a numbered job. Where a whole message is held, it is pushed first, once there is a place. It may wait.
-fn hold<R: Wait>(rt: &R, inbox: &Inbox, port: &mut Port, held: &mut Batch, number: u64, task: Task)
-    requires port { IsPassOf inbox.now.line port.old }
-    requires may { MaySend (view port.old) held.old }
-    requires room { length (sent_with (view port.old) held.old).jobs < MOST_PENDING }
-    requires within { IsWithinJob (sent_with (view port.old) held.old).lent (job_of task) }
-    ensures port { IsPassOf inbox.now.line port.new }
-    ensures may { MaySend (view port.new) held.new }
-    ensures lent { (sent_with (view port.new) held.new).lent ≡ (sent_with (view port.old) held.old).lent }
-    ensures jobs { (sent_with (view port.new) held.new).jobs ≡ (sent_with (view port.old) held.old).jobs ++ (number, job_of task) ∷ [] }
+fn hold<R: Wait>(
+    rt: &R,
+    inbox: &Inbox,
+    pass: &mut QueuePass,
+    held: &mut Batch,
+    number: u64,
+    task: Task,
+)
+    requires pass { IsPassOf inbox.now.queue pass.old }
+    requires may { MaySend (view pass.old) held.old }
+    requires room { length (sent_with (view pass.old) held.old).jobs < MOST_PENDING }
+    requires within { IsWithinJob (sent_with (view pass.old) held.old).lent (job_of task) }
+    ensures pass { IsPassOf inbox.now.queue pass.new }
+    ensures may { MaySend (view pass.new) held.new }
+    ensures lent { (sent_with (view pass.new) held.new).lent ≡ (sent_with (view pass.old) held.old).lent }
+    ensures jobs { (sent_with (view pass.new) held.new).jobs ≡ (sent_with (view pass.old) held.old).jobs ++ (number, job_of task) ∷ [] }
 {
-    make_room(rt, inbox, port, held);
+    make_room(rt, inbox, pass, held);
     held.push(Numbered { number, task });
 }
 
 /// Pushes the jobs that are held, where there is a place.
 #[inline(never)]
-fn offer(inbox: &Inbox, port: &mut Port, held: &mut Batch)
-    requires port { IsPassOf inbox.now.line port.old }
-    requires may { MaySend (view port.old) held.old }
-    ensures port { IsPassOf inbox.now.line port.new }
-    ensures may { MaySend (view port.new) held.new }
-    ensures same { sent_with (view port.new) held.new ≡ sent_with (view port.old) held.old }
+fn offer(inbox: &Inbox, pass: &mut QueuePass, held: &mut Batch)
+    requires pass { IsPassOf inbox.now.queue pass.old }
+    requires may { MaySend (view pass.old) held.old }
+    ensures pass { IsPassOf inbox.now.queue pass.new }
+    ensures may { MaySend (view pass.new) held.new }
+    ensures same { sent_with (view pass.new) held.new ≡ sent_with (view pass.old) held.old }
 {
     if held.is_empty() {
         return;
     }
     let batch = mem::replace(held, ArrayVec::new());
-    if let Err(back) = inbox.offer(port, Message::Do(batch)) {
+    if let Err(back) = inbox.offer(pass, Message::Do(batch)) {
         match back {
             Message::Do(batch) => *held = batch,
             _ => unreachable!(),
@@ -264,22 +271,22 @@ fn do_rest<G: Gate, R: Wait>(
     inbox: &Inbox,
     gate: &G,
     part: u8,
-    port: &mut Port,
+    pass: &mut QueuePass,
     board: &Board,
     holding: &mut Holding,
     replies: &mut Vec<(u64, Reply)>,
 )
-    requires port { IsPassOf inbox.now.line port.old }
-    requires both { view port.old ≡ log true true (view port.old).sent (view port.old).got }
+    requires pass { IsPassOf inbox.now.queue pass.old }
+    requires both { view pass.old ≡ log true true (view pass.old).sent (view pass.old).got }
     requires board { holding.old.desk.board ≡ board.now }
-    requires work { HasDone (view port.old).got replies.old.items holding.old }
+    requires work { HasDone (view pass.old).got replies.old.items holding.old }
     requires room { MOST_PENDING ≤ vec_capacity replies.old }
     ensures board { holding.new.desk.board ≡ board.now }
-    ensures work { HasDone (view port.old).sent replies.new.items holding.new }
+    ensures work { HasDone (view pass.old).sent replies.new.items holding.new }
     ensures room { MOST_PENDING ≤ vec_capacity replies.new }
 {
     for _ in rt.forever() {
-        match inbox.pop_rest(rt, port) {
+        match inbox.pop_rest(rt, pass) {
             Some(message) => do_left(gate, part, board, holding, replies, message),
             None => return,
         }
@@ -304,14 +311,14 @@ impl Worker {
         hold(
             rt,
             &self.inbox,
-            &mut self.port,
+            &mut self.pass,
             &mut self.held,
             number,
             task,
         );
         if self.is_fresh || self.held.is_full() {
             self.is_fresh = false;
-            offer(&self.inbox, &mut self.port, &mut self.held);
+            offer(&self.inbox, &mut self.pass, &mut self.held);
         }
     }
 
@@ -319,21 +326,21 @@ impl Worker {
     pub fn hand_on<R: Wait>(&mut self, rt: &R)
         ensures { self.new ≡ self.old }
     {
-        hand_on(rt, &self.inbox, &mut self.port, &mut self.held);
+        hand_on(rt, &self.inbox, &mut self.pass, &mut self.held);
     }
 
     /// Pushes the jobs that are held, where there is a place.
     pub fn offer(&mut self)
         ensures { self.new ≡ self.old }
     {
-        offer(&self.inbox, &mut self.port, &mut self.held);
+        offer(&self.inbox, &mut self.pass, &mut self.held);
     }
 
     /// Tells the worker to end, once it has done the jobs that were pushed. It may wait.
     pub fn stop<R: Wait>(&mut self, rt: &R)
         ensures { self.new ≡ self.old }
     {
-        self.inbox.push(rt, &mut self.port, Message::Stop);
+        self.inbox.push(rt, &mut self.pass, Message::Stop);
     }
 
     /// Ends the worker, once it was told to stop: the holding, and the replies to all its jobs, in the list that it had.
@@ -349,24 +356,24 @@ impl Worker {
     {
         let Worker {
             inbox,
-            mut port,
+            mut pass,
             held,
             is_fresh: _is_fresh,
             thread,
         } = self;
         let Finished {
-            port: theirs,
+            pass: theirs,
             lent,
             mut replies,
         } = thread.join(rt);
-        inbox.line.absorb::<Roles>(&mut port, theirs);
+        inbox.queue.absorb::<Roles>(&mut pass, theirs);
         let Lent { mut holding, board } = lent;
         do_rest(
             rt,
             &inbox,
             gate,
             part,
-            &mut port,
+            &mut pass,
             &board,
             &mut holding,
             &mut replies,

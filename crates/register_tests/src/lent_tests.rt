@@ -1,7 +1,7 @@
 //! A part whose holding is lent, and where events go.
 ghost use Rattle.std.specs.Prelude.{◌≡◌, Some, false};
 ghost use Rattle.hlr_core.specs.Later.{IsBackWith};
-ghost use Rattle.hlr_owners.specs.declared.lodging.Seat.TheVariants as seat;
+ghost use Rattle.hlr_owners.specs.declared.part_owner.RegionOwner.TheVariants as owner;
 
 use crate::parting_tests::{dissolving, dividing};
 use crate::region_tests::{giving, has_regions, region, sees, taking};
@@ -39,7 +39,7 @@ fn has_two_regions(register: &Register) -> bool {
 /// A holding that is out moves a subscriber, and posts; whether the subscriber was moved, and what the posting answered.
 fn works(holding: &mut Holding, board: &Board, s_id: u32) -> (bool, Result<u8, Refusal>)
     requires { holding.old.desk.board ≡ board.now }
-    ensures { IsBackWith (Some (seat.Part (record { holding = holding.old; home = false }))) holding.new }
+    ensures { IsBackWith (Some (owner.Part (record { holding = holding.old; home = false }))) holding.new }
 {
     if s_id < holding.lo() || holding.hi() <= s_id {
         return (false, Err(Refusal::Thread));

@@ -7,7 +7,7 @@ use crate::changes::{
 };
 use crate::codes::DONE;
 use crate::handle::Hlr;
-use crate::moves::{hlr_dissolve, hlr_divide, hlr_give, hlr_post, hlr_take};
+use crate::parts::{hlr_dissolve, hlr_divide, hlr_give, hlr_post, hlr_take};
 use crate::reads::{hlr_access_data, hlr_new_destination, hlr_subscriber_data};
 use crate::rows::{HlrAccess, HlrFacility, HlrNumbers, HlrRegion, HlrSubscriber};
 use hlr_core::{

@@ -8,7 +8,6 @@ use crate::handle::Hlr;
 use crate::lending::{hlr_back, hlr_home, hlr_lend};
 use crate::listing::{hlr_facility_data, hlr_find, hlr_forwarding, hlr_next_subscriber};
 use crate::many::hlr_subscriber_data_many;
-use crate::moves::{hlr_dissolve, hlr_divide, hlr_give, hlr_recut, hlr_take};
 use crate::opening::hlr_close;
 use crate::part::HlrPart;
 use crate::part_changes::{
@@ -22,6 +21,7 @@ use crate::part_many::{
 use crate::part_reads::{
     hlr_part_access_data, hlr_part_new_destination, hlr_part_range, hlr_part_subscriber_data,
 };
+use crate::parts::{hlr_dissolve, hlr_divide, hlr_give, hlr_recut, hlr_take};
 use crate::reads::{hlr_access_data, hlr_subscriber_data};
 use crate::reports::{hlr_look, hlr_propose, hlr_regions, hlr_scan, hlr_views};
 use crate::rows::{HlrAccess, HlrAccessAsked, HlrDestinationAsked, HlrNumbers};
@@ -156,7 +156,7 @@ fn calling(s_id: u64, start_time: u64) -> HlrDestinationAsked {
 }
 
 /// What a register answers that has its first part out: the codes of calls that work on that part, and of others.
-fn asked_beside(alloc: Global, handle: &mut Hlr) -> ([u8; 8], [u8; 6]) {
+fn asked_while_out(alloc: Global, handle: &mut Hlr) -> ([u8; 8], [u8; 6]) {
     let (mut found, mut data) = (NO_ROW, facility(0, 0, 0));
     let (mut bounds, mut regions) = (super::NO_BOUNDS, super::NO_REGIONS);
     let (mut left, mut right) = ([9; CELLS as usize], [9; CELLS as usize]);
@@ -184,7 +184,7 @@ fn asked_beside(alloc: Global, handle: &mut Hlr) -> ([u8; 8], [u8; 6]) {
 }
 
 /// What is answered to moves between parts while the first part is out, also of the piece that the second one gives.
-fn moved_beside(alloc: Global, handle: &mut Hlr) -> [u8; 11] {
+fn moved_while_out(alloc: Global, handle: &mut Hlr) -> [u8; 11] {
     let mut region = NO_REGION;
     [
         hlr_divide(alloc, handle, 0, 5, &mut region),
@@ -203,7 +203,7 @@ fn moved_beside(alloc: Global, handle: &mut Hlr) -> [u8; 11] {
 
 /// What the call for many subscribers answers of one of the first part, one of the second, and none, and where it is
 /// handed too few codes; then the code of each, and the rows.
-fn many_beside(alloc: Global, handle: &mut Hlr) -> ([u8; 2], [u8; 3], [HlrSubscriber; 3]) {
+fn many_while_out(alloc: Global, handle: &mut Hlr) -> ([u8; 2], [u8; 3], [HlrSubscriber; 3]) {
     let (mut rows, mut codes) = ([NO_ROW; 3], [9; 3]);
     let done = [
         hlr_subscriber_data_many(alloc, handle, &[7, 70, 0], &mut rows, &mut codes),
@@ -224,9 +224,9 @@ fn part_is_lent(rt: HostRuntime) -> Result<(), Fail> {
     let range = hlr_part_range(alloc, &mut owner, &mut lo, &mut hi);
     let worked = work(alloc, &mut owner);
     let (asked, told, first) = many_of_part(alloc, &mut owner);
-    let (away, known) = asked_beside(alloc, &mut handle);
-    let (done, each, rows) = many_beside(alloc, &mut handle);
-    let moves = moved_beside(alloc, &mut handle);
+    let (away, known) = asked_while_out(alloc, &mut handle);
+    let (done, each, rows) = many_while_out(alloc, &mut handle);
+    let moves = moved_while_out(alloc, &mut handle);
     let codes = [
         hlr_look(alloc, &mut handle, &mut published),
         hlr_home(alloc, &mut owner),

@@ -8,9 +8,9 @@ use Rattle.tatp_actions.specs.Book.{IsWithin}
 use Rattle.tatp_actions.specs.declared.action.Action.{Action}
 use Rattle.holding.specs.Held.{HoldingState}
 use Rattle.hlr_owners.specs.Out.{with_outs}
-use Rattle.hlr_owners.specs.Seats.{Seating, store_in}
+use Rattle.hlr_owners.specs.Owners.{OwnersState, store_in}
 use Rattle.hlr_owners.specs.Store.{Store}
-use Rattle.hlr_core.specs.Beside.{beside}
+use Rattle.hlr_core.specs.WhileOut.{while_out}
 use Rattle.hlr_core.specs.Later.{AreLater}
 use Rattle.hlr_core.specs.Step.{IsAskedStep, checked, given_number}
 use Rattle.hlr_core.specs.declared.event.Event.{Event}
@@ -50,10 +50,10 @@ abbrev pub IsRowStep : Bool → Option Action → Store → Reply → Store → 
 IsRowStep fits wanted before answer after = IsAskedStep (checked fits wanted) before answer after
 
 -- the same, whatever jobs have done to the holdings that are out
-abbrev pub IsRowStepBeside : Bool → Option Action → Seating → Reply → Seating → Type 0
-IsRowStepBeside fits wanted before answer after =
-    (holdings : List HoldingState) → AreLater before.seats (with_outs before.seats holdings)
-    → IsRowStep fits wanted (store_in (beside before holdings)) answer (store_in (beside after holdings))
+abbrev pub IsRowStepWhileOut : Bool → Option Action → OwnersState → Reply → OwnersState → Type 0
+IsRowStepWhileOut fits wanted before answer after =
+    (holdings : List HoldingState) → AreLater before.owners (with_outs before.owners holdings)
+    → IsRowStep fits wanted (store_in (while_out before holdings)) answer (store_in (while_out after holdings))
 
 -- a right step of an event that names its subscriber
 abbrev pub IsActionStep : Action → Store → Reply → Store → Type 0

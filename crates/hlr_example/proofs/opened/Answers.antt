@@ -7,7 +7,7 @@ add_subscriber-requires c = home_of_all c.in_ok-subscriber.field-0.s_id _ c.in_o
 
 pub add_subscriber-requires-2 : goal.add_subscriber-requires-2
 add_subscriber-requires-2 c =
-    home_of_all c.in_ok-subscriber-2.field-0.s_id _ (still_home _ _ c.add_subscriber.ensures.house c.in_ok-register.ensures.home)
+    home_of_all c.in_ok-subscriber-2.field-0.s_id _ (still_home _ _ c.add_subscriber.ensures.homes c.in_ok-register.ensures.home)
 
 pub returns : goal.returns
-returns c = still_home _ _ c.add_subscriber-2.ensures.house (still_home _ _ c.add_subscriber.ensures.house c.in_ok-register.ensures.home)
+returns c = still_home _ _ c.add_subscriber-2.ensures.homes (still_home _ _ c.add_subscriber.ensures.homes c.in_ok-register.ensures.home)

@@ -6,4 +6,4 @@ pub add_access-requires : goal.add_access-requires
 add_access-requires c = home_of_all _ c.args.register.now c.requires
 
 pub returns-clause-home : goal.returns-clause-home
-returns-clause-home c = still_home _ _ c.add_access.ensures.house c.requires
+returns-clause-home c = still_home _ _ c.add_access.ensures.homes c.requires

@@ -6,4 +6,4 @@ pub add_facility-requires : goal.add_facility-requires
 add_facility-requires c = home_of_all _ c.args.register.now c.requires
 
 pub returns-clause-home : goal.returns-clause-home
-returns-clause-home c = still_home _ _ c.add_facility.ensures.house c.requires
+returns-clause-home c = still_home _ _ c.add_facility.ensures.homes c.requires

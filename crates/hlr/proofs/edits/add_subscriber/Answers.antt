@@ -6,4 +6,4 @@ pub add_subscriber-requires : goal.add_subscriber-requires
 add_subscriber-requires c = home_of_all _ c.args.register.now c.requires
 
 pub returns-clause-home : goal.returns-clause-home
-returns-clause-home c = still_home _ _ c.add_subscriber.ensures.house c.requires
+returns-clause-home c = still_home _ _ c.add_subscriber.ensures.homes c.requires

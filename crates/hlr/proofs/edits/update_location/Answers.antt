@@ -6,4 +6,4 @@ pub update_location-requires : goal.update_location-requires
 update_location-requires c = let f = c.in_ok-sub_nbr in home_to_all (event.UpdateLocation f.sub_nbr f.vlr_location) c.args.register.now c.requires
 
 pub returns-clause-home : goal.returns-clause-home
-returns-clause-home c = still_home _ _ c.update_location.ensures.house c.requires
+returns-clause-home c = still_home _ _ c.update_location.ensures.homes c.requires

@@ -1,6 +1,6 @@
 use Rattle.std.proofs.Common.{◌≡◌, ◌∙◌, true, false, rules, arith}
 use Rattle.std.specs.Result.{is_err}
-use Rattle.hlr_owners.specs.Seats.{store_in}
+use Rattle.hlr_owners.specs.Owners.{store_in}
 use Rattle.hlr.proofs.RunFacts.{if_some, if_known, started, goes_on, ends, breaks, stops_full, stops_so, stopped_by_read}
 use Rattle.hlr.proofs.SinkFacts.{put_front}
 use Rattle.hlr.proofs.run.answer_all.Goals as goal

@@ -1,6 +1,6 @@
 use Rattle.std.proofs.Common.{refl}
 use Rattle.csv.specs.Records.{fields_of}
-use Rattle.hlr_owners.specs.Seats.{store_in}
+use Rattle.hlr_owners.specs.Owners.{store_in}
 use Rattle.hlr.specs.Text.{RecordText}
 use Rattle.hlr.proofs.RunFacts.{answered, named_text, recut_named}
 use Rattle.hlr.proofs.run.answer_word.Goals.{in-Gsd, in-Gad, in-Gnd, in-Usd, in-Ul, in-Icf, in-Dcf, in-Sub, in-Acc, in-Fac, in-Active, in-Number, in-Post, in-Give, After-put_all}

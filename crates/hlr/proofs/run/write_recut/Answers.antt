@@ -1,6 +1,6 @@
 use Rattle.std.proofs.Common.{refl, sym, Ok}
 use Rattle.csv.specs.Records.{fields_of}
-use Rattle.hlr_owners.specs.Seats.{store_in}
+use Rattle.hlr_owners.specs.Owners.{store_in}
 use Rattle.hlr_owners.proofs.HomeLemmas.{cut_home_of_all}
 use Rattle.hlr_core.proofs.HomeLemmas.{still_home}
 use Rattle.hlr.specs.Command.{Command as command}
@@ -25,6 +25,6 @@ returns-clause-text g c = answered _ (Ok command.Recut) _ _ _ _ _ _ _ _ (sym c.r
 
 pub returns-clause-home : goal.returns-clause-home
 returns-clause-home g c = elim c.match-read_bounds.branch [
-  | in-Ok w ↦ rw (w.register-is) (still_home _ _ w.recut_to.ensures.house c.requires.home)
+  | in-Ok w ↦ rw (w.register-is) (still_home _ _ w.recut_to.ensures.homes c.requires.home)
   | in-Err w ↦ rw (w.register-is) c.requires.home
 ]

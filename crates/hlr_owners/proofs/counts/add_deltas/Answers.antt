@@ -11,6 +11,6 @@ loop-cell-preserved g c =
     let ahead = c.loop-cell.invariant.ahead c.loop-cell.cell (omega arith) in
     let sum = c.requires.sums c.loop-cell.cell (omega arith) in
     let pending = c.requires.pending c.loop-cell.cell (omega arith) in
-    let made = plain_sum (pending_at c.loop-cell.sums c.loop-cell.cell) (pending_at (g.O.Owner.deltas_of c.args.owner.now) c.loop-cell.cell) (omega (arith, ints)) (omega (arith, ints)) (omega (arith, ints)) in
+    let made = plain_sum (pending_at c.loop-cell.sums c.loop-cell.cell) (pending_at (g.O.RangeOwner.deltas_of c.args.state.now) c.loop-cell.cell) (omega (arith, ints)) (omega (arith, ints)) (omega (arith, ints)) in
     one_moved _ _ _ c.loop-cell.cell _ _ (omega arith) c.from.ensures
-    (rw (c.from.ensures, c.delta.ensures) (made ∙ ap (λ (z : ℤ). z +ℤ pending_at (g.O.Owner.deltas_of c.args.owner.now) c.loop-cell.cell) ahead)) c.loop-cell.invariant
+    (rw (c.from.ensures, c.delta.ensures) (made ∙ ap (λ (z : ℤ). z +ℤ pending_at (g.O.RangeOwner.deltas_of c.args.state.now) c.loop-cell.cell) ahead)) c.loop-cell.invariant

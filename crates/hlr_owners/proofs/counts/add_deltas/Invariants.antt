@@ -3,4 +3,4 @@ use Rattle.view_delta.proofs.SumLemmas.{AreMovedTo}
 use Rattle.hlr_owners.proofs.counts.add_deltas.Given as goal
 
 abbrev pub invariant-loop-cell : goal.invariant-loop-cell
-invariant-loop-cell g l = AreMovedTo (λ c. pending_at (g.O.Owner.deltas_of l.owner) c) l.initial.sums l.sums l.cell
+invariant-loop-cell g l = AreMovedTo (λ c. pending_at (g.O.RangeOwner.deltas_of l.state) c) l.initial.sums l.sums l.cell

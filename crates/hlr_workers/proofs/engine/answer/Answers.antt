@@ -1,5 +1,5 @@
 use Rattle.std.proofs.Common.{◌≡◌, ◌∙◌, ℕ, arith, length, subst}
-use Rattle.hlr_owners.specs.Seats.{Seating}
+use Rattle.hlr_owners.specs.Owners.{OwnersState}
 use Rattle.hlr_core.specs.Route.{IsRightNow, IsRouted}
 use Rattle.hlr_core.specs.Tasks.{job_of}
 use Rattle.hlr_core.specs.declared.event.Reply.TheVariants as reply
@@ -10,23 +10,23 @@ use Rattle.hlr_workers.proofs.engine.answer.Goals as goal
 
 pub send-requires-clause-there : goal.send-requires-clause-there
 send-requires-clause-there g c κs within =
-    let to : IsRouted c.args.event c.args.crew.now.house (To c.in-To.part (job_of c.in-To.task)) = subst (λ (h : Seating). IsRouted c.args.event h (To c.in-To.part (job_of c.in-To.task))) c.register.ensures.value c.in-To.ensures in
-    part_there c.args.crew.now c.args.replies.now.items c.requires.kept c.register.ensures.seated c.in-To.part to.0
+    let to : IsRouted c.args.event c.args.workers.now.register (To c.in-To.part (job_of c.in-To.task)) = subst (λ (h : OwnersState). IsRouted c.args.event h (To c.in-To.part (job_of c.in-To.task))) c.register.ensures.value c.in-To.ensures in
+    part_there c.args.workers.now c.args.replies.now.items c.requires.kept c.register.ensures.ruled c.in-To.part to.0
 
 pub send-requires-clause-room : goal.send-requires-clause-room
 send-requires-clause-room g c κs within =
-    let few = few_jobs c.args.crew.now c.args.replies.now.items c.requires.kept c.in-To.part in
+    let few = few_jobs c.args.workers.now c.args.replies.now.items c.requires.kept c.in-To.part in
     let room = c.requires.room in
     omega arith
 
 pub returns-in-Refused-clause-answered : goal.returns-in-Refused-clause-answered
 returns-in-Refused-clause-answered g c =
     told_after _ _ c.requires.kept c.args.event (reply.Refused c.in-Refused.why)
-    (subst (λ (h : Seating). IsRightNow c.args.event h (reply.Refused c.in-Refused.why)) c.register.ensures.value c.in-Refused.ensures)
+    (subst (λ (h : OwnersState). IsRightNow c.args.event h (reply.Refused c.in-Refused.why)) c.register.ensures.value c.in-Refused.ensures)
 
 pub returns-in_ok-send-in-To-clause-answered : goal.returns-in_ok-send-in-To-clause-answered
 returns-in_ok-send-in-To-clause-answered g c =
-    let to : IsRouted c.args.event c.args.crew.now.house (To c.in-To.part (job_of c.in-To.task)) = subst (λ (h : Seating). IsRouted c.args.event h (To c.in-To.part (job_of c.in-To.task))) c.register.ensures.value c.in-To.ensures in
+    let to : IsRouted c.args.event c.args.workers.now.register (To c.in-To.part (job_of c.in-To.task)) = subst (λ (h : OwnersState). IsRouted c.args.event h (To c.in-To.part (job_of c.in-To.task))) c.register.ensures.value c.in-To.ensures in
     let number : c.len-number.result ≡ length c.args.replies.now.items = c.len-number.ensures ∙ c.args.replies.now.ok.0 in
-    let sent = subst (λ (n : ℕ). IsSentTo c.in-To.part (n, (job_of c.in-To.task)) c.args.crew.now c.send.new.self) number (rw c.in_ok-send-in-To.was at c.send.ensures.sent) in
-    sent_after c.args.crew.now c.args.replies.now c.requires.kept c.register.ensures.seated c.in-To.part c.args.event (job_of c.in-To.task) to.1 to.3 c.blank.result c.send.new.self sent
+    let sent = subst (λ (n : ℕ). IsSentTo c.in-To.part (n, (job_of c.in-To.task)) c.args.workers.now c.send.new.self) number (rw c.in_ok-send-in-To.was at c.send.ensures.sent) in
+    sent_after c.args.workers.now c.args.replies.now c.requires.kept c.register.ensures.ruled c.in-To.part c.args.event (job_of c.in-To.task) to.1 to.3 c.blank.result c.send.new.self sent

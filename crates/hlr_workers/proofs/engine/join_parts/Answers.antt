@@ -12,7 +12,7 @@ loop-part-preserved g c =
     let home = c.join.ensures in
     record {
       brought = brought_twice _ _ _ _ _ _ was.brought home.brought;
-      home = λ q from low. rw home.home (none_next (outs_in c.loop-part.crew.house.seats) c.args.parts.first c.loop-part.part was.home q from low);
+      home = λ q from low. rw home.home (none_next (outs_in c.loop-part.workers.register.owners) c.args.parts.first c.loop-part.part was.home q from low);
     }
 
 pub returns-clause-home : goal.returns-clause-home

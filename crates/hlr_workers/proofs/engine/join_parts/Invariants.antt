@@ -5,6 +5,6 @@ use Rattle.hlr_workers.proofs.engine.join_parts.Given as goal
 
 abbrev pub invariant-loop-part : goal.invariant-loop-part
 invariant-loop-part g l = record {
-  brought : AreBrought l.initial.crew l.initial.replies l.crew l.replies;
-  home : (q : ℕ) → l.fn.parts.first ≤ q → q < l.part → get_or (outs_in l.crew.house.seats) q None ≡ None;
+  brought : AreBrought l.initial.workers l.initial.replies l.workers l.replies;
+  home : (q : ℕ) → l.fn.parts.first ≤ q → q < l.part → get_or (outs_in l.workers.register.owners) q None ≡ None;
 }

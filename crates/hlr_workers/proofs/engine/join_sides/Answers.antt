@@ -4,7 +4,7 @@ use Rattle.part_table.specs.Recut.{recut_answer}
 use Rattle.part_table.specs.declared.moves.CutMove.{CutMove}
 use Rattle.part_table.specs.declared.region.Region.{Region}
 use Rattle.hlr_owners.specs.Out.{outs_in}
-use Rattle.hlr_owners.specs.Seats.{Seating}
+use Rattle.hlr_owners.specs.Owners.{OwnersState}
 use Rattle.hlr_workers.proofs.EngineLemmas.{brought_itself, brought_twice, none_still, sides_cut, sides_next}
 use Rattle.hlr_workers.proofs.engine.join_sides.Goals as goal
 
@@ -25,17 +25,17 @@ loop-bound_move-preserved g c =
     record {
       brought = brought_twice _ _ _ _ _ _ was.brought (brought_twice _ _ _ _ _ _ one.brought two.brought);
       home = λ i d low. rw (two.home, one.home, c.saturating_sub.ensures)
-          (sides_next (outs_in c.loop-bound_move.crew.house.seats) moves c.loop-bound_move.bound_move-index move there (get_or_default moves c.loop-bound_move.bound_move-index (record { bound = 0; from = 0; to = 0 }) move there) was.home i d low);
-      still = λ none. rw (two.home, one.home) (none_still (set (outs_in c.loop-bound_move.crew.house.seats) c.saturating_sub.result None) move.bound
-          (none_still (outs_in c.loop-bound_move.crew.house.seats) c.saturating_sub.result (was.still none)));
+          (sides_next (outs_in c.loop-bound_move.workers.register.owners) moves c.loop-bound_move.bound_move-index move there (get_or_default moves c.loop-bound_move.bound_move-index (record { bound = 0; from = 0; to = 0 }) move there) was.home i d low);
+      still = λ none. rw (two.home, one.home) (none_still (set (outs_in c.loop-bound_move.workers.register.owners) c.saturating_sub.result None) move.bound
+          (none_still (outs_in c.loop-bound_move.workers.register.owners) c.saturating_sub.result (was.still none)));
     }
 
 pub returns-clause-home : goal.returns-clause-home
 returns-clause-home g c =
     let was = c.loop-bound_move.invariant in
-    let h = c.loop-bound_move.crew.house in
+    let h = c.loop-bound_move.workers.register in
     let regions : h.regions ≡ c.regions.result.now =
-    ap (λ (s : Seating). s.regions) was.brought.house ∙ sym (c.regions.ensures.value ∙ ap (λ (s : Seating). s.regions) c.register.ensures.value) in
+    ap (λ (s : OwnersState). s.regions) was.brought.register ∙ sym (c.regions.ensures.value ∙ ap (λ (s : OwnersState). s.regions) c.register.ensures.value) in
     let answer : recut_answer h.regions c.args.bounds.now ≡ Ok c.as_slice-bound_move-items.result.now =
     ap (λ (rs : List Region). recut_answer rs c.args.bounds.now) regions ∙ c.in-Ok.ensures.answer ∙ ap Ok (sym c.as_slice-bound_move-items.ensures.value) in
     let past = c.loop-bound_move-test.false in

@@ -8,7 +8,7 @@ use Rattle.hlr_workers.proofs.engine.join_sides.Given as goal
 
 abbrev pub invariant-loop-bound_move : goal.invariant-loop-bound_move
 invariant-loop-bound_move g l = record {
-  brought : AreBrought l.initial.crew l.initial.replies l.crew l.replies;
-  home : (i : ℕ) (d : CutMove) → i < l.bound_move-index → AreSidesHome (outs_in l.crew.house.seats) (get_or l.bound_move-items i d);
-  still : NoneOut l.initial.crew → NoneOut l.crew;
+  brought : AreBrought l.initial.workers l.initial.replies l.workers l.replies;
+  home : (i : ℕ) (d : CutMove) → i < l.bound_move-index → AreSidesHome (outs_in l.workers.register.owners) (get_or l.bound_move-items i d);
+  still : NoneOut l.initial.workers → NoneOut l.workers;
 }

@@ -1,5 +1,5 @@
 use Rattle.std.proofs.Common.{◌≡◌, ◌+◌, length, map, take, vec_capacity}
-use Rattle.hlr_owners.specs.Seats.{IsSameOwner}
+use Rattle.hlr_owners.specs.Owners.{IsSameOwner}
 use Rattle.hlr_workers.specs.Finish.{IsSessionMore}
 use Rattle.hlr_workers.specs.Relay.{job_pair}
 use Rattle.hlr_workers.proofs.work.do_batch.Given as goal

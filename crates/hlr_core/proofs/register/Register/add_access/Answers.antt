@@ -10,5 +10,5 @@ edit-requires-clause-home c = home_of_asked _ true (action.AddAccess c.args.row)
 pub returns-clause-step : goal.returns-clause-step
 returns-clause-step c = c.edit.ensures.step true (Some (action.AddAccess c.args.row)) c.add_access.ensures.asked
 
-pub returns-clause-beside : goal.returns-clause-beside
-returns-clause-beside c = c.edit.ensures.beside true (Some (action.AddAccess c.args.row)) c.add_access.ensures.asked
+pub returns-clause-while_out : goal.returns-clause-while_out
+returns-clause-while_out c = c.edit.ensures.while_out true (Some (action.AddAccess c.args.row)) c.add_access.ensures.asked

@@ -10,5 +10,5 @@ edit-requires-clause-home c = home_of_asked _ true (action.AddFacility c.args.ro
 pub returns-clause-step : goal.returns-clause-step
 returns-clause-step c = c.edit.ensures.step true (Some (action.AddFacility c.args.row)) c.add_facility.ensures.asked
 
-pub returns-clause-beside : goal.returns-clause-beside
-returns-clause-beside c = c.edit.ensures.beside true (Some (action.AddFacility c.args.row)) c.add_facility.ensures.asked
+pub returns-clause-while_out : goal.returns-clause-while_out
+returns-clause-while_out c = c.edit.ensures.while_out true (Some (action.AddFacility c.args.row)) c.add_facility.ensures.asked

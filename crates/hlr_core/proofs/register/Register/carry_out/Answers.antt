@@ -9,13 +9,13 @@ pub recut_to-requires : goal.recut_to-requires
 recut_to-requires c = cut_home_of_all c.as_slice.result.now c.args.self.now c.requires
 
 pub returns-in-Event-clause-home : goal.returns-in-Event-clause-home
-returns-in-Event-clause-home c = home_after c.in-Event.event c.apply.result c.args.self.now c.apply.new.self c.apply.ensures.house c.requires
+returns-in-Event-clause-home c = home_after c.in-Event.event c.apply.result c.args.self.now c.apply.new.self c.apply.ensures.homes c.requires
 
 pub returns-in-Recut-clause-home : goal.returns-in-Recut-clause-home
-returns-in-Recut-clause-home c = still_home _ _ c.recut_to.ensures.house c.requires
+returns-in-Recut-clause-home c = still_home _ _ c.recut_to.ensures.homes c.requires
 
 pub returns-in-Event-clause-spare : goal.returns-in-Event-clause-spare
-returns-in-Event-clause-spare c = desk_after c.in-Event.event c.apply.result c.args.self.now c.apply.new.self c.apply.ensures.house
+returns-in-Event-clause-spare c = desk_after c.in-Event.event c.apply.result c.args.self.now c.apply.new.self c.apply.ensures.homes
 
 pub returns-in-Recut-clause-spare : goal.returns-in-Recut-clause-spare
-returns-in-Recut-clause-spare c = desk_kept _ _ c.recut_to.ensures.house
+returns-in-Recut-clause-spare c = desk_kept _ _ c.recut_to.ensures.homes

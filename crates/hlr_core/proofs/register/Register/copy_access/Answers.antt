@@ -1,7 +1,7 @@
 use Rattle.std.proofs.Common.{◌∙◌, ◌+◌, ℕ, refl}
 use Rattle.tatp_rows.specs.declared.ranges.TheConstants.{LAST_SUBSCRIBER}
 use Rattle.tatp_actions.specs.Book.{IsWithin}
-use Rattle.hlr_owners.specs.Seats.{IsHomeFor}
+use Rattle.hlr_owners.specs.Owners.{IsHomeFor}
 use Rattle.std.proofs.lemmas.List.Elements.{All-map}
 use Rattle.hlr_core.proofs.ManyLemmas.{accesses_found}
 use Rattle.hlr_core.proofs.register.Register.copy_access.Goals as goal
@@ -18,7 +18,7 @@ holding_of_all-requires-clause-home c =
     let same = c.as_slice.ensures.value ∙ c.if-not-put_accesses.ensures.same refl in
     let ids = rw same at c.put_s_ids.ensures in
     rw (c.as_slice-2.ensures.value ∙ ids)
-    (All-map (λ n. IsHomeFor n c.self.inside.seats) (λ (a : ℕ × ℕ). a.0) c.args.asked.now (rw (← c.self.view_is) at c.requires.home))
+    (All-map (λ n. IsHomeFor n c.self.inside.owners) (λ (a : ℕ × ℕ). a.0) c.args.asked.now (rw (← c.self.view_is) at c.requires.home))
 
 pub returns-clause-found : goal.returns-clause-found
 returns-clause-found c = λ done.
@@ -26,5 +26,5 @@ returns-clause-found c = λ done.
     let ids = rw same at c.put_s_ids.ensures in
     let all = c.as_slice-2.ensures.value ∙ ids in
     rw (← c.self.view_is)
-    (accesses_found c.self.inside.seats c.in-Some.holding.now c.args.asked.now c.copy_access.new.rows.items (c.if-not-put_accesses.ensures.within refl) (rw all at c.in-Some.ensures.beside)
+    (accesses_found c.self.inside.owners c.in-Some.holding.now c.args.asked.now c.copy_access.new.rows.items (c.if-not-put_accesses.ensures.within refl) (rw all at c.in-Some.ensures.while_out)
     (rw (c.as_slice-3.ensures.value ∙ c.if-not-put_accesses.ensures.same refl) at c.copy_access.ensures))

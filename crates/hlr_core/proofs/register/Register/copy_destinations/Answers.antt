@@ -1,7 +1,7 @@
 use Rattle.std.proofs.Common.{◌∙◌, ◌+◌, ℕ, refl}
 use Rattle.tatp_rows.specs.declared.ranges.TheConstants.{LAST_SUBSCRIBER}
 use Rattle.tatp_actions.specs.Book.{IsWithin}
-use Rattle.hlr_owners.specs.Seats.{IsHomeFor}
+use Rattle.hlr_owners.specs.Owners.{IsHomeFor}
 use Rattle.std.proofs.lemmas.List.Elements.{All-map}
 use Rattle.hlr_core.proofs.ManyLemmas.{destinations_found}
 use Rattle.hlr_core.proofs.register.Register.copy_destinations.Goals as goal
@@ -14,11 +14,11 @@ holding_of_all-requires-clause-within c =
 pub holding_of_all-requires-clause-home : goal.holding_of_all-requires-clause-home
 holding_of_all-requires-clause-home c =
     rw (c.as_slice.ensures.value ∙ c.if-not-put_calls.ensures.ids refl)
-    (All-map (λ n. IsHomeFor n c.self.inside.seats) (λ (q : ℕ × ℕ × ℕ × ℕ). q.0) c.args.asked.now (rw (← c.self.view_is) at c.requires.home))
+    (All-map (λ n. IsHomeFor n c.self.inside.owners) (λ (q : ℕ × ℕ × ℕ × ℕ). q.0) c.args.asked.now (rw (← c.self.view_is) at c.requires.home))
 
 pub returns-clause-found : goal.returns-clause-found
 returns-clause-found c = λ done.
     let ids = c.as_slice.ensures.value ∙ c.if-not-put_calls.ensures.ids refl in
     rw (← c.self.view_is)
-    (destinations_found c.self.inside.seats c.in-Some.holding.now c.args.asked.now c.copy_destinations.new.found.items (c.if-not-put_calls.ensures.within refl) (rw ids at c.in-Some.ensures.beside)
+    (destinations_found c.self.inside.owners c.in-Some.holding.now c.args.asked.now c.copy_destinations.new.found.items (c.if-not-put_calls.ensures.within refl) (rw ids at c.in-Some.ensures.while_out)
     (rw (c.as_slice-2.ensures.value ∙ c.if-not-put_calls.ensures.same refl) at c.copy_destinations.ensures))

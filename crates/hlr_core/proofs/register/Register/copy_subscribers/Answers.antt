@@ -7,5 +7,5 @@ returns-clause-found c = λ done.
     let same = c.if-not-put_ids.ensures.same refl in
     let ids = c.as_slice.ensures.value ∙ same in
     rw (← c.self.view_is)
-    (subscribers_found c.self.inside.seats c.in-Some.holding.now c.args.s_ids.now c.copy_subscribers.new.rows.items (c.if-not-put_ids.ensures.within refl) (rw ids at c.in-Some.ensures.beside)
+    (subscribers_found c.self.inside.owners c.in-Some.holding.now c.args.s_ids.now c.copy_subscribers.new.rows.items (c.if-not-put_ids.ensures.within refl) (rw ids at c.in-Some.ensures.while_out)
     (rw (c.as_slice-2.ensures.value ∙ same) at c.copy_subscribers.ensures))

@@ -1,6 +1,6 @@
 use Rattle.hlr_core.specs.Step.{edited_reply}
 use Rattle.hlr_core.specs.declared.event.Event.TheVariants as event
-use Rattle.hlr_core.proofs.BesideLemmas.{step_beside}
+use Rattle.hlr_core.proofs.WhileOutLemmas.{step_while_out}
 use Rattle.std.proofs.Common.{refl}
 use Rattle.tatp_actions.specs.declared.action.Action.TheVariants as action
 use Rattle.hlr_core.proofs.HomeLemmas.{home_of_bearer}
@@ -14,6 +14,6 @@ edit-requires-clause-home c =
 pub returns-clause-step : goal.returns-clause-step
 returns-clause-step c = rw (← c.bearer-bearer_id.ensures.value) (c.edit.ensures.step _ _ c.delete_forwarding.ensures.asked)
 
-pub returns-clause-beside : goal.returns-clause-beside
-returns-clause-beside c =
-    step_beside (event.DeleteForwarding c.args.sub_nbr c.args.sf_type c.args.start_time) c.args.self.now c.edit.new.self (edited_reply c.edit.result) refl (rw (← c.bearer-bearer_id.ensures.value) (c.edit.ensures.beside _ _ c.delete_forwarding.ensures.asked))
+pub returns-clause-while_out : goal.returns-clause-while_out
+returns-clause-while_out c =
+    step_while_out (event.DeleteForwarding c.args.sub_nbr c.args.sf_type c.args.start_time) c.args.self.now c.edit.new.self (edited_reply c.edit.result) refl (rw (← c.bearer-bearer_id.ensures.value) (c.edit.ensures.while_out _ _ c.delete_forwarding.ensures.asked))

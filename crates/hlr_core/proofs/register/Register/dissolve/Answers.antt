@@ -1,13 +1,13 @@
 use Rattle.std.proofs.Common.{◌≡◌, refl}
 use Rattle.hlr_core.specs.Step.{dissolved_reply}
-use Rattle.hlr_core.proofs.BesideLemmas.{dissolved_beside}
+use Rattle.hlr_core.proofs.WhileOutLemmas.{dissolved_while_out}
 use Rattle.hlr_core.proofs.register.Register.dissolve.Goals as goal
 use Rattle.hlr_core.proofs.register.Register.dissolve.Goals.{in-Ok, in-Err}
 
-pub returns-clause-beside : goal.returns-clause-beside
-returns-clause-beside c =
+pub returns-clause-while_out : goal.returns-clause-while_out
+returns-clause-while_out c =
     let told : c.match-dissolve.result ≡ dissolved_reply c.dissolve.result = elim c.match-dissolve.branch [
       | in-Ok w ↦ rw (w.result-is, w.in-Ok.is) refl
       | in-Err w ↦ rw (w.result-is, w.in-Err.is) refl
     ] in
-    rw (← c.self.view_is) (dissolved_beside c.self.inside.seats c.dissolve.new.self c.args.part c.dissolve.result c.match-dissolve.result c.dissolve.ensures.answer told c.dissolve.ensures.beside)
+    rw (← c.self.view_is) (dissolved_while_out c.self.inside.owners c.dissolve.new.self c.args.part c.dissolve.result c.match-dissolve.result c.dissolve.ensures.answer told c.dissolve.ensures.while_out)

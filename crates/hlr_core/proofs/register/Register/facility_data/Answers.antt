@@ -3,7 +3,7 @@ use Rattle.tatp_rows.proofs.RowLemmas.{between_ok, both_from}
 use Rattle.tatp_rows.specs.declared.ranges.TheConstants.{LAST_SUBSCRIBER}
 use Rattle.hlr_owners.specs.Out.{with_outs}
 use Rattle.tatp_actions.specs.Action.{is_typed}
-use Rattle.hlr_core.proofs.LaterLemmas.{each_seat}
+use Rattle.hlr_core.proofs.LaterLemmas.{each_owner}
 use Rattle.hlr_core.proofs.register.Register.facility_data.Goals.{After-facility}
 use Rattle.hlr_core.proofs.register.Register.facility_data.Goals as goal
 
@@ -17,6 +17,6 @@ typed c = both_from _ _ (between_ok 1 LAST_SUBSCRIBER c.args.s_id c.in_ok-s_id.s
 pub returns-clause-value : goal.returns-clause-value
 returns-clause-value c = rw (typed c, ← (same c).0, ← (same c).1, ← c.self.view_is) c.facility.ensures.value
 
-pub returns-clause-beside : goal.returns-clause-beside
-returns-clause-beside c =
-    rw (typed c, ← (same c).0, ← (same c).1, ← c.self.view_is) (λ ks later. c.facility.ensures.beside ks (each_seat c.self.inside.seats.seats (with_outs c.self.inside.seats.seats ks) later))
+pub returns-clause-while_out : goal.returns-clause-while_out
+returns-clause-while_out c =
+    rw (typed c, ← (same c).0, ← (same c).1, ← c.self.view_is) (λ ks later. c.facility.ensures.while_out ks (each_owner c.self.inside.owners.owners (with_outs c.self.inside.owners.owners ks) later))

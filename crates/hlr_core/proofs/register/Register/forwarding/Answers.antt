@@ -4,7 +4,7 @@ use Rattle.tatp_rows.proofs.RowLemmas.{between_ok, both_from}
 use Rattle.tatp_rows.specs.declared.ranges.TheConstants.{LAST_SUBSCRIBER}
 use Rattle.hlr_owners.specs.Out.{with_outs}
 use Rattle.tatp_actions.specs.Action.{is_typed}
-use Rattle.hlr_core.proofs.LaterLemmas.{each_seat}
+use Rattle.hlr_core.proofs.LaterLemmas.{each_owner}
 use Rattle.hlr_core.proofs.register.Register.forwarding.Goals.{After-forwarding}
 use Rattle.hlr_core.proofs.register.Register.forwarding.Goals as goal
 
@@ -21,6 +21,6 @@ fits c = both_from _ _ (typed c) (sym c.is_start_time.ensures ∙ c.if-not-is_st
 pub returns-clause-value : goal.returns-clause-value
 returns-clause-value c = rw (fits c, ← (same c).0, ← (same c).1, ← c.self.view_is) c.forwarding.ensures.value
 
-pub returns-clause-beside : goal.returns-clause-beside
-returns-clause-beside c =
-    rw (fits c, ← (same c).0, ← (same c).1, ← c.self.view_is) (λ ks later. c.forwarding.ensures.beside ks (each_seat c.self.inside.seats.seats (with_outs c.self.inside.seats.seats ks) later))
+pub returns-clause-while_out : goal.returns-clause-while_out
+returns-clause-while_out c =
+    rw (fits c, ← (same c).0, ← (same c).1, ← c.self.view_is) (λ ks later. c.forwarding.ensures.while_out ks (each_owner c.self.inside.owners.owners (with_outs c.self.inside.owners.owners ks) later))

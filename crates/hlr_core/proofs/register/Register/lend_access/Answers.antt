@@ -7,7 +7,7 @@ use Rattle.std.specs.Borrow.{Bor}
 use Rattle.tatp_rows.specs.Rows.{AccessInfoRow}
 use Rattle.hlr_core.specs.declared.event.Event.TheVariants as event
 use Rattle.hlr_core.specs.declared.event.Reply.TheVariants as reply
-use Rattle.hlr_core.proofs.LentLemmas.{read_beside, read_own}
+use Rattle.hlr_core.proofs.LentLemmas.{read_while_out, read_own}
 use Rattle.hlr_core.proofs.register.Register.lend_access.Goals as goal
 
 pub returns : goal.returns
@@ -15,6 +15,6 @@ returns c =
     let s_id = (between_ok 1 LAST_SUBSCRIBER c.args.s_id c.in_ok-s_id.s_id c.in_ok-s_id.ensures).0 in
     let ai_type = (between_ok 1 4 c.args.ai_type c.in_ok-ai_type.ai_type c.in_ok-ai_type.ensures).0 in
     let told = λ (row : Bor AccessInfoRow). row_reply.AccessRow row.now.data1 row.now.data2 row.now.data3 row.now.data4 in
-    let right = read_beside (action.AccessData c.in_ok-s_id.s_id c.in_ok-ai_type.ai_type) c.self.inside.seats refl told c.lend_access.result c.lend_access.ensures.beside in
-    let own = read_own (event.AccessData c.in_ok-s_id.s_id c.in_ok-ai_type.ai_type) c.self.inside.seats (λ (row : Bor AccessInfoRow). reply.Rows (told row)) c.lend_access.result right in
-    rw (← s_id, ← ai_type, ← c.self.view_is) (record { row = own.0; refused = own.1; beside = right })
+    let right = read_while_out (action.AccessData c.in_ok-s_id.s_id c.in_ok-ai_type.ai_type) c.self.inside.owners refl told c.lend_access.result c.lend_access.ensures.while_out in
+    let own = read_own (event.AccessData c.in_ok-s_id.s_id c.in_ok-ai_type.ai_type) c.self.inside.owners (λ (row : Bor AccessInfoRow). reply.Rows (told row)) c.lend_access.result right in
+    rw (← s_id, ← ai_type, ← c.self.view_is) (record { row = own.0; refused = own.1; while_out = right })

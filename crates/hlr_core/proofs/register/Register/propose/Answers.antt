@@ -1,6 +1,6 @@
 use Rattle.std.proofs.Common.{◌∙◌, sym}
 use Rattle.hlr_owners.proofs.SumLemmas.{unposted_is}
-use Rattle.hlr_owners.specs.Seats.{store_in}
+use Rattle.hlr_owners.specs.Owners.{store_in}
 use Rattle.hlr_core.proofs.WeightLemmas.{proposed, proposed_counted}
 use Rattle.hlr_core.proofs.register.Register.propose.Goals as goal
 
@@ -11,4 +11,4 @@ returns-clause-value c =
 pub returns-clause-counted : goal.returns-clause-counted
 returns-clause-counted c = λ none.
     proposed_counted (store_in c.args.self.now) _ (rw (c.self.view_is) at c.self.invariant.rows.rules) (returns-clause-value c)
-    (λ k below. rw (c.self.view_is) at (sym (unposted_is _ c.board-board.ensures.seated _ c.board-board.ensures.desks k below)) ∙ none k below)
+    (λ k below. rw (c.self.view_is) at (sym (unposted_is _ c.board-board.ensures.ruled _ c.board-board.ensures.desks k below)) ∙ none k below)

@@ -1,6 +1,6 @@
 use Rattle.std.proofs.Common.{◌≡◌, refl, arith}
 use Rattle.hlr_core.specs.Step.{taken_reply}
-use Rattle.hlr_core.proofs.BesideLemmas.{taken_beside}
+use Rattle.hlr_core.proofs.WhileOutLemmas.{taken_while_out}
 use Rattle.hlr_core.proofs.PresentLemmas.{taken_small}
 use Rattle.hlr_core.proofs.register.Register.take.Goals as goal
 use Rattle.hlr_core.proofs.register.Register.take.Goals.{in-Ok, in-Err}
@@ -8,19 +8,19 @@ use Rattle.hlr_core.proofs.register.Register.take.Goals.{in-Ok, in-Err}
 pub overflow_cast-result : goal.overflow_cast-result
 overflow_cast-result c =
     let regions = rw c.regions-regions.ensures.value at c.regions-regions.ensures.regions in
-    let small = taken_small c.args.piece c.args.part c.in-Ok.field-0 c.self.inside.seats.regions regions c.in-Ok.ensures.answer in
+    let small = taken_small c.args.piece c.args.part c.in-Ok.field-0 c.self.inside.owners.regions regions c.in-Ok.ensures.answer in
     omega (arith, small.0)
 
 pub overflow_cast-result-in-Ok : goal.overflow_cast-result-in-Ok
 overflow_cast-result-in-Ok c =
     let regions = rw c.regions-regions.ensures.value at c.regions-regions.ensures.regions in
-    let small = taken_small c.args.piece c.args.part c.in-Ok.field-0 c.self.inside.seats.regions regions c.in-Ok.ensures.answer in
+    let small = taken_small c.args.piece c.args.part c.in-Ok.field-0 c.self.inside.owners.regions regions c.in-Ok.ensures.answer in
     omega (arith, small.1)
 
-pub returns-clause-beside : goal.returns-clause-beside
-returns-clause-beside c =
+pub returns-clause-while_out : goal.returns-clause-while_out
+returns-clause-while_out c =
     let told : c.match-take.result ≡ taken_reply c.args.piece c.args.part c.take.result = elim c.match-take.branch [
       | in-Ok w ↦ rw (w.result-is, w.in-Ok.is) refl
       | in-Err w ↦ rw (w.result-is, w.in-Err.is) refl
     ] in
-    rw (← c.self.view_is) (taken_beside c.self.inside.seats c.take.new.self c.take.ensures.beside c.args.piece c.args.part c.take.result c.match-take.result c.take.ensures.answer told c.take.ensures.after)
+    rw (← c.self.view_is) (taken_while_out c.self.inside.owners c.take.new.self c.take.ensures.while_out c.args.piece c.args.part c.take.result c.match-take.result c.take.ensures.answer told c.take.ensures.after)

@@ -1,5 +1,5 @@
 use Rattle.std.proofs.Common.{◌<◌, ◌≤◌, ℕ}
-use Rattle.hlr_owners.specs.Seats.{IsPartHome}
+use Rattle.hlr_owners.specs.Owners.{IsPartHome}
 use Rattle.hlr_lent.proofs.lender.Lender.are_home.Given as goal
 
 abbrev pub invariant-loop-part : goal.invariant-loop-part

@@ -8,13 +8,13 @@ use Rattle.hlr_lent.proofs.lender.Lender.back.Goals as goal
 
 pub back-requires : goal.back-requires
 back-requires c =
-    come_with c.self.inside.register c.board-board.ensures.seated c.self.inside.rings.items c.self.invariant.0 c.args.part c.in-Some.ring (sym c.take_ring.ensures.ring ∙ c.in-Some.is)
+    come_with c.self.inside.register c.board-board.ensures.ruled c.self.inside.rings.items c.self.invariant.0 c.args.part c.in-Some.ring (sym c.take_ring.ensures.ring ∙ c.in-Some.is)
     c.in-Some-arrived.holding.value (rw c.in-Some-arrived.is at c.arrived.ensures.come)
 
 pub invariant_of-self-in-Some-arrived : goal.invariant_of-self-in-Some-arrived
 invariant_of-self-in-Some-arrived c =
     let h = c.self.inside.register in
-    let are = c.board-board.ensures.seated in
+    let are = c.board-board.ensures.ruled in
     let rings = c.self.inside.rings.items in
     let is = sym c.take_ring.ensures.ring ∙ c.in-Some.is in
     let come = rw c.in-Some-arrived.is at c.arrived.ensures.come in
@@ -28,7 +28,7 @@ invariant_of-self-in-Some-arrived c =
 pub returns-in-Some-arrived-clause-come : goal.returns-in-Some-arrived-clause-come
 returns-in-Some-arrived-clause-come c =
     let h = c.self.inside.register in
-    let are = c.board-board.ensures.seated in
+    let are = c.board-board.ensures.ruled in
     let rings = c.self.inside.rings.items in
     let is = sym c.take_ring.ensures.ring ∙ c.in-Some.is in
     let come = rw c.in-Some-arrived.is at c.arrived.ensures.come in

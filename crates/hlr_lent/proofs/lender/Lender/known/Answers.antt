@@ -20,12 +20,12 @@ pub returns-in-Here-clause-step : goal.returns-in-Here-clause-step
 returns-in-Here-clause-step c =
     rw (c.err.ensures.value, ← c.self.view_is) (here_barred c.self.inside.register c.args.event.now c.allowed.result (told c) (λ why is. is.0 _ refl))
 
-pub returns-in-Here-clause-house : goal.returns-in-Here-clause-house
-returns-in-Here-clause-house c =
+pub returns-in-Here-clause-homes : goal.returns-in-Here-clause-homes
+returns-in-Here-clause-homes c =
     rw (c.err.ensures.value, ← c.self.view_is) (here_barred c.self.inside.register c.args.event.now c.allowed.result (told c) (λ why is. is.1))
 
-pub returns-in-Here-clause-beside : goal.returns-in-Here-clause-beside
-returns-in-Here-clause-beside c =
+pub returns-in-Here-clause-while_out : goal.returns-in-Here-clause-while_out
+returns-in-Here-clause-while_out c =
     rw (c.err.ensures.value, ← c.self.view_is) (here_barred c.self.inside.register c.args.event.now c.allowed.result (told c) (λ why is. λ holdings later. is.0 _ refl))
 
 pub returns-in-Here-clause-asking : goal.returns-in-Here-clause-asking

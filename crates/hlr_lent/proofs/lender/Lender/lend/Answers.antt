@@ -2,13 +2,13 @@ use Rattle.std.proofs.Common.{◌<◌, ◌∙◌, arith, refl, length, Some}
 use Rattle.std.proofs.lemmas.List.{length-set}
 use Rattle.hlr_owners.specs.Out.{outs_in}
 use Rattle.hlr_lent.proofs.RingLemmas.{rings_put}
-use Rattle.hlr_lent.proofs.SeatLemmas.{few_outs, fits_again, lent_outs, lent_there, undone}
+use Rattle.hlr_lent.proofs.RegionOwnerLemmas.{few_outs, fits_again, lent_outs, lent_there, undone}
 use Rattle.hlr_lent.proofs.lender.Lender.lend.Goals as goal
 
 pub put_ring-requires : goal.put_ring-requires
 put_ring-requires c =
     let h = c.self.inside.register in
-    let are = c.board-board.ensures.seated in
+    let are = c.board-board.ensures.ruled in
     let went = c.lend-holding in
     let there = lent_there h are c.args.part went.result.value went.new.self went.ensures.lent in
     let few = few_outs h are in
@@ -18,14 +18,14 @@ put_ring-requires c =
 pub invariant_of-self : goal.invariant_of-self
 invariant_of-self c =
     let h = c.self.inside.register in
-    let are = c.board-board.ensures.seated in
+    let are = c.board-board.ensures.ruled in
     let went = c.lend-holding in
     let there = lent_there h are c.args.part went.result.value went.new.self went.ensures.lent in
     let few = few_outs h are in
     let long = c.self.invariant.1 in
     let short : c.args.part < length c.self.inside.rings.items = omega arith in
     rw (c.put_ring.ensures, lent_outs h are c.args.part went.result.value went.new.self went.ensures.lent) (
-      rings_put (outs_in h.seats) c.self.inside.rings.items c.self.invariant.0 c.args.part went.result.value c.tell.new.lender there short (rw c.deref.ensures at c.tell.ensures.lender),
+      rings_put (outs_in h.owners) c.self.inside.rings.items c.self.invariant.0 c.args.part went.result.value c.tell.new.lender there short (rw c.deref.ensures at c.tell.ensures.lender),
       length-set c.self.inside.rings.items c.args.part (Some c.tell.new.lender) ∙ long,
       λ no. absurd cc,
     )

@@ -12,4 +12,4 @@ invariant_of-result c =
     let test = c.loop-test.false in
     let all : c.loop.counter ≡ MOST_PARTS = omega arith in
     let none : Option Ring = None in
-    rw (c.loop.invariant.0) (no_rings c.args.register.seats c.loop.counter (λ p. part_home_of_all p c.args.register c.requires), length-replicate c.loop.counter none ∙ all, λ none. c.requires)
+    rw (c.loop.invariant.0) (no_rings c.args.register.owners c.loop.counter (λ p. part_home_of_all p c.args.register c.requires), length-replicate c.loop.counter none ∙ all, λ none. c.requires)

@@ -1,5 +1,5 @@
 use Rattle.std.proofs.Common.{◌≡◌, [], subst, sym}
-use Rattle.hlr_owners.specs.Seats.{store_in}
+use Rattle.hlr_owners.specs.Owners.{store_in}
 use Rattle.hlr_core.specs.declared.event.Reply.TheVariants as reply
 use Rattle.hlr_workers.specs.Kept.{engaged}
 use Rattle.hlr_workers.specs.Standing.{Engaged, IsSettled, Stands}
@@ -9,17 +9,17 @@ use Rattle.hlr_workers.proofs.engine.Engine.register.Goals as goal
 pub returns-clause-home : goal.returns-clause-home
 returns-clause-home g c =
     let empty = subst (λ (e : Engaged). e.replies ≡ []) (sym c.self.view_is) c.requires in
-    rw (← c.self.view_is) (all_home c.self.inside.crew.house.seats (c.self.invariant.1 empty))
+    rw (← c.self.view_is) (all_home c.self.inside.workers.register.owners (c.self.invariant.1 empty))
 
 pub returns-clause-right : goal.returns-clause-right
 returns-clause-right g c =
     let e = c.self.inside in
     let empty : e.replies.items ≡ [] = subst (λ (e : Engaged). e.replies ≡ []) (sym c.self.view_is) c.requires in
-    let whole = settled e.crew (c.self.invariant.1 empty) e.replies.items (reply.Posted 0) c.self.invariant.0 in
-    rw (← c.self.view_is) (subst (λ replies. IsSettled (engaged e.crew e.replies.items) replies e.crew.house) empty whole)
+    let whole = settled e.workers (c.self.invariant.1 empty) e.replies.items (reply.Posted 0) c.self.invariant.0 in
+    rw (← c.self.view_is) (subst (λ replies. IsSettled (engaged e.workers e.replies.items) replies e.workers.register) empty whole)
 
 pub returns-clause-stands : goal.returns-clause-stands
 returns-clause-stands g c =
     let e = c.self.inside in
     let empty : e.replies.items ≡ [] = subst (λ (e : Engaged). e.replies ≡ []) (sym c.self.view_is) c.requires in
-    rw (← c.self.view_is) (subst (λ replies. Stands (engaged e.crew replies) (store_in e.crew.house) []) (sym empty) (new_stands e.crew (c.self.invariant.1 empty)))
+    rw (← c.self.view_is) (subst (λ replies. Stands (engaged e.workers replies) (store_in e.workers.register) []) (sym empty) (new_stands e.workers (c.self.invariant.1 empty)))

@@ -19,13 +19,13 @@ do_rest-requires-clause-work g c κs lives = rw (c.absorb.ensures.rule, c.deref_
 
 pub do_batch-requires-clause-within : goal.do_batch-requires-clause-within
 do_batch-requires-clause-within g c κs lives =
-    let v = view c.self.inside.port in
+    let v = view c.self.inside.pass in
     let done : HasDone v.sent c.do_rest.new.replies.items c.do_rest.new.holding = rw c.absorb.ensures.rule at c.do_rest.ensures.work in
     rw c.deref_mut-2.ensures.value (held_within v c.self.inside.held c.self.invariant.may c.do_rest.new.replies.items c.do_rest.new.holding done)
 
 pub do_batch-requires-clause-room : goal.do_batch-requires-clause-room
 do_batch-requires-clause-room g c κs lives =
-    let v = view c.self.inside.port in
+    let v = view c.self.inside.pass in
     let done : HasDone v.sent c.do_rest.new.replies.items c.do_rest.new.holding = rw c.absorb.ensures.rule at c.do_rest.ensures.work in
     let few = held_room v c.self.inside.held c.self.invariant.may c.do_rest.new.replies.items c.do_rest.new.holding done in
     let places = c.do_rest.ensures.room in
@@ -33,7 +33,7 @@ do_batch-requires-clause-room g c κs lives =
 
 pub returns-clause-session : goal.returns-clause-session
 returns-clause-session g c =
-    let v = view c.self.inside.port in
+    let v = view c.self.inside.pass in
     let done : HasDone v.sent c.do_rest.new.replies.items c.do_rest.new.holding = rw c.absorb.ensures.rule at c.do_rest.ensures.work in
     let more = rw c.deref_mut-2.ensures.value at c.do_batch.ensures.done in
     subst (λ (s : Sent). IsSession s.lent s.jobs c.do_batch.new.replies.items c.do_batch.new.holding) c.self.view_is (more (lent_of v.sent) (jobs_of v.sent) done.1)

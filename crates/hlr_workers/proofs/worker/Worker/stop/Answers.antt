@@ -7,14 +7,14 @@ pub push-requires-clause-sends : goal.push-requires-clause-sends
 push-requires-clause-sends g c = c.self.invariant.may.log
 
 pub push-requires-clause-right : goal.push-requires-clause-right
-push-requires-clause-right g c = sends_stop (view c.self.inside.port) c.self.inside.held c.self.invariant.may
+push-requires-clause-right g c = sends_stop (view c.self.inside.pass) c.self.inside.held c.self.invariant.may
 
 pub invariant_of-self : goal.invariant_of-self
 invariant_of-self g c = record {
-  port = search (rules, c.push.ensures.port, c.deref.ensures);
-  may = stop_may (view c.self.inside.port) c.self.inside.held c.self.invariant.may (view c.push.new.port) c.push.ensures.sent;
+  pass = search (rules, c.push.ensures.pass, c.deref.ensures);
+  may = stop_may (view c.self.inside.pass) c.self.inside.held c.self.invariant.may (view c.push.new.pass) c.push.ensures.sent;
   thread = c.self.invariant.thread;
 }
 
 pub returns : goal.returns
-returns g c = stop_same (view c.self.inside.port) c.self.inside.held c.self.invariant.may (view c.push.new.port) c.push.ensures.sent ∙ c.self.view_is
+returns g c = stop_same (view c.self.inside.pass) c.self.inside.held c.self.invariant.may (view c.push.new.pass) c.push.ensures.sent ∙ c.self.view_is

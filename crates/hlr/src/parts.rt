@@ -1,0 +1,43 @@
+//! The answers to the records that post, give and take, and to those by which parts come and go. None is inlined: the
+//! places of its event and its reply would be filled with zeros in each answer to another record.
+ghost use Rattle.std.specs.Prelude.{◌≡◌, Some};
+ghost use Rattle.csv.specs.Records.{fields_of};
+ghost use Rattle.hlr_owners.specs.Owners.{AllHome, store_in};
+ghost use Rattle.hlr.specs.Inside.{kind_of};
+ghost use Rattle.hlr.specs.Records.{command_named};
+ghost use Rattle.hlr.specs.Text.{CommandText};
+ghost use Rattle.hlr.specs.declared.records.Kind.TheVariants as kind;
+ghost use Rattle.hlr.specs.declared.records.Word.TheVariants as word;
+
+use crate::events::{event_of, read_post};
+use crate::lines::{Line, build_refused, build_reply};
+use crate::records::Word;
+use csv::ByteRecord;
+use hlr_core::Register;
+
+/// Builds the answer to a record whose word is `post`: `post,part,limit`.
+#[inline(never)]
+pub fn build_post(row: &ByteRecord, register: &mut Register, line: &mut Line)
+    requires { AllHome register.old.owners }
+    ensures text { CommandText (fields_of row.now) (command_named (Some word.Post) (fields_of row.now)) (store_in register.old) line.new.items (store_in register.new) }
+    ensures home { AllHome register.new.owners }
+{
+    match read_post(row) {
+        Ok((part, limit)) => build_reply(line, &register.post(part, limit)),
+        Err(why) => build_refused(line, why),
+    }
+}
+
+/// Builds the answer to a record that moves regions, or has a part come or go: what the register replies to its event.
+#[inline(never)]
+pub fn build_moved(word: Word, row: &ByteRecord, register: &mut Register, line: &mut Line)
+    requires event { kind_of word ≡ kind.Event }
+    requires home { AllHome register.old.owners }
+    ensures text { CommandText (fields_of row.now) (command_named (Some word) (fields_of row.now)) (store_in register.old) line.new.items (store_in register.new) }
+    ensures home { AllHome register.new.owners }
+{
+    match event_of(word, row) {
+        Ok(event) => build_reply(line, &register.apply(event)),
+        Err(why) => build_refused(line, why),
+    }
+}

@@ -1,5 +1,0 @@
-use Rattle.std.proofs.Common.{Err, ap, inr, refl}
-use Rattle.hlr_c.proofs.moves.recut.Goals as goal
-
-pub returns-in-Err : goal.returns-in-Err
-returns-in-Err c = rw (rw c.in-Err.is at c.bounds_in.ensures.err) (inr (Err c.in-Err.why, (refl, refl), ap (λ n. (n, c.args.moved.now)) c.code.ensures))

@@ -1,0 +1,92 @@
+-- The owners of all regions, one beside each, and their rows as one book.
+use Rattle.std.proofs.Common.{◌≡◌, ℕ, ◌<◌, ◌≤◌, arith, List, [], ◌∷◌, sym, ◌∙◌, ap, true, map}
+use Rattle.std.specs.List.{AllZip}
+use Rattle.tatp_actions.specs.Book.{Book, IsRowsOf, IsWithin, rows_between}
+use Rattle.tatp_actions.specs.Joined.{join_books, book_of}
+use Rattle.tatp_actions.proofs.JoinedLemmas.{rows_joined}
+use Rattle.part_table.specs.declared.region.Region.{Region}
+use Rattle.hlr_owners.specs.Held.{OwnerState, IsOwnerState, AreOwnerStates}
+use Rattle.std.proofs.lemmas.Bool.Decides.{nat_tests}
+use Rattle.tatp_actions.proofs.BetweenLemmas.{low_between, own_rows, none_past, between_joined}
+use Rattle.part_table.proofs.BoundsLemmas.{within}
+use Rattle.part_table.specs.Region.{lies_in}
+use Rattle.part_table.specs.Regions.{IsConsecutive}
+use Rattle.part_table.specs.declared.region.TheConstants.{END}
+use Rattle.hlr_owners.proofs.StretchLemmas.{between_none, between_halves}
+use Rattle.hlr_owners.proofs.HeldLemmas.{empty_rows}
+use Rattle.hlr_owners.proofs.HalvesLemmas.{HasRows}
+use Rattle.hlr_owners.proofs.ZipLemmas.{zip_weaker}
+
+-- the rows of all owners, in their order
+abbrev pub book_of_states : List OwnerState → Book
+book_of_states states = book_of (map (λ (state : OwnerState). state.part) states)
+
+-- the rows of an owner lie in its region
+pub own_region : (width : ℕ) (region : Region) (state : OwnerState) → IsOwnerState width region state → IsRowsOf region.lo region.hi state.part.book
+own_region width region state is = rw (← is.from, ← is.to) is.keeps.rules.rows
+
+-- the rows of all owners are those of all subscribers from where their regions begin
+pub state_rows : (width from : ℕ) (regions : List Region) (states : List OwnerState) → AreOwnerStates width regions states → IsConsecutive from regions
+    → IsRowsOf from END (book_of_states states)
+state_rows width from [] [] each consecutive = rw consecutive (empty_rows END END)
+state_rows width from [] (state ∷ states) each consecutive = absurd each
+state_rows width from (region ∷ regions) [] each consecutive = absurd each
+state_rows width from (region ∷ regions) (state ∷ states) each consecutive =
+    let begins = consecutive.0 in
+    let some = consecutive.1 in
+    let end = within region.hi regions consecutive.2 in
+    let own : IsRowsOf region.lo region.hi state.part.book = own_region width region state each.0 in
+    rw (← begins) (rows_joined region.lo region.hi END state.part.book (book_of_states states) own (state_rows width region.hi regions states each.1 consecutive.2) (omega arith) end)
+
+-- a region behind a number
+abbrev IsBehind : ℕ → Region → Type 0
+IsBehind from region = (from ≤ region.lo) × (region.lo < region.hi) × (region.hi ≤ END)
+
+-- regions that follow one another are behind the number where they begin, and the rows of each are its owner's
+rows_behind : (width from : ℕ) (regions : List Region) (states : List OwnerState) → AreOwnerStates width regions states → IsConsecutive from regions
+    → AllZip (λ (region : Region) (state : OwnerState). IsBehind from region × HasRows (book_of_states states) region state) regions states
+rows_behind width from [] [] each consecutive = tt
+rows_behind width from [] (state ∷ states) each consecutive = absurd each
+rows_behind width from (region ∷ regions) [] each consecutive = absurd each
+rows_behind width from (region ∷ regions) (state ∷ states) each consecutive =
+    let begins = consecutive.0 in
+    let some = consecutive.1 in
+    let end = within region.hi regions consecutive.2 in
+    let own = own_region width region state each.0 in
+    let rest = book_of_states states in
+    let of_rest = state_rows width region.hi regions states each.1 consecutive.2 in (
+      ((omega arith, some, end), low_between region.lo region.hi END state.part.book rest own of_rest),
+      zip_weaker {P = λ (r : Region) (o : OwnerState). IsBehind region.hi r × HasRows rest r o} {Q = λ (r : Region) (o : OwnerState). IsBehind from r × HasRows (join_books state.part.book rest) r o}
+          (λ r o has. let later = has.0.0 in (
+            (omega arith, has.0.1, has.0.2),
+            between_joined r.lo r.hi state.part.book rest
+                ∙ ap (λ (book : Book). join_books book (rows_between r.lo r.hi rest)) (none_past region.lo region.hi r.lo r.hi state.part.book later own) ∙ has.1,
+          )) regions states (rows_behind width region.hi regions states each.1 consecutive.2),
+    )
+
+pub states_rows : (width from : ℕ) (regions : List Region) (states : List OwnerState) → AreOwnerStates width regions states → IsConsecutive from regions → AllZip (HasRows (book_of_states states)) regions states
+states_rows width from regions states each consecutive =
+    zip_weaker {P = λ (r : Region) (o : OwnerState). IsBehind from r × HasRows (book_of_states states) r o} {Q = HasRows (book_of_states states)} (λ r o has. has.1) regions states (rows_behind width from regions states each consecutive)
+
+-- owners of regions that follow one another have the rows of a book from where they begin, where each has those of its
+-- region
+pub book_from : (from : ℕ) (regions : List Region) (states : List OwnerState) (book : Book) → 1 ≤ from → IsRowsOf 1 END book → IsConsecutive from regions → AllZip (HasRows book) regions states
+    → book_of_states states ≡ rows_between from END book
+book_from from [] [] book first rows consecutive each = rw consecutive (sym (between_none END book))
+book_from from [] (state ∷ states) book first rows consecutive each = absurd each
+book_from from (region ∷ regions) [] book first rows consecutive each = absurd each
+book_from from (region ∷ regions) (state ∷ states) book first rows consecutive each =
+    let begins = consecutive.0 in
+    let some = consecutive.1 in
+    let end = within region.hi regions consecutive.2 in
+    let rest = book_from region.hi regions states book (omega arith) rows consecutive.2 each.1 in
+    ap (λ (b : Book). join_books b (book_of_states states)) (sym each.0) ∙ ap (λ (b : Book). join_books (rows_between region.lo region.hi book) b) rest
+    ∙ between_halves 1 END book rows region.lo region.hi END (omega arith) (omega arith) end (omega arith)
+    ∙ ap (λ (n : ℕ). rows_between n END book) begins
+
+pub book_stays : (regions : List Region) (states : List OwnerState) (book : Book) → IsRowsOf 1 END book → IsConsecutive 1 regions → AllZip (HasRows book) regions states → book_of_states states ≡ book
+book_stays regions states book rows consecutive each = book_from 1 regions states book (omega arith) rows consecutive each ∙ own_rows 1 END book rows
+
+-- an s_id that lies in a region
+pub lies_within : (s_id : ℕ) (region : Region) → lies_in s_id region ≡ true → IsWithin region.lo region.hi s_id
+lies_within s_id region inside = (grind (arith, nat_tests), grind (arith, nat_tests))

@@ -1,0 +1,56 @@
+use Rattle.std.proofs.Common.{◌∙◌, ap, List, arith}
+use Rattle.std.specs.Prelude.{Box}
+use Rattle.std.specs.declared.alloc.Global.{Global}
+use Rattle.std.proofs.lemmas.List.{length-map}
+use Rattle.holding.specs.Held.{HoldingState, PieceState}
+use Rattle.hlr_owners.specs.Boxed.{unboxed}
+use Rattle.hlr_owners.proofs.ApartFitLemmas.{do_fit, gathered_desks}
+use Rattle.hlr_owners.specs.Owners.{AreRuled, store_in, unposted}
+use Rattle.hlr_owners.specs.declared.part_owner.RegionOwner.{RegionOwner}
+use Rattle.hlr_owners.proofs.ApartLemmas.{desks_from}
+use Rattle.hlr_owners.proofs.ApartStoreLemmas.{ruled_from, store_from_owners, pending_from}
+use Rattle.hlr_owners.proofs.HomeLemmas.{all_home}
+use Rattle.hlr_owners.proofs.RegionOwnerLemmas.{ruled_rows}
+use Rattle.hlr_owners.proofs.SumLemmas.{unposted_is}
+use Rattle.hlr_owners.proofs.owners.Owners.gathered.Goals as goal
+
+-- the rules of the owners
+ruled : (c : goal.After-owners_of) → AreRuled (record { regions = c.prepared.inside.regions; owners = c.owners_of.result.items; spare = c.args.scattered.frame.spare; width = c.args.scattered.frame.width })
+ruled c =
+    let is = c.requires.surveyed in
+    rw (c.owners_of.ensures.owners, c.prepared.view_is, is.over)
+    (ruled_from (unboxed c.args.scattered.holdings.items) c.args.scattered.pieces.items _ (do_fit _ _ _ is.fits) is.each_holding is.each_piece _ (rw is.over at is.right))
+
+pub owners_of-requires-clause-room : goal.owners_of-requires-clause-room
+owners_of-requires-clause-room c =
+    let few = (do_fit c.args.scattered.frame.width (unboxed c.args.scattered.holdings.items) (unboxed c.args.scattered.pieces.items) c.requires.surveyed.fits).few in
+    let holdings = length-map c.args.scattered.holdings.items (λ (b : Box HoldingState Global). b.value) in
+    let pieces = length-map c.args.scattered.pieces.items (λ (b : Box PieceState Global). b.value) in
+    omega (arith, few.few, few.few_pieces, c.args.scattered.holdings.ok.0, c.args.scattered.pieces.ok.0, c.prepared.invariant.1)
+
+pub invariant_of-result : goal.invariant_of-result
+invariant_of-result c = (
+  ruled c,
+  rw (c.owners_of.ensures.owners, desks_from (unboxed c.args.scattered.holdings.items) c.args.scattered.pieces.items)
+      (gathered_desks _ _ _ c.requires.desks c.net-net.ensures.wide c.requires.surveyed.each_holding),
+  omega (arith, c.prepared.invariant.1, c.owners_of.ensures.capacity),
+)
+
+pub returns-clause-store : goal.returns-clause-store
+returns-clause-store c =
+    let regions = c.prepared.view_is ∙ c.requires.surveyed.over in
+    (λ k. store_in (record { regions = regions k; owners = c.owners_of.ensures.owners k; spare = c.args.scattered.frame.spare; width = c.args.scattered.frame.width }))
+    ∙ store_from_owners (unboxed c.args.scattered.holdings.items) c.args.scattered.pieces.items c.args.scattered.frame.width c.args.scattered.frame.spare
+
+pub returns-clause-home : goal.returns-clause-home
+returns-clause-home c = all_home _ c.owners_of.ensures.home
+
+pub returns-clause-rows : goal.returns-clause-rows
+returns-clause-rows c = ruled_rows _ (ruled c)
+
+pub returns-clause-pending : goal.returns-clause-pending
+returns-clause-pending c k =
+    ap (λ (owners : List RegionOwner). unposted owners k) c.owners_of.ensures.owners ∙ pending_from (unboxed c.args.scattered.holdings.items) c.args.scattered.pieces.items k
+
+pub returns-clause-difference : goal.returns-clause-difference
+returns-clause-difference c = let rules = invariant_of-result c in λ k below. unposted_is _ rules.0 _ rules.1 k below

@@ -1,0 +1,28 @@
+use Rattle.hlr_owners.proofs.ListingLemmas.{part_subscriber}
+use Rattle.std.proofs.Common.{refl}
+use Rattle.hlr_owners.proofs.HomeLemmas.{owner_home}
+use Rattle.hlr_owners.proofs.RegionOwnerLemmas.{owner_there, part_not_loose, piece_loose}
+use Rattle.hlr_owners.proofs.owners.Owners.number_in.Goals as goal
+
+pub index-requires : goal.index-requires
+index-requires c = rw c.self.inside.owners.ok.0 (owner_there _ c.self.invariant.0 _ _ (rw (← c.self.view_is) at c.requires.owner))
+
+pub holding-requires : goal.holding-requires
+holding-requires c =
+    let at = rw (← c.self.view_is) at c.requires.owner in
+    owner_home _ c.self.invariant.0 _ _ at c.in-Part.part_owner (rw c.in-Part.is at c.index.ensures) (rw (← c.self.view_is) at c.requires.home)
+
+pub returns-in-Part-clause-number : goal.returns-in-Part-clause-number
+returns-in-Part-clause-number c =
+    let at = rw (← c.self.view_is) at c.requires.owner in
+    rw (← c.self.view_is, part_subscriber _ c.self.invariant.0 _ _ at c.in-Part.part_owner (rw c.in-Part.is at c.index.ensures), c.number_of.ensures, c.holding.ensures.value) refl
+
+pub returns-in-Part-clause-home : goal.returns-in-Part-clause-home
+returns-in-Part-clause-home c =
+    let at = rw (← c.self.view_is) at c.requires.owner in
+    rw (← c.self.view_is) (part_not_loose _ c.self.invariant.0 _ _ at c.in-Part.part_owner (rw c.in-Part.is at c.index.ensures))
+
+pub returns-in-Piece-clause-moving : goal.returns-in-Piece-clause-moving
+returns-in-Piece-clause-moving c =
+    let at = rw (← c.self.view_is) at c.requires.owner in
+    (refl, rw (← c.self.view_is) (piece_loose _ c.self.invariant.0 _ _ at c.in-Piece.field-0 (rw c.in-Piece.is at c.index.ensures)))

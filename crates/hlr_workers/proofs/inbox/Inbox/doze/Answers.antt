@@ -1,7 +1,0 @@
-use Rattle.std.proofs.Common.{ap}
-use Rattle.hlr_workers.specs.declared.message.Log.{Log}
-use Rattle.hlr_workers.proofs.RelayLemmas.{gets}
-use Rattle.hlr_workers.proofs.inbox.Inbox.doze.Goals as goal
-
-pub try_pop_as-message-requires-clause-rule : goal.try_pop_as-message-requires-clause-rule
-try_pop_as-message-requires-clause-rule g c = gets _ _ (ap (λ (v : Log). v.pops) c.requires.gets)
