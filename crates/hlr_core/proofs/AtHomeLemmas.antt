@@ -1,37 +1,12 @@
 -- Where no piece is loose, the events on rows have the replies that they have elsewhere, but for Moving and Memory.
-use Rattle.std.proofs.Common.{◌≡◌, ◌∙◌, refl, sym, ap, subst, ℕ, List, [], ◌∷◌, ◌++◌, Bool, true, false, inl, inr}
-use Rattle.std.specs.Prelude.{◌&&◌, Option, Some, None, Result, Ok, Err}
-use Rattle.tatp_rows.proofs.OrderedLemmas.{by_test}
-use Rattle.tatp_rows.specs.declared.refusal.Refusal.{Refusal}
-use Rattle.tatp_actions.specs.Action.{effect, s_id_of}
-use Rattle.tatp_actions.specs.Book.{Book}
-use Rattle.tatp_actions.specs.declared.action.Action.{Action}
-use Rattle.tatp_actions.specs.declared.action.RowReply.{RowReply}
+use Rattle.hlr_core.proofs.Common.{◌≡◌, ◌∙◌, refl, sym, ap, subst, ℕ, List, [], ◌∷◌, ◌++◌, Bool, true, false, inl, inr, ◌&&◌, Result, by_test, Refusal, effect, s_id_of, Book, Action, RowReply, recut_answer, lies_in, piece_number, pieces_of, Place, Piece, Region, IsSameAtHome, is_kept, is_on_rows, is_lasting, kept_answers, kept_orders, IsOrderStep, IsRun, IsStep, IsAskedStep, IsOwnedStep, IsPostStep, action_for, whole_effect, takes_number, given_number, is_done, reply_of, is_loose, is_loose_place, IsDissolved, IsDivided, Store, slots_of, Event, Post, Give, Take, Divide, Dissolve, Reply, Answer, Order, both, recut_stays}
+use Rattle.std.specs.Prelude.{Option, Some, None, Ok, Err}
 use Rattle.tatp_actions.specs.declared.action.RowReply.TheVariants as row_reply
-use Rattle.part_table.specs.Recut.{recut_answer}
-use Rattle.part_table.specs.Region.{lies_in, piece_number}
-use Rattle.part_table.specs.Regions.{pieces_of}
-use Rattle.part_table.specs.declared.region.Place.{Place}
-use Rattle.part_table.specs.declared.region.Place.TheVariants.{Part, Piece}
-use Rattle.part_table.specs.declared.region.Region.{Region}
-use Rattle.hlr_core.specs.Kept.{IsSameAtHome, is_kept, is_on_rows, is_lasting, kept_answers, kept_orders}
-use Rattle.hlr_core.specs.Run.{IsOrderStep, IsRun}
-use Rattle.hlr_core.specs.Step.{IsStep, IsAskedStep, IsOwnedStep, IsPostStep, action_for, whole_effect, takes_number}
-use Rattle.hlr_core.specs.Step.{given_number, is_done, reply_of}
-use Rattle.hlr_owners.specs.Answered.{is_loose, is_loose_place}
-use Rattle.hlr_owners.specs.Parted.{IsDissolved, IsDivided}
-use Rattle.hlr_owners.specs.Store.{Store, slots_of}
-use Rattle.hlr_core.specs.declared.event.Event.{Event}
-use Rattle.hlr_core.specs.declared.event.Event.TheVariants.{Post, Give, Take, Divide, Dissolve}
-use Rattle.hlr_core.specs.declared.event.Reply.{Reply}
-use Rattle.hlr_core.specs.declared.order.Answer.{Answer}
+use Rattle.part_table.specs.declared.region.Place.TheVariants.{Part}
 use Rattle.hlr_core.specs.declared.order.Answer.TheVariants as answer
-use Rattle.hlr_core.specs.declared.order.Order.{Order}
 use Rattle.hlr_core.specs.declared.order.Order.TheVariants as order
-use Rattle.tatp_rows.proofs.RowLemmas.{both}
 use Rattle.hlr_core.proofs.PairsLemmas.{effect_refused}
 use Rattle.hlr_core.proofs.RouteLemmas.{row_step}
-use Rattle.hlr_owners.proofs.RecutLemmas.{recut_stays}
 
 -- a store with another book
 abbrev with_book : Store → Book → Store

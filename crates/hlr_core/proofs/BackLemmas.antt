@@ -1,18 +1,5 @@
 -- A holding that was lent, and acted and posted outside, may come home.
-use Rattle.std.proofs.Common.{◌≡◌, ◌∙◌, refl, ap, ℕ, zero, suc, List, [], ◌∷◌, map, set, true, false, Some, None}
-use Rattle.std.specs.Prelude.{slice_get}
-use Rattle.tatp_actions.specs.Action.{IsOutcome}
-use Rattle.tatp_actions.specs.Part.{PartState}
-use Rattle.tatp_actions.specs.declared.action.Action.{Action}
-use Rattle.tatp_actions.specs.declared.action.RowReply.{RowReply}
-use Rattle.view_board.specs.Desks.{Station}
-use Rattle.holding.specs.Held.{HoldingState}
-use Rattle.hlr_owners.specs.Owners.{OwnersState, IsLent}
-use Rattle.hlr_owners.specs.declared.part_owner.RegionOwner.{RegionOwner}
-use Rattle.hlr_owners.specs.declared.part_owner.RegionOwner.TheVariants.{Part}
-use Rattle.hlr_core.specs.Index.{number_pair}
-use Rattle.hlr_core.specs.Later.{IsBackWith}
-use Rattle.hlr_core.specs.Step.{given_number}
+use Rattle.hlr_core.proofs.Common.{◌≡◌, ◌∙◌, refl, ap, ℕ, zero, suc, List, [], ◌∷◌, map, set, true, false, Some, None, slice_get, IsOutcome, PartState, Action, RowReply, Station, HoldingState, OwnersState, IsLent, RegionOwner, Part, number_pair, IsBackWith, given_number}
 use Rattle.hlr_core.proofs.LaterLemmas.{outcome_numbers}
 
 -- after an action that gives no number, and a posting

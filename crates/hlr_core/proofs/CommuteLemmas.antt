@@ -1,21 +1,6 @@
 -- Jobs of different parts commute.
-use Rattle.std.proofs.Common.{◌≡◌, ◌≢◌, ◌∙◌, refl, sym, ap, ℕ, zero, suc, List, [], ◌∷◌, ◌++◌, get_or, set, arith, true, Some}
-use Rattle.std.specs.Prelude.{position, slice_get, ◌==◌}
-use Rattle.std.specs.List.{AllByRecursion}
-use Rattle.tatp_rows.proofs.OrderedLemmas.{by_test}
-use Rattle.std.proofs.lemmas.Bool.Decides.{nat_tests}
-use Rattle.std.proofs.lemmas.List.{set_comm}
-use Rattle.std.proofs.lemmas.List.Quantifiers.{position-Some}
-use Rattle.part_table.specs.Region.{is_part, is_part_place}
-use Rattle.part_table.specs.declared.region.Place.{Place}
+use Rattle.hlr_core.proofs.Common.{◌≡◌, ◌≢◌, ◌∙◌, refl, sym, ap, ℕ, zero, suc, List, [], ◌∷◌, ◌++◌, get_or, set, arith, true, Some, position, slice_get, ◌==◌, AllByRecursion, by_test, nat_tests, set_comm, position-Some, is_part, is_part_place, Place, Region, blank, Job, RegionOwner, Part, AreDone, IsDoneAt, JobReply, JobsCommute, jobs_while_out, jobs_of, Reply}
 use Rattle.part_table.specs.declared.region.Place.TheVariants as place
-use Rattle.part_table.specs.declared.region.Region.{Region}
-use Rattle.part_table.proofs.PlaceLemmas.{blank}
-use Rattle.holding.specs.declared.job.Job.{Job}
-use Rattle.hlr_owners.specs.declared.part_owner.RegionOwner.{RegionOwner}
-use Rattle.hlr_owners.specs.declared.part_owner.RegionOwner.TheVariants.{Part}
-use Rattle.hlr_core.specs.Session.{AreDone, IsDoneAt, JobReply, JobsCommute, jobs_while_out, jobs_of}
-use Rattle.hlr_core.specs.declared.event.Reply.{Reply}
 
 -- a place is that of one part
 one_part : (of : Place) (p q : ℕ) → is_part_place p of ≡ true → is_part_place q of ≡ true → p ≡ q

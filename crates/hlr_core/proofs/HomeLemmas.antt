@@ -1,23 +1,7 @@
 -- Whoever an event needs is at home where all are, and where the one is whom its action needs.
-use Rattle.std.proofs.Common.{◌≡◌, ◌∙◌, arith, refl, sym, ap, ℕ, zero, suc, ◌+◌, ◌-◌, List, [], ◌∷◌, Bool, true, inl, inr, Option, Some, None, Result, Ok, Err}
-use Rattle.std.specs.Prelude.{◌⊎◌, IfOk, IfSome, insert, option_map, remove}
-use Rattle.std.specs.List.{AllByRecursion}
-use Rattle.tatp_rows.specs.declared.refusal.Refusal.{Refusal}
-use Rattle.tatp_actions.specs.Action.{s_id_of}
-use Rattle.tatp_actions.specs.declared.action.Action.{Action}
-use Rattle.view_board.specs.Desks.{Station}
-use Rattle.hlr_owners.specs.Out.{outs_in}
-use Rattle.hlr_owners.specs.Parted.{IsWithNew, IsWithout}
-use Rattle.hlr_owners.specs.Owners.{AllHome, IsHomeFor, IsHomeFrom, OwnersState, book_in, homes_in}
-use Rattle.hlr_owners.proofs.HomeLemmas.{home_of_all, part_home_of_all}
+use Rattle.hlr_core.proofs.Common.{◌≡◌, ◌∙◌, arith, refl, sym, ap, ℕ, zero, suc, ◌+◌, ◌-◌, List, [], ◌∷◌, Bool, true, inl, inr, Option, Some, None, Ok, Err, ◌⊎◌, IfOk, IfSome, insert, option_map, remove, AllByRecursion, Refusal, s_id_of, Action, Station, outs_in, IsWithNew, IsWithout, AllHome, IsHomeFor, IsHomeFrom, OwnersState, book_in, homes_in, home_of_all, part_home_of_all, IsBearerHome, IsHomeTo, AreHomesAfter, IsLaterDesk, HaveSameHomes, IsAsked, action_asked, bearer_id, Event, UpdateLocation, InsertForwarding, DeleteForwarding, Post, Give, Take, Divide, Dissolve, Reply}
+use Rattle.std.proofs.Common.{Result}
 use Rattle.hlr_core.proofs.PartsLemmas.{trues_each, trues_to}
-use Rattle.hlr_core.specs.Home.{IsBearerHome, IsHomeTo, AreHomesAfter, IsLaterDesk, HaveSameHomes}
-use Rattle.hlr_core.specs.Inside.Asked.{IsAsked, action_asked}
-use Rattle.hlr_core.specs.Numbers.{bearer_id}
-use Rattle.hlr_core.specs.declared.event.Event.{Event}
-use Rattle.hlr_core.specs.declared.event.Event.TheVariants.{UpdateLocation, InsertForwarding, DeleteForwarding}
-use Rattle.hlr_core.specs.declared.event.Event.TheVariants.{Post, Give, Take, Divide, Dissolve}
-use Rattle.hlr_core.specs.declared.event.Reply.{Reply}
 use Rattle.hlr_core.specs.declared.event.Reply.TheVariants as reply
 
 bearer_home : (sub_nbr : ℕ) (h : OwnersState) → AllHome h.owners → IsBearerHome sub_nbr h

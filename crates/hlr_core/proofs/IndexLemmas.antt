@@ -1,18 +1,5 @@
 -- What the rows' edits do to the index of numbers.
-use Rattle.std.proofs.Common.{◌≡◌, ◌≢◌, refl, sym, ap, subst, ◌∙◌, ℕ, ◌+◌, List, [], ◌∷◌, Some, None, arith, true}
-use Rattle.std.specs.Prelude.{◌==◌, nat_lt, Option, option_map, is_some}
-use Rattle.std.specs.List.{AllByRecursion}
-use Rattle.std.proofs.lemmas.Bool.Decides.{nat_tests}
-use Rattle.tatp_rows.proofs.OrderedLemmas.{by_test, row_at-with_row_same, row_at-with_row_other, with_row-either, without_row-with_row, with_row_at_same, absent_cons, each_found, each-without_row}
-use Rattle.tatp_rows.specs.Keys.{subscriber_key}
-use Rattle.tatp_rows.specs.Ordered.{row_at, with_row_at, with_row, without_row}
-use Rattle.tatp_rows.specs.Rows.{SubscriberRow}
-use Rattle.mr_node.specs.Rows.{key_of_pair}
-use Rattle.tatp_rows.specs.declared.ranges.TheConstants.{LAST_SUBSCRIBER}
-use Rattle.tatp_actions.specs.Book.{Book, IsWithin}
-use Rattle.number_index.specs.Pairs.{bearer_in, pair_of, renamed}
-use Rattle.hlr_core.specs.Index.{number_pair, index_of, IsRegister}
-use Rattle.hlr_core.specs.Numbers.{bearer_of, bearer_id, HasNoTwin}
+use Rattle.hlr_core.proofs.Common.{◌≡◌, ◌≢◌, refl, sym, ap, subst, ◌∙◌, ℕ, ◌+◌, List, [], ◌∷◌, Some, None, arith, true, ◌==◌, nat_lt, option_map, is_some, AllByRecursion, nat_tests, by_test, row_at-with_row_same, row_at-with_row_other, with_row-either, without_row-with_row, with_row_at_same, absent_cons, each_found, each-without_row, subscriber_key, row_at, with_row_at, with_row, without_row, SubscriberRow, key_of_pair, LAST_SUBSCRIBER, Book, IsWithin, bearer_in, pair_of, renamed, number_pair, index_of, IsRegister, bearer_of, bearer_id, HasNoTwin}
 use Rattle.hlr_core.proofs.NumbersLemmas.{AllDiffer, other_numbers, others_differ}
 
 -- no row has the number where each has another

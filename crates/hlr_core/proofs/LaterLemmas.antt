@@ -1,36 +1,7 @@
 -- A register with owners that stand for others keeps its rules, with the same index.
-use Rattle.std.proofs.Common.{◌≡◌, ◌∙◌, ◌+◌, refl, sym, ap, ℕ, zero, suc, List, [], ◌∷◌, set, map, inl, inr, Bool, true, false, Some, None}
-use Rattle.std.specs.Prelude.{Option, option_map, slice_get}
-use Rattle.std.specs.List.{AllZip}
-use Rattle.std.proofs.lemmas.List.{map-append}
-use Rattle.tatp_rows.specs.Keys.{key_of}
-use Rattle.tatp_rows.specs.Rows.{SubscriberRow}
-use Rattle.tatp_actions.specs.Action.{IsOutcome, effect}
-use Rattle.tatp_actions.specs.Book.{Book, IsRowsOf, subscriber_at}
-use Rattle.tatp_actions.specs.Part.{PartState}
-use Rattle.tatp_actions.specs.declared.action.Action.{Action}
-use Rattle.tatp_actions.specs.declared.action.RowReply.{RowReply}
-use Rattle.part_table.specs.declared.region.Region.{Region}
-use Rattle.view_board.specs.Desks.{Station}
-use Rattle.holding.specs.Held.{HoldingState, IsHolding}
-use Rattle.holding.specs.declared.job.Job.{Job}
-use Rattle.holding.specs.declared.job.Job.TheVariants.{Act, Post}
-use Rattle.hlr_owners.specs.PartOwnerState.{PartOwnerState}
-use Rattle.hlr_owners.specs.Owners.{OwnersState, AreRuled, IsLaterOwner, state_of, states_in, book_in}
-use Rattle.hlr_owners.specs.declared.part_owner.RegionOwner.{RegionOwner}
-use Rattle.hlr_owners.specs.declared.part_owner.RegionOwner.TheVariants.{Part, Piece}
-use Rattle.hlr_owners.proofs.HeldLemmas.{holding_keeps}
-use Rattle.hlr_owners.proofs.LendLemmas.{later_self, ruled_later}
-use Rattle.hlr_owners.proofs.StateLemmas.{state_rows, zip_weaker}
-use Rattle.hlr_owners.proofs.RegionOwnerLemmas.{owned}
-use Rattle.tatp_rows.specs.declared.ranges.TheConstants.{LAST_SUBSCRIBER}
-use Rattle.hlr_owners.specs.Answered.{IsAnswered}
-use Rattle.hlr_core.specs.Index.{number_pair, IsRegister}
-use Rattle.hlr_core.specs.Later.{IsLater, AreLater, IsBackWith, with_owners}
-use Rattle.hlr_core.specs.Numbers.{bearer_id}
-use Rattle.hlr_core.specs.Session.{IsJobDone, IsJobOf, IsDoneAt}
-use Rattle.hlr_core.specs.Step.{given_number}
-use Rattle.hlr_core.specs.declared.event.Reply.{Reply}
+use Rattle.hlr_core.proofs.Common.{◌≡◌, ◌∙◌, ◌+◌, refl, sym, ap, ℕ, zero, suc, List, [], ◌∷◌, set, map, inl, inr, Bool, true, false, Some, None, option_map, slice_get, AllZip, map-append, key_of, SubscriberRow, IsOutcome, effect, Book, IsRowsOf, subscriber_at, PartState, Action, RowReply, Region, Station, HoldingState, IsHolding, Job, Act, PartOwnerState, OwnersState, AreRuled, IsLaterOwner, state_of, states_in, book_in, RegionOwner, Part, holding_keeps, later_self, ruled_later, state_rows, zip_weaker, owned, LAST_SUBSCRIBER, IsAnswered, number_pair, IsRegister, IsLater, AreLater, IsBackWith, with_owners, bearer_id, IsJobDone, IsJobOf, IsDoneAt, given_number, Reply}
+use Rattle.holding.specs.declared.job.Job.TheVariants.{Post}
+use Rattle.hlr_owners.specs.declared.part_owner.RegionOwner.TheVariants.{Piece}
 use Rattle.hlr_core.proofs.PairsLemmas.{HaveSame, effect_shaped, have_same, outcome_book, same_registered}
 
 -- an action that gives no number leaves the numbers

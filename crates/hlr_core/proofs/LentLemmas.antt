@@ -1,22 +1,8 @@
 -- What is read where its row lies is a right step.
-use Rattle.std.proofs.Common.{◌≡◌, refl, None}
-use Rattle.std.specs.Prelude.{Result, Ok, Err, IfOk, IfErr, MatchResult}
-use Rattle.tatp_rows.specs.declared.refusal.Refusal.{Refusal}
-use Rattle.tatp_actions.specs.Action.{is_in_range}
+use Rattle.hlr_core.proofs.Common.{◌≡◌, refl, None, Result, IfOk, IfErr, MatchResult, Refusal, is_in_range, Action, RowReply, IsReadWhileOut, with_outs, IsRead, OwnersState, store_in, Store, IsStepWhileOut, while_out, IsActionStep, IsRowStepWhileOut, IsStep, given_number, reply_of, Event, Reply}
+use Rattle.std.specs.Prelude.{Ok, Err}
 use Rattle.std.specs.Prelude.{Some}
-use Rattle.tatp_actions.specs.declared.action.Action.{Action}
-use Rattle.tatp_actions.specs.declared.action.RowReply.{RowReply}
 use Rattle.tatp_actions.specs.declared.action.RowReply.TheVariants as row_reply
-use Rattle.hlr_owners.specs.WhileOut.{IsReadWhileOut}
-use Rattle.hlr_owners.specs.Out.{with_outs}
-use Rattle.hlr_owners.specs.Read.{IsRead}
-use Rattle.hlr_owners.specs.Owners.{OwnersState, store_in}
-use Rattle.hlr_owners.specs.Store.{Store}
-use Rattle.hlr_core.specs.WhileOut.{IsStepWhileOut, while_out}
-use Rattle.hlr_core.specs.Inside.Asked.{IsActionStep, IsRowStepWhileOut}
-use Rattle.hlr_core.specs.Step.{IsStep, given_number, reply_of}
-use Rattle.hlr_core.specs.declared.event.Event.{Event}
-use Rattle.hlr_core.specs.declared.event.Reply.{Reply}
 use Rattle.hlr_core.specs.declared.event.Reply.TheVariants as reply
 use Rattle.hlr_core.proofs.WhileOutLemmas.{own_step}
 use Rattle.hlr_core.proofs.LaterLemmas.{each_owner}

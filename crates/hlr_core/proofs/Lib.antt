@@ -1,6 +1,7 @@
+mod NotedLemmas
 pub mod AtHomeLemmas
 pub mod BackLemmas
-pub mod WhileOutLemmas
+pub mod Common
 pub mod CommuteLemmas
 pub mod GatheredRowsLemmas
 pub mod HomeLemmas
@@ -8,7 +9,6 @@ pub mod IndexLemmas
 pub mod LaterLemmas
 pub mod LentLemmas
 pub mod ManyLemmas
-mod NotedLemmas
 pub mod NumbersLemmas
 pub mod PairsLemmas
 pub mod PartsLemmas
@@ -20,3 +20,4 @@ pub mod RunLemmas
 pub mod SentLemmas
 pub mod TaskLemmas
 pub mod WeightLemmas
+pub mod WhileOutLemmas

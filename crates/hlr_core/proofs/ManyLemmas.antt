@@ -1,35 +1,10 @@
 -- Rows of many subscribers at once.
-use Rattle.std.proofs.Common.{◌≡◌, ◌∙◌, refl, sym, ap, ℕ, suc, ◌+◌, ◌<◌, List, [], ◌∷◌, ◌++◌, length, get_or, map, take, arith, true}
+use Rattle.hlr_core.proofs.Common.{◌≡◌, ◌∙◌, refl, sym, ap, ℕ, suc, ◌+◌, ◌<◌, List, [], ◌∷◌, ◌++◌, length, get_or, map, take, arith, true, All, take-suc, get_or-map, length-map, map-append, All-more, ArrayVec, between_is, between_ok, both, both_from, SubscriberRow, AccessInfoRow, between, is_between, LAST_SUBSCRIBER, access_data, destinations, effect, is_in_range, new_destination, s_id_of, subscriber_data, IsWithin, access_at, subscriber_at, HoldingState, HasRowsWhileOut, with_outs, HasRowsOf, OwnersState, store_in, Store, is_read, subscriber_fits, IsStepWhileOut, while_out, AreFound, access_reply, numbers_reply, subscriber_reply, IsActionStep, IsStep, given_number, reply_of, Action, RowReply, Event, Reply}
 use Rattle.std.specs.Prelude.{Option, Some, None, Ok}
-use Rattle.std.specs.List.{All}
-use Rattle.std.proofs.Math.Seq.{take-suc}
-use Rattle.std.proofs.lemmas.List.{get_or-map, length-map, map-append}
-use Rattle.std.proofs.lemmas.List.Elements.{All-more}
-use Rattle.arrayvec.specs.ArrayVec.{ArrayVec}
-use Rattle.tatp_rows.proofs.RowLemmas.{between_is, between_ok, both, both_from}
-use Rattle.tatp_rows.specs.Rows.{SubscriberRow, AccessInfoRow, between, is_between}
-use Rattle.tatp_rows.specs.declared.ranges.TheConstants.{LAST_SUBSCRIBER}
 use Rattle.tatp_rows.specs.declared.refusal.Refusal.TheVariants as refusal
-use Rattle.tatp_actions.specs.Action.{access_data, destinations, effect, is_in_range, new_destination, s_id_of, subscriber_data}
-use Rattle.tatp_actions.specs.Book.{IsWithin, access_at, subscriber_at}
 use Rattle.tatp_actions.specs.declared.action.Action.TheVariants as action
 use Rattle.tatp_actions.specs.declared.action.RowReply.TheVariants as row_reply
-use Rattle.holding.specs.Held.{HoldingState}
-use Rattle.hlr_owners.specs.WhileOut.{HasRowsWhileOut}
-use Rattle.hlr_owners.specs.Out.{with_outs}
-use Rattle.hlr_owners.specs.Read.{HasRowsOf}
-use Rattle.hlr_owners.specs.Owners.{OwnersState, store_in}
-use Rattle.hlr_owners.specs.Store.{Store}
-use Rattle.hlr_owners.proofs.ReadLemmas.{is_read, subscriber_fits}
-use Rattle.hlr_core.specs.WhileOut.{IsStepWhileOut, while_out}
-use Rattle.hlr_core.specs.Rows.{AreFound, access_reply, numbers_reply, subscriber_reply}
-use Rattle.hlr_core.specs.Inside.Asked.{IsActionStep}
-use Rattle.hlr_core.specs.Step.{IsStep, given_number, reply_of}
-use Rattle.tatp_actions.specs.declared.action.Action.{Action}
-use Rattle.tatp_actions.specs.declared.action.RowReply.{RowReply}
-use Rattle.hlr_core.specs.declared.event.Event.{Event}
 use Rattle.hlr_core.specs.declared.event.Event.TheVariants as event
-use Rattle.hlr_core.specs.declared.event.Reply.{Reply}
 use Rattle.hlr_core.proofs.WhileOutLemmas.{own_step}
 use Rattle.hlr_core.proofs.LaterLemmas.{each_owner}
 use Rattle.hlr_core.proofs.LentLemmas.{read_step}

@@ -1,23 +1,5 @@
 -- Pairs that are put in one after another: what their sums say of the rows, in whatever order these come.
-use Rattle.std.proofs.Common.{◌≡◌, ◌∙◌, refl, sym, ap, subst, ℕ, ◌+◌, ◌<◌, ◌≤◌, ◌≢◌, List, [], ◌∷◌, ◌++◌, Bool, true, false, Some, None, length, map, inl, inr, arith}
-use Rattle.std.specs.Prelude.{◌==◌, ◌&&◌, nat_le, sum_by, is_some, ◌⊎◌, option_map, if◌then◌else◌}
-use Rattle.std.specs.List.{AllByRecursion, filter}
-use Rattle.std.proofs.lemmas.Bool.Decides.{nat_tests}
-use Rattle.std.proofs.lemmas.List.Folds.{fold-map}
-use Rattle.tatp_rows.proofs.SortLemmas.{sum_by-in_order}
-use Rattle.std.proofs.lemmas.List.Sums.{sum_by-cons, sum_by-append}
-use Rattle.tatp_rows.proofs.OrderedLemmas.{by_test, each-weaker, filter_all, count_of_key, ordered-with_row, sum_by-with_row}
-use Rattle.tatp_rows.specs.Keys.{subscriber_key}
-use Rattle.tatp_rows.specs.Ordered.{IsOrderedBy, with_row}
-use Rattle.tatp_rows.specs.Rows.{SubscriberRow}
-use Rattle.tatp_rows.specs.declared.refusal.Refusal.{Refusal}
-use Rattle.tatp_rows.specs.declared.refusal.Refusal.TheVariants.{NumberTaken, Memory}
-use Rattle.mr_node.specs.Rows.{key_of_pair}
-use Rattle.tatp_actions.specs.Book.{first_subscriber}
-use Rattle.number_index.specs.Pairs.{pair_of}
-use Rattle.hlr_core.specs.Index.{number_pair, index_of}
-use Rattle.hlr_core.specs.Inside.Noted.{AreNoted, bears, HasTwin}
-use Rattle.hlr_core.specs.Numbers.{HasNoTwin}
+use Rattle.hlr_core.proofs.Common.{◌≡◌, ◌∙◌, refl, sym, ap, subst, ℕ, ◌+◌, ◌<◌, ◌≤◌, ◌≢◌, List, [], ◌∷◌, ◌++◌, Bool, true, false, Some, None, length, map, inl, inr, arith, ◌==◌, ◌&&◌, nat_le, sum_by, is_some, ◌⊎◌, option_map, if◌then◌else◌, AllByRecursion, filter, nat_tests, fold-map, sum_by-in_order, sum_by-cons, sum_by-append, by_test, each-weaker, filter_all, count_of_key, ordered-with_row, sum_by-with_row, subscriber_key, IsOrderedBy, with_row, SubscriberRow, Refusal, NumberTaken, Memory, key_of_pair, first_subscriber, pair_of, number_pair, index_of, AreNoted, bears, HasTwin, HasNoTwin}
 use Rattle.hlr_core.proofs.IndexLemmas.{index_finds, no_bearer}
 use Rattle.hlr_core.proofs.NumbersLemmas.{AllDiffer}
 

@@ -1,15 +1,6 @@
 -- Who has which number: no number stands twice, and each leads to its subscriber.
-use Rattle.std.proofs.Common.{◌≡◌, ◌≢◌, refl, sym, subst, ℕ, ◌<◌, List, [], ◌∷◌, true, false, inl, inr, arith}
-use Rattle.std.specs.Prelude.{◌==◌, nat_lt, Option, Some, None, is_some}
-use Rattle.std.specs.List.{AllByRecursion}
-use Rattle.std.proofs.lemmas.Bool.{cases_eq}
-use Rattle.std.proofs.lemmas.Bool.Decides.{nat_tests}
-use Rattle.tatp_rows.proofs.OrderedLemmas.{by_test, key_found, each_found, each-with_row_at, each-with_row, absent_cons}
-use Rattle.tatp_rows.specs.Keys.{key_of, subscriber_key}
-use Rattle.tatp_rows.specs.Ordered.{IsOrderedBy, row_at, with_row_at, with_row, without_row}
-use Rattle.tatp_rows.specs.Rows.{SubscriberRow}
-use Rattle.hlr_core.specs.Numbers.{bearer_of, HasNoTwin}
-use Rattle.hlr_core.specs.Step.{is_anothers}
+use Rattle.hlr_core.proofs.Common.{◌≡◌, ◌≢◌, refl, sym, subst, ℕ, ◌<◌, List, [], ◌∷◌, true, false, inl, inr, arith, ◌==◌, nat_lt, is_some, AllByRecursion, cases_eq, nat_tests, by_test, key_found, each_found, each-with_row_at, each-with_row, absent_cons, key_of, subscriber_key, IsOrderedBy, row_at, with_row_at, with_row, without_row, SubscriberRow, bearer_of, HasNoTwin, is_anothers}
+use Rattle.std.specs.Prelude.{Option, Some, None}
 
 -- the number of a row
 abbrev number : SubscriberRow → ℕ

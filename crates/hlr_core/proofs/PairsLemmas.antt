@@ -1,23 +1,8 @@
 -- What actions leave of the book; and those that leave each subscriber's number: the index and the rule of numbers
 -- stay.
-use Rattle.std.proofs.Common.{◌≡◌, ℕ, ◌+◌, refl, sym, ap, ◌∙◌, List, [], ◌∷◌, map, Option, Some, None, inl, inr}
-use Rattle.std.specs.Prelude.{◌⊎◌, ◌==◌, option_map, slice_set}
-use Rattle.tatp_rows.proofs.OrderedLemmas.{by_test}
-use Rattle.tatp_rows.specs.Keys.{key_of, subscriber_key}
-use Rattle.tatp_rows.specs.Ordered.{in_order, row_at, with_row_at}
-use Rattle.tatp_rows.specs.Rows.{SubscriberRow, SpecialFacilityRow}
-use Rattle.tatp_rows.specs.declared.ranges.TheConstants.{LAST_SUBSCRIBER}
-use Rattle.tatp_rows.specs.declared.refusal.Refusal.{Refusal}
-use Rattle.tatp_actions.specs.Action.{effect, IsOutcome, subscriber_data, new_destination, access_data, update_subscriber, update_location, insert_forwarding, delete_forwarding, add_subscriber, add_access, add_facility, set_active, set_number, destinations}
-use Rattle.tatp_actions.specs.Book.{Book, IsRowsOf, subscriber_at, access_at, facility_at, forwarding_at}
-use Rattle.tatp_actions.specs.declared.action.Action.{Action}
+use Rattle.hlr_core.proofs.Common.{◌≡◌, ℕ, ◌+◌, refl, sym, ap, ◌∙◌, List, [], ◌∷◌, map, Option, Some, None, inl, inr, ◌⊎◌, ◌==◌, option_map, slice_set, by_test, key_of, subscriber_key, in_order, row_at, with_row_at, SubscriberRow, SpecialFacilityRow, LAST_SUBSCRIBER, Refusal, effect, IsOutcome, subscriber_data, new_destination, access_data, update_subscriber, update_location, insert_forwarding, delete_forwarding, add_subscriber, add_access, add_facility, set_active, set_number, destinations, Book, IsRowsOf, subscriber_at, access_at, facility_at, forwarding_at, Action, RowReply, given_number, key_of_pair, HasNoTwin, bearer_id, number_pair, IsRegister}
 use Rattle.tatp_actions.specs.declared.action.Action.TheVariants as action
-use Rattle.tatp_actions.specs.declared.action.RowReply.{RowReply}
 use Rattle.tatp_actions.specs.declared.action.RowReply.TheVariants as row_reply
-use Rattle.hlr_core.specs.Step.{given_number}
-use Rattle.mr_node.specs.Rows.{key_of_pair}
-use Rattle.hlr_core.specs.Numbers.{HasNoTwin, bearer_id}
-use Rattle.hlr_core.specs.Index.{number_pair, IsRegister}
 use Rattle.hlr_core.proofs.NumbersLemmas.{AllDiffer}
 
 -- what is of the pairs alone: which number a subscriber has, who has a number, and that no number stands twice

@@ -1,24 +1,6 @@
 -- The parts on which an event works: where these are at home, so is whoever the event needs.
-use Rattle.std.proofs.Common.{◌≡◌, refl, ℕ, zero, suc, ◌<◌, ◌≤◌, arith, List, [], ◌∷◌, drop, get_or, length, Bool, true, false, None, inl, inr}
-use Rattle.std.specs.Prelude.{◌↔◌, ◌⊎◌, Ok, Err}
-use Rattle.std.specs.List.{AllByRecursion}
-use Rattle.std.proofs.lemmas.Bool.{cases_lt}
-use Rattle.std.proofs.lemmas.Bool.Decides.{nat_tests}
-use Rattle.std.proofs.lemmas.List.{get_or_past}
-use Rattle.tatp_rows.proofs.OrderedLemmas.{by_test}
-use Rattle.tatp_rows.specs.Rows.{between, is_between}
-use Rattle.tatp_rows.specs.declared.ranges.TheConstants.{LAST_SUBSCRIBER}
-use Rattle.tatp_rows.specs.declared.refusal.Refusal.{Refusal}
-use Rattle.part_table.specs.Region.{lies_in}
-use Rattle.part_table.specs.Regions.{IsConsecutive, parts_of, place_of}
-use Rattle.part_table.specs.declared.region.Region.{Region}
-use Rattle.part_table.specs.declared.region.TheConstants.{END}
-use Rattle.hlr_owners.specs.PartOwnerState.{PartOwnerState}
-use Rattle.hlr_owners.specs.Owners.{AreRuled, IsHomeFor, IsHomeFrom, IsPartHome, OwnersState, homes_in}
-use Rattle.hlr_owners.proofs.StateLemmas.{lies_within}
-use Rattle.hlr_owners.proofs.PartLemmas.{count_parts}
-use Rattle.hlr_core.specs.Home.{AreHome}
-use Rattle.hlr_core.specs.declared.route.Parts.{Parts}
+use Rattle.hlr_core.proofs.Common.{◌≡◌, refl, ℕ, zero, suc, ◌<◌, ◌≤◌, arith, List, [], ◌∷◌, drop, get_or, length, Bool, true, false, None, inl, inr, ◌↔◌, ◌⊎◌, AllByRecursion, cases_lt, nat_tests, get_or_past, by_test, between, is_between, LAST_SUBSCRIBER, Refusal, lies_in, IsConsecutive, parts_of, place_of, Region, END, PartOwnerState, AreRuled, IsHomeFor, IsHomeFrom, IsPartHome, OwnersState, homes_in, lies_within, count_parts, AreHome, Parts}
+use Rattle.std.specs.Prelude.{Ok, Err}
 
 -- none are at home in any case
 pub none_home : (parts : Parts) (h : OwnersState) → parts.end ≤ parts.first → AreHome parts h

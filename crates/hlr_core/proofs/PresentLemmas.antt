@@ -1,16 +1,6 @@
 -- The parts and the loose pieces that are there have small numbers.
-use Rattle.std.proofs.Common.{◌≡◌, ◌∙◌, refl, sym, subst, ℕ, zero, suc, ◌+◌, ◌<◌, ◌≤◌, List, [], ◌∷◌, Bool, true, length, arith}
-use Rattle.std.specs.Prelude.{◌==◌, Option, Some, None, Ok}
-use Rattle.std.specs.List.{AllByRecursion, find, list_any, range_with_len}
-use Rattle.std.proofs.lemmas.Bool.Decides.{nat_tests}
-use Rattle.tatp_rows.proofs.OrderedLemmas.{by_test}
-use Rattle.part_table.proofs.NumberLemmas.{any_part, any_piece}
-use Rattle.part_table.specs.Region.{is_part, is_piece}
-use Rattle.part_table.specs.Regions.{AreRegions, IsPieceNumber, parts_of, pieces_of}
-use Rattle.part_table.specs.Take.{take_answer, answer_of_both}
-use Rattle.part_table.specs.declared.region.Region.{Region}
-use Rattle.part_table.specs.declared.region.Side.{Side}
-use Rattle.hlr_owners.specs.Answered.{MayAnswer}
+use Rattle.hlr_core.proofs.Common.{◌≡◌, ◌∙◌, refl, sym, subst, ℕ, zero, suc, ◌+◌, ◌<◌, ◌≤◌, List, [], ◌∷◌, Bool, true, length, arith, ◌==◌, AllByRecursion, find, list_any, range_with_len, nat_tests, by_test, any_part, any_piece, is_part, is_piece, AreRegions, IsPieceNumber, parts_of, pieces_of, take_answer, answer_of_both, Region, Side, MayAnswer}
+use Rattle.std.specs.Prelude.{Option, Some, None, Ok}
 
 -- what was found passes the test
 found_passes : {A : Type 0} (test : A → Bool) (xs : List A) (x : A) → find test xs ≡ Some x → list_any test xs ≡ true

@@ -1,30 +1,9 @@
 -- Right steps of the register, from what its owners and its index do.
-use Rattle.std.proofs.Common.{◌≡◌, ◌≢◌, ℕ, ◌+◌, refl, List, Bool, true, false, Option, Some, None, Result, Ok, Err, sym, ap, ◌∙◌, inl, inr}
-use Rattle.std.specs.Prelude.{is_some, option_map, ◌||◌, if◌then◌else◌}
-use Rattle.tatp_rows.specs.Rows.{SubscriberRow}
+use Rattle.hlr_core.proofs.Common.{◌≡◌, ◌≢◌, ℕ, ◌+◌, refl, List, Bool, true, false, Option, Some, None, Ok, Err, sym, ap, ◌∙◌, inl, inr, is_some, option_map, ◌||◌, if◌then◌else◌, SubscriberRow, subscriber_key, by_test, with_row, without_row, LAST_SUBSCRIBER, Refusal, without_row-with_row, key_of_pair, pair_of, IsAdded, adds_row, is_in_range, s_id_of, effect, add_subscriber, done_reply, IsOutcome, Book, IsRowsOf, subscriber_at, Action, RowReply, IsAsked, IsRowStep, IsAnswered, is_loose, IsRegister, bearer_of, IsPostStep, IsWholeOutcome, posted_reply, given_number, takes_number, changes_number, reply_of, edited_reply, IsPosting, Store, Reply}
+use Rattle.std.proofs.Common.{Result}
 use Rattle.tatp_rows.specs.declared.refusal.Refusal.TheVariants as refusal
-use Rattle.tatp_rows.specs.Keys.{subscriber_key}
-use Rattle.tatp_rows.proofs.OrderedLemmas.{by_test}
-use Rattle.tatp_rows.specs.Ordered.{with_row, without_row}
-use Rattle.tatp_rows.specs.declared.ranges.TheConstants.{LAST_SUBSCRIBER}
-use Rattle.tatp_rows.specs.declared.refusal.Refusal.{Refusal}
-use Rattle.tatp_rows.proofs.OrderedLemmas.{without_row-with_row}
-use Rattle.mr_node.specs.Rows.{key_of_pair}
-use Rattle.number_index.specs.Pairs.{pair_of, IsAdded}
-use Rattle.tatp_actions.specs.Action.{adds_row, is_in_range, s_id_of, effect, add_subscriber, done_reply, IsOutcome}
-use Rattle.tatp_actions.specs.Book.{Book, IsRowsOf, subscriber_at}
-use Rattle.tatp_actions.specs.declared.action.Action.{Action}
 use Rattle.tatp_actions.specs.declared.action.Action.TheVariants as action
-use Rattle.tatp_actions.specs.declared.action.RowReply.{RowReply}
 use Rattle.tatp_actions.specs.declared.action.RowReply.TheVariants as row_reply
-use Rattle.hlr_core.specs.Inside.Asked.{IsAsked, IsRowStep}
-use Rattle.hlr_owners.specs.Answered.{IsAnswered, is_loose}
-use Rattle.hlr_core.specs.Index.{IsRegister}
-use Rattle.hlr_core.specs.Numbers.{bearer_of}
-use Rattle.hlr_core.specs.Step.{IsPostStep, IsWholeOutcome, posted_reply, given_number, takes_number, changes_number, reply_of, edited_reply}
-use Rattle.hlr_owners.specs.Posting.{IsPosting}
-use Rattle.hlr_owners.specs.Store.{Store}
-use Rattle.hlr_core.specs.declared.event.Reply.{Reply}
 use Rattle.hlr_core.specs.declared.event.Reply.TheVariants as reply
 use Rattle.hlr_core.proofs.NumbersLemmas.{bearer_is_another, no_twin-with_row}
 use Rattle.hlr_core.proofs.IndexLemmas.{index-with_row, free_number, taken_number}

@@ -1,26 +1,8 @@
 -- A subscriber's number becomes another one, in the index first and then in the row.
-use Rattle.std.proofs.Common.{◌≡◌, ◌≢◌, ℕ, ◌+◌, refl, arith, List, map, true, false, Option, Some, None, Ok, Err, sym, ap, ◌∙◌, inl, inr}
-use Rattle.std.specs.Prelude.{option_map, nat_lt, Result}
-use Rattle.std.proofs.lemmas.Bool.Decides.{nat_tests}
-use Rattle.tatp_rows.specs.Number.{IsNumber}
-use Rattle.tatp_rows.specs.Rows.{SubscriberRow, is_between}
+use Rattle.hlr_core.proofs.Common.{◌≡◌, ◌≢◌, ℕ, ◌+◌, refl, arith, List, map, true, false, Option, Some, None, Ok, Err, sym, ap, ◌∙◌, inl, inr, option_map, nat_lt, Result, nat_tests, IsNumber, SubscriberRow, is_between, key_of, subscriber_key, LAST_SUBSCRIBER, Refusal, key_found, each-without_row, bearer_in, renamed, IsRenamed, is_in_range, set_number, IsOutcome, Book, IsRowsOf, subscriber_at, put_subscriber, RowReply, index_of, IsRegister, number_pair, IsRowStep, is_loose, given_number, takes_number, reply_of, Store, Reply}
 use Rattle.tatp_rows.specs.declared.refusal.Refusal.TheVariants as refusal
-use Rattle.tatp_rows.specs.Keys.{key_of, subscriber_key}
-use Rattle.tatp_rows.specs.declared.ranges.TheConstants.{LAST_SUBSCRIBER}
-use Rattle.tatp_rows.specs.declared.refusal.Refusal.{Refusal}
-use Rattle.tatp_rows.proofs.OrderedLemmas.{key_found, each-without_row}
-use Rattle.number_index.specs.Pairs.{bearer_in, renamed, IsRenamed}
-use Rattle.tatp_actions.specs.Action.{is_in_range, set_number, IsOutcome}
-use Rattle.tatp_actions.specs.Book.{Book, IsRowsOf, subscriber_at, put_subscriber}
 use Rattle.tatp_actions.specs.declared.action.Action.TheVariants as action
-use Rattle.tatp_actions.specs.declared.action.RowReply.{RowReply}
 use Rattle.tatp_actions.specs.declared.action.RowReply.TheVariants as row_reply
-use Rattle.hlr_core.specs.Index.{index_of, IsRegister, number_pair}
-use Rattle.hlr_core.specs.Inside.Asked.{IsRowStep}
-use Rattle.hlr_owners.specs.Answered.{is_loose}
-use Rattle.hlr_core.specs.Step.{given_number, takes_number, reply_of}
-use Rattle.hlr_owners.specs.Store.{Store}
-use Rattle.hlr_core.specs.declared.event.Reply.{Reply}
 use Rattle.hlr_core.specs.declared.event.Reply.TheVariants as reply
 use Rattle.hlr_core.proofs.NumbersLemmas.{other_numbers, bearer_found, no_twin-with_row_at}
 use Rattle.hlr_core.proofs.IndexLemmas.{index_renamed, bearer_indexed, free_number}

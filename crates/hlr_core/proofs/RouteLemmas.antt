@@ -1,43 +1,9 @@
 -- Where an event goes: what it asks for, and what may be answered to it at once, are the same whatever jobs are done.
-use Rattle.std.proofs.Common.{◌≡◌, ◌∙◌, refl, sym, ℕ, ◌<◌, ◌≤◌, arith, List, [], ◌∷◌, length, map, true, false, Some, None, Err}
-use Rattle.std.specs.Prelude.{◌↔◌, position}
-use Rattle.std.specs.List.{list_any}
-use Rattle.std.proofs.lemmas.List.{length-map}
-use Rattle.std.proofs.lemmas.Option.{slice_get_past, get_or_from_slice_get}
-use Rattle.atomic_table.specs.Seated.{TableId}
-use Rattle.tatp_rows.proofs.OrderedLemmas.{by_test}
-use Rattle.tatp_rows.specs.declared.refusal.Refusal.{Refusal}
+use Rattle.hlr_core.proofs.Common.{◌≡◌, ◌∙◌, refl, sym, ℕ, ◌<◌, ◌≤◌, arith, List, [], ◌∷◌, length, map, true, false, Some, None, Err, ◌↔◌, position, list_any, length-map, slice_get_past, get_or_from_slice_get, TableId, by_test, Refusal, s_id_of, Book, is_part, lies_in, place_of, parts_of, Region, none_passes, is_part_there, Job, AreDesks, slots_in, PartOwnerState, OwnersState, AreRuled, book_in, desks_in, homes_in, store_in, Store, slots_of, RegionOwner, Part, desks_later, at_number, count_parts, part_state_at, AsksFor, IsOn, is_on_rows, AreLater, with_owners, bearer_id, IsRouted, IsAskedStep, IsStep, action_for, Event, UpdateLocation, InsertForwarding, DeleteForwarding, Post, Give, Take, Divide, Dissolve, Reply, Now, To}
 use Rattle.tatp_rows.specs.declared.refusal.Refusal.TheVariants as refusal
-use Rattle.tatp_actions.specs.Action.{s_id_of}
-use Rattle.tatp_actions.specs.Book.{Book}
-use Rattle.part_table.specs.Region.{is_part, lies_in}
-use Rattle.part_table.specs.Regions.{place_of, parts_of}
 use Rattle.part_table.specs.declared.region.Place.TheVariants as place
-use Rattle.part_table.specs.declared.region.Region.{Region}
-use Rattle.part_table.proofs.FirstLemmas.{none_passes}
-use Rattle.part_table.proofs.IndexLemmas.{is_part_there}
-use Rattle.holding.specs.declared.job.Job.{Job}
 use Rattle.holding.specs.declared.job.Job.TheVariants as jobs
-use Rattle.hlr_owners.specs.Desks.{AreDesks, slots_in}
-use Rattle.hlr_owners.specs.PartOwnerState.{PartOwnerState}
-use Rattle.hlr_owners.specs.Owners.{OwnersState, AreRuled, book_in, desks_in, homes_in, store_in}
-use Rattle.hlr_owners.specs.Store.{Store, slots_of}
-use Rattle.hlr_owners.specs.declared.part_owner.RegionOwner.{RegionOwner}
-use Rattle.hlr_owners.specs.declared.part_owner.RegionOwner.TheVariants.{Part}
-use Rattle.hlr_owners.proofs.LendLemmas.{desks_later}
-use Rattle.hlr_owners.proofs.PartLemmas.{at_number, count_parts, part_state_at}
-use Rattle.hlr_core.specs.Inside.Routed.{AsksFor, IsOn}
-use Rattle.hlr_core.specs.Kept.{is_on_rows}
-use Rattle.hlr_core.specs.Later.{AreLater, with_owners}
-use Rattle.hlr_core.specs.Numbers.{bearer_id}
-use Rattle.hlr_core.specs.Route.{IsRouted}
-use Rattle.hlr_core.specs.Step.{IsAskedStep, IsStep, action_for}
-use Rattle.hlr_core.specs.declared.event.Event.{Event}
-use Rattle.hlr_core.specs.declared.event.Event.TheVariants.{UpdateLocation, InsertForwarding, DeleteForwarding}
-use Rattle.hlr_core.specs.declared.event.Event.TheVariants.{Post, Give, Take, Divide, Dissolve}
-use Rattle.hlr_core.specs.declared.event.Reply.{Reply}
 use Rattle.hlr_core.specs.declared.event.Reply.TheVariants as reply
-use Rattle.hlr_core.specs.declared.route.Route.TheVariants.{Now, To}
 use Rattle.hlr_core.proofs.LaterLemmas.{all_ruled_later, bearer_later, each_owner}
 use Rattle.hlr_core.proofs.SentLemmas.{acted_sent, posted_sent}
 

@@ -1,10 +1,5 @@
 -- Runs: one more order.
-use Rattle.std.proofs.lemmas.List.{take_more}
-use Rattle.std.proofs.Common.{ℕ, ◌<◌, ◌+◌, length, get_or, take, ◌≡◌, refl, List, [], ◌∷◌, ◌++◌}
-use Rattle.hlr_core.specs.Run.{IsOrderStep, IsRun}
-use Rattle.hlr_owners.specs.Store.{Store}
-use Rattle.hlr_core.specs.declared.order.Answer.{Answer}
-use Rattle.hlr_core.specs.declared.order.Order.{Order}
+use Rattle.hlr_core.proofs.Common.{take_more, ℕ, ◌<◌, ◌+◌, length, get_or, take, ◌≡◌, refl, List, [], ◌∷◌, ◌++◌, IsOrderStep, IsRun, Store, Answer, Order}
 
 -- a run, and one more step
 pub run_more : (orders : List Order) (one : Order) (answers : List Answer) (told : Answer) (a b c : Store) → IsRun orders a answers b → IsOrderStep one b told c

@@ -1,34 +1,7 @@
 -- What a job does to the holding of a part, and answers, is a right step of the whole store.
-use Rattle.std.proofs.Common.{◌≡◌, refl, ℕ, List, get_or, set, true, Some, None, Ok}
-use Rattle.std.specs.Prelude.{position}
-use Rattle.atomic_table.specs.Seated.{TableId}
-use Rattle.tatp_actions.specs.Action.{IsOutcome, is_in_range, s_id_of}
-use Rattle.tatp_actions.specs.Book.{IsWithin}
-use Rattle.tatp_actions.specs.declared.action.Action.{Action}
-use Rattle.tatp_actions.specs.declared.action.RowReply.{RowReply}
-use Rattle.part_table.specs.Region.{is_part}
-use Rattle.part_table.specs.Regions.{place_of}
+use Rattle.hlr_core.proofs.Common.{◌≡◌, refl, ℕ, List, get_or, set, true, Some, None, Ok, position, TableId, IsOutcome, is_in_range, s_id_of, IsWithin, Action, RowReply, is_part, place_of, Region, part_has, blank, HoldingState, Job, AreDesks, of_holding, PartOwnerState, OwnersState, AreRuled, book_in, desks_in, states_in, store_in, slots_of, Part, part_has_place, posted_right, acts_at, owned, state_is, states-set, parts-kept, region_there, with_owners, IsActed, IsJobOf, IsPosted, IsWithinJob, IsAskedStep, IsStep, given_number, Post, Reply}
 use Rattle.part_table.specs.declared.region.Place.TheVariants as place
-use Rattle.part_table.specs.declared.region.Region.{Region}
-use Rattle.part_table.proofs.IndexLemmas.{part_has}
-use Rattle.part_table.proofs.PlaceLemmas.{blank}
-use Rattle.holding.specs.Held.{HoldingState}
-use Rattle.holding.specs.declared.job.Job.{Job}
 use Rattle.holding.specs.declared.job.Job.TheVariants as jobs
-use Rattle.hlr_owners.specs.Desks.{AreDesks}
-use Rattle.hlr_owners.specs.Held.{of_holding}
-use Rattle.hlr_owners.specs.PartOwnerState.{PartOwnerState}
-use Rattle.hlr_owners.specs.Owners.{OwnersState, AreRuled, book_in, desks_in, states_in, store_in}
-use Rattle.hlr_owners.specs.Store.{slots_of}
-use Rattle.hlr_owners.specs.declared.part_owner.RegionOwner.TheVariants.{Part}
-use Rattle.hlr_owners.proofs.PartLemmas.{part_has_place}
-use Rattle.hlr_owners.proofs.PostedLemmas.{posted_right}
-use Rattle.hlr_owners.proofs.RegionOwnerLemmas.{acts_at, owned, state_is, states-set, parts-kept, region_there}
-use Rattle.hlr_core.specs.Later.{with_owners}
-use Rattle.hlr_core.specs.Session.{IsActed, IsJobOf, IsPosted, IsWithinJob}
-use Rattle.hlr_core.specs.Step.{IsAskedStep, IsStep, given_number}
-use Rattle.hlr_core.specs.declared.event.Event.TheVariants.{Post}
-use Rattle.hlr_core.specs.declared.event.Reply.{Reply}
 use Rattle.hlr_core.proofs.RegisterLemmas.{acted_step, posted_step}
 
 module _ (h : OwnersState) (are : AreRuled h) (p i : ℕ) (index : position (is_part p) h.regions ≡ Some i) (l m : PartOwnerState) (is : Part l ≡ get_or h.owners i (Part l)) where

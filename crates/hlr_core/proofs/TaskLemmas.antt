@@ -1,25 +1,9 @@
 -- What an event asks for as a task, and what a holding answers to a task.
-use Rattle.std.proofs.Common.{◌≡◌, ◌∙◌, refl, sym, ap, ℕ, Bool, true, false, Option, Some, None, Ok, Err, inl, inr, arith}
-use Rattle.std.specs.Borrow.{Bor}
-use Rattle.std.specs.Prelude.{MatchResult, ok_or, option_copied}
-use Rattle.tatp_rows.specs.Rows.{AccessInfoRow, SubscriberRow, is_between}
-use Rattle.tatp_rows.specs.declared.ranges.TheConstants.{LAST_SUBSCRIBER}
-use Rattle.tatp_rows.specs.declared.refusal.Refusal.{Refusal}
+use Rattle.hlr_core.proofs.Common.{◌≡◌, ◌∙◌, refl, sym, ap, ℕ, Bool, true, false, Option, Some, None, Ok, Err, inl, inr, arith, Bor, MatchResult, ok_or, option_copied, AccessInfoRow, SubscriberRow, is_between, LAST_SUBSCRIBER, Refusal, access_data, effect, is_in_range, subscriber_data, IsOutcome, IsWithin, access_at, subscriber_at, Action, RowReply, HoldingState, IsHolding, subscriber_fits, IsAsked, IsRowAction, AsksFor, IsActed, checked, reply_of, Reply}
 use Rattle.tatp_rows.specs.declared.refusal.Refusal.TheVariants as refusal
-use Rattle.tatp_actions.specs.Action.{access_data, effect, is_in_range, subscriber_data, IsOutcome}
-use Rattle.tatp_actions.specs.Book.{IsWithin, access_at, subscriber_at}
-use Rattle.tatp_actions.specs.declared.action.Action.{Action}
 use Rattle.tatp_actions.specs.declared.action.Action.TheVariants as action
-use Rattle.tatp_actions.specs.declared.action.RowReply.{RowReply}
 use Rattle.tatp_actions.specs.declared.action.RowReply.TheVariants as row_reply
-use Rattle.holding.specs.Held.{HoldingState, IsHolding}
 use Rattle.holding.specs.declared.job.Job.TheVariants as job
-use Rattle.hlr_owners.proofs.ReadLemmas.{subscriber_fits}
-use Rattle.hlr_core.specs.Inside.Asked.{IsAsked, IsRowAction}
-use Rattle.hlr_core.specs.Inside.Routed.{AsksFor}
-use Rattle.hlr_core.specs.Session.{IsActed}
-use Rattle.hlr_core.specs.Step.{checked, reply_of}
-use Rattle.hlr_core.specs.declared.event.Reply.{Reply}
 use Rattle.hlr_core.specs.declared.event.Reply.TheVariants as reply
 
 -- what is asked for where fields are in range or not, and an action is wanted or none

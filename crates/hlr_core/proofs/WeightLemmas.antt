@@ -1,20 +1,7 @@
 -- The weights of the zones, by what is published of them.
-use Rattle.std.proofs.Common.{◌≡◌, ◌∙◌, refl, sym, ap, ℕ, zero, suc, ◌+◌, ◌<◌, ◌≤◌, List, length, map, take, set, get_or, arith}
-use Rattle.std.specs.Prelude.{ℤ, pos, negsuc, ◌-ℤ◌, min, unsigned_abs, int_lt, true, false}
-use Rattle.std.specs.List.{All, range_with_len}
-use Rattle.std.proofs.lemmas.Int.{ints}
-use Rattle.std.proofs.lemmas.List.{take_more_set, take_all}
-use Rattle.std.proofs.lemmas.List.Elements.{All-map}
-use Rattle.std.proofs.lemmas.List.FromFn.{map-range_with_len_more}
-use Rattle.tatp_actions.specs.Book.{IsBook}
-use Rattle.tatp_actions.specs.Cell.{cell}
-use Rattle.tatp_actions.specs.declared.cells.TheConstants.{CELLS, FIRST_ZONE}
-use Rattle.part_table.specs.Proposal.{proposal}
-use Rattle.part_table.specs.declared.bounds.TheConstants.{GREATEST_WEIGHT}
-use Rattle.hlr_owners.specs.Store.{Store, published, unpublished, parts_in}
-use Rattle.hlr_core.specs.Weights.{all_zones, weight, published_weights, counted_weights}
-use Rattle.hlr_core.specs.declared.weights.TheConstants.{ZONES}
-use Rattle.tatp_actions.proofs.CountLemmas.{few_in_weight}
+use Rattle.hlr_core.proofs.Common.{◌≡◌, ◌∙◌, refl, sym, ap, ℕ, zero, suc, ◌+◌, ◌<◌, ◌≤◌, List, length, map, take, set, get_or, arith, ℤ, negsuc, ◌-ℤ◌, min, unsigned_abs, int_lt, All, range_with_len, ints, take_more_set, take_all, All-map, map-range_with_len_more, IsBook, cell, CELLS, FIRST_ZONE, proposal, GREATEST_WEIGHT, Store, published, unpublished, parts_in, weight, published_weights, counted_weights, ZONES, few_in_weight}
+use Rattle.std.specs.Prelude.{pos, true, false}
+use Rattle.hlr_core.specs.Weights.{all_zones}
 
 -- a weight is at most that of all rows
 weight_at_most : (amount : ℤ) → weight amount ≤ GREATEST_WEIGHT

@@ -1,41 +1,8 @@
 -- What the register does while holdings are out is right whatever these have become.
-use Rattle.std.proofs.Common.{◌≡◌, ◌∙◌, refl, sym, ap, ℕ, List, Bool, true, false, Option, Some, None, Result, Ok, Err}
-use Rattle.std.specs.Prelude.{is_some, option_map}
-use Rattle.tatp_rows.specs.Rows.{SubscriberRow}
-use Rattle.tatp_rows.specs.declared.refusal.Refusal.{Refusal}
+use Rattle.hlr_core.proofs.Common.{◌≡◌, ◌∙◌, refl, sym, ap, ℕ, List, Bool, true, false, Option, Some, None, Ok, Err, is_some, option_map, SubscriberRow, Refusal, pair_of, bearer_in, IsAdded, IsRenamed, is_in_range, s_id_of, subscriber_at, Action, RowReply, dissolve_answer, divide_answer, give_answer, after_give, recut_answer, take_answer, after_take, CutMove, Region, Side, HoldingState, MayAnswer, is_loose, IsAnsweredWhileOut, IsMovedWhileOut, IsPostedWhileOut, outs_in, with_outs, IsDissolvedWhileOut, IsDividedWhileOut, IsRecut, IsRecutBy, OwnersState, AreRuled, book_in, part_holdings, store_in, Store, own_outs, while_out, IsStepWhileOut, IsRecutWhileOut, IsRegister, IsAsked, IsRowStepWhileOut, is_on_rows, AreLater, IsAskedStep, IsStep, action_for, dissolved_reply, divided_reply, given_number, given_reply, posted_reply, taken_reply, reply_of, Event, Give, Take, Divide, Dissolve, Post, Reply}
+use Rattle.std.proofs.Common.{Result}
 use Rattle.tatp_rows.specs.declared.refusal.Refusal.TheVariants as refusal
-use Rattle.number_index.specs.Pairs.{pair_of, bearer_in, IsAdded, IsRenamed}
-use Rattle.tatp_actions.specs.Action.{is_in_range, s_id_of}
-use Rattle.tatp_actions.specs.Book.{subscriber_at}
-use Rattle.tatp_actions.specs.declared.action.Action.{Action}
 use Rattle.tatp_actions.specs.declared.action.Action.TheVariants as action
-use Rattle.tatp_actions.specs.declared.action.RowReply.{RowReply}
-use Rattle.part_table.specs.Dissolve.{dissolve_answer}
-use Rattle.part_table.specs.Divide.{divide_answer}
-use Rattle.part_table.specs.Give.{give_answer, after_give}
-use Rattle.part_table.specs.Recut.{recut_answer}
-use Rattle.part_table.specs.Take.{take_answer, after_take}
-use Rattle.part_table.specs.declared.moves.CutMove.{CutMove}
-use Rattle.part_table.specs.declared.region.Region.{Region}
-use Rattle.part_table.specs.declared.region.Side.{Side}
-use Rattle.holding.specs.Held.{HoldingState}
-use Rattle.hlr_owners.specs.Answered.{MayAnswer, is_loose}
-use Rattle.hlr_owners.specs.WhileOut.{IsAnsweredWhileOut, IsMovedWhileOut, IsPostedWhileOut}
-use Rattle.hlr_owners.specs.Out.{outs_in, with_outs}
-use Rattle.hlr_owners.specs.Parted.{IsDissolvedWhileOut, IsDividedWhileOut}
-use Rattle.hlr_owners.specs.Recut.{IsRecut, IsRecutBy}
-use Rattle.hlr_owners.specs.Owners.{OwnersState, AreRuled, book_in, part_holdings, store_in}
-use Rattle.hlr_owners.specs.Store.{Store}
-use Rattle.hlr_owners.proofs.OutLemmas.{own_outs}
-use Rattle.hlr_core.specs.WhileOut.{while_out, IsStepWhileOut, IsRecutWhileOut}
-use Rattle.hlr_core.specs.Index.{IsRegister}
-use Rattle.hlr_core.specs.Inside.Asked.{IsAsked, IsRowStepWhileOut}
-use Rattle.hlr_core.specs.Kept.{is_on_rows}
-use Rattle.hlr_core.specs.Later.{AreLater}
-use Rattle.hlr_core.specs.Step.{IsAskedStep, IsStep, action_for, dissolved_reply, divided_reply, given_number, given_reply, posted_reply, taken_reply, reply_of}
-use Rattle.hlr_core.specs.declared.event.Event.{Event}
-use Rattle.hlr_core.specs.declared.event.Event.TheVariants.{Give, Take, Divide, Dissolve, Post}
-use Rattle.hlr_core.specs.declared.event.Reply.{Reply}
 use Rattle.hlr_core.specs.declared.event.Reply.TheVariants as reply
 use Rattle.hlr_core.proofs.LaterLemmas.{all_later_self, each_owner, number_later, registered_later}
 use Rattle.hlr_core.proofs.RegisterLemmas.{IsHome, acted_step, asked_step, exists_step, free_to_take, moving_step, outcome_of_answer, posted_step, some_number, unadded_step, unasked_step}

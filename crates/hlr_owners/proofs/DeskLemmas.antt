@@ -1,25 +1,8 @@
 -- The words of the board as all desks have them: their nets, and after one desk has raised a word.
-use Rattle.std.proofs.Common.{◌≡◌, ◌∙◌, refl, sym, ap, ℕ, zero, suc, ◌+◌, ◌/◌, ◌<◌, ◌≤◌, arith, List, [], ◌∷◌, length, get_or, set, drop, true, false, Bool, if◌then◌else◌, inl, inr}
-use Rattle.std.specs.Prelude.{ℤ, pos, ◌-ℤ◌, sum_by}
-use Rattle.std.specs.Int.RustNames.{unsigned_abs}
-use Rattle.std.specs.List.{AllByRecursion, filter, range_with_len}
-use Rattle.std.proofs.lemmas.Bool.{cases_eq}
-use Rattle.std.proofs.lemmas.Int.{ints}
-use Rattle.std.proofs.lemmas.List.{length-set, get_or-set_same, get_or-set_other, ext_get_or}
-use Rattle.std.proofs.lemmas.List.Sums.{sum_by-cons, sum_by-set, get_or-le-sum_by}
-use Rattle.tatp_rows.proofs.OrderedLemmas.{by_test}
-use Rattle.tatp_actions.specs.declared.cells.TheConstants.{CELLS}
-use Rattle.view_board.specs.Desks.{Station, with_view}
-use Rattle.view_board.specs.Nets.{net_of, net_from}
-use Rattle.view_board.specs.Views.{owned_at, IsLeastSlot, Owns, IsWide, posted}
-use Rattle.view_board.specs.Words.{plus_word, minus_word, word_of, raised_by, slot_net}
-use Rattle.view_board.specs.declared.rule.View.{View}
-use Rattle.view_board.specs.declared.words.TheConstants.{SLOTS, SLOT_WORDS, WORDS}
-use Rattle.view_board.proofs.ListLemmas.{each_word_at, length-each_word}
-use Rattle.view_board.proofs.NetLemmas.{net_from-next, net_from-end, word_within}
-use Rattle.hlr_owners.specs.Desks.{own_number, owns_one, words_of, slots_in, HasOneSlot}
-use Rattle.hlr_owners.specs.Post.{least_slot}
-use Rattle.hlr_owners.specs.Words.{net, all_slots}
+use Rattle.hlr_owners.proofs.Common.{◌≡◌, ◌∙◌, refl, sym, ap, ℕ, zero, suc, ◌+◌, ◌/◌, ◌<◌, ◌≤◌, arith, List, [], ◌∷◌, length, get_or, set, drop, true, false, Bool, inl, inr, ℤ, pos, ◌-ℤ◌, sum_by, unsigned_abs, AllByRecursion, filter, range_with_len, cases_eq, ints, length-set, get_or-set_same, get_or-set_other, ext_get_or, sum_by-cons, sum_by-set, get_or-le-sum_by, by_test, CELLS, Station, with_view, net_of, owned_at, IsLeastSlot, Owns, IsWide, posted, plus_word, minus_word, word_of, raised_by, slot_net, View, SLOTS, SLOT_WORDS, WORDS, each_word_at, length-each_word, net_from-next, net_from-end, word_within, own_number, owns_one, words_of, slots_in, HasOneSlot, least_slot, net}
+use Rattle.std.proofs.Common.{if◌then◌else◌}
+use Rattle.view_board.specs.Nets.{net_from}
+use Rattle.hlr_owners.specs.Words.{all_slots}
 use Rattle.hlr_owners.proofs.IntSumLemmas.{sum_ints, sums_added, sums_none}
 
 -- a desk with the flags of one that has one slot

@@ -1,32 +1,7 @@
 -- A dissolve among all owners: the part's owner goes, and that of the part in front stands for both.
 use Rattle.hlr_owners.proofs.DivideLemmas.{LeavesParted}
-use Rattle.std.proofs.Common.{◌≡◌, ◌∙◌, refl, sym, ap, ℕ, suc, ◌+◌, ◌-◌, ◌<◌, ◌≤◌, List, ◌∷◌, length, get_or, set, map, true, arith, Some}
-use Rattle.std.specs.Prelude.{Ok, position, insert, remove, option_map, slice_get, Box}
-use Rattle.std.specs.declared.alloc.Global.{Global}
-use Rattle.std.proofs.lemmas.Option.{slice_get-map}
-use Rattle.atomic_table.specs.Seated.{TableId}
-use Rattle.part_table.specs.Dissolve.{dissolved, dissolve_answer, place_lowered}
-use Rattle.part_table.specs.Region.{is_part}
-use Rattle.part_table.specs.declared.region.Place.{Place}
+use Rattle.hlr_owners.proofs.Common.{◌≡◌, ◌∙◌, refl, sym, ap, ℕ, suc, ◌+◌, ◌-◌, ◌<◌, List, ◌∷◌, length, get_or, set, map, true, arith, Some, Ok, position, insert, remove, option_map, slice_get, Box, Global, slice_get-map, TableId, dissolved, dissolve_answer, place_lowered, is_part, Place, Region, High, blank, anew_from, zip_anew, IsDissolve, dissolve_from_answer, dissolved_edit, part_behind_front, front_index, ranges_meet, regions-dissolved, both_ranges, region_lowered, Station, with_view, both, taken_back, HoldingState, PieceState, IsHolding, IsMerged, AreDesks, slots_in, words_of, PartOwnerState, out_of, with_outs, words_back, IsDissolved, IsWithout, slots_of, book_in, desks_in, of_parts, store_in, IsKind, IsHomeFrom, OwnersState, AreRuled, homes_in, RegionOwner, Part, Piece}
 use Rattle.part_table.specs.declared.region.Place.TheVariants as place
-use Rattle.part_table.specs.declared.region.Region.{Region}
-use Rattle.part_table.specs.declared.region.Side.TheVariants.{High}
-use Rattle.part_table.proofs.PlaceLemmas.{blank}
-use Rattle.part_table.proofs.BehindLemmas.{anew_from, zip_anew}
-use Rattle.part_table.proofs.DissolveLemmas.{IsDissolve, dissolve_from_answer, dissolved_edit, part_behind_front, front_index, ranges_meet, regions-dissolved, both_ranges}
-use Rattle.part_table.proofs.RenumberLemmas.{region_lowered}
-use Rattle.view_board.specs.Desks.{Station, with_view}
-use Rattle.view_board.specs.Views.{IsLeastSlot, both, taken_back}
-use Rattle.holding.specs.Held.{HoldingState, PieceState, IsHolding}
-use Rattle.holding.specs.Moved.{IsMerged}
-use Rattle.hlr_owners.specs.Desks.{AreDesks, slots_in, words_of}
-use Rattle.hlr_owners.specs.PartOwnerState.{PartOwnerState}
-use Rattle.hlr_owners.specs.Out.{out_of, with_outs}
-use Rattle.hlr_owners.specs.Parted.{words_back, IsDissolved, IsWithout}
-use Rattle.hlr_owners.specs.Store.{slots_of}
-use Rattle.hlr_owners.specs.Owners.{book_in, desks_in, of_parts, store_in, IsKind, IsHomeFrom, OwnersState, AreRuled, homes_in}
-use Rattle.hlr_owners.specs.declared.part_owner.RegionOwner.{RegionOwner}
-use Rattle.hlr_owners.specs.declared.part_owner.RegionOwner.TheVariants.{Part, Piece}
 use Rattle.hlr_owners.proofs.HalvesLemmas.{merged_in}
 use Rattle.hlr_owners.proofs.HomeLemmas.{first_home, later_home}
 use Rattle.hlr_owners.proofs.IndexedLemmas.{set_same, put_back, other_left, both_edited, map-remove}

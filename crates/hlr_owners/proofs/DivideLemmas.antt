@@ -1,31 +1,6 @@
 -- A divide among all owners: the part's owner exchanged, and that of the new part put in behind it.
-use Rattle.hlr_owners.specs.Store.{Store}
-use Rattle.hlr_owners.specs.WhileOut.{MayBecome, store_with}
-use Rattle.std.proofs.Common.{◌≡◌, ◌∙◌, refl, sym, ap, ℕ, suc, ◌+◌, ◌<◌, ◌≤◌, List, [], ◌∷◌, length, get_or, set, map, true, arith, Some}
-use Rattle.std.specs.Prelude.{Ok, position, insert}
-use Rattle.std.proofs.lemmas.Slice.Zip.{AllZip-long}
-use Rattle.atomic_table.specs.Seated.{TableId}
-use Rattle.part_table.specs.Divide.{divided, divide_answer, place_raised}
-use Rattle.part_table.specs.Region.{is_part}
-use Rattle.part_table.specs.declared.region.Place.{Place}
+use Rattle.hlr_owners.proofs.Common.{Store, MayBecome, store_with, ◌≡◌, ◌∙◌, refl, sym, ap, ℕ, suc, ◌+◌, ◌<◌, ◌≤◌, List, [], ◌∷◌, length, get_or, set, map, true, arith, Some, Ok, position, insert, AllZip-long, TableId, divided, divide_answer, place_raised, is_part, Place, Region, blank, anew_from, zip_anew, IsDivide, divide_from_answer, divided_edit, divide_room, bound_inside, regions-divided, low_half, high_half, region_raised, Station, with_view, IsLeastSlot, alone, both, without, SLOTS, HoldingState, IsHolding, IsInside, IsParted, AreDesks, slots_in, words_of, PartOwnerState, out_of, with_outs, free_slot, IsDivided, IsWithNew, book_in, desks_in, of_parts, store_in, IsKind, IsRegionOwner, IsHomeFrom, OwnersState, AreRuled, homes_in, RegionOwner, Part, Piece}
 use Rattle.part_table.specs.declared.region.Place.TheVariants as place
-use Rattle.part_table.specs.declared.region.Region.{Region}
-use Rattle.part_table.proofs.PlaceLemmas.{blank}
-use Rattle.part_table.proofs.BehindLemmas.{anew_from, zip_anew}
-use Rattle.part_table.proofs.DivideLemmas.{IsDivide, divide_from_answer, divided_edit, divide_room, bound_inside, regions-divided, low_half, high_half}
-use Rattle.part_table.proofs.RenumberLemmas.{region_raised}
-use Rattle.view_board.specs.Desks.{Station, with_view}
-use Rattle.view_board.specs.Views.{IsLeastSlot, alone, both, without}
-use Rattle.view_board.specs.declared.words.TheConstants.{SLOTS}
-use Rattle.holding.specs.Held.{HoldingState, IsHolding}
-use Rattle.holding.specs.Moved.{IsInside, IsParted}
-use Rattle.hlr_owners.specs.Desks.{AreDesks, slots_in, words_of}
-use Rattle.hlr_owners.specs.PartOwnerState.{PartOwnerState}
-use Rattle.hlr_owners.specs.Out.{out_of, with_outs}
-use Rattle.hlr_owners.specs.Parted.{free_slot, IsDivided, IsWithNew}
-use Rattle.hlr_owners.specs.Owners.{book_in, desks_in, of_parts, store_in, IsKind, IsRegionOwner, IsHomeFrom, OwnersState, AreRuled, homes_in}
-use Rattle.hlr_owners.specs.declared.part_owner.RegionOwner.{RegionOwner}
-use Rattle.hlr_owners.specs.declared.part_owner.RegionOwner.TheVariants.{Part, Piece}
 use Rattle.hlr_owners.proofs.HalvesLemmas.{parted_in}
 use Rattle.hlr_owners.proofs.HomeLemmas.{first_home, later_home}
 use Rattle.hlr_owners.proofs.IndexedLemmas.{map-insert}

@@ -1,28 +1,8 @@
 -- A give among all owners: an owner exchanged, and a piece put in beside it.
-use Rattle.std.proofs.Common.{◌≡◌, ◌∙◌, refl, sym, ℕ, ◌<◌, ◌≤◌, List, length, get_or, set, arith, true, Some}
-use Rattle.std.specs.Prelude.{Ok, position, insert, Box}
-use Rattle.std.specs.declared.alloc.Global.{Global}
-use Rattle.std.proofs.lemmas.Slice.Zip.{AllZip-long}
-use Rattle.part_table.specs.Give.{cut, give_answer, piece_index}
-use Rattle.part_table.specs.Region.{is_part}
-use Rattle.part_table.specs.declared.region.Region.{Region}
-use Rattle.part_table.specs.declared.region.Side.{Side}
-use Rattle.part_table.specs.declared.region.Side.TheVariants.{Low, High}
-use Rattle.part_table.proofs.FirstLemmas.{find_index}
-use Rattle.part_table.proofs.GiveLemmas.{IsGive, give_from_answer, has_room, leaves_regions}
-use Rattle.part_table.proofs.GivingLemmas.{cut_edit, part_half, piece_half}
-use Rattle.part_table.proofs.PlaceLemmas.{blank}
-use Rattle.holding.specs.Held.{PieceState, IsHolding, IsPiece}
-use Rattle.holding.specs.Moved.{IsInside, IsGiven}
+use Rattle.hlr_owners.proofs.Common.{◌≡◌, ◌∙◌, refl, sym, ℕ, ◌<◌, ◌≤◌, List, length, get_or, set, arith, true, Some, Ok, position, insert, Box, Global, AllZip-long, cut, give_answer, piece_index, is_part, Region, Side, Low, High, find_index, IsGive, give_from_answer, has_room, leaves_regions, cut_edit, part_half, piece_half, blank, PieceState, IsHolding, IsPiece, IsInside, IsGiven, IsMovedAlone, out_of, with_outs, PartOwnerState, book_in, desks_in, of_parts, store_in, IsKind, IsPartHome, IsRegionOwner, OwnersState, AreRuled, RegionOwner, Part, Piece}
 use Rattle.hlr_owners.proofs.HalvesLemmas.{given_in}
 use Rattle.hlr_owners.proofs.LendLemmas.{ruled_later}
 use Rattle.hlr_owners.proofs.OutLemmas.{none_out, outs-at, outs-insert, outs-set}
-use Rattle.hlr_owners.specs.Inside.{IsMovedAlone}
-use Rattle.hlr_owners.specs.Out.{out_of, with_outs}
-use Rattle.hlr_owners.specs.PartOwnerState.{PartOwnerState}
-use Rattle.hlr_owners.specs.Owners.{book_in, desks_in, of_parts, store_in, IsKind, IsPartHome, IsRegionOwner, OwnersState, AreRuled}
-use Rattle.hlr_owners.specs.declared.part_owner.RegionOwner.{RegionOwner}
-use Rattle.hlr_owners.specs.declared.part_owner.RegionOwner.TheVariants.{Part, Piece}
 use Rattle.hlr_owners.proofs.RegionOwnerLemmas.{IsRegionOwnerIn, parts-insert, parts-kept, part_kind, each_in, owners_in}
 use Rattle.hlr_owners.proofs.PartLemmas.{part_is_home, part_owner_at}
 use Rattle.hlr_owners.proofs.ZipLemmas.{zip_set, zip_insert}

@@ -1,20 +1,5 @@
 -- Slots that no part has: where there are fewer parts than slots there is one, and the least is the spare desk's least.
-use Rattle.std.proofs.lemmas.Bool.Decides.{nat_tests}
-use Rattle.part_table.proofs.NumberLemmas.{all_pieces}
-use Rattle.std.proofs.Common.{◌≡◌, ◌∙◌, refl, sym, ℕ, zero, suc, ◌+◌, ◌<◌, ◌≤◌, ◌==◌, ◌⊎◌, inl, inr, arith, List, [], ◌∷◌, length, map, Bool, true, false, not, ap, ◌-◌}
-use Rattle.std.specs.Prelude.{sum_by}
-use Rattle.std.specs.List.{AllByRecursion, list_any}
-use Rattle.std.proofs.lemmas.Bool.{cases_eq}
-use Rattle.std.proofs.lemmas.List.Sums.{sum_by-cons}
-use Rattle.tatp_rows.proofs.OrderedLemmas.{by_test}
-use Rattle.part_table.proofs.LeastLemmas.{least_here, least_more, least_passes}
-use Rattle.part_table.specs.Least.{least}
-use Rattle.view_board.specs.Desks.{Station}
-use Rattle.view_board.specs.Views.{owned_at, Owns, OwnsAlone, IsLeastSlot}
-use Rattle.view_board.specs.declared.rule.View.{View}
-use Rattle.view_board.specs.declared.words.TheConstants.{SLOTS}
-use Rattle.hlr_owners.specs.Desks.{owns_one, slots_in, HasOneSlot}
-use Rattle.hlr_owners.specs.Parted.{free_slot}
+use Rattle.hlr_owners.proofs.Common.{nat_tests, all_pieces, ◌≡◌, ◌∙◌, refl, sym, ℕ, zero, suc, ◌+◌, ◌<◌, ◌≤◌, ◌==◌, ◌⊎◌, inl, inr, arith, List, [], ◌∷◌, length, map, Bool, true, false, not, ap, ◌-◌, sum_by, AllByRecursion, list_any, cases_eq, sum_by-cons, by_test, least_here, least_more, least_passes, least, Station, owned_at, Owns, IsLeastSlot, SLOTS, owns_one, slots_in, HasOneSlot, free_slot}
 use Rattle.hlr_owners.proofs.SightLemmas.{is_listed}
 
 -- the slots of desks that have one each, counted from 1

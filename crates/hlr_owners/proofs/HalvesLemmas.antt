@@ -1,29 +1,7 @@
 -- A part cut in two, and two parts joined: their rules, and their rows in a book.
-use Rattle.std.proofs.Common.{inl, inr, ◌≡◌, ◌≢◌, ◌+◌, ◌∙◌, refl, sym, ap, ℕ, arith, true, false}
-use Rattle.std.specs.Prelude.{Some, None, ◌==◌}
-use Rattle.std.proofs.lemmas.Bool.Decides.{nat_tests}
-use Rattle.tatp_rows.proofs.OrderedLemmas.{by_test}
-use Rattle.tatp_actions.specs.Book.{Book, IsRowsOf, rows_between}
-use Rattle.tatp_actions.specs.Cut.{Touch}
-use Rattle.tatp_actions.specs.Joined.{join_books, cut_low, cut_high}
-use Rattle.tatp_actions.specs.Part.{PartState, IsPart}
-use Rattle.tatp_actions.proofs.BetweenLemmas.{low_between, high_between}
-use Rattle.tatp_actions.proofs.CutLemmas.{cut_joined, cut_low_rows, cut_high_rows}
-use Rattle.part_table.proofs.DissolveLemmas.{both_ranges}
-use Rattle.part_table.proofs.DivideLemmas.{low_half, high_half}
-use Rattle.part_table.proofs.GivingLemmas.{part_half, piece_half}
-use Rattle.part_table.proofs.PairLemmas.{joint_region}
-use Rattle.part_table.specs.Take.{touching}
-use Rattle.part_table.specs.declared.region.Place.{Place}
+use Rattle.hlr_owners.proofs.Common.{inl, inr, ◌≡◌, ◌≢◌, ◌+◌, ◌∙◌, refl, sym, ap, ℕ, arith, true, false, nat_tests, Book, IsRowsOf, rows_between, Touch, join_books, cut_low, cut_high, PartState, IsPart, low_between, high_between, cut_joined, cut_low_rows, cut_high_rows, both_ranges, low_half, high_half, part_half, piece_half, joint_region, touching, Place, Region, Side, Low, High, END, Station, HoldingState, PieceState, IsHolding, IsPiece, IsInside, IsGiven, IsTaken, IsParted, IsMerged, as_piece, OwnerState, of_holding, of_piece, IsLawful, IsOwnerState}
+use Rattle.std.specs.Prelude.{Some, ◌==◌}
 use Rattle.part_table.specs.declared.region.Place.TheVariants as place
-use Rattle.part_table.specs.declared.region.Region.{Region}
-use Rattle.part_table.specs.declared.region.Side.{Side}
-use Rattle.part_table.specs.declared.region.Side.TheVariants.{Low, High}
-use Rattle.part_table.specs.declared.region.TheConstants.{END}
-use Rattle.view_board.specs.Desks.{Station}
-use Rattle.holding.specs.Held.{HoldingState, PieceState, IsHolding, IsPiece}
-use Rattle.holding.specs.Moved.{IsInside, IsGiven, IsTaken, IsParted, IsMerged, as_piece}
-use Rattle.hlr_owners.specs.Held.{OwnerState, of_holding, of_piece, IsLawful, IsOwnerState}
 use Rattle.hlr_owners.proofs.HeldLemmas.{holding_keeps, piece_keeps}
 use Rattle.hlr_owners.proofs.StretchLemmas.{between_inside, between_halves}
 

@@ -1,17 +1,6 @@
 -- The rules of one owner: those of a holding and of a loose piece, and what follows from them.
-use Rattle.std.proofs.Common.{◌≡◌, ℕ, ◌<◌, ◌^◌, refl, arith, rules}
-use Rattle.std.specs.Prelude.{ℤ, pos, neg_ℤ, ◌≤ℤ◌}
-use Rattle.std.proofs.lemmas.Int.{ints}
-use Rattle.tatp_actions.specs.Book.{empty_book, IsRowsOf}
-use Rattle.tatp_actions.specs.declared.cells.TheConstants.{CELLS}
-use Rattle.part_table.specs.declared.region.Region.{Region}
-use Rattle.view_board.specs.Nets.{net_of, net_from}
-use Rattle.view_board.specs.Views.{nobody}
-use Rattle.view_delta.specs.Pending.{pending_at}
-use Rattle.holding.specs.Held.{HoldingState, PieceState, IsHolding, IsPiece}
-use Rattle.holding.proofs.HeldLemmas.{few}
-use Rattle.hlr_owners.specs.Held.{OwnerState, of_holding, of_piece, IsLawful, IsOwnerState}
-use Rattle.hlr_owners.specs.Inside.{IsOpened}
+use Rattle.hlr_owners.proofs.Common.{◌≡◌, ℕ, ◌<◌, ◌^◌, refl, arith, rules, ℤ, pos, neg_ℤ, ◌≤ℤ◌, ints, empty_book, IsRowsOf, CELLS, Region, net_of, nobody, pending_at, HoldingState, PieceState, IsHolding, IsPiece, few, OwnerState, of_holding, of_piece, IsLawful, IsOwnerState, IsOpened}
+use Rattle.view_board.specs.Nets.{net_from}
 
 -- an empty book keeps the rules
 pub empty_rows : (lo hi : ℕ) → IsRowsOf lo hi empty_book

@@ -1,26 +1,7 @@
 -- Who is at home: all parts, the part with a number, and whoever has an s_id.
-use Rattle.tatp_rows.proofs.OrderedLemmas.{by_test}
-use Rattle.std.proofs.Common.{◌≡◌, refl, ℕ, zero, suc, ◌<◌, List, [], ◌∷◌, Bool, true, length, get_or, drop, arith, Some, None, ◌-◌, Result, Ok, Err, false}
-use Rattle.std.specs.Prelude.{Option, position, IfOk, ◌↔◌, IsTrue}
-use Rattle.std.specs.List.{AllByRecursion, list_all}
-use Rattle.std.proofs.lemmas.List.{get_or_past}
-use Rattle.std.proofs.lemmas.List.Quantifiers.{position-Some}
-use Rattle.tatp_rows.specs.declared.refusal.Refusal.{Refusal}
-use Rattle.tatp_rows.proofs.PlaceLemmas.{each_at}
-use Rattle.part_table.specs.Recut.{recut_answer}
-use Rattle.part_table.specs.Region.{lies_in}
-use Rattle.part_table.specs.declared.moves.CutMove.{CutMove}
-use Rattle.part_table.specs.Regions.{place_of}
-use Rattle.part_table.specs.declared.region.Place.{Place}
+use Rattle.hlr_owners.proofs.Common.{by_test, ◌≡◌, refl, ℕ, zero, suc, ◌<◌, List, [], ◌∷◌, Bool, true, length, get_or, drop, arith, Some, None, ◌-◌, false, Option, position, IfOk, ◌↔◌, IsTrue, AllByRecursion, list_all, get_or_past, position-Some, Refusal, each_at, recut_answer, lies_in, CutMove, place_of, Place, is_part_there, blank, place_at, AreHome, PartOwnerState, IsHomeToCut, IsHomeToMove, is_home, homes_in, IsKind, OwnersState, AreRuled, IsPartHome, IsPlaceHome, IsHomeFor, AllHome, RegionOwner, Part, Piece}
+use Rattle.std.proofs.Common.{Result, Ok, Err}
 use Rattle.part_table.specs.declared.region.Place.TheVariants as place
-use Rattle.part_table.proofs.IndexLemmas.{is_part_there}
-use Rattle.part_table.proofs.PlaceLemmas.{blank, place_at}
-use Rattle.hlr_owners.specs.Inside.{AreHome}
-use Rattle.hlr_owners.specs.PartOwnerState.{PartOwnerState}
-use Rattle.hlr_owners.specs.Recut.{IsHomeToCut, IsHomeToMove}
-use Rattle.hlr_owners.specs.Owners.{is_home, homes_in, IsKind, OwnersState, AreRuled, IsPartHome, IsPlaceHome, IsHomeFor, IsHomeFrom, AllHome}
-use Rattle.hlr_owners.specs.declared.part_owner.RegionOwner.{RegionOwner}
-use Rattle.hlr_owners.specs.declared.part_owner.RegionOwner.TheVariants.{Part, Piece}
 use Rattle.hlr_owners.proofs.PartLemmas.{part_state_home}
 use Rattle.hlr_owners.proofs.RegionOwnerLemmas.{owner_is, owner_there}
 

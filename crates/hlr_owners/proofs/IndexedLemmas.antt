@@ -1,12 +1,5 @@
 -- Lists edited at an index.
-use Rattle.std.proofs.Common.{◌≡◌, ◌∙◌, refl, ap, ℕ, zero, suc, ◌+◌, ◌<◌, List, [], ◌∷◌, length, get_or, set, map, arith}
-use Rattle.std.specs.Prelude.{insert, remove}
-use Rattle.std.proofs.lemmas.List.{set-get_or}
-use Rattle.std.proofs.lemmas.List.Edits.{get_or-remove_above, get_or-remove_below}
-use Rattle.part_table.specs.Give.{piece_index}
-use Rattle.part_table.specs.declared.region.Side.{Side}
-use Rattle.part_table.specs.declared.region.Side.TheVariants.{Low, High}
-use Rattle.part_table.proofs.PairLemmas.{part_index}
+use Rattle.hlr_owners.proofs.Common.{◌≡◌, ◌∙◌, refl, ap, ℕ, zero, suc, ◌+◌, ◌<◌, List, [], ◌∷◌, length, get_or, set, map, arith, insert, remove, set-get_or, get_or-remove_above, get_or-remove_below, piece_index, Side, Low, High, part_index}
 
 -- an element put where it stands
 pub set_same : {X : Type 0} (xs : List X) (i : ℕ) (x : X) → x ≡ get_or xs i x → set xs i x ≡ xs

@@ -1,31 +1,9 @@
 -- A part lent out, and owners that stand for others while parts are out.
-use Rattle.view_board.specs.Views.{IsWide}
+use Rattle.hlr_owners.proofs.Common.{IsWide, ◌≡◌, ◌∙◌, refl, sym, ap, ℕ, zero, suc, ◌<◌, List, [], ◌∷◌, length, get_or, set, arith, true, false, Some, subst, Box, slice_get, position, Option, Global, AllZip, sum_by-cons, map-set_same, nat_tests, position-Some, slice_get_read, is_part, lies_in, IsConsecutive, TableId, Region, blank, HoldingState, PieceState, IsHolding, of_holding, Station, AreDesks, HasOneSlot, IsOfBoard, owns_one, PartOwnerState, state_of, states_in, IsRegionOwner, OwnersState, AreRuled, IsSameOwner, IsLaterOwner, IsBackFor, IsLent, desks_in, RegionOwner, Part, Piece}
 use Rattle.hlr_owners.proofs.ZipLemmas.{each_while_out, sum_while_out}
-use Rattle.std.proofs.Common.{◌≡◌, ◌∙◌, refl, sym, ap, ℕ, zero, suc, ◌<◌, ◌≤◌, List, [], ◌∷◌, length, get_or, set, arith, true, false, Some, subst}
-use Rattle.std.specs.Prelude.{Box, slice_get, position, nat_le, nat_lt, sum_by, Option}
-use Rattle.std.specs.declared.alloc.Global.{Global}
-use Rattle.std.specs.List.{AllZip, AllByRecursion}
-use Rattle.std.proofs.lemmas.List.Sums.{sum_by-cons}
-use Rattle.std.proofs.Math.Seq.{map-set_same}
-use Rattle.std.proofs.lemmas.Bool.Decides.{nat_tests}
-use Rattle.std.proofs.lemmas.List.Quantifiers.{position-Some}
-use Rattle.std.proofs.lemmas.Option.{slice_get_read}
-use Rattle.part_table.specs.Region.{is_part, lies_in}
-use Rattle.part_table.specs.Regions.{IsConsecutive}
 use Rattle.hlr_owners.proofs.StateLemmas.{lies_within}
-use Rattle.atomic_table.specs.Seated.{TableId}
-use Rattle.part_table.specs.declared.region.Region.{Region}
-use Rattle.part_table.proofs.PlaceLemmas.{blank}
-use Rattle.holding.specs.Held.{HoldingState, PieceState, IsHolding}
-use Rattle.hlr_owners.specs.Held.{of_holding}
-use Rattle.view_board.specs.Desks.{Station}
-use Rattle.hlr_owners.specs.Desks.{AreDesks, HasOneSlot, IsOfBoard, owns_one}
 use Rattle.hlr_owners.proofs.DeskLemmas.{same_one}
 use Rattle.hlr_owners.proofs.PostLemmas.{desks_posted}
-use Rattle.hlr_owners.specs.PartOwnerState.{PartOwnerState}
-use Rattle.hlr_owners.specs.Owners.{state_of, states_in, IsRegionOwner, OwnersState, AreRuled, IsSameOwner, IsLaterOwner, IsBackFor, IsLent, desks_in}
-use Rattle.hlr_owners.specs.declared.part_owner.RegionOwner.{RegionOwner}
-use Rattle.hlr_owners.specs.declared.part_owner.RegionOwner.TheVariants.{Part, Piece}
 use Rattle.hlr_owners.proofs.PartLemmas.{ahead, at_ahead, set_ahead}
 use Rattle.hlr_owners.proofs.RegionOwnerLemmas.{exchanged, part_kind, owner_is, region_there, region_behind}
 

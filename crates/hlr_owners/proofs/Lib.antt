@@ -2,7 +2,7 @@ pub mod ApartFitLemmas
 pub mod ApartLemmas
 pub mod ApartRegionsLemmas
 pub mod ApartStoreLemmas
-pub mod WhileOutLemmas
+pub mod Common
 pub mod DeskLemmas
 pub mod DissolveLemmas
 pub mod DivideLemmas
@@ -20,8 +20,6 @@ pub mod MayGatherLemmas
 pub mod OpenLemmas
 pub mod OpenedLemmas
 pub mod OutLemmas
-pub mod StateCountLemmas
-pub mod StateLemmas
 pub mod PartLemmas
 pub mod PartedDeskLemmas
 pub mod PartedLemmas
@@ -34,7 +32,10 @@ pub mod RefusedLemmas
 pub mod RegionOwnerLemmas
 pub mod ShareLemmas
 pub mod SightLemmas
+pub mod StateCountLemmas
+pub mod StateLemmas
 pub mod StretchLemmas
 pub mod SumLemmas
 pub mod TakeLemmas
+pub mod WhileOutLemmas
 pub mod ZipLemmas

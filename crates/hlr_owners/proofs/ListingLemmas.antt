@@ -1,28 +1,7 @@
 -- Rows that no action reads: those of a part are those of all, and the first from a subscriber on.
-use Rattle.std.proofs.Common.{◌≡◌, ◌∙◌, refl, sym, ap, ℕ, zero, suc, ◌<◌, ◌≤◌, ◌==◌, arith, drop, get_or, length, List, [], ◌∷◌, ◌++◌, Bool, true, false, Option, Some, None}
-use Rattle.std.specs.Prelude.{Err, nat_le, position, ok_or}
-use Rattle.std.specs.List.{AllByRecursion, filter}
-use Rattle.std.proofs.lemmas.Bool.Decides.{nat_tests}
-use Rattle.std.proofs.lemmas.List.Quantifiers.{position-Some}
-use Rattle.tatp_rows.proofs.OrderedLemmas.{by_test, each-weaker}
-use Rattle.tatp_rows.proofs.RowLemmas.{facility_type, forwarding_type, forwarding_ranges}
-use Rattle.tatp_rows.specs.Keys.{key_of, facility_key, forwarding_key, subscriber_key}
-use Rattle.tatp_rows.specs.Ordered.{row_at}
-use Rattle.tatp_rows.specs.Rows.{SubscriberRow, SpecialFacilityRow, CallForwardingRow, facility_in_range, forwarding_in_range, subscriber_in_range}
-use Rattle.tatp_rows.specs.declared.refusal.Refusal.{Refusal}
+use Rattle.hlr_owners.proofs.Common.{◌≡◌, ◌∙◌, refl, sym, ap, ℕ, zero, suc, ◌<◌, ◌≤◌, ◌==◌, arith, drop, get_or, length, List, [], ◌∷◌, ◌++◌, Bool, true, false, Some, None, Err, nat_le, position, ok_or, AllByRecursion, filter, nat_tests, position-Some, by_test, each-weaker, facility_type, forwarding_type, forwarding_ranges, key_of, facility_key, forwarding_key, subscriber_key, row_at, SubscriberRow, SpecialFacilityRow, CallForwardingRow, facility_in_range, forwarding_in_range, subscriber_in_range, Refusal, Book, IsBook, IsWithin, facility_at, first_subscriber, forwarding_at, is_within, rows_between, subscriber_at, lies_in, Region, blank, is_loose, HasRowsOf, row_answer, PartOwnerState, AreRuled, OwnersState, book_in, state_of, store_in, Store, RegionOwner, Part}
+use Rattle.std.proofs.Common.{Option}
 use Rattle.tatp_rows.specs.declared.refusal.Refusal.TheVariants as refusal
-use Rattle.tatp_actions.specs.Book.{Book, IsBook, IsWithin, facility_at, first_subscriber, forwarding_at, is_within, rows_between, subscriber_at}
-use Rattle.part_table.specs.Region.{lies_in}
-use Rattle.part_table.specs.declared.region.Region.{Region}
-use Rattle.part_table.proofs.PlaceLemmas.{blank}
-use Rattle.holding.specs.Held.{HoldingState}
-use Rattle.hlr_owners.specs.Answered.{is_loose}
-use Rattle.hlr_owners.specs.Read.{HasRowsOf, facility_answer, forwarding_answer, row_answer}
-use Rattle.hlr_owners.specs.PartOwnerState.{PartOwnerState}
-use Rattle.hlr_owners.specs.Owners.{AreRuled, OwnersState, book_in, state_of, store_in}
-use Rattle.hlr_owners.specs.Store.{Store}
-use Rattle.hlr_owners.specs.declared.part_owner.RegionOwner.{RegionOwner}
-use Rattle.hlr_owners.specs.declared.part_owner.RegionOwner.TheVariants.{Part}
 use Rattle.hlr_owners.proofs.StateLemmas.{lies_within}
 use Rattle.hlr_owners.proofs.RegionOwnerLemmas.{part_not_loose, read_answer, owner_in, ruled_rows}
 

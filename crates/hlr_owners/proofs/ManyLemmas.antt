@@ -1,20 +1,6 @@
 -- The part that has several subscribers.
-use Rattle.std.proofs.Common.{◌≡◌, ◌∙◌, refl, sym, ap, ℕ, ◌<◌, List, Bool, length, get_or, true}
-use Rattle.std.specs.Prelude.{Option, Some, None, position}
-use Rattle.std.specs.List.{All, list_all}
-use Rattle.std.proofs.lemmas.List.Quantifiers.{position-Some}
-use Rattle.std.proofs.lemmas.List.Sums.{AllPass-from_list_all}
-use Rattle.tatp_actions.specs.Book.{IsWithin}
-use Rattle.part_table.specs.Region.{lies_in}
-use Rattle.part_table.specs.Regions.{IsConsecutive}
-use Rattle.part_table.specs.declared.region.Region.{Region}
-use Rattle.part_table.specs.declared.region.TheConstants.{END}
-use Rattle.part_table.proofs.PlaceLemmas.{blank, some_index}
-use Rattle.hlr_owners.specs.WhileOut.{HasRowsWhileOut}
-use Rattle.hlr_owners.specs.PartOwnerState.{PartOwnerState}
-use Rattle.hlr_owners.specs.Read.{HasRowsOf}
-use Rattle.hlr_owners.specs.Owners.{AreRuled, IsHomeFor, OwnersState, store_in}
-use Rattle.hlr_owners.specs.declared.part_owner.RegionOwner.TheVariants.{Part}
+use Rattle.hlr_owners.proofs.Common.{◌≡◌, ◌∙◌, refl, sym, ap, ℕ, ◌<◌, List, Bool, length, get_or, true, Option, position, All, list_all, position-Some, AllPass-from_list_all, IsWithin, lies_in, IsConsecutive, Region, END, blank, some_index, HasRowsWhileOut, PartOwnerState, HasRowsOf, AreRuled, IsHomeFor, OwnersState, store_in, Part}
+use Rattle.std.specs.Prelude.{Some, None}
 use Rattle.hlr_owners.proofs.WhileOutLemmas.{rows_while_out}
 use Rattle.hlr_owners.proofs.HomeLemmas.{owner_home}
 use Rattle.hlr_owners.proofs.LendLemmas.{lies_once}

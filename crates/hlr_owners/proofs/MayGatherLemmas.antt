@@ -1,20 +1,6 @@
 -- Holdings that may be brought home: those of no part, over a new board, and those of which the last two are taken out
 -- and put back.
-use Rattle.std.proofs.Common.{◌≡◌, ◌∙◌, ℕ, ◌+◌, arith, List, [], ◌∷◌, ◌++◌, length, map, refl}
-use Rattle.std.specs.Prelude.{Box, sum_by}
-use Rattle.std.specs.List.{AllByRecursion}
-use Rattle.std.specs.declared.alloc.Global.{Global}
-use Rattle.std.proofs.lemmas.List.{map-append}
-use Rattle.std.proofs.lemmas.List.Sums.{sum_by-cons, sum_by_push}
-use Rattle.atomic_table.specs.Seated.{TableId}
-use Rattle.view_board.specs.Desks.{Station, with_view}
-use Rattle.view_board.specs.Views.{first_view, looked}
-use Rattle.view_board.specs.declared.words.TheConstants.{WORDS}
-use Rattle.holding.specs.Held.{HoldingState}
-use Rattle.tatp_rows.proofs.AppendLemmas.{each-append, each-left, each-right}
-use Rattle.hlr_owners.specs.Desks.{desk_of, owns_one, AreOpening, HasOneSlot}
-use Rattle.hlr_owners.specs.Gather.{MayGather}
-use Rattle.hlr_owners.specs.Boxed.{map_boxed, unboxed}
+use Rattle.hlr_owners.proofs.Common.{◌≡◌, ◌∙◌, ℕ, ◌+◌, arith, List, [], ◌∷◌, ◌++◌, length, map, refl, Box, sum_by, AllByRecursion, Global, map-append, sum_by-cons, sum_by_push, TableId, Station, with_view, first_view, looked, WORDS, HoldingState, each-append, each-left, each-right, desk_of, owns_one, AreOpening, HasOneSlot, MayGather, map_boxed, unboxed}
 use Rattle.hlr_owners.proofs.DeskLemmas.{same_one}
 use Rattle.hlr_owners.proofs.PartedLemmas.{map_twice}
 use Rattle.hlr_owners.proofs.ShareLemmas.{none_shared, first_of_board, shared_desks}

@@ -1,28 +1,8 @@
 -- The store at opening: an empty holding for each region, one after another.
 use Rattle.hlr_owners.proofs.StateLemmas.{book_of_states}
-use Rattle.tatp_actions.specs.Joined.{join_books}
-use Rattle.tatp_actions.specs.Book.{Book, empty_book}
-use Rattle.std.proofs.Common.{◌≡◌, ap, ℕ, ◌+◌, ◌-◌, ◌<◌, ◌≤◌, arith, List, [], ◌∷◌, ◌++◌, length, get_or, take, map, true, ◌∙◌, refl}
-use Rattle.std.specs.Prelude.{Result, Ok}
-use Rattle.std.specs.List.{AllZip, AllByRecursion, range_with_len}
-use Rattle.std.proofs.lemmas.List.{take_more}
-use Rattle.std.proofs.lemmas.List.FromFn.{length-map-range_with_len}
-use Rattle.tatp_rows.specs.declared.refusal.Refusal.{Refusal}
-use Rattle.tatp_actions.specs.Part.{IsRange, IsWidth}
-use Rattle.std.proofs.lemmas.Slice.Zip.{all_zipped_more}
-use Rattle.part_table.proofs.BoundsLemmas.{length_parts, no_pieces, within}
-use Rattle.part_table.proofs.NumberLemmas.{length_regions}
-use Rattle.part_table.proofs.OpeningLemmas.{openable}
-use Rattle.part_table.specs.Bounds.{parts_between}
+use Rattle.hlr_owners.proofs.Common.{join_books, Book, empty_book, ◌≡◌, ap, ℕ, ◌+◌, ◌-◌, ◌<◌, ◌≤◌, arith, List, [], ◌∷◌, ◌++◌, length, get_or, take, map, true, ◌∙◌, refl, Ok, AllZip, AllByRecursion, range_with_len, take_more, length-map-range_with_len, IsRange, IsWidth, all_zipped_more, length_parts, no_pieces, within, length_regions, openable, parts_between, can_open, opening_bound, AreRegions, IsConsecutive, Region, OwnerState, of_holding, IsOpened, HoldingState, each_at}
 use Rattle.part_table.specs.Opening as table
-use Rattle.part_table.specs.Opening.{can_open, opening_bound}
-use Rattle.part_table.specs.Regions.{AreRegions, IsConsecutive}
-use Rattle.part_table.specs.declared.region.Region.{Region}
-use Rattle.hlr_owners.specs.Held.{OwnerState, of_holding}
-use Rattle.hlr_owners.specs.Inside.{IsOpened}
-use Rattle.holding.specs.Held.{HoldingState}
 use Rattle.hlr_owners.proofs.HeldLemmas.{IsFresh, fresh_holding}
-use Rattle.tatp_rows.proofs.PlaceLemmas.{each_at}
 
 -- the bounds between parts at opening
 abbrev pub bounds_opened : ℕ → ℕ → List ℕ

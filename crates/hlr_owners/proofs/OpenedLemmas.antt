@@ -1,27 +1,11 @@
 -- Owners at opening: a part at home beside each region, one after another.
-use Rattle.std.proofs.Common.{◌≡◌, ◌∙◌, refl, sym, ap, ℕ, suc, ◌≤◌, arith, List, [], ◌∷◌, ◌++◌, length, append_assoc, true}
-use Rattle.std.specs.Prelude.{Ok}
-use Rattle.std.specs.List.{AllZip, AllByRecursion}
-use Rattle.std.proofs.lemmas.List.{take_all, length-map}
-use Rattle.std.proofs.lemmas.Slice.Zip.{AllZip-long}
-use Rattle.part_table.proofs.BoundsLemmas.{no_pieces}
+use Rattle.hlr_owners.proofs.Common.{◌≡◌, ◌∙◌, refl, sym, ap, ℕ, suc, ◌≤◌, arith, List, [], ◌∷◌, ◌++◌, length, true, Ok, AllZip, AllByRecursion, take_all, length-map, AllZip-long, no_pieces, can_open, piece_number, AreRegions, pieces_of, Place, Region, Station, WORDS, opening_from, PartOwnerState, state_of, states_in, of_part, desks_in, AllHome, IsKind, IsRegionOwner, AreRuled, store_in, RegionOwner, Part, Piece}
+use Rattle.std.proofs.Common.{append_assoc}
 use Rattle.part_table.specs.Opening as table
-use Rattle.part_table.specs.Opening.{can_open}
-use Rattle.part_table.specs.Region.{piece_number}
-use Rattle.part_table.specs.Regions.{AreRegions, pieces_of}
-use Rattle.part_table.specs.declared.region.Place.{Place}
 use Rattle.part_table.specs.declared.region.Place.TheVariants as place
-use Rattle.part_table.specs.declared.region.Region.{Region}
-use Rattle.view_board.specs.Desks.{Station}
-use Rattle.view_board.specs.declared.words.TheConstants.{WORDS}
-use Rattle.hlr_owners.specs.Store.{opening_from}
 use Rattle.hlr_owners.proofs.HeldLemmas.{IsFresh}
 use Rattle.hlr_owners.proofs.OpenLemmas.{AreOpened, bounds_opened, regions_are, regions_long, width_fits, opened_book}
 use Rattle.hlr_owners.proofs.ShareLemmas.{AreShared, shared_words}
-use Rattle.hlr_owners.specs.PartOwnerState.{PartOwnerState}
-use Rattle.hlr_owners.specs.Owners.{state_of, states_in, of_part, desks_in, AllHome, IsKind, IsRegionOwner, AreRuled, store_in}
-use Rattle.hlr_owners.specs.declared.part_owner.RegionOwner.{RegionOwner}
-use Rattle.hlr_owners.specs.declared.part_owner.RegionOwner.TheVariants.{Part, Piece}
 
 -- a part that is at home
 abbrev pub IsPartOwnerHome : RegionOwner → Type 0

@@ -1,16 +1,5 @@
 -- Owners with what the holdings that are out have become.
-use Rattle.std.proofs.Common.{◌≡◌, ◌∙◌, refl, sym, ap, subst, ℕ, zero, suc, List, [], ◌∷◌, Bool, true, false, get_or, set, Some, None}
-use Rattle.std.specs.Prelude.{Option, Box, insert, remove, if◌then◌else◌}
-use Rattle.std.specs.declared.alloc.Global.{Global}
-use Rattle.std.specs.List.{AllZip}
-use Rattle.tatp_rows.proofs.OrderedLemmas.{by_test}
-use Rattle.holding.specs.Held.{HoldingState, PieceState}
-use Rattle.hlr_owners.specs.WhileOut.{MayBecome}
-use Rattle.hlr_owners.specs.PartOwnerState.{PartOwnerState}
-use Rattle.hlr_owners.specs.Out.{out_of, outs_in, with_out, with_outs}
-use Rattle.hlr_owners.specs.Owners.{IsLaterOwner, part_holdings, is_home}
-use Rattle.hlr_owners.specs.declared.part_owner.RegionOwner.{RegionOwner}
-use Rattle.hlr_owners.specs.declared.part_owner.RegionOwner.TheVariants.{Part, Piece}
+use Rattle.hlr_owners.proofs.Common.{◌≡◌, ◌∙◌, refl, sym, ap, subst, ℕ, zero, suc, List, [], ◌∷◌, Bool, true, false, get_or, set, Some, None, Option, Box, insert, remove, if◌then◌else◌, Global, AllZip, by_test, HoldingState, PieceState, MayBecome, PartOwnerState, out_of, outs_in, with_out, with_outs, IsLaterOwner, part_holdings, is_home, RegionOwner, Part, Piece}
 use Rattle.hlr_owners.proofs.LendLemmas.{later_self}
 
 -- a part at home is as it was, and one that is out has the other holding

@@ -1,27 +1,7 @@
 -- The owners of parts, in order: the part with a number has the owner beside its region.
-use Rattle.std.proofs.Common.{◌≡◌, ◌∙◌, refl, sym, ap, ℕ, zero, suc, ◌+◌, ◌<◌, List, [], ◌∷◌, ◌++◌, length, get_or, set, arith, true, false, Some, None, subst}
-use Rattle.std.specs.Prelude.{position, Box, slice_get}
-use Rattle.std.specs.declared.alloc.Global.{Global}
-use Rattle.std.specs.List.{AllZip, range_with_len}
-use Rattle.std.proofs.lemmas.Bool.Decides.{nat_tests}
-use Rattle.std.proofs.lemmas.List.{get_or_past}
-use Rattle.std.proofs.lemmas.List.Quantifiers.{position-Some}
-use Rattle.std.proofs.lemmas.Option.{slice_get_read}
-use Rattle.std.proofs.lemmas.Slice.Zip.{AllZip-long}
-use Rattle.part_table.specs.Region.{is_part, is_part_place, part_number}
-use Rattle.part_table.specs.Regions.{parts_of, place_of}
-use Rattle.tatp_actions.specs.Book.{IsWithin}
+use Rattle.hlr_owners.proofs.Common.{◌≡◌, ◌∙◌, refl, sym, ap, ℕ, zero, suc, ◌+◌, ◌<◌, List, [], ◌∷◌, ◌++◌, length, get_or, set, arith, true, false, Some, None, subst, position, Box, slice_get, Global, AllZip, range_with_len, nat_tests, get_or_past, position-Some, slice_get_read, AllZip-long, is_part, is_part_place, part_number, parts_of, place_of, IsWithin, Place, Region, part_has, past_parts, blank, PieceState, PartOwnerState, book_in, of_part, of_parts, homes_in, IsKind, IsRegionOwner, OwnersState, AreRuled, IsPartHome, RegionOwner, Part, Piece}
 use Rattle.hlr_owners.proofs.StateLemmas.{lies_within}
-use Rattle.part_table.specs.declared.region.Place.{Place}
 use Rattle.part_table.specs.declared.region.Place.TheVariants as place
-use Rattle.part_table.specs.declared.region.Region.{Region}
-use Rattle.part_table.proofs.IndexLemmas.{part_has, past_parts}
-use Rattle.part_table.proofs.PlaceLemmas.{blank}
-use Rattle.holding.specs.Held.{PieceState}
-use Rattle.hlr_owners.specs.PartOwnerState.{PartOwnerState}
-use Rattle.hlr_owners.specs.Owners.{book_in, of_part, of_parts, homes_in, IsKind, IsRegionOwner, OwnersState, AreRuled, IsPartHome}
-use Rattle.hlr_owners.specs.declared.part_owner.RegionOwner.{RegionOwner}
-use Rattle.hlr_owners.specs.declared.part_owner.RegionOwner.TheVariants.{Part, Piece}
 use Rattle.hlr_owners.proofs.RegionOwnerLemmas.{IsRegionOwnerIn, owner_in}
 
 -- how many parts sit in front of an index

@@ -1,35 +1,9 @@
 -- The desks where a part is divided, and where one is dissolved: the rules are kept, and what becomes of the words.
-use Rattle.std.proofs.Common.{◌≡◌, ◌∙◌, refl, sym, ap, ℕ, zero, suc, ◌+◌, ◌/◌, ◌%◌, ◌<◌, ◌≤◌, ◌≢◌, ◌==◌, ◌||◌, max, nat_lt, if◌then◌else◌, arith, List, [], ◌∷◌, length, get_or, map, Bool, true, false, inl, inr, Some}
-use Rattle.std.specs.Prelude.{insert, remove, slice_get, pos, sum_by}
-use Rattle.std.specs.List.{AllByRecursion}
-use Rattle.std.proofs.Math.Bool.{or-false}
-use Rattle.std.proofs.lemmas.Bool.{cases_eq, cases_lt}
-use Rattle.std.proofs.lemmas.Bool.Decides.{nat_tests}
-use Rattle.std.proofs.lemmas.List.{get_or_past, ext_get_or}
-use Rattle.std.proofs.lemmas.List.Sums.{sum_by-cons, sum_by-insert, sum_by-remove}
-use Rattle.std.proofs.lemmas.Option.{slice_get_within, get_or_from_slice_get}
-use Rattle.atomic_table.specs.Seated.{TableId}
-use Rattle.tatp_rows.proofs.OrderedLemmas.{by_test}
-use Rattle.tatp_rows.proofs.PlaceLemmas.{each_at}
-use Rattle.tatp_actions.specs.declared.cells.TheConstants.{CELLS}
-use Rattle.view_board.specs.Desks.{Station, with_view}
-use Rattle.view_board.specs.Views.{owned_at, Owns, IsLeastSlot, IsWide, alone, without, both, taken_back}
-use Rattle.view_board.specs.Words.{each_word, plus_word, minus_word, twin_of, leveled, slot_net}
-use Rattle.view_board.specs.declared.words.TheConstants.{SLOTS, SLOT_WORDS, WORDS}
-use Rattle.view_board.proofs.EndLemmas.{again}
-use Rattle.view_board.proofs.JoinLemmas.{owned_by_one, owned_by_both, number_theirs, number_ours, seen_both, not_theirs}
-use Rattle.view_board.proofs.ListLemmas.{each_slot_at, length-each_slot, each_word_at, length-each_word, set_within}
-use Rattle.holding.specs.Moved.{IsBlankDesk}
-use Rattle.hlr_owners.specs.Desks.{own_number, owns_one, words_of, slots_in, HasOneSlot, IsOfBoard, AreDesks}
-use Rattle.hlr_owners.specs.Parted.{free_slot}
-use Rattle.hlr_owners.specs.Post.{least_slot}
+use Rattle.hlr_owners.proofs.Common.{◌≡◌, ◌∙◌, refl, sym, ap, ℕ, zero, suc, ◌+◌, ◌/◌, ◌%◌, ◌<◌, ◌≤◌, ◌≢◌, ◌==◌, max, nat_lt, arith, List, [], ◌∷◌, length, get_or, map, Bool, true, false, inl, inr, Some, insert, remove, slice_get, pos, sum_by, AllByRecursion, or-false, cases_eq, cases_lt, nat_tests, get_or_past, ext_get_or, sum_by-cons, sum_by-insert, sum_by-remove, slice_get_within, get_or_from_slice_get, TableId, by_test, each_at, CELLS, Station, with_view, owned_at, Owns, IsLeastSlot, IsWide, alone, without, both, taken_back, each_word, plus_word, minus_word, twin_of, leveled, slot_net, SLOTS, SLOT_WORDS, WORDS, again, owned_by_one, owned_by_both, number_theirs, number_ours, seen_both, not_theirs, each_slot_at, length-each_slot, each_word_at, length-each_word, set_within, IsBlankDesk, own_number, owns_one, words_of, slots_in, HasOneSlot, IsOfBoard, AreDesks, free_slot, least_slot, no_net, leveled_here, level_of, owns_alone, wide_alone, wide_without, net_none, only_slot, was_owned}
+use Rattle.std.proofs.Common.{◌||◌, if◌then◌else◌}
 use Rattle.hlr_owners.proofs.DeskLemmas.{words_at, none_owns, one_owns, sole_number, least_of_slots}
 use Rattle.hlr_owners.proofs.FreeSlotLemmas.{has_slot, free_is}
 use Rattle.hlr_owners.proofs.ShareLemmas.{alone_slots, split_once}
-use Rattle.view_board.proofs.BackLemmas.{no_net, leveled_here}
-use Rattle.view_board.proofs.LevelLemmas.{level_of}
-use Rattle.view_board.proofs.OwnLemmas.{owns_alone, wide_alone, wide_without, net_none}
-use Rattle.view_board.proofs.SplitLemmas.{only_slot, was_owned}
 
 -- what holds of each holds with one more, and without one
 each_insert : {X : Type 0} (P : X → Type 0) (xs : List X) (i : ℕ) (x : X) → AllByRecursion P xs → P x → AllByRecursion P (insert xs i x)

@@ -1,27 +1,8 @@
 -- A posting of one desk among all: what it is of the words of the board.
-use Rattle.std.proofs.Common.{◌≡◌, ◌∙◌, refl, sym, ap, ℕ, zero, suc, ◌+◌, ◌<◌, ◌≤◌, arith, List, [], ◌∷◌, length, get_or, set, take, true, false, not, Bool, map}
-use Rattle.std.specs.Prelude.{ℤ, pos, ◌-ℤ◌, sum_by}
-use Rattle.std.specs.List.{AllByRecursion, filter, range_with_len}
-use Rattle.std.proofs.lemmas.List.{map-set}
-use Rattle.std.proofs.lemmas.List.Sums.{sum_by-cons, sum_by-set}
-use Rattle.std.proofs.Math.ListN.{get_or-map}
-use Rattle.atomic_table.specs.Seated.{TableId}
-use Rattle.tatp_rows.proofs.OrderedLemmas.{by_test}
-use Rattle.tatp_rows.proofs.PlaceLemmas.{each_at}
-use Rattle.tatp_actions.specs.declared.cells.TheConstants.{CELLS}
-use Rattle.view_board.specs.Desks.{Station, with_view}
-use Rattle.view_board.specs.Views.{IsLeastSlot, IsWide, posted}
-use Rattle.view_board.specs.Words.{is_worn}
-use Rattle.view_board.specs.declared.rule.View.{View}
-use Rattle.view_board.specs.declared.words.TheConstants.{SLOTS}
-use Rattle.holding.proofs.HeldLemmas.{wide_posted}
+use Rattle.hlr_owners.proofs.Common.{◌≡◌, ◌∙◌, refl, sym, ap, ℕ, zero, suc, ◌+◌, ◌<◌, ◌≤◌, arith, List, [], ◌∷◌, length, get_or, set, take, true, false, not, map, ℤ, pos, ◌-ℤ◌, sum_by, AllByRecursion, filter, range_with_len, map-set, sum_by-cons, sum_by-set, get_or-map, TableId, by_test, each_at, CELLS, Station, with_view, IsLeastSlot, IsWide, posted, is_worn, View, SLOTS, wide_posted, is_zero, due, post_cells, owns_one, words_of, slots_in, HasOneSlot, IsOfBoard, AreDesks, raise_cells, post, net}
 use Rattle.holding.specs.Post as own
-use Rattle.view_delta.specs.Pending.{is_zero}
-use Rattle.holding.specs.Post.{all_cells, due, post_cells}
+use Rattle.holding.specs.Post.{all_cells}
 use Rattle.hlr_owners.proofs.PartedLemmas.{each_filtered, each_take}
-use Rattle.hlr_owners.specs.Desks.{owns_one, words_of, slots_in, HasOneSlot, IsOfBoard, AreDesks}
-use Rattle.hlr_owners.specs.Post.{raise_cells, post}
-use Rattle.hlr_owners.specs.Words.{net}
 use Rattle.hlr_owners.proofs.DeskLemmas.{same_one, words_with, words_posted, word_here, net_of_slots, least_of_slots}
 use Rattle.hlr_owners.proofs.IndexedLemmas.{set_same}
 

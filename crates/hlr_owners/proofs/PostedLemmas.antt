@@ -1,37 +1,9 @@
 -- A posting of a part among all owners.
-use Rattle.std.proofs.Common.{◌≡◌, ◌∙◌, refl, sym, ap, ℕ, suc, ◌<◌, arith, List, ◌∷◌, length, get_or, set, map, Some, None}
-use Rattle.std.specs.Prelude.{find, Result, Err, position}
-use Rattle.std.proofs.Math.ListN.{get_or-map}
-use Rattle.std.proofs.Math.Seq.{map-set_same}
-use Rattle.std.proofs.lemmas.List.{length-map}
-use Rattle.std.proofs.lemmas.Option.{slice_get_read, slice_get_past}
-use Rattle.atomic_table.specs.Seated.{TableId}
-use Rattle.tatp_rows.proofs.PlaceLemmas.{each_at}
-use Rattle.tatp_rows.specs.declared.refusal.Refusal.{Refusal}
+use Rattle.hlr_owners.proofs.Common.{◌≡◌, ◌∙◌, refl, sym, ap, ℕ, suc, ◌<◌, arith, List, ◌∷◌, length, get_or, set, map, Some, None, find, Result, Err, position, get_or-map, map-set_same, length-map, slice_get_read, slice_get_past, TableId, each_at, Refusal, book_of, PartState, is_part, Region, find_index, past_parts, blank, IsWide, View, SLOTS, set_within, HoldingState, IsHolding, count_of, words_of, slots_in, IsOfBoard, AreDesks, HasOneSlot, OwnerState, of_holding, post, Store, slots_of, PartOwnerState, IsPosting, states_in, book_in, desks_in, store_in, OwnersState, AreRuled, Part}
 use Rattle.tatp_rows.specs.declared.refusal.Refusal.TheVariants as refusal
-use Rattle.tatp_actions.specs.Joined.{book_of}
-use Rattle.tatp_actions.specs.Part.{PartState}
-use Rattle.part_table.specs.Region.{is_part}
-use Rattle.part_table.specs.declared.region.Region.{Region}
-use Rattle.part_table.proofs.FirstLemmas.{find_index}
-use Rattle.part_table.proofs.IndexLemmas.{past_parts}
-use Rattle.part_table.proofs.PlaceLemmas.{blank}
-use Rattle.view_board.specs.Views.{IsWide}
-use Rattle.view_board.specs.declared.rule.View.{View}
-use Rattle.view_board.specs.declared.words.TheConstants.{SLOTS}
-use Rattle.view_board.proofs.ListLemmas.{set_within}
-use Rattle.holding.specs.Held.{HoldingState, IsHolding, count_of}
 use Rattle.holding.specs.Post as own
-use Rattle.hlr_owners.specs.Desks.{words_of, slots_in, IsOfBoard, AreDesks, HasOneSlot}
-use Rattle.hlr_owners.specs.Held.{OwnerState, of_holding}
-use Rattle.hlr_owners.specs.Post.{post}
-use Rattle.hlr_owners.specs.Store.{Store, slots_of}
 use Rattle.hlr_owners.proofs.HalvesLemmas.{HasRows}
 use Rattle.hlr_owners.proofs.PostLemmas.{post_same, desks_posted, slots_posted, desk_is}
-use Rattle.hlr_owners.specs.PartOwnerState.{PartOwnerState}
-use Rattle.hlr_owners.specs.Posting.{IsPosting}
-use Rattle.hlr_owners.specs.Owners.{states_in, book_in, desks_in, store_in, OwnersState, AreRuled}
-use Rattle.hlr_owners.specs.declared.part_owner.RegionOwner.TheVariants.{Part}
 use Rattle.hlr_owners.proofs.PartLemmas.{at_number, set_number, count_parts, part_has_place, part_owner_at}
 use Rattle.hlr_owners.proofs.RegionOwnerLemmas.{states-set, state_is, exchanged}
 

@@ -1,14 +1,6 @@
 -- A part's owner put in among all, and one taken out: what the parts have, and the owners with what those that are out
 -- have become.
-use Rattle.std.proofs.Common.{◌≡◌, ◌∙◌, refl, sym, ap, subst, ℕ, zero, suc, ◌<◌, List, [], ◌∷◌, ◌++◌, length, get_or, set, drop, Bool, true, arith}
-use Rattle.std.specs.Prelude.{insert, remove}
-use Rattle.std.specs.List.{AllByRecursion}
-use Rattle.holding.specs.Held.{HoldingState}
-use Rattle.hlr_owners.specs.PartOwnerState.{PartOwnerState}
-use Rattle.hlr_owners.specs.Out.{with_out, with_outs}
-use Rattle.hlr_owners.specs.Owners.{of_part, of_parts, homes_in, AllHome}
-use Rattle.hlr_owners.specs.declared.part_owner.RegionOwner.{RegionOwner}
-use Rattle.hlr_owners.specs.declared.part_owner.RegionOwner.TheVariants.{Part, Piece}
+use Rattle.hlr_owners.proofs.Common.{◌≡◌, ◌∙◌, refl, sym, ap, subst, ℕ, zero, suc, ◌<◌, List, [], ◌∷◌, ◌++◌, length, get_or, set, drop, Bool, true, arith, insert, remove, AllByRecursion, HoldingState, PartOwnerState, with_out, with_outs, of_part, of_parts, homes_in, AllHome, RegionOwner, Part, Piece}
 use Rattle.hlr_owners.proofs.OutLemmas.{home_kept}
 use Rattle.hlr_owners.proofs.PartLemmas.{ahead}
 

@@ -1,23 +1,8 @@
 -- What is read of one part's rows is what all rows answer.
-use Rattle.std.proofs.Common.{◌≡◌, refl, sym, ℕ, ◌+◌, nat_le, List, [], ◌∷◌, length, true, false, inl, inr, arith}
+use Rattle.hlr_owners.proofs.Common.{◌≡◌, refl, sym, ℕ, ◌+◌, List, [], ◌∷◌, length, true, false, inl, inr, arith, nat_tests, ArrayVec, array_vec_len, is_between, LAST_SUBSCRIBER, Refusal, s_id_of, effect, is_in_range, new_destination, Book, IsWithin, Action, RowReply, HoldingState, is_loose, HasRowsWhileOut, IsReadWhileOut, store_with, HasRowsOf, IsRead, OwnersState, store_in, Store}
 use Rattle.std.specs.Prelude.{◌==◌}
-use Rattle.std.proofs.lemmas.Bool.Decides.{nat_tests}
-use Rattle.arrayvec.specs.ArrayVec.{ArrayVec, array_vec_len}
-use Rattle.tatp_rows.specs.Rows.{is_between}
-use Rattle.tatp_rows.specs.declared.ranges.TheConstants.{LAST_SUBSCRIBER}
-use Rattle.tatp_rows.specs.declared.refusal.Refusal.{Refusal}
 use Rattle.tatp_rows.specs.declared.refusal.Refusal.TheVariants as refusal
-use Rattle.tatp_actions.specs.Action.{s_id_of, effect, is_in_range, new_destination}
-use Rattle.tatp_actions.specs.Book.{Book, IsWithin}
-use Rattle.tatp_actions.specs.declared.action.Action.{Action}
-use Rattle.tatp_actions.specs.declared.action.RowReply.{RowReply}
 use Rattle.tatp_actions.specs.declared.action.RowReply.TheVariants as row_reply
-use Rattle.holding.specs.Held.{HoldingState}
-use Rattle.hlr_owners.specs.Answered.{is_loose}
-use Rattle.hlr_owners.specs.WhileOut.{HasRowsWhileOut, IsReadWhileOut, store_with}
-use Rattle.hlr_owners.specs.Read.{HasRowsOf, IsRead}
-use Rattle.hlr_owners.specs.Owners.{OwnersState, store_in}
-use Rattle.hlr_owners.specs.Store.{Store}
 
 -- one of all subscribers has an s_id in range, and with a type in range both are
 pub subscriber_fits : (s_id : ℕ) → IsWithin 1 (LAST_SUBSCRIBER + 1) s_id → is_between 1 LAST_SUBSCRIBER s_id ≡ true

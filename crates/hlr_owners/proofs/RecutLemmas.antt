@@ -1,16 +1,5 @@
 -- The moves of a re-cut, one after another.
-use Rattle.std.proofs.Common.{◌≡◌, ◌∙◌, refl, sym, ap, ℕ, ◌+◌, ◌<◌, ◌≤◌, List, [], ◌∷◌, length, get_or, drop, inl, inr}
-use Rattle.std.specs.Prelude.{Result, Ok, Err}
-use Rattle.std.specs.Result.{IsOk}
-use Rattle.std.proofs.lemmas.List.{drop_more, drop_all}
-use Rattle.tatp_rows.specs.declared.refusal.Refusal.{Refusal}
-use Rattle.part_table.specs.Bounds.{parts_between}
-use Rattle.part_table.specs.Recut.{moved, all_moved}
-use Rattle.part_table.specs.declared.moves.CutMove.{CutMove}
-use Rattle.part_table.specs.declared.region.Region.{Region}
-use Rattle.hlr_owners.specs.Recut.{IsStopped, IsRecutBy, half_moved}
-use Rattle.hlr_owners.specs.Inside.{IsHanded}
-use Rattle.hlr_owners.specs.Store.{Store}
+use Rattle.hlr_owners.proofs.Common.{◌≡◌, ◌∙◌, refl, sym, ap, ℕ, ◌+◌, ◌<◌, ◌≤◌, List, [], ◌∷◌, length, get_or, drop, inl, inr, Result, Ok, Err, IsOk, drop_more, drop_all, Refusal, parts_between, moved, all_moved, CutMove, Region, IsStopped, IsRecutBy, half_moved, IsHanded, Store}
 
 -- where a re-cut stands in front of the moves that are left: they lead to its bounds, and what stops them stops all
 -- moves

@@ -1,8 +1,7 @@
 -- A give or a take that is refused for want of memory.
-use Rattle.std.proofs.Common.{◌≡◌, ◌⊎◌, refl, inl, inr, Result, Ok, Err}
-use Rattle.tatp_rows.specs.declared.refusal.Refusal.{Refusal}
+use Rattle.hlr_owners.proofs.Common.{◌≡◌, ◌⊎◌, refl, inl, inr, Refusal, MayAnswer}
+use Rattle.std.proofs.Common.{Result, Ok, Err}
 use Rattle.tatp_rows.specs.declared.refusal.Refusal.TheVariants as refusal
-use Rattle.hlr_owners.specs.Answered.{MayAnswer}
 
 -- a refusal that is want of memory, where the other reason does not stand
 pub only_memory : {P : Type 0} (other why : Refusal) → P → ((why ≡ other) × (P → ⊥)) ⊎ ((why ≡ refusal.Memory) × P) → why ≡ refusal.Memory

@@ -1,38 +1,11 @@
 -- An owner among all: its owner, its desk, and what is done to it.
-use Rattle.std.proofs.Common.{◌≡◌, ◌∙◌, refl, sym, ap, ℕ, zero, suc, ◌<◌, ◌≤◌, List, [], ◌∷◌, ◌++◌, length, get_or, set, arith, true, false, Some}
-use Rattle.std.specs.Prelude.{position, insert, remove, Box, if◌then◌else◌}
-use Rattle.std.specs.declared.alloc.Global.{Global}
-use Rattle.tatp_rows.specs.declared.refusal.Refusal.{Refusal}
+use Rattle.hlr_owners.proofs.Common.{◌≡◌, ◌∙◌, refl, sym, ap, ℕ, zero, suc, ◌<◌, ◌≤◌, List, [], ◌∷◌, ◌++◌, length, get_or, set, arith, true, false, Some, position, insert, remove, Box, if◌then◌else◌, Global, Refusal, AllByRecursion, AllZip, map-set, position-Some, AllZip-long, get_or-map, s_id_of, IsOutcome, is_in_range, Book, IsRowsOf, IsWithin, Action, RowReply, apart, outcome-low, outcome-high, lies_in, AreRegions, IsConsecutive, Place, Region, END, blank, place_at, Station, PieceState, IsHolding, OwnerState, IsOwnerState, AreOwnerStates, of_holding, IsAnswered, is_loose, is_loose_place, PartOwnerState, state_of, states_in, book_in, of_part, of_parts, IsKind, IsRegionOwner, OwnersState, AreRuled, RegionOwner, Part, Piece}
 use Rattle.tatp_rows.specs.declared.refusal.Refusal.TheVariants as refusal
 use Rattle.tatp_actions.specs.declared.action.RowReply.TheVariants as row_reply
-use Rattle.std.specs.List.{AllByRecursion, AllZip}
-use Rattle.std.proofs.lemmas.List.{map-set}
-use Rattle.std.proofs.lemmas.List.Quantifiers.{position-Some}
-use Rattle.std.proofs.lemmas.Slice.Zip.{AllZip-long}
-use Rattle.std.proofs.Math.ListN.{get_or-map}
-use Rattle.tatp_actions.specs.Action.{s_id_of, IsOutcome, is_in_range}
-use Rattle.tatp_actions.specs.Book.{Book, IsRowsOf, IsWithin}
-use Rattle.tatp_actions.specs.declared.action.Action.{Action}
-use Rattle.tatp_actions.specs.declared.action.RowReply.{RowReply}
-use Rattle.tatp_actions.proofs.LocalLemmas.{apart, outcome-low, outcome-high}
-use Rattle.part_table.specs.Region.{lies_in}
-use Rattle.part_table.specs.Regions.{AreRegions, IsConsecutive}
-use Rattle.part_table.specs.declared.region.Place.{Place}
 use Rattle.part_table.specs.declared.region.Place.TheVariants as place
-use Rattle.part_table.specs.declared.region.Region.{Region}
-use Rattle.part_table.specs.declared.region.TheConstants.{END}
-use Rattle.part_table.proofs.PlaceLemmas.{blank, place_at}
-use Rattle.view_board.specs.Desks.{Station}
-use Rattle.holding.specs.Held.{PieceState, IsHolding}
-use Rattle.hlr_owners.specs.Held.{OwnerState, IsOwnerState, AreOwnerStates, of_holding}
-use Rattle.hlr_owners.specs.Answered.{IsAnswered, is_loose, is_loose_place}
 use Rattle.hlr_owners.proofs.HeldLemmas.{holding_keeps}
 use Rattle.hlr_owners.proofs.HalvesLemmas.{HasRows, IsOwnerIn}
 use Rattle.hlr_owners.proofs.StateLemmas.{book_of_states, own_region, state_rows, states_rows, lies_within, book_stays}
-use Rattle.hlr_owners.specs.PartOwnerState.{PartOwnerState}
-use Rattle.hlr_owners.specs.Owners.{state_of, states_in, book_in, of_part, of_parts, IsKind, IsRegionOwner, OwnersState, AreRuled}
-use Rattle.hlr_owners.specs.declared.part_owner.RegionOwner.{RegionOwner}
-use Rattle.hlr_owners.specs.declared.part_owner.RegionOwner.TheVariants.{Part, Piece}
 use Rattle.hlr_owners.proofs.IndexedLemmas.{set_same}
 use Rattle.hlr_owners.proofs.ZipLemmas.{zip_at, zip_put, zip_from_two, zip_weaker}
 

@@ -1,29 +1,8 @@
 -- The slots of the board, shared out among desks one after another.
-use Rattle.std.proofs.lemmas.List.FromFn.{map-range_with_len_more}
-use Rattle.std.proofs.Common.{◌≡◌, ◌≢◌, ◌∙◌, refl, sym, ap, ℕ, zero, suc, ◌+◌, ◌*◌, ◌/◌, ◌<◌, ◌≤◌, arith, List, [], ◌∷◌, ◌++◌, length, get_or, set, map, replicate, true, false, Bool, inl, inr}
-use Rattle.std.specs.Prelude.{pos, sum_by}
-use Rattle.std.specs.List.{AllByRecursion, filter, range_with_len}
-use Rattle.std.proofs.lemmas.Bool.{cases_eq}
-use Rattle.std.proofs.lemmas.Int.{ints}
-use Rattle.std.proofs.lemmas.List.{length-append, get_or-replicate, length-replicate, length-set, map-append, get_or-set_same, get_or-set_other, ext_get_or}
-use Rattle.std.proofs.lemmas.List.Sums.{sum_by-cons, sum_by_push}
-use Rattle.atomic_table.specs.Seated.{TableId}
-use Rattle.tatp_rows.proofs.BlankLemmas.{blank_at}
-use Rattle.tatp_rows.proofs.OrderedLemmas.{by_test}
-use Rattle.tatp_actions.specs.declared.cells.TheConstants.{CELLS}
-use Rattle.tatp_rows.proofs.AppendLemmas.{each-append}
-use Rattle.view_board.specs.Desks.{Station, with_view}
-use Rattle.view_board.specs.Nets.{net_of, net_from}
-use Rattle.view_board.specs.Views.{owned_at, Owns, IsWide, first_view, alone, without}
-use Rattle.view_board.specs.Words.{slot_net, plus_word, minus_word}
-use Rattle.view_board.specs.declared.rule.View.{View}
-use Rattle.view_board.specs.declared.words.TheConstants.{SLOTS, SLOT_WORDS, WORDS}
-use Rattle.view_board.proofs.ListLemmas.{length-each_word, set_within}
-use Rattle.holding.specs.Held.{HasSmallNets}
-use Rattle.hlr_owners.specs.Desks.{owns_one, own_number, words_of, slots_in, HasOneSlot, IsOfBoard, AreDesks, AreLevel, AreOpening}
+use Rattle.hlr_owners.proofs.Common.{map-range_with_len_more, ◌≡◌, ◌≢◌, ◌∙◌, refl, sym, ap, ℕ, zero, suc, ◌+◌, ◌*◌, ◌/◌, ◌<◌, ◌≤◌, arith, List, [], ◌∷◌, ◌++◌, length, get_or, set, map, replicate, true, false, Bool, inl, inr, pos, sum_by, AllByRecursion, filter, range_with_len, cases_eq, ints, length-append, get_or-replicate, length-replicate, length-set, map-append, get_or-set_same, get_or-set_other, ext_get_or, sum_by-cons, sum_by_push, TableId, blank_at, by_test, CELLS, each-append, Station, with_view, net_of, owned_at, Owns, IsWide, first_view, alone, without, slot_net, plus_word, minus_word, View, SLOTS, SLOT_WORDS, WORDS, length-each_word, set_within, HasSmallNets, owns_one, own_number, words_of, slots_in, HasOneSlot, IsOfBoard, AreDesks, AreLevel, AreOpening, owns_alone}
+use Rattle.view_board.specs.Nets.{net_from}
 use Rattle.hlr_owners.specs.Words.{all_slots, blank_words}
 use Rattle.hlr_owners.proofs.DeskLemmas.{words_at}
-use Rattle.view_board.proofs.OwnLemmas.{owns_alone}
 
 -- the first slots are desks' own, one each, the spare desk has the others and has seen the words, and all desks have
 -- their numbers

@@ -1,18 +1,5 @@
 -- What the spare desk sees is a right sight of the store.
-use Rattle.std.proofs.Common.{◌≡◌, ◌∙◌, refl, sym, ap, ℕ, zero, suc, ◌+◌, ◌/◌, ◌<◌, ◌≤◌, ◌==◌, arith, List, [], ◌∷◌, get_or, map, true, false, inl, inr}
-use Rattle.std.specs.Prelude.{sum_by}
-use Rattle.std.specs.List.{AllByRecursion, list_any, range_with_len}
-use Rattle.std.proofs.lemmas.Bool.{cases_eq}
-use Rattle.std.proofs.lemmas.Bool.Decides.{nat_tests}
-use Rattle.std.proofs.lemmas.List.Sums.{sum_by-cons}
-use Rattle.std.proofs.lemmas.Map.Views.{any-filter_same}
-use Rattle.atomic_table.specs.Seated.{TableId}
-use Rattle.tatp_rows.proofs.OrderedLemmas.{by_test}
-use Rattle.view_board.specs.Desks.{Station, with_view}
-use Rattle.view_board.specs.Views.{owned_at, Owns, IsRightSight, looked}
-use Rattle.view_board.specs.Words.{each_word}
-use Rattle.view_board.specs.declared.words.TheConstants.{SLOTS, SLOT_WORDS, WORDS}
-use Rattle.hlr_owners.specs.Desks.{owns_one, own_number, words_of, slots_in, AreDesks}
+use Rattle.hlr_owners.proofs.Common.{◌≡◌, ◌∙◌, refl, sym, ap, ℕ, zero, suc, ◌+◌, ◌/◌, ◌<◌, ◌≤◌, ◌==◌, arith, List, [], ◌∷◌, get_or, map, true, false, inl, inr, sum_by, AllByRecursion, list_any, range_with_len, cases_eq, nat_tests, sum_by-cons, any-filter_same, TableId, by_test, Station, with_view, owned_at, Owns, IsRightSight, looked, each_word, SLOTS, SLOT_WORDS, WORDS, owns_one, own_number, words_of, slots_in, AreDesks}
 use Rattle.hlr_owners.specs.Words.{all_slots}
 use Rattle.hlr_owners.proofs.DeskLemmas.{none_owns, words_at}
 

@@ -1,19 +1,5 @@
 -- The counts of all owners: as they add up, and what is published and pending of them.
-use Rattle.std.proofs.Common.{◌≡◌, ◌∙◌, refl, sym, ap, ℕ, ◌+◌, ◌*◌, ◌<◌, arith, List, [], ◌∷◌, length}
-use Rattle.std.specs.Prelude.{ℤ, pos, ◌+ℤ◌, sum_by}
-use Rattle.std.specs.List.{AllByRecursion}
-use Rattle.std.proofs.lemmas.Int.{ints}
-use Rattle.std.proofs.lemmas.List.Sums.{sum_by-cons}
-use Rattle.tatp_actions.specs.Cell.{cell}
-use Rattle.tatp_actions.specs.declared.cells.TheConstants.{CELLS}
-use Rattle.tatp_actions.proofs.JoinedLemmas.{cell_joined}
-use Rattle.part_table.specs.Regions.{IsConsecutive}
-use Rattle.part_table.specs.declared.region.Region.{Region}
-use Rattle.part_table.specs.declared.region.TheConstants.{END}
-use Rattle.view_board.specs.Nets.{net_of}
-use Rattle.view_delta.specs.Pending.{pending_at}
-use Rattle.holding.proofs.HeldLemmas.{empty_cell}
-use Rattle.hlr_owners.specs.Held.{OwnerState, AreOwnerStates}
+use Rattle.hlr_owners.proofs.Common.{◌≡◌, ◌∙◌, refl, sym, ap, ℕ, ◌+◌, ◌*◌, ◌<◌, arith, List, [], ◌∷◌, length, ℤ, pos, ◌+ℤ◌, sum_by, AllByRecursion, ints, sum_by-cons, cell, CELLS, cell_joined, IsConsecutive, Region, END, net_of, pending_at, empty_cell, OwnerState, AreOwnerStates}
 use Rattle.hlr_owners.proofs.HeldLemmas.{IsAtMost, state_most}
 use Rattle.hlr_owners.proofs.IntSumLemmas.{sum_ints}
 use Rattle.hlr_owners.proofs.StateLemmas.{book_of_states, state_rows, own_region}

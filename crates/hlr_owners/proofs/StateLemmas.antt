@@ -1,17 +1,5 @@
 -- The owners of all regions, one beside each, and their rows as one book.
-use Rattle.std.proofs.Common.{◌≡◌, ℕ, ◌<◌, ◌≤◌, arith, List, [], ◌∷◌, sym, ◌∙◌, ap, true, map}
-use Rattle.std.specs.List.{AllZip}
-use Rattle.tatp_actions.specs.Book.{Book, IsRowsOf, IsWithin, rows_between}
-use Rattle.tatp_actions.specs.Joined.{join_books, book_of}
-use Rattle.tatp_actions.proofs.JoinedLemmas.{rows_joined}
-use Rattle.part_table.specs.declared.region.Region.{Region}
-use Rattle.hlr_owners.specs.Held.{OwnerState, IsOwnerState, AreOwnerStates}
-use Rattle.std.proofs.lemmas.Bool.Decides.{nat_tests}
-use Rattle.tatp_actions.proofs.BetweenLemmas.{low_between, own_rows, none_past, between_joined}
-use Rattle.part_table.proofs.BoundsLemmas.{within}
-use Rattle.part_table.specs.Region.{lies_in}
-use Rattle.part_table.specs.Regions.{IsConsecutive}
-use Rattle.part_table.specs.declared.region.TheConstants.{END}
+use Rattle.hlr_owners.proofs.Common.{◌≡◌, ℕ, ◌<◌, ◌≤◌, arith, List, [], ◌∷◌, sym, ◌∙◌, ap, true, map, AllZip, Book, IsRowsOf, IsWithin, rows_between, join_books, book_of, rows_joined, Region, OwnerState, IsOwnerState, AreOwnerStates, nat_tests, low_between, own_rows, none_past, between_joined, within, lies_in, IsConsecutive, END}
 use Rattle.hlr_owners.proofs.StretchLemmas.{between_none, between_halves}
 use Rattle.hlr_owners.proofs.HeldLemmas.{empty_rows}
 use Rattle.hlr_owners.proofs.HalvesLemmas.{HasRows}

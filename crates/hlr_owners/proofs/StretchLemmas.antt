@@ -1,14 +1,6 @@
 -- The rows of a stretch of subscribers in a book.
-use Rattle.std.proofs.Common.{◌≡◌, ◌∙◌, refl, sym, ap, ℕ, ◌≤◌, arith, List, [], ◌∷◌, Bool, true, false}
-use Rattle.std.specs.Prelude.{nat_le, nat_lt}
-use Rattle.std.specs.List.{filter, AllByRecursion}
-use Rattle.std.proofs.lemmas.Bool.Decides.{nat_tests}
-use Rattle.tatp_rows.proofs.OrderedLemmas.{by_test, filter_none}
-use Rattle.tatp_rows.specs.Rows.{SubscriberRow, AccessInfoRow, SpecialFacilityRow, CallForwardingRow}
-use Rattle.tatp_actions.specs.Book.{Book, IsRowsOf, is_within, rows_between, empty_book}
-use Rattle.tatp_actions.specs.Joined.{join_books, cut_low, cut_high}
-use Rattle.tatp_actions.proofs.BetweenLemmas.{low_is_between, high_is_between}
-use Rattle.tatp_actions.proofs.CutLemmas.{same_tables, cut_joined, cut_low_rows, cut_high_rows}
+use Rattle.hlr_owners.proofs.Common.{◌≡◌, ◌∙◌, refl, sym, ap, ℕ, ◌≤◌, arith, List, [], ◌∷◌, Bool, true, false, nat_le, filter, AllByRecursion, nat_tests, by_test, filter_none, SubscriberRow, AccessInfoRow, SpecialFacilityRow, CallForwardingRow, Book, IsRowsOf, is_within, rows_between, empty_book, join_books, cut_low, cut_high, low_is_between, high_is_between, same_tables, cut_joined, cut_low_rows, cut_high_rows}
+use Rattle.std.specs.Prelude.{nat_lt}
 
 -- a filter behind a weaker one
 filter_twice : {X : Type 0} (p q : X → Bool) → ((x : X) → p x ≡ true → q x ≡ true) → (xs : List X) → filter p (filter q xs) ≡ filter p xs

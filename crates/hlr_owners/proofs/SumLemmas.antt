@@ -1,38 +1,12 @@
 -- Sums over all owners, one after another: what they have published, what is pending of them, and the counts of their
 -- rows.
 use Rattle.hlr_owners.proofs.ZipLemmas.{each_zipped}
-use Rattle.std.proofs.Common.{◌≡◌, refl, sym, ap, ℕ, zero, suc, ◌+◌, ◌^◌, ◌<◌, ◌≤◌, arith, List, [], ◌∷◌, length, get_or, take}
-use Rattle.std.specs.Prelude.{ℤ, pos, ◌+ℤ◌, sum_by}
-use Rattle.std.specs.List.{AllByRecursion}
-use Rattle.std.proofs.lemmas.Int.{ints}
-use Rattle.std.proofs.lemmas.List.{length-map, length-take, take_all}
-use Rattle.std.proofs.lemmas.List.Sums.{sum_by_more, sum_by_more_le}
-use Rattle.std.proofs.lemmas.Slice.Zip.{AllZip-long}
-use Rattle.atomic_table.specs.Seated.{TableId}
-use Rattle.tatp_actions.proofs.CountLemmas.{few_cells}
-use Rattle.tatp_actions.specs.Cell.{cell}
-use Rattle.tatp_actions.specs.declared.cells.TheConstants.{CELLS}
-use Rattle.tatp_rows.proofs.OrderedLemmas.{each-weaker}
-use Rattle.tatp_rows.proofs.PlaceLemmas.{each_at}
-use Rattle.part_table.proofs.NumberLemmas.{length_regions, most_pieces}
-use Rattle.part_table.specs.Regions.{pieces_of}
-use Rattle.part_table.specs.declared.region.Region.{Region}
-use Rattle.view_board.specs.Desks.{Station}
-use Rattle.view_board.specs.Nets.{net_of}
-use Rattle.view_board.specs.Views.{IsWide}
-use Rattle.view_delta.specs.Pending.{pending_at}
+use Rattle.hlr_owners.proofs.Common.{◌≡◌, refl, sym, ap, ℕ, ◌+◌, ◌^◌, ◌<◌, ◌≤◌, arith, List, [], ◌∷◌, length, get_or, take, ℤ, pos, ◌+ℤ◌, sum_by, AllByRecursion, ints, length-map, length-take, take_all, sum_by_more, sum_by_more_le, AllZip-long, TableId, few_cells, cell, CELLS, each-weaker, each_at, length_regions, most_pieces, pieces_of, Region, Station, net_of, IsWide, pending_at, AreDesks, IsOfBoard, OwnerState, AreOwnerStates, pending_in, IsOwnerState, published, unpublished, net_none, state_of, states_in, book_in, desks_in, unposted, store_in, IsRegionOwner, OwnersState, AreRuled, RegionOwner, Part, Piece}
 use Rattle.hlr_owners.proofs.PartedLemmas.{each_take}
-use Rattle.hlr_owners.specs.Desks.{AreDesks, IsOfBoard}
-use Rattle.hlr_owners.specs.Held.{OwnerState, AreOwnerStates, pending_in, IsOwnerState}
-use Rattle.hlr_owners.specs.Store.{published, unpublished}
 use Rattle.hlr_owners.proofs.DeskLemmas.{nets_of_desks}
-use Rattle.view_board.proofs.OwnLemmas.{net_none}
 use Rattle.hlr_owners.proofs.HeldLemmas.{IsAtMost, state_most, pending_fits, nobody_net}
 use Rattle.hlr_owners.proofs.IntSumLemmas.{sum_ints, sum_more}
 use Rattle.hlr_owners.proofs.StateCountLemmas.{sum_small, cells_added, states_counted}
-use Rattle.hlr_owners.specs.Owners.{state_of, states_in, book_in, desks_in, unposted, store_in, IsRegionOwner, OwnersState, AreRuled}
-use Rattle.hlr_owners.specs.declared.part_owner.RegionOwner.{RegionOwner}
-use Rattle.hlr_owners.specs.declared.part_owner.RegionOwner.TheVariants.{Part, Piece}
 use Rattle.hlr_owners.proofs.RegionOwnerLemmas.{owned, state_is, ruled_rows}
 
 -- the zones of an owner have the width, and what it has published and what is pending of it are small

@@ -1,34 +1,11 @@
 -- A take among all owners: the piece's owner goes, and the part's stands for both.
-use Rattle.std.proofs.Common.{◌≡◌, ◌∙◌, refl, sym, ℕ, ◌+◌, ◌<◌, List, length, get_or, set, arith, true, Some, subst}
-use Rattle.std.specs.Prelude.{Ok, remove, insert, position, Box}
-use Rattle.std.specs.declared.alloc.Global.{Global}
-use Rattle.std.proofs.lemmas.List.Quantifiers.{position-Some}
-use Rattle.std.proofs.lemmas.List.Edits.{length-remove}
-use Rattle.std.proofs.lemmas.Slice.Zip.{AllZip-long}
-use Rattle.tatp_actions.specs.Cut.{Touch}
-use Rattle.part_table.specs.Give.{piece_index}
-use Rattle.part_table.specs.Region.{is_piece}
-use Rattle.part_table.specs.Take.{joined, take_answer}
-use Rattle.part_table.specs.declared.region.Place.{Place}
+use Rattle.hlr_owners.proofs.Common.{◌≡◌, ◌∙◌, refl, sym, ℕ, ◌+◌, ◌<◌, List, length, get_or, set, arith, true, Some, subst, Ok, remove, insert, position, Box, Global, position-Some, length-remove, AllZip-long, Touch, piece_index, is_piece, joined, take_answer, Place, Region, Side, Low, High, is_part_there, regions-joined, IsPair, part_index, pair, places, stands, touch, join_edit, joint_region, joint_place, blank, PieceState, IsHolding, IsTaken, out_of, with_outs, PartOwnerState, book_in, desks_in, of_parts, store_in, IsKind, IsPartHome, IsRegionOwner, OwnersState, AreRuled, taker, RegionOwner, Part, Piece}
 use Rattle.part_table.specs.declared.region.Place.TheVariants as place
-use Rattle.part_table.specs.declared.region.Region.{Region}
-use Rattle.part_table.specs.declared.region.Side.{Side}
-use Rattle.part_table.specs.declared.region.Side.TheVariants.{Low, High}
-use Rattle.part_table.proofs.IndexLemmas.{is_part_there}
-use Rattle.part_table.proofs.JoinLemmas.{regions-joined}
-use Rattle.part_table.proofs.PairLemmas.{IsPair, part_index, pair, places, within, stands, touch, join_edit, joint_region, joint_place}
-use Rattle.part_table.proofs.PlaceLemmas.{blank}
-use Rattle.holding.specs.Held.{PieceState, IsHolding}
-use Rattle.holding.specs.Moved.{IsTaken}
+use Rattle.part_table.proofs.PairLemmas.{within}
 use Rattle.hlr_owners.proofs.EditLemmas.{LeavesMoved}
 use Rattle.hlr_owners.proofs.HalvesLemmas.{Meets, meets_from, meets_touch, taken_in}
 use Rattle.hlr_owners.proofs.LendLemmas.{ruled_later}
 use Rattle.hlr_owners.proofs.OutLemmas.{none_out, outs-at, outs-remove, outs-set}
-use Rattle.hlr_owners.specs.Out.{out_of, with_outs}
-use Rattle.hlr_owners.specs.PartOwnerState.{PartOwnerState}
-use Rattle.hlr_owners.specs.Owners.{book_in, desks_in, of_parts, store_in, IsKind, IsPartHome, IsRegionOwner, OwnersState, AreRuled, taker}
-use Rattle.hlr_owners.specs.declared.part_owner.RegionOwner.{RegionOwner}
-use Rattle.hlr_owners.specs.declared.part_owner.RegionOwner.TheVariants.{Part, Piece}
 use Rattle.hlr_owners.proofs.IndexedLemmas.{set_same, put_back, other_left, both_edited}
 use Rattle.hlr_owners.proofs.PartLemmas.{part_state_home}
 use Rattle.hlr_owners.proofs.RegionOwnerLemmas.{IsRegionOwnerIn, parts-remove, parts-kept, ruled_rows, each_in, owner_in, owners_in}

@@ -1,25 +1,8 @@
 -- What is done to owners at home, done beside holdings that are out.
-use Rattle.std.proofs.Common.{◌≡◌, ◌∙◌, refl, ap, ℕ, List, get_or, set, true, Some, None}
-use Rattle.std.specs.Prelude.{Result, Ok, Err, position, Box, if◌then◌else◌}
-use Rattle.std.specs.declared.alloc.Global.{Global}
-use Rattle.atomic_table.specs.Seated.{TableId}
-use Rattle.tatp_rows.specs.declared.refusal.Refusal.{Refusal}
+use Rattle.hlr_owners.proofs.Common.{◌≡◌, ◌∙◌, refl, ap, ℕ, List, get_or, set, true, Some, None, Result, Err, position, Box, if◌then◌else◌, Global, TableId, Refusal, s_id_of, IsOutcome, is_in_range, Action, RowReply, lies_in, is_part, HoldingState, PieceState, IsHolding, count_of, MayBecome, HasRowsWhileOut, IsAnsweredWhileOut, IsPostedWhileOut, AreDesks, IsMovedAlone, PartOwnerState, with_outs, OwnersState, AreRuled, desks_in, Store, Part, Piece}
 use Rattle.tatp_rows.specs.declared.refusal.Refusal.TheVariants as refusal
-use Rattle.tatp_actions.specs.Action.{s_id_of, IsOutcome, is_in_range}
-use Rattle.tatp_actions.specs.declared.action.Action.{Action}
-use Rattle.tatp_actions.specs.declared.action.RowReply.{RowReply}
 use Rattle.tatp_actions.specs.declared.action.RowReply.TheVariants as row_reply
-use Rattle.part_table.specs.Region.{lies_in, is_part}
-use Rattle.holding.specs.Held.{HoldingState, PieceState, IsHolding, count_of}
 use Rattle.holding.specs.Post as own
-use Rattle.hlr_owners.specs.WhileOut.{MayBecome, HasRowsWhileOut, IsAnsweredWhileOut, IsMovedWhileOut, IsPostedWhileOut}
-use Rattle.hlr_owners.specs.Desks.{AreDesks}
-use Rattle.hlr_owners.specs.Inside.{IsMovedAlone}
-use Rattle.hlr_owners.specs.PartOwnerState.{PartOwnerState}
-use Rattle.hlr_owners.specs.Out.{with_outs}
-use Rattle.hlr_owners.specs.Owners.{OwnersState, AreRuled, desks_in}
-use Rattle.hlr_owners.specs.Store.{Store}
-use Rattle.hlr_owners.specs.declared.part_owner.RegionOwner.TheVariants.{Part, Piece}
 use Rattle.hlr_owners.proofs.LendLemmas.{desks_later, ruled_later}
 use Rattle.hlr_owners.proofs.ListingLemmas.{part_rows}
 use Rattle.hlr_owners.proofs.OutLemmas.{become_carried, outs-at, outs-set}

@@ -1,9 +1,5 @@
 -- Lists whose elements stand beside one another, edited at an index.
-use Rattle.std.proofs.lemmas.List.Sums.{sum_by-cons}
-use Rattle.std.proofs.Common.{ℕ, zero, suc, ◌<◌, List, [], ◌∷◌, length, get_or, set, arith, ◌≡◌, ◌∙◌, refl, sym}
-use Rattle.std.specs.Prelude.{insert, remove, sum_by}
-use Rattle.std.proofs.lemmas.List.{set-get_or}
-use Rattle.std.specs.List.{AllZip, AllByRecursion}
+use Rattle.hlr_owners.proofs.Common.{sum_by-cons, ℕ, zero, suc, ◌<◌, List, [], ◌∷◌, length, get_or, set, arith, ◌≡◌, ◌∙◌, refl, sym, insert, remove, sum_by, set-get_or, AllZip, AllByRecursion}
 
 module _ {A B : Type 0} (P : A → B → Type 0) where
   pub zip_at : (xs : List A) (ys : List B) (i : ℕ) (d : A) (e : B) → AllZip P xs ys → i < length xs → P (get_or xs i d) (get_or ys i e)

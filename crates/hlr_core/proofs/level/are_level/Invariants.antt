@@ -1,5 +1,4 @@
-use Rattle.std.proofs.Common.{ℕ, ◌<◌}
-use Rattle.hlr_owners.specs.Desks.{IsLevel}
+use Rattle.hlr_core.proofs.Common.{ℕ, ◌<◌, IsLevel}
 use Rattle.hlr_core.proofs.level.are_level.Given as goal
 
 abbrev pub invariant-loop-slot : goal.invariant-loop-slot

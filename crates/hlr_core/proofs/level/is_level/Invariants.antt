@@ -1,5 +1,4 @@
-use Rattle.std.proofs.Common.{◌≡◌, ℕ, ◌<◌, get_or}
-use Rattle.view_board.specs.Words.{plus_word, minus_word}
+use Rattle.hlr_core.proofs.Common.{◌≡◌, ℕ, ◌<◌, get_or, plus_word, minus_word}
 use Rattle.hlr_core.proofs.level.is_level.Given as goal
 
 abbrev pub invariant-loop-cell : goal.invariant-loop-cell

@@ -1,4 +1,4 @@
-use Rattle.std.proofs.lemmas.List.{take_all}
+use Rattle.hlr_core.proofs.Common.{take_all}
 use Rattle.hlr_core.proofs.ManyLemmas.{one_access_within, one_more_taken}
 use Rattle.hlr_core.proofs.many.put_accesses.Goals as goal
 

@@ -1,8 +1,4 @@
-use Rattle.std.proofs.Common.{◌≡◌, ◌+◌, ℕ, take, true}
-use Rattle.std.specs.List.{All}
-use Rattle.tatp_rows.specs.Rows.{is_between}
-use Rattle.tatp_rows.specs.declared.ranges.TheConstants.{LAST_SUBSCRIBER}
-use Rattle.tatp_actions.specs.Book.{IsWithin}
+use Rattle.hlr_core.proofs.Common.{◌≡◌, ◌+◌, ℕ, take, true, All, is_between, LAST_SUBSCRIBER, IsWithin}
 use Rattle.hlr_core.proofs.many.put_accesses.Given as goal
 
 abbrev pub invariant-loop-place : goal.invariant-loop-place

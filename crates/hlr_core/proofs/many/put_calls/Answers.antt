@@ -1,4 +1,4 @@
-use Rattle.std.proofs.lemmas.List.{take_all}
+use Rattle.hlr_core.proofs.Common.{take_all}
 use Rattle.hlr_core.proofs.ManyLemmas.{one_call_within, one_more_call, one_more_id}
 use Rattle.hlr_core.proofs.many.put_calls.Goals as goal
 

@@ -1,8 +1,4 @@
-use Rattle.std.proofs.Common.{◌≡◌, ◌+◌, ℕ, map, take, true}
-use Rattle.std.specs.List.{All}
-use Rattle.tatp_rows.specs.declared.ranges.TheConstants.{LAST_SUBSCRIBER}
-use Rattle.tatp_actions.specs.Action.{is_in_range}
-use Rattle.tatp_actions.specs.Book.{IsWithin}
+use Rattle.hlr_core.proofs.Common.{◌≡◌, ◌+◌, ℕ, map, take, true, All, LAST_SUBSCRIBER, is_in_range, IsWithin}
 use Rattle.tatp_actions.specs.declared.action.Action.TheVariants as action
 use Rattle.hlr_core.proofs.many.put_calls.Given as goal
 

@@ -1,7 +1,4 @@
-use Rattle.std.proofs.Common.{◌≡◌, ◌+◌, take}
-use Rattle.std.specs.List.{All}
-use Rattle.tatp_rows.specs.declared.ranges.TheConstants.{LAST_SUBSCRIBER}
-use Rattle.tatp_actions.specs.Book.{IsWithin}
+use Rattle.hlr_core.proofs.Common.{◌≡◌, ◌+◌, take, All, LAST_SUBSCRIBER, IsWithin}
 use Rattle.hlr_core.proofs.many.put_ids.Given as goal
 
 abbrev pub invariant-loop-place : goal.invariant-loop-place

@@ -1,4 +1,4 @@
-use Rattle.std.proofs.Common.{◌≡◌, ℕ, map, take}
+use Rattle.hlr_core.proofs.Common.{◌≡◌, ℕ, map, take}
 use Rattle.hlr_core.proofs.many.put_s_ids.Given as goal
 
 abbrev pub invariant-loop-place : goal.invariant-loop-place

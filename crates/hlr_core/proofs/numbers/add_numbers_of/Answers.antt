@@ -1,5 +1,4 @@
-use Rattle.std.proofs.Common.{◌∙◌, sym}
-use Rattle.std.proofs.lemmas.Result.{err_from_is_err_and}
+use Rattle.hlr_core.proofs.Common.{◌∙◌, sym, err_from_is_err_and}
 use Rattle.hlr_core.proofs.NotedLemmas.{rows_from_start, rows_from_end, rows_from_fewer, noting_start, noting_end, noting_row, row_refused}
 use Rattle.hlr_core.proofs.numbers.add_numbers_of.Goals as goal
 

@@ -1,4 +1,4 @@
-use Rattle.std.proofs.Common.{length}
+use Rattle.hlr_core.proofs.Common.{length}
 use Rattle.hlr_core.proofs.NotedLemmas.{IsNoting, rows_from}
 use Rattle.hlr_core.proofs.numbers.add_numbers_of.Given as goal
 

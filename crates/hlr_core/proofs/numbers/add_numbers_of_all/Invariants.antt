@@ -1,5 +1,4 @@
-use Rattle.std.proofs.Common.{drop}
-use Rattle.std.specs.List.{flat_map}
+use Rattle.hlr_core.proofs.Common.{drop, flat_map}
 use Rattle.hlr_core.proofs.NotedLemmas.{IsNoting}
 use Rattle.hlr_core.proofs.numbers.add_numbers_of_all.Given as goal
 

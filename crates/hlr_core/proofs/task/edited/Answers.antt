@@ -1,4 +1,4 @@
-use Rattle.tatp_actions.specs.Action.{done_reply}
+use Rattle.hlr_core.proofs.Common.{done_reply}
 use Rattle.hlr_core.proofs.RegisterLemmas.{edited_is}
 use Rattle.hlr_core.proofs.task.edited.Goals as goal
 

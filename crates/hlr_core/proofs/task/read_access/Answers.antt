@@ -1,4 +1,4 @@
-use Rattle.std.proofs.Common.{refl, sym}
+use Rattle.hlr_core.proofs.Common.{refl, sym}
 use Rattle.tatp_actions.specs.declared.action.Action.TheVariants as action
 use Rattle.hlr_core.proofs.TaskLemmas.{access_acted, field_acted, held_fits}
 use Rattle.hlr_core.proofs.task.read_access.Goals as goal

@@ -1,12 +1,7 @@
-use Rattle.std.proofs.Common.{◌≡◌, ◌∙◌, refl, sym, ap, ℕ, true}
-use Rattle.tatp_rows.specs.Rows.{is_between, is_start_time}
-use Rattle.tatp_rows.specs.declared.ranges.TheConstants.{LAST_SUBSCRIBER}
+use Rattle.hlr_core.proofs.Common.{◌≡◌, ◌∙◌, refl, sym, ap, ℕ, true, is_between, is_start_time, LAST_SUBSCRIBER, both_from, is_in_range, new_destination, none_read, numbers_read}
 use Rattle.tatp_rows.specs.declared.refusal.Refusal.TheVariants as refusal
-use Rattle.tatp_rows.proofs.RowLemmas.{both_from}
-use Rattle.tatp_actions.specs.Action.{is_in_range, new_destination}
 use Rattle.tatp_actions.specs.declared.action.Action.TheVariants as action
 use Rattle.tatp_actions.specs.declared.action.RowReply.TheVariants as row_reply
-use Rattle.hlr_owners.proofs.ReadLemmas.{none_read, numbers_read}
 use Rattle.hlr_core.proofs.TaskLemmas.{field_acted, held_fits, read_acted}
 use Rattle.hlr_core.proofs.task.read_destinations.Goals.{then-not-is_between-via-then-not-is_between, then-not-is_between-via-else-not-is_between+then-not-is_start_time, then-not-is_between-via-else-not-is_between+else-not-is_start_time+then-not-is_between-2}
 use Rattle.hlr_core.proofs.task.read_destinations.Goals as goal

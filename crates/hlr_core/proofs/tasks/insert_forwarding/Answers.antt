@@ -1,4 +1,4 @@
-use Rattle.std.proofs.lemmas.Result.{err_from_is_err_and}
+use Rattle.hlr_core.proofs.Common.{err_from_is_err_and}
 use Rattle.hlr_core.proofs.TaskLemmas.{asks_so, refused_so}
 use Rattle.hlr_core.proofs.tasks.insert_forwarding.Goals as goal
 

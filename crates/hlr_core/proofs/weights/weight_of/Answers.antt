@@ -1,5 +1,4 @@
-use Rattle.std.proofs.Common.{w64}
-use Rattle.std.proofs.lemmas.Int.{to_z-of_z}
+use Rattle.hlr_core.proofs.Common.{w64, to_z-of_z}
 use Rattle.hlr_core.proofs.WeightLemmas.{weighs_none, weighs_itself}
 use Rattle.hlr_core.proofs.weights.weight_of.Goals as goal
 

@@ -1,8 +1,4 @@
-use Rattle.std.proofs.Common.{◌≡◌, ◌+◌, ◌<◌, ◌∙◌, arith, rules, get_or, pos, length, length-set, w64}
-use Rattle.std.specs.Int.RustNames.{FitsSigned}
-use Rattle.std.proofs.lemmas.Int.{to_z-of_z}
-use Rattle.tatp_actions.specs.declared.cells.TheConstants.{FIRST_ZONE}
-use Rattle.hlr_core.specs.Weights.{weight}
+use Rattle.hlr_core.proofs.Common.{◌≡◌, ◌+◌, ◌<◌, ◌∙◌, arith, rules, get_or, pos, length, length-set, w64, FitsSigned, to_z-of_z, FIRST_ZONE, weight}
 use Rattle.hlr_core.proofs.WeightLemmas.{weights_more, all_weights, weights_small}
 use Rattle.hlr_core.proofs.weights.zone_weights.Goals as goal
 

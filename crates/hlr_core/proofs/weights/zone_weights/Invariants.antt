@@ -1,8 +1,4 @@
-use Rattle.std.proofs.Common.{◌≡◌, ◌+◌, length, map, take, slice_index_or, pos}
-use Rattle.std.specs.List.{range_with_len}
-use Rattle.tatp_actions.specs.declared.cells.TheConstants.{FIRST_ZONE}
-use Rattle.hlr_core.specs.Weights.{weight}
-use Rattle.hlr_core.specs.declared.weights.TheConstants.{ZONES}
+use Rattle.hlr_core.proofs.Common.{◌≡◌, ◌+◌, length, map, take, slice_index_or, pos, range_with_len, FIRST_ZONE, weight, ZONES}
 use Rattle.hlr_core.proofs.weights.zone_weights.Given as goal
 
 abbrev pub invariant-loop-zone : goal.invariant-loop-zone

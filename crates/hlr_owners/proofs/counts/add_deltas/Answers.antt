@@ -1,9 +1,4 @@
-use Rattle.std.proofs.Common.{arith, ◌∙◌, ap}
-use Rattle.std.specs.Prelude.{ℤ, ◌+ℤ◌}
-use Rattle.std.proofs.lemmas.Int.{ints}
-use Rattle.view_delta.specs.Pending.{pending_at}
-use Rattle.tatp_actions.proofs.DeltaLemmas.{plain_sum}
-use Rattle.view_delta.proofs.SumLemmas.{one_moved}
+use Rattle.hlr_owners.proofs.Common.{arith, ◌∙◌, ap, ℤ, ◌+ℤ◌, ints, pending_at, plain_sum, one_moved}
 use Rattle.hlr_owners.proofs.counts.add_deltas.Goals as goal
 
 pub loop-cell-preserved : goal.loop-cell-preserved

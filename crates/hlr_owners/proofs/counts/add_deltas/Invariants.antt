@@ -1,5 +1,4 @@
-use Rattle.view_delta.specs.Pending.{pending_at}
-use Rattle.view_delta.proofs.SumLemmas.{AreMovedTo}
+use Rattle.hlr_owners.proofs.Common.{pending_at, AreMovedTo}
 use Rattle.hlr_owners.proofs.counts.add_deltas.Given as goal
 
 abbrev pub invariant-loop-cell : goal.invariant-loop-cell

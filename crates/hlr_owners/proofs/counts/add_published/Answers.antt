@@ -1,5 +1,4 @@
-use Rattle.std.proofs.Common.{arith}
-use Rattle.std.proofs.lemmas.Int.{ints}
+use Rattle.hlr_owners.proofs.Common.{arith, ints}
 use Rattle.hlr_owners.proofs.HeldLemmas.{nobody_net}
 use Rattle.hlr_owners.proofs.counts.add_published.Goals as goal
 

@@ -1,6 +1,4 @@
-use Rattle.std.proofs.Common.{◌≡◌, take, true}
-use Rattle.std.specs.List.{list_all}
-use Rattle.hlr_owners.specs.Owners.{is_home}
+use Rattle.hlr_owners.proofs.Common.{◌≡◌, take, true, list_all, is_home}
 use Rattle.hlr_owners.proofs.homes.are_home.Given as goal
 
 abbrev pub invariant-loop-owner : goal.invariant-loop-owner

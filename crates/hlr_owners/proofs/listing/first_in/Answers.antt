@@ -1,7 +1,4 @@
-use Rattle.std.proofs.Common.{◌≡◌, ◌∙◌, ◌+◌, ◌++◌, arith, suc, sym, ap, List}
-use Rattle.tatp_rows.specs.Rows.{SubscriberRow}
-use Rattle.tatp_actions.specs.Book.{first_subscriber}
-use Rattle.hlr_owners.specs.Owners.{state_of}
+use Rattle.hlr_owners.proofs.Common.{◌≡◌, ◌∙◌, ◌+◌, ◌++◌, arith, suc, sym, ap, List, SubscriberRow, first_subscriber, state_of}
 use Rattle.hlr_owners.proofs.HomeLemmas.{home_at}
 use Rattle.hlr_owners.proofs.ListingLemmas.{first_behind, first_here, rows_from, rows_next}
 use Rattle.hlr_owners.proofs.listing.first_in.Goals.{After-first_at}

@@ -1,6 +1,4 @@
-use Rattle.std.proofs.Common.{◌≡◌}
-use Rattle.tatp_actions.specs.Book.{first_subscriber}
-use Rattle.hlr_owners.specs.Owners.{book_in}
+use Rattle.hlr_owners.proofs.Common.{◌≡◌, first_subscriber, book_in}
 use Rattle.hlr_owners.proofs.ListingLemmas.{rows_from}
 use Rattle.hlr_owners.proofs.listing.first_in.Given as goal
 

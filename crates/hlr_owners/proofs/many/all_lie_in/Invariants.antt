@@ -1,6 +1,4 @@
-use Rattle.std.proofs.Common.{◌≡◌, take, true}
-use Rattle.std.specs.List.{list_all}
-use Rattle.part_table.specs.Region.{lies_in}
+use Rattle.hlr_owners.proofs.Common.{◌≡◌, take, true, list_all, lies_in}
 use Rattle.hlr_owners.proofs.many.all_lie_in.Given as goal
 
 abbrev pub invariant-loop-s_id : goal.invariant-loop-s_id

@@ -1,4 +1,4 @@
-use Rattle.std.proofs.Common.{true}
+use Rattle.hlr_core.proofs.Common.{true}
 use Rattle.std.specs.Prelude.{Some}
 use Rattle.tatp_actions.specs.declared.action.Action.TheVariants as action
 use Rattle.hlr_core.proofs.HomeLemmas.{home_of_asked}

@@ -1,5 +1,4 @@
-use Rattle.std.proofs.Common.{◌≡◌, refl}
-use Rattle.std.proofs.lemmas.Result.{err_from_is_err_and}
+use Rattle.hlr_core.proofs.Common.{◌≡◌, refl, err_from_is_err_and, store_in}
 use Rattle.tatp_rows.specs.declared.refusal.Refusal.TheVariants as refusal
 use Rattle.tatp_actions.specs.declared.action.Action.TheVariants as action
 use Rattle.tatp_actions.specs.declared.action.RowReply.TheVariants as row_reply
@@ -8,7 +7,6 @@ use Rattle.hlr_core.specs.declared.event.Reply.TheVariants as reply
 use Rattle.hlr_core.proofs.WhileOutLemmas.{moving_while_out, exists_while_out, unadded_while_out, added_while_out, own_step}
 use Rattle.hlr_core.proofs.HomeLemmas.{homes_edited, homes_kept}
 use Rattle.hlr_core.proofs.RegisterLemmas.{not_done, at_home, added_registered, undone_registered, undone_same, outcome_of_answer}
-use Rattle.hlr_owners.specs.Owners.{store_in}
 use Rattle.hlr_core.proofs.register.Register.add_subscriber.Goals as goal
 
 pub returns-in_err-number_in : goal.returns-in_err-number_in

@@ -1,5 +1,4 @@
-use Rattle.std.proofs.Common.{arith, ◌∙◌}
-use Rattle.std.proofs.lemmas.List.{take_all}
+use Rattle.hlr_core.proofs.Common.{arith, ◌∙◌, take_all}
 use Rattle.hlr_core.proofs.HomeLemmas.{desk_later}
 use Rattle.hlr_core.proofs.RunLemmas.{run_next}
 use Rattle.hlr_core.proofs.AtHomeLemmas.{same_at_home}

@@ -1,7 +1,4 @@
-use Rattle.std.proofs.Common.{◌≡◌, take, length, vec_len, vec_capacity}
-use Rattle.hlr_owners.specs.Owners.{AllHome, store_in}
-use Rattle.hlr_core.specs.Home.{IsLaterDesk}
-use Rattle.hlr_core.specs.Run.{IsRun}
+use Rattle.hlr_core.proofs.Common.{◌≡◌, take, length, vec_len, vec_capacity, AllHome, store_in, IsLaterDesk, IsRun}
 use Rattle.hlr_core.proofs.register.Register.apply_all.Given as goal
 
 abbrev pub invariant-loop-order : goal.invariant-loop-order

@@ -1,4 +1,4 @@
-use Rattle.std.proofs.Common.{◌∙◌, sym}
+use Rattle.hlr_core.proofs.Common.{◌∙◌, sym}
 use Rattle.hlr_core.proofs.IndexLemmas.{bearer_indexed, bearer_within}
 use Rattle.hlr_core.proofs.register.Register.bearer.Goals as goal
 

@@ -1,4 +1,4 @@
-use Rattle.hlr_owners.proofs.HomeLemmas.{cut_home_of_all}
+use Rattle.hlr_core.proofs.Common.{cut_home_of_all}
 use Rattle.hlr_core.proofs.HomeLemmas.{desk_after, desk_kept, home_after, home_to_all, still_home}
 use Rattle.hlr_core.proofs.register.Register.carry_out.Goals as goal
 

@@ -1,8 +1,4 @@
-use Rattle.std.proofs.Common.{◌∙◌, ◌+◌, ℕ, refl}
-use Rattle.tatp_rows.specs.declared.ranges.TheConstants.{LAST_SUBSCRIBER}
-use Rattle.tatp_actions.specs.Book.{IsWithin}
-use Rattle.hlr_owners.specs.Owners.{IsHomeFor}
-use Rattle.std.proofs.lemmas.List.Elements.{All-map}
+use Rattle.hlr_core.proofs.Common.{◌∙◌, ◌+◌, ℕ, refl, LAST_SUBSCRIBER, IsWithin, IsHomeFor, All-map}
 use Rattle.hlr_core.proofs.ManyLemmas.{destinations_found}
 use Rattle.hlr_core.proofs.register.Register.copy_destinations.Goals as goal
 

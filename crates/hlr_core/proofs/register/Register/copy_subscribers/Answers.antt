@@ -1,4 +1,4 @@
-use Rattle.std.proofs.Common.{◌∙◌, refl}
+use Rattle.hlr_core.proofs.Common.{◌∙◌, refl}
 use Rattle.hlr_core.proofs.ManyLemmas.{subscribers_found}
 use Rattle.hlr_core.proofs.register.Register.copy_subscribers.Goals as goal
 

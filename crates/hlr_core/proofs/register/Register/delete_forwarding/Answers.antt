@@ -1,7 +1,6 @@
-use Rattle.hlr_core.specs.Step.{edited_reply}
+use Rattle.hlr_core.proofs.Common.{edited_reply, refl}
 use Rattle.hlr_core.specs.declared.event.Event.TheVariants as event
 use Rattle.hlr_core.proofs.WhileOutLemmas.{step_while_out}
-use Rattle.std.proofs.Common.{refl}
 use Rattle.tatp_actions.specs.declared.action.Action.TheVariants as action
 use Rattle.hlr_core.proofs.HomeLemmas.{home_of_bearer}
 use Rattle.hlr_core.proofs.register.Register.delete_forwarding.Goals as goal

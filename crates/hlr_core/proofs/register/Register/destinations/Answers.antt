@@ -1,7 +1,6 @@
-use Rattle.std.proofs.Common.{ℕ, ap, refl}
+use Rattle.hlr_core.proofs.Common.{ℕ, ap, refl, ArrayVec}
 use Rattle.tatp_actions.specs.declared.action.Action.TheVariants as action
 use Rattle.tatp_actions.specs.declared.action.RowReply.TheVariants as row_reply
-use Rattle.arrayvec.specs.ArrayVec.{ArrayVec}
 use Rattle.hlr_core.specs.declared.event.Event.TheVariants as event
 use Rattle.hlr_core.specs.declared.event.Reply.TheVariants as reply
 use Rattle.hlr_core.proofs.LentLemmas.{read_while_out, read_own}

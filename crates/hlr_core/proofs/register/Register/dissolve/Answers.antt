@@ -1,5 +1,4 @@
-use Rattle.std.proofs.Common.{◌≡◌, refl}
-use Rattle.hlr_core.specs.Step.{dissolved_reply}
+use Rattle.hlr_core.proofs.Common.{◌≡◌, refl, dissolved_reply}
 use Rattle.hlr_core.proofs.WhileOutLemmas.{dissolved_while_out}
 use Rattle.hlr_core.proofs.register.Register.dissolve.Goals as goal
 use Rattle.hlr_core.proofs.register.Register.dissolve.Goals.{in-Ok, in-Err}

@@ -1,5 +1,4 @@
-use Rattle.std.proofs.Common.{◌≡◌, refl}
-use Rattle.hlr_core.specs.Step.{divided_reply}
+use Rattle.hlr_core.proofs.Common.{◌≡◌, refl, divided_reply}
 use Rattle.hlr_core.proofs.WhileOutLemmas.{divided_while_out}
 use Rattle.hlr_core.proofs.register.Register.divide.Goals as goal
 use Rattle.hlr_core.proofs.register.Register.divide.Goals.{in-Ok, in-Err}

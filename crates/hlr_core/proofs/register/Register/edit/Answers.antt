@@ -1,5 +1,4 @@
-use Rattle.std.proofs.lemmas.Result.{err_from_is_err_and}
-use Rattle.tatp_actions.specs.Action.{done_reply}
+use Rattle.hlr_core.proofs.Common.{err_from_is_err_and, done_reply}
 use Rattle.hlr_core.proofs.WhileOutLemmas.{asked_while_out, unasked_while_out}
 use Rattle.hlr_core.proofs.LaterLemmas.{answered_registered}
 use Rattle.hlr_core.proofs.RegisterLemmas.{asked_step, edited_is, unasked_step}

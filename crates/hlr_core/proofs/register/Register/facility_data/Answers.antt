@@ -1,8 +1,4 @@
-use Rattle.std.proofs.Common.{◌≡◌, true}
-use Rattle.tatp_rows.proofs.RowLemmas.{between_ok, both_from}
-use Rattle.tatp_rows.specs.declared.ranges.TheConstants.{LAST_SUBSCRIBER}
-use Rattle.hlr_owners.specs.Out.{with_outs}
-use Rattle.tatp_actions.specs.Action.{is_typed}
+use Rattle.hlr_core.proofs.Common.{◌≡◌, true, between_ok, both_from, LAST_SUBSCRIBER, with_outs, is_typed}
 use Rattle.hlr_core.proofs.LaterLemmas.{each_owner}
 use Rattle.hlr_core.proofs.register.Register.facility_data.Goals.{After-facility}
 use Rattle.hlr_core.proofs.register.Register.facility_data.Goals as goal

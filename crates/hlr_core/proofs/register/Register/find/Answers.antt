@@ -1,4 +1,4 @@
-use Rattle.hlr_owners.specs.Out.{with_outs}
+use Rattle.hlr_core.proofs.Common.{with_outs}
 use Rattle.hlr_core.proofs.LaterLemmas.{bearer_later}
 use Rattle.hlr_core.proofs.register.Register.find.Goals as goal
 

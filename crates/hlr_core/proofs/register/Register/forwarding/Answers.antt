@@ -1,9 +1,5 @@
-use Rattle.std.proofs.Common.{◌≡◌, ◌∙◌, ◌&&◌, sym, true}
-use Rattle.tatp_rows.specs.Rows.{is_start_time}
-use Rattle.tatp_rows.proofs.RowLemmas.{between_ok, both_from}
-use Rattle.tatp_rows.specs.declared.ranges.TheConstants.{LAST_SUBSCRIBER}
-use Rattle.hlr_owners.specs.Out.{with_outs}
-use Rattle.tatp_actions.specs.Action.{is_typed}
+use Rattle.hlr_core.proofs.Common.{◌≡◌, ◌∙◌, sym, true, is_start_time, between_ok, both_from, LAST_SUBSCRIBER, with_outs, is_typed}
+use Rattle.std.proofs.Common.{◌&&◌}
 use Rattle.hlr_core.proofs.LaterLemmas.{each_owner}
 use Rattle.hlr_core.proofs.register.Register.forwarding.Goals.{After-forwarding}
 use Rattle.hlr_core.proofs.register.Register.forwarding.Goals as goal

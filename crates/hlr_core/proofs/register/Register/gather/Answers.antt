@@ -1,5 +1,4 @@
-use Rattle.std.proofs.Common.{ap}
-use Rattle.hlr_owners.specs.Store.{Store}
+use Rattle.hlr_core.proofs.Common.{ap, Store}
 use Rattle.hlr_core.proofs.GatheredRowsLemmas.{gathered_index}
 use Rattle.hlr_core.proofs.register.Register.gather.Goals as goal
 

@@ -1,5 +1,4 @@
-use Rattle.std.proofs.Common.{◌≡◌, refl}
-use Rattle.hlr_core.specs.Step.{given_reply}
+use Rattle.hlr_core.proofs.Common.{◌≡◌, refl, given_reply}
 use Rattle.hlr_core.proofs.WhileOutLemmas.{given_while_out}
 use Rattle.hlr_core.proofs.register.Register.give.Goals as goal
 use Rattle.hlr_core.proofs.register.Register.give.Goals.{in-Ok, in-Err}

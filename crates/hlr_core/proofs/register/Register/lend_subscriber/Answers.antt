@@ -1,10 +1,6 @@
-use Rattle.std.proofs.Common.{refl}
-use Rattle.tatp_rows.proofs.RowLemmas.{between_ok}
-use Rattle.tatp_rows.specs.declared.ranges.TheConstants.{LAST_SUBSCRIBER}
+use Rattle.hlr_core.proofs.Common.{refl, between_ok, LAST_SUBSCRIBER, Bor, SubscriberRow}
 use Rattle.tatp_actions.specs.declared.action.Action.TheVariants as action
 use Rattle.tatp_actions.specs.declared.action.RowReply.TheVariants as row_reply
-use Rattle.std.specs.Borrow.{Bor}
-use Rattle.tatp_rows.specs.Rows.{SubscriberRow}
 use Rattle.hlr_core.specs.declared.event.Event.TheVariants as event
 use Rattle.hlr_core.specs.declared.event.Reply.TheVariants as reply
 use Rattle.hlr_core.proofs.LentLemmas.{read_while_out, read_own}

@@ -1,7 +1,5 @@
-use Rattle.std.proofs.Common.{◌≡◌, ap, subst, List, ℕ, IfOk}
-use Rattle.hlr_owners.specs.Owners.{store_in}
-use Rattle.hlr_owners.specs.Store.{Store, opening_from}
-use Rattle.hlr_owners.proofs.ShareLemmas.{zeros_are, zeros_opening}
+use Rattle.hlr_core.proofs.Common.{◌≡◌, ap, subst, List, ℕ, store_in, Store, opening_from, zeros_are, zeros_opening}
+use Rattle.std.proofs.Common.{IfOk}
 use Rattle.hlr_core.proofs.register.Register.open.Goals as goal
 
 pub returns-clause-ok : goal.returns-clause-ok

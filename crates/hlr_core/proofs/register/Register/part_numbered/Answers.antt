@@ -1,5 +1,4 @@
-use Rattle.std.proofs.Common.{◌≤◌, arith, length}
-use Rattle.part_table.specs.Regions.{parts_of}
+use Rattle.hlr_core.proofs.Common.{◌≤◌, arith, length, parts_of}
 use Rattle.hlr_core.proofs.PartsLemmas.{none_home, past_home}
 use Rattle.hlr_core.proofs.register.Register.part_numbered.Goals as goal
 

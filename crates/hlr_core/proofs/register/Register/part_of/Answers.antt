@@ -1,4 +1,4 @@
-use Rattle.std.proofs.Common.{◌∙◌, arith, sym}
+use Rattle.hlr_core.proofs.Common.{◌∙◌, arith, sym}
 use Rattle.hlr_core.proofs.PartsLemmas.{nobody_home, none_home}
 use Rattle.hlr_core.proofs.register.Register.part_of.Goals as goal
 

@@ -1,6 +1,4 @@
-use Rattle.std.proofs.Common.{◌∙◌, sym}
-use Rattle.hlr_owners.proofs.SumLemmas.{unposted_is}
-use Rattle.hlr_owners.specs.Owners.{store_in}
+use Rattle.hlr_core.proofs.Common.{◌∙◌, sym, unposted_is, store_in}
 use Rattle.hlr_core.proofs.WeightLemmas.{proposed, proposed_counted}
 use Rattle.hlr_core.proofs.register.Register.propose.Goals as goal
 

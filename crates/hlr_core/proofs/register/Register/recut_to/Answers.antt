@@ -1,5 +1,4 @@
-use Rattle.part_table.specs.Recut.{recut_answer}
-use Rattle.hlr_owners.proofs.RecutLemmas.{recut_stays}
+use Rattle.hlr_core.proofs.Common.{recut_answer, recut_stays}
 use Rattle.hlr_core.proofs.WhileOutLemmas.{recut_while_out}
 use Rattle.hlr_core.proofs.register.Register.recut_to.Goals as goal
 

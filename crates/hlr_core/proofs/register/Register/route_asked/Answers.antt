@@ -1,7 +1,5 @@
-use Rattle.std.proofs.Common.{◌≡◌, Some, sym}
-use Rattle.part_table.specs.Regions.{place_of}
+use Rattle.hlr_core.proofs.Common.{◌≡◌, Some, sym, place_of, job_of}
 use Rattle.part_table.specs.declared.region.Place.TheVariants as place
-use Rattle.hlr_core.specs.Tasks.{job_of}
 use Rattle.hlr_core.proofs.RouteLemmas.{job_moving, job_to, now_refused}
 use Rattle.hlr_core.proofs.register.Register.route_asked.Goals as goal
 

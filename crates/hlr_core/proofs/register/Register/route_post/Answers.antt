@@ -1,5 +1,4 @@
-use Rattle.std.proofs.Common.{◌∙◌, ◌≤◌, ◌<◌, length}
-use Rattle.part_table.specs.Regions.{parts_of}
+use Rattle.hlr_core.proofs.Common.{◌∙◌, ◌≤◌, ◌<◌, length, parts_of}
 use Rattle.hlr_core.proofs.RouteLemmas.{post_nowhere, post_to}
 use Rattle.hlr_core.proofs.register.Register.route_post.Goals as goal
 

@@ -1,5 +1,4 @@
-use Rattle.std.proofs.Common.{ap}
-use Rattle.hlr_owners.specs.Store.{Store}
+use Rattle.hlr_core.proofs.Common.{ap, Store}
 use Rattle.hlr_core.proofs.GatheredRowsLemmas.{memory_alone}
 use Rattle.hlr_core.proofs.register.Register.scatter.Goals as goal
 

@@ -1,11 +1,6 @@
-use Rattle.std.proofs.Common.{◌≡◌, ◌∙◌, refl, sym}
-use Rattle.std.proofs.lemmas.Result.{err_from_is_err_and}
-use Rattle.tatp_rows.proofs.RowLemmas.{between_ok}
-use Rattle.tatp_rows.specs.declared.ranges.TheConstants.{LAST_SUBSCRIBER}
+use Rattle.hlr_core.proofs.Common.{◌≡◌, ◌∙◌, refl, sym, err_from_is_err_and, between_ok, LAST_SUBSCRIBER, done_reply, edited_reply}
 use Rattle.tatp_rows.specs.declared.refusal.Refusal.TheVariants as refusal
-use Rattle.tatp_actions.specs.Action.{done_reply}
 use Rattle.tatp_actions.specs.declared.action.Action.TheVariants as action
-use Rattle.hlr_core.specs.Step.{edited_reply}
 use Rattle.hlr_core.specs.declared.event.Event.TheVariants as event
 use Rattle.hlr_core.specs.declared.event.Reply.TheVariants as reply
 use Rattle.hlr_core.proofs.WhileOutLemmas.{moving_while_out, unnumbered_while_out, unrenamed_while_out, renamed_while_out, own_step}

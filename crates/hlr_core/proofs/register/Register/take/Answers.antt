@@ -1,5 +1,4 @@
-use Rattle.std.proofs.Common.{◌≡◌, refl, arith}
-use Rattle.hlr_core.specs.Step.{taken_reply}
+use Rattle.hlr_core.proofs.Common.{◌≡◌, refl, arith, taken_reply}
 use Rattle.hlr_core.proofs.WhileOutLemmas.{taken_while_out}
 use Rattle.hlr_core.proofs.PresentLemmas.{taken_small}
 use Rattle.hlr_core.proofs.register.Register.take.Goals as goal

@@ -1,5 +1,4 @@
-use Rattle.std.proofs.Common.{◌∙◌, sym, false}
-use Rattle.hlr_owners.specs.PartOwnerState.{PartOwnerState}
+use Rattle.hlr_owners.proofs.Common.{◌∙◌, sym, false, PartOwnerState}
 use Rattle.hlr_owners.proofs.PartLemmas.{part_has_place, owner_is_part, none_home, at_number}
 use Rattle.hlr_owners.proofs.owners.Owners.at_home.Goals as goal
 

@@ -1,4 +1,4 @@
-use Rattle.std.proofs.Common.{refl}
+use Rattle.hlr_owners.proofs.Common.{refl}
 use Rattle.hlr_owners.proofs.LendLemmas.{back_here, back_index, home_is, back_ruled, back_desks, back_piece, part_state_is}
 use Rattle.hlr_owners.proofs.owners.Owners.back.Goals as goal
 

@@ -1,7 +1,4 @@
-use Rattle.std.proofs.lemmas.Result.{err_from_is_err_and}
-use Rattle.std.proofs.Common.{sym, ap, ◌∙◌}
-use Rattle.tatp_rows.proofs.RowLemmas.{both_from}
-use Rattle.tatp_actions.specs.Action.{new_destination}
+use Rattle.hlr_owners.proofs.Common.{err_from_is_err_and, sym, ap, ◌∙◌, both_from, new_destination}
 use Rattle.tatp_actions.specs.declared.action.Action.TheVariants as action
 use Rattle.hlr_owners.proofs.ReadLemmas.{subscriber_fits, reads, moving_while_out, numbers_read, none_read}
 use Rattle.hlr_owners.proofs.owners.Owners.destinations.Goals as goal

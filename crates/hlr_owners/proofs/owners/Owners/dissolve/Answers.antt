@@ -1,4 +1,4 @@
-use Rattle.std.proofs.Common.{◌∙◌, ap, refl, inl, arith}
+use Rattle.hlr_owners.proofs.Common.{◌∙◌, ap, refl, inl, arith}
 use Rattle.hlr_owners.proofs.DissolveLemmas.{dissolver_is_part, dissolver_width, dissolver_meets, dissolver_home, dissolved_home, part_again, all_dissolved}
 use Rattle.hlr_owners.proofs.PartLemmas.{owner_is_part, part_has_place}
 use Rattle.hlr_owners.proofs.PostedLemmas.{posted_before, part_slot}

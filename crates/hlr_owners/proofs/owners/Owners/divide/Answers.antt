@@ -1,5 +1,4 @@
-use Rattle.std.proofs.Common.{refl, inl, arith}
-use Rattle.hlr_owners.specs.declared.part_owner.RegionOwner.TheVariants.{Part}
+use Rattle.hlr_owners.proofs.Common.{refl, inl, arith, Part}
 use Rattle.hlr_owners.proofs.DivideLemmas.{room_for_part, few_desks, divider_inside, divider_home, all_divided, spare_again}
 use Rattle.hlr_owners.proofs.IndexedLemmas.{set_same}
 use Rattle.hlr_owners.proofs.PartLemmas.{part_has_place, owner_is_part}

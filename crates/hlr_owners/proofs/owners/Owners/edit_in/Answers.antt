@@ -1,7 +1,4 @@
-use Rattle.std.proofs.Common.{◌∙◌, refl, sym}
-use Rattle.hlr_owners.specs.PartOwnerState.{PartOwnerState}
-use Rattle.hlr_owners.specs.Out.{out_of}
-use Rattle.hlr_owners.specs.declared.part_owner.RegionOwner.TheVariants.{Part}
+use Rattle.hlr_owners.proofs.Common.{◌∙◌, refl, sym, PartOwnerState, out_of, Part}
 use Rattle.hlr_owners.proofs.WhileOutLemmas.{acted_while_out, refused_while_out}
 use Rattle.hlr_owners.proofs.HomeLemmas.{owner_home}
 use Rattle.hlr_owners.proofs.IndexedLemmas.{set_same}

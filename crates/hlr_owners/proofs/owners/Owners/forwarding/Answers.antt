@@ -1,8 +1,5 @@
 use Rattle.tatp_rows.specs.declared.refusal.Refusal.TheVariants as refusal
-use Rattle.std.proofs.Common.{Some, None, arith, ◌≡◌}
-use Rattle.std.proofs.lemmas.Result.{err_from_is_err_and}
-use Rattle.hlr_owners.specs.WhileOut.{store_with}
-use Rattle.hlr_owners.specs.Owners.{store_in}
+use Rattle.hlr_owners.proofs.Common.{Some, None, arith, ◌≡◌, err_from_is_err_and, store_with, store_in}
 use Rattle.hlr_owners.proofs.ListingLemmas.{row_found, row_loose}
 use Rattle.hlr_owners.proofs.owners.Owners.forwarding.Goals as goal
 

@@ -1,12 +1,5 @@
-use Rattle.std.proofs.Common.{◌∙◌, ap, List, arith}
-use Rattle.std.specs.Prelude.{Box}
-use Rattle.std.specs.declared.alloc.Global.{Global}
-use Rattle.std.proofs.lemmas.List.{length-map}
-use Rattle.holding.specs.Held.{HoldingState, PieceState}
-use Rattle.hlr_owners.specs.Boxed.{unboxed}
+use Rattle.hlr_owners.proofs.Common.{◌∙◌, ap, List, arith, Box, Global, length-map, HoldingState, PieceState, unboxed, AreRuled, store_in, unposted, RegionOwner}
 use Rattle.hlr_owners.proofs.ApartFitLemmas.{do_fit, gathered_desks}
-use Rattle.hlr_owners.specs.Owners.{AreRuled, store_in, unposted}
-use Rattle.hlr_owners.specs.declared.part_owner.RegionOwner.{RegionOwner}
 use Rattle.hlr_owners.proofs.ApartLemmas.{desks_from}
 use Rattle.hlr_owners.proofs.ApartStoreLemmas.{ruled_from, store_from_owners, pending_from}
 use Rattle.hlr_owners.proofs.HomeLemmas.{all_home}

@@ -1,5 +1,4 @@
-use Rattle.std.proofs.Common.{refl, arith, inl}
-use Rattle.std.proofs.lemmas.Result.{err_from_is_err_and}
+use Rattle.hlr_owners.proofs.Common.{refl, arith, inl, err_from_is_err_and}
 use Rattle.hlr_owners.proofs.RefusedLemmas.{only_memory, may_refuse}
 use Rattle.hlr_owners.proofs.EditLemmas.{room_for_piece, giver_inside, piece_index-le, all_given}
 use Rattle.hlr_owners.proofs.PartLemmas.{part_has_place, owner_is_part, part_is_home}

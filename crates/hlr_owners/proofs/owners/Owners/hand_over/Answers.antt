@@ -1,4 +1,4 @@
-use Rattle.hlr_owners.specs.Inside.{IsMovedAlone}
+use Rattle.hlr_owners.proofs.Common.{IsMovedAlone}
 use Rattle.hlr_owners.proofs.WhileOutLemmas.{moved_after}
 use Rattle.hlr_owners.proofs.owners.Owners.hand_over.Goals.{After-take}
 use Rattle.hlr_owners.proofs.owners.Owners.hand_over.Goals as goal

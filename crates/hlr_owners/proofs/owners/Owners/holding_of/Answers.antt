@@ -1,4 +1,4 @@
-use Rattle.std.proofs.Common.{refl}
+use Rattle.hlr_owners.proofs.Common.{refl}
 use Rattle.hlr_owners.proofs.WhileOutLemmas.{rows_while_out}
 use Rattle.hlr_owners.proofs.HomeLemmas.{owner_home}
 use Rattle.hlr_owners.proofs.ListingLemmas.{part_rows}

@@ -1,6 +1,4 @@
-use Rattle.std.proofs.Common.{◌≡◌, ◌∙◌, refl, sym, ap, true, false}
-use Rattle.holding.specs.Held.{HoldingState}
-use Rattle.hlr_owners.specs.PartOwnerState.{PartOwnerState}
+use Rattle.hlr_owners.proofs.Common.{◌≡◌, ◌∙◌, refl, sym, ap, true, false, HoldingState, PartOwnerState}
 use Rattle.hlr_owners.proofs.LendLemmas.{lent_from, lent_states}
 use Rattle.hlr_owners.proofs.PartLemmas.{part_has_place, owner_is_part, none_home, at_number, get_number, set_number, part_within}
 use Rattle.hlr_owners.proofs.PostedLemmas.{posted_before}

@@ -1,7 +1,4 @@
-use Rattle.std.proofs.lemmas.Result.{err_from_is_err_and}
-use Rattle.std.proofs.Common.{sym, ap}
-use Rattle.tatp_rows.proofs.RowLemmas.{both_from}
-use Rattle.tatp_actions.specs.Action.{access_data}
+use Rattle.hlr_owners.proofs.Common.{err_from_is_err_and, sym, ap, both_from, access_data}
 use Rattle.tatp_actions.specs.declared.action.Action.TheVariants as action
 use Rattle.hlr_owners.proofs.ReadLemmas.{subscriber_fits, reads, moving_while_out}
 use Rattle.hlr_owners.proofs.owners.Owners.lend_access.Goals as goal

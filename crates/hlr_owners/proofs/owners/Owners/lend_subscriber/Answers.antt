@@ -1,6 +1,4 @@
-use Rattle.std.proofs.lemmas.Result.{err_from_is_err_and}
-use Rattle.std.proofs.Common.{sym, ap}
-use Rattle.tatp_actions.specs.Action.{subscriber_data}
+use Rattle.hlr_owners.proofs.Common.{err_from_is_err_and, sym, ap, subscriber_data}
 use Rattle.tatp_actions.specs.declared.action.Action.TheVariants as action
 use Rattle.hlr_owners.proofs.ReadLemmas.{subscriber_fits, reads, moving_while_out}
 use Rattle.hlr_owners.proofs.owners.Owners.lend_subscriber.Goals as goal

@@ -1,6 +1,5 @@
-use Rattle.std.proofs.Common.{refl}
+use Rattle.hlr_owners.proofs.Common.{refl, desks_in}
 use Rattle.hlr_owners.proofs.SightLemmas.{spare_word, desks_looked, words_looked}
-use Rattle.hlr_owners.specs.Owners.{desks_in}
 use Rattle.hlr_owners.proofs.owners.Owners.look_into.Goals as goal
 
 pub returns-clause-right : goal.returns-clause-right

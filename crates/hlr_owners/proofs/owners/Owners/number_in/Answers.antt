@@ -1,5 +1,5 @@
 use Rattle.hlr_owners.proofs.ListingLemmas.{part_subscriber}
-use Rattle.std.proofs.Common.{refl}
+use Rattle.hlr_owners.proofs.Common.{refl}
 use Rattle.hlr_owners.proofs.HomeLemmas.{owner_home}
 use Rattle.hlr_owners.proofs.RegionOwnerLemmas.{owner_there, part_not_loose, piece_loose}
 use Rattle.hlr_owners.proofs.owners.Owners.number_in.Goals as goal

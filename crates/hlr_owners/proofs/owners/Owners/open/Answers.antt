@@ -1,9 +1,4 @@
-use Rattle.std.proofs.lemmas.List.{map-append}
-use Rattle.tatp_rows.proofs.AppendLemmas.{each-append}
-use Rattle.hlr_owners.specs.Owners.{state_of}
-use Rattle.hlr_owners.specs.declared.part_owner.RegionOwner.TheVariants.{Part}
-use Rattle.std.proofs.Common.{◌≡◌, ◌∙◌, arith, refl, sym, rules, length, ◌∷◌, []}
-use Rattle.view_board.specs.declared.words.TheConstants.{WORDS}
+use Rattle.hlr_owners.proofs.Common.{map-append, each-append, state_of, Part, ◌≡◌, ◌∙◌, arith, refl, sym, rules, length, ◌∷◌, [], WORDS}
 use Rattle.hlr_owners.proofs.OpenLemmas.{regions_few, width_fits, range_at, none_opened, one_opened}
 use Rattle.hlr_owners.proofs.ShareLemmas.{none_shared, first_of_board, one_of_board, one_shared, level_small, shared_desks}
 use Rattle.hlr_owners.proofs.OpenedLemmas.{IsPartOwnerHome, desks-push, desks_long, opened_home, opened_ruled, opened_store}

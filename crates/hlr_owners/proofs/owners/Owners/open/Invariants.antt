@@ -1,11 +1,6 @@
-use Rattle.std.proofs.Common.{◌≡◌, ◌≤◌, ◌∷◌, vec_len}
-use Rattle.std.specs.Arc.{arc_value}
-use Rattle.std.specs.List.{AllByRecursion}
-use Rattle.std.specs.Prelude.{vec_capacity}
-use Rattle.hlr_owners.specs.Desks.{IsOfBoard}
+use Rattle.hlr_owners.proofs.Common.{◌≡◌, ◌≤◌, ◌∷◌, vec_len, arc_value, AllByRecursion, vec_capacity, IsOfBoard, states_in, desks_in}
 use Rattle.hlr_owners.proofs.OpenLemmas.{AreOpened}
 use Rattle.hlr_owners.proofs.ShareLemmas.{AreShared}
-use Rattle.hlr_owners.specs.Owners.{states_in, desks_in}
 use Rattle.hlr_owners.proofs.OpenedLemmas.{IsPartOwnerHome}
 use Rattle.hlr_owners.proofs.owners.Owners.open.Given as goal
 

@@ -1,6 +1,4 @@
-use Rattle.std.proofs.Common.{◌∙◌, sym, refl}
-use Rattle.hlr_owners.specs.PartOwnerState.{PartOwnerState}
-use Rattle.hlr_owners.specs.Out.{out_of}
+use Rattle.hlr_owners.proofs.Common.{◌∙◌, sym, refl, PartOwnerState, out_of}
 use Rattle.hlr_owners.proofs.WhileOutLemmas.{none_posted_while_out, posted_while_out}
 use Rattle.hlr_owners.proofs.OutLemmas.{none_out}
 use Rattle.hlr_owners.proofs.PartLemmas.{part_has_place, owner_is_part, part_is_home}

@@ -1,10 +1,6 @@
-use Rattle.std.proofs.Common.{arith, ℤ}
-use Rattle.std.specs.Prelude.{pos}
-use Rattle.std.proofs.lemmas.Int.{ints}
-use Rattle.tatp_rows.proofs.BlankLemmas.{blank_at}
-use Rattle.tatp_actions.specs.declared.cells.TheConstants.{CELLS}
+use Rattle.hlr_owners.proofs.Common.{arith, pos, ints, blank_at, CELLS, HasOneSlot}
+use Rattle.std.proofs.Common.{ℤ}
 use Rattle.hlr_owners.proofs.HomeLemmas.{home_at}
-use Rattle.hlr_owners.specs.Desks.{HasOneSlot}
 use Rattle.hlr_owners.proofs.RegionOwnerLemmas.{each_of_part, state_is}
 use Rattle.hlr_owners.proofs.SumLemmas.{nets, few_states, countable, state_within, none_added, added_small, one_added, added_published}
 use Rattle.hlr_owners.proofs.owners.Owners.published.Goals as goal

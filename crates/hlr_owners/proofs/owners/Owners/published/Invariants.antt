@@ -1,4 +1,4 @@
-use Rattle.hlr_owners.specs.Owners.{states_in}
+use Rattle.hlr_owners.proofs.Common.{states_in}
 use Rattle.hlr_owners.proofs.SumLemmas.{AreAdded, nets}
 use Rattle.hlr_owners.proofs.owners.Owners.published.Given as goal
 

@@ -1,6 +1,4 @@
-use Rattle.std.proofs.Common.{arith, ℕ}
-use Rattle.tatp_rows.proofs.BlankLemmas.{blank_at}
-use Rattle.tatp_actions.specs.declared.cells.TheConstants.{CELLS}
+use Rattle.hlr_owners.proofs.Common.{arith, ℕ, blank_at, CELLS}
 use Rattle.hlr_owners.proofs.HomeLemmas.{home_at}
 use Rattle.hlr_owners.proofs.RegionOwnerLemmas.{state_is}
 use Rattle.hlr_owners.proofs.SumLemmas.{state_within, one_countable, counts_few, none_counted, one_fits, one_counted, added_counts}

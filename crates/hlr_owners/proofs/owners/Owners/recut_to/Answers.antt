@@ -1,9 +1,7 @@
-use Rattle.std.proofs.Common.{sym, ap, length, ◌∙◌}
-use Rattle.std.proofs.lemmas.Result.{err_from_is_err_and}
+use Rattle.hlr_owners.proofs.Common.{sym, ap, length, ◌∙◌, err_from_is_err_and, OwnersState}
 use Rattle.hlr_owners.proofs.WhileOutLemmas.{moved_after, moved_none}
 use Rattle.hlr_owners.proofs.HomeLemmas.{cut_move_home}
 use Rattle.hlr_owners.proofs.RecutLemmas.{moving_begins, move_can, moving_more, moving_stopped, all_moves}
-use Rattle.hlr_owners.specs.Owners.{OwnersState}
 use Rattle.hlr_owners.proofs.owners.Owners.recut_to.Goals as goal
 
 pub loop-bound_move-init : goal.loop-bound_move-init

@@ -1,6 +1,4 @@
-use Rattle.std.proofs.Common.{drop}
-use Rattle.hlr_owners.specs.Inside.{IsMovedAlone}
-use Rattle.hlr_owners.specs.Owners.{store_in}
+use Rattle.hlr_owners.proofs.Common.{drop, IsMovedAlone, store_in}
 use Rattle.hlr_owners.proofs.RecutLemmas.{IsMoving}
 use Rattle.hlr_owners.proofs.owners.Owners.recut_to.Given as goal
 

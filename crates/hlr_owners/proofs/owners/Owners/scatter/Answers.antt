@@ -1,4 +1,4 @@
-use Rattle.std.proofs.Common.{refl, arith, ◌∙◌}
+use Rattle.hlr_owners.proofs.Common.{refl, arith, ◌∙◌}
 use Rattle.hlr_owners.proofs.ApartStoreLemmas.{again, few_again, store_again, fits_again, desks_again, pending_again}
 use Rattle.hlr_owners.proofs.HomeLemmas.{each_home}
 use Rattle.hlr_owners.proofs.SumLemmas.{unposted_is}

@@ -1,8 +1,5 @@
-use Rattle.std.proofs.Common.{◌∙◌, arith, ℤ}
-use Rattle.std.specs.Prelude.{pos}
-use Rattle.std.proofs.lemmas.Int.{ints}
-use Rattle.tatp_rows.proofs.BlankLemmas.{blank_at}
-use Rattle.tatp_actions.specs.declared.cells.TheConstants.{CELLS}
+use Rattle.hlr_owners.proofs.Common.{◌∙◌, arith, pos, ints, blank_at, CELLS}
+use Rattle.std.proofs.Common.{ℤ}
 use Rattle.hlr_owners.proofs.HomeLemmas.{home_at}
 use Rattle.hlr_owners.proofs.RegionOwnerLemmas.{state_is}
 use Rattle.hlr_owners.proofs.SumLemmas.{deltas, few_states, countable, state_within, one_countable, none_added, added_small, one_added, added_pending, unposted_is}

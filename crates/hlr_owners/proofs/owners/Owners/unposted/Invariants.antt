@@ -1,4 +1,4 @@
-use Rattle.hlr_owners.specs.Owners.{states_in}
+use Rattle.hlr_owners.proofs.Common.{states_in}
 use Rattle.hlr_owners.proofs.SumLemmas.{AreAdded, deltas}
 use Rattle.hlr_owners.proofs.owners.Owners.unposted.Given as goal
 
