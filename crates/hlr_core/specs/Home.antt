@@ -40,7 +40,7 @@ IsHomeTo (Dissolve part) h = IsHomeFrom (part - 1) h
 abbrev pub AreHome : Parts → OwnersState → Type 0
 AreHome parts h = (part : ℕ) → parts.first ≤ part → part < parts.end → IsPartHome part h
 
--- in this owners they are at home just where what the event needs is
+-- these parts are at home just where those that the event needs are
 abbrev pub WorksOn : Event → Parts → OwnersState → Type 0
 WorksOn event parts h = AreHome parts h ↔ IsHomeTo event h
 

@@ -6,7 +6,7 @@ use Rattle.hlr_owners.specs.Owners.{OwnersState, IsLaterOwner, IsBackFor, state_
 use Rattle.hlr_owners.specs.declared.part_owner.RegionOwner.{RegionOwner}
 use Rattle.hlr_core.specs.Index.{number_pair}
 
--- the pairs of numbers and subscribers of a holding, and of whoever has an owner
+-- the pairs of numbers and subscribers of a holding, and of an owner
 abbrev pub numbers_of : HoldingState → List (ℕ × ℕ)
 numbers_of holding = map number_pair holding.part.book.subscribers
 
@@ -27,6 +27,6 @@ AreLater before after = AllZip IsLater before after
 abbrev pub with_owners : OwnersState → List RegionOwner → OwnersState
 with_owners h owners = record h { owners = owners }
 
--- a holding may come home to an owner: its part is out, and jobs alone were done to it
+-- a holding may come home to a place: its part is out, and jobs alone were done to it
 abbrev pub IsBackWith : Option RegionOwner → HoldingState → Type 0
 IsBackWith owner holding = IsBackFor owner holding × IfSome owner (λ had. numbers_of holding ≡ numbers_at had)

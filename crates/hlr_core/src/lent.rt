@@ -46,7 +46,7 @@ impl Register {
         ensures { (i : ℕ) → IsBackWith (slice_get self.old.owners i) holding.value
             → self.new ≡ record self.old { owners = slice_set self.old.owners i (owner.Part (record { holding = holding.value; home = true })) } }
     {
-        // For the prover: the holding keeps the rules, as all who have an owner do.
+        // For the prover: the holding keeps the rules, as all owners do.
         let _lo = holding.lo();
         let _board = self.owners.board();
         self.owners.back(holding);

@@ -40,7 +40,7 @@ use tatp_actions::{CELLS, Cells, RowReply};
 use tatp_rows::{Access, Back, Number, Refusal, Subscriber};
 use view_board::{Sight, WORDS};
 
-/// A home location register, seen as its regions with the owner who owns each: a part's holding, which is at home
+/// A home location register, seen as its regions with the owner of each: a part's holding, which is at home
 /// or lent, or a loose piece. What they have together is the store of the definitions (`store_in`): the rows, the
 /// regions, the words of the board, what was seen of them, the slots of each part and the width of the zones. Of a part
 /// that is lent the register knows what it had then.

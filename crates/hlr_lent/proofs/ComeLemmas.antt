@@ -1,4 +1,4 @@
--- A holding comes out of its ring, and takes its owner again.
+-- A holding comes out of its ring, and takes its place again.
 use Rattle.std.proofs.Common.{◌≡◌, ◌∙◌, sym, ℕ, List, get_or, set, Some, None}
 use Rattle.std.specs.Prelude.{Option, slice_get}
 use Rattle.rtrb.specs.Ring.{received}

@@ -56,7 +56,7 @@ done_later lent [] now is = rw is (all_later_self (away lent ∷ [])).0
 done_later lent (last ∷ earlier) now done =
     later_after (away lent) (away done.0) (away now) (done_later lent earlier done.0 done.1) (job_later last.0 done.0 last.1 now done.2 done.3)
 
--- a holding that jobs have made of the one that was lent may take its owner
+-- a holding that jobs have made of the one that was lent may take its place
 pub worked_back : (lent now : HoldingState) → IsWorked lent now → IsBackWith (Some (away lent)) now
 worked_back lent now worked =
     let later = done_later lent worked.0 now worked.1 in

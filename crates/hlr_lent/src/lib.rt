@@ -3,7 +3,7 @@
 //! `Lender` has the register, and a ring for each part that is out. `Owner` has the part: its holding, the board and the
 //! other end of the ring. It does jobs on its rows in whatever thread has it, and sends the holding home through the
 //! ring. Nothing waits, and nothing is locked. A ring carries back only what jobs have made of the holding that was
-//! lent, so whatever comes out of it may take its owner again.
+//! lent, so whatever comes out of it may take its place again.
 #![tactic(auto)]
 
 mod changes;

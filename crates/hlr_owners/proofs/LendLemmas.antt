@@ -68,7 +68,7 @@ later_self [] = tt
 later_self (Part l ∷ owners) = ((record { lo = refl; hi = refl; width = refl; board = refl; owned = refl }, λ lawful. lawful, λ wide. wide), later_self owners)
 later_self (Piece b ∷ owners) = (refl, later_self owners)
 
--- a holding that comes home has an owner
+-- a holding that comes home has a place
 back_there : (owners : List RegionOwner) (i : ℕ) (k : HoldingState) → IsBackFor (slice_get owners i) k → (l : PartOwnerState) × (Part l ≡ get_or owners i (Part l)) × (i < length owners) × (l.home ≡ false) × IsSameOwner l.holding k
 back_there [] i k back = absurd back
 back_there (Part l ∷ owners) zero k back = (l, refl, omega arith, back.0, back.1)

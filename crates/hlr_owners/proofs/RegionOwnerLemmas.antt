@@ -1,4 +1,4 @@
--- An owner among all: its owner, its desk, and what is done to it.
+-- An owner among all: its rows, its desk, and what is done to it.
 use Rattle.hlr_owners.proofs.Common.{◌≡◌, ◌∙◌, refl, sym, ap, ℕ, zero, suc, ◌<◌, ◌≤◌, List, [], ◌∷◌, ◌++◌, length, get_or, set, arith, true, false, Some, position, insert, remove, Box, if◌then◌else◌, Global, Refusal, AllByRecursion, AllZip, map-set, position-Some, AllZip-long, get_or-map, s_id_of, IsOutcome, is_in_range, Book, IsRowsOf, IsWithin, Action, RowReply, apart, outcome-low, outcome-high, lies_in, AreRegions, IsConsecutive, Place, Region, END, blank, place_at, Station, PieceState, IsHolding, OwnerState, IsOwnerState, AreOwnerStates, of_holding, IsAnswered, is_loose, is_loose_place, PartOwnerState, state_of, states_in, book_in, of_part, of_parts, IsKind, IsRegionOwner, OwnersState, AreRuled, RegionOwner, Part, Piece}
 use Rattle.tatp_rows.specs.declared.refusal.Refusal.TheVariants as refusal
 use Rattle.tatp_actions.specs.declared.action.RowReply.TheVariants as row_reply
@@ -9,7 +9,7 @@ use Rattle.hlr_owners.proofs.StateLemmas.{book_of_states, own_region, state_rows
 use Rattle.hlr_owners.proofs.IndexedLemmas.{set_same}
 use Rattle.hlr_owners.proofs.ZipLemmas.{zip_at, zip_put, zip_from_two, zip_weaker}
 
--- a fact of owners is one of owners
+-- a fact of states is one of owners
 pub zip_owners : (Q : Region → OwnerState → Type 0) (regions : List Region) (owners : List RegionOwner) → AllZip Q regions (states_in owners) → AllZip (λ (r : Region) (s : RegionOwner). Q r (state_of s)) regions owners
 zip_owners Q [] [] each = tt
 zip_owners Q [] (s ∷ owners) each = absurd each
@@ -26,7 +26,7 @@ zip_states Q (r ∷ regions) (s ∷ owners) each = (each.0, zip_states Q regions
 pub owned : (width : ℕ) (regions : List Region) (owners : List RegionOwner) → AllZip (IsRegionOwner width) regions owners → AreOwnerStates width regions (states_in owners)
 owned width regions owners each = zip_states (IsOwnerState width) regions owners (zip_weaker {P = IsRegionOwner width} {Q = λ (r : Region) (s : RegionOwner). IsOwnerState width r (state_of s)} (λ r s is. is.state) regions owners each)
 
--- an owner beside a region, of its kind, with an owner who has its rows in a book
+-- an owner beside a region, of its kind, with its rows in a book
 pub record IsRegionOwnerIn (width : ℕ) (book : Book) (region : Region) (owner : RegionOwner) : Type 0 where
   pub kind : IsKind region.place owner
   pub state : IsOwnerIn width book region (state_of owner)
@@ -128,7 +128,7 @@ states-set owners i s = map-set state_of owners i s
 pub state_is : (owners : List RegionOwner) (i : ℕ) (s : RegionOwner) → s ≡ get_or owners i s → state_of s ≡ get_or (states_in owners) i (state_of s)
 state_is owners i s is = ap state_of is ∙ sym (get_or-map state_of owners i s)
 
--- what holds of each part's holding holds of the one who has an owner
+-- what holds of each part's holding holds of each owner
 pub each_of_part : {X : Type 0} (P : X → Type 0) (f : PartOwnerState → X) (owners : List RegionOwner) (i : ℕ) (s : RegionOwner) → AllByRecursion P (of_parts f owners) → i < length owners → s ≡ get_or owners i s → AllByRecursion P (of_part f s)
 each_of_part P f [] i s each within is = absurd (omega arith)
 each_of_part P f (Part l ∷ owners) zero s each within is = rw is (each.0, tt)

@@ -18,7 +18,7 @@ use Rattle.hlr_owners.specs.declared.part_owner.RegionOwner.{RegionOwner}
 abbrev pub AreSummable : (ℕ → ℤ) → Type 0
 AreSummable sum = (c : ℕ) → c < CELLS → (neg_ℤ (pos (2 ^ 60)) ≤ℤ sum c) × (sum c ≤ℤ pos (2 ^ 60))
 
--- whoever owns it is at home, owner by owner
+-- each owner is at home
 abbrev pub AreHome : List RegionOwner → Type 0
 AreHome owners = AllByRecursion (λ (owner : RegionOwner). is_home owner ≡ true) owners
 

@@ -1,4 +1,4 @@
--- Owners, one beside each region: the owners who sit there, their rows as one book, and their desks.
+-- Owners, one beside each region, their rows as one book, and their desks.
 use Rattle.std.specs.Prelude.{◌≡◌, ℕ, Bool, true, false, List, [], ◌∷◌, map, ⊤, ◌-◌, ℤ, ◌++◌, Option, Some, None, drop, position, slice_get, slice_set, slice_index_or}
 use Rattle.std.specs.List.{AllZip, AllByRecursion}
 use Rattle.tatp_actions.specs.Book.{Book}
@@ -21,12 +21,12 @@ use Rattle.hlr_owners.specs.PartOwnerState.{PartOwnerState}
 use Rattle.hlr_owners.specs.declared.part_owner.RegionOwner.{RegionOwner}
 use Rattle.hlr_owners.specs.declared.part_owner.RegionOwner.TheVariants.{Part, Piece}
 
--- who owns it
+-- the rows, deltas and view of an owner
 abbrev pub state_of : RegionOwner → OwnerState
 state_of (Part part_owner_state) = of_holding part_owner_state.holding
 state_of (Piece b) = of_piece b.value
 
--- the owners of all owners
+-- those of all owners
 abbrev pub states_in : List RegionOwner → List OwnerState
 states_in owners = map state_of owners
 
@@ -69,14 +69,14 @@ abbrev pub is_home : RegionOwner → Bool
 is_home (Part part_owner_state) = part_owner_state.home
 is_home (Piece b) = true
 
--- a part owns a part's region, a piece beside a piece's
+-- a part stands beside a part's region, a piece beside a piece's
 abbrev pub IsKind : Place → RegionOwner → Type 0
 IsKind (place.Part p) (Part part_owner_state) = ⊤
 IsKind (place.Part p) (Piece b) = ⊥
 IsKind (place.Piece n) (Part part_owner_state) = ⊥
 IsKind (place.Piece n) (Piece b) = ⊤
 
--- an owner beside a region: of its kind, with an owner who has its rows
+-- an owner beside a region: of its kind, and with its rows
 pub record IsRegionOwner (width : ℕ) (region : Region) (owner : RegionOwner) : Type 0 where
   pub kind : IsKind region.place owner
   pub state : IsOwnerState width region (state_of owner)
@@ -140,7 +140,7 @@ pub record IsSameOwner (before after : HoldingState) : Type 0 where
   pub board : after.desk.board ≡ before.desk.board
   pub owned : after.desk.view.owned ≡ before.desk.view.owned
 
--- a part's holding goes out, which was at home: its owner is empty, and nothing else changes
+-- a part's holding goes out, which was at home: its place is empty, and nothing else changes
 pub record IsLent (part : ℕ) (before : OwnersState) (holding : HoldingState) (after : OwnersState) : Type 0 where
   pub index : ℕ
   pub region : position (is_part part) before.regions ≡ Some index
@@ -156,7 +156,7 @@ IsLaterOwner (Part l) (Piece b) = ⊥
 IsLaterOwner (Piece a) (Part m) = ⊥
 IsLaterOwner (Piece a) (Piece b) = b ≡ a
 
--- a holding that may come home to an owner: its part is out, and it is the same owner
+-- a holding that may come home to a place: its part is out, and it is the same owner
 abbrev pub IsBackFor : Option RegionOwner → HoldingState → Type 0
 IsBackFor (Some (Part l)) k = (l.home ≡ false) × IsSameOwner l.holding k
 IsBackFor (Some (Piece b)) k = ⊥

@@ -42,7 +42,7 @@ misfit_of apart = misfit apart.frame.width (holdings_in apart) (pieces_in apart)
 abbrev pub store_from : Scattered → Store
 store_from apart = gathered apart.frame.width apart.frame.spare (holdings_in apart) (pieces_in apart)
 
--- its owners by where their ranges begin, as owners
+-- its holdings and pieces as owners, by where their ranges begin
 abbrev pub owners_in : Scattered → List RegionOwner
 owners_in apart = owners_from (holdings_in apart) apart.pieces.items
 

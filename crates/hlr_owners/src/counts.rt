@@ -29,7 +29,7 @@ impl RegionOwner {
     }
 }
 
-/// Adds what an owner's owner has published of each cell to a sum: of a loose piece nobody has published anything.
+/// Adds what an owner has published of each cell to a sum: of a loose piece nobody has published anything.
 fn add_published(sums: &mut [i64; CELLS as usize], owner: &RegionOwner)
     requires home { is_home owner.now ≡ true }
     requires alone { AllByRecursion HasOneSlot (desk_at owner.now) }
@@ -53,7 +53,7 @@ fn add_deltas<O: RangeOwner>(sums: &mut [i64; CELLS as usize], state: &O)
     }
 }
 
-/// The same with the owner who owns it.
+/// The same with the owner of a region.
 fn add_pending(sums: &mut [i64; CELLS as usize], owner: &RegionOwner)
     requires home { is_home owner.now ≡ true }
     requires sums { AreSummable (pending_at sums.old) }

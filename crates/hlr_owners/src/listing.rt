@@ -11,7 +11,7 @@ use crate::owners::Owners;
 use crate::part_owner::RegionOwner;
 use tatp_rows::{Facility, Forwarding, Refusal, Subscriber};
 
-/// The first Subscriber row from a subscriber on of whoever has an owner.
+/// The first Subscriber row from a subscriber on of an owner.
 fn first_at(owner: &RegionOwner, s_id: u64) -> Option<&Subscriber>
     requires { is_home owner.now ≡ true }
     ensures { option_copied result ≡ first_subscriber s_id (state_of owner.now).part.book.subscribers }

@@ -73,7 +73,7 @@ fn number_of(holding: &Holding, s_id: u32) -> Option<Number>
 }
 
 impl Owners {
-    /// The owner of the owner who has an s_id.
+    /// The index of the owner who has an s_id.
     pub fn owner_of(&self, s_id: u32) -> usize
         requires { IsWithin 1 (LAST_SUBSCRIBER + 1) s_id }
         ensures at { position (lies_in s_id) self.now.regions ≡ Some result }

@@ -1,4 +1,4 @@
-//! Owners taken apart, so that each owner may go to a thread of its own, and owners made of what comes home.
+//! Owners taken apart, so that each may go to a thread of its own, and made of what comes home.
 ghost use Rattle.std.specs.Prelude.{◌≡◌, ◌+◌, ◌<◌, ℕ, None};
 ghost use Rattle.tatp_actions.specs.Book.{IsRowsOf};
 ghost use Rattle.part_table.specs.Numbered.{numbered};
@@ -53,7 +53,7 @@ impl Owners {
         }
     }
 
-    /// All that is handed in, over these regions, each holding and piece in its owner. It takes no memory.
+    /// All that is handed in, over these regions, each holding and piece beside its region. It takes no memory.
     pub fn gathered(scattered: Scattered, prepared: Prepared) -> Owners
         requires surveyed { IsSurveyed scattered prepared }
         requires desks { MayBeGathered scattered }

@@ -203,7 +203,7 @@ module _ (h : OwnersState) (are : AreRuled h) (g : OwnersState) where
       dissolved : (p : ℕ) → IsStep (Dissolve p) (store_in h) r (store_in g) → AreHomesAfter (Dissolve p) r h g → IsHomeFrom (p - 1) h → AreHomesParted (parting_of r) h g
       dissolved p step register home = rw (step.2) (dissolve_parted p step.0 step.1 (rw (step.2) at register) home)
 
--- what that leaves of a workers: each part that is out keeps its worker
+-- what that leaves of workers: each part that is out keeps its worker
 pub record IsApplied (old : WorkersState) (g : OwnersState) (ws : List (Option Sent)) (told : Parting) : Type 0 where
   pub room : IsPlace told (length ws)
   pub each : AllZip HasWorker (outs_in g.owners) (parted told None ws)

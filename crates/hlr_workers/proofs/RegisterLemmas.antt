@@ -31,7 +31,7 @@ use Rattle.hlr_workers.specs.Standing.{AreEnds, IsSessionBy}
 use Rattle.hlr_workers.proofs.BackLemmas.{job_numbers}
 use Rattle.hlr_workers.proofs.SessionLemmas.{job_same}
 
--- owners of the same owners and desks make the same store
+-- owners with the same rows and desks make the same store
 pub same_store : (h : OwnersState) (a b : List RegionOwner) → states_in a ≡ states_in b → desks_in a ≡ desks_in b → store_in (with_owners h a) ≡ store_in (with_owners h b)
 same_store h a b states desks = λ i. record {
   book = book_of (map (λ (o : OwnerState). o.part) (states i));

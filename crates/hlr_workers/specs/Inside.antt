@@ -110,7 +110,7 @@ IsBehind Same q = ⊥
 IsBehind (New part) q = part ≤ q
 IsBehind (Gone part) q = part ≤ q
 
--- a workers after it: a new part is at home, as the one that is gone was, and all the parts behind it were
+-- workers after it: a new part is at home, as the one that is gone was, and all the parts behind it were
 pub record AreWorkersParted (told : Parting) (before after : WorkersState) : Type 0 where
   pub outs : outs_in after.register.owners ≡ parted told None (outs_in before.register.owners)
   pub jobs : after.jobs ≡ parted told [] before.jobs

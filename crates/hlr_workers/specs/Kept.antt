@@ -43,7 +43,7 @@ pub record InOrder (jobs : List (List (ℕ × Job))) (replies : List (ℕ × Rep
 abbrev pub engaged : WorkersState → List (ℕ × Reply) → Engaged
 engaged workers replies = record { register = workers.register; jobs = workers.jobs; replies = replies }
 
--- the rules that a workers and the replies kept keep together
+-- the rules that workers and the replies kept keep together
 pub record IsKept (workers : WorkersState) (replies : List (ℕ × Reply)) : Type 0 where
   pub paired : length workers.jobs ≡ length (outs_in workers.register.owners)
   pub none : AllNumberless workers.jobs
