@@ -36,7 +36,7 @@ the program waits for more input.
   post,P,L                       publishes the changed counts of at most L cells of the part P: posted,CELLS
   give,P,high,S                  the part P gives its subscribers from S on away, as a loose piece: piece,K,FROM,TO
   give,P,low,S                   the same with those below S
-  take,K,P                       the part P takes the loose piece K while_out it: taken,K,P
+  take,K,P                       the part P takes the loose piece K beside it: taken,K,P
   divide,P,S                     a new part Q, P + 1, gets the part P's subscribers from S on: divided,Q,FROM,TO
   dissolve,P                     the part Q, P - 1, gets the part P's subscribers: dissolved,Q,FROM,TO
   views                          shows the counts that aren't 0: cell,CELL,PUBLISHED,UNPOSTED lines, then views,LINES
@@ -64,7 +64,7 @@ the subscribers by area, cell 24 + V / 268435456; 40 to 71 of the rows of all ki
 --zone gives W, and 71 for all zones behind it too.
 
 The subscribers are shared among parts, numbered from 0: each part has those from a number FROM on and below a number
-TO, and publishes their counts. What a part gives away is a loose piece until a part while_out it takes it; till then
+TO, and publishes their counts. What a part gives away is a loose piece until a part beside it takes it; till then
 its subscribers are answered refused,11,Moving. A bound S between two parts is the first subscriber of the second.
 Parts may come and go, with 1 to 16 at any time; the numbers of those behind rise or fall by one. What a part that
 goes has published is taken back, and is unposted in the part that gets its subscribers. propose shares rows out by

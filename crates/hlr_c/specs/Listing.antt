@@ -10,7 +10,7 @@ use Rattle.tatp_actions.specs.Book.{first_subscriber}
 use Rattle.holding.specs.Held.{HoldingState}
 use Rattle.hlr_owners.specs.Out.{with_outs}
 use Rattle.hlr_owners.specs.Owners.{OwnersState, IsHomeFor, book_in, store_in}
-use Rattle.hlr_core.specs.WhileOut.{while_out}
+use Rattle.hlr_core.specs.WhileOut.{register_with}
 use Rattle.hlr_core.specs.Later.{AreLater}
 use Rattle.hlr_core.specs.Rows.{bearer_answer, facility_read, forwarding_read}
 use Rattle.hlr_c.specs.declared.codes.TheConstants.{DONE}
@@ -23,7 +23,7 @@ IsRead read told before answer after = (after ≡ before) × (answer ≡ told (r
 pub record IsReadWhileOut {R X : Type 0} (read : OwnersState → Result R Refusal) (told : Result R Refusal → X) (before : OwnersState) (answer : X) (after : OwnersState) : Type 0 where
   pub here : IsRead read told before answer after
   pub while_out : (holdings : List HoldingState) → AreLater before.owners (with_outs before.owners holdings)
-      → answer ≡ told (read (while_out before holdings))
+      → answer ≡ told (read (register_with before holdings))
 
 -- the same of rows of a subscriber; or, where the fields are in range, that the part is out that has the subscriber
 abbrev pub IsReadAt : {R X : Type 0} → ℕ → Bool → (OwnersState → Result R Refusal) → (Result R Refusal → X) → X → OwnersState → X → OwnersState → Type 0

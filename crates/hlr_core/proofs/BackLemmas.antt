@@ -28,7 +28,7 @@ put_there [] i x y stood = absurd (let no : None ≡ Some x = stood in cc)
 put_there (z ∷ xs) zero x y stood = refl
 put_there (z ∷ xs) (suc i) x y stood = put_there xs i x y stood
 
--- the part that was lent has an owner to which its holding may come home
+-- the part that was lent has a place for its holding
 pub lent_back : (p : ℕ) (before after : OwnersState) (had k : HoldingState) → IsLent p before had after → IsBackWith (Some (Part (record { holding = had; home = false }))) k
     → (i : ℕ) × IsBackWith (slice_get after.owners i) k
 lent_back p before after had k lent back =

@@ -1,4 +1,4 @@
--- The names from below that proofs of this crate cite, passed on from one place. Declares nothing.
+-- The names of crates below and of this crate's specs that proofs cite, passed on from one place. Declares nothing.
 pub use Rattle.std.proofs.Common.{Bool, Err, List, None, Ok, Option, Some, [], ap, arith, drop, false, get_or, inl, inr, length, length-set, map, pos, refl, rules, set, slice_index_or, subst, suc, sym, take, true, vec_capacity, vec_len, w64, zero, ℕ, ◌++◌, ◌+◌, ◌-◌, ◌<◌, ◌∙◌, ◌∷◌, ◌≡◌, ◌≢◌, ◌≤◌}
 pub use Rattle.std.proofs.Math.Seq.{take-suc}
 pub use Rattle.std.proofs.lemmas.Bool.{cases_eq, cases_lt}
@@ -108,11 +108,11 @@ pub use Rattle.hlr_core.specs.Numbers.{HasNoTwin, bearer_id, bearer_of}
 pub use Rattle.hlr_core.specs.Route.{IsRouted}
 pub use Rattle.hlr_core.specs.Rows.{AreFound, access_reply, numbers_reply, subscriber_reply}
 pub use Rattle.hlr_core.specs.Run.{IsOrderStep, IsRun}
-pub use Rattle.hlr_core.specs.Session.{AreDone, IsActed, IsDoneAt, IsJobDone, IsJobOf, IsPosted, IsWithinJob, JobReply, JobsCommute, jobs_of, jobs_while_out}
+pub use Rattle.hlr_core.specs.Session.{AreDone, IsActed, IsDoneAt, IsJobDone, IsJobOf, IsPosted, IsWithinJob, JobReply, JobsCommute, jobs_of, jobs_of_others}
 pub use Rattle.hlr_core.specs.Step.{IsAskedStep, IsOwnedStep, IsPostStep, IsStep, IsWholeOutcome, action_for, changes_number, checked, dissolved_reply, divided_reply, edited_reply, given_number, given_reply, is_anothers, is_done, posted_reply, reply_of, taken_reply, takes_number, whole_effect}
 pub use Rattle.hlr_core.specs.Tasks.{job_of}
 pub use Rattle.hlr_core.specs.Weights.{counted_weights, published_weights, weight}
-pub use Rattle.hlr_core.specs.WhileOut.{IsRecutWhileOut, IsStepWhileOut, while_out}
+pub use Rattle.hlr_core.specs.WhileOut.{IsRecutWhileOut, IsStepWhileOut, register_with}
 pub use Rattle.hlr_core.specs.declared.event.Event.{Event}
 pub use Rattle.hlr_core.specs.declared.event.Event.TheVariants.{DeleteForwarding, Dissolve, Divide, Give, InsertForwarding, Post, Take, UpdateLocation}
 pub use Rattle.hlr_core.specs.declared.event.Reply.{Reply}

@@ -1,5 +1,5 @@
 -- Jobs of different parts commute.
-use Rattle.hlr_core.proofs.Common.{◌≡◌, ◌≢◌, ◌∙◌, refl, sym, ap, ℕ, zero, suc, List, [], ◌∷◌, ◌++◌, get_or, set, arith, true, Some, position, slice_get, ◌==◌, AllByRecursion, by_test, nat_tests, set_comm, position-Some, is_part, is_part_place, Place, Region, blank, Job, RegionOwner, Part, AreDone, IsDoneAt, JobReply, JobsCommute, jobs_while_out, jobs_of, Reply}
+use Rattle.hlr_core.proofs.Common.{◌≡◌, ◌≢◌, ◌∙◌, refl, sym, ap, ℕ, zero, suc, List, [], ◌∷◌, ◌++◌, get_or, set, arith, true, Some, position, slice_get, ◌==◌, AllByRecursion, by_test, nat_tests, set_comm, position-Some, is_part, is_part_place, Place, Region, blank, Job, RegionOwner, Part, AreDone, IsDoneAt, JobReply, JobsCommute, jobs_of_others, jobs_of, Reply}
 use Rattle.part_table.specs.declared.region.Place.TheVariants as place
 
 -- a place is that of one part
@@ -81,7 +81,7 @@ jobs_commute regions p (one ∷ jobs) before after =
     (λ e.
     let other : one.part ≢ p = grind (arith, nat_tests) in
     rw e (
-      λ done. moved_behind regions p one other (jobs_while_out p jobs) (jobs_of p jobs) (each_own p jobs) before done.0 after done.1 ((jobs_commute regions p jobs done.0 after).0 done.2),
-      λ done. (let first = moved_before regions p one other (jobs_while_out p jobs) (jobs_of p jobs) (each_own p jobs) before after done in
+      λ done. moved_behind regions p one other (jobs_of_others p jobs) (jobs_of p jobs) (each_own p jobs) before done.0 after done.1 ((jobs_commute regions p jobs done.0 after).0 done.2),
+      λ done. (let first = moved_before regions p one other (jobs_of_others p jobs) (jobs_of p jobs) (each_own p jobs) before after done in
           (first.0, first.1, (jobs_commute regions p jobs first.0 after).1 first.2)),
     ))

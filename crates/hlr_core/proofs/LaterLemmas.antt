@@ -139,7 +139,7 @@ number_later owners ks later s_id = (later_same owners ks later).number (key_of 
 pub bearer_later : (owners ks : List RegionOwner) → AreLater owners ks → (n : ℕ) → bearer_id (book_in ks).subscribers n ≡ bearer_id (book_in owners).subscribers n
 bearer_later owners ks later n = (later_same owners ks later).bearer n
 
--- owners that stand for others keep the rules of owners
+-- owners that stand for others keep the owners' rules
 pub each_owner : (owners ks : List RegionOwner) → AreLater owners ks → AllZip IsLaterOwner owners ks
 each_owner owners ks later = zip_weaker (λ s k is. is.owner) owners ks later
 

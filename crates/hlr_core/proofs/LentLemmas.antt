@@ -1,5 +1,5 @@
 -- What is read where its row lies is a right step.
-use Rattle.hlr_core.proofs.Common.{◌≡◌, refl, None, Result, IfOk, IfErr, MatchResult, Refusal, is_in_range, Action, RowReply, IsReadWhileOut, with_outs, IsRead, OwnersState, store_in, Store, IsStepWhileOut, while_out, IsActionStep, IsRowStepWhileOut, IsStep, given_number, reply_of, Event, Reply}
+use Rattle.hlr_core.proofs.Common.{◌≡◌, refl, None, Result, IfOk, IfErr, MatchResult, Refusal, is_in_range, Action, RowReply, IsReadWhileOut, with_outs, IsRead, OwnersState, store_in, Store, IsStepWhileOut, register_with, IsActionStep, IsRowStepWhileOut, IsStep, given_number, reply_of, Event, Reply}
 use Rattle.std.specs.Prelude.{Ok, Err}
 use Rattle.std.specs.Prelude.{Some}
 use Rattle.tatp_actions.specs.declared.action.RowReply.TheVariants as row_reply
@@ -14,7 +14,7 @@ read_step act store answer gives read = asked_step (is_in_range act) (Some act) 
 
 -- so it is whatever the holdings that are out have become
 answer_while_out : (act : Action) (h : OwnersState) → given_number act ≡ None → (answer : RowReply) → IsReadWhileOut act h answer → IsRowStepWhileOut (is_in_range act) (Some act) h (reply_of answer) h
-answer_while_out act h gives answer read = λ ks later. read_step act (store_in (while_out h ks)) answer gives (read ks (each_owner h.owners (with_outs h.owners ks) later))
+answer_while_out act h gives answer read = λ ks later. read_step act (store_in (register_with h ks)) answer gives (read ks (each_owner h.owners (with_outs h.owners ks) later))
 
 pub read_while_out : {A : Type 0} (act : Action) (h : OwnersState) → given_number act ≡ None → (reply_to : A → RowReply) (r : Result A Refusal)
     → MatchResult r (λ x. IsReadWhileOut act h (reply_to x)) (λ why. IsReadWhileOut act h (row_reply.Refused why))

@@ -1,5 +1,5 @@
 -- Rows of many subscribers at once.
-use Rattle.hlr_core.proofs.Common.{◌≡◌, ◌∙◌, refl, sym, ap, ℕ, suc, ◌+◌, ◌<◌, List, [], ◌∷◌, ◌++◌, length, get_or, map, take, arith, true, All, take-suc, get_or-map, length-map, map-append, All-more, ArrayVec, between_is, between_ok, both, both_from, SubscriberRow, AccessInfoRow, between, is_between, LAST_SUBSCRIBER, access_data, destinations, effect, is_in_range, new_destination, s_id_of, subscriber_data, IsWithin, access_at, subscriber_at, HoldingState, HasRowsWhileOut, with_outs, HasRowsOf, OwnersState, store_in, Store, is_read, subscriber_fits, IsStepWhileOut, while_out, AreFound, access_reply, numbers_reply, subscriber_reply, IsActionStep, IsStep, given_number, reply_of, Action, RowReply, Event, Reply}
+use Rattle.hlr_core.proofs.Common.{◌≡◌, ◌∙◌, refl, sym, ap, ℕ, suc, ◌+◌, ◌<◌, List, [], ◌∷◌, ◌++◌, length, get_or, map, take, arith, true, All, take-suc, get_or-map, length-map, map-append, All-more, ArrayVec, between_is, between_ok, both, both_from, SubscriberRow, AccessInfoRow, between, is_between, LAST_SUBSCRIBER, access_data, destinations, effect, is_in_range, new_destination, s_id_of, subscriber_data, IsWithin, access_at, subscriber_at, HoldingState, HasRowsWhileOut, with_outs, HasRowsOf, OwnersState, store_in, Store, is_read, subscriber_fits, IsStepWhileOut, register_with, AreFound, access_reply, numbers_reply, subscriber_reply, IsActionStep, IsStep, given_number, reply_of, Action, RowReply, Event, Reply}
 use Rattle.std.specs.Prelude.{Option, Some, None, Ok}
 use Rattle.tatp_rows.specs.declared.refusal.Refusal.TheVariants as refusal
 use Rattle.tatp_actions.specs.declared.action.Action.TheVariants as action
@@ -102,7 +102,7 @@ module _ (h : OwnersState) (holding : HoldingState) where
       → rows ≡ map (subscriber_at holding.part.book) s_ids → AreFound event.SubscriberData subscriber_reply h s_ids rows
   subscribers_found s_ids rows within have found =
       all_found event.SubscriberData subscriber_reply (subscriber_at holding.part.book) h s_ids rows found
-      (λ at d below ks later. subscriber_read (store_in (while_out h ks)) holding (get_or s_ids at d) (within at d below) (have at d below ks (each_owner h.owners (with_outs h.owners ks) later)) (subscriber_at holding.part.book (get_or s_ids at d)) refl)
+      (λ at d below ks later. subscriber_read (store_in (register_with h ks)) holding (get_or s_ids at d) (within at d below) (have at d below ks (each_owner h.owners (with_outs h.owners ks) later)) (subscriber_at holding.part.book (get_or s_ids at d)) refl)
 
   pub accesses_found : (asked : List (ℕ × ℕ)) (rows : List (Option AccessInfoRow)) → All (λ a. IsWithin 1 (LAST_SUBSCRIBER + 1) a.0 × (is_between 1 4 a.1 ≡ true)) asked
       → All (λ s_id. HasRowsWhileOut s_id h holding) (map (λ a. a.0) asked)
@@ -110,7 +110,7 @@ module _ (h : OwnersState) (holding : HoldingState) where
   accesses_found asked rows within have found =
       all_found (λ a. event.AccessData a.0 a.1) access_reply (λ a. access_at holding.part.book a.0 a.1) h asked rows found
       (λ at d below ks later. let a = get_or asked at d in let fits = within at d below in
-      access_read (store_in (while_out h ks)) holding a.0 a.1 fits.0 fits.1 (all_of_made (λ (a : ℕ × ℕ). a.0) d (λ s_id. HasRowsWhileOut s_id h holding) asked have at d below ks (each_owner h.owners (with_outs h.owners ks) later)) (access_at holding.part.book a.0 a.1) refl)
+      access_read (store_in (register_with h ks)) holding a.0 a.1 fits.0 fits.1 (all_of_made (λ (a : ℕ × ℕ). a.0) d (λ s_id. HasRowsWhileOut s_id h holding) asked have at d below ks (each_owner h.owners (with_outs h.owners ks) later)) (access_at holding.part.book a.0 a.1) refl)
 
   pub destinations_found : (asked : List (ℕ × ℕ × ℕ × ℕ)) (numbers : List (ArrayVec ℕ)) → All (λ q. IsWithin 1 (LAST_SUBSCRIBER + 1) q.0 × (is_in_range (action.NewDestination q.0 q.1 q.2 q.3) ≡ true)) asked
       → All (λ s_id. HasRowsWhileOut s_id h holding) (map (λ q. q.0) asked)
@@ -118,4 +118,4 @@ module _ (h : OwnersState) (holding : HoldingState) where
   destinations_found asked numbers within have found =
       all_found (λ (q : ℕ × ℕ × ℕ × ℕ). event.NewDestination q.0 q.1 q.2 q.3) (λ (found : ArrayVec ℕ). numbers_reply found.items) (λ (q : ℕ × ℕ × ℕ × ℕ). record { items = destinations holding.part.book q.0 q.1 q.2 q.3 }) h asked numbers found
       (λ at d below ks later. let q = get_or asked at d in
-      destinations_read (store_in (while_out h ks)) holding q.0 q.1 q.2 q.3 (within at d below).1 (all_of_made (λ (q : ℕ × ℕ × ℕ × ℕ). q.0) d (λ s_id. HasRowsWhileOut s_id h holding) asked have at d below ks (each_owner h.owners (with_outs h.owners ks) later)) (destinations holding.part.book q.0 q.1 q.2 q.3) refl)
+      destinations_read (store_in (register_with h ks)) holding q.0 q.1 q.2 q.3 (within at d below).1 (all_of_made (λ (q : ℕ × ℕ × ℕ × ℕ). q.0) d (λ s_id. HasRowsWhileOut s_id h holding) asked have at d below ks (each_owner h.owners (with_outs h.owners ks) later)) (destinations holding.part.book q.0 q.1 q.2 q.3) refl)

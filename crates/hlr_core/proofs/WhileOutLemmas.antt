@@ -1,5 +1,5 @@
 -- What the register does while holdings are out is right whatever these have become.
-use Rattle.hlr_core.proofs.Common.{◌≡◌, ◌∙◌, refl, sym, ap, ℕ, List, Bool, true, false, Option, Some, None, Ok, Err, is_some, option_map, SubscriberRow, Refusal, pair_of, bearer_in, IsAdded, IsRenamed, is_in_range, s_id_of, subscriber_at, Action, RowReply, dissolve_answer, divide_answer, give_answer, after_give, recut_answer, take_answer, after_take, CutMove, Region, Side, HoldingState, MayAnswer, is_loose, IsAnsweredWhileOut, IsMovedWhileOut, IsPostedWhileOut, outs_in, with_outs, IsDissolvedWhileOut, IsDividedWhileOut, IsRecut, IsRecutBy, OwnersState, AreRuled, book_in, part_holdings, store_in, Store, own_outs, while_out, IsStepWhileOut, IsRecutWhileOut, IsRegister, IsAsked, IsRowStepWhileOut, is_on_rows, AreLater, IsAskedStep, IsStep, action_for, dissolved_reply, divided_reply, given_number, given_reply, posted_reply, taken_reply, reply_of, Event, Give, Take, Divide, Dissolve, Post, Reply}
+use Rattle.hlr_core.proofs.Common.{◌≡◌, ◌∙◌, refl, sym, ap, ℕ, List, Bool, true, false, Option, Some, None, Ok, Err, is_some, option_map, SubscriberRow, Refusal, pair_of, bearer_in, IsAdded, IsRenamed, is_in_range, s_id_of, subscriber_at, Action, RowReply, dissolve_answer, divide_answer, give_answer, after_give, recut_answer, take_answer, after_take, CutMove, Region, Side, HoldingState, MayAnswer, is_loose, IsAnsweredWhileOut, IsMovedWhileOut, IsPostedWhileOut, outs_in, with_outs, IsDissolvedWhileOut, IsDividedWhileOut, IsRecut, IsRecutBy, OwnersState, AreRuled, book_in, part_holdings, store_in, Store, own_outs, register_with, IsStepWhileOut, IsRecutWhileOut, IsRegister, IsAsked, IsRowStepWhileOut, is_on_rows, AreLater, IsAskedStep, IsStep, action_for, dissolved_reply, divided_reply, given_number, given_reply, posted_reply, taken_reply, reply_of, Event, Give, Take, Divide, Dissolve, Post, Reply}
 use Rattle.std.proofs.Common.{Result}
 use Rattle.tatp_rows.specs.declared.refusal.Refusal.TheVariants as refusal
 use Rattle.tatp_actions.specs.declared.action.Action.TheVariants as action
@@ -19,20 +19,20 @@ own_step event before after answer same step =
 
 -- what an event on rows asks for, it asks for whatever they have become
 pub step_while_out : (event : Event) (before after : OwnersState) (answer : Reply) → is_on_rows event ≡ true
-    → ((ks : List HoldingState) → AreLater before.owners (with_outs before.owners ks) → IsAskedStep (action_for event (book_in before.owners)) (store_in (while_out before ks)) answer (store_in (while_out after ks)))
+    → ((ks : List HoldingState) → AreLater before.owners (with_outs before.owners ks) → IsAskedStep (action_for event (book_in before.owners)) (store_in (register_with before ks)) answer (store_in (register_with after ks)))
     → IsStepWhileOut event before answer after
 step_while_out event before after answer rows step = λ ks later.
-    (row_step event (store_in (while_out before ks)) answer (store_in (while_out after ks)) rows).1 (rw (asks_later event before rows (with_outs before.owners ks) later) (step ks later))
+    (row_step event (store_in (register_with before ks)) answer (store_in (register_with after ks)) rows).1 (rw (asks_later event before rows (with_outs before.owners ks) later) (step ks later))
 
 -- an edit is done or refused by the rows, or refused as it is asked for
 pub asked_while_out : (fits : Bool) (wanted : Option Action) (act : Action) (before after : OwnersState) (rows : RowReply) (answer : Reply) → given_number act ≡ None
     → IsAsked fits wanted (Ok act) → IsAnsweredWhileOut act before rows after → answer ≡ reply_of rows → IsRowStepWhileOut fits wanted before answer after
 asked_while_out fits wanted act before after rows answer gives asked done is = λ ks later.
     let answered = done ks (each_owner before.owners (with_outs before.owners ks) later) in
-    asked_step fits wanted act (store_in (while_out before ks)) (store_in (while_out after ks)) rows answer gives asked answered.0 answered.1 is
+    asked_step fits wanted act (store_in (register_with before ks)) (store_in (register_with after ks)) rows answer gives asked answered.0 answered.1 is
 
 pub unasked_while_out : (fits : Bool) (wanted : Option Action) (why : Refusal) (h : OwnersState) → IsAsked fits wanted (Err why) → IsRowStepWhileOut fits wanted h (reply.Refused why) h
-unasked_while_out fits wanted why h asked = λ ks later. unasked_step fits wanted why (store_in (while_out h ks)) asked
+unasked_while_out fits wanted why h asked = λ ks later. unasked_step fits wanted why (store_in (register_with h ks)) asked
 
 -- a posting
 pub posted_while_out : (before after : OwnersState) (part limit : ℕ) (posted : Result ℕ Refusal) → IsPostedWhileOut part limit before posted after → IsStepWhileOut (Post part limit) before (posted_reply posted) after
@@ -43,11 +43,11 @@ abbrev pub IsActedWhileOut : Action → OwnersState → Reply → OwnersState �
 IsActedWhileOut act before answer after = IsRowStepWhileOut true (Some act) before answer after
 
 pub moving_while_out : (act : Action) (h : OwnersState) → is_loose (s_id_of act) h.regions ≡ true → IsActedWhileOut act h (reply.Refused refusal.Moving) h
-moving_while_out act h loose = λ ks later. moving_step act (store_in (while_out h ks)) (store_in (while_out h ks)) (reply.Refused refusal.Moving) loose refl refl
+moving_while_out act h loose = λ ks later. moving_step act (store_in (register_with h ks)) (store_in (register_with h ks)) (reply.Refused refusal.Moving) loose refl refl
 
 -- a subscriber is added, or is refused
 module _ (h : OwnersState) (row : SubscriberRow) where
-  home_while_out : (has : Bool) (ks : List HoldingState) → AreLater h.owners (with_outs h.owners ks) → IsHome row (store_in h) has → IsHome row (store_in (while_out h ks)) has
+  home_while_out : (has : Bool) (ks : List HoldingState) → AreLater h.owners (with_outs h.owners ks) → IsHome row (store_in h) has → IsHome row (store_in (register_with h ks)) has
   home_while_out has ks later here = record {
     home = here.home;
     there = sym (some_number (subscriber_at (book_in (with_outs h.owners ks)) row.s_id)) ∙ ap is_some (number_later h.owners (with_outs h.owners ks) later row.s_id)
@@ -55,45 +55,45 @@ module _ (h : OwnersState) (row : SubscriberRow) where
   }
 
   pub exists_while_out : IsHome row (store_in h) true → IsActedWhileOut (action.AddSubscriber row) h (reply.Refused refusal.Exists) h
-  exists_while_out here = λ ks later. exists_step row (store_in (while_out h ks)) (home_while_out true ks later here)
+  exists_while_out here = λ ks later. exists_step row (store_in (register_with h ks)) (home_while_out true ks later here)
 
   module _ (are : AreRuled h) (pairs : List (ℕ × ℕ)) (register : IsRegister (book_in h.owners) pairs) (here : IsHome row (store_in h) false) where
     pub unadded_while_out : (new : List (ℕ × ℕ)) (why : Refusal) → IsAdded row.sub_nbr row.s_id pairs new (Err why) → IsActedWhileOut (action.AddSubscriber row) h (reply.Refused why) h
     unadded_while_out new why refused = λ ks later.
-        unadded_step row (store_in (while_out h ks)) pairs new why (registered_later h (with_outs h.owners ks) pairs are later register) (home_while_out false ks later here) refused
+        unadded_step row (store_in (register_with h ks)) pairs new why (registered_later h (with_outs h.owners ks) pairs are later register) (home_while_out false ks later here) refused
 
     pub added_while_out : (after : OwnersState) (rows : RowReply) (answer : Reply) → is_in_range (action.AddSubscriber row) ≡ true → pair_of row.sub_nbr pairs ≡ None
         → IsAnsweredWhileOut (action.AddSubscriber row) h rows after → answer ≡ reply_of rows → IsActedWhileOut (action.AddSubscriber row) h answer after
     added_while_out after rows answer fits unpaired done is = λ ks later.
         let answered = done ks (each_owner h.owners (with_outs h.owners ks) later) in
-        acted_step (action.AddSubscriber row) (store_in (while_out h ks)) (store_in (while_out after ks)) rows answer fits here.home
+        acted_step (action.AddSubscriber row) (store_in (register_with h ks)) (store_in (register_with after ks)) rows answer fits here.home
         (free_to_take (action.AddSubscriber row) row.s_id row.sub_nbr (book_in (with_outs h.owners ks)) pairs (registered_later h (with_outs h.owners ks) pairs are later register) refl unpaired)
         (outcome_of_answer (action.AddSubscriber row) _ _ _ rows here.home answered.0) answered.1 is
 
 -- a subscriber's number becomes another one, or is refused
 module _ (h : OwnersState) (s n : ℕ) (home : is_loose s h.regions ≡ false) where
   pub unnumbered_while_out : None ≡ option_map (λ (row : SubscriberRow). row.sub_nbr) (subscriber_at (book_in h.owners) s) → IsActedWhileOut (action.SetNumber s n) h (reply.Refused refusal.NoSubscriber) h
-  unnumbered_while_out none = λ ks later. unnumbered_step s n (store_in (while_out h ks)) home (none ∙ sym (number_later h.owners (with_outs h.owners ks) later s))
+  unnumbered_while_out none = λ ks later. unnumbered_step s n (store_in (register_with h ks)) home (none ∙ sym (number_later h.owners (with_outs h.owners ks) later s))
 
   module _ (are : AreRuled h) (pairs : List (ℕ × ℕ)) (register : IsRegister (book_in h.owners) pairs) (old : ℕ)
       (number : Some old ≡ option_map (λ (row : SubscriberRow). row.sub_nbr) (subscriber_at (book_in h.owners) s)) (new : List (ℕ × ℕ)) where
     pub unrenamed_while_out : (why : Refusal) → IsRenamed old n pairs new (Err why) (bearer_in old pairs) → IsActedWhileOut (action.SetNumber s n) h (reply.Refused why) h
     unrenamed_while_out why changed = λ ks later.
-        unrenamed_step s old n (store_in (while_out h ks)) pairs new why (registered_later h (with_outs h.owners ks) pairs are later register) home
+        unrenamed_step s old n (store_in (register_with h ks)) pairs new why (registered_later h (with_outs h.owners ks) pairs are later register) home
         (number ∙ sym (number_later h.owners (with_outs h.owners ks) later s)) changed
 
     pub renamed_while_out : (after : OwnersState) (rows : RowReply) (answer : Reply) → IsRenamed old n pairs new (Ok tt) (bearer_in old pairs) → is_in_range (action.SetNumber s n) ≡ true
         → IsAnsweredWhileOut (action.SetNumber s n) h rows after → answer ≡ reply_of rows → IsActedWhileOut (action.SetNumber s n) h answer after
     renamed_while_out after rows answer changed fits done is = λ ks later.
         let answered = done ks (each_owner h.owners (with_outs h.owners ks) later) in
-        renamed_step s old n (store_in (while_out h ks)) (store_in (while_out after ks)) pairs new rows answer (registered_later h (with_outs h.owners ks) pairs are later register) home
+        renamed_step s old n (store_in (register_with h ks)) (store_in (register_with after ks)) pairs new rows answer (registered_later h (with_outs h.owners ks) pairs are later register) home
         (number ∙ sym (number_later h.owners (with_outs h.owners ks) later s)) changed fits (outcome_of_answer (action.SetNumber s n) _ _ _ rows home answered.0) answered.1 is
 
 -- the regions alone move
 module _ (before after : OwnersState) (moves : IsMovedWhileOut before after) where
   moved_to : (ks : List HoldingState) → AreLater before.owners (with_outs before.owners ks) → (regions : List Region) → store_in after ≡ record (store_in before) { regions = regions }
-      → store_in (while_out after ks) ≡ record (store_in (while_out before ks)) { regions = regions }
-  moved_to ks later regions same = moves ks (each_owner before.owners (with_outs before.owners ks) later) ∙ ap (λ (s : Store). record (store_in (while_out before ks)) { regions = s.regions }) same
+      → store_in (register_with after ks) ≡ record (store_in (register_with before ks)) { regions = regions }
+  moved_to ks later regions same = moves ks (each_owner before.owners (with_outs before.owners ks) later) ∙ ap (λ (s : Store). record (store_in (register_with before ks)) { regions = s.regions }) same
 
   pub given_while_out : (part : ℕ) (side : Side) (at : ℕ) (done : Result (ℕ × ℕ × ℕ) Refusal) (answer : Reply) → MayAnswer (give_answer part side at before.regions) done → answer ≡ given_reply done
       → store_in after ≡ record (store_in before) { regions = after_give part side at done before.regions } → IsStepWhileOut (Give part side at) before answer after
@@ -104,7 +104,7 @@ module _ (before after : OwnersState) (moves : IsMovedWhileOut before after) whe
   taken_while_out piece part done answer may is same = λ ks later. (done, may, is, moved_to ks later (after_take piece part done before.regions) same)
 
   pub recut_while_out : (bounds : List ℕ) (answer : Result ℕ Refusal) → IsRecut bounds (store_in before) answer (store_in after) → IsRecutWhileOut bounds before answer after
-  recut_while_out bounds answer done = λ ks later. cases (recut_answer before.regions bounds) answer done (store_in (while_out before ks)) (store_in (while_out after ks)) refl (moves ks (each_owner before.owners (with_outs before.owners ks) later))
+  recut_while_out bounds answer done = λ ks later. cases (recut_answer before.regions bounds) answer done (store_in (register_with before ks)) (store_in (register_with after ks)) refl (moves ks (each_owner before.owners (with_outs before.owners ks) later))
     where
       cases : (told : Result (List CutMove) Refusal) (answer : Result ℕ Refusal) → IsRecutBy told bounds (store_in before) answer (store_in after)
           → (b a : Store) → b.regions ≡ before.regions → a ≡ record b { regions = after.regions } → IsRecutBy told bounds b answer a

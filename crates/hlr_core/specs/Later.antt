@@ -27,6 +27,6 @@ AreLater before after = AllZip IsLater before after
 abbrev pub with_owners : OwnersState → List RegionOwner → OwnersState
 with_owners h owners = record h { owners = owners }
 
--- a holding may come home to a place: its part is out, and jobs alone were done to it
+-- a holding may come home as this owner's: its part is out, and jobs alone were done to it
 abbrev pub IsBackWith : Option RegionOwner → HoldingState → Type 0
 IsBackWith owner holding = IsBackFor owner holding × IfSome owner (λ had. numbers_of holding ≡ numbers_at had)

@@ -81,12 +81,12 @@ abbrev pub jobs_of : ℕ → List JobReply → List JobReply
 jobs_of p jobs = filter (λ one. one.part == p) jobs
 
 -- the jobs of all parts but one, in order
-abbrev pub jobs_while_out : ℕ → List JobReply → List JobReply
-jobs_while_out p jobs = filter (λ one. not (one.part == p)) jobs
+abbrev pub jobs_of_others : ℕ → List JobReply → List JobReply
+jobs_of_others p jobs = filter (λ one. not (one.part == p)) jobs
 
 -- jobs of different parts commute: those of any part may as well be done before all others, with the same replies, and
 -- lead to the same owners
 abbrev pub JobsCommute : List Region → Type 0
 JobsCommute regions =
     (p : ℕ) (jobs : List JobReply) (before after : List RegionOwner)
-    → AreDone regions before jobs after ↔ AreDone regions before (jobs_of p jobs ++ jobs_while_out p jobs) after
+    → AreDone regions before jobs after ↔ AreDone regions before (jobs_of p jobs ++ jobs_of_others p jobs) after

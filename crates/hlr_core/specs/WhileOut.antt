@@ -11,17 +11,17 @@ use Rattle.hlr_core.specs.declared.event.Event.{Event}
 use Rattle.hlr_core.specs.declared.event.Reply.{Reply}
 
 -- a register with these holdings in the places of those that are out, by the numbers of their parts
-abbrev pub while_out : OwnersState → List HoldingState → OwnersState
-while_out h holdings = with_owners h (with_outs h.owners holdings)
+abbrev pub register_with : OwnersState → List HoldingState → OwnersState
+register_with h holdings = with_owners h (with_outs h.owners holdings)
 
 -- a right step, whatever jobs have done to the holdings that are out
 abbrev pub IsStepWhileOut : Event → OwnersState → Reply → OwnersState → Type 0
 IsStepWhileOut event before answer after =
     (holdings : List HoldingState) → AreLater before.owners (with_outs before.owners holdings)
-    → IsStep event (store_in (while_out before holdings)) answer (store_in (while_out after holdings))
+    → IsStep event (store_in (register_with before holdings)) answer (store_in (register_with after holdings))
 
 -- a right re-cut, whatever jobs have done to them
 abbrev pub IsRecutWhileOut : List ℕ → OwnersState → Result ℕ Refusal → OwnersState → Type 0
 IsRecutWhileOut bounds before answer after =
     (holdings : List HoldingState) → AreLater before.owners (with_outs before.owners holdings)
-    → IsRecut bounds (store_in (while_out before holdings)) answer (store_in (while_out after holdings))
+    → IsRecut bounds (store_in (register_with before holdings)) answer (store_in (register_with after holdings))

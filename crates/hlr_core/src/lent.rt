@@ -8,7 +8,7 @@ ghost use Rattle.hlr_core.specs.Later.{AreLater, IsBackWith};
 ghost use Rattle.hlr_core.specs.Session.{IsDoneAt, IsJobOf, IsWithinJob, JobsCommute};
 ghost use Rattle.hlr_owners.specs.Owners.{AreRuled, IsLent, desks_in, part_holdings, homes_in, store_in};
 ghost use Rattle.hlr_core.specs.declared.event.Reply.{Reply as Replies};
-ghost use Rattle.hlr_owners.specs.declared.part_owner.RegionOwner.{RegionOwner as Owners};
+ghost use Rattle.hlr_owners.specs.declared.part_owner.RegionOwner.{RegionOwner as OneOwner};
 ghost use Rattle.hlr_owners.specs.declared.part_owner.RegionOwner.TheVariants as owner;
 
 use crate::register::Register;
@@ -30,7 +30,7 @@ impl Register {
         ensures same { self.new ≡ record self.old { owners = self.new.owners } }
         ensures board { result.value.desk.board ≡ self.old.spare.board }
         ensures within { (job : Jobs) → IsJobOf self.old.regions part job → IsWithinJob result.value job }
-        ensures later { (job : Jobs) (before after : List Owners) (answer : Replies) → IsJobOf self.old.regions part job
+        ensures later { (job : Jobs) (before after : List OneOwner) (answer : Replies) → IsJobOf self.old.regions part job
             → IsDoneAt self.old.regions part job before answer after → AreLater before after }
         ensures commute { JobsCommute self.old.regions }
         ensures rules { IsHolding result.value }

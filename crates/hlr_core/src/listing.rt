@@ -5,7 +5,7 @@ ghost use Rattle.holding.specs.Held.{HoldingState};
 ghost use Rattle.tatp_actions.specs.Book.{first_subscriber};
 ghost use Rattle.hlr_owners.specs.Out.{with_outs};
 ghost use Rattle.hlr_owners.specs.Owners.{AllHome, IsHomeFor, book_in, store_in};
-ghost use Rattle.hlr_core.specs.WhileOut.{while_out};
+ghost use Rattle.hlr_core.specs.WhileOut.{register_with};
 ghost use Rattle.hlr_core.specs.Later.{AreLater};
 ghost use Rattle.hlr_core.specs.Rows.{bearer_answer, facility_read, forwarding_read};
 
@@ -21,7 +21,7 @@ impl Register {
     pub fn facility_data(&self, s_id: u64, sf_type: u64) -> Result<Facility, Refusal>
         requires { IsHomeFor s_id self.now }
         ensures value { result ≡ facility_read s_id sf_type (store_in self.now) }
-        ensures while_out { (holdings : List HoldingState) → AreLater self.now.owners (with_outs self.now.owners holdings) → result ≡ facility_read s_id sf_type (store_in (while_out self.now holdings)) }
+        ensures while_out { (holdings : List HoldingState) → AreLater self.now.owners (with_outs self.now.owners holdings) → result ≡ facility_read s_id sf_type (store_in (register_with self.now holdings)) }
     {
         let s_id = in_range(s_id, LAST_SUBSCRIBER)?;
         let sf_type = byte_in_range(sf_type, 4)?;
@@ -38,7 +38,7 @@ impl Register {
     ) -> Result<Forwarding, Refusal>
         requires { IsHomeFor s_id self.now }
         ensures value { result ≡ forwarding_read s_id sf_type start_time (store_in self.now) }
-        ensures while_out { (holdings : List HoldingState) → AreLater self.now.owners (with_outs self.now.owners holdings) → result ≡ forwarding_read s_id sf_type start_time (store_in (while_out self.now holdings)) }
+        ensures while_out { (holdings : List HoldingState) → AreLater self.now.owners (with_outs self.now.owners holdings) → result ≡ forwarding_read s_id sf_type start_time (store_in (register_with self.now holdings)) }
     {
         let s_id = in_range(s_id, LAST_SUBSCRIBER)?;
         let sf_type = byte_in_range(sf_type, 4)?;
@@ -52,7 +52,7 @@ impl Register {
     /// and reads no row, so parts may be out.
     pub fn find(&self, sub_nbr: Number) -> Result<u32, Refusal>
         ensures value { result ≡ bearer_answer sub_nbr (store_in self.now) }
-        ensures while_out { (holdings : List HoldingState) → AreLater self.now.owners (with_outs self.now.owners holdings) → result ≡ bearer_answer sub_nbr (store_in (while_out self.now holdings)) }
+        ensures while_out { (holdings : List HoldingState) → AreLater self.now.owners (with_outs self.now.owners holdings) → result ≡ bearer_answer sub_nbr (store_in (register_with self.now holdings)) }
     {
         self.bearer(sub_nbr).ok_or(Refusal::NoNumber)
     }

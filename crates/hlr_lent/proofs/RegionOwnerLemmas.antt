@@ -124,5 +124,5 @@ module _ (h : OwnersState) (are : AreRuled h) where
           out = slice_get-get_or (outs_in h.owners) p None home_there ∙ ap Some out;
           worked = worked;
           region = at.1.region;
-          ruled = refl;
+          becomes = refl;
         }

@@ -34,4 +34,4 @@ pub record IsBack (part : ℕ) (before after : OwnersState) : Type 0 where
   pub out : slice_get (outs_in before.owners) part ≡ Some (Some lent)
   pub worked : IsWorked lent home
   pub region : position (is_part part) before.regions ≡ Some index
-  pub ruled : after ≡ record before { owners = slice_set before.owners index (Part (record { holding = home; home = true })) }
+  pub becomes : after ≡ record before { owners = slice_set before.owners index (Part (record { holding = home; home = true })) }

@@ -140,7 +140,7 @@ pub record IsSameOwner (before after : HoldingState) : Type 0 where
   pub board : after.desk.board ≡ before.desk.board
   pub owned : after.desk.view.owned ≡ before.desk.view.owned
 
--- a part's holding goes out, which was at home: its place is empty, and nothing else changes
+-- a part's holding goes out, which was at home; it is known as it was then, and nothing else changes
 pub record IsLent (part : ℕ) (before : OwnersState) (holding : HoldingState) (after : OwnersState) : Type 0 where
   pub index : ℕ
   pub region : position (is_part part) before.regions ≡ Some index
@@ -156,7 +156,7 @@ IsLaterOwner (Part l) (Piece b) = ⊥
 IsLaterOwner (Piece a) (Part m) = ⊥
 IsLaterOwner (Piece a) (Piece b) = b ≡ a
 
--- a holding that may come home to a place: its part is out, and it is the same owner
+-- a holding that may come home as this owner's: its part is out, and it is the same owner
 abbrev pub IsBackFor : Option RegionOwner → HoldingState → Type 0
 IsBackFor (Some (Part l)) k = (l.home ≡ false) × IsSameOwner l.holding k
 IsBackFor (Some (Piece b)) k = ⊥

@@ -66,7 +66,7 @@ pub record IsWithout (part : ℕ) (before after : OwnersState) : Type 0 where
   pub seen : (w : ℕ) → slice_index before.spare.view.seen w ≤ slice_index after.spare.view.seen w
   pub width : after.width ≡ before.width
 
--- who is at home after a divide, and after a dissolve: a refusal leaves it
+-- who is at home, and who is out, after a divide: a refusal changes nothing
 abbrev pub AreHomesDivided : ℕ → Result (ℕ × ℕ × ℕ) Refusal → OwnersState → OwnersState → Type 0
 AreHomesDivided part (Err why) before after = after ≡ before
 AreHomesDivided part (Ok new) before after = IsWithNew part before after

@@ -6,7 +6,7 @@ ghost use Rattle.hlr_owners.specs.Owners.{AllHome, is_home};
 use crate::owners::Owners;
 use crate::part_owner::RegionOwner;
 
-/// Whether nobody who owns it is out.
+/// Whether an owner is at home.
 fn is_home(owner: &RegionOwner) -> bool
     ensures { result ≡ is_home owner.now }
 {

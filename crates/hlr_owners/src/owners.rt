@@ -73,7 +73,7 @@ fn number_of(holding: &Holding, s_id: u32) -> Option<Number>
 }
 
 impl Owners {
-    /// The index of the owner who has an s_id.
+    /// Finds the index of the region of an s_id.
     pub fn owner_of(&self, s_id: u32) -> usize
         requires { IsWithin 1 (LAST_SUBSCRIBER + 1) s_id }
         ensures at { position (lies_in s_id) self.now.regions ≡ Some result }
@@ -96,8 +96,8 @@ impl Owners {
         }
     }
 
-    /// The number of a subscriber who has this owner, or `None` where there is no such row; `Moving` where a loose piece
-    /// owns it.
+    /// The number of a subscriber in the region with this index, or `None` where there is no such row; `Moving` where that is
+    /// a loose piece's.
     pub fn number_in(&self, i: usize, s_id: u32) -> Result<Option<Number>, Refusal>
         requires owner { position (lies_in s_id) self.now.regions ≡ Some i }
         requires home { IsHomeFor s_id self.now }
@@ -111,8 +111,8 @@ impl Owners {
         }
     }
 
-    /// Does an edit of the rows of its subscriber, who has this owner. Where a loose piece owns it, the answer is
-    /// `Moving`, after `Field`.
+    /// Does an edit of the rows of its subscriber, who is in the region with this index. Where that is a loose piece's, the
+    /// answer is `Moving`, after `Field`.
     pub fn edit_in<E: Edit>(&mut self, i: usize, edit: E) -> Result<(), Refusal>
         requires owner { position (lies_in (s_id_of (E.action edit))) self.old.regions ≡ Some i }
         requires home { IsHomeFor (s_id_of (E.action edit)) self.old }

@@ -23,7 +23,7 @@ use Rattle.hlr_owners.specs.declared.part_owner.RegionOwner.{RegionOwner}
 use Rattle.hlr_owners.specs.declared.part_owner.RegionOwner.TheVariants.{Part, Piece}
 use Rattle.hlr_owners.proofs.PartLemmas.{ahead, set_number}
 use Rattle.hlr_owners.proofs.SightLemmas.{words_looked}
-use Rattle.hlr_core.specs.WhileOut.{IsRecutWhileOut, IsStepWhileOut, while_out}
+use Rattle.hlr_core.specs.WhileOut.{IsRecutWhileOut, IsStepWhileOut, register_with}
 use Rattle.hlr_core.specs.Home.{IsLaterDesk, HaveSameHomes, is_by_number}
 use Rattle.hlr_core.specs.Later.{AreLater, IsLater, with_owners}
 use Rattle.hlr_core.specs.Run.{IsRun}
@@ -85,7 +85,7 @@ module _ (workers : WorkersState) (replies : List (ℕ × Reply)) (kept : IsKept
       (outs_in workers.register.owners) workers.jobs (λ ends. ends) (λ k. refl) (λ reply ends are. are) event r
       (λ reply ends are.
       let later = ends_later reply workers.register.owners workers.jobs ends kept.none are in
-      step_unseen start.sight event (store_in (while_out workers.register ends)) r (store_in (while_out workers.register ends)) (right (with_outs workers.register.owners ends) later)) stands
+      step_unseen start.sight event (store_in (register_with workers.register ends)) r (store_in (register_with workers.register ends)) (right (with_outs workers.register.owners ends) later)) stands
 
   pub now_kept : (r : Reply) → IsKept workers (replies ++ (length replies, r) ∷ [])
   now_kept r = record { paired = kept.paired; none = kept.none; order = order_told (outs_in workers.register.owners) workers.jobs replies kept.order r }
@@ -98,7 +98,7 @@ module _ (workers : WorkersState) (replies : List (ℕ × Reply)) (kept : IsKept
         (leads_cut (outs_in workers.register.owners) workers.jobs replies kept.order (store_at start workers.register) (store_at start after.register) start asked bounds done
         (λ reply ends are.
         let later = ends_later reply workers.register.owners workers.jobs ends kept.none are in
-        recut_unseen start.sight bounds (store_in (while_out workers.register ends)) done (store_in (while_out after.register ends)) (right ends later)) stands)
+        recut_unseen start.sight bounds (store_in (register_with workers.register ends)) done (store_in (register_with after.register ends)) (right ends later)) stands)
 
     pub register_kept : IsKept after replies
     register_kept = record {
@@ -117,8 +117,8 @@ module _ (workers : WorkersState) (replies : List (ℕ × Reply)) (kept : IsKept
         (λ reply ends are.
         let later = ends_later reply workers.register.owners workers.jobs (back ends) kept.none (ends_back reply ends are) in
         let long = ends_long reply (parted told None (outs_in workers.register.owners)) (parted told [] workers.jobs) ends are in
-        step_unseen start.sight event (store_in (while_out workers.register (back ends))) r (store_in (while_out after.register ends))
-        (subst (λ (owners : List RegionOwner). IsStep event (store_in (while_out workers.register (back ends))) r (store_in (with_owners after.register owners))) (same ends long) (right (back ends) later))) stands)
+        step_unseen start.sight event (store_in (register_with workers.register (back ends))) r (store_in (register_with after.register ends))
+        (subst (λ (owners : List RegionOwner). IsStep event (store_in (register_with workers.register (back ends))) r (store_in (with_owners after.register owners))) (same ends long) (right (back ends) later))) stands)
       where
         idle : (q : ℕ) → IsBehind told q → get_or workers.jobs q [] ≡ []
         idle q behind = is.idle q (is.home q behind)

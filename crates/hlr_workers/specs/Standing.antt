@@ -6,7 +6,7 @@ use Rattle.holding.specs.declared.job.Job.{Job}
 use Rattle.hlr_owners.specs.Out.{outs_in}
 use Rattle.hlr_owners.specs.Owners.{OwnersState, homes_in, store_in}
 use Rattle.hlr_owners.specs.Store.{Store}
-use Rattle.hlr_core.specs.WhileOut.{while_out}
+use Rattle.hlr_core.specs.WhileOut.{register_with}
 use Rattle.hlr_core.specs.Route.{IsRouted}
 use Rattle.hlr_core.specs.Run.{IsRun}
 use Rattle.hlr_core.specs.Session.{IsJobDone}
@@ -91,7 +91,7 @@ answers_with replies (Cut bounds done ∷ asked) = answer.Recut done ∷ answers
 
 -- the store of a register where the parts that are out end so, and with the sight of the words that another one has
 abbrev pub store_at : Store → OwnersState → List HoldingState → Store
-store_at before h ends = record (store_in (while_out h ends)) { sight = before.sight }
+store_at before h ends = record (store_in (register_with h ends)) { sight = before.sight }
 
 -- from a store, what was asked for leads where the engine stands: wherever right sessions of the jobs that are out
 -- lead, the replies that are kept and those of the sessions are right, by their numbers, and the register with the

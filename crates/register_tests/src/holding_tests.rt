@@ -353,7 +353,7 @@ struct Shift {
 type Worked = ((Holding, bool, Result<u8, Refusal>), Option<Box<Piece>>);
 
 /// What is done beside it comes to: the holding, what a posting answered, and the desk with what it saw.
-type WhileOut = (Holding, Result<u8, Refusal>, Desk, [Watched; 2]);
+type Posted = (Holding, Result<u8, Refusal>, Desk, [Watched; 2]);
 
 /// Whether a holding takes the piece that it is handed, where it is handed one.
 fn begins(holding: &mut Holding, piece: Option<Box<Piece>>) -> bool
@@ -386,7 +386,7 @@ fn works(board: &Board, mut holding: Holding, piece: Option<Box<Piece>>, shift: 
 }
 
 /// Looks, posts, and looks again.
-fn posts_and_looks(board: &Board, mut holding: Holding, mut desk: Desk) -> WhileOut
+fn posts_and_looks(board: &Board, mut holding: Holding, mut desk: Desk) -> Posted
     requires { (holding.desk.board ≡ board.now) × (desk.board ≡ board.now) }
     ensures { (result.0.desk.board ≡ board.now) × (result.2.board ≡ board.now) }
 {
@@ -404,7 +404,7 @@ fn side_by_side<R: Threads + Sync>(
     shift: Shift,
     other: Holding,
     desk: Desk,
-) -> (Worked, WhileOut)
+) -> (Worked, Posted)
     requires worker { worker.0.desk.board ≡ board.now }
     requires beside { (other.desk.board ≡ board.now) × (desk.board ≡ board.now) }
     ensures worker { result.0.0.0.desk.board ≡ board.now }
@@ -417,7 +417,7 @@ fn side_by_side<R: Threads + Sync>(
             requires { holding.desk.board ≡ board.now }
             ensures { result.0.0.desk.board ≡ board.entry.now }
         { works(board, holding, piece, shift) },
-        || -> WhileOut
+        || -> Posted
             requires { (other.desk.board ≡ board.now) × (desk.board ≡ board.now) }
             ensures { (result.0.desk.board ≡ board.entry.now) × (result.2.board ≡ board.entry.now) }
         { posts_and_looks(board, other, desk) },

@@ -10,7 +10,7 @@ use Rattle.holding.specs.Held.{HoldingState}
 use Rattle.hlr_owners.specs.Out.{with_outs}
 use Rattle.hlr_owners.specs.Owners.{OwnersState, store_in}
 use Rattle.hlr_owners.specs.Store.{Store}
-use Rattle.hlr_core.specs.WhileOut.{while_out}
+use Rattle.hlr_core.specs.WhileOut.{register_with}
 use Rattle.hlr_core.specs.Later.{AreLater}
 use Rattle.hlr_core.specs.Step.{IsAskedStep, checked, given_number}
 use Rattle.hlr_core.specs.declared.event.Event.{Event}
@@ -53,7 +53,7 @@ IsRowStep fits wanted before answer after = IsAskedStep (checked fits wanted) be
 abbrev pub IsRowStepWhileOut : Bool → Option Action → OwnersState → Reply → OwnersState → Type 0
 IsRowStepWhileOut fits wanted before answer after =
     (holdings : List HoldingState) → AreLater before.owners (with_outs before.owners holdings)
-    → IsRowStep fits wanted (store_in (while_out before holdings)) answer (store_in (while_out after holdings))
+    → IsRowStep fits wanted (store_in (register_with before holdings)) answer (store_in (register_with after holdings))
 
 -- a right step of an event that names its subscriber
 abbrev pub IsActionStep : Action → Store → Reply → Store → Type 0
