@@ -1,4 +1,4 @@
--- What calls inside the crate promise: no clause of a public call cites these.
+-- What calls inside the crate promise, and what a change is seen as.
 use Rattle.std.specs.Prelude.{◌≡◌, ◌≢◌, ◌⊎◌, ℕ, ◌+◌, ◌<◌, ◌≤◌, ◌==◌, ◌&&◌, nat_le, nat_lt, Bool, true, false, List, [], ◌∷◌, ◌++◌, length, Option, Some, None, option_map, ℤ, pos, negsuc, neg_ℤ, ◌+ℤ◌, ◌≤ℤ◌, Result, Ok, Err, if◌then◌else◌}
 use Rattle.std.specs.List.{AllByRecursion}
 use Rattle.std.specs.Option.{option_map_or, unwrap_or}
@@ -120,7 +120,7 @@ notes_in change = hour_notes (span_steps change.up change.hours) FIRST_AREA 0 ++
 abbrev pub until : Option CallForwardingRow → ℕ
 until found = option_map_or (λ row. row.end_time) found 0
 
--- and where one forwarding does, whose facility is active or not
+-- by how much an hour moves where one forwarding comes or goes, whose facility is active or not
 abbrev pub row_steps : Bool → Bool → CallForwardingRow → ℕ → ℤ
 row_steps up active row hour = if covers row hour && active then steps up 1 else pos 0
 

@@ -85,7 +85,8 @@ struct Note {
     amount: i8,
 }
 
-/// By how much an action moves the cells, seen as its notes: each a cell and its amount, at most `NOTES`, and no cell twice.
+/// By how much an action moves the cells, seen as its notes: each a cell and its amount, at most `NOTES`, and no cell
+/// twice.
 #[derive(Debug, Drop)]
 pub struct Change {
     up: bool,
@@ -231,7 +232,7 @@ impl Change {
         notes
     }
 
-    /// Moves each cell's delta by its amount.
+    /// Moves each cell's delta by what the notes say of it. Each sum has to fit 64 bits.
     pub fn add_to(&self, deltas: &mut [i64; CELLS as usize])
         requires fit { (c : ℕ) → c < CELLS → FitsSigned w64 (slice_index_or deltas.old c (pos 0)) }
         requires fits { (c : ℕ) → c < CELLS → FitsSigned w64 (slice_index_or deltas.old c (pos 0) +ℤ change_at self.now c) }
