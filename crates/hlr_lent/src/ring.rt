@@ -50,7 +50,7 @@ pub(crate) fn tell(owner: &mut OwnerEnd, lender: &mut LenderEnd, holding: &Holdi
     ensures lender { lent_as (received lender.new) ≡ Some holding.now }
 {
     owner.push_reserved(Message::Lent(Snapshot::of(holding)));
-    lender.slots_while_out(owner);
+    lender.slots_beside(owner);
     let _lent = lender.pop_known();
 }
 
