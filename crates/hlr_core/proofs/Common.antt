@@ -31,7 +31,8 @@ pub use Rattle.hlr_owners.proofs.ReadLemmas.{is_read, none_read, numbers_read, s
 pub use Rattle.hlr_owners.proofs.RecutLemmas.{recut_stays}
 pub use Rattle.hlr_owners.proofs.RegionOwnerLemmas.{acts_at, owned, parts-kept, region_there, state_is, states-set}
 pub use Rattle.hlr_owners.proofs.ShareLemmas.{zeros_are, zeros_opening}
-pub use Rattle.hlr_owners.proofs.StateLemmas.{lies_within, state_rows, zip_weaker}
+pub use Rattle.hlr_owners.proofs.StateLemmas.{lies_within, state_rows}
+pub use Rattle.hlr_owners.proofs.ZipLemmas.{zip_weaker}
 pub use Rattle.hlr_owners.proofs.SumLemmas.{unposted_is}
 pub use Rattle.hlr_owners.specs.Answered.{IsAnswered, MayAnswer, is_loose, is_loose_place}
 pub use Rattle.hlr_owners.specs.Boxed.{unboxed}
