@@ -4,7 +4,7 @@ use Rattle.hlr_core.proofs.SentLemmas.{within_job}
 use Rattle.hlr_core.proofs.register.Register.lend.Goals as goal
 
 pub invariant_of-self : goal.invariant_of-self
-invariant_of-self c = rw c.lend.ensures.owners c.self.invariant
+invariant_of-self c = rw c.lend.ensures.states c.self.invariant
 
 pub returns-clause-within : goal.returns-clause-within
 returns-clause-within c = rw (← c.self.view_is) (within_job _ _ c.lend.result.value c.lend.ensures.within)
