@@ -531,7 +531,7 @@ impl Workers {
     pub(crate) fn recut_to(&mut self, bounds: &[u64]) -> Result<u8, Refusal>
         requires { IsHomeToCut bounds.now self.old.register }
         ensures recut { IsRecutWhileOut bounds.now self.old.register result self.new.register }
-        ensures register { HaveSameHomes self.old.register self.new.register }
+        ensures homes { HaveSameHomes self.old.register self.new.register }
         ensures jobs { self.new.jobs ≡ self.old.jobs }
     {
         self.register.recut_to(bounds)
