@@ -11,8 +11,8 @@ use Rattle.std.specs.contracts.impls.GlobalAllocator.TheImpl as heap
 use Rattle.std.specs.contracts.option.Option as Option
 use Rattle.std.specs.contracts.sync.Arc as Arc
 use Rattle.std.specs.contracts.vec.Vec as Vec
-use Rattle.atomic_table.proofs.shared.RegionOwner.TheSendSync.{the_send as region_owner_send}
-use Rattle.atomic_table.specs.contracts.shared.RegionOwner as RegionOwner
+use Rattle.atomic_table.proofs.shared.Seat.TheSendSync.{the_send as seat_send}
+use Rattle.atomic_table.specs.contracts.shared.Seat as Seat
 use Rattle.crossbeam_queue.proofs.array_queue.Slotted.TheSendSync.{the_send as slotted_send, the_sync as slotted_sync}
 use Rattle.crossbeam_queue.specs.contracts.array_queue.Doing as Doing
 use Rattle.crossbeam_queue.specs.contracts.array_queue.Slotted as Slotted
@@ -60,8 +60,8 @@ replies_send =
     Vec-send (TupleAt (40 ∷ 44 ∷ 41 ∷ []) (u64-field.row ∷ Reply.the_row ∷ [])) (tuple_send (40 ∷ 44 ∷ 41 ∷ []) (u64-field.row ∷ Reply.the_row ∷ []) (number, (reply_send, tt)))
 
 -- a pass, and the queue that is shared
-pub port_send : IsSend (RegionOwner.the_row (Option.the_row Message.the_row) (Doing.the_row Message.the_row Log.the_row))
-port_send = region_owner_send (Option.the_row Message.the_row) (Doing.the_row Message.the_row Log.the_row) option_send
+pub port_send : IsSend (Seat.the_row (Option.the_row Message.the_row) (Doing.the_row Message.the_row Log.the_row))
+port_send = seat_send (Option.the_row Message.the_row) (Doing.the_row Message.the_row Log.the_row) option_send
 
 line_send : IsSend (Slotted.the_row (Option.the_row Message.the_row) (Doing.the_row Message.the_row Log.the_row) (Turns.the_row InOrder.the_row) Heap.the_row (turns.ghosts Message.the_row Log.the_row InOrder.the_row order.ghosts turns.no_dict) heap.ghosts)
 line_send = slotted_send (Option.the_row Message.the_row) (Doing.the_row Message.the_row Log.the_row) (Turns.the_row InOrder.the_row) Heap.the_row (turns.ghosts Message.the_row Log.the_row InOrder.the_row order.ghosts turns.no_dict) heap.ghosts option_send heap_send frees
