@@ -110,7 +110,7 @@ fn expect_second<R: Threads + Wait + Abort + Copy + Send + Sync + 'static>(
     pause: u32,
 ) {
     let parts = u8::try_from(subscribers.len()).expect(rt, "few parts");
-    let gate = Arc::new(alloc, Second::of(parts - 1, pause)).expect(rt, "a gate");
+    let gate = Arc::new(alloc, Second::of(parts.saturating_sub(1), pause)).expect(rt, "a gate");
     let mut engine = engine_over(rt, alloc, filled(rt, alloc, parts, subscribers), &gate);
     let replies = read_all(rt, &mut engine, s_ids);
     let (register, _none) = engine.close(rt);
