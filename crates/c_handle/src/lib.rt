@@ -1,8 +1,6 @@
-//! A box as C can keep it: taken apart into its address and what gave its memory, and put together again.
-//!
-//! An address alone owns nothing that a prover could see. So the parts have a ghost field with the value that lies
-//! there, and own that value together with the right to free its block (`BoxParts`). Whoever keeps the address in a
-//! struct of their own, as a handle does whose type C may see, says the same of it.
+//! A box as C can keep it: taken apart into its address and what gave its memory, and put together again, with a ghost
+//! field that owns the value and the right to free its block meanwhile (`BoxParts`). Neither takes memory nor changes
+//! the value. An address alone owns nothing that a prover sees: a struct that keeps one has to say the same of it.
 #![tactic(auto)]
 
 mod parts;

@@ -13,7 +13,7 @@ use Rattle.part_table.specs.Regions.{parts_of}
 use Rattle.holding.specs.Held.{HoldingState, IsHolding}
 use Rattle.holding.specs.declared.job.Job.TheVariants.{Act}
 use Rattle.hlr_owners.specs.PartOwnerState.{PartOwnerState}
-use Rattle.hlr_owners.specs.Owners.{AreRuled, IsPartHome, OwnersState, homes_in}
+use Rattle.hlr_owners.specs.Owners.{AreOwners, IsPartHome, OwnersState, homes_in}
 use Rattle.hlr_owners.proofs.PartLemmas.{count_parts}
 use Rattle.hlr_core.specs.Inside.Asked.{IsAskedAlone}
 use Rattle.hlr_core.specs.Session.{IsJobDone}
@@ -44,7 +44,7 @@ asked_edit act (Err why) h code g rules is done = by_test (is_in_range act)
     (λ misfit. let field : why ≡ Field = rw misfit at is in refused_step (has (s_id_of act) h) act h g code rules misfit (rw field at done.0) done.1)
 
 -- a part that is there and counts as at home is at home
-pub home_there : (h : OwnersState) → AreRuled h → (p : ℕ) → p < length (parts_of h.regions) → IsPartHome p h → get_or (homes_in h.owners) p false ≡ true
+pub home_there : (h : OwnersState) → AreOwners h → (p : ℕ) → p < length (parts_of h.regions) → IsPartHome p h → get_or (homes_in h.owners) p false ≡ true
 home_there h are p below home =
     let count = count_parts (λ (o : PartOwnerState). o.home) h.width h.regions h.owners are.each in
     get_or_default (homes_in h.owners) p false true (omega arith) ∙ home

@@ -1,13 +1,13 @@
-//! The register as a library for C: a handle with a register, and a call for each thing that can be asked of it. A part
-//! of the register can go out into a handle of its own, which has calls too, for whatever thread.
+//! The register as a library for C: a handle with a register, or with a part of one that is out, and a call for each
+//! thing that can be asked of it. A call costs what the register's costs, and 10 to 20 instructions to see whether a
+//! part is out. C keeps the handles, so no prover sees that no two threads use one at once: `hlr.h`, which declares all
+//! calls, says what else C owes.
 //!
 //! All calls take a handle, `Hlr` or `HlrPart`, by reference, and answer a code: `DONE`, a refusal's (`Refusal::code`), or
 //! one of their own: `STILL_OPEN` of `hlr_open` and `hlr_lend`, where the handle to be opened has something, `NOT_OPEN` of
 //! all others, where the handle has nothing, `AWAY` where a part is out on which a call works, and `ELSEWHERE` of a part's
 //! calls, where the subscriber isn't its own. Every number that C hands in is checked. What a call reads it writes by
 //! reference, and only where its code is `DONE`.
-//!
-//! `hlr.h`, beside the crate's folder `src`, declares them for C, and says what C owes.
 #![tactic(auto)]
 
 mod asking;

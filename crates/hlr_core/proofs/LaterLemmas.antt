@@ -1,5 +1,5 @@
 -- A register with owners that stand for others keeps its rules, with the same index.
-use Rattle.hlr_core.proofs.Common.{◌≡◌, ◌∙◌, ◌+◌, refl, sym, ap, ℕ, zero, suc, List, [], ◌∷◌, set, map, inl, inr, Bool, true, false, Some, None, option_map, slice_get, AllZip, map-append, key_of, SubscriberRow, IsOutcome, effect, Book, IsRowsOf, subscriber_at, PartState, Action, RowReply, Region, Station, HoldingState, IsHolding, Job, Act, PartOwnerState, OwnersState, AreRuled, IsLaterOwner, state_of, states_in, book_in, RegionOwner, Part, holding_keeps, later_self, ruled_later, state_rows, zip_weaker, owned, LAST_SUBSCRIBER, IsAnswered, number_pair, IsRegister, IsLater, AreLater, IsBackWith, with_owners, bearer_id, IsJobDone, IsJobOf, IsDoneAt, given_number, Reply}
+use Rattle.hlr_core.proofs.Common.{◌≡◌, ◌∙◌, ◌+◌, refl, sym, ap, ℕ, zero, suc, List, [], ◌∷◌, set, map, inl, inr, Bool, true, false, Some, None, option_map, slice_get, AllZip, map-append, key_of, SubscriberRow, IsOutcome, effect, Book, IsRowsOf, subscriber_at, PartState, Action, RowReply, Region, Station, HoldingState, IsHolding, Job, Act, PartOwnerState, OwnersState, AreOwners, IsLaterOwner, state_of, states_in, book_in, RegionOwner, Part, holding_keeps, later_self, ruled_later, state_rows, zip_weaker, owned, LAST_SUBSCRIBER, IsAnswered, number_pair, IsRegister, IsLater, AreLater, IsBackWith, with_owners, bearer_id, IsJobDone, IsJobOf, IsDoneAt, given_number, Reply}
 use Rattle.holding.specs.declared.job.Job.TheVariants.{Post}
 use Rattle.hlr_owners.specs.declared.part_owner.RegionOwner.TheVariants.{Piece}
 use Rattle.hlr_core.proofs.PairsLemmas.{HaveSame, effect_shaped, have_same, outcome_book, same_registered}
@@ -143,11 +143,11 @@ bearer_later owners ks later n = (later_same owners ks later).bearer n
 pub each_owner : (owners ks : List RegionOwner) → AreLater owners ks → AllZip IsLaterOwner owners ks
 each_owner owners ks later = zip_weaker (λ s k is. is.owner) owners ks later
 
-pub all_ruled_later : (h : OwnersState) (ks : List RegionOwner) → AreRuled h → AreLater h.owners ks → AreRuled (with_owners h ks)
+pub all_ruled_later : (h : OwnersState) (ks : List RegionOwner) → AreOwners h → AreLater h.owners ks → AreOwners (with_owners h ks)
 all_ruled_later h ks are later = ruled_later h ks are (each_owner h.owners ks later)
 
 -- and those of a register, beside the same index
-pub registered_later : (h : OwnersState) (ks : List RegionOwner) (pairs : List (ℕ × ℕ)) → AreRuled h → AreLater h.owners ks → IsRegister (book_in h.owners) pairs → IsRegister (book_in ks) pairs
+pub registered_later : (h : OwnersState) (ks : List RegionOwner) (pairs : List (ℕ × ℕ)) → AreOwners h → AreLater h.owners ks → IsRegister (book_in h.owners) pairs → IsRegister (book_in ks) pairs
 registered_later h ks pairs are later register =
     let now = all_ruled_later h ks are later in
     same_registered (book_in h.owners) (book_in ks) pairs register

@@ -1,5 +1,5 @@
 -- The parts on which an event works: where these are at home, so is whoever the event needs.
-use Rattle.hlr_core.proofs.Common.{◌≡◌, refl, ℕ, zero, suc, ◌<◌, ◌≤◌, arith, List, [], ◌∷◌, drop, get_or, length, Bool, true, false, None, inl, inr, ◌↔◌, ◌⊎◌, AllByRecursion, cases_lt, nat_tests, get_or_past, by_test, between, is_between, LAST_SUBSCRIBER, Refusal, lies_in, IsConsecutive, parts_of, place_of, Region, END, PartOwnerState, AreRuled, IsHomeFor, IsHomeFrom, IsPartHome, OwnersState, homes_in, lies_within, count_parts, AreHome, Parts}
+use Rattle.hlr_core.proofs.Common.{◌≡◌, refl, ℕ, zero, suc, ◌<◌, ◌≤◌, arith, List, [], ◌∷◌, drop, get_or, length, Bool, true, false, None, inl, inr, ◌↔◌, ◌⊎◌, AllByRecursion, cases_lt, nat_tests, get_or_past, by_test, between, is_between, LAST_SUBSCRIBER, Refusal, lies_in, IsConsecutive, parts_of, place_of, Region, END, PartOwnerState, AreOwners, IsHomeFor, IsHomeFrom, IsPartHome, OwnersState, homes_in, lies_within, count_parts, AreHome, Parts}
 use Rattle.std.specs.Prelude.{Ok, Err}
 
 -- none are at home in any case
@@ -7,7 +7,7 @@ pub none_home : (parts : Parts) (h : OwnersState) → parts.end ≤ parts.first 
 none_home parts h none = λ part from low. absurd (omega arith)
 
 -- a part that isn't there counts as at home
-pub past_home : (h : OwnersState) (are : AreRuled h) (p : ℕ) → length (parts_of h.regions) ≤ p → IsPartHome p h
+pub past_home : (h : OwnersState) (are : AreOwners h) (p : ℕ) → length (parts_of h.regions) ≤ p → IsPartHome p h
 past_home h are p past =
     let count = count_parts (λ (o : PartOwnerState). o.home) h.width h.regions h.owners are.each in
     get_or_past (homes_in h.owners) p true (omega arith)
@@ -27,7 +27,7 @@ trues_each (home ∷ homes) (suc first) zero all from = absurd (omega arith)
 trues_each (home ∷ homes) (suc first) (suc q) all from = trues_each homes first q all (omega arith)
 
 -- all from one on are at home, if they are
-pub all_from : (parts : Parts) (h : OwnersState) (are : AreRuled h) → parts.end ≡ length (parts_of h.regions) → AreHome parts h ↔ IsHomeFrom parts.first h
+pub all_from : (parts : Parts) (h : OwnersState) (are : AreOwners h) → parts.end ≡ length (parts_of h.regions) → AreHome parts h ↔ IsHomeFrom parts.first h
 all_from parts h are end =
     let count = count_parts (λ (o : PartOwnerState). o.home) h.width h.regions h.owners are.each in (
       λ all. trues_to (homes_in h.owners) parts.first (λ q from low. all q from (omega arith)),
@@ -35,7 +35,7 @@ all_from parts h are end =
     )
 
 -- behind the last there are none
-pub none_from : (h : OwnersState) (are : AreRuled h) (p : ℕ) → length (parts_of h.regions) ≤ p → IsHomeFrom p h
+pub none_from : (h : OwnersState) (are : AreOwners h) (p : ℕ) → length (parts_of h.regions) ≤ p → IsHomeFrom p h
 none_from h are p past =
     let count = count_parts (λ (o : PartOwnerState). o.home) h.width h.regions h.owners are.each in
     trues_to (homes_in h.owners) p (λ q from low. absurd (omega arith))
@@ -63,7 +63,7 @@ nowhere from s_id (r ∷ regions) consecutive out =
     consecutive_end from (r ∷ regions) is = let lo = is.0 in let some = is.1 in let rest = consecutive_end r.hi regions is.2 in omega arith
 
 -- whoever has it is at home
-nobody : (h : OwnersState) (are : AreRuled h) (s_id : ℕ) → is_between 1 LAST_SUBSCRIBER s_id ≡ false → IsHomeFor s_id h
+nobody : (h : OwnersState) (are : AreOwners h) (s_id : ℕ) → is_between 1 LAST_SUBSCRIBER s_id ≡ false → IsHomeFor s_id h
 nobody h are s_id out = rw (nowhere 1 s_id h.regions are.are.consecutive sides) tt
   where
     sides : (s_id < 1) ⊎ (END ≤ s_id)
@@ -75,7 +75,7 @@ nobody h are s_id out = rw (nowhere 1 s_id h.regions are.are.consecutive sides) 
       ]
     ]
 
-pub nobody_home : (h : OwnersState) (are : AreRuled h) (s_id : ℕ) (why : Refusal) → Err why ≡ between 1 LAST_SUBSCRIBER s_id → IsHomeFor s_id h
+pub nobody_home : (h : OwnersState) (are : AreOwners h) (s_id : ℕ) (why : Refusal) → Err why ≡ between 1 LAST_SUBSCRIBER s_id → IsHomeFor s_id h
 nobody_home h are s_id why is =
     nobody h are s_id
     (by_test (is_between 1 LAST_SUBSCRIBER s_id) (λ e. let ok : Err why ≡ Ok s_id = rw e at is in absurd cc) (λ e. e))

@@ -1,5 +1,5 @@
 -- Where an event goes: what it asks for, and what may be answered to it at once, are the same whatever jobs are done.
-use Rattle.hlr_core.proofs.Common.{◌≡◌, ◌∙◌, refl, sym, ℕ, ◌<◌, ◌≤◌, arith, List, [], ◌∷◌, length, map, true, false, Some, None, Err, ◌↔◌, position, list_any, length-map, slice_get_past, get_or_from_slice_get, TableId, by_test, Refusal, s_id_of, Book, is_part, lies_in, place_of, parts_of, Region, none_passes, is_part_there, Job, AreDesks, slots_in, PartOwnerState, OwnersState, AreRuled, book_in, desks_in, homes_in, store_in, Store, slots_of, RegionOwner, Part, desks_later, at_number, count_parts, part_state_at, AsksFor, IsOn, is_on_rows, AreLater, with_owners, bearer_id, IsRouted, IsAskedStep, IsStep, action_for, Event, UpdateLocation, InsertForwarding, DeleteForwarding, Post, Give, Take, Divide, Dissolve, Reply, Now, To}
+use Rattle.hlr_core.proofs.Common.{◌≡◌, ◌∙◌, refl, sym, ℕ, ◌<◌, ◌≤◌, arith, List, [], ◌∷◌, length, map, true, false, Some, None, Err, ◌↔◌, position, list_any, length-map, slice_get_past, get_or_from_slice_get, TableId, by_test, Refusal, s_id_of, Book, is_part, lies_in, place_of, parts_of, Region, none_passes, is_part_there, Job, AreDesks, slots_in, PartOwnerState, OwnersState, AreOwners, book_in, desks_in, homes_in, store_in, Store, slots_of, RegionOwner, Part, desks_later, at_number, count_parts, part_state_at, AsksFor, IsOn, is_on_rows, AreLater, with_owners, bearer_id, IsRouted, IsAskedStep, IsStep, action_for, Event, UpdateLocation, InsertForwarding, DeleteForwarding, Post, Give, Take, Divide, Dissolve, Reply, Now, To}
 use Rattle.tatp_rows.specs.declared.refusal.Refusal.TheVariants as refusal
 use Rattle.part_table.specs.declared.region.Place.TheVariants as place
 use Rattle.holding.specs.declared.job.Job.TheVariants as jobs
@@ -45,7 +45,7 @@ part_index s_id p regions placed =
       | None ↦ λ e. let clash : true ≡ false = sym (part_stands s_id p regions placed) ∙ none_passes (is_part p) regions e in absurd cc
     ]) refl
 
-part_low : (h : OwnersState) (are : AreRuled h) (p i : ℕ) → position (is_part p) h.regions ≡ Some i → p < length (homes_in h.owners)
+part_low : (h : OwnersState) (are : AreOwners h) (p i : ℕ) → position (is_part p) h.regions ≡ Some i → p < length (homes_in h.owners)
 part_low h are p i index =
     let stands = part_state_at h are p i index in
     (at_number h are p i index (λ (o : PartOwnerState). o.home) stands.0 stands.1 false).0
@@ -62,7 +62,7 @@ module _ (event : Event) (h : OwnersState) (rows : is_on_rows event ≡ true) wh
 
   module _ (s_id : ℕ) where
     -- the part of its subscriber does the job that it asks for
-    pub job_to : (job : Job) → AsksFor (action_for event (book_in h.owners)) job → IsOn s_id job → (p : ℕ) → AreRuled h → place_of s_id h.regions ≡ Some (place.Part p) → IsRouted event h (To p job)
+    pub job_to : (job : Job) → AsksFor (action_for event (book_in h.owners)) job → IsOn s_id job → (p : ℕ) → AreOwners h → place_of s_id h.regions ≡ Some (place.Part p) → IsRouted event h (To p job)
     job_to (jobs.Act act) asks on p are here =
         let placed : place_of (s_id_of act) h.regions ≡ Some (place.Part p) = rw on at here in (
           (let there = part_index (s_id_of act) p h.regions placed in part_low h are p there.0 there.1),
@@ -84,7 +84,7 @@ module _ (event : Event) (h : OwnersState) (rows : is_on_rows event ≡ true) wh
     job_moving (jobs.Post limit) asks on n here = absurd asks
 
 -- a posting goes to its part, if there is such a part
-pub post_to : (h : OwnersState) (are : AreRuled h) (board : TableId) → AreDesks board h.spare (desks_in h.owners) → (p limit : ℕ) → p < length (parts_of h.regions)
+pub post_to : (h : OwnersState) (are : AreOwners h) (board : TableId) → AreDesks board h.spare (desks_in h.owners) → (p limit : ℕ) → p < length (parts_of h.regions)
     → IsRouted (Post p limit) h (To p (jobs.Post limit))
 post_to h are board rules p limit low = (
   (let count = count_parts (λ (o : PartOwnerState). o.home) h.width h.regions h.owners are.each in omega arith),
@@ -96,7 +96,7 @@ post_to h are board rules p limit low = (
       (sym (get_or_from_slice_get ks done.index (Part done.part_owner_state) (Part done.part_owner_state) done.owner)) board (desks_later board h.spare h.owners ks (each_owner h.owners ks later) rules) limit answer done.done),
 )
 
-pub post_nowhere : (h : OwnersState) (are : AreRuled h) (p limit : ℕ) → length (parts_of h.regions) ≤ p → IsRouted (Post p limit) h (Now (reply.Refused refusal.NoPart))
+pub post_nowhere : (h : OwnersState) (are : AreOwners h) (p limit : ℕ) → length (parts_of h.regions) ≤ p → IsRouted (Post p limit) h (Now (reply.Refused refusal.NoPart))
 post_nowhere h are p limit past = λ ks later.
     let now = all_ruled_later h ks are later in
     let count = count_parts (λ (o : PartOwnerState). o.holding.desk) h.width h.regions ks now.each in

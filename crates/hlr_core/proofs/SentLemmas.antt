@@ -1,10 +1,10 @@
 -- What a job does to the holding of a part, and answers, is a right step of the whole store.
-use Rattle.hlr_core.proofs.Common.{◌≡◌, refl, ℕ, List, get_or, set, true, Some, None, Ok, position, TableId, IsOutcome, is_in_range, s_id_of, IsWithin, Action, RowReply, is_part, place_of, Region, part_has, blank, HoldingState, Job, AreDesks, of_holding, PartOwnerState, OwnersState, AreRuled, book_in, desks_in, states_in, store_in, slots_of, Part, part_has_place, posted_right, acts_at, owned, state_is, states-set, parts-kept, region_there, with_owners, IsActed, IsJobOf, IsPosted, IsWithinJob, IsAskedStep, IsStep, given_number, Post, Reply}
+use Rattle.hlr_core.proofs.Common.{◌≡◌, refl, ℕ, List, get_or, set, true, Some, None, Ok, position, TableId, IsOutcome, is_in_range, s_id_of, IsWithin, Action, RowReply, is_part, place_of, Region, part_has, blank, HoldingState, Job, AreDesks, of_holding, PartOwnerState, OwnersState, AreOwners, book_in, desks_in, states_in, store_in, slots_of, Part, part_has_place, posted_right, acts_at, owned, state_is, states-set, parts-kept, region_there, with_owners, IsActed, IsJobOf, IsPosted, IsWithinJob, IsAskedStep, IsStep, given_number, Post, Reply}
 use Rattle.part_table.specs.declared.region.Place.TheVariants as place
 use Rattle.holding.specs.declared.job.Job.TheVariants as jobs
 use Rattle.hlr_core.proofs.RegisterLemmas.{acted_step, posted_step}
 
-module _ (h : OwnersState) (are : AreRuled h) (p i : ℕ) (index : position (is_part p) h.regions ≡ Some i) (l m : PartOwnerState) (is : Part l ≡ get_or h.owners i (Part l)) where
+module _ (h : OwnersState) (are : AreOwners h) (p i : ℕ) (index : position (is_part p) h.regions ≡ Some i) (l m : PartOwnerState) (is : Part l ≡ get_or h.owners i (Part l)) where
   -- an action on a subscriber of the part
   module _ (act : Action) (placed : place_of (s_id_of act) h.regions ≡ Some (place.Part p)) where
     sent_outcome : (rows : RowReply) → IsOutcome act l.holding.part.book rows m.holding.part.book → IsOutcome act (book_in h.owners) rows (book_in (set h.owners i (Part m)))

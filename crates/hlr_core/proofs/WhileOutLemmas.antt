@@ -1,5 +1,5 @@
 -- What the register does while holdings are out is right whatever these have become.
-use Rattle.hlr_core.proofs.Common.{◌≡◌, ◌∙◌, refl, sym, ap, ℕ, List, Bool, true, false, Option, Some, None, Ok, Err, is_some, option_map, SubscriberRow, Refusal, pair_of, bearer_in, IsAdded, IsRenamed, is_in_range, s_id_of, subscriber_at, Action, RowReply, dissolve_answer, divide_answer, give_answer, after_give, recut_answer, take_answer, after_take, CutMove, Region, Side, HoldingState, MayAnswer, is_loose, IsAnsweredWhileOut, IsMovedWhileOut, IsPostedWhileOut, outs_in, with_outs, IsDissolvedWhileOut, IsDividedWhileOut, IsRecut, IsRecutBy, OwnersState, AreRuled, book_in, part_holdings, store_in, Store, own_outs, register_with, IsStepWhileOut, IsRecutWhileOut, IsRegister, IsAsked, IsRowStepWhileOut, is_on_rows, AreLater, IsAskedStep, IsStep, action_for, dissolved_reply, divided_reply, given_number, given_reply, posted_reply, taken_reply, reply_of, Event, Give, Take, Divide, Dissolve, Post, Reply}
+use Rattle.hlr_core.proofs.Common.{◌≡◌, ◌∙◌, refl, sym, ap, ℕ, List, Bool, true, false, Option, Some, None, Ok, Err, is_some, option_map, SubscriberRow, Refusal, pair_of, bearer_in, IsAdded, IsRenamed, is_in_range, s_id_of, subscriber_at, Action, RowReply, dissolve_answer, divide_answer, give_answer, after_give, recut_answer, take_answer, after_take, CutMove, Region, Side, HoldingState, MayAnswer, is_loose, IsAnsweredWhileOut, IsMovedWhileOut, IsPostedWhileOut, outs_in, with_outs, IsDissolvedWhileOut, IsDividedWhileOut, IsRecut, IsRecutBy, OwnersState, AreOwners, book_in, part_holdings, store_in, Store, own_outs, register_with, IsStepWhileOut, IsRecutWhileOut, IsRegister, IsAsked, IsRowStepWhileOut, is_on_rows, AreLater, IsAskedStep, IsStep, action_for, dissolved_reply, divided_reply, given_number, given_reply, posted_reply, taken_reply, reply_of, Event, Give, Take, Divide, Dissolve, Post, Reply}
 use Rattle.std.proofs.Common.{Result}
 use Rattle.tatp_rows.specs.declared.refusal.Refusal.TheVariants as refusal
 use Rattle.tatp_actions.specs.declared.action.Action.TheVariants as action
@@ -57,7 +57,7 @@ module _ (h : OwnersState) (row : SubscriberRow) where
   pub exists_while_out : IsHome row (store_in h) true → IsActedWhileOut (action.AddSubscriber row) h (reply.Refused refusal.Exists) h
   exists_while_out here = λ ks later. exists_step row (store_in (register_with h ks)) (home_while_out true ks later here)
 
-  module _ (are : AreRuled h) (pairs : List (ℕ × ℕ)) (register : IsRegister (book_in h.owners) pairs) (here : IsHome row (store_in h) false) where
+  module _ (are : AreOwners h) (pairs : List (ℕ × ℕ)) (register : IsRegister (book_in h.owners) pairs) (here : IsHome row (store_in h) false) where
     pub unadded_while_out : (new : List (ℕ × ℕ)) (why : Refusal) → IsAdded row.sub_nbr row.s_id pairs new (Err why) → IsActedWhileOut (action.AddSubscriber row) h (reply.Refused why) h
     unadded_while_out new why refused = λ ks later.
         unadded_step row (store_in (register_with h ks)) pairs new why (registered_later h (with_outs h.owners ks) pairs are later register) (home_while_out false ks later here) refused
@@ -75,7 +75,7 @@ module _ (h : OwnersState) (s n : ℕ) (home : is_loose s h.regions ≡ false) w
   pub unnumbered_while_out : None ≡ option_map (λ (row : SubscriberRow). row.sub_nbr) (subscriber_at (book_in h.owners) s) → IsActedWhileOut (action.SetNumber s n) h (reply.Refused refusal.NoSubscriber) h
   unnumbered_while_out none = λ ks later. unnumbered_step s n (store_in (register_with h ks)) home (none ∙ sym (number_later h.owners (with_outs h.owners ks) later s))
 
-  module _ (are : AreRuled h) (pairs : List (ℕ × ℕ)) (register : IsRegister (book_in h.owners) pairs) (old : ℕ)
+  module _ (are : AreOwners h) (pairs : List (ℕ × ℕ)) (register : IsRegister (book_in h.owners) pairs) (old : ℕ)
       (number : Some old ≡ option_map (λ (row : SubscriberRow). row.sub_nbr) (subscriber_at (book_in h.owners) s)) (new : List (ℕ × ℕ)) where
     pub unrenamed_while_out : (why : Refusal) → IsRenamed old n pairs new (Err why) (bearer_in old pairs) → IsActedWhileOut (action.SetNumber s n) h (reply.Refused why) h
     unrenamed_while_out why changed = λ ks later.

@@ -2,7 +2,7 @@
 use Rattle.std.specs.Prelude.{◌≡◌, ◌-◌, ◌<◌, ◌≤◌, ◌↔◌, ℕ, Bool, true, false, IfSome, slice_index}
 use Rattle.view_board.specs.Desks.{Station}
 use Rattle.hlr_owners.specs.Out.{outs_in}
-use Rattle.hlr_owners.specs.Parted.{IsWithNew, IsWithout}
+use Rattle.hlr_owners.specs.PartChanges.{IsWithNew, IsWithout}
 use Rattle.hlr_owners.specs.Owners.{OwnersState, IsHomeFor, IsHomeFrom, IsPartHome, book_in, homes_in}
 use Rattle.hlr_core.specs.Numbers.{bearer_id}
 use Rattle.hlr_core.specs.declared.event.Event.{Event}

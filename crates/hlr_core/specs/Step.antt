@@ -16,7 +16,7 @@ use Rattle.tatp_actions.specs.declared.action.Action.TheVariants as action
 use Rattle.tatp_actions.specs.declared.action.RowReply.{RowReply}
 use Rattle.tatp_actions.specs.declared.action.RowReply.TheVariants as row_reply
 use Rattle.hlr_owners.specs.Answered.{is_loose, MayAnswer}
-use Rattle.hlr_owners.specs.Parted.{IsDissolved, IsDivided}
+use Rattle.hlr_owners.specs.PartChanges.{IsDissolved, IsDivided}
 use Rattle.hlr_owners.specs.Posting.{IsPosting}
 use Rattle.hlr_owners.specs.Store.{Store, slots_of}
 use Rattle.hlr_core.specs.Numbers.{bearer_of, bearer_id}

@@ -6,7 +6,7 @@ ghost use Rattle.holding.specs.declared.job.Job.{Job as Jobs};
 ghost use Rattle.hlr_owners.specs.Desks.{AreDesks};
 ghost use Rattle.hlr_core.specs.Later.{AreLater, IsBackWith};
 ghost use Rattle.hlr_core.specs.Session.{IsDoneAt, IsJobOf, IsWithinJob, JobsCommute};
-ghost use Rattle.hlr_owners.specs.Owners.{AreRuled, IsLent, desks_in, part_holdings, homes_in, store_in};
+ghost use Rattle.hlr_owners.specs.Owners.{AreOwners, IsLent, desks_in, part_holdings, homes_in, store_in};
 ghost use Rattle.hlr_core.specs.declared.event.Reply.{Reply as Replies};
 ghost use Rattle.hlr_owners.specs.declared.part_owner.RegionOwner.{RegionOwner as OneOwner};
 ghost use Rattle.hlr_owners.specs.declared.part_owner.RegionOwner.TheVariants as owner;
@@ -63,7 +63,7 @@ impl Register {
     /// desks share the board's slots. It takes no memory.
     pub fn board(&self) -> &Arc<Board>
         ensures board { arc_value result.now ≡ self.now.spare.board }
-        ensures ruled { AreRuled self.now }
+        ensures ruled { AreOwners self.now }
         ensures desks { AreDesks (arc_value result.now) self.now.spare (desks_in self.now.owners) }
     {
         self.owners.board()

@@ -1,13 +1,7 @@
-//! The register: all rows, the standing count of each cell as the board has them, and what is not posted yet.
-//!
-//! Each action moves the counts by a small change that its owner keeps as pending, and a posting raises words of
-//! the board by what is pending. So after each event every cell as published plus its delta not yet posted is
-//! that cell counted over the rows now, and nothing is scanned to answer either.
-//!
-//! A part can be divided and dissolved while the register runs, with 1 to 16 parts at any time.
-//!
-//! A register can be taken apart (`Register::scatter`), so that its owners work in threads of their own, and made anew
-//! of what comes home (`Register::gather`).
+//! The register: the rows of all parts, the index of numbers and the standing counts, of which each cell as published
+//! plus its deltas not yet posted is that cell counted over the rows now. An event goes down a path or two for each row
+//! that it touches and scans nothing, but for gives and divides, which count the rows that they cut off. A reply of
+//! Memory or Moving says that nothing was done, so who drops it loses the event.
 #![tactic(auto)]
 
 mod checked;

@@ -10,7 +10,7 @@ ghost use Rattle.hlr_core.specs.Tasks.{route_of};
 ghost use Rattle.hlr_core.specs.declared.event.Event.{Event as Events};
 ghost use Rattle.hlr_core.specs.declared.event.Event.TheVariants as event;
 ghost use Rattle.part_table.specs.Regions.{parts_of};
-ghost use Rattle.hlr_owners.specs.Owners.{AreRuled, IsHomeFor, IsHomeFrom, IsPartHome, OwnersState, book_in};
+ghost use Rattle.hlr_owners.specs.Owners.{AreOwners, IsHomeFor, IsHomeFrom, IsPartHome, OwnersState, book_in};
 ghost use Rattle.tatp_actions.specs.declared.action.Action.{Action as Actions};
 ghost use Rattle.tatp_rows.specs.declared.refusal.Refusal.{Refusal as Refusals};
 
@@ -78,8 +78,8 @@ impl Register {
     /// subscriber, or no part has a number from there on. It takes no memory.
     pub fn parts_for(&self, event: &Event) -> Parts
         ensures now { WorksOn event.now result self.now }
-        ensures same { (h : OwnersState) → AreRuled h → h.regions ≡ self.now.regions → (book_in h.owners).subscribers ≡ (book_in self.now.owners).subscribers → WorksOn event.now result h }
-        ensures here { is_by_number event.now ≡ false → (h : OwnersState) → AreRuled h → h.regions ≡ self.now.regions → WorksOn event.now result h }
+        ensures same { (h : OwnersState) → AreOwners h → h.regions ≡ self.now.regions → (book_in h.owners).subscribers ≡ (book_in self.now.owners).subscribers → WorksOn event.now result h }
+        ensures here { is_by_number event.now ≡ false → (h : OwnersState) → AreOwners h → h.regions ≡ self.now.regions → WorksOn event.now result h }
         ensures few { result.end ≤ length (parts_of self.now.regions) }
     {
         // For the prover: each region has its owner beside it.
@@ -108,7 +108,7 @@ impl Register {
 
     /// The part with a number, if there is one.
     fn part_numbered(&self, part: u64) -> Parts
-        ensures home { (h : OwnersState) → AreRuled h → h.regions ≡ self.now.regions → AreHome result h ↔ IsPartHome part h }
+        ensures home { (h : OwnersState) → AreOwners h → h.regions ≡ self.now.regions → AreHome result h ↔ IsPartHome part h }
         ensures few { result.end ≤ length (parts_of self.now.regions) }
     {
         if part >= u64::from(self.owners.parts()) {
@@ -122,7 +122,7 @@ impl Register {
 
     /// All parts from one on.
     fn parts_from(&self, part: u64) -> Parts
-        ensures home { (h : OwnersState) → AreRuled h → h.regions ≡ self.now.regions → AreHome result h ↔ IsHomeFrom part h }
+        ensures home { (h : OwnersState) → AreOwners h → h.regions ≡ self.now.regions → AreHome result h ↔ IsHomeFrom part h }
         ensures few { result.end ≤ length (parts_of self.now.regions) }
     {
         let end = self.owners.parts();
@@ -137,7 +137,7 @@ impl Register {
 
     /// The part that has a subscriber, unless a loose piece has them, or nobody can have the s_id.
     fn part_of(&self, s_id: u64) -> Parts
-        ensures home { (h : OwnersState) → AreRuled h → h.regions ≡ self.now.regions → AreHome result h ↔ IsHomeFor s_id h }
+        ensures home { (h : OwnersState) → AreOwners h → h.regions ≡ self.now.regions → AreHome result h ↔ IsHomeFor s_id h }
         ensures few { result.end ≤ length (parts_of self.now.regions) }
     {
         let Ok(s_id) = in_range(s_id, LAST_SUBSCRIBER) else {
@@ -151,7 +151,7 @@ impl Register {
 
     /// The part that has the subscriber with a number, if there is one.
     fn part_of_bearer(&self, sub_nbr: Number) -> Parts
-        ensures home { (h : OwnersState) → AreRuled h → h.regions ≡ self.now.regions → (book_in h.owners).subscribers ≡ (book_in self.now.owners).subscribers → AreHome result h ↔ IsBearerHome sub_nbr h }
+        ensures home { (h : OwnersState) → AreOwners h → h.regions ≡ self.now.regions → (book_in h.owners).subscribers ≡ (book_in self.now.owners).subscribers → AreHome result h ↔ IsBearerHome sub_nbr h }
         ensures few { result.end ≤ length (parts_of self.now.regions) }
     {
         // For the prover: each region has its owner beside it.

@@ -1,5 +1,6 @@
-//! The register as a library: rows are added, two owners work in threads of their own, and a register is made again of
-//! what comes home.
+//! A use of the register as a library: rows are added, two owners work in threads of their own, and a register is made
+//! again of what comes home. It costs what its calls cost, and two threads. What threads do to holdings must be kept in
+//! contracts of their own, or nothing shows that `gather` may have them back.
 #![tactic(auto)]
 
 ghost use Rattle.std.specs.Prelude.{◌≡◌, IfOk};

@@ -4,14 +4,14 @@ use Rattle.std.specs.Prelude.{Option, slice_get}
 use Rattle.rtrb.specs.Ring.{received}
 use Rattle.holding.specs.Held.{HoldingState}
 use Rattle.hlr_owners.specs.Out.{outs_in}
-use Rattle.hlr_owners.specs.Owners.{AreRuled, OwnersState}
+use Rattle.hlr_owners.specs.Owners.{AreOwners, OwnersState}
 use Rattle.hlr_core.specs.Later.{IsBackWith}
 use Rattle.hlr_lent.specs.Jobs.{IsBack}
 use Rattle.hlr_lent.specs.Rings.{HaveRings, MayComeHome}
 use Rattle.hlr_lent.proofs.RingLemmas.{Ring, ring_there, rings_taken, whose}
 use Rattle.hlr_lent.proofs.RegionOwnerLemmas.{at_home, home_back, home_outs, home_there, home_with}
 
-module _ (h : OwnersState) (are : AreRuled h) (rings : List (Option Ring)) (have : HaveRings (outs_in h.owners) rings) (p : ℕ) (w : Ring) (is : get_or rings p None ≡ Some w)
+module _ (h : OwnersState) (are : AreOwners h) (rings : List (Option Ring)) (have : HaveRings (outs_in h.owners) rings) (p : ℕ) (w : Ring) (is : get_or rings p None ≡ Some w)
     (home : HoldingState) (may : MayComeHome (received w) home) where
   pub out : get_or (outs_in h.owners) p None ≡ Some may.0
   out = let own = whose (outs_in h.owners) rings have p w is in own.1 ∙ sym own.2 ∙ may.1

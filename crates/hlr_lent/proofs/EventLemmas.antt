@@ -20,7 +20,7 @@ use Rattle.holding.specs.declared.job.Job.TheVariants.{Act, Post as Posting}
 use Rattle.hlr_owners.specs.Answered.{MayAnswer}
 use Rattle.hlr_owners.specs.Out.{outs_in}
 use Rattle.hlr_owners.specs.Recut.{IsHomeToCut, IsHomeToMove}
-use Rattle.hlr_owners.specs.Owners.{AllHome, AreRuled, IsHomeFor, IsHomeFrom, OwnersState, book_in, homes_in, store_in}
+use Rattle.hlr_owners.specs.Owners.{AllHome, AreOwners, IsHomeFor, IsHomeFrom, OwnersState, book_in, homes_in, store_in}
 use Rattle.hlr_owners.specs.Store.{Store}
 use Rattle.hlr_owners.proofs.StateLemmas.{lies_within}
 use Rattle.hlr_core.specs.Home.{IsHomeTo, AreHomesAfter, HaveSameHomes}
@@ -243,7 +243,7 @@ out_of_range s_id out = elim (cases_lt s_id 1) [
 refused_out : (s_id : ℕ) (why : Refusal) → between 1 LAST_SUBSCRIBER s_id ≡ Err why → is_between 1 LAST_SUBSCRIBER s_id ≡ false
 refused_out s_id why is = by_test (is_between 1 LAST_SUBSCRIBER s_id) (λ yes. let ok : Ok s_id ≡ Err why = rw yes at is in absurd cc) (λ e. e)
 
-pub nobody_home : (h : OwnersState) (are : AreRuled h) (s_id : ℕ) (why : Refusal) → between 1 LAST_SUBSCRIBER s_id ≡ Err why → IsHomeFor s_id h
+pub nobody_home : (h : OwnersState) (are : AreOwners h) (s_id : ℕ) (why : Refusal) → between 1 LAST_SUBSCRIBER s_id ≡ Err why → IsHomeFor s_id h
 nobody_home h are s_id why is = rw (nowhere 1 s_id h.regions are.are.consecutive (out_of_range s_id (refused_out s_id why is))) tt
 
 -- a re-cut finds at home the parts on which it works, where each move does

@@ -10,7 +10,7 @@ use Rattle.part_table.proofs.IndexLemmas.{past_parts}
 use Rattle.holding.specs.Held.{HoldingState}
 use Rattle.hlr_owners.specs.PartOwnerState.{PartOwnerState}
 use Rattle.hlr_owners.specs.Out.{out_of, outs_in}
-use Rattle.hlr_owners.specs.Owners.{AreRuled, IsLent, OwnersState}
+use Rattle.hlr_owners.specs.Owners.{AreOwners, IsLent, OwnersState}
 use Rattle.hlr_owners.specs.declared.part_owner.RegionOwner.{RegionOwner}
 use Rattle.hlr_owners.specs.declared.part_owner.RegionOwner.TheVariants.{Part}
 use Rattle.hlr_owners.proofs.PartLemmas.{at_number, count_parts, part_state_at, part_has_place, set_number}
@@ -46,7 +46,7 @@ module _ (p : ℕ) (h g : OwnersState) (k : HoldingState) (lent : IsLent p h k g
       rw (same, lent.away)
       (ap (λ (owners : List RegionOwner). record h { owners = owners }) (set_again h.owners lent.index (away k) (at_home k) ∙ put_same h.owners lent.index (at_home k) lent.owner))
 
-module _ (h : OwnersState) (are : AreRuled h) where
+module _ (h : OwnersState) (are : AreOwners h) where
   -- there are at most so many parts
   pub few_outs : length (outs_in h.owners) ≤ MOST_PARTS
   few_outs =

@@ -3,7 +3,7 @@ ghost use Rattle.std.specs.Prelude.{◌≡◌, ◌≢◌, ◌<◌, true, false, 
 ghost use Rattle.view_board.specs.Desks.{with_view};
 ghost use Rattle.view_board.specs.Views.{looked};
 ghost use Rattle.hlr_owners.specs.Recut.{IsHomeToCut, IsRecut};
-ghost use Rattle.hlr_owners.specs.Owners.{AllHome, AreRuled, IsLent, homes_in, store_in};
+ghost use Rattle.hlr_owners.specs.Owners.{AllHome, AreOwners, IsLent, homes_in, store_in};
 ghost use Rattle.hlr_owners.specs.Sight.{IsSightOf};
 ghost use Rattle.hlr_core.specs.WhileOut.{IsRecutWhileOut, IsStepWhileOut};
 ghost use Rattle.hlr_core.specs.Home.{IsHomeTo, AreHomesAfter, HaveSameHomes};
@@ -123,7 +123,7 @@ impl Lender {
     /// Gives the register, with the parts that are out as they were lent.
     pub fn register(&self) -> &Register
         ensures value { result.now ≡ self.now }
-        ensures ruled { AreRuled self.now }
+        ensures ruled { AreOwners self.now }
     {
         // For the prover: each region has its owner beside it.
         let _board = self.register.board();

@@ -1,9 +1,6 @@
-//! A register whose parts are lent to owners that no thread of this library runs, and that come home by themselves.
-//!
-//! `Lender` has the register, and a ring for each part that is out. `Owner` has the part: its holding, the board and the
-//! other end of the ring. It does jobs on its rows in whatever thread has it, and sends the holding home through the
-//! ring. Nothing waits, and nothing is locked. A ring carries back only what jobs have made of the holding that was
-//! lent, so whatever comes out of it may take its place again.
+//! A register whose parts are lent to owners that no thread of this library runs, and that come home through a ring
+//! each. A job costs what it costs the holding; nothing waits, nothing is locked, and a ring carries back only what
+//! jobs have made of the holding that was lent. An owner that is dropped takes its rows along, and its part stays out.
 #![tactic(auto)]
 
 mod changes;

@@ -27,7 +27,7 @@ pub use Rattle.arrayvec.specs.ArrayVec.{ArrayVec, array_vec_len}
 pub use Rattle.atomic_table.specs.Seated.{TableId}
 pub use Rattle.holding.proofs.HeldLemmas.{empty_cell, few, wide_posted}
 pub use Rattle.holding.specs.Held.{HasSmallNets, HoldingState, IsHolding, IsPiece, PieceState, count_of}
-pub use Rattle.holding.specs.Moved.{IsBlankDesk, IsGiven, IsInside, IsMerged, IsParted, IsTaken, as_piece}
+pub use Rattle.holding.specs.Moved.{IsBlankDesk, IsGiven, IsInside, IsMerged, IsHoldingDivided, IsTaken, as_piece}
 pub use Rattle.holding.specs.Post.{due, post_cells}
 pub use Rattle.part_table.proofs.BehindLemmas.{anew_from, zip_anew}
 pub use Rattle.part_table.proofs.BoundsLemmas.{length_parts, no_pieces, within}
@@ -105,7 +105,7 @@ pub use Rattle.view_board.specs.Words.{each_word, is_worn, leveled, minus_word, 
 pub use Rattle.view_board.specs.declared.rule.View.{View}
 pub use Rattle.view_board.specs.declared.words.TheConstants.{SLOTS, SLOT_WORDS, WORDS}
 pub use Rattle.view_delta.proofs.SumLemmas.{AreMovedTo, one_moved}
-pub use Rattle.view_delta.specs.Pending.{is_zero, pending_at}
+pub use Rattle.view_delta.specs.Pending.{is_zero, delta_at}
 pub use Rattle.hlr_owners.specs.Answered.{IsAnswered, MayAnswer, is_loose, is_loose_place}
 pub use Rattle.hlr_owners.specs.Apart.{lo_of, loose_pieces, owners_from, part_of, piece_at, piece_of, range_of}
 pub use Rattle.hlr_owners.specs.Boxed.{map_boxed, unboxed}
@@ -114,9 +114,9 @@ pub use Rattle.hlr_owners.specs.Gather.{MayGather, gathered, holding_range, misf
 pub use Rattle.hlr_owners.specs.Held.{AreOwnerStates, IsLawful, IsOwnerState, OwnerState, of_holding, of_piece, pending_in}
 pub use Rattle.hlr_owners.specs.Inside.{AreHome, IsHanded, IsMovedAlone, IsOpened}
 pub use Rattle.hlr_owners.specs.Out.{out_of, outs_in, with_out, with_outs}
-pub use Rattle.hlr_owners.specs.Owners.{AllHome, AreRuled, IsBackFor, IsHomeFor, IsHomeFrom, IsKind, IsLaterOwner, IsLent, IsPartHome, IsPlaceHome, IsRegionOwner, IsSameOwner, OwnersState, book_in, desks_in, holding_at, homes_in, is_home, of_part, of_parts, part_holdings, state_of, states_in, store_in, taker, unposted}
+pub use Rattle.hlr_owners.specs.Owners.{AllHome, AreOwners, IsBackFor, IsHomeFor, IsHomeFrom, IsKind, IsLaterOwner, IsLent, IsPartHome, IsPlaceHome, IsRegionOwner, IsSameOwner, OwnersState, book_in, desks_in, holding_at, homes_in, is_home, of_part, of_parts, part_holdings, state_of, states_in, store_in, taker, unposted}
 pub use Rattle.hlr_owners.specs.PartOwnerState.{PartOwnerState}
-pub use Rattle.hlr_owners.specs.Parted.{IsDissolved, IsDivided, IsWithNew, IsWithout, free_slot, words_back}
+pub use Rattle.hlr_owners.specs.PartChanges.{IsDissolved, IsDivided, IsWithNew, IsWithout, free_slot, words_back}
 pub use Rattle.hlr_owners.specs.Post.{least_slot, post, raise_cells}
 pub use Rattle.hlr_owners.specs.Posting.{IsPosting}
 pub use Rattle.hlr_owners.specs.Read.{HasRowsOf, IsRead, row_answer}

@@ -1,6 +1,6 @@
 -- A dissolve among all owners: the part's owner goes, and that of the part in front stands for both.
-use Rattle.hlr_owners.proofs.DivideLemmas.{LeavesParted}
-use Rattle.hlr_owners.proofs.Common.{◌≡◌, ◌∙◌, refl, sym, ap, ℕ, suc, ◌+◌, ◌-◌, ◌<◌, List, ◌∷◌, length, get_or, set, map, true, arith, Some, Ok, position, insert, remove, option_map, slice_get, Box, Global, slice_get-map, TableId, dissolved, dissolve_answer, place_lowered, is_part, Place, Region, High, blank, anew_from, zip_anew, IsDissolve, dissolve_from_answer, dissolved_edit, part_behind_front, front_index, ranges_meet, regions-dissolved, both_ranges, region_lowered, Station, with_view, both, taken_back, HoldingState, PieceState, IsHolding, IsMerged, AreDesks, slots_in, words_of, PartOwnerState, out_of, with_outs, words_back, IsDissolved, IsWithout, slots_of, book_in, desks_in, of_parts, store_in, IsKind, IsHomeFrom, OwnersState, AreRuled, homes_in, RegionOwner, Part, Piece}
+use Rattle.hlr_owners.proofs.DivideLemmas.{LeavesChanged}
+use Rattle.hlr_owners.proofs.Common.{◌≡◌, ◌∙◌, refl, sym, ap, ℕ, suc, ◌+◌, ◌-◌, ◌<◌, List, ◌∷◌, length, get_or, set, map, true, arith, Some, Ok, position, insert, remove, option_map, slice_get, Box, Global, slice_get-map, TableId, dissolved, dissolve_answer, place_lowered, is_part, Place, Region, High, blank, anew_from, zip_anew, IsDissolve, dissolve_from_answer, dissolved_edit, part_behind_front, front_index, ranges_meet, regions-dissolved, both_ranges, region_lowered, Station, with_view, both, taken_back, HoldingState, PieceState, IsHolding, IsMerged, AreDesks, slots_in, words_of, PartOwnerState, out_of, with_outs, words_back, IsDissolved, IsWithout, slots_of, book_in, desks_in, of_parts, store_in, IsKind, IsHomeFrom, OwnersState, AreOwners, homes_in, RegionOwner, Part, Piece}
 use Rattle.part_table.specs.declared.region.Place.TheVariants as place
 use Rattle.hlr_owners.proofs.HalvesLemmas.{merged_in}
 use Rattle.hlr_owners.proofs.HomeLemmas.{first_home, later_home}
@@ -8,7 +8,7 @@ use Rattle.hlr_owners.proofs.IndexedLemmas.{set_same, put_back, other_left, both
 use Rattle.hlr_owners.proofs.LendLemmas.{part_state_is, ruled_later, desks_later}
 use Rattle.hlr_owners.proofs.OutLemmas.{none_out, outs-at, outs-set}
 use Rattle.hlr_owners.proofs.PartLemmas.{ahead, get_number, part_number_at, part_owner_at, owner_is_part, part_has_place, part_is_home}
-use Rattle.hlr_owners.proofs.PartedDeskLemmas.{desks_dissolved, words_dissolved, seen_grows}
+use Rattle.hlr_owners.proofs.PartDeskLemmas.{desks_dissolved, words_dissolved, seen_grows}
 use Rattle.hlr_owners.proofs.PutLemmas.{parts-remove_part, outs-remove_part, AreHomeFrom}
 use Rattle.hlr_owners.proofs.RegionOwnerLemmas.{IsRegionOwnerIn, part_kind, parts-kept, placed_in, ruled_rows, each_in, owners_in}
 use Rattle.hlr_owners.proofs.ZipLemmas.{zip_set, zip_remove}
@@ -23,7 +23,7 @@ lowered_kind (place.Piece n) s kind = kind
 abbrev spare_with : Station → HoldingState → Station
 spare_with spare gone = with_view spare (both spare.view (taken_back gone.desk.view gone.slot))
 
-module _ (h : OwnersState) (are : AreRuled h) (p : ℕ) (told : ℕ × ℕ × ℕ) (answer : dissolve_answer p h.regions ≡ Ok told) (i : ℕ) (index : position (is_part p) h.regions ≡ Some i) where
+module _ (h : OwnersState) (are : AreOwners h) (p : ℕ) (told : ℕ × ℕ × ℕ) (answer : dissolve_answer p h.regions ≡ Ok told) (i : ℕ) (index : position (is_part p) h.regions ≡ Some i) where
   dissolving : IsDissolve p h.regions told
   dissolving = dissolve_from_answer p h.regions told answer
 
@@ -77,8 +77,9 @@ module _ (h : OwnersState) (are : AreRuled h) (p : ℕ) (told : ℕ × ℕ × �
     dissolved_home home = part_is_home h are p i index l is (first_home (homes_in h.owners) p (home_behind home))
 
     -- a refusal leaves all owners
-    pub part_again : (m n : PartOwnerState) → m ≡ k → n.holding ≡ l.holding → n.home ≡ true → IsHomeFrom (p - 1) h → insert (set (remove h.owners i) (i - 1) (Part m)) i (Part n) ≡ h.owners
-    part_again m n same one back home =
+    pub part_again : (kept : HoldingState) (n : PartOwnerState) → kept ≡ k.holding → n.holding ≡ l.holding → n.home ≡ true → IsHomeFrom (p - 1) h
+        → insert (set (remove h.owners i) (i - 1) (Part (record k { holding = kept }))) i (Part n) ≡ h.owners
+    part_again kept n same one back home =
         let again : Part n ≡ Part l = part_state_is n l.holding one back ∙ sym (part_state_is l l.holding refl (dissolved_home home)) in
         rw (same, again, set_same (remove h.owners i) (i - 1) (Part k) stood) (put_back h.owners i (Part l) within is)
 
@@ -106,7 +107,7 @@ module _ (h : OwnersState) (are : AreRuled h) (p : ℕ) (told : ℕ × ℕ × �
 
     -- a part that was dissolved
     module _ (m : PartOwnerState) (desk : Station) (merged : IsMerged k.holding l.holding desk m.holding) (kept : IsHolding m.holding) where
-      dissolved_owners : (spare : Station) → AreRuled (record { regions = dissolved p h.regions; owners = owners_without m; spare = spare; width = h.width }) × (book_in (owners_without m) ≡ book_in h.owners)
+      dissolved_owners : (spare : Station) → AreOwners (record { regions = dissolved p h.regions; owners = owners_without m; spare = spare; width = h.width }) × (book_in (owners_without m) ≡ book_in h.owners)
       dissolved_owners spare =
           owners_in h are (dissolved p h.regions) (owners_without m) spare (regions-dissolved p h.regions told dissolving are.are i index) (rw (without_is m, dissolved_edit p h.regions i behind index)
           (zip_remove (IsRegionOwnerIn h.width (book_in h.owners)) (set (anew_from region_lowered (i + 1) h.regions) (i - 1) (both_ranges front part)) (set h.owners (i - 1) (Part m)) i
@@ -142,13 +143,14 @@ module _ (h : OwnersState) (are : AreRuled h) (p : ℕ) (told : ℕ × ℕ × �
           seen_grows board h.spare (desks_in h.owners) rules p l.holding.desk desk_at l.holding.slot lawful.slot,
         )
 
-module _ (h : OwnersState) (are : AreRuled h) (p : ℕ) (told : ℕ × ℕ × ℕ) (answer : dissolve_answer p h.regions ≡ Ok told) (i : ℕ) (index : position (is_part p) h.regions ≡ Some i) (l : PartOwnerState) (is : Part l ≡ get_or h.owners i (Part l))
+module _ (h : OwnersState) (are : AreOwners h) (p : ℕ) (told : ℕ × ℕ × ℕ) (answer : dissolve_answer p h.regions ≡ Ok told) (i : ℕ) (index : position (is_part p) h.regions ≡ Some i) (l : PartOwnerState) (is : Part l ≡ get_or h.owners i (Part l))
     (board : TableId) (rules : AreDesks board h.spare (desks_in h.owners)) where
   -- it is so whatever those that are out have become, where nobody from the part in front on is
-  pub all_dissolved : (k : PartOwnerState) → Part k ≡ get_or (remove h.owners i) (i - 1) (Part k) → (m : PartOwnerState) (desk : Station) → IsMerged k.holding l.holding desk m.holding → IsHolding m.holding → IsHolding l.holding
-      → IsHomeFrom (p - 1) h → m.home ≡ true → (spare : Station) → spare ≡ with_view h.spare (both h.spare.view desk.view)
-      → LeavesParted board (IsDissolved p (Ok told)) (IsWithout p) h (record { regions = dissolved p h.regions; owners = set (remove h.owners i) (i - 1) (Part m); spare = spare; width = h.width })
-  all_dissolved k stood m desk merged kept lawful home still spare joined =
+  pub all_dissolved : (k : PartOwnerState) → Part k ≡ get_or (remove h.owners i) (i - 1) (Part k) → (grown : HoldingState) (desk : Station) → IsMerged k.holding l.holding desk grown → IsHolding grown → IsHolding l.holding
+      → IsHomeFrom (p - 1) h → (spare : Station) → spare ≡ with_view h.spare (both h.spare.view desk.view)
+      → LeavesChanged board (IsDissolved p (Ok told)) (IsWithout p) h (record { regions = dissolved p h.regions; owners = set (remove h.owners i) (i - 1) (Part (record k { holding = grown })); spare = spare; width = h.width })
+  all_dissolved k stood grown desk merged kept lawful home spare joined =
+      let m : PartOwnerState = record k { holding = grown } in
       let now : spare ≡ spare_with h.spare l.holding = joined ∙ ap (λ (d : Station). with_view h.spare (both h.spare.view d.view)) merged.back in
       let was = dissolver_home h are p told answer i index l is k stood home in
       let desk_there : slice_get (desks_in h.owners) p ≡ Some l.holding.desk = get_number h are p i index (λ (o : PartOwnerState). o.holding.desk) l is in
@@ -159,8 +161,8 @@ module _ (h : OwnersState) (are : AreRuled h) (p : ℕ) (told : ℕ × ℕ × �
         desks = left_desks h are p told answer i index l is k stood m desk merged kept board rules lawful;
         store = store_dissolved h are p told answer i index l is k stood m desk merged kept board rules lawful;
         homes = record {
-          homes = parts_without h are p told answer i index l is k stood m (λ (o : PartOwnerState). o.home) (still ∙ sym was);
-          outs = parts_without h are p told answer i index l is k stood m out_of (none_out k m was still);
+          homes = parts_without h are p told answer i index l is k stood m (λ (o : PartOwnerState). o.home) refl;
+          outs = parts_without h are p told answer i index l is k stood m out_of (none_out k grown was);
           gone = l.holding.desk;
           there = desk_there;
           slot = l.holding.slot;
@@ -171,7 +173,7 @@ module _ (h : OwnersState) (are : AreRuled h) (p : ℕ) (told : ℕ × ℕ × �
         };
         while_out = λ ks become.
             let left = outs-remove_part h.owners ks i l (within h are p told answer i index) is (rw (part_number_at h are p i index) back) in
-            rw (outs_without h are p told answer i index l is k stood m ks home still)
+            rw (outs_without h are p told answer i index l is k stood m ks home was)
             (store_dissolved (record h { owners = with_outs h.owners ks }) (ruled_later h (with_outs h.owners ks) are become) p told answer i index l (outs-at h.owners ks i (Part l) is here)
             k (rw left at (outs-at (remove h.owners i) ks (i - 1) (Part k) stood was)) m desk merged kept board (desks_later board h.spare h.owners (with_outs h.owners ks) become rules) lawful);
       })

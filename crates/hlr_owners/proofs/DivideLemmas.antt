@@ -1,13 +1,13 @@
 -- A divide among all owners: the part's owner exchanged, and that of the new part put in behind it.
-use Rattle.hlr_owners.proofs.Common.{Store, MayBecome, store_with, ◌≡◌, ◌∙◌, refl, sym, ap, ℕ, suc, ◌+◌, ◌<◌, ◌≤◌, List, [], ◌∷◌, length, get_or, set, map, true, arith, Some, Ok, position, insert, AllZip-long, TableId, divided, divide_answer, place_raised, is_part, Place, Region, blank, anew_from, zip_anew, IsDivide, divide_from_answer, divided_edit, divide_room, bound_inside, regions-divided, low_half, high_half, region_raised, Station, with_view, IsLeastSlot, alone, both, without, SLOTS, HoldingState, IsHolding, IsInside, IsParted, AreDesks, slots_in, words_of, PartOwnerState, out_of, with_outs, free_slot, IsDivided, IsWithNew, book_in, desks_in, of_parts, store_in, IsKind, IsRegionOwner, IsHomeFrom, OwnersState, AreRuled, homes_in, RegionOwner, Part, Piece}
+use Rattle.hlr_owners.proofs.Common.{Store, MayBecome, store_with, ◌≡◌, ◌∙◌, refl, sym, ap, ℕ, suc, ◌+◌, ◌<◌, ◌≤◌, List, [], ◌∷◌, length, get_or, set, map, true, arith, Some, Ok, position, insert, AllZip-long, TableId, divided, divide_answer, place_raised, is_part, Place, Region, blank, anew_from, zip_anew, IsDivide, divide_from_answer, divided_edit, divide_room, bound_inside, regions-divided, low_half, high_half, region_raised, Station, with_view, IsLeastSlot, alone, both, without, SLOTS, HoldingState, IsHolding, IsInside, IsHoldingDivided, AreDesks, slots_in, words_of, PartOwnerState, out_of, with_outs, free_slot, IsDivided, IsWithNew, book_in, desks_in, of_parts, store_in, IsKind, IsRegionOwner, IsHomeFrom, OwnersState, AreOwners, homes_in, RegionOwner, Part, Piece}
 use Rattle.part_table.specs.declared.region.Place.TheVariants as place
-use Rattle.hlr_owners.proofs.HalvesLemmas.{parted_in}
+use Rattle.hlr_owners.proofs.HalvesLemmas.{divided_in}
 use Rattle.hlr_owners.proofs.HomeLemmas.{first_home, later_home}
 use Rattle.hlr_owners.proofs.IndexedLemmas.{map-insert}
 use Rattle.hlr_owners.proofs.LendLemmas.{ruled_later, desks_later}
 use Rattle.hlr_owners.proofs.OutLemmas.{none_out, outs-at, outs-set}
 use Rattle.hlr_owners.proofs.PartLemmas.{ahead, at_number, count_parts, part_number_at, part_owner_at, part_has_place, part_is_home}
-use Rattle.hlr_owners.proofs.PartedDeskLemmas.{desks_divided, words_divided, slots_new, free, rejoined}
+use Rattle.hlr_owners.proofs.PartDeskLemmas.{desks_divided, words_divided, slots_new, free, rejoined}
 use Rattle.hlr_owners.proofs.PutLemmas.{ahead_behind, parts-insert_part, outs-insert_part, AreHomeFrom}
 use Rattle.hlr_owners.proofs.RegionOwnerLemmas.{IsRegionOwnerIn, part_kind, parts-kept, placed_in, each_in, owners_in}
 use Rattle.hlr_owners.proofs.ZipLemmas.{zip_set, zip_insert}
@@ -18,7 +18,7 @@ raised_kind (place.Part p) (Part l) kind = tt
 raised_kind (place.Part p) (Piece b) kind = absurd kind
 raised_kind (place.Piece n) s kind = kind
 
-module _ (h : OwnersState) (are : AreRuled h) (p at : ℕ) (told : ℕ × ℕ × ℕ) (answer : divide_answer p at h.regions ≡ Ok told) where
+module _ (h : OwnersState) (are : AreOwners h) (p at : ℕ) (told : ℕ × ℕ × ℕ) (answer : divide_answer p at h.regions ≡ Ok told) where
   dividing : IsDivide p at h.regions told
   dividing = divide_from_answer p at h.regions told are.are answer
 
@@ -74,10 +74,10 @@ module _ (h : OwnersState) (are : AreRuled h) (p at : ℕ) (told : ℕ × ℕ ×
           outs-insert_part (set h.owners i (Part m)) ks (i + 1) n new behind ∙ ap (λ (owners : List RegionOwner). insert owners (i + 1) (Part n)) (outs-set h.owners ks i l m is still)
 
     -- a part that was divided
-    module _ (m n : PartOwnerState) (desk : Station) (parted : IsParted at l.holding desk n.holding m.holding) (new : IsHolding n.holding) (kept : IsHolding m.holding) where
-      divided_owners : (spare : Station) → AreRuled (record { regions = divided p at h.regions; owners = owners_with m n; spare = spare; width = h.width }) × (book_in (owners_with m n) ≡ book_in h.owners)
+    module _ (m n : PartOwnerState) (desk : Station) (is_divided : IsHoldingDivided at l.holding desk n.holding m.holding) (new : IsHolding n.holding) (kept : IsHolding m.holding) where
+      divided_owners : (spare : Station) → AreOwners (record { regions = divided p at h.regions; owners = owners_with m n; spare = spare; width = h.width }) × (book_in (owners_with m n) ≡ book_in h.owners)
       divided_owners spare =
-          let both = parted_in h.width (book_in h.owners) region l.holding owner.state at m.holding kept p desk n.holding parted new in
+          let both = divided_in h.width (book_in h.owners) region l.holding owner.state at m.holding kept p desk n.holding is_divided new in
           owners_in h are (divided p at h.regions) (owners_with m n) spare (regions-divided p at h.regions told dividing are.are i index) (rw (divided_edit p at h.regions i index)
           (zip_insert (IsRegionOwnerIn h.width (book_in h.owners)) (set (anew_from region_raised (i + 1) h.regions) i (low_half at region)) (set h.owners i (Part m)) (i + 1) (high_half p at region) (Part n)
           (zip_set (IsRegionOwnerIn h.width (book_in h.owners)) (anew_from region_raised (i + 1) h.regions) h.owners i (low_half at region) (Part m)
@@ -90,7 +90,7 @@ module _ (h : OwnersState) (are : AreRuled h) (p at : ℕ) (told : ℕ × ℕ ×
         number_fits = let fits = (at_number h are p i index (λ (o : PartOwnerState). o.holding.desk) l is l.holding.desk).0 in omega arith
 
         desks_with : desks_in (owners_with m n) ≡ insert (desks_in h.owners) (p + 1) (with_view h.spare (alone h.spare.view slot))
-        desks_with = parts_with m n (λ (o : PartOwnerState). o.holding.desk) parted.given.desk ∙ ap (λ (d : Station). insert (desks_in h.owners) (p + 1) d) (parted.own ∙ own)
+        desks_with = parts_with m n (λ (o : PartOwnerState). o.holding.desk) is_divided.given.desk ∙ ap (λ (d : Station). insert (desks_in h.owners) (p + 1) d) (is_divided.own ∙ own)
 
         new_desks : AreDesks board (with_view h.spare (without h.spare.view slot)) (desks_in (owners_with m n))
         new_desks = rw desks_with (desks_divided board h.spare (desks_in h.owners) rules slot in_board least (p + 1) number_fits)
@@ -108,36 +108,37 @@ module _ (h : OwnersState) (are : AreRuled h) (p at : ℕ) (told : ℕ × ℕ ×
         store_divided = rw ((divided_owners (with_view h.spare (without h.spare.view slot))).1, new_words, new_slots) refl
 
 -- what a divide and a dissolve leave
-pub record LeavesParted (board : TableId) (right : Store → Store → Type 0) (who : OwnersState → OwnersState → Type 0) (before after : OwnersState) : Type 0 where
-  pub ruled : AreRuled after
+pub record LeavesChanged (board : TableId) (right : Store → Store → Type 0) (who : OwnersState → OwnersState → Type 0) (before after : OwnersState) : Type 0 where
+  pub ruled : AreOwners after
   pub desks : AreDesks board after.spare (desks_in after.owners)
   pub store : right (store_in before) (store_in after)
   pub homes : who before after
   pub while_out : (holdings : List HoldingState) → MayBecome before.owners holdings → right (store_with before holdings) (store_with after holdings)
 
-module _ (h : OwnersState) (are : AreRuled h) (p at : ℕ) (told : ℕ × ℕ × ℕ) (answer : divide_answer p at h.regions ≡ Ok told) (i : ℕ) (index : position (is_part p) h.regions ≡ Some i) (l : PartOwnerState) (is : Part l ≡ get_or h.owners i (Part l))
+module _ (h : OwnersState) (are : AreOwners h) (p at : ℕ) (told : ℕ × ℕ × ℕ) (answer : divide_answer p at h.regions ≡ Ok told) (i : ℕ) (index : position (is_part p) h.regions ≡ Some i) (l : PartOwnerState) (is : Part l ≡ get_or h.owners i (Part l))
     (board : TableId) (rules : AreDesks board h.spare (desks_in h.owners)) (slot : ℕ) (in_board : slot < SLOTS) (least : IsLeastSlot h.spare.view slot) where
   -- it is so whatever those that are out have become, where nobody from the part on is
-  pub all_divided : (m n : PartOwnerState) (desk : Station) → IsParted at l.holding desk n.holding m.holding → IsHolding n.holding → IsHolding m.holding → desk ≡ with_view h.spare (alone h.spare.view slot)
-      → IsHomeFrom p h → m.home ≡ true → n.home ≡ true → (spare : Station) → spare ≡ with_view h.spare (without h.spare.view slot)
-      → LeavesParted board (IsDivided p at (Ok told)) (IsWithNew p) h (record { regions = divided p at h.regions; owners = insert (set h.owners i (Part m)) (i + 1) (Part n); spare = spare; width = h.width })
-  all_divided m n desk parted new kept own home still at_home spare left =
+  pub all_divided : (k : HoldingState) (n : PartOwnerState) (desk : Station) → IsHoldingDivided at l.holding desk n.holding k → IsHolding n.holding → IsHolding k → desk ≡ with_view h.spare (alone h.spare.view slot)
+      → IsHomeFrom p h → n.home ≡ true → (spare : Station) → spare ≡ with_view h.spare (without h.spare.view slot)
+      → LeavesChanged board (IsDivided p at (Ok told)) (IsWithNew p) h (record { regions = divided p at h.regions; owners = insert (set h.owners i (Part (record l { holding = k }))) (i + 1) (Part n); spare = spare; width = h.width })
+  all_divided k n desk is_divided new kept own home at_home spare left =
+      let m : PartOwnerState = record l { holding = k } in
       let was = divider_home h are p at told answer i index l is home in
       rw left (record {
-        ruled = (divided_owners h are p at told answer i index l is m n desk parted new kept (with_view h.spare (without h.spare.view slot))).0;
-        desks = new_desks h are p at told answer i index l is m n desk parted new kept board rules slot in_board least own;
-        store = store_divided h are p at told answer i index l is m n desk parted new kept board rules slot in_board least own;
+        ruled = (divided_owners h are p at told answer i index l is m n desk is_divided new kept (with_view h.spare (without h.spare.view slot))).0;
+        desks = new_desks h are p at told answer i index l is m n desk is_divided new kept board rules slot in_board least own;
+        store = store_divided h are p at told answer i index l is m n desk is_divided new kept board rules slot in_board least own;
         homes = record {
-          homes = parts_with h are p at told answer i index l is m n (λ (o : PartOwnerState). o.home) (still ∙ sym was) ∙ rw at_home refl;
-          outs = parts_with h are p at told answer i index l is m n out_of (none_out l m was still) ∙ rw at_home refl;
+          homes = parts_with h are p at told answer i index l is m n (λ (o : PartOwnerState). o.home) refl ∙ rw at_home refl;
+          outs = parts_with h are p at told answer i index l is m n out_of (none_out l k was) ∙ rw at_home refl;
           slot = slot;
           least = least;
           spare = refl;
           width = refl;
         };
         while_out = λ ks become.
-            rw (outs_with h are p at told answer i index l is m n ks home still at_home)
-            (store_divided (record h { owners = with_outs h.owners ks }) (ruled_later h (with_outs h.owners ks) are become) p at told answer i index l (outs-at h.owners ks i (Part l) is was) m n desk parted new kept
+            rw (outs_with h are p at told answer i index l is m n ks home was at_home)
+            (store_divided (record h { owners = with_outs h.owners ks }) (ruled_later h (with_outs h.owners ks) are become) p at told answer i index l (outs-at h.owners ks i (Part l) is was) m n desk is_divided new kept
             board (desks_later board h.spare h.owners (with_outs h.owners ks) become rules) slot in_board least own);
       })
 

@@ -1,5 +1,5 @@
 -- A give among all owners: an owner exchanged, and a piece put in beside it.
-use Rattle.hlr_owners.proofs.Common.{◌≡◌, ◌∙◌, refl, sym, ℕ, ◌<◌, ◌≤◌, List, length, get_or, set, arith, true, Some, Ok, position, insert, Box, Global, AllZip-long, cut, give_answer, piece_index, is_part, Region, Side, Low, High, find_index, IsGive, give_from_answer, has_room, leaves_regions, cut_edit, part_half, piece_half, blank, PieceState, IsHolding, IsPiece, IsInside, IsGiven, IsMovedAlone, out_of, with_outs, PartOwnerState, book_in, desks_in, of_parts, store_in, IsKind, IsPartHome, IsRegionOwner, OwnersState, AreRuled, RegionOwner, Part, Piece}
+use Rattle.hlr_owners.proofs.Common.{◌≡◌, ◌∙◌, refl, sym, ℕ, ◌<◌, ◌≤◌, List, length, get_or, set, arith, Some, Ok, position, insert, Box, Global, AllZip-long, cut, give_answer, piece_index, is_part, Region, Side, Low, High, find_index, IsGive, give_from_answer, has_room, leaves_regions, cut_edit, part_half, piece_half, blank, HoldingState, PieceState, IsHolding, IsPiece, IsInside, IsGiven, IsMovedAlone, out_of, with_outs, PartOwnerState, book_in, desks_in, of_parts, store_in, IsKind, IsPartHome, IsRegionOwner, OwnersState, AreOwners, RegionOwner, Part, Piece}
 use Rattle.hlr_owners.proofs.HalvesLemmas.{given_in}
 use Rattle.hlr_owners.proofs.LendLemmas.{ruled_later}
 use Rattle.hlr_owners.proofs.OutLemmas.{none_out, outs-at, outs-insert, outs-set}
@@ -22,12 +22,12 @@ piece_index-le High i n lt = omega arith
 
 -- what a give and a take leave
 pub record LeavesMoved (before after : OwnersState) : Type 0 where
-  pub ruled : AreRuled after
+  pub ruled : AreOwners after
   pub desks : desks_in after.owners ≡ desks_in before.owners
   pub store : store_in after ≡ record (store_in before) { regions = after.regions }
   pub alone : IsMovedAlone before after
 
-module _ (h : OwnersState) (are : AreRuled h) (p : ℕ) (side : Side) (at : ℕ) (told : ℕ × ℕ × ℕ) (answer : give_answer p side at h.regions ≡ Ok told) where
+module _ (h : OwnersState) (are : AreOwners h) (p : ℕ) (side : Side) (at : ℕ) (told : ℕ × ℕ × ℕ) (answer : give_answer p side at h.regions ≡ Ok told) where
   giving : IsGive p side at h.regions told
   giving = give_from_answer p side at h.regions told answer
 
@@ -53,7 +53,7 @@ module _ (h : OwnersState) (are : AreRuled h) (p : ℕ) (side : Side) (at : ℕ)
       abbrev edited : List RegionOwner
       edited = insert (set h.owners i (Part m)) (piece_index side i) (Piece b)
 
-      given_owners : AreRuled (record h { regions = cut p told.0 side at h.regions; owners = edited }) × (book_in edited ≡ book_in h.owners)
+      given_owners : AreOwners (record h { regions = cut p told.0 side at h.regions; owners = edited }) × (book_in edited ≡ book_in h.owners)
       given_owners =
           let both = given_in h.width (book_in h.owners) region l.holding owner.state at m.holding kept told.0 side b.value parts piece in
           owners_in h are (cut p told.0 side at h.regions) edited h.spare (leaves_regions p side at h.regions told giving are.are) (rw (cut_edit p told.0 side at h.regions i index)
@@ -73,21 +73,22 @@ module _ (h : OwnersState) (are : AreRuled h) (p : ℕ) (side : Side) (at : ℕ)
       given_store = rw (given_owners.1, given_desks) refl
 
 -- it is so whatever those that are out have become
-pub all_given : (h : OwnersState) (are : AreRuled h) (p : ℕ) (side : Side) (at : ℕ) (told : ℕ × ℕ × ℕ) (answer : give_answer p side at h.regions ≡ Ok told) (i : ℕ) (index : position (is_part p) h.regions ≡ Some i)
-    (l : PartOwnerState) (is : Part l ≡ get_or h.owners i (Part l)) → IsPartHome p h → (m : PartOwnerState) (b : Box PieceState Global) → IsGiven side at l.holding b.value m.holding → IsPiece b.value → IsHolding m.holding → m.home ≡ true
-    → LeavesMoved h (record h { regions = cut p told.0 side at h.regions; owners = insert (set h.owners i (Part m)) (piece_index side i) (Piece b) })
-all_given h are p side at told answer i index l is home m b parts piece kept still =
+pub all_given : (h : OwnersState) (are : AreOwners h) (p : ℕ) (side : Side) (at : ℕ) (told : ℕ × ℕ × ℕ) (answer : give_answer p side at h.regions ≡ Ok told) (i : ℕ) (index : position (is_part p) h.regions ≡ Some i)
+    (l : PartOwnerState) (is : Part l ≡ get_or h.owners i (Part l)) → IsPartHome p h → (k : HoldingState) (b : Box PieceState Global) → IsGiven side at l.holding b.value k → IsPiece b.value → IsHolding k
+    → LeavesMoved h (record h { regions = cut p told.0 side at h.regions; owners = insert (set h.owners i (Part (record l { holding = k }))) (piece_index side i) (Piece b) })
+all_given h are p side at told answer i index l is home k b parts piece kept =
+    let m : PartOwnerState = record l { holding = k } in
     let was = part_is_home h are p i index l is home in
     record {
       ruled = (given_owners h are p side at told answer i index l is m b parts piece kept).0;
       desks = given_desks h are p side at told answer i index l is m b parts piece kept;
       store = given_store h are p side at told answer i index l is m b parts piece kept;
       alone = record {
-        homes = given_parts h are p side at told answer i index l is m b parts piece kept (λ (o : PartOwnerState). o.home) (still ∙ sym was);
-        outs = given_parts h are p side at told answer i index l is m b parts piece kept out_of (none_out l m was still);
+        homes = given_parts h are p side at told answer i index l is m b parts piece kept (λ (o : PartOwnerState). o.home) refl;
+        outs = given_parts h are p side at told answer i index l is m b parts piece kept out_of (none_out l k was);
         same = refl;
         while_out = λ ks become.
-            rw (outs-insert (set h.owners i (Part m)) ks (piece_index side i) b, outs-set h.owners ks i l m is still)
+            rw (outs-insert (set h.owners i (Part m)) ks (piece_index side i) b, outs-set h.owners ks i l m is was)
             (given_store (record h { owners = with_outs h.owners ks }) (ruled_later h (with_outs h.owners ks) are become) p side at told answer i index l (outs-at h.owners ks i (Part l) is was) m b parts piece kept);
       };
     }

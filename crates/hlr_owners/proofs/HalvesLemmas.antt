@@ -1,5 +1,5 @@
 -- A part cut in two, and two parts joined: their rules, and their rows in a book.
-use Rattle.hlr_owners.proofs.Common.{inl, inr, ◌≡◌, ◌≢◌, ◌+◌, ◌∙◌, refl, sym, ap, ℕ, arith, true, false, nat_tests, Book, IsRowsOf, rows_between, Touch, join_books, cut_low, cut_high, PartState, IsPart, low_between, high_between, cut_joined, cut_low_rows, cut_high_rows, both_ranges, low_half, high_half, part_half, piece_half, joint_region, touching, Place, Region, Side, Low, High, END, Station, HoldingState, PieceState, IsHolding, IsPiece, IsInside, IsGiven, IsTaken, IsParted, IsMerged, as_piece, OwnerState, of_holding, of_piece, IsLawful, IsOwnerState}
+use Rattle.hlr_owners.proofs.Common.{inl, inr, ◌≡◌, ◌≢◌, ◌+◌, ◌∙◌, refl, sym, ap, ℕ, arith, true, false, nat_tests, Book, IsRowsOf, rows_between, Touch, join_books, cut_low, cut_high, PartState, IsPart, low_between, high_between, cut_joined, cut_low_rows, cut_high_rows, both_ranges, low_half, high_half, part_half, piece_half, joint_region, touching, Place, Region, Side, Low, High, END, Station, HoldingState, PieceState, IsHolding, IsPiece, IsInside, IsGiven, IsTaken, IsHoldingDivided, IsMerged, as_piece, OwnerState, of_holding, of_piece, IsLawful, IsOwnerState}
 use Rattle.std.specs.Prelude.{Some, ◌==◌}
 use Rattle.part_table.specs.declared.region.Place.TheVariants as place
 use Rattle.hlr_owners.proofs.HeldLemmas.{holding_keeps, piece_keeps}
@@ -168,9 +168,9 @@ module _ (width : ℕ) (book : Book) where
         (low_in width book at region (of_holding before) owned (of_holding after) given.part two (holding_keeps after kept) region.place, high_in width book at region (of_holding before) owned after.part (of_piece given) two (piece_keeps given piece) (place.Piece n))
 
     -- a part that was divided, and the new part
-    pub parted_in : (p : ℕ) (desk : Station) (new : HoldingState) → IsParted at before desk new after → IsHolding new
+    pub divided_in : (p : ℕ) (desk : Station) (new : HoldingState) → IsHoldingDivided at before desk new after → IsHolding new
         → IsOwnerIn width book (low_half at region) (of_holding after) × IsOwnerIn width book (high_half p at region) (of_holding new)
-    parted_in p desk new is is_new =
+    divided_in p desk new is is_new =
         let two = given_sides High at before (as_piece new) after owned.is.keeps.rules is.given in
         (low_in width book at region (of_holding before) owned (of_holding after) new.part two (holding_keeps after kept) region.place, high_in width book at region (of_holding before) owned after.part (of_holding new) two (holding_keeps new is_new) (place.Part (p + 1)))
 

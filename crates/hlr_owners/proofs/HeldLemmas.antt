@@ -1,5 +1,5 @@
 -- The rules of one owner: those of a holding and of a loose piece, and what follows from them.
-use Rattle.hlr_owners.proofs.Common.{◌≡◌, ℕ, ◌<◌, ◌^◌, refl, arith, rules, ℤ, pos, neg_ℤ, ◌≤ℤ◌, ints, empty_book, IsRowsOf, CELLS, Region, net_of, nobody, pending_at, HoldingState, PieceState, IsHolding, IsPiece, few, OwnerState, of_holding, of_piece, IsLawful, IsOwnerState, IsOpened}
+use Rattle.hlr_owners.proofs.Common.{◌≡◌, ℕ, ◌<◌, ◌^◌, refl, arith, rules, ℤ, pos, neg_ℤ, ◌≤ℤ◌, ints, empty_book, IsRowsOf, CELLS, Region, net_of, nobody, delta_at, HoldingState, PieceState, IsHolding, IsPiece, few, OwnerState, of_holding, of_piece, IsLawful, IsOwnerState, IsOpened}
 use Rattle.view_board.specs.Nets.{net_from}
 
 -- an empty book keeps the rules
@@ -42,7 +42,7 @@ IsAtMost most z = (neg_ℤ (pos most) ≤ℤ z) × (z ≤ℤ pos most)
 abbrev pub state_most : ℕ
 state_most = 2 ^ 41
 
-pub pending_fits : (state : OwnerState) → IsLawful state → (c : ℕ) → c < CELLS → IsAtMost state_most (pending_at state.pending c)
+pub pending_fits : (state : OwnerState) → IsLawful state → (c : ℕ) → c < CELLS → IsAtMost state_most (delta_at state.pending c)
 pending_fits state is c below =
     let law = is.law c below in
     let low = (is.small c below).0 in

@@ -1,5 +1,5 @@
 -- Who is at home: all parts, the part with a number, and whoever has an s_id.
-use Rattle.hlr_owners.proofs.Common.{by_test, ◌≡◌, refl, ℕ, zero, suc, ◌<◌, List, [], ◌∷◌, Bool, true, length, get_or, drop, arith, Some, None, ◌-◌, false, Option, position, IfOk, ◌↔◌, IsTrue, AllByRecursion, list_all, get_or_past, position-Some, Refusal, each_at, recut_answer, lies_in, CutMove, place_of, Place, is_part_there, blank, place_at, AreHome, PartOwnerState, IsHomeToCut, IsHomeToMove, is_home, homes_in, IsKind, OwnersState, AreRuled, IsPartHome, IsPlaceHome, IsHomeFor, AllHome, RegionOwner, Part, Piece}
+use Rattle.hlr_owners.proofs.Common.{by_test, ◌≡◌, refl, ℕ, zero, suc, ◌<◌, List, [], ◌∷◌, Bool, true, length, get_or, drop, arith, Some, None, ◌-◌, false, Option, position, IfOk, ◌↔◌, IsTrue, AllByRecursion, list_all, get_or_past, position-Some, Refusal, each_at, recut_answer, lies_in, CutMove, place_of, Place, is_part_there, blank, place_at, AreHome, PartOwnerState, IsHomeToCut, IsHomeToMove, is_home, homes_in, IsKind, OwnersState, AreOwners, IsPartHome, IsPlaceHome, IsHomeFor, AllHome, RegionOwner, Part, Piece}
 use Rattle.std.proofs.Common.{Result, Ok, Err}
 use Rattle.part_table.specs.declared.region.Place.TheVariants as place
 use Rattle.hlr_owners.proofs.PartLemmas.{part_state_home}
@@ -83,7 +83,7 @@ home_at (Piece b ∷ owners) zero s all within is = rw is refl
 home_at (Piece b ∷ owners) (suc i) s all within is = home_at owners i s all (omega arith) is
 
 -- the part who has an s_id is at home
-module _ (h : OwnersState) (are : AreRuled h) (s_id i : ℕ) (at : position (lies_in s_id) h.regions ≡ Some i) (l : PartOwnerState) (is : Part l ≡ get_or h.owners i (Part l)) where
+module _ (h : OwnersState) (are : AreOwners h) (s_id i : ℕ) (at : position (lies_in s_id) h.regions ≡ Some i) (l : PartOwnerState) (is : Part l ≡ get_or h.owners i (Part l)) where
   within : i < length h.regions
   within = (position-Some (lies_in s_id) h.regions i blank at).0
 

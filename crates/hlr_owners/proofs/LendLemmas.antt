@@ -1,5 +1,5 @@
 -- A part lent out, and owners that stand for others while parts are out.
-use Rattle.hlr_owners.proofs.Common.{IsWide, ◌≡◌, ◌∙◌, refl, sym, ap, ℕ, zero, suc, ◌<◌, List, [], ◌∷◌, length, get_or, set, arith, true, false, Some, subst, Box, slice_get, position, Option, Global, AllZip, sum_by-cons, map-set_same, nat_tests, position-Some, slice_get_read, is_part, lies_in, IsConsecutive, TableId, Region, blank, HoldingState, PieceState, IsHolding, of_holding, Station, AreDesks, HasOneSlot, IsOfBoard, owns_one, PartOwnerState, state_of, states_in, IsRegionOwner, OwnersState, AreRuled, IsSameOwner, IsLaterOwner, IsBackFor, IsLent, desks_in, RegionOwner, Part, Piece}
+use Rattle.hlr_owners.proofs.Common.{IsWide, ◌≡◌, ◌∙◌, refl, sym, ap, ℕ, zero, suc, ◌<◌, List, [], ◌∷◌, length, get_or, set, arith, true, false, Some, subst, Box, slice_get, position, Option, Global, AllZip, sum_by-cons, map-set_same, nat_tests, position-Some, slice_get_read, is_part, lies_in, IsConsecutive, TableId, Region, blank, HoldingState, PieceState, IsHolding, of_holding, Station, AreDesks, HasOneSlot, IsOfBoard, owns_one, PartOwnerState, state_of, states_in, IsRegionOwner, OwnersState, AreOwners, IsSameOwner, IsLaterOwner, IsBackFor, IsLent, desks_in, RegionOwner, Part, Piece}
 use Rattle.hlr_owners.proofs.ZipLemmas.{each_while_out, sum_while_out}
 use Rattle.hlr_owners.proofs.StateLemmas.{lies_within}
 use Rattle.hlr_owners.proofs.DeskLemmas.{same_one}
@@ -28,7 +28,7 @@ zip_later width (r ∷ regions) [] ks later each = absurd each
 zip_later width (r ∷ regions) (s ∷ owners) [] later each = absurd later
 zip_later width (r ∷ regions) (s ∷ owners) (k ∷ ks) later each = (owner_later width r s k later.0 each.0, zip_later width regions owners ks later.1 each.1)
 
-pub ruled_later : (h : OwnersState) (ks : List RegionOwner) → AreRuled h → AllZip IsLaterOwner h.owners ks → AreRuled (record h { owners = ks })
+pub ruled_later : (h : OwnersState) (ks : List RegionOwner) → AreOwners h → AllZip IsLaterOwner h.owners ks → AreOwners (record h { owners = ks })
 ruled_later h ks are later = record { are = are.are; each = zip_later h.width h.regions h.owners ks later are.each; zones = are.zones }
 
 -- a desk that another one may stand for
@@ -93,7 +93,7 @@ lies_once from s_id (r ∷ regions) (suc i) zero consecutive lt below one two =
 lies_once from s_id (r ∷ regions) (suc i) (suc j) consecutive lt below one two = ap suc (lies_once r.hi s_id regions i j consecutive.2 (omega arith) (omega arith) one two)
 
 -- which is that of its first subscriber
-pub back_index : (h : OwnersState) (are : AreRuled h) (k : HoldingState) → IsHolding k → (i j : ℕ) → position (lies_in k.part.lo) h.regions ≡ Some i → IsBackFor (slice_get h.owners j) k → i ≡ j
+pub back_index : (h : OwnersState) (are : AreOwners h) (k : HoldingState) → IsHolding k → (i j : ℕ) → position (lies_in k.part.lo) h.regions ≡ Some i → IsBackFor (slice_get h.owners j) k → i ≡ j
 back_index h are k keeps i j index back =
     let here = position-Some (lies_in k.part.lo) h.regions i blank index in
     let there = back_there h.owners j k back in
@@ -106,14 +106,14 @@ back_index h are k keeps i j index back =
     let inside : lies_in k.part.lo (get_or h.regions j blank) ≡ true = grind (arith, nat_tests) in
     lies_once 1 k.part.lo h.regions i j are.are.consecutive here.0 (region_there h are j (Part there.0) there.1 there.2) here.1 inside
 
-pub back_here : (h : OwnersState) (are : AreRuled h) (k : HoldingState) → IsHolding k → (i : ℕ) → position (lies_in k.part.lo) h.regions ≡ Some i → ((j : ℕ) × IsBackFor (slice_get h.owners j) k) → IsBackFor (slice_get h.owners i) k
+pub back_here : (h : OwnersState) (are : AreOwners h) (k : HoldingState) → IsHolding k → (i : ℕ) → position (lies_in k.part.lo) h.regions ≡ Some i → ((j : ℕ) × IsBackFor (slice_get h.owners j) k) → IsBackFor (slice_get h.owners i) k
 back_here h are k keeps i index back = subst (λ (n : ℕ). IsBackFor (slice_get h.owners n) k) (sym (back_index h are k keeps i back.0 index back.1)) back.1
 
 -- at home again
 pub part_state_is : (m : PartOwnerState) (k : HoldingState) → m.holding ≡ k → m.home ≡ true → Part m ≡ Part (record { holding = k; home = true })
 part_state_is m k same home = rw (← same, ← home) refl
 
-module _ (h : OwnersState) (are : AreRuled h) (i : ℕ) (k : HoldingState) (back : IsBackFor (slice_get h.owners i) k) (l : PartOwnerState) (is : Part l ≡ get_or h.owners i (Part l)) where
+module _ (h : OwnersState) (are : AreOwners h) (i : ℕ) (k : HoldingState) (back : IsBackFor (slice_get h.owners i) k) (l : PartOwnerState) (is : Part l ≡ get_or h.owners i (Part l)) where
   facts : (i < length h.owners) × IsBackFor (Some (Part l)) k
   facts =
       let low = (back_there h.owners i k back).2 in
@@ -122,7 +122,7 @@ module _ (h : OwnersState) (are : AreRuled h) (i : ℕ) (k : HoldingState) (back
   pub home_is : l.home ≡ false
   home_is = facts.1.0
 
-  pub back_ruled : (m : PartOwnerState) → m.holding ≡ k → IsHolding k → AreRuled (record h { owners = set h.owners i (Part m) })
+  pub back_ruled : (m : PartOwnerState) → m.holding ≡ k → IsHolding k → AreOwners (record h { owners = set h.owners i (Part m) })
   back_ruled m same keeps = exchanged h are i l m is facts.0 (rw same (facts.1.1.lo, facts.1.1.hi, facts.1.1.width)) (rw same keeps)
 
   -- the desk that comes home has the slots that went

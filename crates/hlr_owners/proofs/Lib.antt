@@ -21,8 +21,8 @@ pub mod OpenLemmas
 pub mod OpenedLemmas
 pub mod OutLemmas
 pub mod PartLemmas
-pub mod PartedDeskLemmas
-pub mod PartedLemmas
+pub mod PartDeskLemmas
+pub mod FilterLemmas
 pub mod PostLemmas
 pub mod PostedLemmas
 pub mod PutLemmas

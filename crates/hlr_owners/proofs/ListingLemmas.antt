@@ -1,5 +1,5 @@
 -- Rows that no action reads: those of a part are those of all, and the first from a subscriber on.
-use Rattle.hlr_owners.proofs.Common.{◌≡◌, ◌∙◌, refl, sym, ap, ℕ, zero, suc, ◌<◌, ◌≤◌, ◌==◌, arith, drop, get_or, length, List, [], ◌∷◌, ◌++◌, Bool, true, false, Some, None, Err, nat_le, position, ok_or, AllByRecursion, filter, nat_tests, position-Some, by_test, each-weaker, facility_type, forwarding_type, forwarding_ranges, key_of, facility_key, forwarding_key, subscriber_key, row_at, SubscriberRow, SpecialFacilityRow, CallForwardingRow, facility_in_range, forwarding_in_range, subscriber_in_range, Refusal, Book, IsBook, IsWithin, facility_at, first_subscriber, forwarding_at, is_within, rows_between, subscriber_at, lies_in, Region, blank, is_loose, HasRowsOf, row_answer, PartOwnerState, AreRuled, OwnersState, book_in, state_of, store_in, Store, RegionOwner, Part}
+use Rattle.hlr_owners.proofs.Common.{◌≡◌, ◌∙◌, refl, sym, ap, ℕ, zero, suc, ◌<◌, ◌≤◌, ◌==◌, arith, drop, get_or, length, List, [], ◌∷◌, ◌++◌, Bool, true, false, Some, None, Err, nat_le, position, ok_or, AllByRecursion, filter, nat_tests, position-Some, by_test, each-weaker, facility_type, forwarding_type, forwarding_ranges, key_of, facility_key, forwarding_key, subscriber_key, row_at, SubscriberRow, SpecialFacilityRow, CallForwardingRow, facility_in_range, forwarding_in_range, subscriber_in_range, Refusal, Book, IsBook, IsWithin, facility_at, first_subscriber, forwarding_at, is_within, rows_between, subscriber_at, lies_in, Region, blank, is_loose, HasRowsOf, row_answer, PartOwnerState, AreOwners, OwnersState, book_in, state_of, store_in, Store, RegionOwner, Part}
 use Rattle.std.proofs.Common.{Option}
 use Rattle.tatp_rows.specs.declared.refusal.Refusal.TheVariants as refusal
 use Rattle.hlr_owners.proofs.StateLemmas.{lies_within}
@@ -43,7 +43,7 @@ module _ (lo hi s_id : ℕ) (book : Book) (rules : IsBook book) (within : IsWith
       (λ row holds at. let same : row.s_id ≡ s_id = omega arith in rw same inside) book.subscribers rules.subscribers_in_range)
 
 -- the part that has a subscriber has what all rows have of them
-module _ (h : OwnersState) (are : AreRuled h) (s_id i : ℕ) (at : position (lies_in s_id) h.regions ≡ Some i) (l : PartOwnerState) (is : Part l ≡ get_or h.owners i (Part l)) where
+module _ (h : OwnersState) (are : AreOwners h) (s_id i : ℕ) (at : position (lies_in s_id) h.regions ≡ Some i) (l : PartOwnerState) (is : Part l ≡ get_or h.owners i (Part l)) where
   abbrev region : Region
   region = get_or h.regions i blank
 

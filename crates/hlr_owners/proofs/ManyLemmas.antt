@@ -1,5 +1,5 @@
 -- The part that has several subscribers.
-use Rattle.hlr_owners.proofs.Common.{◌≡◌, ◌∙◌, refl, sym, ap, ℕ, ◌<◌, List, Bool, length, get_or, true, Option, position, All, list_all, position-Some, AllPass-from_list_all, IsWithin, lies_in, IsConsecutive, Region, END, blank, some_index, HasRowsWhileOut, PartOwnerState, HasRowsOf, AreRuled, IsHomeFor, OwnersState, store_in, Part}
+use Rattle.hlr_owners.proofs.Common.{◌≡◌, ◌∙◌, refl, sym, ap, ℕ, ◌<◌, List, Bool, length, get_or, true, Option, position, All, list_all, position-Some, AllPass-from_list_all, IsWithin, lies_in, IsConsecutive, Region, END, blank, some_index, HasRowsWhileOut, PartOwnerState, HasRowsOf, AreOwners, IsHomeFor, OwnersState, store_in, Part}
 use Rattle.std.specs.Prelude.{Some, None}
 use Rattle.hlr_owners.proofs.WhileOutLemmas.{rows_while_out}
 use Rattle.hlr_owners.proofs.HomeLemmas.{owner_home}
@@ -15,7 +15,7 @@ lies_there s_id regions i consecutive within lt here = found (position (lies_in 
     found (Some j) at = let there = position-Some (lies_in s_id) regions j blank at in ap Some (lies_once 1 s_id regions j i consecutive there.0 lt there.1 here)
 
 -- the part of one of several subscribers who all lie in its region has the rows of all
-module _ (h : OwnersState) (are : AreRuled h) (s_id i : ℕ) (at : position (lies_in s_id) h.regions ≡ Some i) (l : PartOwnerState) (is : Part l ≡ get_or h.owners i (Part l)) where
+module _ (h : OwnersState) (are : AreOwners h) (s_id i : ℕ) (at : position (lies_in s_id) h.regions ≡ Some i) (l : PartOwnerState) (is : Part l ≡ get_or h.owners i (Part l)) where
   -- it is at home where the first one's is
   pub part_home : (s_ids : List ℕ) → 0 < length s_ids → s_id ≡ get_or s_ids 0 0 → All (λ n. IsHomeFor n h) s_ids → l.home ≡ true
   part_home s_ids some first home = owner_home h are s_id i at l is (rw first (home 0 0 some))

@@ -2,7 +2,7 @@
 -- and put back.
 use Rattle.hlr_owners.proofs.Common.{◌≡◌, ◌∙◌, ℕ, ◌+◌, arith, List, [], ◌∷◌, ◌++◌, length, map, refl, Box, sum_by, AllByRecursion, Global, map-append, sum_by-cons, sum_by_push, TableId, Station, with_view, first_view, looked, WORDS, HoldingState, each-append, each-left, each-right, desk_of, owns_one, AreOpening, HasOneSlot, MayGather, map_boxed, unboxed}
 use Rattle.hlr_owners.proofs.DeskLemmas.{same_one}
-use Rattle.hlr_owners.proofs.PartedLemmas.{map_twice}
+use Rattle.hlr_owners.proofs.FilterLemmas.{map_twice}
 use Rattle.hlr_owners.proofs.ShareLemmas.{none_shared, first_of_board, shared_desks}
 
 -- a desk of the same board that has the same slots

@@ -1,5 +1,5 @@
 -- Owners at opening: a part at home beside each region, one after another.
-use Rattle.hlr_owners.proofs.Common.{◌≡◌, ◌∙◌, refl, sym, ap, ℕ, suc, ◌≤◌, arith, List, [], ◌∷◌, ◌++◌, length, true, Ok, AllZip, AllByRecursion, take_all, length-map, AllZip-long, no_pieces, can_open, piece_number, AreRegions, pieces_of, Place, Region, Station, WORDS, opening_from, PartOwnerState, state_of, states_in, of_part, desks_in, AllHome, IsKind, IsRegionOwner, AreRuled, store_in, RegionOwner, Part, Piece}
+use Rattle.hlr_owners.proofs.Common.{◌≡◌, ◌∙◌, refl, sym, ap, ℕ, suc, ◌≤◌, arith, List, [], ◌∷◌, ◌++◌, length, true, Ok, AllZip, AllByRecursion, take_all, length-map, AllZip-long, no_pieces, can_open, piece_number, AreRegions, pieces_of, Place, Region, Station, WORDS, opening_from, PartOwnerState, state_of, states_in, of_part, desks_in, AllHome, IsKind, IsRegionOwner, AreOwners, store_in, RegionOwner, Part, Piece}
 use Rattle.std.proofs.Common.{append_assoc}
 use Rattle.part_table.specs.Opening as table
 use Rattle.part_table.specs.declared.region.Place.TheVariants as place
@@ -29,7 +29,7 @@ opened_home [] all = tt
 opened_home (Part l ∷ owners) all = (all.0, opened_home owners all.1)
 opened_home (Piece b ∷ owners) all = absurd all.0
 
--- they sit beside regions of parts
+-- they stand beside regions of parts
 owners_fresh : (width : ℕ) (regions : List Region) (owners : List RegionOwner) → pieces_of regions ≡ [] → AllByRecursion IsPartOwnerHome owners → AllZip (IsFresh width) regions (states_in owners) → AllZip (IsRegionOwner width) regions owners
 owners_fresh width [] [] none all each = tt
 owners_fresh width [] (s ∷ owners) none all each = absurd each
@@ -48,7 +48,7 @@ module _ (parts width i : ℕ) (regions : List Region) (owners : List RegionOwne
   all : AllZip (IsFresh width) regions (states_in owners)
   all = rw (take_all i regions past) at each
 
-  pub opened_ruled : (spare : Station) → AreRegions regions → AreRuled (record { regions = regions; owners = owners; spare = spare; width = width })
+  pub opened_ruled : (spare : Station) → AreRegions regions → AreOwners (record { regions = regions; owners = owners; spare = spare; width = width })
   opened_ruled spare are = record {
     are = are;
     each = owners_fresh width regions owners (rw (regions_are parts width regions can is) (no_pieces 0 1 (bounds_opened parts width))) home all;

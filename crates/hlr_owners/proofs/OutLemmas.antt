@@ -9,9 +9,9 @@ home_kept l k home = ap (λ (b : Bool). record l { holding = if b then l.holding
 out_kept : (l : PartOwnerState) (k : HoldingState) → l.home ≡ false → k ≡ l.holding → with_out l k ≡ l
 out_kept l k out same = ap (λ (b : Bool). record l { holding = if b then l.holding else k }) out ∙ ap (λ (x : HoldingState). record l { holding = x }) same
 
--- two parts at home are not out
-pub none_out : (l m : PartOwnerState) → l.home ≡ true → m.home ≡ true → out_of m ≡ out_of l
-none_out l m home still = rw (home, still) refl
+-- a part at home is not out, whatever its holding becomes
+pub none_out : (l : PartOwnerState) (k : HoldingState) → l.home ≡ true → out_of (record l { holding = k }) ≡ out_of l
+none_out l k home = rw home refl
 
 -- each holding that is out, and the one in its place, are in a relation
 abbrev pub AreOuts : (HoldingState → HoldingState → Type 0) → List (Option HoldingState) → List HoldingState → Type 0
@@ -71,7 +71,7 @@ own_are (Part l ∷ owners) = by_test l.home (λ e. rw e (own_are owners)) (λ e
 pub own_outs : (owners others : List RegionOwner) → outs_in others ≡ outs_in owners → with_outs others (part_holdings owners) ≡ others
 own_outs owners others same = own_kept others (part_holdings owners) (rw same (own_are owners))
 
--- who is at home owns it still
+-- the owner that is at home has the region still
 pub outs-at : (owners : List RegionOwner) (ks : List HoldingState) (i : ℕ) (s : RegionOwner) → s ≡ get_or owners i s → is_home s ≡ true → s ≡ get_or (with_outs owners ks) i s
 outs-at [] ks i s is home = refl
 outs-at (Piece b ∷ owners) ks zero s is home = is

@@ -1,10 +1,10 @@
 -- The owners of parts, in order: the part with a number has the owner beside its region.
-use Rattle.hlr_owners.proofs.Common.{◌≡◌, ◌∙◌, refl, sym, ap, ℕ, zero, suc, ◌+◌, ◌<◌, List, [], ◌∷◌, ◌++◌, length, get_or, set, arith, true, false, Some, None, subst, position, Box, slice_get, Global, AllZip, range_with_len, nat_tests, get_or_past, position-Some, slice_get_read, AllZip-long, is_part, is_part_place, part_number, parts_of, place_of, IsWithin, Place, Region, part_has, past_parts, blank, PieceState, PartOwnerState, book_in, of_part, of_parts, homes_in, IsKind, IsRegionOwner, OwnersState, AreRuled, IsPartHome, RegionOwner, Part, Piece}
+use Rattle.hlr_owners.proofs.Common.{◌≡◌, ◌∙◌, refl, sym, ap, ℕ, zero, suc, ◌+◌, ◌<◌, List, [], ◌∷◌, ◌++◌, length, get_or, set, arith, true, false, Some, None, subst, position, Box, slice_get, Global, AllZip, range_with_len, nat_tests, get_or_past, position-Some, slice_get_read, AllZip-long, is_part, is_part_place, part_number, parts_of, place_of, IsWithin, Place, Region, part_has, past_parts, blank, PieceState, PartOwnerState, book_in, of_part, of_parts, homes_in, IsKind, IsRegionOwner, OwnersState, AreOwners, IsPartHome, RegionOwner, Part, Piece}
 use Rattle.hlr_owners.proofs.StateLemmas.{lies_within}
 use Rattle.part_table.specs.declared.region.Place.TheVariants as place
 use Rattle.hlr_owners.proofs.RegionOwnerLemmas.{IsRegionOwnerIn, owner_in}
 
--- how many parts sit in front of an index
+-- how many parts stand in front of an index
 abbrev pub ahead : List RegionOwner → ℕ → ℕ
 ahead [] i = 0
 ahead (owner ∷ owners) zero = 0
@@ -69,14 +69,14 @@ number_ahead width a n p (r ∷ regions) (s ∷ owners) (suc i) each order lt is
     number_behind a n r.place s owners (parts_of regions) i p each.0.kind order (λ b m rest. number_ahead width b m p regions owners i each.1 rest (omega arith) is)
 
 -- no part at home has a number behind the last
-pub none_home : (h : OwnersState) (are : AreRuled h) (p : ℕ) → position (is_part p) h.regions ≡ None → get_or (homes_in h.owners) p false ≡ false
+pub none_home : (h : OwnersState) (are : AreOwners h) (p : ℕ) → position (is_part p) h.regions ≡ None → get_or (homes_in h.owners) p false ≡ false
 none_home h are p none =
     let past = past_parts p h.regions are.are none in
     let count = count_parts (λ (o : PartOwnerState). o.home) h.width h.regions h.owners are.each in
     get_or_past (homes_in h.owners) p false (omega arith)
 
 -- the owner of a part: beside its region
-module _ (h : OwnersState) (are : AreRuled h) (p i : ℕ) (within : i < length h.regions) (of_part_p : is_part p (get_or h.regions i blank) ≡ true) where
+module _ (h : OwnersState) (are : AreOwners h) (p i : ℕ) (within : i < length h.regions) (of_part_p : is_part p (get_or h.regions i blank) ≡ true) where
   there : i < length h.owners
   there = let long = AllZip-long (IsRegionOwner h.width) h.regions h.owners are.each in omega arith
 
@@ -88,14 +88,14 @@ module _ (h : OwnersState) (are : AreRuled h) (p i : ℕ) (within : i < length h
   pub part_state_home : (l : PartOwnerState) → Part l ≡ get_or h.owners i (Part l) → IsPartHome p h → l.home ≡ true
   part_state_home l is home = (rw number_at at (at_ahead (λ (o : PartOwnerState). o.home) h.owners i l true there is)).1 ∙ home
 
--- who sits where no piece does
+-- the owner where no piece is
 part_state_there : (owners : List RegionOwner) (i : ℕ) → i < length owners → ((b : Box PieceState Global) → Piece b ≡ get_or owners i (Piece b) → ⊥) → (l : PartOwnerState) × (Part l ≡ get_or owners i (Part l))
 part_state_there [] i low none = absurd (omega arith)
 part_state_there (Part l ∷ owners) zero low none = (l, refl)
 part_state_there (Piece b ∷ owners) zero low none = absurd (none b refl)
 part_state_there (s ∷ owners) (suc i) low none = part_state_there owners i (omega arith) none
 
-module _ (h : OwnersState) (are : AreRuled h) (p i : ℕ) (index : position (is_part p) h.regions ≡ Some i) where
+module _ (h : OwnersState) (are : AreOwners h) (p i : ℕ) (index : position (is_part p) h.regions ≡ Some i) where
   here : (i < length h.regions) × (is_part p (get_or h.regions i blank) ≡ true) × ((k : ℕ) → k < i → is_part p (get_or h.regions k blank) ≡ false)
   here = position-Some (is_part p) h.regions i blank index
 
@@ -108,7 +108,7 @@ module _ (h : OwnersState) (are : AreRuled h) (p i : ℕ) (index : position (is_
   pub part_owner_at : (s : RegionOwner) → s ≡ get_or h.owners i s → IsRegionOwnerIn h.width (book_in h.owners) (get_or h.regions i blank) s
   part_owner_at s is = owner_in h are i s is here.0
 
-  -- no piece owns it
+  -- the owner is no piece
   pub owner_is_part : (b : Box PieceState Global) → Piece b ≡ get_or h.owners i (Piece b) → ⊥
   owner_is_part b is = no (get_or h.regions i blank).place here.1 (part_owner_at (Piece b) is).kind
     where

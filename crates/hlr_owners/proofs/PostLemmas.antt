@@ -2,7 +2,7 @@
 use Rattle.hlr_owners.proofs.Common.{◌≡◌, ◌∙◌, refl, sym, ap, ℕ, zero, suc, ◌+◌, ◌<◌, ◌≤◌, arith, List, [], ◌∷◌, length, get_or, set, take, true, false, not, map, ℤ, pos, ◌-ℤ◌, sum_by, AllByRecursion, filter, range_with_len, map-set, sum_by-cons, sum_by-set, get_or-map, TableId, by_test, each_at, CELLS, Station, with_view, IsLeastSlot, IsWide, posted, is_worn, View, SLOTS, wide_posted, is_zero, due, post_cells, owns_one, words_of, slots_in, HasOneSlot, IsOfBoard, AreDesks, raise_cells, post, net}
 use Rattle.holding.specs.Post as own
 use Rattle.holding.specs.Post.{all_cells}
-use Rattle.hlr_owners.proofs.PartedLemmas.{each_filtered, each_take}
+use Rattle.hlr_owners.proofs.FilterLemmas.{each_filtered, each_take}
 use Rattle.hlr_owners.proofs.DeskLemmas.{same_one, words_with, words_posted, word_here, net_of_slots, least_of_slots}
 use Rattle.hlr_owners.proofs.IndexedLemmas.{set_same}
 

@@ -1,5 +1,5 @@
 -- A posting of a part among all owners.
-use Rattle.hlr_owners.proofs.Common.{◌≡◌, ◌∙◌, refl, sym, ap, ℕ, suc, ◌<◌, arith, List, ◌∷◌, length, get_or, set, map, Some, None, find, Result, Err, position, get_or-map, map-set_same, length-map, slice_get_read, slice_get_past, TableId, each_at, Refusal, book_of, PartState, is_part, Region, find_index, past_parts, blank, IsWide, View, SLOTS, set_within, HoldingState, IsHolding, count_of, words_of, slots_in, IsOfBoard, AreDesks, HasOneSlot, OwnerState, of_holding, post, Store, slots_of, PartOwnerState, IsPosting, states_in, book_in, desks_in, store_in, OwnersState, AreRuled, Part}
+use Rattle.hlr_owners.proofs.Common.{◌≡◌, ◌∙◌, refl, sym, ap, ℕ, suc, ◌<◌, arith, List, ◌∷◌, length, get_or, set, map, Some, None, find, Result, Err, position, get_or-map, map-set_same, length-map, slice_get_read, slice_get_past, TableId, each_at, Refusal, book_of, PartState, is_part, Region, find_index, past_parts, blank, IsWide, View, SLOTS, set_within, HoldingState, IsHolding, count_of, words_of, slots_in, IsOfBoard, AreDesks, HasOneSlot, OwnerState, of_holding, post, Store, slots_of, PartOwnerState, IsPosting, states_in, book_in, desks_in, store_in, OwnersState, AreOwners, Part}
 use Rattle.tatp_rows.specs.declared.refusal.Refusal.TheVariants as refusal
 use Rattle.holding.specs.Post as own
 use Rattle.hlr_owners.proofs.HalvesLemmas.{HasRows}
@@ -15,7 +15,7 @@ right_posting : (store : Store) (region : Region) (before : HoldingState) (p lim
 right_posting store region before p limit posted words' slots has_slots found has zones done = rw (has_slots, found, has, ← zones, ← done) (refl, refl)
 
 -- without the part it is refused
-pub none_posted : (h : OwnersState) (are : AreRuled h) (p limit : ℕ) → position (is_part p) h.regions ≡ None → IsPosting (slots_of (store_in h) p) p limit (store_in h) (Err refusal.NoPart) (store_in h)
+pub none_posted : (h : OwnersState) (are : AreOwners h) (p limit : ℕ) → position (is_part p) h.regions ≡ None → IsPosting (slots_of (store_in h) p) p limit (store_in h) (Err refusal.NoPart) (store_in h)
 none_posted h are p limit none =
     let past = past_parts p h.regions are.are none in
     let count = count_parts (λ (o : PartOwnerState). o.holding.desk) h.width h.regions h.owners are.each in
@@ -23,7 +23,7 @@ none_posted h are p limit none =
     let e : slots_of (store_in h) p ≡ None = slice_get_past (map slots_in (desks_in h.owners)) p (omega arith) in
     rw e (refl, refl)
 
-module _ (h : OwnersState) (are : AreRuled h) (board : TableId) (rules : AreDesks board h.spare (desks_in h.owners)) (p i : ℕ) (index : position (is_part p) h.regions ≡ Some i)
+module _ (h : OwnersState) (are : AreOwners h) (board : TableId) (rules : AreDesks board h.spare (desks_in h.owners)) (p i : ℕ) (index : position (is_part p) h.regions ≡ Some i)
     (l : PartOwnerState) (is : Part l ≡ get_or h.owners i (Part l)) where
   number : (p < length (desks_in h.owners)) × (l.holding.desk ≡ get_or (desks_in h.owners) p l.holding.desk)
   number = at_number h are p i index (λ (o : PartOwnerState). o.holding.desk) l is l.holding.desk
@@ -67,7 +67,7 @@ module _ (h : OwnersState) (are : AreRuled h) (board : TableId) (rules : AreDesk
     pub posted_desks : AreDesks board h.spare (desks_in (set h.owners i (Part m)))
     posted_desks = rw desks_now (desks_posted board h.spare (desks_in h.owners) p l.holding.desk m.holding.desk number.0 number.1 rules desk.0 desk.1 core.1)
 
-    pub posted_ruled : IsHolding m.holding → AreRuled (record h { owners = set h.owners i (Part m) })
+    pub posted_ruled : IsHolding m.holding → AreOwners (record h { owners = set h.owners i (Part m) })
     posted_ruled keeps = exchanged h are i l m is (part_has_place h are p i index) (ap (λ (part : PartState). part.lo) same, ap (λ (part : PartState). part.hi) same, ap (λ (part : PartState). part.width) same) keeps
 
     book_now : book_in (set h.owners i (Part m)) ≡ book_in h.owners

@@ -4,12 +4,12 @@ use Rattle.hlr_owners.proofs.Common.{◌≡◌, ◌∙◌, refl, sym, ap, subst,
 use Rattle.hlr_owners.proofs.OutLemmas.{home_kept}
 use Rattle.hlr_owners.proofs.PartLemmas.{ahead}
 
--- nobody sits in front of the first
+-- no part stands in front of the first owner
 none_ahead : (owners : List RegionOwner) → ahead owners 0 ≡ 0
 none_ahead [] = refl
 none_ahead (s ∷ owners) = refl
 
--- behind a part sits one more than in front of it
+-- behind a part one part more has been counted than in front of it
 pub ahead_behind : (owners : List RegionOwner) (i : ℕ) (l m : PartOwnerState) → i < length owners → Part l ≡ get_or owners i (Part l) → ahead (set owners i (Part m)) (suc i) ≡ suc (ahead owners i)
 ahead_behind [] i l m lt is = absurd (omega arith)
 ahead_behind (s ∷ owners) zero l m lt is = ap suc (none_ahead owners)
@@ -17,7 +17,7 @@ ahead_behind (Part k ∷ owners) (suc i) l m lt is = ap suc (ahead_behind owners
 ahead_behind (Piece b ∷ owners) (suc i) l m lt is = ahead_behind owners i l m (omega arith) is
 
 module _ {X : Type 0} (f : PartOwnerState → X) where
-  -- what a part has that is put in stands behind what those have who sit in front of it
+  -- what a part has that is put in stands behind what the parts in front of it have
   pub parts-insert_part : (owners : List RegionOwner) (j : ℕ) (n : PartOwnerState) → of_parts f (insert owners j (Part n)) ≡ insert (of_parts f owners) (ahead owners j) (f n)
   parts-insert_part [] zero n = refl
   parts-insert_part [] (suc j) n = refl

@@ -1,5 +1,5 @@
 -- An owner among all: its rows, its desk, and what is done to it.
-use Rattle.hlr_owners.proofs.Common.{◌≡◌, ◌∙◌, refl, sym, ap, ℕ, zero, suc, ◌<◌, ◌≤◌, List, [], ◌∷◌, ◌++◌, length, get_or, set, arith, true, false, Some, position, insert, remove, Box, if◌then◌else◌, Global, Refusal, AllByRecursion, AllZip, map-set, position-Some, AllZip-long, get_or-map, s_id_of, IsOutcome, is_in_range, Book, IsRowsOf, IsWithin, Action, RowReply, apart, outcome-low, outcome-high, lies_in, AreRegions, IsConsecutive, Place, Region, END, blank, place_at, Station, PieceState, IsHolding, OwnerState, IsOwnerState, AreOwnerStates, of_holding, IsAnswered, is_loose, is_loose_place, PartOwnerState, state_of, states_in, book_in, of_part, of_parts, IsKind, IsRegionOwner, OwnersState, AreRuled, RegionOwner, Part, Piece}
+use Rattle.hlr_owners.proofs.Common.{◌≡◌, ◌∙◌, refl, sym, ap, ℕ, zero, suc, ◌<◌, ◌≤◌, List, [], ◌∷◌, ◌++◌, length, get_or, set, arith, true, false, Some, position, insert, remove, Box, if◌then◌else◌, Global, Refusal, AllByRecursion, AllZip, map-set, position-Some, AllZip-long, get_or-map, s_id_of, IsOutcome, is_in_range, Book, IsRowsOf, IsWithin, Action, RowReply, apart, outcome-low, outcome-high, lies_in, AreRegions, IsConsecutive, Place, Region, END, blank, place_at, Station, PieceState, IsHolding, OwnerState, IsOwnerState, AreOwnerStates, of_holding, IsAnswered, is_loose, is_loose_place, PartOwnerState, state_of, states_in, book_in, of_part, of_parts, IsKind, IsRegionOwner, OwnersState, AreOwners, RegionOwner, Part, Piece}
 use Rattle.tatp_rows.specs.declared.refusal.Refusal.TheVariants as refusal
 use Rattle.tatp_actions.specs.declared.action.RowReply.TheVariants as row_reply
 use Rattle.part_table.specs.declared.region.Place.TheVariants as place
@@ -39,7 +39,7 @@ placed_in width book region owner q kind is = record {
 }
 
 -- the rows of owners are those of all subscribers, and each owner has those of its region
-module _ (h : OwnersState) (are : AreRuled h) where
+module _ (h : OwnersState) (are : AreOwners h) where
   pub ruled_rows : IsRowsOf 1 END (book_in h.owners)
   ruled_rows = state_rows h.width 1 h.regions (states_in h.owners) (owned h.width h.regions h.owners are.each) are.are.consecutive
 
@@ -53,7 +53,7 @@ module _ (h : OwnersState) (are : AreRuled h) where
 
   -- owners that have the same rows beside other regions keep the rules, and have all rows
   pub owners_in : (regions : List Region) (owners : List RegionOwner) (spare : Station) → AreRegions regions → AllZip (IsRegionOwnerIn h.width (book_in h.owners)) regions owners
-      → AreRuled (record { regions = regions; owners = owners; spare = spare; width = h.width }) × (book_in owners ≡ book_in h.owners)
+      → AreOwners (record { regions = regions; owners = owners; spare = spare; width = h.width }) × (book_in owners ≡ book_in h.owners)
   owners_in regions owners spare right each = (
     record {
       are = right;
@@ -141,16 +141,16 @@ part_kind (place.Part p) l m kind = tt
 part_kind (place.Piece n) l m kind = absurd kind
 
 -- the holding of a part exchanged for one of the same range
-module _ (h : OwnersState) (are : AreRuled h) (i : ℕ) (s : RegionOwner) (is : s ≡ get_or h.owners i s) (there : i < length h.owners) where
+module _ (h : OwnersState) (are : AreOwners h) (i : ℕ) (s : RegionOwner) (is : s ≡ get_or h.owners i s) (there : i < length h.owners) where
   pub region_there : i < length h.regions
   region_there = let long = AllZip-long (IsRegionOwner h.width) h.regions h.owners are.each in omega arith
 
   pub owner_is : IsRegionOwner h.width (get_or h.regions i blank) s
   owner_is = rw is (zip_at (IsRegionOwner h.width) h.regions h.owners i blank s are.each region_there)
 
-pub exchanged : (h : OwnersState) (are : AreRuled h) (i : ℕ) (l m : PartOwnerState) → Part l ≡ get_or h.owners i (Part l) → i < length h.owners
+pub exchanged : (h : OwnersState) (are : AreOwners h) (i : ℕ) (l m : PartOwnerState) → Part l ≡ get_or h.owners i (Part l) → i < length h.owners
     → (m.holding.part.lo ≡ l.holding.part.lo) × (m.holding.part.hi ≡ l.holding.part.hi) × (m.holding.part.width ≡ l.holding.part.width) → IsHolding m.holding
-    → AreRuled (record h { owners = set h.owners i (Part m) })
+    → AreOwners (record h { owners = set h.owners i (Part m) })
 exchanged h are i l m is there same keeps =
     let owner = owner_is h are i (Part l) is there in
     record {
@@ -163,7 +163,7 @@ exchanged h are i l m is there same keeps =
     }
 
 -- the owner of an s_id
-module _ (h : OwnersState) (are : AreRuled h) (s_id i : ℕ) (at : position (lies_in s_id) h.regions ≡ Some i) where
+module _ (h : OwnersState) (are : AreOwners h) (s_id i : ℕ) (at : position (lies_in s_id) h.regions ≡ Some i) where
   here : (i < length h.regions) × (lies_in s_id (get_or h.regions i blank) ≡ true) × ((k : ℕ) → k < i → lies_in s_id (get_or h.regions k blank) ≡ false)
   here = position-Some (lies_in s_id) h.regions i blank at
 

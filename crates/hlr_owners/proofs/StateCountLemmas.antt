@@ -1,5 +1,5 @@
 -- The counts of all owners: as they add up, and what is published and pending of them.
-use Rattle.hlr_owners.proofs.Common.{◌≡◌, ◌∙◌, refl, sym, ap, ℕ, ◌+◌, ◌*◌, ◌<◌, arith, List, [], ◌∷◌, length, ℤ, pos, ◌+ℤ◌, sum_by, AllByRecursion, ints, sum_by-cons, cell, CELLS, cell_joined, IsConsecutive, Region, END, net_of, pending_at, empty_cell, OwnerState, AreOwnerStates}
+use Rattle.hlr_owners.proofs.Common.{◌≡◌, ◌∙◌, refl, sym, ap, ℕ, ◌+◌, ◌*◌, ◌<◌, arith, List, [], ◌∷◌, length, ℤ, pos, ◌+ℤ◌, sum_by, AllByRecursion, ints, sum_by-cons, cell, CELLS, cell_joined, IsConsecutive, Region, END, net_of, delta_at, empty_cell, OwnerState, AreOwnerStates}
 use Rattle.hlr_owners.proofs.HeldLemmas.{IsAtMost, state_most}
 use Rattle.hlr_owners.proofs.IntSumLemmas.{sum_ints}
 use Rattle.hlr_owners.proofs.StateLemmas.{book_of_states, state_rows, own_region}
@@ -23,7 +23,7 @@ cells_added width from (region ∷ regions) (state ∷ states) c each consecutiv
 
 -- what owners have published and what is pending of them is the count over all rows
 pub states_counted : (width from : ℕ) (regions : List Region) (states : List OwnerState) (c : ℕ) → c < CELLS → AreOwnerStates width regions states → IsConsecutive from regions
-    → sum_ints (λ (state : OwnerState). net_of state.view c) states +ℤ sum_ints (λ (state : OwnerState). pending_at state.pending c) states ≡ pos (cell width c (book_of_states states))
+    → sum_ints (λ (state : OwnerState). net_of state.view c) states +ℤ sum_ints (λ (state : OwnerState). delta_at state.pending c) states ≡ pos (cell width c (book_of_states states))
 states_counted width from [] [] c below each consecutive = rw (empty_cell width c) refl
 states_counted width from [] (state ∷ states) c below each consecutive = absurd each
 states_counted width from (region ∷ regions) [] c below each consecutive = absurd each

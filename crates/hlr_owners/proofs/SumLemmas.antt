@@ -1,8 +1,8 @@
 -- Sums over all owners, one after another: what they have published, what is pending of them, and the counts of their
 -- rows.
 use Rattle.hlr_owners.proofs.ZipLemmas.{each_zipped}
-use Rattle.hlr_owners.proofs.Common.{◌≡◌, refl, sym, ap, ℕ, ◌+◌, ◌^◌, ◌<◌, ◌≤◌, arith, List, [], ◌∷◌, length, get_or, take, ℤ, pos, ◌+ℤ◌, sum_by, AllByRecursion, ints, length-map, length-take, take_all, sum_by_more, sum_by_more_le, AllZip-long, TableId, few_cells, cell, CELLS, each-weaker, each_at, length_regions, most_pieces, pieces_of, Region, Station, net_of, IsWide, pending_at, AreDesks, IsOfBoard, OwnerState, AreOwnerStates, pending_in, IsOwnerState, published, unpublished, net_none, state_of, states_in, book_in, desks_in, unposted, store_in, IsRegionOwner, OwnersState, AreRuled, RegionOwner, Part, Piece}
-use Rattle.hlr_owners.proofs.PartedLemmas.{each_take}
+use Rattle.hlr_owners.proofs.Common.{◌≡◌, refl, sym, ap, ℕ, ◌+◌, ◌^◌, ◌<◌, ◌≤◌, arith, List, [], ◌∷◌, length, get_or, take, ℤ, pos, ◌+ℤ◌, sum_by, AllByRecursion, ints, length-map, length-take, take_all, sum_by_more, sum_by_more_le, AllZip-long, TableId, few_cells, cell, CELLS, each-weaker, each_at, length_regions, most_pieces, pieces_of, Region, Station, net_of, IsWide, delta_at, AreDesks, IsOfBoard, OwnerState, AreOwnerStates, pending_in, IsOwnerState, published, unpublished, net_none, state_of, states_in, book_in, desks_in, unposted, store_in, IsRegionOwner, OwnersState, AreOwners, RegionOwner, Part, Piece}
+use Rattle.hlr_owners.proofs.FilterLemmas.{each_take}
 use Rattle.hlr_owners.proofs.DeskLemmas.{nets_of_desks}
 use Rattle.hlr_owners.proofs.HeldLemmas.{IsAtMost, state_most, pending_fits, nobody_net}
 use Rattle.hlr_owners.proofs.IntSumLemmas.{sum_ints, sum_more}
@@ -12,7 +12,7 @@ use Rattle.hlr_owners.proofs.RegionOwnerLemmas.{owned, state_is, ruled_rows}
 -- the zones of an owner have the width, and what it has published and what is pending of it are small
 pub record IsCountable (width : ℕ) (state : OwnerState) : Type 0 where
   pub zones : state.part.width ≡ width
-  pub pending : (c : ℕ) → c < CELLS → IsAtMost state_most (pending_at state.pending c)
+  pub pending : (c : ℕ) → c < CELLS → IsAtMost state_most (delta_at state.pending c)
   pub published : (c : ℕ) → c < CELLS → IsAtMost state_most (net_of state.view c)
 
 pub each_countable : (width : ℕ) (regions : List Region) (states : List OwnerState) → AreOwnerStates width regions states → AllByRecursion (IsCountable width) states
@@ -27,20 +27,20 @@ abbrev pub nets : OwnerState → ℕ → ℤ
 nets state c = net_of state.view c
 
 abbrev pub deltas : OwnerState → ℕ → ℤ
-deltas state c = pending_at state.pending c
+deltas state c = delta_at state.pending c
 
 -- the amounts of the first i of some owners, added to what was there, which is at most a number
 pub record AreAdded (amount : OwnerState → ℕ → ℤ) (most : ℕ) (states : List OwnerState) (start sums : List ℤ) (i : ℕ) : Type 0 where
-  pub few : (c : ℕ) → c < CELLS → IsAtMost most (pending_at start c)
-  pub added : (c : ℕ) → c < CELLS → pending_at sums c ≡ pending_at start c +ℤ sum_ints (λ (state : OwnerState). amount state c) (take i states)
+  pub few : (c : ℕ) → c < CELLS → IsAtMost most (delta_at start c)
+  pub added : (c : ℕ) → c < CELLS → delta_at sums c ≡ delta_at start c +ℤ sum_ints (λ (state : OwnerState). amount state c) (take i states)
 
 module _ (amount : OwnerState → ℕ → ℤ) (most : ℕ) (states : List OwnerState) (start : List ℤ) where
-  pub none_added : ((c : ℕ) → c < CELLS → IsAtMost most (pending_at start c)) → AreAdded amount most states start start 0
+  pub none_added : ((c : ℕ) → c < CELLS → IsAtMost most (delta_at start c)) → AreAdded amount most states start start 0
   none_added few = record { few = few; added = λ c below. omega (arith, ints) }
 
   -- they are small
   pub added_small : (width i : ℕ) (sums : List ℤ) → ((state : OwnerState) → IsCountable width state → (c : ℕ) → c < CELLS → IsAtMost state_most (amount state c)) → AllByRecursion (IsCountable width) states
-      → length states ≤ 32 → AreAdded amount most states start sums i → (c : ℕ) → c < CELLS → IsAtMost (most + 2 ^ 46) (pending_at sums c)
+      → length states ≤ 32 → AreAdded amount most states start sums i → (c : ℕ) → c < CELLS → IsAtMost (most + 2 ^ 46) (delta_at sums c)
   added_small width i sums is_small each few so_far c below =
       let f = λ (state : OwnerState). amount state c in
       let small = each-weaker {P = IsCountable width} {Q = λ (state : OwnerState). IsAtMost state_most (amount state c)} (λ state is. is_small state is c below) states each in
@@ -52,7 +52,7 @@ module _ (amount : OwnerState → ℕ → ℤ) (most : ℕ) (states : List Owner
 
   -- one more
   pub one_added : (i : ℕ) (state : OwnerState) (sums more : List ℤ) → i < length states → state ≡ get_or states i state → AreAdded amount most states start sums i
-      → ((c : ℕ) → c < CELLS → pending_at more c ≡ pending_at sums c +ℤ amount state c) → AreAdded amount most states start more (i + 1)
+      → ((c : ℕ) → c < CELLS → delta_at more c ≡ delta_at sums c +ℤ amount state c) → AreAdded amount most states start more (i + 1)
   one_added i state sums more within is so_far step = record {
     few = so_far.few;
     added = λ c below. (let now = step c below in let sum = so_far.added c below in let next = sum_more (λ (o : OwnerState). amount o c) states i state within is in omega (arith, ints));
@@ -60,7 +60,7 @@ module _ (amount : OwnerState → ℕ → ℤ) (most : ℕ) (states : List Owner
 
   -- all
   pub all_added : (i : ℕ) (sums : List ℤ) → length states ≤ i → AreAdded amount most states start sums i → (c : ℕ) → c < CELLS
-      → pending_at sums c ≡ pending_at start c +ℤ sum_ints (λ (state : OwnerState). amount state c) states
+      → delta_at sums c ≡ delta_at start c +ℤ sum_ints (λ (state : OwnerState). amount state c) states
   all_added i sums past so_far c below = rw (take_all i states past) at (so_far.added c below)
 
 -- the counts of the first i of some owners, added to what was there
@@ -98,12 +98,12 @@ module _ (width : ℕ) (states : List OwnerState) (start : List ℕ) where
   all_counted i counts past so_far c below = rw (take_all i states past) at (so_far.counted c below)
 
 -- what is pending of all owners, as a sum
-pub pending_is : (states : List OwnerState) (c : ℕ) → sum_ints (λ (state : OwnerState). pending_at state.pending c) states ≡ pending_in states c
+pub pending_is : (states : List OwnerState) (c : ℕ) → sum_ints (λ (state : OwnerState). delta_at state.pending c) states ≡ pending_in states c
 pending_is [] c = refl
-pending_is (state ∷ states) c = ap (λ (sum : ℤ). pending_at state.pending c +ℤ sum) (pending_is states c)
+pending_is (state ∷ states) c = ap (λ (sum : ℤ). delta_at state.pending c +ℤ sum) (pending_is states c)
 
 -- all owners
-module _ (h : OwnersState) (are : AreRuled h) where
+module _ (h : OwnersState) (are : AreOwners h) where
   -- there are at most thirty-two
   pub few_states : length (states_in h.owners) ≤ 32
   few_states =
@@ -156,7 +156,7 @@ module _ (h : OwnersState) (are : AreRuled h) where
         omega (arith, ints)
 
     -- the nets of all owners, added to zeros, are what is published
-    pub added_published : (i : ℕ) (zeros sums : List ℤ) → ((k : ℕ) → pending_at zeros k ≡ pos 0) → length h.owners ≤ i → AreAdded nets 0 (states_in h.owners) zeros sums i → pending_at sums c ≡ published (store_in h) c
+    pub added_published : (i : ℕ) (zeros sums : List ℤ) → ((k : ℕ) → delta_at zeros k ≡ pos 0) → length h.owners ≤ i → AreAdded nets 0 (states_in h.owners) zeros sums i → delta_at sums c ≡ published (store_in h) c
     added_published i zeros sums none past added =
         let begins = none c in
         let same = length-map h.owners state_of in
@@ -165,8 +165,8 @@ module _ (h : OwnersState) (are : AreRuled h) where
         omega (arith, ints)
 
 -- what is pending of all owners, added to zeros, is their sum
-pub added_pending : (owners : List RegionOwner) (i : ℕ) (zeros sums : List ℤ) → ((k : ℕ) → pending_at zeros k ≡ pos 0) → length owners ≤ i → AreAdded deltas 0 (states_in owners) zeros sums i
-    → (c : ℕ) → c < CELLS → pending_at sums c ≡ unposted owners c
+pub added_pending : (owners : List RegionOwner) (i : ℕ) (zeros sums : List ℤ) → ((k : ℕ) → delta_at zeros k ≡ pos 0) → length owners ≤ i → AreAdded deltas 0 (states_in owners) zeros sums i
+    → (c : ℕ) → c < CELLS → delta_at sums c ≡ unposted owners c
 added_pending owners i zeros sums none past added c below =
     let begins = none c in
     let same = length-map owners state_of in
@@ -175,7 +175,7 @@ added_pending owners i zeros sums none past added c below =
     omega (arith, ints)
 
 -- and the counts of all, added to zeros, are those of all rows
-pub added_counts : (h : OwnersState) (are : AreRuled h) (i : ℕ) (zeros counts : List ℕ) → ((k : ℕ) → get_or zeros k 0 ≡ 0) → length h.owners ≤ i → AreCounted h.width (states_in h.owners) zeros counts i
+pub added_counts : (h : OwnersState) (are : AreOwners h) (i : ℕ) (zeros counts : List ℕ) → ((k : ℕ) → get_or zeros k 0 ≡ 0) → length h.owners ≤ i → AreCounted h.width (states_in h.owners) zeros counts i
     → (c : ℕ) → c < CELLS → get_or counts c 0 ≡ cell h.width c (book_in h.owners)
 added_counts h are i zeros counts none past counted c below =
     let begins = none c in

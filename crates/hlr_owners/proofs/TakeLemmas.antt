@@ -1,5 +1,5 @@
 -- A take among all owners: the piece's owner goes, and the part's stands for both.
-use Rattle.hlr_owners.proofs.Common.{◌≡◌, ◌∙◌, refl, sym, ℕ, ◌+◌, ◌<◌, List, length, get_or, set, arith, true, Some, subst, Ok, remove, insert, position, Box, Global, position-Some, length-remove, AllZip-long, Touch, piece_index, is_piece, joined, take_answer, Place, Region, Side, Low, High, is_part_there, regions-joined, IsPair, part_index, pair, places, stands, touch, join_edit, joint_region, joint_place, blank, PieceState, IsHolding, IsTaken, out_of, with_outs, PartOwnerState, book_in, desks_in, of_parts, store_in, IsKind, IsPartHome, IsRegionOwner, OwnersState, AreRuled, taker, RegionOwner, Part, Piece}
+use Rattle.hlr_owners.proofs.Common.{◌≡◌, ◌∙◌, refl, sym, ℕ, ◌+◌, ◌<◌, List, length, get_or, set, arith, true, Some, subst, Ok, remove, insert, position, Box, Global, position-Some, length-remove, AllZip-long, Touch, piece_index, is_piece, joined, take_answer, Place, Region, Side, Low, High, is_part_there, regions-joined, IsPair, part_index, pair, places, stands, touch, join_edit, joint_region, joint_place, blank, HoldingState, PieceState, IsHolding, IsTaken, out_of, with_outs, PartOwnerState, book_in, desks_in, of_parts, store_in, IsKind, IsPartHome, IsRegionOwner, OwnersState, AreOwners, taker, RegionOwner, Part, Piece}
 use Rattle.part_table.specs.declared.region.Place.TheVariants as place
 use Rattle.part_table.proofs.PairLemmas.{within}
 use Rattle.hlr_owners.proofs.EditLemmas.{LeavesMoved}
@@ -16,7 +16,7 @@ taker_is : (side : Side) (i : ℕ) → taker side (piece_index side i) ≡ i
 taker_is Low i = refl
 taker_is High i = omega arith
 
-module _ (h : OwnersState) (are : AreRuled h) (n q : ℕ) (side : Side) (j : ℕ) (index : position (is_piece n) h.regions ≡ Some j) (answer : take_answer n q h.regions ≡ Ok side) where
+module _ (h : OwnersState) (are : AreOwners h) (n q : ℕ) (side : Side) (j : ℕ) (index : position (is_piece n) h.regions ≡ Some j) (answer : take_answer n q h.regions ≡ Ok side) where
   abbrev two : IsPair n q side h.regions
   two = pair n q side h.regions are.are j index answer
 
@@ -41,7 +41,7 @@ module _ (h : OwnersState) (are : AreRuled h) (n q : ℕ) (side : Side) (j : ℕ
   pub piece_there : j < length h.owners
   piece_there = let lt = (position-Some (is_piece n) h.regions j blank index).0 in omega (arith, long)
 
-  -- a piece owns it
+  -- the owner is a piece
   piece_owner : (s : RegionOwner) → s ≡ get_or h.owners j s → IsRegionOwnerIn h.width (book_in h.owners) piece s
   piece_owner s is = owner_in h are (piece_index side two.i) s (rw at at is) inside.0
 
@@ -89,8 +89,8 @@ module _ (h : OwnersState) (are : AreRuled h) (n q : ℕ) (side : Side) (j : ℕ
     taken_touch = meets_touch side b.value.part l.holding.part meets
 
     -- a refusal leaves all owners
-    pub put_again : (m : PartOwnerState) (c : Box PieceState Global) → m ≡ l → c ≡ b → insert (set (remove h.owners j) (taker side j) (Part m)) j (Piece c) ≡ h.owners
-    put_again m c same one = rw (same, one, set_same (remove h.owners j) (taker side j) (Part l) is) (put_back h.owners j (Piece b) piece_there stood)
+    pub put_again : (k : HoldingState) (c : Box PieceState Global) → k ≡ l.holding → c ≡ b → insert (set (remove h.owners j) (taker side j) (Part (record l { holding = k }))) j (Piece c) ≡ h.owners
+    put_again k c same one = rw (same, one, set_same (remove h.owners j) (taker side j) (Part l) is) (put_back h.owners j (Piece b) piece_there stood)
 
     module _ (m : PartOwnerState) (taken : IsTaken l.holding b.value m.holding) (keeps : IsHolding m.holding) where
       -- the owners after it
@@ -106,7 +106,7 @@ module _ (h : OwnersState) (are : AreRuled h) (n q : ℕ) (side : Side) (j : ℕ
       whole_kind : IsKind (joint_region side piece part).place (Part m)
       whole_kind = rw (joint_place side piece part, placed.1) tt
 
-      taken_owners : AreRuled (record h { regions = joined n q h.regions; owners = melded }) × (book_in melded ≡ book_in h.owners)
+      taken_owners : AreOwners (record h { regions = joined n q h.regions; owners = melded }) × (book_in melded ≡ book_in h.owners)
       taken_owners = owners_in h are (joined n q h.regions) melded h.spare (regions-joined n q h.regions are.are) (rw (melded_is, join_edit n q side h.regions are.are j index answer)
           (zip_remove (IsRegionOwnerIn h.width (book_in h.owners)) (set h.regions two.i (joint_region side piece part)) (set h.owners two.i (Part m)) (two.i + 1)
           (zip_set (IsRegionOwnerIn h.width (book_in h.owners)) h.regions h.owners two.i (joint_region side piece part) (Part m) (each_in h are) (record {
@@ -125,24 +125,25 @@ module _ (h : OwnersState) (are : AreRuled h) (n q : ℕ) (side : Side) (j : ℕ
       taken_store = rw (taken_owners.1, taken_desks) refl
 
 -- it is so whatever those that are out have become
-pub all_taken : (h : OwnersState) (are : AreRuled h) (n q : ℕ) (side : Side) (j : ℕ) (index : position (is_piece n) h.regions ≡ Some j) (answer : take_answer n q h.regions ≡ Ok side)
+pub all_taken : (h : OwnersState) (are : AreOwners h) (n q : ℕ) (side : Side) (j : ℕ) (index : position (is_piece n) h.regions ≡ Some j) (answer : take_answer n q h.regions ≡ Ok side)
     (b : Box PieceState Global) (stood : Piece b ≡ get_or h.owners j (Piece b)) (l : PartOwnerState) (is : Part l ≡ get_or (remove h.owners j) (taker side j) (Part l)) → IsPartHome q h
-    → (m : PartOwnerState) → IsTaken l.holding b.value m.holding → IsHolding m.holding → m.home ≡ true
-    → LeavesMoved h (record h { regions = joined n q h.regions; owners = set (remove h.owners j) (taker side j) (Part m) })
-all_taken h are n q side j index answer b stood l is home m taken keeps still =
+    → (k : HoldingState) → IsTaken l.holding b.value k → IsHolding k
+    → LeavesMoved h (record h { regions = joined n q h.regions; owners = set (remove h.owners j) (taker side j) (Part (record l { holding = k })) })
+all_taken h are n q side j index answer b stood l is home k taken keeps =
+    let m : PartOwnerState = record l { holding = k } in
     let was = taker_home h are n q side j index answer l is home in
     record {
       ruled = (taken_owners h are n q side j index answer b stood l is m taken keeps).0;
       desks = taken_desks h are n q side j index answer b stood l is m taken keeps;
       store = taken_store h are n q side j index answer b stood l is m taken keeps;
       alone = record {
-        homes = taken_parts h are n q side j index answer b stood l is m taken keeps (λ (o : PartOwnerState). o.home) (still ∙ sym was);
-        outs = taken_parts h are n q side j index answer b stood l is m taken keeps out_of (none_out l m was still);
+        homes = taken_parts h are n q side j index answer b stood l is m taken keeps (λ (o : PartOwnerState). o.home) refl;
+        outs = taken_parts h are n q side j index answer b stood l is m taken keeps out_of (none_out l k was);
         same = refl;
         while_out = λ ks become.
             let left = outs-remove h.owners ks j b stood in
             let there = rw left at (outs-at (remove h.owners j) ks (taker side j) (Part l) is was) in
-            rw (outs-set (remove h.owners j) ks (taker side j) l m is still, left)
+            rw (outs-set (remove h.owners j) ks (taker side j) l m is was, left)
             (taken_store (record h { owners = with_outs h.owners ks }) (ruled_later h (with_outs h.owners ks) are become) n q side j index answer b (outs-at h.owners ks j (Piece b) stood refl) l there m taken keeps);
       };
     }

@@ -7,7 +7,7 @@ use Rattle.part_table.specs.declared.region.Region.{Region}
 use Rattle.view_board.specs.Nets.{net_of}
 use Rattle.view_board.specs.Views.{nobody}
 use Rattle.view_board.specs.declared.rule.View.{View}
-use Rattle.view_delta.specs.Pending.{pending_at}
+use Rattle.view_delta.specs.Pending.{delta_at}
 use Rattle.holding.specs.Held.{HoldingState, PieceState, HasSmallNets, count_of}
 
 -- an owner of rows: a part's holding, or a loose piece, of which nobody has published anything
@@ -27,12 +27,12 @@ of_piece piece = record { part = piece.part; pending = piece.pending; view = nob
 -- what is pending of a cell in all owners together
 abbrev pub pending_in : List OwnerState → ℕ → ℤ
 pending_in [] c = pos 0
-pending_in (state ∷ states) c = pending_at state.pending c +ℤ pending_in states c
+pending_in (state ∷ states) c = delta_at state.pending c +ℤ pending_in states c
 
 -- the local law: what is published of a cell and what is pending of it are the count over the owner's rows
 pub record IsLawful (state : OwnerState) : Type 0 where
   pub rules : IsPart state.part
-  pub law : (c : ℕ) → c < CELLS → net_of state.view c +ℤ pending_at state.pending c ≡ pos (count_of state.part c)
+  pub law : (c : ℕ) → c < CELLS → net_of state.view c +ℤ delta_at state.pending c ≡ pos (count_of state.part c)
   pub small : HasSmallNets state.view
 
 -- the rules of the owner of a region: it has the rows of the region and no others, and keeps the local law

@@ -6,9 +6,10 @@ pub mod Desks
 pub mod Gather
 pub mod Held
 pub mod Inside
+pub mod Lends
 pub mod PartOwnerState
 pub mod Out
-pub mod Parted
+pub mod PartChanges
 pub mod Post
 pub mod Posting
 pub mod Read

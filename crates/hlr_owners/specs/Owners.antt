@@ -100,7 +100,7 @@ store_in h = record {
 }
 
 -- the rules that all owners keep together
-pub record AreRuled (h : OwnersState) : Type 0 where
+pub record AreOwners (h : OwnersState) : Type 0 where
   pub are : AreRegions h.regions
   pub each : AllZip (IsRegionOwner h.width) h.regions h.owners
   pub zones : IsWidth h.width

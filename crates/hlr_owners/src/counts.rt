@@ -3,7 +3,7 @@ ghost use Rattle.std.specs.Prelude.{◌≡◌, ℕ, ◌<◌, ◌+ℤ◌, true, p
 ghost use Rattle.tatp_actions.specs.Cell.{cell};
 ghost use Rattle.tatp_actions.specs.declared.cells.TheConstants.{CELLS};
 ghost use Rattle.view_board.specs.Nets.{net_of};
-ghost use Rattle.view_delta.specs.Pending.{pending_at};
+ghost use Rattle.view_delta.specs.Pending.{delta_at};
 ghost use Rattle.holding.specs.Held.{count_of};
 ghost use Rattle.std.specs.List.{AllByRecursion};
 ghost use Rattle.hlr_owners.specs.Desks.{HasOneSlot};
@@ -33,8 +33,8 @@ impl RegionOwner {
 fn add_published(sums: &mut [i64; CELLS as usize], owner: &RegionOwner)
     requires home { is_home owner.now ≡ true }
     requires alone { AllByRecursion HasOneSlot (desk_at owner.now) }
-    requires sums { AreSummable (pending_at sums.old) }
-    ensures { (c : ℕ) → c < CELLS → pending_at sums.new c ≡ pending_at sums.old c +ℤ net_of (state_of owner.now).view c }
+    requires sums { AreSummable (delta_at sums.old) }
+    ensures { (c : ℕ) → c < CELLS → delta_at sums.new c ≡ delta_at sums.old c +ℤ net_of (state_of owner.now).view c }
 {
     match owner {
         RegionOwner::Part(part_owner) => part_owner.holding().add_nets(sums),
@@ -44,9 +44,9 @@ fn add_published(sums: &mut [i64; CELLS as usize], owner: &RegionOwner)
 
 /// Adds what is pending of each cell with an owner to a sum. Neither is past 2^60, either way.
 fn add_deltas<O: RangeOwner>(sums: &mut [i64; CELLS as usize], state: &O)
-    requires sums { AreSummable (pending_at sums.old) }
-    requires pending { AreSummable (pending_at (O.deltas_of state.now)) }
-    ensures { (c : ℕ) → c < CELLS → pending_at sums.new c ≡ pending_at sums.old c +ℤ pending_at (O.deltas_of state.now) c }
+    requires sums { AreSummable (delta_at sums.old) }
+    requires pending { AreSummable (delta_at (O.deltas_of state.now)) }
+    ensures { (c : ℕ) → c < CELLS → delta_at sums.new c ≡ delta_at sums.old c +ℤ delta_at (O.deltas_of state.now) c }
 {
     for cell in 0..CELLS {
         sums[usize::from(cell)] += state.delta(cell);
@@ -56,9 +56,9 @@ fn add_deltas<O: RangeOwner>(sums: &mut [i64; CELLS as usize], state: &O)
 /// The same with the owner of a region.
 fn add_pending(sums: &mut [i64; CELLS as usize], owner: &RegionOwner)
     requires home { is_home owner.now ≡ true }
-    requires sums { AreSummable (pending_at sums.old) }
-    requires pending { AreSummable (pending_at (state_of owner.now).pending) }
-    ensures { (c : ℕ) → c < CELLS → pending_at sums.new c ≡ pending_at sums.old c +ℤ pending_at (state_of owner.now).pending c }
+    requires sums { AreSummable (delta_at sums.old) }
+    requires pending { AreSummable (delta_at (state_of owner.now).pending) }
+    ensures { (c : ℕ) → c < CELLS → delta_at sums.new c ≡ delta_at sums.old c +ℤ delta_at (state_of owner.now).pending c }
 {
     match owner {
         RegionOwner::Part(part_owner) => add_deltas(sums, part_owner.holding()),

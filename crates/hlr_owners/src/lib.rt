@@ -1,10 +1,7 @@
-//! Who owns the rows of each region: a part's holding, at home or lent, or a loose piece.
-//!
-//! `Owners` has an owner for each region in key order, the board of published words, and the spare desk. Edits and reads go
-//! to the owner of their subscriber's region, and postings to that of a part. Gives, takes, re-cuts, divides and
-//! dissolves move rows from owner to owner. `scatter` takes the owners apart into holdings and pieces for threads of the
-//! caller's, and `gathered` makes owners of them again. A part is lent by `lend` and comes home by `back`; what is done
-//! meanwhile asks that those on whom it works are at home.
+//! The owners of all regions, in key order, with the board and the spare desk: edits and reads go to the owner of their
+//! subscriber's region, postings to that of a part, and gives, takes, re-cuts, divides and dissolves move rows from
+//! owner to owner. A call looks at up to 32 regions, and then costs what it costs the holding or piece. A part that was
+//! lent has its rows elsewhere until it comes home: calls that work on it ask that it is at home.
 #![tactic(auto)]
 
 mod counts;

@@ -49,7 +49,7 @@ impl Owners {
     {
         let (i, told) = self.regions.giving(part, side, at)?;
         let piece = match &mut self.owners[i] {
-            RegionOwner::Part(part_owner) => part_owner.give(side, at as u32)?,
+            RegionOwner::Part(part_owner) => part_owner.holding_mut().give(side, at as u32)?,
             RegionOwner::Piece(_) => unreachable!(),
         };
         insert_reserved(
@@ -77,7 +77,7 @@ impl Owners {
             unreachable!()
         };
         let done = match &mut self.owners[taker(side, i)] {
-            RegionOwner::Part(part_owner) => part_owner.take(taken),
+            RegionOwner::Part(part_owner) => part_owner.holding_mut().take(taken),
             RegionOwner::Piece(_) => unreachable!(),
         };
         if let Err(back) = done {

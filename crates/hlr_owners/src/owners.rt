@@ -15,7 +15,7 @@ ghost use Rattle.tatp_actions.specs.Part.{IsWidth};
 ghost use Rattle.view_board.specs.Desks.{with_view};
 ghost use Rattle.view_board.specs.Views.{looked};
 ghost use Rattle.hlr_owners.specs.Desks.{AreDesks};
-ghost use Rattle.hlr_owners.specs.Owners.{AreRuled, IsHomeFor, book_in, desks_in, homes_in, store_in};
+ghost use Rattle.hlr_owners.specs.Owners.{AreOwners, IsHomeFor, book_in, desks_in, homes_in, store_in};
 
 use crate::part_owner::RegionOwner;
 use crate::prepared::Rooms;
@@ -43,13 +43,13 @@ impl Model for Owners {
     ghost use Rattle.std.specs.Prelude.{◌≤◌, vec_capacity};
     ghost use Rattle.std.specs.Arc.{arc_value};
     ghost use Rattle.hlr_owners.specs.Desks.{AreDesks};
-    ghost use Rattle.hlr_owners.specs.Owners.{OwnersState, AreRuled, desks_in};
+    ghost use Rattle.hlr_owners.specs.Owners.{OwnersState, AreOwners, desks_in};
 
     ghost Value = { OwnersState };
 
     ghost view = { λ h. record { regions = h.regions; owners = h.owners.items; spare = h.spare; width = h.width } };
 
-    ghost invariant = { λ h. AreRuled (record { regions = h.regions; owners = h.owners.items; spare = h.spare; width = h.width })
+    ghost invariant = { λ h. AreOwners (record { regions = h.regions; owners = h.owners.items; spare = h.spare; width = h.width })
         × AreDesks (arc_value h.board) h.spare (desks_in h.owners.items) × (32 ≤ vec_capacity h.owners) };
 }
 
@@ -125,7 +125,7 @@ impl Owners {
         ensures while_out { IsAnsweredWhileOut (E.action edit) self.old (done_reply result) self.new }
     {
         match &mut self.owners[i] {
-            RegionOwner::Part(part_owner) => part_owner.edit(edit),
+            RegionOwner::Part(part_owner) => part_owner.holding_mut().edit(edit),
             RegionOwner::Piece(_) => Err(moving(&edit.to_action())),
         }
     }
@@ -177,7 +177,7 @@ impl Owners {
     /// its slots.
     pub fn board(&self) -> &Arc<Board>
         ensures board { arc_value result.now ≡ self.now.spare.board }
-        ensures ruled { AreRuled self.now }
+        ensures ruled { AreOwners self.now }
         ensures desks { AreDesks (arc_value result.now) self.now.spare (desks_in self.now.owners) }
     {
         &self.board

@@ -3,7 +3,7 @@ ghost use Rattle.std.specs.Prelude.{◌-◌};
 ghost use Rattle.part_table.specs.Dissolve.{dissolve_answer};
 ghost use Rattle.part_table.specs.Divide.{divide_answer};
 ghost use Rattle.hlr_owners.specs.Answered.{MayAnswer};
-ghost use Rattle.hlr_owners.specs.Parted.{IsDissolved, IsDissolvedWhileOut, IsDivided, IsDividedWhileOut, AreHomesDissolved, AreHomesDivided};
+ghost use Rattle.hlr_owners.specs.PartChanges.{IsDissolved, IsDissolvedWhileOut, IsDivided, IsDividedWhileOut, AreHomesDissolved, AreHomesDivided};
 ghost use Rattle.hlr_owners.specs.Owners.{IsHomeFrom, store_in};
 
 use crate::opening::split_off;
@@ -29,11 +29,11 @@ impl Owners {
             unreachable!()
         };
         let desk = split_off(&self.board, &mut self.spare, slot)?;
-        let parted = match &mut self.owners[i] {
-            RegionOwner::Part(part_owner) => part_owner.divide(at as u32, desk),
+        let divided = match &mut self.owners[i] {
+            RegionOwner::Part(part_owner) => part_owner.holding_mut().divide(at as u32, desk),
             RegionOwner::Piece(_) => unreachable!(),
         };
-        let holding = match parted {
+        let holding = match divided {
             Ok(holding) => holding,
             Err(back) => {
                 self.board.join(&mut self.spare, back.item);
@@ -65,7 +65,9 @@ impl Owners {
             unreachable!()
         };
         let merged = match &mut self.owners[i - 1] {
-            RegionOwner::Part(front) => front.dissolve(&self.board, part_owner.lend()),
+            RegionOwner::Part(front) => front
+                .holding_mut()
+                .dissolve(&self.board, part_owner.lend()),
             RegionOwner::Piece(_) => unreachable!(),
         };
         match merged {

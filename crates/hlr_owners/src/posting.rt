@@ -25,7 +25,7 @@ impl Owners {
             return Err(Refusal::NoPart);
         };
         match &mut self.owners[i] {
-            RegionOwner::Part(part_owner) => part_owner.post(&self.board, limit),
+            RegionOwner::Part(part_owner) => part_owner.holding_mut().post(&self.board, limit),
             RegionOwner::Piece(_) => unreachable!(),
         }
     }

@@ -2,7 +2,7 @@
 ghost use Rattle.std.specs.Prelude.{◌≡◌, ℕ, ◌<◌, List, ℤ};
 ghost use Rattle.tatp_actions.specs.declared.cells.TheConstants.{CELLS};
 ghost use Rattle.part_table.specs.declared.region.Region.{Region};
-ghost use Rattle.view_delta.specs.Pending.{pending_at};
+ghost use Rattle.view_delta.specs.Pending.{delta_at};
 ghost use Rattle.holding.specs.Held.{IsHolding, IsPiece};
 ghost use Rattle.hlr_owners.specs.Gather.{holding_range, piece_range};
 
@@ -31,7 +31,7 @@ pub(crate) trait RangeOwner {
     /// What is pending of a cell.
     fn delta(&self, cell: u8) -> i64
         requires { cell < CELLS }
-        ensures { result ≡ pending_at (deltas_of self.now) cell };
+        ensures { result ≡ delta_at (deltas_of self.now) cell };
 }
 
 impl RangeOwner for Holding {

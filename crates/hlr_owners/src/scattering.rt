@@ -11,7 +11,7 @@ ghost use Rattle.hlr_owners.specs.Owners.{AllHome, book_in, store_in, unposted, 
 
 use crate::owners::Owners;
 use crate::prepared::{Prepared, Rooms};
-use crate::scatter::{owners_of, parted};
+use crate::scatter::{owners_of, split_owners};
 use crate::scattered::{Frame, Scattered};
 use tatp_rows::LAST_SUBSCRIBER;
 
@@ -41,7 +41,7 @@ impl Owners {
             ..
         } = self;
         let Rooms { holdings, pieces } = rooms;
-        let (holdings, pieces) = parted(owners, holdings, pieces);
+        let (holdings, pieces) = split_owners(owners, holdings, pieces);
         Scattered {
             frame: Frame {
                 board,

@@ -60,8 +60,8 @@ replies_send =
     Vec-send (TupleAt (40 ∷ 44 ∷ 41 ∷ []) (u64-field.row ∷ Reply.the_row ∷ [])) (tuple_send (40 ∷ 44 ∷ 41 ∷ []) (u64-field.row ∷ Reply.the_row ∷ []) (number, (reply_send, tt)))
 
 -- a pass, and the queue that is shared
-pub port_send : IsSend (Seat.the_row (Option.the_row Message.the_row) (Doing.the_row Message.the_row Log.the_row))
-port_send = seat_send (Option.the_row Message.the_row) (Doing.the_row Message.the_row Log.the_row) option_send
+pub pass_send : IsSend (Seat.the_row (Option.the_row Message.the_row) (Doing.the_row Message.the_row Log.the_row))
+pass_send = seat_send (Option.the_row Message.the_row) (Doing.the_row Message.the_row Log.the_row) option_send
 
 line_send : IsSend (Slotted.the_row (Option.the_row Message.the_row) (Doing.the_row Message.the_row Log.the_row) (Turns.the_row InOrder.the_row) Heap.the_row (turns.ghosts Message.the_row Log.the_row InOrder.the_row order.ghosts turns.no_dict) heap.ghosts)
 line_send = slotted_send (Option.the_row Message.the_row) (Doing.the_row Message.the_row Log.the_row) (Turns.the_row InOrder.the_row) Heap.the_row (turns.ghosts Message.the_row Log.the_row InOrder.the_row order.ghosts turns.no_dict) heap.ghosts option_send heap_send frees
@@ -89,4 +89,4 @@ byte_send = search sendable
 
 -- what the thread hands back
 pub finished_send : IsSend Finished.the_row
-finished_send = let pass = port_send in let lent = lent_send in let replies = replies_send in search sendable depth 20
+finished_send = let pass = pass_send in let lent = lent_send in let replies = replies_send in search sendable depth 20

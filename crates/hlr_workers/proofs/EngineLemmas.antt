@@ -17,7 +17,7 @@ use Rattle.part_table.specs.Recut.{recut_answer}
 use Rattle.part_table.specs.declared.moves.CutMove.{CutMove}
 use Rattle.part_table.specs.Regions.{parts_of}
 use Rattle.hlr_owners.specs.Recut.{IsHomeToCut, IsHomeToMove}
-use Rattle.hlr_owners.specs.Owners.{AllHome, AreRuled, IsLent, OwnersState, desks_in, part_holdings, homes_in, of_parts, store_in}
+use Rattle.hlr_owners.specs.Owners.{AllHome, AreOwners, IsLent, OwnersState, desks_in, part_holdings, homes_in, of_parts, store_in}
 use Rattle.hlr_owners.specs.Store.{Store}
 use Rattle.hlr_owners.specs.declared.part_owner.RegionOwner.{RegionOwner}
 use Rattle.hlr_owners.specs.declared.part_owner.RegionOwner.TheVariants.{Part, Piece}
@@ -35,14 +35,14 @@ use Rattle.hlr_core.specs.declared.event.Event.TheVariants.{SubscriberData, NewD
 use Rattle.hlr_core.specs.declared.event.Reply.{Reply}
 use Rattle.hlr_core.proofs.HomeLemmas.{desk_same}
 use Rattle.hlr_core.proofs.LaterLemmas.{all_later_after, all_later_self, all_ruled_later, put_later}
-use Rattle.hlr_workers.specs.Inside.{AreBrought, AreIdle, IsAnswered, IsBehind, IsHomeAgain, IsOut, AreWorkersParted, IsSentTo, Parting, put_answers, parted, parting_of}
+use Rattle.hlr_workers.specs.Inside.{AreBrought, AreIdle, IsAnswered, IsBehind, IsHomeAgain, IsOut, AreWorkersChanged, IsSentTo, PartChange, put_answers, with_part_change, part_change_of}
 use Rattle.hlr_workers.specs.Kept.{AllNumberless, WorkersState, IsKept, NoneOut, engaged}
 use Rattle.hlr_workers.specs.Relay.{nothing}
 use Rattle.hlr_workers.specs.Session.{AreNumberless}
 use Rattle.hlr_workers.specs.Standing.{AreEnds, Cut, IsAsBefore, IsSettled, Stands, Took, TookNext, answers_by, answers_with, changes_parts, orders_of, store_at}
 use Rattle.hlr_workers.proofs.WorkersLemmas.{as_homes, as_parts, lent_outs, numberless_of, out_part}
 use Rattle.hlr_workers.proofs.RegisterLemmas.{IsPartAt, ends_later, out_done, out_ends, out_owners, part_at, owner_store, with_outs_same}
-use Rattle.hlr_workers.proofs.PartingLemmas.{all_parted, ends_alike, ends_parted, numbered_parted, order_parted, parted_long, undone}
+use Rattle.hlr_workers.proofs.PartChangeLemmas.{all_changed, ends_alike, ends_changed, numbered_changed, order_changed, changed_long, undone}
 use Rattle.hlr_workers.proofs.SessionLemmas.{numberless_more}
 use Rattle.hlr_workers.proofs.StandingLemmas.{CameHome, came_home, ends_long, get_there, put_answers-length, leads_back, leads_cut, leads_lent, leads_new, leads_sent, leads_settled, leads_told, order_new, order_sent, order_told}
 use Rattle.hlr_workers.proofs.UnseenLemmas.{recut_unseen, seen_as, step_unseen}
@@ -63,7 +63,7 @@ at_home : (l : PartOwnerState) → out_of l ≡ None → l.home ≡ true
 at_home l none = by_test l.home (λ e. e) (λ e. absurd (none-some l.holding (sym none ∙ ap (λ (b : Bool). if b then None else Some l.holding) e)))
 
 -- a part in the place of another
-module _ (h : OwnersState) (are : AreRuled h) (p i : ℕ) (l : PartOwnerState) (at : IsPartAt h p i l) where
+module _ (h : OwnersState) (are : AreOwners h) (p i : ℕ) (l : PartOwnerState) (at : IsPartAt h p i l) where
   -- a part at home and one that is out, with the same holding, make the same store
   flag_store : (a : Store) (ends : List HoldingState) (m n : PartOwnerState) (y : HoldingState) → slice_get ends p ≡ Some y → (with_out m y).holding ≡ (with_out n y).holding
       → store_at a (record h { owners = set h.owners i (Part m) }) ends ≡ store_at a (record h { owners = set h.owners i (Part n) }) ends
@@ -108,15 +108,15 @@ module _ (workers : WorkersState) (replies : List (ℕ × Reply)) (kept : IsKept
     }
 
   -- the register itself did an event
-  module _ (after : WorkersState) (told : Parting) (is : AreWorkersParted told workers after) where
+  module _ (after : WorkersState) (told : PartChange) (is : AreWorkersChanged told workers after) where
     pub here_took : (event : Event) (r : Reply) → IsStepWhileOut event workers.register r after.register → TookNext (Took event) (engaged workers replies) (engaged after (replies ++ (length replies, r) ∷ []))
     here_took event r right = λ start asked stands.
         rw (is.jobs, is.outs)
         (leads_told (outs_in workers.register.owners) workers.jobs replies kept.order (store_at start workers.register) (store_at start after.register) start asked
-        (parted told None (outs_in workers.register.owners)) (parted told [] workers.jobs) back (λ k. numbered_parted k told workers.jobs idle) ends_back event r
+        (with_part_change told None (outs_in workers.register.owners)) (with_part_change told [] workers.jobs) back (λ k. numbered_changed k told workers.jobs idle) ends_back event r
         (λ reply ends are.
         let later = ends_later reply workers.register.owners workers.jobs (back ends) kept.none (ends_back reply ends are) in
-        let long = ends_long reply (parted told None (outs_in workers.register.owners)) (parted told [] workers.jobs) ends are in
+        let long = ends_long reply (with_part_change told None (outs_in workers.register.owners)) (with_part_change told [] workers.jobs) ends are in
         step_unseen start.sight event (store_in (register_with workers.register (back ends))) r (store_in (register_with after.register ends))
         (subst (λ (owners : List RegionOwner). IsStep event (store_in (register_with workers.register (back ends))) r (store_in (with_owners after.register owners))) (same ends long) (right (back ends) later))) stands)
       where
@@ -124,19 +124,19 @@ module _ (workers : WorkersState) (replies : List (ℕ × Reply)) (kept : IsKept
         idle q behind = is.idle q (is.home q behind)
 
         back : List HoldingState → List HoldingState
-        back ends = parted (undone told) nothing ends
+        back ends = with_part_change (undone told) nothing ends
 
-        ends_back : (reply : ℕ → Reply) (ends : List HoldingState) → AreEnds reply (parted told None (outs_in workers.register.owners)) (parted told [] workers.jobs) ends → AreEnds reply (outs_in workers.register.owners) workers.jobs (back ends)
-        ends_back reply ends are = ends_parted reply told (outs_in workers.register.owners) workers.jobs ends kept.paired is.place is.home are
+        ends_back : (reply : ℕ → Reply) (ends : List HoldingState) → AreEnds reply (with_part_change told None (outs_in workers.register.owners)) (with_part_change told [] workers.jobs) ends → AreEnds reply (outs_in workers.register.owners) workers.jobs (back ends)
+        ends_back reply ends are = ends_changed reply told (outs_in workers.register.owners) workers.jobs ends kept.paired is.place is.home are
 
-        same : (ends : List HoldingState) → length ends ≡ length (parted told None (outs_in workers.register.owners)) → with_outs after.register.owners (back ends) ≡ with_outs after.register.owners ends
+        same : (ends : List HoldingState) → length ends ≡ length (with_part_change told None (outs_in workers.register.owners)) → with_outs after.register.owners (back ends) ≡ with_outs after.register.owners ends
         same ends long = with_outs_same after.register.owners (back ends) ends (rw (is.outs) (ends_alike told (outs_in workers.register.owners) ends is.place long is.home))
 
     pub here_kept : (r : Reply) → IsKept after (replies ++ (length replies, r) ∷ [])
     here_kept r = record {
-      paired = rw (is.jobs, is.outs) (parted_long told [] None workers.jobs (outs_in workers.register.owners) kept.paired);
-      none = rw (is.jobs) (all_parted AreNumberless told [] workers.jobs tt kept.none);
-      order = rw (is.jobs) (order_parted told workers.jobs (replies ++ (length replies, r) ∷ []) (λ q behind. is.idle q (is.home q behind)) (order_told (outs_in workers.register.owners) workers.jobs replies kept.order r));
+      paired = rw (is.jobs, is.outs) (changed_long told [] None workers.jobs (outs_in workers.register.owners) kept.paired);
+      none = rw (is.jobs) (all_changed AreNumberless told [] workers.jobs tt kept.none);
+      order = rw (is.jobs) (order_changed told workers.jobs (replies ++ (length replies, r) ∷ []) (λ q behind. is.idle q (is.home q behind)) (order_told (outs_in workers.register.owners) workers.jobs replies kept.order r));
     }
 
 -- owners that differ in whether a part is at home
@@ -152,7 +152,7 @@ out_later p workers mid out = elim out.1 [
     away_later : (k : HoldingState) → IsLater (Part (record { holding = k; home = true })) (Part (record { holding = k; home = false }))
     away_later k = record { owner = (record { lo = refl; hi = refl; width = refl; board = refl; owned = refl }, λ lawful. lawful, λ wide. wide); numbers = refl }
 
-module _ (workers : WorkersState) (replies : List (ℕ × Reply)) (kept : IsKept workers replies) (are : AreRuled workers.register) (p : ℕ) where
+module _ (workers : WorkersState) (replies : List (ℕ × Reply)) (kept : IsKept workers replies) (are : AreOwners workers.register) (p : ℕ) where
   -- a part went out
   lent_stands : (k : HoldingState) (g : OwnersState) → IsLent p workers.register k g → get_or workers.jobs p [] ≡ [] → IsAsBefore (engaged workers replies) (engaged (record { register = g; jobs = workers.jobs }) replies)
   lent_stands k g lent none = λ start asked stands.
@@ -205,7 +205,7 @@ module _ (workers : WorkersState) (replies : List (ℕ × Reply)) (kept : IsKept
         → IsJobDone job m (reply (length replies)) y → IsStep event (store_at start mid.register ends) (reply (length replies)) (store_at start mid.register (set ends p y))
     sent_law start reply ends m y ends_are end done =
         let later = out_later p workers mid out in
-        let ruled : AreRuled mid.register = rw later.1 (all_ruled_later workers.register mid.register.owners are later.0) in
+        let ruled : AreOwners mid.register = rw later.1 (all_ruled_later workers.register mid.register.owners are later.0) in
         let found = out_part mid.register ruled p out.2.0 out.2.1 in
         let owners = with_outs mid.register.owners ends in
         let next = with_outs mid.register.owners (set ends p y) in
@@ -246,7 +246,7 @@ module _ (workers : WorkersState) (replies : List (ℕ × Reply)) (kept : IsKept
     own : slice_get workers.jobs p ≡ Some (get_or workers.jobs p [])
     own = let paired = kept.paired in let low = out_low in slice_get-get_or workers.jobs p [] (omega arith)
 
-    -- where it sits
+    -- at which index it stands
     owner : IsPartAt workers.register p again.2 (record { holding = x; home = false })
     owner =
         let found = out_part workers.register are p x again.3 in
@@ -381,7 +381,7 @@ module _ {Z : Type 0} where
   pub brought_itself : (workers : WorkersState) (replies : Vec (ℕ × Reply) Z) → IsKept workers replies.items → AreBrought workers replies workers replies
   brought_itself workers replies kept = record { kept = kept; stands = λ start asked stood. stood; places = refl; capacity = refl; register = refl }
 
-  pub brought_some : (workers : WorkersState) (replies : Vec (ℕ × Reply) Z) → IsKept workers replies.items → AreRuled workers.register → (p : ℕ) (answers : List (ℕ × Reply)) (after : WorkersState) (filled : Vec (ℕ × Reply) Z)
+  pub brought_some : (workers : WorkersState) (replies : Vec (ℕ × Reply) Z) → IsKept workers replies.items → AreOwners workers.register → (p : ℕ) (answers : List (ℕ × Reply)) (after : WorkersState) (filled : Vec (ℕ × Reply) Z)
       → IsHomeAgain p workers (Some answers) after → filled.items ≡ put_answers replies.items answers → vec_capacity filled ≡ vec_capacity replies → AreBrought workers replies after filled
   brought_some workers replies kept are p answers after filled again items capacity = record {
     kept = rw items (home_kept workers replies.items kept are p answers after again);
@@ -456,7 +456,7 @@ none_next outs first p each q from low = elim (cases_lt q p) [
 ]
 
 -- all came home
-pub none_all : (before after : WorkersState) → after.register ≡ record before.register { owners = after.register.owners } → AreRuled after.register → (end : ℕ) → end ≡ length (parts_of before.register.regions)
+pub none_all : (before after : WorkersState) → after.register ≡ record before.register { owners = after.register.owners } → AreOwners after.register → (end : ℕ) → end ≡ length (parts_of before.register.regions)
     → ((q : ℕ) → q < end → get_or (outs_in after.register.owners) q None ≡ None) → NoneOut after
 none_all before after register are end is each =
     let count = as_parts after.register are in
@@ -476,7 +476,7 @@ sides_next outs moves k move there is each i d low = elim (cases_lt i k) [
 
 -- the register itself did an event, after the parts came home that work on it
 pub here_after : {Z : Type 0} (workers : WorkersState) (replies : Vec (ℕ × Reply) Z) (mid : WorkersState) (filled : Vec (ℕ × Reply) Z) → AreBrought workers replies mid filled
-    → (now : WorkersState) (r : Reply) → AreWorkersParted (parting_of r) mid now → (event : Event) → IsStepWhileOut event mid.register r now.register
+    → (now : WorkersState) (r : Reply) → AreWorkersChanged (part_change_of r) mid now → (event : Event) → IsStepWhileOut event mid.register r now.register
     → (changes_parts event ≡ false → now.register.spare ≡ mid.register.spare) → IsLaterDesk mid.register.spare now.register.spare → IsAnswered event r workers replies now filled
 here_after workers replies mid filled was now r is event step same later = record {
   kept = both.0;
@@ -493,8 +493,8 @@ here_after workers replies mid filled was now r is event step same later = recor
     both : IsKept now (filled.items ++ (length replies.items, r) ∷ []) × TookNext (Took event) (engaged workers replies.items) (engaged now (filled.items ++ (length replies.items, r) ∷ []))
     both =
         subst (λ (n : ℕ). IsKept now (filled.items ++ (n, r) ∷ []) × TookNext (Took event) (engaged workers replies.items) (engaged now (filled.items ++ (n, r) ∷ []))) was.places (
-          here_kept mid filled.items was.kept now (parting_of r) is r,
-          λ start asked stood. here_took mid filled.items was.kept now (parting_of r) is event r step start asked (was.stands start asked stood),
+          here_kept mid filled.items was.kept now (part_change_of r) is r,
+          λ start asked stood. here_took mid filled.items was.kept now (part_change_of r) is event r step start asked (was.stands start asked stood),
         )
 
 -- an engine with no job out
@@ -525,7 +525,7 @@ few_jobs workers replies kept p = elim (cases_lt p (length workers.jobs)) [
 ]
 
 -- a part that is there has a place for its jobs
-pub part_there : (workers : WorkersState) (replies : List (ℕ × Reply)) → IsKept workers replies → AreRuled workers.register → (p : ℕ) → p < length (homes_in workers.register.owners) → p < length workers.jobs
+pub part_there : (workers : WorkersState) (replies : List (ℕ × Reply)) → IsKept workers replies → AreOwners workers.register → (p : ℕ) → p < length (homes_in workers.register.owners) → p < length workers.jobs
 part_there workers replies kept are p low = let homes = as_homes workers.register are in let paired = kept.paired in omega arith
 
 -- it was answered at once
@@ -540,7 +540,7 @@ told_after workers replies kept event r right = record {
 }
 
 -- a job was sent, and its place is blank
-pub sent_after : {Z : Type 0} (workers : WorkersState) (replies : Vec (ℕ × Reply) Z) → IsKept workers replies.items → AreRuled workers.register → (p : ℕ) (event : Event) (job : Job) → IsJobOf workers.register.regions p job
+pub sent_after : {Z : Type 0} (workers : WorkersState) (replies : Vec (ℕ × Reply) Z) → IsKept workers replies.items → AreOwners workers.register → (p : ℕ) (event : Event) (job : Job) → IsJobOf workers.register.regions p job
     → IsRightSent event workers.register p job → (blank : Reply) (now : WorkersState) → IsSentTo p (length replies.items, job) workers now → IsAnswered event blank workers replies now replies
 sent_after workers replies kept are p event job of right blank now sent = record {
   kept = rw (sent.2) (sent_kept workers replies.items kept are p sent.0 sent.1 event job of right blank);

@@ -3,8 +3,8 @@ pub mod WorkersLemmas
 pub mod CrossingLemmas
 pub mod EngineLemmas
 pub mod RegisterLemmas
-pub mod PartedLemmas
-pub mod PartingLemmas
+pub mod WorkersChangeLemmas
+pub mod PartChangeLemmas
 pub mod RelayLemmas
 pub mod SessionLemmas
 pub mod ShapeLemmas

@@ -15,7 +15,7 @@ use Rattle.hlr_owners.specs.Desks.{words_of, slots_in}
 use Rattle.hlr_owners.specs.Held.{OwnerState}
 use Rattle.hlr_owners.specs.PartOwnerState.{PartOwnerState}
 use Rattle.hlr_owners.specs.Out.{out_of, outs_in, with_out, with_outs}
-use Rattle.hlr_owners.specs.Owners.{OwnersState, AreRuled, desks_in, homes_in, of_parts, of_part, state_of, states_in, store_in}
+use Rattle.hlr_owners.specs.Owners.{OwnersState, AreOwners, desks_in, homes_in, of_parts, of_part, state_of, states_in, store_in}
 use Rattle.hlr_owners.specs.declared.part_owner.RegionOwner.{RegionOwner}
 use Rattle.hlr_owners.specs.declared.part_owner.RegionOwner.TheVariants.{Part, Piece}
 use Rattle.hlr_owners.proofs.HeldLemmas.{holding_keeps}
@@ -119,14 +119,14 @@ with_outs_same (Part l ∷ owners) (x ∷ a) (y ∷ b) each = λ i. Part (first 
       | inr same ↦ ap (with_out l) (same_Some x y same)
     ]
 
--- where the part with a number sits
+-- the index of the part with a number
 pub record IsPartAt (h : OwnersState) (p i : ℕ) (l : PartOwnerState) : Type 0 where
   pub region : position (is_part p) h.regions ≡ Some i
   pub owner : Part l ≡ get_or h.owners i (Part l)
   pub there : i < length h.owners
   pub number : ahead h.owners i ≡ p
 
-module _ (h : OwnersState) (are : AreRuled h) (p : ℕ) where
+module _ (h : OwnersState) (are : AreOwners h) (p : ℕ) where
   pub part_at : (i : ℕ) → position (is_part p) h.regions ≡ Some i → (l : PartOwnerState) × IsPartAt h p i l
   part_at i index =
       let there = part_has_place h are p i index in

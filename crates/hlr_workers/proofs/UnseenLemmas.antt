@@ -7,7 +7,7 @@ use Rattle.tatp_actions.specs.declared.action.Action.{Action}
 use Rattle.part_table.specs.Recut.{recut_answer}
 use Rattle.part_table.specs.declared.moves.CutMove.{CutMove}
 use Rattle.hlr_owners.specs.Answered.{is_loose}
-use Rattle.hlr_owners.specs.Parted.{IsDissolved, IsDivided}
+use Rattle.hlr_owners.specs.PartChanges.{IsDissolved, IsDivided}
 use Rattle.hlr_owners.specs.Posting.{IsPosting}
 use Rattle.hlr_owners.specs.Recut.{IsRecut, IsRecutBy}
 use Rattle.hlr_owners.specs.Store.{Store, slots_of}

@@ -15,7 +15,7 @@ use Rattle.holding.specs.declared.job.Job.{Job}
 use Rattle.holding.specs.declared.job.Job.TheVariants.{Act, Post}
 use Rattle.hlr_owners.specs.PartOwnerState.{PartOwnerState}
 use Rattle.hlr_owners.specs.Out.{out_of, outs_in}
-use Rattle.hlr_owners.specs.Owners.{AllHome, AreRuled, IsLent, OwnersState, homes_in}
+use Rattle.hlr_owners.specs.Owners.{AllHome, AreOwners, IsLent, OwnersState, homes_in}
 use Rattle.hlr_owners.specs.declared.part_owner.RegionOwner.{RegionOwner}
 use Rattle.hlr_owners.specs.declared.part_owner.RegionOwner.TheVariants.{Part, Piece}
 use Rattle.hlr_owners.proofs.PartLemmas.{at_number, count_parts, part_within, set_number}
@@ -52,7 +52,7 @@ none_sent (suc n) = (refl, none_sent n)
 pub none_long : (n : ℕ) → length (map jobs_at (replicate n None)) ≡ n
 none_long n = let none : Option Sent = None in length-map (replicate n none) jobs_at ∙ length-replicate n none
 
-module _ (h : OwnersState) (are : AreRuled h) where
+module _ (h : OwnersState) (are : AreOwners h) where
   pub as_parts : length (outs_in h.owners) ≡ length (parts_of h.regions)
   as_parts = count_parts out_of h.width h.regions h.owners are.each
 
@@ -82,7 +82,7 @@ module _ (h : OwnersState) (are : AreRuled h) where
       here : (l : PartOwnerState) → out_of l ≡ None → l.home ≡ true
       here l none = by_test l.home (λ e. e) (λ e. absurd (none-some l.holding (sym none ∙ ap (λ (b : Bool). if b then None else Some l.holding) e)))
 
-  -- one that is out owns it as it was lent
+  -- one that is out is known as it was lent
   pub out_part : (p : ℕ) (lent : HoldingState) → slice_get (outs_in h.owners) p ≡ Some (Some lent) → (i : ℕ) × IsPartAt h p i (record { holding = lent; home = false })
   out_part p lent out =
       let long = as_homes in
@@ -195,7 +195,7 @@ numberless_of regions p (Act act) of = of.1
 numberless_of regions p (Post limit) of = tt
 
 -- a worker was started
-module _ (h : OwnersState) (are : AreRuled h) (ws : List (Option Sent)) (each : AllZip HasWorker (outs_in h.owners) ws) (p : ℕ) where
+module _ (h : OwnersState) (are : AreOwners h) (ws : List (Option Sent)) (each : AllZip HasWorker (outs_in h.owners) ws) (p : ℕ) where
   module _ (k : HoldingState) (g : OwnersState) (lent : IsLent p h k g) (w : Sent) (has : w.lent ≡ k) (none : w.jobs ≡ []) where
     pub started_each : AllZip HasWorker (outs_in g.owners) (set ws p (Some w))
     started_each = rw (lent_outs h are p k g lent).1 (zip_set HasWorker (outs_in h.owners) ws p (Some k) (Some w) each (has, rw none tt))
@@ -295,7 +295,7 @@ pub record IsSending (old : WorkersState) (h : OwnersState) (ws : List (Option S
   pub each : AllZip HasWorker (outs_in h.owners) (set ws p (is_sent_more (get_or ws p None) (number, job)))
   pub sent : IsSentTo p (number, job) old (record { register = h; jobs = map jobs_at (set ws p (is_sent_more (get_or ws p None) (number, job))) })
 
-pub sends : (old : WorkersState) (h : OwnersState) (are : AreRuled h) (ws : List (Option Sent)) (each : AllZip HasWorker (outs_in h.owners) ws) (p number : ℕ) (job : Job)
+pub sends : (old : WorkersState) (h : OwnersState) (are : AreOwners h) (ws : List (Option Sent)) (each : AllZip HasWorker (outs_in h.owners) ws) (p number : ℕ) (job : Job)
     → IsOut p old (record { register = h; jobs = map jobs_at ws }) → IsJobOf old.register.regions p job → length (get_or old.jobs p []) < MOST_PENDING → IsSending old h ws p number job
 sends old h are ws each p number job out of room =
     let lent = out.2.0 in

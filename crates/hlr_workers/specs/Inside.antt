@@ -81,39 +81,39 @@ pub record IsAnswered {Z : Type 0} (event : Event) (reply : Reply) (workers : Wo
   pub desk : IsLaterDesk workers.register.spare after.register.spare
 
 -- what a reply tells of parts that came or went: a new part has this number, or the part that had it is gone
-pub data Parting : Type 0 where
-  Same : Parting
-  New : ℕ → Parting
-  Gone : ℕ → Parting
+pub data PartChange : Type 0 where
+  Same : PartChange
+  New : ℕ → PartChange
+  Gone : ℕ → PartChange
 
 -- any other reply tells of none
-abbrev pub parting_of : Reply → Parting
-parting_of (Divided part lo hi) = New part
-parting_of (Dissolved front lo hi) = Gone (front + 1)
-parting_of _ = Same
+abbrev pub part_change_of : Reply → PartChange
+part_change_of (Divided part lo hi) = New part
+part_change_of (Dissolved front lo hi) = Gone (front + 1)
+part_change_of _ = Same
 
 -- a list with something for each part, after that
-abbrev pub parted : {A : Type 0} → Parting → A → List A → List A
-parted Same blank each = each
-parted (New part) blank each = insert each part blank
-parted (Gone part) blank each = remove each part
+abbrev pub with_part_change : {A : Type 0} → PartChange → A → List A → List A
+with_part_change Same blank each = each
+with_part_change (New part) blank each = insert each part blank
+with_part_change (Gone part) blank each = remove each part
 
 -- among so many parts there is a place for it
-abbrev pub IsPlace : Parting → ℕ → Type 0
+abbrev pub IsPlace : PartChange → ℕ → Type 0
 IsPlace Same parts = ⊤
 IsPlace (New part) parts = (part ≤ parts) × (parts < MOST_PARTS)
 IsPlace (Gone part) parts = part < parts
 
 -- the parts whose numbers change with it, and the one that goes
-abbrev pub IsBehind : Parting → ℕ → Type 0
+abbrev pub IsBehind : PartChange → ℕ → Type 0
 IsBehind Same q = ⊥
 IsBehind (New part) q = part ≤ q
 IsBehind (Gone part) q = part ≤ q
 
 -- workers after it: a new part is at home, as the one that is gone was, and all the parts behind it were
-pub record AreWorkersParted (told : Parting) (before after : WorkersState) : Type 0 where
-  pub outs : outs_in after.register.owners ≡ parted told None (outs_in before.register.owners)
-  pub jobs : after.jobs ≡ parted told [] before.jobs
+pub record AreWorkersChanged (told : PartChange) (before after : WorkersState) : Type 0 where
+  pub outs : outs_in after.register.owners ≡ with_part_change told None (outs_in before.register.owners)
+  pub jobs : after.jobs ≡ with_part_change told [] before.jobs
   pub place : IsPlace told (length (outs_in before.register.owners))
   pub home : (q : ℕ) → IsBehind told q → slice_index_or (outs_in before.register.owners) q None ≡ None
   pub idle : AreIdle before

@@ -1,10 +1,8 @@
-//! An engine over a register: each part is owned by a worker in a thread of its own while there are jobs for it.
-//!
-//! The engine takes events and numbers them. What it knows at once it answers at once; what one part does alone it
-//! sends to that part's worker, through a queue that keeps its order; what gives a number or moves regions it does
-//! itself, once the part is home that works on it, while the others go on, and so it does what has a part come or go,
-//! once all parts are home whose rows or numbers change with it. A settle brings all home, with the replies in the
-//! order of their events: these are the replies of one thread, and so is the register then.
+//! An engine over a register: each part is owned by a worker in a thread of its own while there are jobs for it, and a
+//! settle brings all home, with the replies that one thread would give, in the order of the events. An event costs the
+//! look for its part and a place in a message of up to 16, and a part's first job after a settle the start of a thread.
+//! A call waits where a worker's queue is full or a part has to come home, and no reply comes before `settle` or
+//! `close`.
 #![tactic(auto)]
 
 mod engine;

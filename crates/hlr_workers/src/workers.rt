@@ -5,13 +5,13 @@ ghost use Rattle.view_board.specs.Desks.{with_view};
 ghost use Rattle.view_board.specs.Views.{looked};
 ghost use Rattle.hlr_owners.specs.Out.{outs_in};
 ghost use Rattle.hlr_owners.specs.Recut.{IsHomeToCut};
-ghost use Rattle.hlr_owners.specs.Owners.{AllHome, AreRuled, homes_in, store_in};
+ghost use Rattle.hlr_owners.specs.Owners.{AllHome, AreOwners, homes_in, store_in};
 ghost use Rattle.hlr_owners.specs.Sight.{IsSightOf};
 ghost use Rattle.hlr_core.specs.WhileOut.{IsRecutWhileOut, IsStepWhileOut};
 ghost use Rattle.hlr_core.specs.Home.{IsHomeTo, IsLaterDesk, HaveSameHomes};
 ghost use Rattle.hlr_core.specs.Session.{IsJobOf, IsWithinJob};
 ghost use Rattle.hlr_core.specs.Tasks.{job_of};
-ghost use Rattle.hlr_workers.specs.Inside.{AreIdle, IsHomeAgain, IsOut, AreWorkersParted, IsPlace, IsSentTo, is_sent_more, parted, parting_of};
+ghost use Rattle.hlr_workers.specs.Inside.{AreIdle, IsHomeAgain, IsOut, AreWorkersChanged, IsPlace, IsSentTo, is_sent_more, with_part_change, part_change_of};
 ghost use Rattle.hlr_workers.specs.Kept.{NoneOut};
 ghost use Rattle.hlr_workers.specs.Standing.{changes_parts};
 ghost use Rattle.hlr_workers.specs.declared.work.TheConstants.{MOST_PENDING};
@@ -153,8 +153,8 @@ fn send_to<R: Wait>(
 
 /// Makes a place for the worker of a part that has come, and takes away that of one that has gone.
 fn part_workers(by_part: &mut ArrayVec<Option<Worker>, 16>, reply: &Reply)
-    requires { IsPlace (parting_of reply.now) (length by_part.old.items) }
-    ensures { by_part.new.items ≡ parted (parting_of reply.now) None by_part.old.items }
+    requires { IsPlace (part_change_of reply.now) (length by_part.old.items) }
+    ensures { by_part.new.items ≡ with_part_change (part_change_of reply.now) None by_part.old.items }
 {
     match *reply {
         Reply::Divided { part, .. } => by_part.insert(usize::from(part), None),
@@ -340,7 +340,7 @@ impl Workers {
     /// The register, with the parts that are out as they were lent; a part that isn't out has no jobs.
     pub(crate) fn register(&self) -> &Register
         ensures value { result.now ≡ self.now.register }
-        ensures ruled { AreRuled self.now.register }
+        ensures ruled { AreOwners self.now.register }
         ensures idle { AreIdle self.now }
     {
         // For the prover: each region has its owner beside it.
@@ -516,7 +516,7 @@ impl Workers {
     pub(crate) fn apply(&mut self, event: Event) -> Reply
         requires { IsHomeTo event self.old.register }
         ensures step { IsStepWhileOut event self.old.register result self.new.register }
-        ensures parted { AreWorkersParted (parting_of result) self.old self.new }
+        ensures changed { AreWorkersChanged (part_change_of result) self.old self.new }
         ensures spare { changes_parts event ≡ false → self.new.register.spare ≡ self.old.register.spare }
         ensures desk { IsLaterDesk self.old.register.spare self.new.register.spare }
     {

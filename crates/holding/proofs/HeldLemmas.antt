@@ -18,7 +18,7 @@ use Rattle.view_board.specs.Views.{IsLeastSlot, IsWide, OwnsAlone, posted}
 use Rattle.view_board.specs.Words.{slot_net, word_of}
 use Rattle.view_board.proofs.OwnLemmas.{net_alone}
 use Rattle.view_board.specs.declared.rule.View.{View}
-use Rattle.view_delta.specs.Pending.{pending_at, NotesFit}
+use Rattle.view_delta.specs.Pending.{delta_at, NotesFit}
 use Rattle.holding.specs.Held.{HoldingState, IsHolding, HasSmallNets, count_of}
 
 -- an empty book has no count
@@ -45,7 +45,7 @@ few part rules c = few_cells part.lo part.hi part.width c part.book rules.rows r
 
 -- a holding opens: what its desk has not published of its counts is pending
 pub opened : (part : PartState) (counts : List ℕ) (deltas pending : List ℤ) (desk : Station) (slot : ℕ) → IsPart part → IsLeastSlot desk.view slot → HasSmallNets desk.view → IsWide desk.view
-    → ((c : ℕ) → c < CELLS → get_or counts c 0 ≡ count_of part c) → ((c : ℕ) → c < CELLS → pending_at deltas c ≡ pos (get_or counts c 0) -ℤ net_of desk.view c) → pending ≡ deltas
+    → ((c : ℕ) → c < CELLS → get_or counts c 0 ≡ count_of part c) → ((c : ℕ) → c < CELLS → delta_at deltas c ≡ pos (get_or counts c 0) -ℤ net_of desk.view c) → pending ≡ deltas
     → IsHolding (record { part = part; pending = pending; desk = desk; slot = slot })
 opened part counts deltas pending desk slot rules least small wide are told is = record {
   rules = rules;
@@ -57,7 +57,7 @@ opened part counts deltas pending desk slot rules least small wide are told is =
 
 -- what is pending of a holding is small
 pub pending_small : (holding : HoldingState) → IsHolding holding → (c : ℕ) → c < CELLS
-    → (neg_ℤ (pos (2 ^ 60)) ≤ℤ pending_at holding.pending c) × (pending_at holding.pending c ≤ℤ pos (2 ^ 60))
+    → (neg_ℤ (pos (2 ^ 60)) ≤ℤ delta_at holding.pending c) × (delta_at holding.pending c ≤ℤ pos (2 ^ 60))
 pending_small holding is c below =
     let law = is.law c below in
     let low = (is.small c below).0 in
@@ -79,7 +79,7 @@ change_fits holding after notes is rules width change c below =
     (omega (arith, ints), omega (arith, ints))
 
 -- a delta that was cleared
-pub cleared : (pending : List ℤ) (c : ℕ) → pending_at (set pending c (pos 0)) c ≡ pos 0
+pub cleared : (pending : List ℤ) (c : ℕ) → delta_at (set pending c (pos 0)) c ≡ pos 0
 cleared pending c = elim (cases_lt c (length pending)) [
   | inl within ↦ get_or-set_same pending c (pos 0) (pos 0) within
   | inr past ↦ get_or_past (set pending c (pos 0)) c (pos 0) (rw length-set past)
@@ -91,13 +91,13 @@ wide_posted view slot c amount wide = record { slots = wide.slots; numbers = len
 
 -- what was pending of a cell is published
 module _ (part : PartState) (pending pending' : List ℤ) (desk desk' : Station) (slot c : ℕ) (amount : ℤ) (is : IsHolding (record { part = part; pending = pending; desk = desk; slot = slot }))
-    (owned : desk'.view.owned ≡ desk.view.owned) (whole : amount ≡ pending_at pending c) (moves : NetMoves desk.view desk'.view c amount) (none : pending' ≡ set pending c (pos 0)) (wide : IsWide desk'.view) where
+    (owned : desk'.view.owned ≡ desk.view.owned) (whole : amount ≡ delta_at pending c) (moves : NetMoves desk.view desk'.view c amount) (none : pending' ≡ set pending c (pos 0)) (wide : IsWide desk'.view) where
   here : (k : ℕ) → k < CELLS → (k == c) ≡ true → net_of desk'.view k ≡ pos (count_of part k)
   here k below e =
       let same : k ≡ c = grind (arith, nat_tests) in
       let law = is.law k below in
       let moved = rw e at (moves k below) in
-      let at_c : pending_at pending k ≡ pending_at pending c = rw same refl in
+      let at_c : delta_at pending k ≡ delta_at pending c = rw same refl in
       omega (arith, ints)
 
   elsewhere : (k : ℕ) → k < CELLS → (k == c) ≡ false → net_of desk'.view k ≡ net_of desk.view k
@@ -108,7 +108,7 @@ module _ (part : PartState) (pending pending' : List ℤ) (desk desk' : Station)
     rules = is.rules;
     slot = rw owned is.slot;
     law = λ k below. rw none (by_test (k == c)
-        (λ e. let same : k ≡ c = grind (arith, nat_tests) in let gone : pending_at (set pending c (pos 0)) k ≡ pos 0 = rw same (cleared pending c) in rw (here k below e, gone) (omega (arith, ints)))
+        (λ e. let same : k ≡ c = grind (arith, nat_tests) in let gone : delta_at (set pending c (pos 0)) k ≡ pos 0 = rw same (cleared pending c) in rw (here k below e, gone) (omega (arith, ints)))
         (λ e. let apart : k ≡ c → ⊥ = grind (arith, nat_tests) in rw (elsewhere k below e, get_or-set_other pending c k (pos 0) (pos 0) apart) (is.law k below)));
     small = λ k below. by_test (k == c)
         (λ e. let most = few part is.rules k in rw (here k below e) (omega (arith, ints), omega (arith, ints)))
@@ -118,7 +118,7 @@ module _ (part : PartState) (pending pending' : List ℤ) (desk desk' : Station)
 
 -- one more cell is told
 pub one_told : (amount : ℕ → ℤ) (deltas : List ℤ) (n at : ℕ) (value : ℤ) → length deltas ≡ CELLS → n < CELLS → at ≡ n → value ≡ amount n
-    → ((c : ℕ) → c < n → pending_at deltas c ≡ amount c) → (c : ℕ) → c < n + 1 → pending_at (set deltas at value) c ≡ amount c
+    → ((c : ℕ) → c < n → delta_at deltas c ≡ amount c) → (c : ℕ) → c < n + 1 → delta_at (set deltas at value) c ≡ amount c
 one_told amount deltas n at value wide below there is told c within = rw there (by_test (c == n)
     (λ e. let same : c ≡ n = grind (arith, nat_tests) in rw same (get_or-set_same deltas n value (pos 0) (omega arith) ∙ is))
     (λ e. let apart : c ≡ n → ⊥ = grind (arith, nat_tests) in get_or-set_other deltas n c value (pos 0) apart ∙ told c (grind (arith, nat_tests))))

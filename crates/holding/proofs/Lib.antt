@@ -1,5 +1,5 @@
 pub mod HeldLemmas
 pub mod MovedLemmas
-pub mod PartedLemmas
+pub mod FillLemmas
 pub mod PostLemmas
 pub mod CrossingLemmas

@@ -18,7 +18,7 @@ use Rattle.tatp_actions.specs.declared.cells.TheConstants.{CELLS}
 use Rattle.tatp_actions.proofs.CutLemmas.{cell_cut}
 use Rattle.tatp_actions.proofs.JoinedLemmas.{cell_joined}
 use Rattle.view_board.specs.Desks.{Station}
-use Rattle.view_delta.specs.Pending.{pending_at, SumsFit, DifferencesFit}
+use Rattle.view_delta.specs.Pending.{delta_at, SumsFit, DifferencesFit}
 use Rattle.holding.specs.Held.{HoldingState, IsHolding, IsPiece, count_of}
 use Rattle.holding.specs.Inside.{IsPendingWith}
 use Rattle.holding.proofs.HeldLemmas.{few, pending_small}
@@ -28,7 +28,7 @@ abbrev pub AreCountsOf : PartState → List ℕ → Type 0
 AreCountsOf part counts = (c : ℕ) → c < CELLS → get_or counts c 0 ≡ count_of part c
 
 -- the counts of a piece, as what is pending
-pub counts_pending : (counts : List ℕ) (c : ℕ) → pending_at (map pos counts) c ≡ pos (get_or counts c 0)
+pub counts_pending : (counts : List ℕ) (c : ℕ) → delta_at (map pos counts) c ≡ pos (get_or counts c 0)
 counts_pending counts c = get_or-map pos counts c 0
 
 pub counts_of : (part : PartState) (counts : List ℕ) → IsPiece (record { part = part; pending = map pos counts }) → AreCountsOf part counts
@@ -62,7 +62,7 @@ divided High at part given kept rules is_given is_kept c =
 -- what is left of a holding keeps its rules
 pub left : (part given kept : PartState) (pending pending' : List ℤ) (counts : List ℕ) (desk : Station) (slot : ℕ) → IsHolding (record { part = part; pending = pending; desk = desk; slot = slot })
     → IsPart kept → AreCountsOf given counts → ((c : ℕ) → count_of part c ≡ count_of given c + count_of kept c)
-    → ((c : ℕ) → c < CELLS → pending_at pending' c ≡ pending_at pending c -ℤ pos (get_or counts c 0))
+    → ((c : ℕ) → c < CELLS → delta_at pending' c ≡ delta_at pending c -ℤ pos (get_or counts c 0))
     → IsHolding (record { part = kept; pending = pending'; desk = desk; slot = slot })
 left part given kept pending pending' counts desk slot is rules are both less = record {
   rules = rules;

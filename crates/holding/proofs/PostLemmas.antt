@@ -14,7 +14,7 @@ use Rattle.view_board.specs.Views.{posted}
 use Rattle.view_board.specs.Words.{is_worn}
 use Rattle.view_board.specs.declared.rule.View.{View}
 use Rattle.view_board.proofs.PostedLemmas.{raises_once}
-use Rattle.view_delta.specs.Pending.{pending_at, is_zero, AreZero, IsNextNonzero}
+use Rattle.view_delta.specs.Pending.{delta_at, is_zero, AreZero, IsNextNonzero}
 use Rattle.holding.specs.Held.{HoldingState}
 use Rattle.holding.specs.Inside.{IsCellPosted}
 use Rattle.holding.specs.Post.{post_cells, all_cells, gap, post}
@@ -28,7 +28,7 @@ open_from gaps c left = filter (λ k. not (is_zero (gaps k))) (range_with_len c 
 pub record IsPosting (count : ℕ → ℕ) (slot limit : ℕ) (start : View) (c done : ℕ) (pending : List ℤ) (view : View) : Type 0 where
   pub goes : (left : ℕ) → c + left ≡ CELLS →
       post_cells (gap count start) slot (take (limit - done) (open_from (gap count start) c left)) done view ≡ post count slot limit start
-  pub ahead : (k : ℕ) → c ≤ k → k < CELLS → pending_at pending k ≡ gap count start k
+  pub ahead : (k : ℕ) → c ≤ k → k < CELLS → delta_at pending k ≡ gap count start k
   pub owned : view.owned ≡ start.owned
   pub raises : view.raises ≡ start.raises + done
   pub few : done ≤ c
@@ -58,7 +58,7 @@ post_none gaps slot c cells done view e = rw e refl
 
 module _ (count : ℕ → ℕ) (slot limit : ℕ) (start : View) where
   -- a posting begins
-  pub posting_begins : (pending : List ℤ) → ((k : ℕ) → k < CELLS → net_of start k +ℤ pending_at pending k ≡ pos (count k)) → IsPosting count slot limit start 0 0 pending start
+  pub posting_begins : (pending : List ℤ) → ((k : ℕ) → k < CELLS → net_of start k +ℤ delta_at pending k ≡ pos (count k)) → IsPosting count slot limit start 0 0 pending start
   unfolding all_cells
   posting_begins pending law = record {
     goes = λ left whole. let all : left ≡ CELLS = omega arith in let limit_is : limit - 0 ≡ limit = omega arith in rw (all, limit_is) refl;
@@ -70,7 +70,7 @@ module _ (count : ℕ → ℕ) (slot limit : ℕ) (start : View) where
   }
 
   -- a cell with nothing pending
-  posting_passes : (c done : ℕ) (pending : List ℤ) (view : View) → c < CELLS → pending_at pending c ≡ pos 0
+  posting_passes : (c done : ℕ) (pending : List ℤ) (view : View) → c < CELLS → delta_at pending c ≡ pos 0
       → IsPosting count slot limit start c done pending view → IsPosting count slot limit start (c + 1) done pending view
   posting_passes c done pending view below none now = record {
     goes = λ left whole. let no_gap : gap count start c ≡ pos 0 = sym (now.ahead c (omega arith) below) ∙ none in
@@ -84,9 +84,9 @@ module _ (count : ℕ → ℕ) (slot limit : ℕ) (start : View) where
 
   -- a cell that is posted
   posting_goes_on : (c done : ℕ) (pending : List ℤ) (view : View) → c < CELLS → (done ≡ limit → ⊥)
-      → (pending_at pending c ≡ pos 0 → ⊥) → is_worn view.numbers slot c (pending_at pending c) ≡ false
+      → (delta_at pending c ≡ pos 0 → ⊥) → is_worn view.numbers slot c (delta_at pending c) ≡ false
       → IsPosting count slot limit start c done pending view
-      → IsPosting count slot limit start (c + 1) (done + 1) (set pending c (pos 0)) (posted view slot c (pending_at pending c))
+      → IsPosting count slot limit start (c + 1) (done + 1) (set pending c (pos 0)) (posted view slot c (delta_at pending c))
   posting_goes_on c done pending view below room some fits now = record {
     goes = λ left whole.
         let gap_is = now.ahead c (omega arith) below in
@@ -99,7 +99,7 @@ module _ (count : ℕ → ℕ) (slot limit : ℕ) (start : View) where
         rw gap_is (sym (post_one (gap count start) slot c rest done view fits') ∙ first);
     ahead = λ k from within. get_or-set_other pending c k (pos 0) (pos 0) (omega arith) ∙ now.ahead k (omega arith) within;
     owned = now.owned;
-    raises = let once = raises_once (pending_at pending c) some in let before = now.raises in omega arith;
+    raises = let once = raises_once (delta_at pending c) some in let before = now.raises in omega arith;
     few = omega (arith, now.few);
     within = omega (arith, now.within);
   }

@@ -7,7 +7,7 @@ use Rattle.view_board.specs.Desks.{Station}
 use Rattle.view_board.specs.Nets.{net_of}
 use Rattle.view_board.specs.Views.{IsLeastSlot, IsWide}
 use Rattle.view_board.specs.declared.rule.View.{View}
-use Rattle.view_delta.specs.Pending.{pending_at}
+use Rattle.view_delta.specs.Pending.{delta_at}
 
 -- a part with what is pending of each cell, the desk of its owner, and the slot that postings raise
 pub record HoldingState : Type 0 where
@@ -33,11 +33,11 @@ HasSmallNets view = (c : ℕ) → c < CELLS → (neg_ℤ (pos (2 ^ 40)) ≤ℤ n
 pub record IsHolding (holding : HoldingState) : Type 0 where
   pub rules : IsPart holding.part
   pub slot : IsLeastSlot holding.desk.view holding.slot
-  pub law : (c : ℕ) → c < CELLS → net_of holding.desk.view c +ℤ pending_at holding.pending c ≡ pos (count_of holding.part c)
+  pub law : (c : ℕ) → c < CELLS → net_of holding.desk.view c +ℤ delta_at holding.pending c ≡ pos (count_of holding.part c)
   pub small : HasSmallNets holding.desk.view
   pub wide : IsWide holding.desk.view
 
 -- the rules of a piece
 pub record IsPiece (piece : PieceState) : Type 0 where
   pub rules : IsPart piece.part
-  pub law : (c : ℕ) → c < CELLS → pending_at piece.pending c ≡ pos (count_of piece.part c)
+  pub law : (c : ℕ) → c < CELLS → delta_at piece.pending c ≡ pos (count_of piece.part c)

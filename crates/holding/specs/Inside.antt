@@ -7,7 +7,7 @@ use Rattle.tatp_actions.specs.declared.cells.TheConstants.{CELLS}
 use Rattle.view_board.specs.Desks.{with_view}
 use Rattle.view_board.specs.Views.{posted}
 use Rattle.view_board.specs.Words.{is_worn}
-use Rattle.view_delta.specs.Pending.{pending_at}
+use Rattle.view_delta.specs.Pending.{delta_at}
 use Rattle.holding.specs.Held.{HoldingState, IsPiece, count_of}
 use Rattle.holding.specs.Moved.{IsTaken}
 
@@ -15,23 +15,23 @@ use Rattle.holding.specs.Moved.{IsTaken}
 abbrev pub with_cell_posted : ℕ → HoldingState → HoldingState
 with_cell_posted c before = record before {
   pending = slice_set before.pending c (pos 0);
-  desk = with_view before.desk (posted before.desk.view before.slot c (pending_at before.pending c));
+  desk = with_view before.desk (posted before.desk.view before.slot c (delta_at before.pending c));
 }
 
 -- a cell is posted, unless its word would wear
 abbrev pub IsCellPosted : ℕ → HoldingState → Result (Unit {0}) Refusal → HoldingState → Type 0
 IsCellPosted c before (Ok done) after =
-    (is_worn before.desk.view.numbers before.slot c (pending_at before.pending c) ≡ false)
+    (is_worn before.desk.view.numbers before.slot c (delta_at before.pending c) ≡ false)
     × (after ≡ with_cell_posted c before)
 IsCellPosted c before (Err why) after =
-    (is_worn before.desk.view.numbers before.slot c (pending_at before.pending c) ≡ true)
+    (is_worn before.desk.view.numbers before.slot c (delta_at before.pending c) ≡ true)
     × (why ≡ refusal.Worn)
     × (after ≡ before)
 
 -- what is pending with the counts of a part's rows too
 abbrev pub IsPendingWith : PartState → List ℤ → List ℤ → Type 0
 IsPendingWith part before after =
-    (c : ℕ) → c < CELLS → pending_at after c ≡ pending_at before c +ℤ pos (count_of part c)
+    (c : ℕ) → c < CELLS → delta_at after c ≡ delta_at before c +ℤ pos (count_of part c)
 
 -- a holding takes a part as it takes a piece of that part, whichever list of its counts this has
 abbrev pub TakesPart : HoldingState → PartState → HoldingState → Type 0

@@ -9,7 +9,7 @@ use Rattle.view_board.specs.Desks.{Station, with_view}
 use Rattle.view_board.specs.Nets.{net_of}
 use Rattle.view_board.specs.Views.{OwnsAlone, taken_back}
 use Rattle.view_board.specs.declared.rule.View.{View}
-use Rattle.view_delta.specs.Pending.{pending_at}
+use Rattle.view_delta.specs.Pending.{delta_at}
 use Rattle.holding.specs.Held.{HoldingState, PieceState, IsPiece}
 
 -- the subscriber is strictly inside the range of a part
@@ -28,7 +28,7 @@ pub record IsGiven (side : Side) (at : ℕ) (before : HoldingState) (piece : Pie
     steps = after.part.steps;
     heights = after.part.heights;
   }
-  pub less : (c : ℕ) → c < CELLS → pending_at after.pending c ≡ pending_at before.pending c -ℤ pending_at piece.pending c
+  pub less : (c : ℕ) → c < CELLS → delta_at after.pending c ≡ delta_at before.pending c -ℤ delta_at piece.pending c
   pub desk : after.desk ≡ before.desk
   pub slot : after.slot ≡ before.slot
 
@@ -39,7 +39,7 @@ pub record IsTaken (before : HoldingState) (piece : PieceState) (after : Holding
     steps = after.part.steps;
     heights = after.part.heights;
   }
-  pub more : (c : ℕ) → c < CELLS → pending_at after.pending c ≡ pending_at before.pending c +ℤ pending_at piece.pending c
+  pub more : (c : ℕ) → c < CELLS → delta_at after.pending c ≡ delta_at before.pending c +ℤ delta_at piece.pending c
   pub desk : after.desk ≡ before.desk
   pub slot : after.slot ≡ before.slot
 
@@ -55,7 +55,7 @@ pub record IsBlankDesk (view : View) : Type 0 where
 
 -- a holding that was divided: it gave away what is from a subscriber on, all of which is pending with the new holding,
 -- whose desk this is
-pub record IsParted (at : ℕ) (before : HoldingState) (desk : Station) (new after : HoldingState) : Type 0 where
+pub record IsHoldingDivided (at : ℕ) (before : HoldingState) (desk : Station) (new after : HoldingState) : Type 0 where
   pub given : IsGiven High at before (as_piece new) after
   pub counts : IsPiece (as_piece new)
   pub own : new.desk ≡ desk

@@ -6,7 +6,7 @@ ghost use Rattle.tatp_actions.specs.declared.cells.TheConstants.{CELLS};
 ghost use Rattle.view_board.specs.Nets.{net_of};
 ghost use Rattle.view_board.specs.Views.{Owns, OwnsAlone, IsLeastSlot, IsWide};
 ghost use Rattle.view_board.specs.declared.words.TheConstants.{SLOTS};
-ghost use Rattle.view_delta.specs.Pending.{pending_at};
+ghost use Rattle.view_delta.specs.Pending.{delta_at};
 ghost use Rattle.holding.specs.Held.{IsHolding, HasSmallNets, count_of};
 ghost use Rattle.holding.specs.Inside.{IsCellPosted};
 ghost use Rattle.holding.specs.Post.{post};
@@ -211,7 +211,7 @@ impl Holding {
     /// What is pending of a cell below `CELLS`.
     pub fn pending(&self, cell: u8) -> i64
         requires { cell < CELLS }
-        ensures value { result ≡ pending_at self.now.pending cell }
+        ensures value { result ≡ delta_at self.now.pending cell }
         ensures rules { IsHolding self.now }
     {
         self.pending.get(cell)

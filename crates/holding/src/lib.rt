@@ -1,9 +1,7 @@
-//! A part of the store with what its owner has posted of the standing counts and what it has not.
-//!
-//! An owner keeps the rows of a range, what is pending of each cell, and a desk: the words of the board that it alone
-//! raises. What its desk has published and what is pending are together the count over its own rows, at every moment at
-//! which a call returns; so owners may work in threads of their own, and an action or a posting counts no rows anew. A
-//! holding can be divided in two, and dissolved into the one in front.
+//! A part of the store with its owner's deltas and desk: of each cell what the desk has published and what is pending
+//! are together the count over the part's rows, whenever a call returns. An action costs what it costs the part and an
+//! addition for each cell that it moves, a posting an atomic addition for each cell that it posts. No look at the board
+//! sees what is pending, and nothing posts by itself.
 #![tactic(auto)]
 
 mod holding;

@@ -4,11 +4,11 @@ ghost use Rattle.tatp_actions.specs.declared.cells.TheConstants.{CELLS};
 ghost use Rattle.view_board.specs.Desks.{with_view};
 ghost use Rattle.view_board.specs.Nets.{net_of};
 ghost use Rattle.view_board.specs.Views.{IsWide, OwnsAlone, taken_back};
-ghost use Rattle.view_delta.specs.Pending.{pending_at};
+ghost use Rattle.view_delta.specs.Pending.{delta_at};
 ghost use Rattle.holding.specs.Held.{IsHolding, IsPiece};
 ghost use Rattle.part_table.specs.declared.region.Side.TheVariants.{High};
 ghost use Rattle.holding.specs.Inside.{IsPendingWith, TakesPart};
-ghost use Rattle.holding.specs.Moved.{IsBlankDesk, IsGiven, IsInside, IsMerged, IsParted, as_piece};
+ghost use Rattle.holding.specs.Moved.{IsBlankDesk, IsGiven, IsInside, IsMerged, IsHoldingDivided, as_piece};
 
 use crate::holding::{Holding, least_slot};
 use crate::moving::is_inside;
@@ -59,7 +59,7 @@ impl Holding {
     /// nothing is changed, and the desk is handed back as it came.
     pub fn divide(&mut self, at: u32, desk: Desk) -> Result<Box<Holding>, Back<Desk>>
         requires { IsBlankDesk desk.view }
-        ensures parted { IfOk result (λ new. IsParted at self.old desk new.value self.new) }
+        ensures divided { IfOk result (λ new. IsHoldingDivided at self.old desk new.value self.new) }
         ensures new { IfOk result (λ new. IsHolding new.value) }
         ensures refused { IfErr result (λ back. (back.item ≡ desk) × (self.new ≡ self.old)) }
         ensures why { IfErr result (λ back. ((back.why ≡ Refusal.OutOfRange) × (IsInside at self.old.part → ⊥)) ⊎ ((back.why ≡ Refusal.Memory) × IsInside at self.old.part)) }
@@ -129,7 +129,7 @@ impl Holding {
     fn blank(alloc: Global, desk: Desk) -> Self
         requires { IsBlankDesk desk.view }
         ensures desk { result.desk ≡ desk }
-        ensures none { (c : ℕ) → c < CELLS → pending_at result.pending c ≡ pos 0 }
+        ensures none { (c : ℕ) → c < CELLS → delta_at result.pending c ≡ pos 0 }
         ensures rules { IsHolding result }
     {
         // Opens the desk for the prover: its slot is one of the board's.
@@ -144,7 +144,7 @@ impl Holding {
     fn boxed(alloc: Global, desk: Desk) -> Result<Box<Self>, Desk>
         requires { IsBlankDesk desk.view }
         ensures desk { IfOk result (λ new. new.value.desk ≡ desk) }
-        ensures none { IfOk result (λ new. (c : ℕ) → c < CELLS → pending_at new.value.pending c ≡ pos 0) }
+        ensures none { IfOk result (λ new. (c : ℕ) → c < CELLS → delta_at new.value.pending c ≡ pos 0) }
         ensures rules { IfOk result (λ new. IsHolding new.value) }
         ensures refused { IfErr result (λ back. back ≡ desk) }
     {
@@ -159,7 +159,7 @@ impl Holding {
     fn fill(&mut self, at: u32, new: &mut Holding) -> Result<(), Refusal>
         requires inside { IsInside at self.old.part }
         requires idle { (c : ℕ) → c < CELLS → net_of new.old.desk.view c ≡ pos 0 }
-        requires none { (c : ℕ) → c < CELLS → pending_at new.old.pending c ≡ pos 0 }
+        requires none { (c : ℕ) → c < CELLS → delta_at new.old.pending c ≡ pos 0 }
         ensures given { OnOk result (IsGiven High at self.old (as_piece new.new) self.new) }
         ensures counts { OnOk result (IsPiece (as_piece new.new)) }
         ensures desk { new.new.desk ≡ new.old.desk }

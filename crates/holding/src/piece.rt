@@ -2,7 +2,7 @@
 ghost use Rattle.std.specs.Prelude.{◌≡◌, ℕ, ◌<◌, ◌≤◌, ◌^◌, option_copied, slice_index, pos, IfErr};
 ghost use Rattle.tatp_actions.specs.Book.{empty_book, first_subscriber};
 ghost use Rattle.tatp_actions.specs.declared.cells.TheConstants.{CELLS};
-ghost use Rattle.view_delta.specs.Pending.{pending_at};
+ghost use Rattle.view_delta.specs.Pending.{delta_at};
 ghost use Rattle.holding.specs.Held.{IsPiece, count_of};
 
 use std::alloc::Global;
@@ -88,7 +88,7 @@ impl Piece {
     /// What is pending of a cell below `CELLS`: its count.
     pub fn pending(&self, cell: u8) -> i64
         requires { cell < CELLS }
-        ensures value { result ≡ pending_at self.now.pending cell }
+        ensures value { result ≡ delta_at self.now.pending cell }
         ensures rules { IsPiece self.now }
     {
         signed(self.pending.get(cell))

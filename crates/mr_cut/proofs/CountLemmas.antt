@@ -6,7 +6,7 @@ use Rattle.mr_node.specs.Steps.{after_steps}
 use Rattle.mr_cut.specs.Bounds.{join_steps}
 use Rattle.mr_cut.specs.SideJoins.{MaybeNode, IsSideJoined, more_of}
 use Rattle.mr_cut.specs.declared.side_joins.Side.{Side}
-use Rattle.mr_cut.specs.Joins.{IsRooted, IsRootCount}
+use Rattle.mr_cut.specs.Joins.{IsRootOf, IsRootCount}
 use Rattle.mr_cut.proofs.JoinLemmas.{AreHigherFirst, both_height}
 
 -- the nodes are of one height
@@ -44,7 +44,7 @@ module _ {V : Type 0} where
   inserted_count h k low stock mid less before opened below after (Some y) lower level taken fewer count used insert_child = omega (arith, lower, level, taken, fewer, count, used, insert_child)
 
   -- the root over what came of a node and its neighbour is a new one where that is two
-  rooted_count : (h w k : ℕ) (rows : List (ℕ × V)) (x z : Seen V) (o : MaybeNode V) (stock mid less before below after : ℕ) → IsSideJoined h w k rows x o → IsRooted x o z → mid ≤ stock → below ≡ after_steps (join_steps (h - k) (stock - mid) 0) before → mid ≡ less + more_of o → IsRootCount o below after → after ≡ after_steps (join_steps (h - k) (stock - less) (z.height - h)) before
+  rooted_count : (h w k : ℕ) (rows : List (ℕ × V)) (x z : Seen V) (o : MaybeNode V) (stock mid less before below after : ℕ) → IsSideJoined h w k rows x o → IsRootOf x o z → mid ≤ stock → below ≡ after_steps (join_steps (h - k) (stock - mid) 0) before → mid ≡ less + more_of o → IsRootCount o below after → after ≡ after_steps (join_steps (h - k) (stock - less) (z.height - h)) before
   rooted_count h w k rows x z None stock mid less before below after side_joined root_of_both fewer count used same =
       let level : z.height ≡ h = ap (λ s. s.height) root_of_both ∙ side_joined.level in
       omega (arith, level, fewer, count, used, same)
@@ -60,7 +60,7 @@ module _ {V : Type 0} where
 
   pub join_count : {s : Side} {a b node other : Seen V} (rows : List (ℕ × V)) (x z : Seen V) (o : MaybeNode V)
       (stock mid less before below after : ℕ) → AreHigherFirst s a b node other
-      → IsSideJoined node.height node.width other.height rows x o → IsRooted x o z
+      → IsSideJoined node.height node.width other.height rows x o → IsRootOf x o z
       → stock ≤ mid + (node.height - other.height) → mid ≤ stock
       → below ≡ after_steps (join_steps (node.height - other.height) (stock - mid) 0) before → mid ≡ less + more_of o
       → IsRootCount o below after → IsJoinCount a b z (stock - less) before after

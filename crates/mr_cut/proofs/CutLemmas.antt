@@ -17,7 +17,7 @@ use Rattle.mr_node.specs.EntryLists.{AreEntries}
 use Rattle.mr_node.specs.Levels.{IsChildPlace}
 use Rattle.mr_node.specs.Levels.{NodeChild, NodeInner, children_of, rows_of, pairs_of, IsChild, IsLeaf, IsInner, seen_leaf, seen_inner}
 use Rattle.mr_node.proofs.PlaceLemmas.{packed_some}
-use Rattle.mr_node.proofs.EntryListLemmas.{run_length}
+use Rattle.mr_node.proofs.EntryListLemmas.{entries_length}
 use Rattle.mr_node.proofs.ChildLemmas.{rows_of-append, cut_child}
 use Rattle.mr_node.proofs.SizeLemmas.{leaf_well, inner_well}
 use Rattle.mr_subtree.specs.Trees.{IsRoot}
@@ -46,7 +46,7 @@ module _ {V : Type 0} where
   -- no children: a blank leaf
   pub piece_none : (b : NodeInner V) (x : Seen V) → IsRest b → b.len ≡ 0 → x ≡ record { height = 0; width = 0; rows = [] } → (IsSideRoot b.height x) × (x.rows ≡ rows_of (children_of b))
   piece_none b x rest none e =
-      let nil : children_of b ≡ [] = nil_from_length (children_of b) (run_length b.len b.leasts b.children rest.run ∙ none) in
+      let nil : children_of b ≡ [] = nil_from_length (children_of b) (entries_length b.len b.leasts b.children rest.entries ∙ none) in
       let blank : IsSideRoot b.height (record { height = 0; width = 0; rows = [] }) = record {
         root = record { well = record { fits = omega arith; ordered = tt; keys = tt; at_least = omega arith; at_most = omega arith }; two = λ above_leaves. absurd (omega (arith, above_leaves)) };
         low = omega arith;
@@ -57,7 +57,7 @@ module _ {V : Type 0} where
   -- one child: that child
   pub piece_one : (b : NodeInner V) (k : NodeChild V) → IsRest b → b.len ≡ 1 → children_of b ≡ k ∷ drop 1 (children_of b) → (IsSideRoot b.height k.1.node.value) × (k.1.node.value.rows ≡ rows_of (children_of b))
   piece_one b k rest one e =
-      let none : drop 1 (children_of b) ≡ [] = drop_all 1 (children_of b) (omega (arith, run_length b.len b.leasts b.children rest.run, one)) in
+      let none : drop 1 (children_of b) ≡ [] = drop_all 1 (children_of b) (omega (arith, entries_length b.len b.leasts b.children rest.entries, one)) in
       let list : children_of b ≡ k ∷ [] = e ∙ ap (λ r. k ∷ r) none in
       let child = (subst (AllByRecursion (IsChild (b.height - 1))) list rest.children).0 in (
         record {
@@ -70,7 +70,7 @@ module _ {V : Type 0} where
 
   -- more of them: an inner node
   pub some_children : (b : NodeInner V) → IsRest b → 0 < b.len → IsInner b
-  some_children b rest some = record { above_leaves = rest.above_leaves; some = some; run = rest.run; children = rest.children; ordered = rest.ordered; keys = rest.keys }
+  some_children b rest some = record { above_leaves = rest.above_leaves; some = some; entries = rest.entries; children = rest.children; ordered = rest.ordered; keys = rest.keys }
 
   pub piece_many : (b : NodeInner V) (x : Seen V) → IsRest b → 2 ≤ b.len → b.len < 32 → x ≡ seen_inner b → (IsSideRoot b.height x) × (x.rows ≡ rows_of (children_of b))
   piece_many b x rest two room e =
@@ -95,7 +95,7 @@ module _ {V : Type 0} where
   rest_part : (b part : NodeInner V) → 0 < b.height → part.height ≡ b.height → AreEntries part.len part.leasts part.children → AllByRecursion (IsChild (b.height - 1)) (children_of part) → IsOrderedBy key_of_pair (rows_of (children_of part)) → KeysBelow key_limit (rows_of (children_of part)) → IsRest part
   rest_part b part above_leaves height run children ordered keys = record {
     above_leaves = omega (arith, height, above_leaves);
-    run = run;
+    entries = run;
     children = subst (λ m. AllByRecursion (IsChild (m - 1)) (children_of part)) (sym height) children;
     ordered = ordered;
     keys = keys;
@@ -104,7 +104,7 @@ module _ {V : Type 0} where
   -- the keys in front of that child and behind it
   beside : (key i : ℕ) (b : NodeInner V) → IsInner b → IsChildPlace key i b.len b.leasts → (KeysBelow key (rows_of (take i (children_of b)))) × (KeysFrom key (rows_of (drop (i + 1) (children_of b))))
   beside key i b inner at =
-      let some = packed_some b.len i b.children inner.run.packed at.within in
+      let some = packed_some b.len i b.children inner.entries.packed at.within in
       let cut = cut_child key i b some.0 inner at some.1 in
       (cut.below, from-weaker key_of_pair key (key + 1) (rows_of (drop (i + 1) (children_of b))) (omega arith) cut.above)
 
@@ -114,7 +114,7 @@ module _ {V : Type 0} where
       let P = IsChild h in
       let f = children_of front in
       let r = children_of behind in
-      let long : length f ≡ i = run_length front.len front.leasts front.children front_run ∙ len in
+      let long : length f ≡ i = entries_length front.len front.leasts front.children front_run ∙ len in
       let all = subst (AllByRecursion P) list inner.children in
       let back = each-right P f (k ∷ r) all in
       let rows : rows_of (children_of b) ≡ rows_of f ++ (k.1.node.value.rows ++ rows_of r) = ap rows_of list ∙ rows_of-append f (k ∷ r) in
@@ -124,13 +124,13 @@ module _ {V : Type 0} where
       let sides = beside key i b inner at in
       let fronts : take i (children_of b) ≡ f = ap (take i) list ∙ take_at f (k ∷ r) i long in
       let backs : drop (i + 1) (children_of b) ≡ r = ap (drop (i + 1)) (list ∙ sym (append_assoc f (k ∷ []) r)) ∙ drop_at (f ++ (k ∷ [])) r (i + 1) (omega (arith, length-append f (k ∷ []), long)) in
-      let both : length f + (1 + length r) ≡ b.len = omega (arith, ap length list, length-append f (k ∷ r), run_length b.len b.leasts b.children inner.run) in
+      let both : length f + (1 + length r) ≡ b.len = omega (arith, ap length list, length-append f (k ∷ r), entries_length b.len b.leasts b.children inner.entries) in
       record {
         first = rest_part b front inner.above_leaves front_height front_run (each-left P f (k ∷ r) all) (ordered-left key_of_pair (rows_of f) (k.1.node.value.rows ++ rows_of r) o) (each-left Q (rows_of f) (k.1.node.value.rows ++ rows_of r) small);
         second = rest_part b behind inner.above_leaves behind_height behind_run back.1 (ordered-right key_of_pair k.1.node.value.rows (rows_of r) (ordered-right key_of_pair (rows_of f) (k.1.node.value.rows ++ rows_of r) o)) (each-right Q k.1.node.value.rows (rows_of r) (each-right Q (rows_of f) (k.1.node.value.rows ++ rows_of r) small));
         child = back.0;
-        first_room = omega (arith, both, inner.run.fits, run_length front.len front.leasts front.children front_run);
-        second_room = omega (arith, both, inner.run.fits, run_length behind.len behind.leasts behind.children behind_run);
+        first_room = omega (arith, both, inner.entries.fits, entries_length front.len front.leasts front.children front_run);
+        second_room = omega (arith, both, inner.entries.fits, entries_length behind.len behind.leasts behind.children behind_run);
         rows = sym rows;
         below = subst (λ l. KeysBelow key (rows_of l)) fronts sides.0;
         from = subst (λ l. KeysFrom key (rows_of l)) backs sides.1;
@@ -140,7 +140,7 @@ module _ {V : Type 0} where
   pub parted_at : (key i : ℕ) (b mid front behind : NodeInner V) (k : NodeChild V) → IsInner b → IsChildPlace key i b.len b.leasts → children_of mid ++ children_of behind ≡ children_of b → mid.len ≡ i + 1 → mid.height ≡ b.height → behind.height ≡ b.height → AreEntries mid.len mid.leasts mid.children → AreEntries behind.len behind.leasts behind.children
       → front.height ≡ mid.height → front.len + 1 ≡ mid.len → AreEntries front.len front.leasts front.children → children_of front ≡ take i (children_of mid) ++ drop (i + 1) (children_of mid) → children_of mid ≡ take i (children_of mid) ++ (k ∷ drop (i + 1) (children_of mid)) → IsSplitAt key b front behind k
   parted_at key i b mid front behind k inner at list mid_len mid_height behind_height mid_run behind_run height len run rest split =
-      let none : drop (i + 1) (children_of mid) ≡ [] = drop_all (i + 1) (children_of mid) (omega (arith, run_length mid.len mid.leasts mid.children mid_run, mid_len)) in
+      let none : drop (i + 1) (children_of mid) ≡ [] = drop_all (i + 1) (children_of mid) (omega (arith, entries_length mid.len mid.leasts mid.children mid_run, mid_len)) in
       let front_is : children_of front ≡ take i (children_of mid) = rest ∙ ap (λ l. take i (children_of mid) ++ l) none ∙ append-nil (take i (children_of mid)) in
       let mid_is : children_of mid ≡ children_of front ++ (k ∷ []) = split ∙ ap (λ l. take i (children_of mid) ++ (k ∷ l)) none ∙ ap (λ l. l ++ (k ∷ [])) (sym front_is) in
       let whole : children_of b ≡ children_of front ++ (k ∷ children_of behind) = sym list ∙ ap (λ l. l ++ children_of behind) mid_is ∙ append_assoc (children_of front) (k ∷ []) (children_of behind) in

@@ -8,20 +8,20 @@ use Rattle.mr_node.specs.Rows.{Seen, key_of_pair}
 use Rattle.mr_node.specs.EntryLists.{AreEntries}
 use Rattle.mr_node.specs.Levels.{NodeInner, children_of, rows_of, IsInner, seen_inner}
 use Rattle.mr_node.specs.Pairs.{IsChildNode}
-use Rattle.mr_node.specs.Parts.{IsWithChild}
+use Rattle.mr_node.specs.Parts.{HasOneMoreChild}
 use Rattle.mr_node.proofs.SizeLemmas.{inner_well, low_tree}
 use Rattle.mr_subtree.specs.Trees.{IsRoot}
 use Rattle.mr_cut.specs.declared.side_joins.Side.{Side}
 use Rattle.mr_cut.specs.declared.side_joins.Side.TheVariants.{Low, High}
 use Rattle.mr_cut.specs.SideJoins.{beside, IsTurned, MaybeNode, IsRest, IsSideJoined}
 use Rattle.mr_cut.specs.Cuts.{AreApart}
-use Rattle.mr_cut.specs.Joins.{IsRootless, IsRooted, IsHeightOfBoth, IsLower}
+use Rattle.mr_cut.specs.Joins.{AreToRoot, IsRootOf, IsHeightOfBoth, IsLower}
 use Rattle.mr_cut.proofs.SideJoinLemmas.{lone_inner, put_beside}
 
 module _ {V : Type 0} where
   -- all children of an inner node
   pub rest_of : (b : NodeInner V) → IsInner b → IsRest b
-  rest_of b inner = record { above_leaves = inner.above_leaves; run = inner.run; children = inner.children; ordered = inner.ordered; keys = inner.keys }
+  rest_of b inner = record { above_leaves = inner.above_leaves; entries = inner.entries; children = inner.children; ordered = inner.ordered; keys = inner.keys }
 
   -- a node that wants a root over it is lower than 16
   pub low_child : (h : ℕ) (x : Seen V) → IsChildNode h x → x.height < 16
@@ -35,7 +35,7 @@ module _ {V : Type 0} where
     pub rows : rows_of (children_of new) ≡ x.rows ++ y.rows
 
   pub inner_over_two : (x y : Seen V) (b mid new : NodeInner V) → IsChildNode x.height x → IsChildNode x.height y → IsOrderedBy key_of_pair (x.rows ++ y.rows) → b.height ≡ x.height + 1 → b.len ≡ 0 → AreEntries 0 b.leasts b.children
-      → IsWithChild 0 x b mid → mid.height ≡ b.height → mid.len ≡ b.len + 1 → AreEntries mid.len mid.leasts mid.children → IsWithChild 1 y mid new → new.height ≡ mid.height → new.len ≡ mid.len + 1 → AreEntries new.len new.leasts new.children → IsRootOver x y new
+      → HasOneMoreChild 0 x b mid → mid.height ≡ b.height → mid.len ≡ b.len + 1 → AreEntries mid.len mid.leasts mid.children → HasOneMoreChild 1 y mid new → new.height ≡ mid.height → new.len ≡ mid.len + 1 → AreEntries new.len new.leasts new.children → IsRootOver x y new
   inner_over_two x y b mid new first second ordered level none empty low low_height low_len low_run high high_height high_len high_run =
       let down : x.height ≡ x.height + 1 - 1 = omega arith in
       let one = lone_inner (x.height + 1) b mid x (omega arith) level none empty low low_height low_len low_run (subst (λ h. IsChildNode h x) down first) in
@@ -102,7 +102,7 @@ module _ {V : Type 0} where
 
   -- what came of a root and its neighbour wants a root over it where it is two
   rootless : (h w lower : ℕ) (rows : List (ℕ × V)) (x : Seen V) (o : MaybeNode V)
-      → (0 < h → 2 ≤ w) → IsOrderedBy key_of_pair rows → IsSideJoined h w lower rows x o → IsRootless x o
+      → (0 < h → 2 ≤ w) → IsOrderedBy key_of_pair rows → IsSideJoined h w lower rows x o → AreToRoot x o
   rootless h w lower rows x None two ordered side_joined = record { well = side_joined.well; two = λ above_leaves. omega (arith, side_joined.wide, two (omega (arith, above_leaves, side_joined.level))) }
   rootless h w lower rows x (Some y) two ordered side_joined = (
     subst (λ m. IsChildNode m x) (sym side_joined.first.level) side_joined.first,
@@ -112,28 +112,28 @@ module _ {V : Type 0} where
 
   pub both_rootless : {s : Side} {a b node other : Seen V} (x : Seen V) (o : MaybeNode V)
       → AreHigherFirst s a b node other → IsOrderedBy key_of_pair (a.rows ++ b.rows)
-      → IsSideJoined node.height node.width other.height (beside s node.rows other.rows) x o → IsRootless x o
+      → IsSideJoined node.height node.width other.height (beside s node.rows other.rows) x o → AreToRoot x o
   both_rootless {s = s} {node = node} {other = other} x o first ordered side_joined =
       let order = subst (IsOrderedBy key_of_pair) (sym first.list) ordered in
       rootless node.height node.width other.height (beside s node.rows other.rows) x o first.root.two order side_joined
 
-  pub root_left : (x z : Seen V) (o : MaybeNode V) → IsRootless x o → IsRooted x o z → IsRoot z
+  pub root_left : (x z : Seen V) (o : MaybeNode V) → AreToRoot x o → IsRootOf x o z → IsRoot z
   root_left x z None whole root_of_both = subst IsRoot (sym root_of_both) whole
   root_left x z (Some y) whole root_of_both = root_of_both.0
 
-  pub root_rows : (h w lower : ℕ) (rows : List (ℕ × V)) (x z : Seen V) (o : MaybeNode V) → IsSideJoined h w lower rows x o → IsRooted x o z → z.rows ≡ rows
+  pub root_rows : (h w lower : ℕ) (rows : List (ℕ × V)) (x z : Seen V) (o : MaybeNode V) → IsSideJoined h w lower rows x o → IsRootOf x o z → z.rows ≡ rows
   root_rows h w lower rows x z None side_joined root_of_both = ap (λ s. s.rows) root_of_both ∙ side_joined.list
   root_rows h w lower rows x z (Some y) side_joined root_of_both = root_of_both.2 ∙ side_joined.list
 
   -- a level more than the higher one, and none where it had room
-  root_height : (h w lower : ℕ) (rows : List (ℕ × V)) (x z : Seen V) (o : MaybeNode V) → IsSideJoined h w lower rows x o → IsRooted x o z → (z.height ≤ h + 1) × (lower < h → w < 32 → z.height ≤ h)
+  root_height : (h w lower : ℕ) (rows : List (ℕ × V)) (x z : Seen V) (o : MaybeNode V) → IsSideJoined h w lower rows x o → IsRootOf x o z → (z.height ≤ h + 1) × (lower < h → w < 32 → z.height ≤ h)
   root_height h w lower rows x z None side_joined root_of_both =
       let same : z.height ≡ h = ap (λ s. s.height) root_of_both ∙ side_joined.level in
       (omega (arith, same), λ lt room. omega (arith, same))
   root_height h w lower rows x z (Some y) side_joined root_of_both = (omega (arith, root_of_both.1, side_joined.first.level), λ lt room. absurd (omega (arith, room, side_joined.full lt)))
 
   pub both_height : {s : Side} {a b node other : Seen V} (rows : List (ℕ × V)) (x z : Seen V) (o : MaybeNode V)
-      → AreHigherFirst s a b node other → IsSideJoined node.height node.width other.height rows x o → IsRooted x o z
+      → AreHigherFirst s a b node other → IsSideJoined node.height node.width other.height rows x o → IsRootOf x o z
       → IsHeightOfBoth a b z.height
   both_height {node = node} {other = other} rows x z o first side_joined root_of_both =
       let both = root_height node.height node.width other.height rows x z o side_joined root_of_both in

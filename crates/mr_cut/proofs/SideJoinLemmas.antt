@@ -9,8 +9,8 @@ use Rattle.mr_node.specs.Rows.{Seen, key_of_pair, key_limit, KeysBelow}
 use Rattle.mr_node.specs.EntryLists.{AreEntries}
 use Rattle.mr_node.specs.Levels.{NodeChild, NodeInner, children_of, rows_of, IsWell, IsChild, IsInner, seen_inner}
 use Rattle.mr_node.specs.Pairs.{IsChildNode}
-use Rattle.mr_node.specs.Parts.{IsWithChild}
-use Rattle.mr_node.proofs.EntryListLemmas.{run_length}
+use Rattle.mr_node.specs.Parts.{HasOneMoreChild}
+use Rattle.mr_node.proofs.EntryListLemmas.{entries_length}
 use Rattle.mr_node.proofs.ChildLemmas.{rows_of-append}
 use Rattle.mr_node.proofs.SizeLemmas.{inner_well}
 use Rattle.mr_cut.specs.declared.side_joins.Side.{Side}
@@ -69,10 +69,10 @@ module _ {V : Type 0} where
   -- no children yet
   pub no_rest : (b : NodeInner V) → 0 < b.height → b.len ≡ 0 → AreEntries 0 b.leasts b.children → (IsRest b) × (children_of b ≡ [])
   no_rest b above_leaves none run =
-      let nil : children_of b ≡ [] = nil_from_length (children_of b) (run_length 0 b.leasts b.children run) in (
+      let nil : children_of b ≡ [] = nil_from_length (children_of b) (entries_length 0 b.leasts b.children run) in (
         record {
           above_leaves = above_leaves;
-          run = subst (λ n. AreEntries n b.leasts b.children) (sym none) run;
+          entries = subst (λ n. AreEntries n b.leasts b.children) (sym none) run;
           children = subst (AllByRecursion (IsChild (b.height - 1))) (sym nil) tt;
           ordered = subst (λ l. IsOrderedBy key_of_pair (rows_of l)) (sym nil) tt;
           keys = subst (λ l. KeysBelow key_limit (rows_of l)) (sym nil) tt;
@@ -82,14 +82,14 @@ module _ {V : Type 0} where
 
   -- the children that are left, with one more beside them, are an inner node
   pub put_beside : (s : Side) (i : ℕ) (b new : NodeInner V) (n : Seen V) → i ≡ end_of s b.len → IsRest b
-      → IsWithChild i n b new → new.height ≡ b.height → new.len ≡ b.len + 1 → AreEntries new.len new.leasts new.children
+      → HasOneMoreChild i n b new → new.height ≡ b.height → new.len ≡ b.len + 1 → AreEntries new.len new.leasts new.children
       → IsChildNode (b.height - 1) n → IsOrderedBy key_of_pair (beside s (rows_of (children_of b)) n.rows)
       → (IsInner new) × (rows_of (children_of new) ≡ beside s (rows_of (children_of b)) n.rows)
   put_beside s i b new n place rest inserted height len run node ordered =
       let P : NodeChild V → Type 0 = IsChild (b.height - 1) in
       let k = inserted.child in
       let rows = rows_of (children_of b) in
-      let long = run_length b.len b.leasts b.children rest.run in
+      let long = entries_length b.len b.leasts b.children rest.entries in
       let placed = ap (λ j. take j (children_of b) ++ (k ∷ drop j (children_of b))) place in
       let all : children_of new ≡ beside s (children_of b) (k ∷ []) = inserted.list ∙ placed ∙ put_in s (children_of b) k b.len long in
       let same = ap (λ m. beside s rows m.rows) inserted.same in
@@ -100,7 +100,7 @@ module _ {V : Type 0} where
         record {
           above_leaves = omega (arith, height, rest.above_leaves);
           some = omega (arith, len);
-          run = run;
+          entries = run;
           children = subst (λ m. AllByRecursion (IsChild (m - 1)) (children_of new)) (sym height) children;
           ordered = subst (IsOrderedBy key_of_pair) (sym list) ordered;
           keys = subst (KeysBelow key_limit) (sym list) keys;
@@ -115,7 +115,7 @@ module _ {V : Type 0} where
   seen_same new h rows eh el er = ap (λ m. seen_with m new.len (rows_of (children_of new))) eh ∙ ap (λ w. seen_with h w (rows_of (children_of new))) el ∙ ap (seen_with h 1) er
 
   -- an inner node of one child
-  pub lone_inner : (h : ℕ) (b new : NodeInner V) (n : Seen V) → 0 < h → b.height ≡ h → b.len ≡ 0 → AreEntries 0 b.leasts b.children → IsWithChild 0 n b new → new.height ≡ b.height → new.len ≡ b.len + 1 → AreEntries new.len new.leasts new.children → IsChildNode (h - 1) n → (IsInner new) × (seen_inner new ≡ seen_with h 1 n.rows)
+  pub lone_inner : (h : ℕ) (b new : NodeInner V) (n : Seen V) → 0 < h → b.height ≡ h → b.len ≡ 0 → AreEntries 0 b.leasts b.children → HasOneMoreChild 0 n b new → new.height ≡ b.height → new.len ≡ b.len + 1 → AreEntries new.len new.leasts new.children → IsChildNode (h - 1) n → (IsInner new) × (seen_inner new ≡ seen_with h 1 n.rows)
   lone_inner h b new n above_leaves level none empty inserted height len run node =
       let rest = no_rest b (omega (arith, above_leaves, level)) none empty in
       let same : n.rows ++ rows_of (children_of b) ≡ n.rows = ap (λ l. n.rows ++ rows_of l) rest.1 ∙ append-nil n.rows in
@@ -212,7 +212,7 @@ module _ {V : Type 0} where
     pub ordered : IsOrderedBy key_of_pair (beside s (rows_of (children_of b)) (x.rows ++ y.rows))
 
   pub near_back : (s : Side) (i : ℕ) (b new : NodeInner V) (x y near far : Seen V) → i ≡ end_of s b.len → IsRest b
-      → IsWithChild i near b new → new.height ≡ b.height → new.len ≡ b.len + 1 → AreEntries new.len new.leasts new.children
+      → HasOneMoreChild i near b new → new.height ≡ b.height → new.len ≡ b.len + 1 → AreEntries new.len new.leasts new.children
       → IsChildNode (b.height - 1) near → IsTurned s x y near far
       → IsOrderedBy key_of_pair (beside s (rows_of (children_of b)) (x.rows ++ y.rows)) → IsNearBack s b new x y far
   near_back s i b new x y near far place rest inserted height len run child turned ordered =
@@ -274,7 +274,7 @@ module _ {V : Type 0} where
       let P : NodeChild V → Type 0 = IsChild (b.height - 1) in
       let child = k.1.node.value in
       let rest = rows_of (children_of new) in
-      let long = run_length b.len b.leasts b.children inner.run in
+      let long = entries_length b.len b.leasts b.children inner.entries in
       let some : 0 < b.len = omega (arith, inner.some) in
       let list = taken_out s (children_of b) (children_of new) k i b.len long some place left split in
       let rows : rows_of (children_of b) ≡ beside s rest child.rows = ap rows_of list ∙ rows_of-beside s (children_of new) k in
@@ -289,12 +289,12 @@ module _ {V : Type 0} where
       record {
         rest = record {
           above_leaves = omega (arith, height, inner.above_leaves);
-          run = run;
+          entries = run;
           children = subst (λ m. AllByRecursion (IsChild (m - 1)) (children_of new)) (sym height) children.0;
           ordered = orders.0;
           keys = keys.0;
         };
-        room = omega (arith, len, inner.run.fits);
+        room = omega (arith, len, inner.entries.fits);
         enough = last.enough;
         down = omega (arith, last.level, height);
         level = omega (arith, last.level, inner.above_leaves, ap (λ z. z.height) now);

@@ -14,7 +14,7 @@ blanks_for_meld a b = abs_diff a b + 3
 abbrev pub most_of_joins : ℕ → ℕ
 most_of_joins height = 32 * ((height + 1) * (height + 1))
 
--- the most steps, and the fewest, that the slice of a tree of this height takes
+-- the most steps that the slice of a tree of this height takes
 abbrev pub most_of_slice : ℕ → ℕ
 most_of_slice height = 64 * ((height + 1) * (height + 1))
 
@@ -22,7 +22,7 @@ most_of_slice height = 64 * ((height + 1) * (height + 1))
 abbrev pub fewest_of_slice : ℕ → ℕ
 fewest_of_slice height = 9 * height + 3
 
--- the most steps, and the fewest, that the meld of trees of these heights takes
+-- the most steps that the meld of trees of these heights takes
 abbrev pub most_of_meld : ℕ → ℕ → ℕ
 most_of_meld a b = 16 * (abs_diff a b + 1)
 

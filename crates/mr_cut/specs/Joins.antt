@@ -15,14 +15,14 @@ IsLower Low low high = low < high
 IsLower High low high = high ≤ low
 
 -- a root, or two nodes that want one over them
-abbrev pub IsRootless : {V : Type 0} → Seen V → MaybeNode V → Type 0
-IsRootless one None = IsRoot one
-IsRootless one (Some two) = IsChildNode one.height one × IsChildNode one.height two.value × IsOrderedBy key_of_pair (one.rows ++ two.value.rows)
+abbrev pub AreToRoot : {V : Type 0} → Seen V → MaybeNode V → Type 0
+AreToRoot one None = IsRoot one
+AreToRoot one (Some two) = IsChildNode one.height one × IsChildNode one.height two.value × IsOrderedBy key_of_pair (one.rows ++ two.value.rows)
 
 -- the root of one node, or of two, a level higher
-abbrev pub IsRooted : {V : Type 0} → Seen V → MaybeNode V → Seen V → Type 0
-IsRooted one None root = root ≡ one
-IsRooted one (Some two) root = IsRoot root × (root.height ≡ one.height + 1) × (root.rows ≡ one.rows ++ two.value.rows)
+abbrev pub IsRootOf : {V : Type 0} → Seen V → MaybeNode V → Seen V → Type 0
+IsRootOf one None root = root ≡ one
+IsRootOf one (Some two) root = IsRoot root × (root.height ≡ one.height + 1) × (root.rows ≡ one.rows ++ two.value.rows)
 
 -- how high two roots are together: a level more than the higher one at most, and no more than it where it has room and
 -- the other one is lower

@@ -33,7 +33,7 @@ MaybeNode V = Option (Box (Seen V) Global)
 -- some children of an inner node, or none
 pub record IsRest {V : Type 0} (b : NodeInner V) : Type 0 where
   pub above_leaves : 0 < b.height
-  pub run : AreEntries b.len b.leasts b.children
+  pub entries : AreEntries b.len b.leasts b.children
   pub children : AllByRecursion (IsChild (b.height - 1)) (children_of b)
   pub ordered : IsOrderedBy key_of_pair (rows_of (children_of b))
   pub keys : KeysBelow key_limit (rows_of (children_of b))

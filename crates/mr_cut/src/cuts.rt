@@ -13,7 +13,7 @@ use mr_node::{
 
 /// A root over some children of an inner node: a blank leaf, the only child, or an inner node. One step at most.
 #[inline(never)]
-fn root_of<V: Drop>(
+fn root_of<V: Drop + Default>(
     mut inner: Inner<Box<Node<V>>>,
     blank: Box<Node<V>>,
     meter: &mut Meter,
@@ -36,7 +36,7 @@ fn root_of<V: Drop>(
 
 /// The child to which a key belongs, between roots over the children in front of it and behind it. Two steps at most.
 #[inline(never)]
-fn divide<V: Drop>(
+fn divide<V: Drop + Default>(
     mut inner: Inner<Box<Node<V>>>,
     key: u64,
     blank: Box<Node<V>>,
@@ -60,7 +60,7 @@ fn divide<V: Drop>(
 
 /// The two roots of a leaf that is cut at a key. Two steps.
 #[inline(never)]
-fn halves_of<V: Drop>(
+fn halves_of<V: Drop + Default>(
     mut leaf: Leaf<V>,
     key: u64,
     blank: Box<Node<V>>,
@@ -78,7 +78,7 @@ fn halves_of<V: Drop>(
 
 /// Cuts a node at a key into two roots that are no higher than it. One meter counts what the path itself opens and
 /// builds, and the other one what the joins beside it do.
-pub(crate) fn cut<V: Drop>(
+pub(crate) fn cut<V: Drop + Default>(
     node: Box<Node<V>>,
     key: u64,
     stock: &mut Stock<V>,

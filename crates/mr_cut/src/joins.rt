@@ -7,28 +7,28 @@ ghost use Rattle.mr_node.specs.Steps.{after_steps};
 ghost use Rattle.mr_subtree.specs.Trees.{IsRoot};
 ghost use Rattle.mr_cut.specs.Bounds.{join_steps, most_of_meld, fewest_of_meld};
 ghost use Rattle.mr_cut.specs.SideJoins.{more_of};
-ghost use Rattle.mr_cut.specs.Joins.{IsRootless, IsRooted, IsRootCount, IsHeightOfBoth, IsLower};
+ghost use Rattle.mr_cut.specs.Joins.{AreToRoot, IsRootOf, IsRootCount, IsHeightOfBoth, IsLower};
 
 use crate::side_joins::{Side, join_side, turned};
-use mr_node::{Meter, Node, Stock, build_inner, insert_child, no_inner};
+use mr_node::{Meter, Node, Stock, build_inner, empty_inner, insert_child};
 
 /// The root of what is one node, or two under a new one. One step where there are two.
 #[inline(never)]
-fn root_of_both<V: Drop>(
+fn root_of_both<V: Drop + Default>(
     one: Box<Node<V>>,
     two: Option<Box<Node<V>>>,
     stock: &mut Stock<V>,
     meter: &mut Meter,
 ) -> Box<Node<V>>
-    requires whole { IsRootless one.value two }
+    requires whole { AreToRoot one.value two }
     requires stock { 0 < stock.old }
-    ensures root { IsRooted one.value two result.value }
+    ensures root { IsRootOf one.value two result.value }
     ensures stock { stock.old ≡ stock.new + more_of two }
     ensures steps { IsRootCount two meter.old meter.new }
 {
     match two {
         Some(two) => {
-            let mut root = no_inner(one.height() + 1);
+            let mut root = empty_inner(one.height() + 1);
             insert_child(&mut root, 0, one);
             insert_child(&mut root, 1, two);
             build_inner(root, stock.give(), meter)
@@ -46,7 +46,7 @@ fn side_of(low: u64, high: u64) -> Side
 
 /// Joins two roots: the rows of the low one, and then those of the high one.
 #[inline(never)]
-pub(crate) fn join<V: Drop>(
+pub(crate) fn join<V: Drop + Default>(
     low: Box<Node<V>>,
     high: Box<Node<V>>,
     stock: &mut Stock<V>,

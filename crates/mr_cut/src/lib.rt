@@ -1,4 +1,6 @@
-//! Slice and meld: a tree is cut at a key, and two trees are joined, along one path. Whole sub-trees go over as boxes.
+//! Slice and meld: a tree is cut at a key, and two trees are joined, along one path, while whole sub-trees go over as
+//! boxes. Both take a bounded number of steps a level, and no memory but blank nodes of a stock. The stock has to be
+//! large enough before the call, which refuses nothing: `need_slice` and `need_meld` tell how large.
 #![tactic(auto)]
 
 mod cuts;

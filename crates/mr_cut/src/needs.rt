@@ -28,7 +28,7 @@ pub fn need_meld(low: u64, high: u64) -> usize
 }
 
 /// The blank nodes for a slice of a tree of this height (`need_slice`). `Memory` where they can't be had.
-pub fn stock_for_slice<V: Drop>(alloc: Global, height: u64) -> Result<Stock<V>, Refusal>
+pub fn stock_for_slice<V: Drop + Default>(alloc: Global, height: u64) -> Result<Stock<V>, Refusal>
     requires { height < 16 }
     ensures { MatchResult result (λ stock. stock ≡ blanks_for_slice height) (λ why. why ≡ Refusal.Memory) }
 {
@@ -36,7 +36,11 @@ pub fn stock_for_slice<V: Drop>(alloc: Global, height: u64) -> Result<Stock<V>, 
 }
 
 /// The blank nodes for a meld of trees of these heights (`need_meld`). `Memory` where they can't be had.
-pub fn stock_for_meld<V: Drop>(alloc: Global, low: u64, high: u64) -> Result<Stock<V>, Refusal>
+pub fn stock_for_meld<V: Drop + Default>(
+    alloc: Global,
+    low: u64,
+    high: u64,
+) -> Result<Stock<V>, Refusal>
     requires low { low < 16 }
     requires high { high < 16 }
     ensures { MatchResult result (λ stock. stock ≡ blanks_for_meld low high) (λ why. why ≡ Refusal.Memory) }

@@ -10,7 +10,7 @@ ghost use Rattle.mr_cut.specs.Bounds.{join_steps};
 ghost use Rattle.mr_cut.specs.SideJoins.{rows_with, more_of};
 
 use mr_node::{
-    Body, Inner, Meter, Node, Stock, build_inner, insert_child, no_inner, open, take_child,
+    Body, Inner, Meter, Node, Stock, build_inner, empty_inner, insert_child, open, take_child,
 };
 
 /// On which side of a node another one is joined.
@@ -49,7 +49,7 @@ pub(crate) fn turned<V: Drop>(
 
 /// Evens out two neighbours of one height. Four steps.
 #[inline(never)]
-fn even<V: Drop>(
+fn even<V: Drop + Default>(
     mut low: Box<Node<V>>,
     mut high: Box<Node<V>>,
     meter: &mut Meter,
@@ -92,14 +92,14 @@ fn lone<V: Drop>(
     ensures node { result.value ≡ record { height = height; width = 1; rows = node.value.rows } }
     ensures steps { meter.new ≡ after_steps 1 meter.old }
 {
-    let mut inner = no_inner(height);
+    let mut inner = empty_inner(height);
     insert_child(&mut inner, 0, node);
     build_inner(inner, blank, meter)
 }
 
 /// Puts what became of the child at a side back beside the others. One step, or six where it became two.
 #[inline(never)]
-fn put_back<V: Drop>(
+fn put_back<V: Drop + Default>(
     side: Side,
     mut inner: Inner<Box<Node<V>>>,
     one: Box<Node<V>>,
@@ -139,7 +139,7 @@ fn put_back<V: Drop>(
 
 /// Joins a node beside one that is as high or higher: one node of that height comes of it, or two half full ones. Four
 /// steps, and two a level between, or seven where two nodes come back.
-pub(crate) fn join_side<V: Drop>(
+pub(crate) fn join_side<V: Drop + Default>(
     side: Side,
     node: Box<Node<V>>,
     other: Box<Node<V>>,

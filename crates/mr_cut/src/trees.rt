@@ -26,7 +26,7 @@ pub struct Cut<V> {
 
 /// Takes the root of a tree out, in a box; the tree has no row then.
 #[inline(never)]
-fn take_root<V: Drop>(tree: &mut SubTree<V>, mut blank: Box<Node<V>>) -> Box<Node<V>>
+fn take_root<V: Drop + Default>(tree: &mut SubTree<V>, mut blank: Box<Node<V>>) -> Box<Node<V>>
     ensures root { result.value ≡ tree.old }
     ensures rules { IsRoot result.value }
     ensures rows { tree.new.rows ≡ [] }
@@ -51,7 +51,7 @@ fn put_root<V: Drop>(place: &mut SubTree<V>, root: Box<Node<V>>)
 
 /// Cuts a tree at a key: at most three steps a level on the path, and two melds a level beside it. It takes no memory
 /// but the blank nodes of the stock (`need_slice`).
-pub fn slice<V: Drop>(tree: SubTree<V>, key: u64, stock: &mut Stock<V>) -> Cut<V>
+pub fn slice<V: Drop + Default>(tree: SubTree<V>, key: u64, stock: &mut Stock<V>) -> Cut<V>
     requires stock { blanks_for_slice tree.height ≤ stock.old }
     ensures low { result.low.rows ≡ rows_below key tree.rows }
     ensures high { result.high.rows ≡ rows_from key tree.rows }
@@ -77,7 +77,7 @@ pub fn slice<V: Drop>(tree: SubTree<V>, key: u64, stock: &mut Stock<V>) -> Cut<V
 
 /// Cuts a tree at a key, as `slice` does: it keeps the rows with keys below the key, and those from the key on stand in
 /// another one, in place of its own. How many steps it took, and how many of them fell on the path.
-pub fn slice_into<V: Drop>(
+pub fn slice_into<V: Drop + Default>(
     tree: &mut SubTree<V>,
     high: &mut SubTree<V>,
     key: u64,
@@ -108,7 +108,7 @@ pub fn slice_into<V: Drop>(
 /// other; and how many steps it took: four, two for each level by which the heights differ, five for each of those
 /// levels from which two nodes came back, and one for a new root. It takes no memory but the blank nodes of the stock
 /// (`need_meld`): two, one for each such level, and one for a new root.
-pub fn meld<V: Drop>(
+pub fn meld<V: Drop + Default>(
     mut low: SubTree<V>,
     mut high: SubTree<V>,
     stock: &mut Stock<V>,
@@ -129,7 +129,11 @@ pub fn meld<V: Drop>(
 
 /// Joins a tree with another one, as `meld` does: it has the rows of both, and the other one none. How many steps it
 /// took.
-pub fn meld_from<V: Drop>(low: &mut SubTree<V>, high: &mut SubTree<V>, stock: &mut Stock<V>) -> u64
+pub fn meld_from<V: Drop + Default>(
+    low: &mut SubTree<V>,
+    high: &mut SubTree<V>,
+    stock: &mut Stock<V>,
+) -> u64
     requires apart { AreApart low.old.rows high.old.rows }
     requires stock { blanks_for_meld low.old.height high.old.height ≤ stock.old }
     ensures rows { low.new.rows ≡ low.old.rows ++ high.old.rows }

@@ -14,7 +14,7 @@ use Rattle.mr_node.specs.Levels.{NodePart, NodeChild, NodeInner, children_of, ro
 use Rattle.mr_node.specs.Levels.{IsChildPlace}
 use Rattle.mr_node.specs.declared.body.Child.{Child}
 use Rattle.mr_node.proofs.PlaceLemmas.{packed_some}
-use Rattle.mr_node.proofs.EntryListLemmas.{run_length, run_split, run_next, run_rest}
+use Rattle.mr_node.proofs.EntryListLemmas.{entries_length, entries_split, entries_next, entries_rest}
 
 module _ {V : Type 0} where
   pub rows_of-append : (a b : List (NodeChild V)) → rows_of (a ++ b) ≡ rows_of a ++ rows_of b
@@ -67,18 +67,18 @@ module _ {V : Type 0} where
   above_child : (key i : ℕ) (b : NodeInner V) → IsInner b → IsChildPlace key i b.len b.leasts → AllByRecursion (IsChild (b.height - 1)) (drop (i + 1) (children_of b)) → IsOrderedBy key_of_pair (rows_of (drop (i + 1) (children_of b))) → KeysFrom (key + 1) (rows_of (drop (i + 1) (children_of b)))
   above_child key i b inner at after o = elim (cases_lt (i + 1) b.len) [
     | inl lt ↦
-        let next = packed_some b.len (i + 1) b.children inner.run.packed lt in
-        let more = run_rest b.len (i + 1) next.0 b.leasts b.children inner.run next.1 in
+        let next = packed_some b.len (i + 1) b.children inner.entries.packed lt in
+        let more = entries_rest b.len (i + 1) next.0 b.leasts b.children inner.entries next.1 in
         let child = (subst (AllByRecursion (IsChild (b.height - 1))) more after).0 in
         subst (λ x. KeysFrom (key + 1) (rows_of x)) (sym more) (above_next key (b.height - 1) (child_at b (i + 1) next.0) (drop (i + 1 + 1) (children_of b)) child (at.next lt) (subst (λ x. IsOrderedBy key_of_pair (rows_of x)) more o))
-    | inr le ↦ subst (λ x. KeysFrom (key + 1) (rows_of x)) (sym (drop_all (i + 1) (children_of b) (omega (arith, run_length b.len b.leasts b.children inner.run, le)))) tt
+    | inr le ↦ subst (λ x. KeysFrom (key + 1) (rows_of x)) (sym (drop_all (i + 1) (children_of b) (omega (arith, entries_length b.len b.leasts b.children inner.entries, le)))) tt
   ]
 
   pub cut_child : (key i : ℕ) (b : NodeInner V) (k : NodePart V) → IsInner b → IsChildPlace key i b.len b.leasts → get_or b.children i None ≡ Some k → IsCutAt key (b.height - 1) i (children_of b) (child_at b i k)
   cut_child key i b k inner at got =
       let children = children_of b in
       let x = child_at b i k in
-      let split = run_split b.len i k b.leasts b.children inner.run got in
+      let split = entries_split b.len i k b.leasts b.children inner.entries got in
       let all = subst (AllByRecursion (IsChild (b.height - 1))) split inner.children in
       let back = each-right (IsChild (b.height - 1)) (take i children) (x ∷ drop (i + 1) children) all in
       let rows = ap rows_of split ∙ rows_of-append (take i children) (x ∷ drop (i + 1) children) in
@@ -98,7 +98,7 @@ module _ {V : Type 0} where
   inner_of b new a d k rows above_leaves height some run list before child after e ordered keys = record {
     above_leaves = omega (arith, height, above_leaves);
     some = some;
-    run = run;
+    entries = run;
     children = subst (λ h. AllByRecursion (IsChild (h - 1)) (children_of new)) (sym height) (subst (AllByRecursion (IsChild (b.height - 1))) (sym list) (each-append (IsChild (b.height - 1)) a (k ∷ d) before (child, after)));
     ordered = subst (IsOrderedBy key_of_pair) (sym e) ordered;
     keys = subst (KeysBelow key_limit) (sym e) keys;
@@ -107,8 +107,8 @@ module _ {V : Type 0} where
   -- the first of the least keys is that of all rows
   pub least_inner : (b : NodeInner V) → IsInner b → StartsWith (get_or b.leasts 0 0) (rows_of (children_of b))
   least_inner b inner =
-      let some = packed_some b.len 0 b.children inner.run.packed inner.some in
-      let list = run_split b.len 0 some.0 b.leasts b.children inner.run some.1 in
+      let some = packed_some b.len 0 b.children inner.entries.packed inner.some in
+      let list = entries_split b.len 0 some.0 b.leasts b.children inner.entries some.1 in
       let all = subst (AllByRecursion (IsChild (b.height - 1))) list inner.children in
       subst (λ l. StartsWith (get_or b.leasts 0 0) (rows_of l)) (sym list) (starts_left key_of_pair (get_or b.leasts 0 0) some.0.node.value.rows (rows_of (drop (0 + 1) (children_of b))) all.0.first)
 
@@ -122,7 +122,7 @@ module _ {B : Type 0} where
   counts_more n i m ks ps run lt count =
       let here = packed_some n i ps run.packed lt in
       let same : m ≡ here.0.count = subst (λ o. IfSome o (λ k. m ≡ k.count)) here.1 count in
-      let more = run_next n i here.0 ks ps run here.1 in
+      let more = entries_next n i here.0 ks ps run here.1 in
       omega (arith, same, ap (sum_by (λ k. k.1.count)) more, sum_by-append (λ k. k.1.count) (take i (entries ks ps)) ((get_or ks i 0, here.0) ∷ []))
 
   pub counts_within : (i : ℕ) (children : List (ℕ × Child B)) → sum_by (λ k. k.1.count) (take i children) ≤ sum_by (λ k. k.1.count) children

@@ -13,7 +13,7 @@ use Rattle.mr_node.specs.Levels.{IsChildPlace}
 use Rattle.mr_node.specs.Pairs.{IsHalved}
 use Rattle.mr_node.specs.Inside.{IsWholeAgain, IsRoomAt, IsSplitAt}
 use Rattle.mr_node.proofs.PlaceLemmas.{packed_some}
-use Rattle.mr_node.proofs.EntryListLemmas.{run_length, run_read, run_split, run_written}
+use Rattle.mr_node.proofs.EntryListLemmas.{entries_length, entries_read, entries_split, entries_written}
 use Rattle.mr_node.proofs.ChildLemmas.{IsCutAt, rows_of-append, child_at, cut_child}
 use Rattle.mr_node.proofs.NodeLemmas.{inner_set, part_grown, find_cut, grown_inner}
 use Rattle.mr_node.proofs.RebalanceLemmas.{some_rows, starts_front, child_of_node, node_at}
@@ -27,14 +27,14 @@ module _ {V : Type 0} where
 
   read_part : (i : ℕ) (b : NodeInner V) (p q : List (NodeChild V)) (m : NodeChild V) → AreEntries b.len b.leasts b.children → children_of b ≡ p ++ (m ∷ q) → length p ≡ i → IsReadAs i b m
   read_part i b p q m run e len =
-      let lt : i < b.len = omega (arith, run_length b.len b.leasts b.children run, ap length e, length-append p (m ∷ q), len) in
+      let lt : i < b.len = omega (arith, entries_length b.len b.leasts b.children run, ap length e, length-append p (m ∷ q), len) in
       let some = packed_some b.len i b.children run.packed lt in
-      let same : (get_or b.leasts i 0, some.0) ≡ m = sym (run_read b.len i some.0 b.leasts b.children run some.1) ∙ ap (λ l. get_or l i (0, some.0)) e ∙ get_or_at p m q (0, some.0) i len in
+      let same : (get_or b.leasts i 0, some.0) ≡ m = sym (entries_read b.len i some.0 b.leasts b.children run some.1) ∙ ap (λ l. get_or l i (0, some.0)) e ∙ get_or_at p m q (0, some.0) i len in
       record { within = lt; least = ap (λ k. k.0) same; part = some.1 ∙ ap Some (ap (λ k. k.1) same) }
 
   room_at_of : (key i : ℕ) (b : NodeInner V) (p q : List (NodeChild V)) (m : NodeChild V) → AreEntries b.len b.leasts b.children → children_of b ≡ p ++ (m ∷ q) → length p ≡ i → KeysBelow key (rows_of p) → KeysFrom (key + 1) (rows_of q) → m.1.node.value.width < 32 → IsRoomAt key i b
   room_at_of key i b p q m run e len below above room =
-      let lt : i < b.len = omega (arith, run_length b.len b.leasts b.children run, ap length e, length-append p (m ∷ q), len) in
+      let lt : i < b.len = omega (arith, entries_length b.len b.leasts b.children run, ap length e, length-append p (m ∷ q), len) in
       let front : take i (children_of b) ≡ p = ap (take i) e ∙ take_at p (m ∷ q) i len in
       let back : drop (i + 1) (children_of b) ≡ q = ap (drop (i + 1)) (e ∙ sym (append_assoc p (m ∷ []) q)) ∙ drop_at (p ++ (m ∷ [])) q (i + 1) (omega (arith, length-append p (m ∷ []), len)) in
       record {
@@ -47,7 +47,7 @@ module _ {V : Type 0} where
   -- a child that has room is found where the key belongs
   pub room_found : (key i w : ℕ) (b : NodeInner V) → IsInner b → IsChildPlace key i b.len b.leasts → IfSome (get_or b.children i None) (λ k. w ≡ k.node.value.width) → w < 32 → IsRoomAt key i b
   room_found key i w b inner at width small =
-      let some = packed_some b.len i b.children inner.run.packed at.within in
+      let some = packed_some b.len i b.children inner.entries.packed at.within in
       let cut = cut_child key i b some.0 inner at some.1 in
       let wide : w ≡ some.0.node.value.width = subst (λ o. IfSome o (λ k. w ≡ k.node.value.width)) some.1 width in
       record { within = at.within; below = cut.below; above = cut.above; room = subst (λ o. IfSome o (λ k. k.node.value.width < 32)) (sym some.1) (omega (arith, wide)) }
@@ -58,7 +58,7 @@ module _ {V : Type 0} where
   -- a full child is 32 wide
   pub full_width : (key i w : ℕ) (b : NodeInner V) → IsInner b → IsChildPlace key i b.len b.leasts → IfSome (get_or b.children i None) (λ k. w ≡ k.node.value.width) → 32 ≤ w → IfSome (get_or b.children i None) (λ k. k.node.value.width ≡ 32)
   full_width key i w b inner at width big =
-      let some = packed_some b.len i b.children inner.run.packed at.within in
+      let some = packed_some b.len i b.children inner.entries.packed at.within in
       let cut = cut_child key i b some.0 inner at some.1 in
       let wide : w ≡ some.0.node.value.width = subst (λ o. IfSome o (λ k. w ≡ k.node.value.width)) some.1 width in
       subst (λ o. IfSome o (λ k. k.node.value.width ≡ 32)) (sym some.1) (omega (arith, wide, big, cut.child.well.fits))
@@ -69,10 +69,10 @@ module _ {V : Type 0} where
   parted_halves i least b mid new k low high x z inner lt got em en height len run halved el cl eh ch starts =
       let e = children_of b in
       let h = b.height - 1 in
-      let old = run_split b.len i k b.leasts b.children inner.run got in
+      let old = entries_split b.len i k b.leasts b.children inner.entries got in
       let child = (each-right (IsChild h) (take i e) (child_at b i k ∷ drop (i + 1) e) (subst (AllByRecursion (IsChild h)) old inner.children)).0 in
-      let written = run_written b.len i low b.leasts b.children inner.run lt in
-      let long = length-take-le i e (omega (arith, run_length b.len b.leasts b.children inner.run, lt)) in
+      let written = entries_written b.len i low b.leasts b.children inner.entries lt in
+      let long = length-take-le i e (omega (arith, entries_length b.len b.leasts b.children inner.entries, lt)) in
       let front = take i e ++ (child_at b i low ∷ []) in
       let cut : children_of mid ≡ front ++ drop (i + 1) e = ap children_of em ∙ written.1 ∙ sym (append_assoc (take i e) (child_at b i low ∷ []) (drop (i + 1) e)) in
       let wide : length front ≡ i + 1 = omega (arith, length-append (take i e) (child_at b i low ∷ []), long) in
@@ -89,7 +89,7 @@ module _ {V : Type 0} where
         list = list;
         height = height ∙ ap (λ n. n.height) em;
         len = omega (arith, len, ap (λ n. n.len) em);
-        run = run;
+        entries = run;
         rows = ap rows_of list ∙ rows_of-append (take i e) (child_at b i low ∷ ((least, high) ∷ drop (i + 1) e))
             ∙ ap (λ r. rows_of (take i e) ++ r) (ap (λ s. s.rows ++ (high.node.value.rows ++ tail)) el ∙ ap (λ s. x.rows ++ (s.rows ++ tail)) eh ∙ sym (append_assoc x.rows z.rows tail) ∙ ap (λ r. r ++ tail) halved.rows)
             ∙ sym (ap rows_of old ∙ rows_of-append (take i e) (child_at b i k ∷ drop (i + 1) e));
@@ -118,7 +118,7 @@ module _ {V : Type 0} where
         whole = record {
           above_leaves = omega (arith, sp.height, inner.above_leaves);
           some = omega (arith, sp.len, inner.some);
-          run = sp.run;
+          entries = sp.entries;
           children = subst (λ n. AllByRecursion (IsChild (n - 1)) (children_of new)) (sym sp.height) (subst (AllByRecursion (IsChild h)) (sym sp.list) (each-append (IsChild h) a (sp.low ∷ (sp.high ∷ d)) (front_children h from (children_of b) inner.children) (sp.lower, (sp.upper, back_children h to (children_of b) inner.children))));
           ordered = subst (IsOrderedBy key_of_pair) (sym sp.rows) inner.ordered;
           keys = subst (KeysBelow key_limit) (sym sp.rows) inner.keys;
@@ -142,13 +142,13 @@ module _ {V : Type 0} where
   parted_front : (from i : ℕ) (b new : NodeInner V) → from ≤ i → i < b.len → IsInner b → (sp : IsSplitAt from (i + 1) b new) → (children_of new ≡ (take from (children_of b) ++ (sp.low ∷ [])) ++ (sp.high ∷ drop (i + 1) (children_of b))) × (length (take from (children_of b)) ≡ from) × (length (take from (children_of b) ++ (sp.low ∷ [])) ≡ from + 1)
   parted_front from i b new le lt inner sp =
       let a = take from (children_of b) in
-      let long : length a ≡ from = length-take-le from (children_of b) (omega (arith, run_length b.len b.leasts b.children inner.run, le, lt)) in
+      let long : length a ≡ from = length-take-le from (children_of b) (omega (arith, entries_length b.len b.leasts b.children inner.entries, le, lt)) in
       (sp.list ∙ sym (append_assoc a (sp.low ∷ []) (sp.high ∷ drop (i + 1) (children_of b))), long, omega (arith, length-append a (sp.low ∷ []), long))
 
   pub parted_next : (from i : ℕ) (b new : NodeInner V) → from ≤ i → i < b.len → IsInner b → (sp : IsSplitAt from (i + 1) b new) → IsReadAs (from + 1) new sp.high
   parted_next from i b new le lt inner sp =
       let front = parted_front from i b new le lt inner sp in
-      read_part (from + 1) new (take from (children_of b) ++ (sp.low ∷ [])) (drop (i + 1) (children_of b)) sp.high sp.run front.0 front.2
+      read_part (from + 1) new (take from (children_of b) ++ (sp.low ∷ [])) (drop (i + 1) (children_of b)) sp.high sp.entries front.0 front.2
 
   pub parted_low : (from i : ℕ) (b new : NodeInner V) (key : ℕ) (k : NodeChild V) → from ≤ i → i < b.len → IsInner b → IsCutAt key (b.height - 1) i (children_of b) k → (sp : IsSplitAt from (i + 1) b new) → key < sp.high.0 → IsRoomAt key from new
   parted_low from i b new key k le lt inner cut sp less =
@@ -156,7 +156,7 @@ module _ {V : Type 0} where
       let low = sp.low.1.node.value.rows in
       let high = sp.high.1.node.value.rows in
       let o = ordered-right key_of_pair low (high ++ rows_of d) (ordered_tail from (i + 1) b new inner sp) in
-      room_at_of key from new (take from (children_of b)) (sp.high ∷ d) sp.low sp.run sp.list (parted_front from i b new le lt inner sp).1 (below_front key from i (children_of b) le cut.below)
+      room_at_of key from new (take from (children_of b)) (sp.high ∷ d) sp.low sp.entries sp.list (parted_front from i b new le lt inner sp).1 (below_front key from i (children_of b) le cut.below)
       (from-weaker key_of_pair (key + 1) sp.high.0 (high ++ rows_of d) (omega (arith, less)) (from_start key_of_pair sp.high.0 (high ++ rows_of d) (starts_left key_of_pair sp.high.0 high (rows_of d) sp.upper.first) o))
       sp.low_room
 
@@ -169,14 +169,14 @@ module _ {V : Type 0} where
       let lows = below-weaker key_of_pair sp.high.0 key low more (below_start key_of_pair sp.high.0 low high (rows_of d) sp.upper.first (ordered_tail from (i + 1) b new inner sp)) in
       let below = subst (KeysBelow key) (sym (rows_of-append a (sp.low ∷ []))) (each-append (λ p. p.0 < key) (rows_of a) (low ++ []) (below_front key from i (children_of b) le cut.below) (each-append (λ p. p.0 < key) low [] lows tt)) in
       let front = parted_front from i b new le lt inner sp in
-      room_at_of key (from + 1) new (a ++ (sp.low ∷ [])) d sp.high sp.run front.0 front.2 below cut.above sp.high_room
+      room_at_of key (from + 1) new (a ++ (sp.low ∷ [])) d sp.high sp.entries front.0 front.2 below cut.above sp.high_room
 
   -- the place with room as a cut
   pub cut_of_room : (key i : ℕ) (b : NodeInner V) (k : NodePart V) → IsInner b → IsRoomAt key i b → get_or b.children i None ≡ Some k → (IsCutAt key (b.height - 1) i (children_of b) (child_at b i k)) × (k.node.value.width < 32)
   cut_of_room key i b k inner at got =
       let children = children_of b in
       let x = child_at b i k in
-      let split = run_split b.len i k b.leasts b.children inner.run got in
+      let split = entries_split b.len i k b.leasts b.children inner.entries got in
       let all = subst (AllByRecursion (IsChild (b.height - 1))) split inner.children in
       let back = each-right (IsChild (b.height - 1)) (take i children) (x ∷ drop (i + 1) children) all in (
         record {

@@ -1,7 +1,8 @@
 -- What a leaf has at and round the place of a key.
 use Rattle.std.proofs.Common.{◌≡◌, ◌≢◌, ℕ, ◌+◌, ◌-◌, ◌<◌, ◌≤◌, suc, zero, List, [], ◌∷◌, ◌++◌, length, get_or, set, take, drop, Option, Some, None, IsSome, IfSome, option_map, refl, sym, ap, subst, ◌∙◌, arith, add-one, inl, inr}
-use Rattle.std.specs.List.{insert, remove}
-use Rattle.std.proofs.lemmas.List.{drop_all, get_or_default, length-set, length-append, length-take, length-drop, take-append-drop}
+use Rattle.std.specs.List.{insert, remove, slice_get}
+use Rattle.std.proofs.lemmas.List.{drop_all, length-set, length-append, length-take, length-drop, take-append-drop}
+use Rattle.std.proofs.lemmas.Option.{slice_get_read}
 use Rattle.std.proofs.lemmas.List.Edits.{insert_end}
 use Rattle.std.proofs.lemmas.Bool.{cases_lt}
 use Rattle.tatp_rows.specs.Ordered.{IsOrderedBy, row_at, with_row_at, with_row, without_row}
@@ -10,31 +11,30 @@ use Rattle.tatp_rows.proofs.OrderedLemmas.{each-with_row, each-without_row, orde
 use Rattle.tatp_rows.proofs.SpanLemmas.{below-weaker, from-weaker, ordered_front, ordered_back, row_at-skip, row_at-absent, row_at-here, with_row_at-skip, with_row_at-absent, with_row_at-here, without_row-skip, without_row-absent, without_row-here, with_row-skip, with_row-front, every-with_row_at-same}
 use Rattle.mr_node.specs.declared.body.Leaf.{Leaf}
 use Rattle.mr_node.specs.Rows.{value_at, key_of_pair, KeysBelow, KeysFrom, key_limit}
-use Rattle.mr_node.specs.EntryLists.{no_key, somes, AreEntries, IsPadded}
+use Rattle.mr_node.specs.EntryLists.{no_key, AreKeyed, IsPadded}
 use Rattle.mr_node.specs.Search.{IsRising, IsStop}
 use Rattle.mr_node.specs.Levels.{IsLeaf, pairs_of, seen_leaf}
 use Rattle.mr_node.specs.Entries.{IsThere, IsFree}
 use Rattle.mr_node.specs.Growth.{IsGrown, IsRoomAnswer}
 use Rattle.mr_node.specs.declared.room.Room.TheVariants.{Done, Exists, Full}
-use Rattle.mr_node.proofs.PlaceLemmas.{packed_some, packed_insert, packed_remove, somes_insert, somes_remove}
 use Rattle.mr_node.proofs.SizeLemmas.{leaf_well}
-use Rattle.mr_node.proofs.EntryListLemmas.{run_length, run_split, run_written, run_inserted, run_removed, run_behind, run_below, put_behind, run_rises, run_next, run_rest}
+use Rattle.mr_node.proofs.KeyedLemmas.{item_at, keyed_length, keyed_split, keyed_written, keyed_inserted, keyed_removed, keyed_behind, keyed_below, put_behind, keyed_rises, keyed_next, keyed_rest}
 
 module _ {V : Type 0} where
   -- what a search among the keys asks for
   pub leaf_rises : (leaf : Leaf V) → IsLeaf leaf → IsRising leaf.keys
-  leaf_rises leaf h = run_rises (length leaf.values.items) leaf.keys leaf.values.items h.run h.ordered h.keys
+  leaf_rises leaf h = keyed_rises leaf.keys leaf.values.items h.values h.ordered h.keys
 
   pub leaf_length : (leaf : Leaf V) → IsLeaf leaf → length (pairs_of leaf) ≡ length leaf.values.items
-  leaf_length leaf h = run_length (length leaf.values.items) leaf.keys leaf.values.items h.run
+  leaf_length leaf h = keyed_length leaf.keys leaf.values.items h.values
 
-  pub leaf_some : (i : ℕ) (leaf : Leaf V) → IsLeaf leaf → i < length leaf.values.items → (x : V) × (get_or leaf.values.items i None ≡ Some x)
-  leaf_some i leaf h lt = packed_some (length leaf.values.items) i leaf.values.items h.run.packed lt
+  pub leaf_some : (i : ℕ) (leaf : Leaf V) → IsLeaf leaf → i < length leaf.values.items → (x : V) × (slice_get leaf.values.items i ≡ Some x)
+  leaf_some i leaf h lt = item_at i leaf.values.items lt
 
   -- a search for a key of 64 bits stops behind the last entry at most
   pub stop_fits : (key i : ℕ) (leaf : Leaf V) → IsLeaf leaf → key ≤ no_key → IsStop key i leaf.keys → i ≤ length leaf.values.items
   stop_fits key i leaf h small stop = elim (cases_lt (length leaf.values.items) i) [
-    | inl more ↦ absurd (omega (arith, small, stop.before (omega (arith, more)), run_behind (length leaf.values.items) (i - 1) leaf.keys leaf.values.items h.run (omega (arith, more)) (omega (arith, more, stop.within))))
+    | inl more ↦ absurd (omega (arith, small, stop.before (omega (arith, more)), keyed_behind (i - 1) leaf.keys leaf.values.items h.values (omega (arith, more)) (omega (arith, more, stop.within))))
     | inr le ↦ le
   ]
 
@@ -43,7 +43,7 @@ module _ {V : Type 0} where
   there_at key i leaf h long at = record {
     within = elim (cases_lt i (length leaf.values.items)) [
       | inl lt ↦ lt
-      | inr past ↦ absurd (omega (arith, at.1, at.2, run_behind (length leaf.values.items) i leaf.keys leaf.values.items h.run past (omega (arith, long, at.0))))
+      | inr past ↦ absurd (omega (arith, at.1, at.2, keyed_behind i leaf.keys leaf.values.items h.values past (omega (arith, long, at.0))))
     ];
     same = at.1;
   }
@@ -56,21 +56,21 @@ module _ {V : Type 0} where
   from_at key a p b o le = (le, from-weaker key_of_pair key (p.0 + 1) b (omega arith) (ordered_back key_of_pair a p b o))
 
   -- the pairs, cut at one of them
-  leaf_split : (i : ℕ) (x : V) (leaf : Leaf V) → IsLeaf leaf → get_or leaf.values.items i None ≡ Some x → pairs_of leaf ≡ take i (pairs_of leaf) ++ ((get_or leaf.keys i 0, x) ∷ drop (i + 1) (pairs_of leaf))
-  leaf_split i x leaf h e = run_split (length leaf.values.items) i x leaf.keys leaf.values.items h.run e
+  leaf_split : (i : ℕ) (x : V) (leaf : Leaf V) → IsLeaf leaf → slice_get leaf.values.items i ≡ Some x → pairs_of leaf ≡ take i (pairs_of leaf) ++ ((get_or leaf.keys i 0, x) ∷ drop (i + 1) (pairs_of leaf))
+  leaf_split i x leaf h e = keyed_split i x leaf.keys leaf.values.items h.values e
 
   -- the front of the pairs, up to a lesser key
-  front_below : (key i : ℕ) (x : V) (leaf : Leaf V) → IsLeaf leaf → get_or leaf.values.items i None ≡ Some x → get_or leaf.keys i 0 < key → KeysBelow key (take (i + 1) (pairs_of leaf))
+  front_below : (key i : ℕ) (x : V) (leaf : Leaf V) → IsLeaf leaf → slice_get leaf.values.items i ≡ Some x → get_or leaf.keys i 0 < key → KeysBelow key (take (i + 1) (pairs_of leaf))
   front_below key i x leaf h e lt =
       let rows = pairs_of leaf in
-      let more = run_next (length leaf.values.items) i x leaf.keys leaf.values.items h.run e in
+      let more = keyed_next i x leaf.keys leaf.values.items h.values e in
       subst (KeysBelow key) (sym more) (below_at key (take i rows) (get_or leaf.keys i 0, x) (drop (i + 1) rows) (subst (IsOrderedBy key_of_pair) (leaf_split i x leaf h e) h.ordered) lt)
 
   -- the back of the pairs, from a key on
-  pub back_from : (key i : ℕ) (x : V) (leaf : Leaf V) → IsLeaf leaf → get_or leaf.values.items i None ≡ Some x → key ≤ get_or leaf.keys i 0 → KeysFrom key (drop i (pairs_of leaf))
+  pub back_from : (key i : ℕ) (x : V) (leaf : Leaf V) → IsLeaf leaf → slice_get leaf.values.items i ≡ Some x → key ≤ get_or leaf.keys i 0 → KeysFrom key (drop i (pairs_of leaf))
   back_from key i x leaf h e le =
       let rows = pairs_of leaf in
-      let rest = run_rest (length leaf.values.items) i x leaf.keys leaf.values.items h.run e in
+      let rest = keyed_rest i x leaf.keys leaf.values.items h.values e in
       subst (KeysFrom key) (sym rest) (from_at key (take i rows) (get_or leaf.keys i 0, x) (drop (i + 1) rows) (subst (IsOrderedBy key_of_pair) (leaf_split i x leaf h e) h.ordered) le)
 
   cut_at : (key i : ℕ) (leaf : Leaf V) → IsLeaf leaf → i ≤ length leaf.values.items → (0 < i → get_or leaf.keys (i - 1) 0 < key) → KeysBelow key (take i (pairs_of leaf))
@@ -109,8 +109,8 @@ module _ {V : Type 0} where
   pub free_at : (key i : ℕ) (leaf : Leaf V) → IsLeaf leaf → key ≤ no_key → IsStop key i leaf.keys → length leaf.keys ≡ 32 → (i < 32 → key < no_key → get_or leaf.keys i 0 ≡ key → ⊥) → IsFree key i leaf
   free_at key i leaf h small stop long other = elim (cases_lt i (length leaf.values.items)) [
     | inl lt ↦
-        let used : i < 32 = omega (arith, lt, h.run.fits) in
-        let below = run_below (length leaf.values.items) i leaf.keys leaf.values.items h.run h.keys lt in
+        let used : i < 32 = omega (arith, lt, h.values.fits) in
+        let below = keyed_below i leaf.keys leaf.values.items h.values h.keys lt in
         free_here key i leaf h small stop lt (omega (arith, used, long)) (λ e. other used (omega (arith, below, e)) e)
     | inr past ↦
         let same : length leaf.values.items ≡ i = omega (arith, past, stop_fits key i leaf h small stop) in
@@ -139,7 +139,7 @@ module _ {V : Type 0} where
         removed = ap (without_row key_of_pair key) split ∙ without_row-here key_of_pair key (take i rows) (key, x) (drop (i + 1) rows) below refl;
       }
 
-  found_at : (key i : ℕ) (x : V) (leaf : Leaf V) → IsLeaf leaf → IsThere key i leaf → get_or leaf.values.items i None ≡ Some x → IsFound key i x (pairs_of leaf)
+  found_at : (key i : ℕ) (x : V) (leaf : Leaf V) → IsLeaf leaf → IsThere key i leaf → slice_get leaf.values.items i ≡ Some x → IsFound key i x (pairs_of leaf)
   found_at key i x leaf h there e =
       let rows = pairs_of leaf in
       found key i x rows h.ordered (subst (λ k. rows ≡ take i rows ++ ((k, x) ∷ drop (i + 1) rows)) there.same (leaf_split i x leaf h e))
@@ -158,14 +158,14 @@ module _ {V : Type 0} where
   missing_at key i leaf free = missing key i (pairs_of leaf) free.below free.above
 
   -- the value beside a key
-  pub found_value : (key i : ℕ) (leaf : Leaf V) → IsLeaf leaf → IsThere key i leaf → get_or leaf.values.items i None ≡ value_at key (pairs_of leaf)
+  pub found_value : (key i : ℕ) (leaf : Leaf V) → IsLeaf leaf → IsThere key i leaf → slice_get leaf.values.items i ≡ value_at key (pairs_of leaf)
   found_value key i leaf h there =
       let some = leaf_some i leaf h there.within in
       some.1 ∙ sym (ap (option_map (λ p. p.1)) (found_at key i some.0 leaf h there some.1).row)
 
   -- what was read at the place of a key
-  pub read_value : (key i : ℕ) (r : Option V) (leaf : Leaf V) → IsLeaf leaf → IsThere key i leaf → r ≡ get_or leaf.values.items i r → r ≡ value_at key (pairs_of leaf)
-  read_value key i r leaf h there e = e ∙ get_or_default leaf.values.items i r None there.within ∙ found_value key i leaf h there
+  pub read_value : (key i : ℕ) (r : V) (leaf : Leaf V) → IsLeaf leaf → IsThere key i leaf → r ≡ get_or leaf.values.items i r → Some r ≡ value_at key (pairs_of leaf)
+  read_value key i r leaf h there e = sym (slice_get_read leaf.values.items (length leaf.values.items) i r refl there.within e) ∙ found_value key i leaf h there
 
   pub missing_value : (key i : ℕ) (leaf : Leaf V) → IsFree key i leaf → value_at key (pairs_of leaf) ≡ None
   missing_value key i leaf free = ap (option_map (λ p. p.1)) (missing_at key i leaf free).row
@@ -182,85 +182,70 @@ module _ {V : Type 0} where
       let row = (found_at key i some.0 leaf h there some.1).row in
       cc (row, none)
 
-  leaf_of : (n : ℕ) (leaf : Leaf V) (rows : List (ℕ × V)) → length leaf.values.items ≡ n → AreEntries n leaf.keys leaf.values.items → pairs_of leaf ≡ rows → IsOrderedBy key_of_pair rows → KeysBelow key_limit rows → IsLeaf leaf
-  leaf_of n leaf rows len run e ordered keys = record {
-    run = subst (λ m. AreEntries m leaf.keys leaf.values.items) (sym len) run;
+  leaf_of : (leaf : Leaf V) (rows : List (ℕ × V)) → AreKeyed leaf.keys leaf.values.items → pairs_of leaf ≡ rows → IsOrderedBy key_of_pair rows → KeysBelow key_limit rows → IsLeaf leaf
+  leaf_of leaf rows values e ordered keys = record {
+    values = values;
     ordered = subst (IsOrderedBy key_of_pair) (sym e) ordered;
     keys = subst (KeysBelow key_limit) (sym e) keys;
   }
 
   -- a leaf after the value beside a key was written
-  pub leaf_written : (key i : ℕ) (value : V) (leaf new : Leaf V) → IsLeaf leaf → IsThere key i leaf → new.keys ≡ leaf.keys → new.values.items ≡ set leaf.values.items i (Some value)
+  pub leaf_written : (key i : ℕ) (value : V) (leaf new : Leaf V) → IsLeaf leaf → IsThere key i leaf → new.keys ≡ leaf.keys → new.values.items ≡ set leaf.values.items i value
       → (IsLeaf new) × (pairs_of new ≡ with_row_at key_of_pair key (key, value) (pairs_of leaf)) × (length new.values.items ≡ length leaf.values.items)
   leaf_written key i value leaf new h there ek ev =
-      let n = length leaf.values.items in
       let all = pairs_of leaf in
       let some = leaf_some i leaf h there.within in
-      let both = run_written n i value leaf.keys leaf.values.items h.run there.within in
-      let len : length new.values.items ≡ n = ap length ev ∙ length-set leaf.values.items i (Some value) in
-      let run : AreEntries n new.keys new.values.items = rw (ek, ev) both.0 in
+      let both = keyed_written i value leaf.keys leaf.values.items h.values there.within in
+      let values : AreKeyed new.keys new.values.items = rw (ek, ev) both.0 in
       let rows : pairs_of new ≡ with_row_at key_of_pair key (key, value) all =
       rw (ek, ev) both.1 ∙ ap (λ k. take i all ++ ((k, value) ∷ drop (i + 1) all)) there.same ∙ sym ((found_at key i some.0 leaf h there some.1).written value) in (
-        leaf_of n new _ len run rows (ordered-with_row_at key_of_pair key (key, value) all refl h.ordered) (every-with_row_at-same key_of_pair (λ m. m < key_limit) key (key, value) all refl h.keys),
+        leaf_of new _ values rows (ordered-with_row_at key_of_pair key (key, value) all refl h.ordered) (every-with_row_at-same key_of_pair (λ m. m < key_limit) key (key, value) all refl h.keys),
         rows,
-        len,
+        ap length ev ∙ length-set leaf.values.items i value,
       )
 
-  -- a leaf after an entry went in
-  leaf_inserted : (key i : ℕ) (value : V) (leaf new : Leaf V) → IsLeaf leaf → IsFree key i leaf → length leaf.keys ≡ 32 → length leaf.values.items < 32 → key < key_limit → new.keys ≡ insert (take 31 leaf.keys) i key → new.values.items ≡ insert leaf.values.items i (Some value)
-      → (IsLeaf new) × (IsGrown key value (seen_leaf leaf) (seen_leaf new))
-  leaf_inserted key i value leaf new h free long room small ek ev =
-      let n = length leaf.values.items in
+  -- a leaf after the row went in
+  abbrev pub IsPut : ℕ → V → Leaf V → Leaf V → Type 0
+  IsPut key value leaf new = (IsLeaf new) × (IsGrown key value (seen_leaf leaf) (seen_leaf new))
+
+  pub leaf_put : (key i : ℕ) (value : V) (leaf new : Leaf V) → IsLeaf leaf → IsFree key i leaf → length leaf.keys ≡ 32 → length leaf.values.items < 32 → key < key_limit → new.keys ≡ insert (take 31 leaf.keys) i key → new.values.items ≡ insert leaf.values.items i value
+      → IsPut key value leaf new
+  leaf_put key i value leaf new h free long room small ek ev =
       let items = leaf.values.items in
       let all = pairs_of leaf in
       let miss = missing_at key i leaf free in
-      let both = run_inserted n i key value leaf.keys items (insert items i (Some value)) h.run long room free.within (packed_insert n i value items h.run.packed free.within) (somes_insert n i value items h.run.packed free.within) in
-      let len : length new.values.items ≡ n + 1 = omega (arith, ap length ev, length-append (take i items) (Some value ∷ drop i items), length-take i items, length-drop i items, free.within) in
-      let run : AreEntries (n + 1) new.keys new.values.items = rw (ek, ev) both.0 in
+      let both = keyed_inserted i key value leaf.keys items h.values long room free.within in
+      let len : length new.values.items ≡ length items + 1 = omega (arith, ap length ev, length-append (take i items) (value ∷ drop i items), length-take i items, length-drop i items, free.within) in
+      let values : AreKeyed new.keys new.values.items = rw (ek, ev) both.0 in
       let rows : pairs_of new ≡ with_row key_of_pair (key, value) all = rw (ek, ev) both.1 ∙ sym (miss.inserted value) in
-      let leaf_new = leaf_of (n + 1) new _ len run rows (ordered-with_row key_of_pair (key, value) all miss.row h.ordered) (each-with_row key_of_pair (λ q. q.0 < key_limit) (key, value) all small h.keys) in (
+      let leaf_new = leaf_of new _ values rows (ordered-with_row key_of_pair (key, value) all miss.row h.ordered) (each-with_row key_of_pair (λ q. q.0 < key_limit) (key, value) all small h.keys) in (
         leaf_new,
         record { rows = rows; level = refl; width = omega (arith, len); well = leaf_well new leaf_new },
       )
+
+  -- the same where the entry went behind the others
+  pub leaf_pushed : (key i : ℕ) (value : V) (leaf new : Leaf V) → IsLeaf leaf → IsFree key i leaf → length leaf.keys ≡ 32 → length leaf.values.items < 32 → key < key_limit → i ≡ length leaf.values.items → new.keys ≡ set leaf.keys i key → new.values.items ≡ leaf.values.items ++ (value ∷ [])
+      → IsPut key value leaf new
+  leaf_pushed key i value leaf new h free long room small e ek ev =
+      let keys : new.keys ≡ insert (take 31 leaf.keys) i key = ek ∙ put_behind i key 31 leaf.keys (omega (arith, long)) (omega (arith, e, room)) (subst (λ n. IsPadded n leaf.keys) (sym e) h.values.padded) in
+      let items : new.values.items ≡ insert leaf.values.items i value = ev ∙ sym (insert_end leaf.values.items value) ∙ ap (λ j. insert leaf.values.items j value) (sym e) in
+      leaf_put key i value leaf new h free long room small keys items
 
   -- a leaf after an entry was taken out
   pub leaf_removed : (key i : ℕ) (leaf new : Leaf V) → IsLeaf leaf → IsThere key i leaf → new.keys ≡ remove leaf.keys i ++ (no_key ∷ []) → new.values.items ≡ remove leaf.values.items i
       → (IsLeaf new) × (pairs_of new ≡ without_row key_of_pair key (pairs_of leaf)) × (length new.values.items + 1 ≡ length leaf.values.items)
   leaf_removed key i leaf new h there ek ev =
-      let n = length leaf.values.items in
       let items = leaf.values.items in
       let all = pairs_of leaf in
       let some = leaf_some i leaf h there.within in
-      let somes_left : somes (remove items i) ≡ take i (somes items) ++ drop (i + 1) (somes items) = somes_remove n i items h.run.packed there.within ∙ ap (λ j. take i (somes items) ++ drop j (somes items)) (sym (add-one i)) in
-      let both = run_removed n i leaf.keys items (remove items i) h.run there.within (packed_remove n i items h.run.packed there.within) somes_left in
-      let len : length new.values.items + 1 ≡ n = omega (arith, ap length ev, length-append (take i items) (drop (suc i) items), length-take i items, length-drop (suc i) items, there.within) in
-      let run : AreEntries (n - 1) new.keys new.values.items = rw (ek, ev) both.0 in
+      let both = keyed_removed i leaf.keys items h.values there.within in
+      let len : length new.values.items + 1 ≡ length items = omega (arith, ap length ev, length-append (take i items) (drop (suc i) items), length-take i items, length-drop (suc i) items, there.within) in
+      let values : AreKeyed new.keys new.values.items = rw (ek, ev) both.0 in
       let rows : pairs_of new ≡ without_row key_of_pair key all = rw (ek, ev) both.1 ∙ sym (found_at key i some.0 leaf h there some.1).removed in (
-        leaf_of (n - 1) new _ (omega (arith, len)) run rows (ordered-without_row key_of_pair key all h.ordered) (each-without_row key_of_pair (λ q. q.0 < key_limit) key all h.keys),
+        leaf_of new _ values rows (ordered-without_row key_of_pair key all h.ordered) (each-without_row key_of_pair (λ q. q.0 < key_limit) key all h.keys),
         rows,
         len,
       )
-
-  -- a leaf after the row in an Option went in
-  abbrev pub IsPut : ℕ → Option V → Leaf V → Leaf V → Type 0
-  IsPut key o leaf new = (IsLeaf new) × (IfSome o (λ v. IsGrown key v (seen_leaf leaf) (seen_leaf new)))
-
-  pub leaf_put : (key i : ℕ) (o : Option V) (leaf new : Leaf V) → IsLeaf leaf → IsFree key i leaf → length leaf.keys ≡ 32 → length leaf.values.items < 32 → key < key_limit → IsSome o → new.keys ≡ insert (take 31 leaf.keys) i key → new.values.items ≡ insert leaf.values.items i o
-      → IsPut key o leaf new
-  leaf_put key i None leaf new h free long room small some ek ev = let wrong : ⊥ = cc in absurd wrong
-  leaf_put key i (Some value) leaf new h free long room small some ek ev = leaf_inserted key i value leaf new h free long room small ek ev
-
-  -- the same where the entry went behind the others
-  pub leaf_pushed : (key i : ℕ) (o : Option V) (leaf new : Leaf V) → IsLeaf leaf → IsFree key i leaf → length leaf.keys ≡ 32 → length leaf.values.items < 32 → key < key_limit → IsSome o → i ≡ length leaf.values.items → new.keys ≡ set leaf.keys i key → new.values.items ≡ leaf.values.items ++ (o ∷ [])
-      → IsPut key o leaf new
-  leaf_pushed key i o leaf new h free long room small some e ek ev =
-      let keys : new.keys ≡ insert (take 31 leaf.keys) i key = ek ∙ put_behind i key 31 leaf.keys (omega (arith, long)) (omega (arith, e, room)) (subst (λ n. IsPadded n leaf.keys) (sym e) h.run.padded) in
-      let items : new.values.items ≡ insert leaf.values.items i o = ev ∙ sym (insert_end leaf.values.items o) ∙ ap (λ j. insert leaf.values.items j o) (sym e) in
-      leaf_put key i o leaf new h free long room small some keys items
-
-  -- what was read at the place of a key is a value
-  pub there_some : (key i : ℕ) (leaf : Leaf V) → IsLeaf leaf → IsThere key i leaf → IsSome (get_or leaf.values.items i None)
-  there_some key i leaf h there = let some = leaf_some i leaf h there.within in rw some.1 refl
 
   -- what an insertion answers that finds the key
   pub room_exists : (key i : ℕ) (o : Option V) (leaf : Leaf V) → IsLeaf leaf → IsThere key i leaf → IsSome o → IfSome o (λ v. IsRoomAnswer key v (seen_leaf leaf) (seen_leaf leaf) Exists)

@@ -7,10 +7,11 @@ use Rattle.tatp_rows.proofs.AppendLemmas.{each-append, each-left, each-right, or
 use Rattle.mr_node.specs.declared.body.Leaf.{Leaf}
 use Rattle.mr_node.specs.Rows.{Seen, key_of_pair, key_limit}
 use Rattle.mr_node.specs.declared.body.Body.TheVariants.{Inner as AsInner}
-use Rattle.mr_node.specs.EntryLists.{AreEntries}
+use Rattle.mr_node.specs.EntryLists.{AreEntries, AreKeyed}
 use Rattle.mr_node.specs.Levels.{NodeBody, NodeInner, IsNode, pairs_of, children_of, rows_of, IsWell, IsLeaf, IsChild, IsInner, seen_leaf, seen_inner}
 use Rattle.mr_node.specs.Pairs.{AreEvenWidths, IsShare, IsChildNode, AreEvened, IsHalved}
-use Rattle.mr_node.proofs.EntryListLemmas.{run_length}
+use Rattle.mr_node.proofs.KeyedLemmas.{keyed_length}
+use Rattle.mr_node.proofs.EntryListLemmas.{entries_length}
 use Rattle.mr_node.proofs.ChildLemmas.{rows_of-append}
 use Rattle.mr_node.proofs.ShareLemmas.{appended_sum}
 use Rattle.mr_node.proofs.SizeLemmas.{leaf_well, inner_well}
@@ -46,7 +47,7 @@ module _ {V : Type 0} where
   pub blank_leaf : (leaf : Leaf V) → IsLeaf leaf → leaf.values.items ≡ [] → seen_leaf leaf ≡ blank
   blank_leaf leaf is none =
       let long : length leaf.values.items ≡ 0 = ap length none in
-      let rows : pairs_of leaf ≡ [] = nil_from_length (pairs_of leaf) (run_length (length leaf.values.items) leaf.keys leaf.values.items is.run ∙ long) in
+      let rows : pairs_of leaf ≡ [] = nil_from_length (pairs_of leaf) (keyed_length leaf.keys leaf.values.items is.values ∙ long) in
       ap (seen_wide (pairs_of leaf)) long ∙ ap (λ r. seen_wide r 0) rows
 
   -- one has all rows, or both are half full
@@ -88,8 +89,8 @@ module _ {V : Type 0} where
 
   -- their entries shared anew
   pub record AreMovedLeaves (a b c d : Leaf V) : Type 0 where
-    pub left : AreEntries (length c.values.items) c.keys c.values.items
-    pub right : AreEntries (length d.values.items) d.keys d.values.items
+    pub left : AreKeyed c.keys c.values.items
+    pub right : AreKeyed d.keys d.values.items
     pub list : pairs_of c ++ pairs_of d ≡ pairs_of a ++ pairs_of b
 
   pub leaves_of : (a b : Leaf V) (m n : Seen V) → IsLeaf a → IsLeaf b → seen_leaf a ≡ m → seen_leaf b ≡ n → IsOrderedBy key_of_pair (m.rows ++ n.rows) → AreLeaves a b
@@ -104,26 +105,26 @@ module _ {V : Type 0} where
 
   pub left_leaf : (a b c d : Leaf V) → AreLeaves a b → AreMovedLeaves a b c d → IsLeaf c
   left_leaf a b c d two m = record {
-    run = m.left;
+    values = m.left;
     ordered = ordered-left key_of_pair (pairs_of c) (pairs_of d) (subst (IsOrderedBy key_of_pair) (sym m.list) two.ordered);
     keys = each-left (λ p. p.0 < key_limit) (pairs_of c) (pairs_of d) (subst (AllByRecursion (λ p. p.0 < key_limit)) (sym m.list) (shared_keys a b two));
   }
 
   pub right_leaf : (a b c d : Leaf V) → AreLeaves a b → AreMovedLeaves a b c d → IsLeaf d
   right_leaf a b c d two m = record {
-    run = m.right;
+    values = m.right;
     ordered = ordered-right key_of_pair (pairs_of c) (pairs_of d) (subst (IsOrderedBy key_of_pair) (sym m.list) two.ordered);
     keys = each-right (λ p. p.0 < key_limit) (pairs_of c) (pairs_of d) (subst (AllByRecursion (λ p. p.0 < key_limit)) (sym m.list) (shared_keys a b two));
   }
 
-  pub leaf_length : (leaf : Leaf V) → AreEntries (length leaf.values.items) leaf.keys leaf.values.items → length (pairs_of leaf) ≡ length leaf.values.items
-  leaf_length leaf run = run_length (length leaf.values.items) leaf.keys leaf.values.items run
+  pub leaf_length : (leaf : Leaf V) → AreKeyed leaf.keys leaf.values.items → length (pairs_of leaf) ≡ length leaf.values.items
+  leaf_length leaf values = keyed_length leaf.keys leaf.values.items values
 
   pub evened_leaves : (r : Bool) (a b c d : Leaf V) → AreLeaves a b → AreMovedLeaves a b c d → AreEvenWidths r (length (pairs_of c)) (length (pairs_of d)) → AreEvened r (seen_leaf a) (seen_leaf b) (seen_leaf c) (seen_leaf d)
   evened_leaves r a b c d two m even =
       let left = leaf_length c m.left in
       let right = leaf_length d m.right in
-      let wide : length c.values.items + length d.values.items ≡ length a.values.items + length b.values.items = omega (arith, appended_sum (pairs_of c) (pairs_of d) (pairs_of a) (pairs_of b) m.list, left, right, leaf_length a two.left.run, leaf_length b two.right.run) in
+      let wide : length c.values.items + length d.values.items ≡ length a.values.items + length b.values.items = omega (arith, appended_sum (pairs_of c) (pairs_of d) (pairs_of a) (pairs_of b) m.list, left, right, leaf_length a two.left.values, leaf_length b two.right.values) in
       evened r (seen_leaf a) (seen_leaf b) (seen_leaf c) (seen_leaf d) (seen_leaf d) wide m.list refl refl (leaf_well c (left_leaf a b c d two m)) (λ h. leaf_well d (right_leaf a b c d two m)) (λ h. nil_from_length (pairs_of d) (right ∙ h)) (even_by r _ _ _ _ left right even) (λ h. refl)
 
   pub alone : (rows : List (ℕ × V)) → IsOrderedBy key_of_pair rows → IsOrderedBy key_of_pair (rows ++ [])
@@ -134,7 +135,7 @@ module _ {V : Type 0} where
       let two : AreLeaves a b = record { left = whole; right = blank; ordered = subst (λ r. IsOrderedBy key_of_pair (pairs_of a ++ r)) (sym nb) (alone (pairs_of a) whole.ordered) } in
       let low = left_leaf a b c d two m in
       let high = right_leaf a b c d two m in
-      let ld = rest_length (pairs_of a) (pairs_of b) (pairs_of c) (pairs_of d) m.list (leaf_length a whole.run ∙ la) nb lc in
+      let ld = rest_length (pairs_of a) (pairs_of b) (pairs_of c) (pairs_of d) m.list (leaf_length a whole.values ∙ la) nb lc in
       (low, high, halved (seen_leaf a) (seen_leaf c) (seen_leaf d) (no_more (pairs_of a) (pairs_of b) (pairs_of c) (pairs_of d) m.list nb) refl refl (leaf_well c low) (leaf_well d high) (sym (leaf_length c m.left) ∙ lc) (sym (leaf_length d m.right) ∙ ld))
 
   -- two inner nodes whose rows rise one after another: the second may be empty
@@ -178,7 +179,7 @@ module _ {V : Type 0} where
       record {
         above_leaves = omega (arith, m.left_height, two.above_leaves);
         some = some;
-        run = m.left;
+        entries = m.left;
         children = subst (λ h. AllByRecursion (IsChild (h - 1)) (children_of c)) (sym m.left_height) (each-left (IsChild (a.height - 1)) (children_of c) (children_of d) (subst (AllByRecursion (IsChild (a.height - 1))) (sym m.list) two.children));
         ordered = ordered-left key_of_pair (rows_of (children_of c)) (rows_of (children_of d)) (subst (IsOrderedBy key_of_pair) rows two.ordered);
         keys = each-left (λ p. p.0 < key_limit) (rows_of (children_of c)) (rows_of (children_of d)) (subst (AllByRecursion (λ p. p.0 < key_limit)) rows two.keys);
@@ -191,20 +192,20 @@ module _ {V : Type 0} where
       record {
         above_leaves = omega (arith, height, two.above_leaves);
         some = some;
-        run = m.right;
+        entries = m.right;
         children = subst (λ h. AllByRecursion (IsChild (h - 1)) (children_of d)) (sym height) (each-right (IsChild (a.height - 1)) (children_of c) (children_of d) (subst (AllByRecursion (IsChild (a.height - 1))) (sym m.list) two.children));
         ordered = ordered-right key_of_pair (rows_of (children_of c)) (rows_of (children_of d)) (subst (IsOrderedBy key_of_pair) rows two.ordered);
         keys = each-right (λ p. p.0 < key_limit) (rows_of (children_of c)) (rows_of (children_of d)) (subst (AllByRecursion (λ p. p.0 < key_limit)) rows two.keys);
       }
 
   pub inner_length : (b : NodeInner V) → AreEntries b.len b.leasts b.children → length (children_of b) ≡ b.len
-  inner_length b run = run_length b.len b.leasts b.children run
+  inner_length b run = entries_length b.len b.leasts b.children run
 
   pub evened_inners : (r : Bool) (a b c d : NodeInner V) (z : Seen V) → IsInner a → IsInner b → AreInners a b → AreMovedChildren a b c d → AreEvenWidths r (length (children_of c)) (length (children_of d)) → (r ≡ false → z ≡ seen_inner d) → (IsInner c) × (r ≡ false → IsInner d) × AreEvened r (seen_inner a) (seen_inner b) (seen_inner c) z
   evened_inners r a b c d z first second two m even same =
       let left = inner_length c m.left in
       let right = inner_length d m.right in
-      let wide : c.len + d.len ≡ a.len + b.len = omega (arith, appended_sum (children_of c) (children_of d) (children_of a) (children_of b) m.list, left, right, inner_length a first.run, inner_length b second.run) in
+      let wide : c.len + d.len ≡ a.len + b.len = omega (arith, appended_sum (children_of c) (children_of d) (children_of a) (children_of b) m.list, left, right, inner_length a first.entries, inner_length b second.entries) in
       let widths = even_by r _ _ _ _ left right even in
       let low = left_inner a b c d two m (even_left r c.len d.len (omega (arith, wide, first.some)) widths) in (
         low,
@@ -214,7 +215,7 @@ module _ {V : Type 0} where
 
   pub halved_inner : (a b c d : NodeInner V) → IsInner a → AreEntries 0 b.leasts b.children → b.height ≡ a.height → AreMovedChildren a b c d → a.len ≡ 32 → length (children_of c) ≡ 16 → (IsInner c) × (IsInner d) × IsHalved (seen_inner a) (seen_inner c) (seen_inner d)
   halved_inner a b c d whole run level m la lc =
-      let none : children_of b ≡ [] = nil_from_length (children_of b) (run_length 0 b.leasts b.children run) in
+      let none : children_of b ≡ [] = nil_from_length (children_of b) (entries_length 0 b.leasts b.children run) in
       let same : children_of a ++ children_of b ≡ children_of a = ap (λ l. children_of a ++ l) none ∙ append-nil (children_of a) in
       let two : AreInners a b = record {
         above_leaves = whole.above_leaves;
@@ -223,7 +224,7 @@ module _ {V : Type 0} where
         ordered = subst (λ l. IsOrderedBy key_of_pair (rows_of l)) (sym same) whole.ordered;
         keys = subst (λ l. AllByRecursion (λ p. p.0 < key_limit) (rows_of l)) (sym same) whole.keys;
       } in
-      let ld = rest_length (children_of a) (children_of b) (children_of c) (children_of d) m.list (inner_length a whole.run ∙ la) none lc in
+      let ld = rest_length (children_of a) (children_of b) (children_of c) (children_of d) m.list (inner_length a whole.entries ∙ la) none lc in
       let wc : c.len ≡ 16 = sym (inner_length c m.left) ∙ lc in
       let wd : d.len ≡ 16 = sym (inner_length d m.right) ∙ ld in
       let low = left_inner a b c d two m (omega (arith, wc)) in

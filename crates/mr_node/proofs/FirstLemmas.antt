@@ -1,7 +1,8 @@
 -- The first row from a key on.
-use Rattle.std.proofs.Common.{◌≡◌, ℕ, ◌+◌, ◌<◌, ◌≤◌, List, length, get_or, take, drop, Option, Some, None, leb, sym, ap, ◌∙◌, arith, ◌-◌, [], ◌∷◌, ◌++◌, subst}
+use Rattle.std.proofs.Common.{◌≡◌, ℕ, ◌+◌, ◌<◌, ◌≤◌, List, length, get_or, take, drop, Option, Some, None, leb, refl, sym, ap, ◌∙◌, arith, ◌-◌, [], ◌∷◌, ◌++◌, subst}
 use Rattle.std.specs.List.{find, AllByRecursion}
 use Rattle.std.proofs.lemmas.List.{drop_all, take-append-drop}
+use Rattle.std.proofs.lemmas.Option.{slice_get_read}
 use Rattle.tatp_rows.proofs.SpanLemmas.{find-skip, find-head, find-left, find-right}
 use Rattle.mr_node.specs.declared.body.Leaf.{Leaf}
 use Rattle.mr_node.specs.Rows.{key_of_pair}
@@ -9,8 +10,8 @@ use Rattle.mr_node.specs.EntryLists.{no_key}
 use Rattle.mr_node.specs.Search.{IsStop}
 use Rattle.mr_node.specs.Levels.{IsChildPlace}
 use Rattle.mr_node.specs.Levels.{IsLeaf, pairs_of, NodePart, NodeChild, NodeInner, children_of, rows_of, IsChild, IsInner}
-use Rattle.mr_node.proofs.PlaceLemmas.{got_used, never_none}
-use Rattle.mr_node.proofs.EntryListLemmas.{run_rest, run_length}
+use Rattle.mr_node.proofs.KeyedLemmas.{keyed_rest}
+use Rattle.mr_node.proofs.EntryListLemmas.{entries_rest, entries_length}
 use Rattle.mr_node.proofs.EntryLemmas.{cut_below, leaf_length}
 use Rattle.tatp_rows.specs.Spans.{StartsAt}
 use Rattle.mr_node.proofs.ChildLemmas.{IsCutAt, child_at, cut_child}
@@ -28,15 +29,10 @@ module _ {V : Type 0} where
   first_none key i leaf h small stop le =
       first_drop key i leaf h small stop ∙ ap (first_row key) (drop_all i (pairs_of leaf) (omega (arith, leaf_length leaf h, le)))
 
-  pub first_here : (key i : ℕ) (r : Option V) (x : V) (leaf : Leaf V) → IsLeaf leaf → key ≤ no_key → IsStop key i leaf.keys → i < length leaf.values.items → i < length leaf.keys → r ≡ get_or leaf.values.items i r → r ≡ Some x → first_row key (pairs_of leaf) ≡ Some (get_or leaf.keys i 0, x)
-  first_here key i r x leaf h small stop lt long read is =
-      let n = length leaf.values.items in
-      let got = got_used n i r x leaf.values.items h.run.packed lt (sym read ∙ is) in
-      first_drop key i leaf h small stop ∙ ap (first_row key) (run_rest n i x leaf.keys leaf.values.items h.run got) ∙ find-head key_of_pair key (get_or leaf.keys i 0, x) (drop (i + 1) (pairs_of leaf)) (stop.here long)
-
-  -- no place in use is empty
-  pub leaf_never_none : (i : ℕ) (r : Option V) (leaf : Leaf V) → IsLeaf leaf → i < length leaf.values.items → r ≡ get_or leaf.values.items i r → r ≡ None → ⊥
-  leaf_never_none i r leaf h lt read none = never_none (length leaf.values.items) i r leaf.values.items h.run.packed lt (sym read ∙ none)
+  pub first_here : (key i : ℕ) (x : V) (leaf : Leaf V) → IsLeaf leaf → key ≤ no_key → IsStop key i leaf.keys → i < length leaf.values.items → i < length leaf.keys → x ≡ get_or leaf.values.items i x → first_row key (pairs_of leaf) ≡ Some (get_or leaf.keys i 0, x)
+  first_here key i x leaf h small stop lt long read =
+      let got = slice_get_read leaf.values.items (length leaf.values.items) i x refl lt read in
+      first_drop key i leaf h small stop ∙ ap (first_row key) (keyed_rest i x leaf.keys leaf.values.items h.values got) ∙ find-head key_of_pair key (get_or leaf.keys i 0, x) (drop (i + 1) (pairs_of leaf)) (stop.here long)
 
 module _ {V : Type 0} where
   first_cut : (key h i : ℕ) (children : List (NodeChild V)) (k : NodeChild V) → IsCutAt key h i children k → first_row key (rows_of children) ≡ first_row key (k.1.node.value.rows ++ rows_of (drop (i + 1) children))
@@ -58,11 +54,11 @@ module _ {V : Type 0} where
   first_in_next key i b k j inner at got next lt none =
       let children = children_of b in
       let cut = cut_child key i b k inner at got in
-      let more = run_rest b.len (i + 1) j b.leasts b.children inner.run next in
+      let more = entries_rest b.len (i + 1) j b.leasts b.children inner.entries next in
       let child = (subst (AllByRecursion (IsChild (b.height - 1))) more cut.after).0 in
       first_behind key (b.height - 1) i children (child_at b i k) cut none ∙ ap (λ l. first_row key (rows_of l)) more
       ∙ starts_first key (get_or b.leasts (i + 1) 0) j.node.value.rows (rows_of (drop (i + 1 + 1) children)) child.first (omega (arith, at.next lt))
 
   pub first_no_next : (key i : ℕ) (b : NodeInner V) (k : NodePart V) → IsInner b → IsChildPlace key i b.len b.leasts → get_or b.children i None ≡ Some k → b.len ≤ i + 1 → first_row key k.node.value.rows ≡ None → first_row key (rows_of (children_of b)) ≡ None
   first_no_next key i b k inner at got le none =
-      first_behind key (b.height - 1) i (children_of b) (child_at b i k) (cut_child key i b k inner at got) none ∙ ap (λ l. first_row key (rows_of l)) (drop_all (i + 1) (children_of b) (omega (arith, run_length b.len b.leasts b.children inner.run, le)))
+      first_behind key (b.height - 1) i (children_of b) (child_at b i k) (cut_child key i b k inner at got) none ∙ ap (λ l. first_row key (rows_of l)) (drop_all (i + 1) (children_of b) (omega (arith, entries_length b.len b.leasts b.children inner.entries, le)))

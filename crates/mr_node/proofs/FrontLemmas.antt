@@ -1,12 +1,12 @@
 -- The first entries of a leaf that go behind those of another one: what each turn of the loops leaves, and both leaves
 -- after them.
-use Rattle.std.proofs.Common.{◌≡◌, ℕ, ◌+◌, ◌-◌, ◌<◌, ◌≤◌, List, [], ◌∷◌, ◌++◌, length, max, replicate, reverse, get_or, set, take, drop, Option, Some, None, refl, sym, ap, subst, ◌∙◌, arith, length-append, length-drop, take_at}
-use Rattle.std.proofs.lemmas.List.{append_assoc, drop-drop, drop-set-lt, drop_at, get_or-drop, get_or_default, length-reverse, length-set, length-take-le, reverse-reverse, take-append-drop, take-set-le, take_more, take_more_set}
-use Rattle.mr_node.specs.EntryLists.{no_key, somes, IsPacked, entries, AreEntries}
-use Rattle.mr_node.proofs.PlaceLemmas.{packed_length, packed_some, packed_left, packed_right, packed_join, somes_append}
-use Rattle.std.specs.List.{refill}
-use Rattle.mr_node.proofs.ShareLemmas.{refilled, same_sum}
-use Rattle.mr_node.proofs.EntryListLemmas.{run_dropped, run_next, run_pushed}
+use Rattle.std.proofs.Common.{◌≡◌, ℕ, ◌+◌, ◌-◌, ◌<◌, ◌≤◌, List, [], ◌∷◌, ◌++◌, length, max, replicate, reverse, get_or, set, take, drop, Some, refl, sym, ap, subst, ◌∙◌, arith, length-append, length-drop, take_at}
+use Rattle.std.proofs.lemmas.List.{append_assoc, drop-drop, drop-set-lt, drop_at, get_or-drop, length-reverse, length-set, length-take-le, reverse-reverse, take-append-drop, take-set-le, take_more, take_more_set}
+use Rattle.std.proofs.lemmas.Option.{get_or_from_slice_get, slice_get_read}
+use Rattle.std.specs.List.{refill, slice_get, zip}
+use Rattle.mr_node.specs.EntryLists.{no_key, AreKeyed}
+use Rattle.mr_node.proofs.ShareLemmas.{refilled, same_sum, written_back}
+use Rattle.mr_node.proofs.KeyedLemmas.{keyed_dropped, keyed_next, keyed_pushed}
 
 module _ {X : Type 0} where
   -- two lists that are the same from a place on
@@ -15,8 +15,14 @@ module _ {X : Type 0} where
       let here : p + 0 ≡ p = omega arith in
       sym (get_or-drop p xs 0 d ∙ ap (λ j. get_or xs j d) here) ∙ ap (λ l. get_or l 0 d) e ∙ get_or-drop p os 0 d ∙ ap (λ j. get_or os j d) here
 
-  rest_next : (p : ℕ) (xs os : List X) → drop p xs ≡ drop p os → drop (p + 1) xs ≡ drop (p + 1) os
+  pub rest_next : (p : ℕ) (xs os : List X) → drop p xs ≡ drop p os → drop (p + 1) xs ≡ drop (p + 1) os
   rest_next p xs os e = sym (drop-drop 1 p xs) ∙ ap (drop 1) e ∙ drop-drop 1 p os
+
+  -- a value taken from its place
+  pub value_taken : (p : ℕ) (y : X) (xs ws : List X) → ws ≡ xs → (drop (p + 1) (refill (length xs) xs (set ws p y)) ≡ drop (p + 1) xs) × (length (refill (length xs) xs (set ws p y)) ≡ length xs)
+  value_taken p y xs ws e =
+      let same = written_back p y xs ws e in
+      (ap (drop (p + 1)) same ∙ drop-set-lt (p + 1) xs p y (omega arith), ap length same ∙ length-set xs p y)
 
   -- a value taken from its place and put so many places in front of it
   pub gap_closing : (c p : ℕ) (r v y : X) (xs os : List X) → c ≤ p → p < length xs → length xs ≡ length os → take (p - c) xs ≡ take (p - c) (drop c os) → drop p xs ≡ drop p os → v ≡ get_or xs p r
@@ -56,35 +62,23 @@ module _ {X : Type 0} where
 
 module _ {X : Type 0} where
   -- the next entry of a leaf behind those of another one
-  pub front_moved : (i m : ℕ) (r o y : Option X) (ks ls : List ℕ) (ps os qs more : List (Option X)) (rows : List (ℕ × X)) → AreEntries (length os) ks os → AreEntries (length qs) ls qs → length ls ≡ 32 → length qs < 32 → m ≡ length qs → i < length os → drop i ps ≡ drop i os → o ≡ get_or ps i r → more ≡ qs ++ (o ∷ []) → entries ls qs ≡ rows ++ take i (entries ks os)
-      → (AreEntries (length more) (set ls m (get_or ks i 0)) more) × (entries (set ls m (get_or ks i 0)) more ≡ rows ++ take (i + 1) (entries ks os)) × (drop (i + 1) (set ps i y) ≡ drop (i + 1) os)
-  front_moved i m r o y ks ls ps os qs more rows run to long room wide lt rest eo f e =
-      let used = packed_some (length os) i os run.packed lt in
-      let same : o ≡ Some used.0 = eo ∙ read_rest i r ps os rest ∙ get_or_default os i r None lt ∙ used.1 in
-      let one : more ≡ qs ++ (Some used.0 ∷ []) = f ∙ ap (λ x. qs ++ (x ∷ [])) same in
-      let len : length more ≡ m + 1 = omega (arith, wide, ap length one, length-append qs (Some used.0 ∷ [])) in
-      let filled : IsPacked (length more) more = subst (λ l. IsPacked (length l) l) (sym one) (packed_join qs (Some used.0 ∷ []) to.packed (omega arith, refl)) in
-      let pushed = run_pushed m (get_or ks i 0) used.0 ls qs more (subst (λ j. AreEntries j ls qs) (sym wide) to) long (omega (arith, wide, room)) (subst (λ j. IsPacked j more) len filled) (ap somes one ∙ somes_append qs (Some used.0 ∷ [])) in (
-        subst (λ j. AreEntries j (set ls m (get_or ks i 0)) more) (sym len) pushed.0,
-        pushed.1 ∙ ap (λ l. l ++ ((get_or ks i 0, used.0) ∷ [])) e ∙ append_assoc rows (take i (entries ks os)) ((get_or ks i 0, used.0) ∷ []) ∙ ap (λ l. rows ++ l) (sym (run_next (length os) i used.0 ks os run used.1)),
-        drop-set-lt (i + 1) ps i y (omega arith) ∙ rest_next i ps os rest,
+  pub front_moved : (i m : ℕ) (x : X) (ks ls : List ℕ) (xs os ys more : List X) (rows : List (ℕ × X)) → AreKeyed ks os → AreKeyed ls ys → length ls ≡ 32 → length ys < 32 → m ≡ length ys → i < length os → drop i xs ≡ drop i os → slice_get xs i ≡ Some x → more ≡ ys ++ (x ∷ []) → zip ls ys ≡ rows ++ take i (zip ks os)
+      → (AreKeyed (set ls m (get_or ks i 0)) more) × (zip (set ls m (get_or ks i 0)) more ≡ rows ++ take (i + 1) (zip ks os))
+  front_moved i m x ks ls xs os ys more rows from to long room wide lt rest ex f e =
+      let read : get_or os i x ≡ x = sym (read_rest i x xs os rest) ∙ get_or_from_slice_get xs i x x ex in
+      let got = slice_get_read os (length os) i x refl lt (sym read) in
+      let pushed = keyed_pushed m (get_or ks i 0) x ls ys to long wide (omega (arith, wide, room)) in (
+        subst (AreKeyed (set ls m (get_or ks i 0))) (sym f) pushed.0,
+        ap (zip (set ls m (get_or ks i 0))) f ∙ pushed.1 ∙ ap (λ l. l ++ ((get_or ks i 0, x) ∷ [])) e ∙ append_assoc rows (take i (zip ks os)) ((get_or ks i 0, x) ∷ []) ∙ ap (λ l. rows ++ l) (sym (keyed_next i x ks os from got)),
       )
 
   -- values without their first ones, of which the gap was closed
-  pub front_closed : (c n : ℕ) (os ms bs ws new : List (Option X)) → length ms ≡ length os → n ≡ length os → bs ≡ ms → length ws ≡ length bs → take (length bs - c) ws ≡ drop c bs → drop c ms ≡ drop c os → new ≡ take (n - c) (refill (length ms) ms ws) → new ≡ drop c os
+  pub front_closed : (c n : ℕ) (os ms bs ws new : List X) → length ms ≡ length os → n ≡ length os → bs ≡ ms → length ws ≡ length bs → take (length bs - c) ws ≡ drop c bs → drop c ms ≡ drop c os → new ≡ take (n - c) (refill (length ms) ms ws) → new ≡ drop c os
   front_closed c n os ms bs ws new same wide eb len front rest e =
       let all : length bs ≡ length ms = ap length eb in
       let less : n - c ≡ length bs - c = omega (arith, same, wide, all) in
       e ∙ ap (take (n - c)) (refilled ms ws (len ∙ all)) ∙ ap (λ j. take j ws) less ∙ front ∙ ap (drop c) eb ∙ rest
 
   -- a leaf without its first entries
-  pub front_dropped : (c : ℕ) (ks keys : List ℕ) (ps new : List (Option X)) → AreEntries (length ps) ks ps → c ≤ length ps → keys ≡ drop c ks ++ replicate c no_key → new ≡ drop c ps → (AreEntries (length new) keys new) × (entries keys new ≡ drop c (entries ks ps))
-  front_dropped c ks keys ps new run le ek e =
-      let cut = sym (take-append-drop c ps) in
-      let all = subst (λ l. IsPacked (length l) l) cut run.packed in
-      let front = packed_length (length (take c ps)) (take c ps) (packed_left (take c ps) (drop c ps) all) in
-      let len : length new ≡ length ps - c = ap length e ∙ length-drop c ps in
-      let packed : IsPacked (length new) new = subst (λ l. IsPacked (length l) l) (sym e) (packed_right (take c ps) (drop c ps) all) in
-      let same : somes new ≡ drop c (somes ps) = ap somes e ∙ sym (ap (drop c) (ap somes cut ∙ somes_append (take c ps) (drop c ps)) ∙ drop_at (somes (take c ps)) (somes (drop c ps)) c (front ∙ length-take-le c ps le)) in
-      let dropped = run_dropped (length ps) c ks ps new run le (subst (λ j. IsPacked j new) len packed) same in
-      subst (λ l. (AreEntries (length new) l new) × (entries l new ≡ drop c (entries ks ps))) (sym ek) (subst (λ j. AreEntries j (drop c ks ++ replicate c no_key) new) (sym len) dropped.0, dropped.1)
+  pub front_dropped : (c : ℕ) (ks keys : List ℕ) (xs new : List X) → AreKeyed ks xs → c ≤ length xs → keys ≡ drop c ks ++ replicate c no_key → new ≡ drop c xs → (AreKeyed keys new) × (zip keys new ≡ drop c (zip ks xs))
+  front_dropped c ks keys xs new h le ek e = rw (ek, e) (keyed_dropped c ks xs h le)

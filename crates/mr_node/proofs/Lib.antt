@@ -1,4 +1,5 @@
 pub mod PlaceLemmas
+pub mod KeyedLemmas
 pub mod EntryListLemmas
 pub mod MoveLemmas
 pub mod ShareLemmas

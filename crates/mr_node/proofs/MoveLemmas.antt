@@ -3,7 +3,7 @@ use Rattle.std.proofs.Common.{◌≡◌, ℕ, ◌+◌, ◌-◌, ◌<◌, ◌≤�
 use Rattle.std.specs.List.{insert, remove, remove_range}
 use Rattle.mr_node.specs.EntryLists.{no_key, somes, IsPacked, entries, AreEntries}
 use Rattle.mr_node.proofs.PlaceLemmas.{packed_fits, packed_insert, somes_insert, packed_front, somes_front, packed_remove, somes_remove, packed_pad, somes_pad, last_set, moved_behind, got_used}
-use Rattle.mr_node.proofs.EntryListLemmas.{run_inserted, run_removed, run_split}
+use Rattle.mr_node.proofs.EntryListLemmas.{entries_inserted, entries_removed, entries_split}
 
 module _ {X : Type 0} where
   pushed : (n p : ℕ) (x : X) (ps new : List (Option X)) → length ps ≡ 32 → IsPacked n ps → n < 32 → p ≤ n → ((front : List (Option X)) (last : Option X) → set ps 31 (Some x) ≡ front ++ (last ∷ []) → new ≡ insert front p last) → (IsPacked (n + 1) new) × (somes new ≡ take p (somes ps) ++ (x ∷ drop p (somes ps)))
@@ -15,10 +15,10 @@ module _ {X : Type 0} where
       )
 
   -- an entry that was put at a place
-  pub run_put : (n p k : ℕ) (x : X) (ks keys : List ℕ) (ps new : List (Option X)) → AreEntries n ks ps → length ks ≡ 32 → length ps ≡ 32 → n < 32 → p ≤ n → keys ≡ insert (take 31 ks) p k → ((front : List (Option X)) (last : Option X) → set ps 31 (Some x) ≡ front ++ (last ∷ []) → new ≡ insert front p last) → (AreEntries (n + 1) keys new) × (entries keys new ≡ take p (entries ks ps) ++ ((k, x) ∷ drop p (entries ks ps)))
-  run_put n p k x ks keys ps new run long wide room within ek moved =
+  pub entries_put : (n p k : ℕ) (x : X) (ks keys : List ℕ) (ps new : List (Option X)) → AreEntries n ks ps → length ks ≡ 32 → length ps ≡ 32 → n < 32 → p ≤ n → keys ≡ insert (take 31 ks) p k → ((front : List (Option X)) (last : Option X) → set ps 31 (Some x) ≡ front ++ (last ∷ []) → new ≡ insert front p last) → (AreEntries (n + 1) keys new) × (entries keys new ≡ take p (entries ks ps) ++ ((k, x) ∷ drop p (entries ks ps)))
+  entries_put n p k x ks keys ps new run long wide room within ek moved =
       let both = pushed n p x ps new wide run.packed room within moved in
-      subst (λ l. (AreEntries (n + 1) l new) × (entries l new ≡ take p (entries ks ps) ++ ((k, x) ∷ drop p (entries ks ps)))) (sym ek) (run_inserted n p k x ks ps new run long room within both.0 both.1)
+      subst (λ l. (AreEntries (n + 1) l new) × (entries l new ≡ take p (entries ks ps) ++ ((k, x) ∷ drop p (entries ks ps)))) (sym ek) (entries_inserted n p k x ks ps new run long room within both.0 both.1)
 
   pulled : (n p : ℕ) (y : Option X) (ps new : List (Option X)) → IsPacked n ps → p < n → y ≡ None → new ≡ remove_range (set ps p y) p (p + 1) ++ slice_range (set ps p y) p (p + 1) → (IsPacked (n - 1) new) × (somes new ≡ take p (somes ps) ++ drop (p + 1) (somes ps))
   pulled n p y ps new packed within none moved =
@@ -29,9 +29,9 @@ module _ {X : Type 0} where
       )
 
   -- an entry that was taken out of a place
-  pub run_taken : (n p : ℕ) (r y : Option X) (x : X) (ks keys : List ℕ) (ps new : List (Option X)) → AreEntries n ks ps → p < n → get_or ps p r ≡ Some x → y ≡ None → keys ≡ remove ks p ++ (no_key ∷ []) → new ≡ remove_range (set ps p y) p (p + 1) ++ slice_range (set ps p y) p (p + 1)
+  pub entries_taken : (n p : ℕ) (r y : Option X) (x : X) (ks keys : List ℕ) (ps new : List (Option X)) → AreEntries n ks ps → p < n → get_or ps p r ≡ Some x → y ≡ None → keys ≡ remove ks p ++ (no_key ∷ []) → new ≡ remove_range (set ps p y) p (p + 1) ++ slice_range (set ps p y) p (p + 1)
       → (AreEntries (n - 1) keys new) × (entries keys new ≡ take p (entries ks ps) ++ drop (p + 1) (entries ks ps)) × (entries ks ps ≡ take p (entries ks ps) ++ ((get_or ks p 0, x) ∷ drop (p + 1) (entries ks ps)))
-  run_taken n p r y x ks keys ps new run within got none ek moved =
+  entries_taken n p r y x ks keys ps new run within got none ek moved =
       let both = pulled n p y ps new run.packed within none moved in
-      let all = subst (λ l. (AreEntries (n - 1) l new) × (entries l new ≡ take p (entries ks ps) ++ drop (p + 1) (entries ks ps))) (sym ek) (run_removed n p ks ps new run within both.0 both.1) in
-      (all.0, all.1, run_split n p x ks ps run (got_used n p r x ps run.packed within got))
+      let all = subst (λ l. (AreEntries (n - 1) l new) × (entries l new ≡ take p (entries ks ps) ++ drop (p + 1) (entries ks ps))) (sym ek) (entries_removed n p ks ps new run within both.0 both.1) in
+      (all.0, all.1, entries_split n p x ks ps run (got_used n p r x ps run.packed within got))

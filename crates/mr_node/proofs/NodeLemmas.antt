@@ -13,7 +13,7 @@ use Rattle.mr_node.specs.Growth.{IsGrown, IsRoomAnswer, is_done}
 use Rattle.mr_node.specs.declared.room.Room.{Room}
 use Rattle.mr_node.specs.declared.room.Room.TheVariants.{Done, Exists, Full}
 use Rattle.mr_node.proofs.PlaceLemmas.{same_written}
-use Rattle.mr_node.proofs.EntryListLemmas.{run_written, run_both}
+use Rattle.mr_node.proofs.EntryListLemmas.{entries_written, entries_both}
 use Rattle.mr_node.proofs.ChildLemmas.{IsCutAt, child_at, cut_child, rows_of-append, inner_of, leasts_are, leasts_rise}
 use Rattle.mr_node.proofs.SizeLemmas.{inner_well, few_rows}
 
@@ -72,7 +72,7 @@ module _ {V : Type 0} where
   pub replaced_inner : (key i : ℕ) (value : V) (b : NodeInner V) (k : NodePart V) (n : Seen V) → IsInner b → IsChildPlace key i b.len b.leasts → get_or b.children i None ≡ Some k → n ≡ record k.node.value { rows = with_row_at key_of_pair key (key, value) k.node.value.rows } → IsWell n → IsReplacedIn key i value b k n
   replaced_inner key i value b k n inner at got e well =
       let cut = cut_child key i b k inner at got in
-      let all = run_written b.len i (part_with k n) b.leasts b.children inner.run at.within in
+      let all = entries_written b.len i (part_with k n) b.leasts b.children inner.entries at.within in
       let new = inner_with b i (part_with k n) in
       let rows = replaced_rows key (b.height - 1) i value (children_of b) (children_of new) (child_at b i k) (child_at b i (part_with k n)) cut all.1 (ap (λ s. s.rows) e) in
       record {
@@ -111,7 +111,7 @@ module _ {V : Type 0} where
   grown_inner key i value b k n least count inner lt cut small none grown el ec =
       let x = part_grown k count n in
       let new = inner_set b i least x in
-      let all = run_both b.len i least x b.leasts b.children inner.run lt in
+      let all = entries_both b.len i least x b.leasts b.children inner.entries lt in
       let rows = grown_rows key (b.height - 1) i value (children_of b) (children_of new) (child_at b i k) (least, x) cut all.1 grown.rows in
       let absent = find_cut key i (b.height - 1) (children_of b) (child_at b i k) cut ∙ none in
       let whole = inner_of b new (take i (children_of b)) (drop (i + 1) (children_of b)) (least, x) (with_row key_of_pair (key, value) (rows_of (children_of b))) inner.above_leaves refl inner.some all.0 all.1

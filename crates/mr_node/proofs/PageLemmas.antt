@@ -1,8 +1,9 @@
 -- The next rows from a key on.
-use Rattle.std.proofs.Common.{◌≡◌, ℕ, ◌+◌, ◌-◌, ◌<◌, ◌≤◌, List, [], ◌∷◌, ◌++◌, length, get_or, take, drop, Option, Some, None, Bool, true, false, ◌==◌, refl, sym, ap, subst, ◌∙◌, arith, append_assoc, append-nil}
+use Rattle.std.proofs.Common.{◌≡◌, ℕ, ◌+◌, ◌-◌, ◌<◌, ◌≤◌, List, [], ◌∷◌, ◌++◌, length, get_or, take, drop, Some, None, Bool, true, false, ◌==◌, refl, sym, ap, subst, ◌∙◌, arith, append_assoc, append-nil}
 use Rattle.std.specs.List.{AllByRecursion}
 use Rattle.std.proofs.lemmas.Bool.Decides.{nat_tests}
-use Rattle.std.proofs.lemmas.List.{take_all, take-append-drop, drop_at, length-take, length-append, get_or_default}
+use Rattle.std.proofs.lemmas.List.{take_all, take-append-drop, drop_at, length-take, length-append}
+use Rattle.std.proofs.lemmas.Option.{slice_get_read}
 use Rattle.std.proofs.lemmas.List.Elements.{filter-append}
 use Rattle.tatp_rows.specs.Spans.{keys_from}
 use Rattle.tatp_rows.proofs.AppendLemmas.{each-right}
@@ -14,7 +15,8 @@ use Rattle.mr_node.specs.Search.{IsStop}
 use Rattle.mr_node.specs.Levels.{IsChildPlace}
 use Rattle.mr_node.specs.Levels.{IsLeaf, pairs_of, NodePart, NodeInner, children_of, rows_of, IsChild, IsInner}
 use Rattle.mr_node.specs.Pages.{IsPage}
-use Rattle.mr_node.proofs.EntryListLemmas.{run_next, run_rest, run_length}
+use Rattle.mr_node.proofs.KeyedLemmas.{keyed_next}
+use Rattle.mr_node.proofs.EntryListLemmas.{entries_next, entries_rest, entries_length}
 use Rattle.mr_node.proofs.EntryLemmas.{leaf_length, stop_fits, cut_below}
 use Rattle.mr_node.proofs.PartLemmas.{cut_from}
 use Rattle.mr_node.proofs.ChildLemmas.{child_at, cut_child, rows_of-append}
@@ -53,18 +55,16 @@ module _ {V : Type 0} where
   pub page_started : (leaf : Leaf V) (stop : ℕ) (page : List (ℕ × V)) → page ≡ [] → IsPageTo leaf stop stop page
   page_started leaf stop page none = ap (λ p. take stop (pairs_of leaf) ++ p) none ∙ append-nil (take stop (pairs_of leaf))
 
-  pub page_more : (leaf : Leaf V) (stop i : ℕ) (r : Option V) (v : V) (page : List (ℕ × V)) → IsLeaf leaf → i < length leaf.values.items → r ≡ get_or leaf.values.items i r → r ≡ Some v
-      → IsPageTo leaf stop i page → IsPageTo leaf stop (i + 1) (page ++ (get_or leaf.keys i 0, v) ∷ [])
-  page_more leaf stop i r v page h lt read is to =
-      let got : get_or leaf.values.items i None ≡ Some v = sym (get_or_default leaf.values.items i r None lt) ∙ sym read ∙ is in
+  pub page_more : (leaf : Leaf V) (stop i : ℕ) (v : V) (page : List (ℕ × V)) → IsLeaf leaf → i < length leaf.values.items → v ≡ get_or leaf.values.items i v → IsPageTo leaf stop i page → IsPageTo leaf stop (i + 1) (page ++ (get_or leaf.keys i 0, v) ∷ [])
+  page_more leaf stop i v page h lt read to =
       sym (append_assoc (take stop (pairs_of leaf)) page ((get_or leaf.keys i 0, v) ∷ []))
       ∙ ap (λ rows. rows ++ (get_or leaf.keys i 0, v) ∷ []) to
-      ∙ sym (run_next (length leaf.values.items) i v leaf.keys leaf.values.items h.run got)
+      ∙ sym (keyed_next i v leaf.keys leaf.values.items h.values (slice_get_read leaf.values.items (length leaf.values.items) i v refl lt read))
 
   -- it has room for one more
   pub page_room : (leaf : Leaf V) (stop i n : ℕ) (page : List (ℕ × V)) → IsLeaf leaf → i < n → n ≡ length leaf.values.items → IsPageTo leaf stop i page → length page < 32
   page_room leaf stop i n page h lt e to =
-      back_within (take stop (pairs_of leaf)) page (pairs_of leaf) i (omega (arith, h.run.fits, leaf_length leaf h, e, lt)) to
+      back_within (take stop (pairs_of leaf)) page (pairs_of leaf) i (omega (arith, h.values.fits, leaf_length leaf h, e, lt)) to
 
   pub page_ends : (leaf : Leaf V) (key stop i : ℕ) (page : List (ℕ × V)) → IsLeaf leaf → key ≤ no_key → length leaf.values.items ≤ length leaf.keys → IsStop key stop leaf.keys
       → length leaf.values.items ≤ i → IsPageTo leaf stop i page → IsPage key (pairs_of leaf) page
@@ -86,7 +86,7 @@ module _ {V : Type 0} where
   child_in i b k inner got =
       let children = children_of b in
       let back = each-right (IsChild (b.height - 1)) (take i children) (drop i children) (subst (AllByRecursion (IsChild (b.height - 1))) (sym (take-append-drop i children)) inner.children) in
-      (subst (AllByRecursion (IsChild (b.height - 1))) (run_rest b.len i k b.leasts b.children inner.run got) back).0
+      (subst (AllByRecursion (IsChild (b.height - 1))) (entries_rest b.len i k b.leasts b.children inner.entries got) back).0
 
   -- no child before this place has a row from the key on
   abbrev pub NoneTo : ℕ → ℕ → NodeInner V → Type 0
@@ -94,7 +94,7 @@ module _ {V : Type 0} where
 
   pub none_before : (key i : ℕ) (b : NodeInner V) → IsInner b → IsChildPlace key i b.len b.leasts → NoneTo key i b
   none_before key i b inner at =
-      let child = packed_some b.len i b.children inner.run.packed at.within in
+      let child = packed_some b.len i b.children inner.entries.packed at.within in
       from_none key (rows_of (take i (children_of b))) (cut_child key i b child.0 inner at child.1).below
 
   -- so the rows from it on up to the next child are those of this one
@@ -102,7 +102,7 @@ module _ {V : Type 0} where
       → keys_from key_of_pair key (rows_of (take (i + 1) (children_of b))) ≡ keys_from key_of_pair key k.node.value.rows
   none_to_child key i b k inner got none =
       let front = rows_of (take i (children_of b)) in
-      let rows = ap rows_of (run_next b.len i k b.leasts b.children inner.run got) ∙ rows_of-append (take i (children_of b)) (child_at b i k ∷ []) ∙ ap (λ r. front ++ r) (append-nil k.node.value.rows) in
+      let rows = ap rows_of (entries_next b.len i k b.leasts b.children inner.entries got) ∙ rows_of-append (take i (children_of b)) (child_at b i k ∷ []) ∙ ap (λ r. front ++ r) (append-nil k.node.value.rows) in
       ap (keys_from key_of_pair key) rows ∙ from_append key front k.node.value.rows ∙ ap (λ r. r ++ keys_from key_of_pair key k.node.value.rows) none
 
   pub none_to_next : (key i : ℕ) (b : NodeInner V) (k : NodePart V) → IsInner b → get_or b.children i None ≡ Some k → NoneTo key i b → IsPage key k.node.value.rows [] → NoneTo key (i + 1) b
@@ -125,7 +125,7 @@ module _ {V : Type 0} where
   -- no child has one
   pub page_of_none : (key i : ℕ) (b : NodeInner V) (page : List (ℕ × V)) → IsInner b → b.len ≤ i → page ≡ [] → NoneTo key i b → IsPage key (rows_of (children_of b)) page
   page_of_none key i b page inner le empty none =
-      let all : take i (children_of b) ≡ children_of b = take_all i (children_of b) (omega (arith, run_length b.len b.leasts b.children inner.run, le)) in
+      let all : take i (children_of b) ≡ children_of b = take_all i (children_of b) (omega (arith, entries_length b.len b.leasts b.children inner.entries, le)) in
       record {
         rest = [];
         front = ap (λ children. keys_from key_of_pair key (rows_of children)) (sym all) ∙ none ∙ ap (λ p. p ++ []) (sym empty);

@@ -2,7 +2,6 @@
 use Rattle.std.proofs.Common.{◌≡◌, ℕ, ◌+◌, ◌-◌, ◌<◌, ◌≤◌, suc, zero, List, [], ◌∷◌, ◌++◌, length, get_or, set, take, drop, slice_range, Option, Some, None, refl, sym, ap, subst, ◌∙◌, arith, append-nil, add-one, inl, inr}
 use Rattle.std.proofs.lemmas.List.{get_or_default, nil_from_length, set_split, set-get_or, drop_all, take-set, drop-set, drop-set-lt, take-take, take-append-le, drop-take, length-take-le, length-drop, length-append}
 use lib.Seq.{paste, drop_at}
-use Rattle.std.proofs.Math.Seq.{split_at}
 use Rattle.std.proofs.lemmas.Bool.{cases_lt}
 use Rattle.std.specs.List.{insert, remove, remove_range}
 use Rattle.mr_node.specs.EntryLists.{somes, IsPacked}
@@ -128,16 +127,6 @@ module _ {X : Type 0} where
   somes_pad ks = somes_append ks (None ∷ []) ∙ append-nil (somes ks)
 
   -- places that are all used
-  pub packed_left : (a b : List (Option X)) → IsPacked (length (a ++ b)) (a ++ b) → IsPacked (length a) a
-  packed_left [] b h = refl
-  packed_left (None ∷ a) b h = absurd (omega (arith, h.0))
-  packed_left (Some x ∷ a) b h = (omega arith, packed_same (length a) (suc (length a) - 1) a (omega arith) (packed_left a b (packed_same (suc (length (a ++ b)) - 1) (length (a ++ b)) (a ++ b) (omega arith) h.1)))
-
-  pub packed_right : (a b : List (Option X)) → IsPacked (length (a ++ b)) (a ++ b) → IsPacked (length b) b
-  packed_right [] b h = h
-  packed_right (None ∷ a) b h = absurd (omega (arith, h.0))
-  packed_right (Some x ∷ a) b h = packed_right a b (packed_same (suc (length (a ++ b)) - 1) (length (a ++ b)) (a ++ b) (omega arith) h.1)
-
   pub packed_join : (a b : List (Option X)) → IsPacked (length a) a → IsPacked (length b) b → IsPacked (length (a ++ b)) (a ++ b)
   packed_join [] b h i = i
   packed_join (None ∷ a) b h i = absurd (omega (arith, h.0))
@@ -146,18 +135,6 @@ module _ {X : Type 0} where
   -- a read that gave Some is within the used places
   pub packed_within : (n i : ℕ) (p : X) (ks : List (Option X)) → IsPacked n ks → get_or ks i None ≡ Some p → i < n
   packed_within n i p ks h e = elim (cases_lt i n) [ inl lt ↦ lt | inr le ↦ let none = packed_past n i ks h le in let wrong : ⊥ = cc in absurd wrong ]
-
-  -- the used places, cut at a read one
-  pub somes_split : (n i : ℕ) (p : X) (ks : List (Option X)) → IsPacked n ks → get_or ks i None ≡ Some p → somes ks ≡ take i (somes ks) ++ (p ∷ drop (i + 1) (somes ks))
-  somes_split n i p ks h e =
-      let lt = packed_within n i p ks h e in
-      let got = packed_get n i p ks h lt in
-      let same : get_or (somes ks) i p ≡ p = cc in
-      rw add-one (split_at (somes ks) i p (omega (arith, packed_length n ks h, lt)) ∙ ap (λ x. take i (somes ks) ++ (x ∷ drop (suc i) (somes ks))) same)
-
-  -- the same with the read place written
-  pub somes_written : (n i : ℕ) (y : X) (ks : List (Option X)) → IsPacked n ks → i < n → somes (set ks i (Some y)) ≡ take i (somes ks) ++ (y ∷ drop (i + 1) (somes ks))
-  somes_written n i y ks h lt = rw add-one (somes_set n i y ks h lt ∙ set_split (somes ks) i y (omega (arith, packed_length n ks h, lt)))
 
   -- a write of what stands there
   pub same_written : (i : ℕ) (p : X) (ks : List (Option X)) → get_or ks i None ≡ Some p → set ks i (Some p) ≡ ks

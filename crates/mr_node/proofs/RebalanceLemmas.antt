@@ -15,7 +15,7 @@ use Rattle.mr_node.specs.Levels.{NodePart, NodeChild, NodeInner, children_of, ro
 use Rattle.mr_node.specs.Pairs.{IsChildNode, IsJoined, IsShare, AreEvened}
 use Rattle.mr_node.specs.Inside.{AreChildrenBeside, IsLooseAt, ArePairChildren, IsPairAt, IsSplicedAt, IsWholeAgain, IsSplitAt}
 use Rattle.mr_node.proofs.PlaceLemmas.{packed_some}
-use Rattle.mr_node.proofs.EntryListLemmas.{run_length, run_split, run_rest, run_written, run_both}
+use Rattle.mr_node.proofs.EntryListLemmas.{entries_length, entries_split, entries_rest, entries_written, entries_both}
 use Rattle.mr_node.proofs.ChildLemmas.{rows_of-append, child_at}
 
 module _ {X : Type 0} where
@@ -30,9 +30,9 @@ module _ {X : Type 0} where
       → (AreEntries n (set ks (p + 1) l) (set (set (set ps (p + 1) y) p (Some a)) (p + 1) (Some b))) × (entries (set ks (p + 1) l) (set (set (set ps (p + 1) y) p (Some a)) (p + 1) (Some b)) ≡ take p (entries ks ps) ++ ((get_or ks p 0, a) ∷ ((l, b) ∷ drop (p + 2) (entries ks ps))))
   pair_written n p l y a b ks ps run lt =
       let e = entries ks ps in
-      let first = run_written n p a ks ps run (omega (arith, lt)) in
-      let both = run_both n (p + 1) l b ks (set ps p (Some a)) first.0 lt in
-      let len = length-take-le p e (omega (arith, run_length n ks ps run, lt)) in
+      let first = entries_written n p a ks ps run (omega (arith, lt)) in
+      let both = entries_both n (p + 1) l b ks (set ps p (Some a)) first.0 lt in
+      let len = length-take-le p e (omega (arith, entries_length n ks ps run, lt)) in
       let mid = entries ks (set ps p (Some a)) in
       let cut : mid ≡ (take p e ++ ((get_or ks p 0, a) ∷ [])) ++ drop (p + 1) e = first.1 ∙ sym (append_assoc (take p e) ((get_or ks p 0, a) ∷ []) (drop (p + 1) e)) in
       let long : length (take p e ++ ((get_or ks p 0, a) ∷ [])) ≡ p + 1 = omega (arith, length-append (take p e) ((get_or ks p 0, a) ∷ []), len) in
@@ -62,8 +62,8 @@ module _ {V : Type 0} where
   pair_at w p b low high inner got next =
       let e = children_of b in
       let h = b.height - 1 in
-      let one = run_rest b.len p low b.leasts b.children inner.run got in
-      let two = run_rest b.len (p + 1) high b.leasts b.children inner.run next in
+      let one = entries_rest b.len p low b.leasts b.children inner.entries got in
+      let two = entries_rest b.len (p + 1) high b.leasts b.children inner.entries next in
       let list : take 2 (drop p e) ≡ child_at b p low ∷ (child_at b (p + 1) high ∷ []) = ap (take 2) (one ∙ ap (λ r. child_at b p low ∷ r) two) in
       let mid = each-left (IsChildOf w h) (take 2 (drop p e)) (drop (p + 2) e) (each-right (IsChildOf w h) (take p e) (take 2 (drop p e) ++ drop (p + 2) e) (subst (AllByRecursion (IsChildOf w h)) (two_apart p e) inner.children)) in
       let both = subst (AllByRecursion (IsChildOf w h)) list mid in
@@ -90,8 +90,8 @@ module _ {V : Type 0} where
 
   pub widths_at : (least p v w : ℕ) (b : NodeInner V) → IsInnerOf least b → p + 1 < b.len → IfSome (get_or b.children p None) (λ k. v ≡ k.node.value.width) → IfSome (get_or b.children (p + 1) None) (λ k. w ≡ k.node.value.width) → AreWidths least v w (take 2 (drop p (children_of b)))
   widths_at least p v w b inner lt one two =
-      let low = packed_some b.len p b.children inner.run.packed (omega (arith, lt)) in
-      let high = packed_some b.len (p + 1) b.children inner.run.packed lt in
+      let low = packed_some b.len p b.children inner.entries.packed (omega (arith, lt)) in
+      let high = packed_some b.len (p + 1) b.children inner.entries.packed lt in
       let pair = pair_at least p b low.0 high.0 inner low.1 high.1 in
       let first : v ≡ low.0.node.value.width = subst (λ o. IfSome o (λ k. v ≡ k.node.value.width)) low.1 one in
       let second : w ≡ high.0.node.value.width = subst (λ o. IfSome o (λ k. w ≡ k.node.value.width)) high.1 two in
@@ -148,7 +148,7 @@ module _ {V : Type 0} where
   pub pair_shared : (p many : ℕ) (joined : Bool) (b : NodeInner V) (y : Option (NodePart V)) (low high a c : NodePart V) (least : ℕ) (x z : Seen V) → IsInnerOf 15 b → p + 1 < b.len → ArePair 15 p b low high → AreEvened joined low.node.value high.node.value x z → x.width ≡ many → a.node.value ≡ x → a.count ≡ length x.rows → c.node.value ≡ z → c.count ≡ length z.rows → (0 < z.width → StartsWith least z.rows)
       → IsPairAt p many joined b (record b { leasts = set b.leasts (p + 1) least; children = set (set (set b.children (p + 1) y) p (Some a)) (p + 1) (Some c) })
   pair_shared p many joined b y low high a c least x z inner lt pair evened wide ea ca ec cc starts =
-      let all = pair_written b.len p least y a c b.leasts b.children inner.run lt in
+      let all = pair_written b.len p least y a c b.leasts b.children inner.entries lt in
       let rows = sym (ap rows_of pair.list ∙ ap (λ r. low.node.value.rows ++ r) (append-nil high.node.value.rows)) in
       record {
         low = child_at b p a;
@@ -156,7 +156,7 @@ module _ {V : Type 0} where
         list = all.1;
         height = refl;
         len = refl;
-        run = all.0;
+        entries = all.0;
         children = pair_children (b.height - 1) joined (get_or b.leasts p 0) least low high a c x z (take 2 (drop p (children_of b))) pair.first pair.second.enough evened rows (pair_widths 15 p b low high pair) ea ca ec cc starts;
         width = ap (λ s. s.width) ea ∙ wide;
       }
@@ -169,7 +169,7 @@ module _ {V : Type 0} where
         height = height;
         len = len;
         some = some;
-        run = run;
+        entries = run;
         rows = ap rows_of list ∙ rows_of-append (take p e) (m ++ drop (p + 2) e) ∙ ap (λ r. rows_of (take p e) ++ r) (rows_of-append m (drop (p + 2) e) ∙ ap (λ r. r ++ rows_of (drop (p + 2) e)) rows) ∙ sym (rows_apart p e);
         children = λ beside. subst (AllByRecursion (IsChild (b.height - 1))) (sym list) (each-append (IsChild (b.height - 1)) (take p e) (m ++ drop (p + 2) e) beside.before (each-append (IsChild (b.height - 1)) m (drop (p + 2) e) whole beside.after));
       }
@@ -177,13 +177,13 @@ module _ {V : Type 0} where
   -- both stay
   pub spliced_two : (p many : ℕ) (b new : NodeInner V) → IsInnerOf 15 b → IsPairAt p many false b new → IsSplicedAt p b new
   spliced_two p many b new inner at =
-      spliced_of p b new (at.low ∷ (at.high ∷ [])) (omega (arith, at.len, inner.some)) (omega (arith, at.len)) at.height at.run at.list (ap (λ r. at.low.1.node.value.rows ++ r) (append-nil at.high.1.node.value.rows) ∙ at.children.2) (at.children.0, (at.children.1, tt))
+      spliced_of p b new (at.low ∷ (at.high ∷ [])) (omega (arith, at.len, inner.some)) (omega (arith, at.len)) at.height at.entries at.list (ap (λ r. at.low.1.node.value.rows ++ r) (append-nil at.high.1.node.value.rows) ∙ at.children.2) (at.children.0, (at.children.1, tt))
 
   -- the second one went
   pub spliced_one : (p many : ℕ) (b mid new : NodeInner V) → p + 1 < b.len → IsInnerOf 15 b → IsPairAt p many true b mid → new.height ≡ mid.height → new.len + 1 ≡ mid.len → AreEntries new.len new.leasts new.children → children_of new ≡ take (p + 1) (children_of mid) ++ drop (p + 1 + 1) (children_of mid) → IsSplicedAt p b new
   spliced_one p many b mid new lt inner at height len run rest =
       let e = children_of b in
-      let long = length-take-le p e (omega (arith, run_length b.len b.leasts b.children inner.run, lt)) in
+      let long = length-take-le p e (omega (arith, entries_length b.len b.leasts b.children inner.entries, lt)) in
       let front = take p e ++ (at.low ∷ []) in
       let cut : children_of mid ≡ front ++ (at.high ∷ drop (p + 2) e) = at.list ∙ sym (append_assoc (take p e) (at.low ∷ []) (at.high ∷ drop (p + 2) e)) in
       let wide : length front ≡ p + 1 = omega (arith, length-append (take p e) (at.low ∷ []), long) in
@@ -199,7 +199,7 @@ module _ {V : Type 0} where
       record {
         above_leaves = inner.above_leaves;
         some = inner.some;
-        run = inner.run;
+        entries = inner.entries;
         children = each-weaker {P = IsChild h} {Q = IsChildOf 15 h} (λ k child. record { level = child.level; enough = omega (arith, child.enough); well = child.well; first = child.first; counted = child.counted }) (children_of b) inner.children;
         ordered = inner.ordered;
         keys = inner.keys;
@@ -241,7 +241,7 @@ module _ {V : Type 0} where
     list = at.list ∙ ap (λ j. take m (children_of b) ++ (at.low ∷ (at.high ∷ drop j (children_of b)))) (omega (arith, e));
     height = at.height;
     len = omega (arith, at.len);
-    run = at.run;
+    entries = at.entries;
     rows = (spliced_two m many b new (loosened b inner) at).rows;
     lower = at.children.0;
     upper = at.children.1;
@@ -272,7 +272,7 @@ module _ {V : Type 0} where
     whole = record {
       above_leaves = omega (arith, sp.height, loose.above_leaves);
       some = sp.some;
-      run = sp.run;
+      entries = sp.entries;
       children = subst (λ h. AllByRecursion (IsChild (h - 1)) (children_of new)) (sym sp.height) (sp.children beside);
       ordered = subst (IsOrderedBy key_of_pair) (sym sp.rows) loose.ordered;
       keys = subst (KeysBelow key_limit) (sym sp.rows) loose.keys;
@@ -299,9 +299,9 @@ module _ {V : Type 0} where
   rebalanced_same l w b loose lt width enough =
       let children = children_of b in
       let inner = loose.inner in
-      let some = packed_some b.len l b.children inner.run.packed lt in
+      let some = packed_some b.len l b.children inner.entries.packed lt in
       let k = child_at b l some.0 in
-      let split = run_split b.len l some.0 b.leasts b.children inner.run some.1 in
+      let split = entries_split b.len l some.0 b.leasts b.children inner.entries some.1 in
       let mid = (each-right (IsChildOf 15 (b.height - 1)) (take l children) (k ∷ drop (l + 1) children) (subst (AllByRecursion (IsChildOf 15 (b.height - 1))) split inner.children)).0 in
       let wide : w ≡ some.0.node.value.width = subst (λ o. IfSome o (λ j. w ≡ j.node.value.width)) some.1 width in
       let good : IsChild (b.height - 1) k = record { level = mid.level; enough = omega (arith, wide, enough); well = mid.well; first = mid.first; counted = mid.counted } in
@@ -312,7 +312,7 @@ module _ {V : Type 0} where
         whole = record {
           above_leaves = inner.above_leaves;
           some = inner.some;
-          run = inner.run;
+          entries = inner.entries;
           children = subst (AllByRecursion (IsChild (b.height - 1))) (sym split) (each-append (IsChild (b.height - 1)) (take l children) (k ∷ drop (l + 1) children) loose.beside.before (good, loose.beside.after));
           ordered = inner.ordered;
           keys = inner.keys;

@@ -13,7 +13,7 @@ use Rattle.mr_node.specs.Changes.{IsShrunk}
 use Rattle.mr_node.specs.Inside.{IsLooseAt, IsWholeAgain}
 use Rattle.mr_node.specs.Steps.{after_steps}
 use Rattle.mr_node.proofs.PlaceLemmas.{packed_fits}
-use Rattle.mr_node.proofs.EntryListLemmas.{run_length, run_both}
+use Rattle.mr_node.proofs.EntryListLemmas.{entries_length, entries_both}
 use Rattle.mr_node.proofs.ChildLemmas.{IsCutAt, rows_of-append, child_at}
 use Rattle.mr_node.proofs.SizeLemmas.{inner_well}
 use Rattle.mr_node.proofs.NodeLemmas.{inner_set}
@@ -58,9 +58,9 @@ module _ {V : Type 0} where
       let children = children_of b in
       let h = b.height - 1 in
       let new = inner_set b i least x in
-      let all = run_both b.len i least x b.leasts b.children inner.run lt in
+      let all = entries_both b.len i least x b.leasts b.children inner.entries lt in
       let rows = removed_rows key h i children (children_of new) (child_at b i k) (least, x) cut all.1 (ap (λ s. s.rows) e ∙ shrunk.rows) in
-      let len = length-take-le i children (omega (arith, run_length b.len b.leasts b.children inner.run, lt)) in
+      let len = length-take-le i children (omega (arith, entries_length b.len b.leasts b.children inner.entries, lt)) in
       let front : take i (children_of new) ≡ take i children = ap (take i) all.1 ∙ take_at (take i children) ((least, x) ∷ drop (i + 1) children) i len in
       let back : drop (i + 1) (children_of new) ≡ drop (i + 1) children = ap (drop (i + 1)) (all.1 ∙ sym (append_assoc (take i children) ((least, x) ∷ []) (drop (i + 1) children))) ∙ drop_at (take i children ++ ((least, x) ∷ [])) (drop (i + 1) children) (i + 1) (omega (arith, length-append (take i children) ((least, x) ∷ []), len)) in
       record {
@@ -68,7 +68,7 @@ module _ {V : Type 0} where
           inner = record {
             above_leaves = inner.above_leaves;
             some = inner.some;
-            run = all.0;
+            entries = all.0;
             children = subst (AllByRecursion (IsChildOf 15 h)) (sym all.1) (each-append (IsChildOf 15 h) (take i children) ((least, x) ∷ drop (i + 1) children) (loosen h (take i children) cut.before) (loose_child h key least (child_at b i k) x n cut.child shrunk e count first, loosen h (drop (i + 1) children) cut.after));
             ordered = subst (IsOrderedBy key_of_pair) (sym rows) (ordered-without_row key_of_pair key (rows_of children) inner.ordered);
             keys = subst (KeysBelow key_limit) (sym rows) (each-without_row key_of_pair (λ p. p.0 < key_limit) key (rows_of children) inner.keys);
@@ -76,7 +76,7 @@ module _ {V : Type 0} where
           beside = record { before = subst (AllByRecursion (IsChild h)) (sym front) cut.before; after = subst (AllByRecursion (IsChild h)) (sym back) cut.after };
         };
         rows = rows;
-        got = get_or-set_same b.children i (Some x) None (omega (arith, packed_fits b.len b.children inner.run.packed, lt));
+        got = get_or-set_same b.children i (Some x) None (omega (arith, packed_fits b.len b.children inner.entries.packed, lt));
       }
 
   pub shrunk_inner : (key i : ℕ) (b mid new : NodeInner V) (x : NodePart V) (now : Seen V) → now ≡ seen_inner b → IsRemovedIn key i b mid x → mid.height ≡ b.height → mid.len ≡ b.len → IsWholeAgain 1 mid new → IsShrunk key now (seen_inner new)

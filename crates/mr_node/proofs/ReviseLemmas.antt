@@ -1,5 +1,6 @@
 -- What becomes of a node when a value in it is changed in place.
-use Rattle.std.proofs.Common.{◌≡◌, ℕ, List, Option, Some, None, IfSome, length, get_or, set, option_map, is_some, true, refl, sym, ap, subst, ◌∙◌}
+use Rattle.std.proofs.Common.{◌≡◌, ℕ, ◌<◌, List, Option, Some, None, IfSome, length, get_or, set, option_map, is_some, true, refl, sym, ap, subst, ◌∙◌}
+use Rattle.std.specs.List.{refill, slice_get}
 use Rattle.std.specs.Option.{unwrap_or}
 use Rattle.tatp_rows.specs.Ordered.{row_at, with_row_at}
 use Rattle.tatp_rows.proofs.OrderedLemmas.{with_row_at_absent}
@@ -10,6 +11,8 @@ use Rattle.mr_node.specs.declared.body.Leaf.{Leaf}
 use Rattle.mr_node.specs.Levels.{IsLeaf, pairs_of, NodePart, NodeInner, children_of, rows_of, IsWell, IsInner, seen_inner}
 use Rattle.mr_node.specs.Revisions.{revised_at, spent_at}
 use Rattle.mr_node.proofs.PlaceLemmas.{same_written}
+use Rattle.mr_node.proofs.KeyedLemmas.{of_item}
+use Rattle.mr_node.proofs.ShareLemmas.{written_back}
 use Rattle.mr_node.proofs.EntryLemmas.{leaf_some, found_value, leaf_written}
 use Rattle.mr_node.proofs.NodeLemmas.{inner_with, part_with, find_inner, replaced_inner, seen_with}
 
@@ -31,17 +34,23 @@ module _ {V : Type 0} where
   pub spent_same : {E : Type 0} (key : ℕ) (spent : E → V → E) (edit : E) (rows others : List (ℕ × V)) → value_at key rows ≡ value_at key others → spent_at key spent edit rows ≡ spent_at key spent edit others
   spent_same key spent edit rows others same = ap (λ o. unwrap_or (option_map (spent edit) o) edit) same
 
+  -- a value changed in its place
+  pub value_changed : (i : ℕ) (r y : V) (change : V → V) (xs ws : List V) → ws ≡ xs → i < length xs → y ≡ change (get_or ws i r) → IfSome (slice_get xs i) (λ v. refill (length xs) xs (set ws i y) ≡ set xs i (change v))
+  value_changed i r y change xs ws e lt ey =
+      of_item (λ v. refill (length xs) xs (set ws i y) ≡ set xs i (change v)) i r xs ws e lt
+      (written_back i y xs ws e ∙ ap (set xs i) ey)
+
   -- a leaf with the value changed in the place of a key
-  pub leaf_revised : (key i : ℕ) (change : V → V) (leaf new : Leaf V) → IsLeaf leaf → IsThere key i leaf → new.keys ≡ leaf.keys → IfSome (get_or leaf.values.items i None) (λ v. new.values.items ≡ set leaf.values.items i (Some (change v)))
+  pub leaf_revised : (key i : ℕ) (change : V → V) (leaf new : Leaf V) → IsLeaf leaf → IsThere key i leaf → new.keys ≡ leaf.keys → IfSome (slice_get leaf.values.items i) (λ v. new.values.items ≡ set leaf.values.items i (change v))
       → (IsLeaf new) × (pairs_of new ≡ revised_at key change (pairs_of leaf)) × (length new.values.items ≡ length leaf.values.items)
   leaf_revised key i change leaf new h there ek ev =
       let some = leaf_some i leaf h there.within in
       let v = some.0 in
       let is : value_at key (pairs_of leaf) ≡ Some v = sym (found_value key i leaf h there) ∙ some.1 in
-      let after = leaf_written key i (change v) leaf new h there ek (subst (λ o. IfSome o (λ v. new.values.items ≡ set leaf.values.items i (Some (change v)))) some.1 ev) in
+      let after = leaf_written key i (change v) leaf new h there ek (subst (λ o. IfSome o (λ v. new.values.items ≡ set leaf.values.items i (change v))) some.1 ev) in
       (after.0, after.1 ∙ sym (revised_some key change v (pairs_of leaf) is), after.2)
 
-  pub leaf_spent : {E : Type 0} (key i : ℕ) (spent : E → V → E) (edit now : E) (leaf : Leaf V) → IsLeaf leaf → IsThere key i leaf → IfSome (get_or leaf.values.items i None) (λ v. now ≡ spent edit v) → now ≡ spent_at key spent edit (pairs_of leaf)
+  pub leaf_spent : {E : Type 0} (key i : ℕ) (spent : E → V → E) (edit now : E) (leaf : Leaf V) → IsLeaf leaf → IsThere key i leaf → IfSome (slice_get leaf.values.items i) (λ v. now ≡ spent edit v) → now ≡ spent_at key spent edit (pairs_of leaf)
   leaf_spent key i spent edit now leaf h there e =
       let some = leaf_some i leaf h there.within in
       let is : value_at key (pairs_of leaf) ≡ Some some.0 = sym (found_value key i leaf h there) ∙ some.1 in

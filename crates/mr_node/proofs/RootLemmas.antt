@@ -8,13 +8,13 @@ use Rattle.mr_node.specs.EntryLists.{AreEntries}
 use Rattle.mr_node.specs.Levels.{NodeChild, NodeInner, children_of, rows_of, IsWell, IsChild, IsInner, seen_inner}
 use Rattle.mr_node.specs.Pairs.{IsChildNode, IsHalved}
 use Rattle.mr_node.specs.Changes.{HasNewRoot}
-use Rattle.mr_node.specs.Parts.{IsWithChild}
-use Rattle.mr_node.proofs.EntryListLemmas.{run_length}
+use Rattle.mr_node.specs.Parts.{HasOneMoreChild}
+use Rattle.mr_node.proofs.EntryListLemmas.{entries_length}
 use Rattle.mr_node.proofs.SizeLemmas.{inner_well}
 
 module _ {V : Type 0} where
   -- a node among the children
-  pub inserted_child : (i : ℕ) (b new : NodeInner V) (k : NodeChild V) (n now again : Seen V) → children_of new ≡ take i (children_of b) ++ (k ∷ drop i (children_of b)) → k.1.node.value ≡ n → now ≡ n → again ≡ n → IsChildNode n.height n → (0 < now.width → StartsWith k.0 now.rows) → k.1.count ≡ length again.rows → IsWithChild i n b new
+  pub inserted_child : (i : ℕ) (b new : NodeInner V) (k : NodeChild V) (n now again : Seen V) → children_of new ≡ take i (children_of b) ++ (k ∷ drop i (children_of b)) → k.1.node.value ≡ n → now ≡ n → again ≡ n → IsChildNode n.height n → (0 < now.width → StartsWith k.0 now.rows) → k.1.count ≡ length again.rows → HasOneMoreChild i n b new
   inserted_child i b new k n now again list e same once node first count =
       let starts : StartsWith k.0 n.rows = subst (λ s. StartsWith k.0 s.rows) same (first (omega (arith, ap (λ s. s.width) same, node.enough))) in
       record {
@@ -31,9 +31,9 @@ module _ {V : Type 0} where
       }
 
   -- a new root over two halves
-  pub root_inner : (n x y : Seen V) (start mid new : NodeInner V) → IsWell n → IsHalved n x y → start.height ≡ n.height + 1 → start.len ≡ 0 → AreEntries 0 start.leasts start.children → mid.height ≡ start.height → mid.len ≡ start.len + 1 → new.height ≡ mid.height → new.len ≡ mid.len + 1 → AreEntries new.len new.leasts new.children → IsWithChild 0 x start mid → IsWithChild 1 y mid new → (IsInner new) × HasNewRoot n (seen_inner new)
+  pub root_inner : (n x y : Seen V) (start mid new : NodeInner V) → IsWell n → IsHalved n x y → start.height ≡ n.height + 1 → start.len ≡ 0 → AreEntries 0 start.leasts start.children → mid.height ≡ start.height → mid.len ≡ start.len + 1 → new.height ≡ mid.height → new.len ≡ mid.len + 1 → AreEntries new.len new.leasts new.children → HasOneMoreChild 0 x start mid → HasOneMoreChild 1 y mid new → (IsInner new) × HasNewRoot n (seen_inner new)
   root_inner n x y start mid new well half height len none mid_height mid_len new_height new_len run low high =
-      let nil : children_of start ≡ [] = nil_from_length (children_of start) (run_length 0 start.leasts start.children none) in
+      let nil : children_of start ≡ [] = nil_from_length (children_of start) (entries_length 0 start.leasts start.children none) in
       let list : children_of new ≡ low.child ∷ (high.child ∷ []) = high.list ∙ ap (λ l. take 1 l ++ (high.child ∷ drop 1 l)) (low.list ∙ ap (λ l. low.child ∷ l) nil) in
       let rows : rows_of (children_of new) ≡ n.rows = ap rows_of list ∙ ap (λ r. low.child.1.node.value.rows ++ r) (append-nil high.child.1.node.value.rows) ∙ ap (λ s. s.rows ++ high.child.1.node.value.rows) low.same ∙ ap (λ s. x.rows ++ s.rows) high.same ∙ half.rows in
       let up : new.height ≡ n.height + 1 = new_height ∙ mid_height ∙ height in
@@ -44,7 +44,7 @@ module _ {V : Type 0} where
       let inner : IsInner new = record {
         above_leaves = omega (arith, up);
         some = omega (arith, two);
-        run = run;
+        entries = run;
         children = subst (AllByRecursion (IsChild (new.height - 1))) (sym list) (first, (second, tt));
         ordered = subst (IsOrderedBy key_of_pair) (sym rows) well.ordered;
         keys = subst (KeysBelow key_limit) (sym rows) well.keys;
@@ -54,6 +54,6 @@ module _ {V : Type 0} where
   -- the only child of an inner node
   pub only_child_left : (b : NodeInner V) (k : NodeChild V) → IsInner b → b.len ≡ 1 → children_of b ≡ k ∷ drop 1 (children_of b) → (rows_of (children_of b) ≡ k.1.node.value.rows) × IsChild (b.height - 1) k
   only_child_left b k inner one e =
-      let none : drop 1 (children_of b) ≡ [] = drop_all 1 (children_of b) (omega (arith, run_length b.len b.leasts b.children inner.run, one)) in
+      let none : drop 1 (children_of b) ≡ [] = drop_all 1 (children_of b) (omega (arith, entries_length b.len b.leasts b.children inner.entries, one)) in
       let list : children_of b ≡ k ∷ [] = e ∙ ap (λ r. k ∷ r) none in
       (ap rows_of list ∙ append-nil k.1.node.value.rows, (subst (AllByRecursion (IsChild (b.height - 1))) list inner.children).0)

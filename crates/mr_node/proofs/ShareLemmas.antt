@@ -1,14 +1,16 @@
 -- Two neighbours that share entries: what the last entry's move from one to the other and a turn make of both.
-use Rattle.std.proofs.Common.{◌≡◌, ℕ, ◌+◌, ◌-◌, ◌<◌, ◌≤◌, suc, zero, List, [], ◌∷◌, ◌++◌, length, reverse, get_or, set, take, drop, min, max, Option, Some, None, refl, sym, ap, subst, ◌∙◌, arith, append-nil, length-append, length-drop, eqb, inl, inr}
-use Rattle.std.proofs.lemmas.List.{drop_all, take_all, get_or_default, length-take-le, reverse-append, append_assoc, length-reverse, take-append-drop, get_or_push}
+use Rattle.std.proofs.Common.{◌≡◌, ℕ, ◌+◌, ◌-◌, ◌<◌, ◌≤◌, suc, zero, List, [], ◌∷◌, ◌++◌, length, reverse, get_or, set, take, drop, min, max, Option, Some, None, refl, sym, ap, subst, ◌∙◌, arith, append-nil, length-append, length-drop, take_at, eqb, inl, inr}
+use Rattle.std.proofs.lemmas.List.{drop_all, take_all, get_or_default, length-take-le, reverse-append, append_assoc, length-reverse, length-set, take-append-drop, get_or_push}
 use Rattle.std.proofs.Math.Nat.{le-max_right, min-le_right}
-use Rattle.std.proofs.Math.Seq.{take-append_seam, drop-append_seam}
-use Rattle.std.specs.List.{refill}
+use Rattle.std.proofs.Math.Seq.{drop-append_seam}
+use Rattle.std.specs.List.{refill, zip}
+use Rattle.std.proofs.lemmas.Option.{slice_get_read}
 use Rattle.std.proofs.lemmas.Bool.Decides.{eqb_tells}
 use Rattle.mr_node.specs.Pairs.{AreEvenWidths, IsShare}
-use Rattle.mr_node.specs.EntryLists.{no_key, somes, IsPacked, entries, AreEntries}
-use Rattle.mr_node.proofs.PlaceLemmas.{packed_length, packed_fits, packed_some, somes_front, packed_left, packed_right, packed_join, somes_append}
-use Rattle.mr_node.proofs.EntryListLemmas.{run_length, run_split, run_popped, run_pushed, run_turned}
+use Rattle.mr_node.specs.EntryLists.{no_key, somes, IsPacked, entries, AreEntries, AreKeyed}
+use Rattle.mr_node.proofs.PlaceLemmas.{packed_fits, packed_some, somes_front, packed_join, somes_append}
+use Rattle.mr_node.proofs.KeyedLemmas.{keyed_length, keyed_popped, keyed_pushed, keyed_rest, keyed_turned}
+use Rattle.mr_node.proofs.EntryListLemmas.{entries_length, entries_split, entries_popped, entries_pushed, entries_turned}
 
 module _ {X : Type 0} where
   -- the last one of a list that isn't empty
@@ -137,10 +139,10 @@ module _ {X : Type 0} where
   last_entry : (n i : ℕ) (x : X) (ks : List ℕ) (ps : List (Option X)) → i + 1 ≡ n → AreEntries n ks ps → get_or ps i None ≡ Some x → drop i (entries ks ps) ≡ (get_or ks i 0, x) ∷ []
   last_entry n i x ks ps one run got =
       let all : List (ℕ × X) = entries ks ps in
-      let len : length all ≡ n = run_length n ks ps run in
+      let len : length all ≡ n = entries_length n ks ps run in
       let front : length (take i all) ≡ i = length-take-le i all (omega (arith, len, one)) in
       let rest : List (ℕ × X) = (get_or ks i 0, x) ∷ drop (i + 1) all in
-      ap (drop i) (run_split n i x ks ps run got)
+      ap (drop i) (entries_split n i x ks ps run got)
       ∙ ap (λ j. drop j (take i all ++ rest)) (sym front)
       ∙ drop-append_seam (take i all) rest
       ∙ ap (λ l. (get_or ks i 0, x) ∷ l) (drop_all (i + 1) all (omega (arith, len, one)))
@@ -150,42 +152,39 @@ module _ {X : Type 0} where
   IsGiven n m ks ls new more from to = (AreEntries n ks new) × (AreEntries m ls more) × (entries ks new ≡ take (length from - 1) from) × (entries ls more ≡ to ++ drop (length from - 1) from)
 
   -- the last entry of the one run behind those of the other
-  run_given : (n i m : ℕ) (x : X) (ks ls : List ℕ) (ps qs new more : List (Option X)) → i + 1 ≡ n → AreEntries n ks ps → AreEntries m ls qs → length ls ≡ 32 → m < 32 → get_or ps i None ≡ Some x → IsPacked i new → somes new ≡ take i (somes ps) → IsPacked (m + 1) more → somes more ≡ somes qs ++ (x ∷ [])
+  entries_given : (n i m : ℕ) (x : X) (ks ls : List ℕ) (ps qs new more : List (Option X)) → i + 1 ≡ n → AreEntries n ks ps → AreEntries m ls qs → length ls ≡ 32 → m < 32 → get_or ps i None ≡ Some x → IsPacked i new → somes new ≡ take i (somes ps) → IsPacked (m + 1) more → somes more ≡ somes qs ++ (x ∷ [])
       → IsGiven i (m + 1) (set ks i no_key) (set ls m (get_or ks i 0)) new more (entries ks ps) (entries ls qs)
-  run_given n i m x ks ls ps qs new more one run to long room got packed e filled f =
-      let popped = run_popped n i ks ps new one run packed e in
-      let pushed = run_pushed m (get_or ks i 0) x ls qs more to long room filled f in
-      let at : i ≡ length (entries ks ps) - 1 = omega (arith, run_length n ks ps run, one) in (
+  entries_given n i m x ks ls ps qs new more one run to long room got packed e filled f =
+      let popped = entries_popped n i ks ps new one run packed e in
+      let pushed = entries_pushed m (get_or ks i 0) x ls qs more to long room filled f in
+      let at : i ≡ length (entries ks ps) - 1 = omega (arith, entries_length n ks ps run, one) in (
         popped.0,
         pushed.0,
         popped.1 ∙ ap (λ j. take j (entries ks ps)) at,
         pushed.1 ∙ ap (λ l. entries ls qs ++ l) (sym (last_entry n i x ks ps one run got)) ∙ ap (λ j. entries ls qs ++ drop j (entries ks ps)) at,
       )
 
-  -- of places that are all used, the last goes from the one list to the other
-  pub leaf_given : (i m : ℕ) (o : Option X) (ks ls : List ℕ) (ps qs new more : List (Option X)) → i + 1 ≡ length ps → m ≡ length qs → AreEntries (length ps) ks ps → AreEntries (length qs) ls qs → length ls ≡ 32 → length qs < 32 → ps ≡ new ++ (o ∷ []) → more ≡ qs ++ (o ∷ [])
-      → IsGiven (length new) (length more) (set ks i no_key) (set ls m (get_or ks i 0)) new more (entries ks ps) (entries ls qs)
-  leaf_given i m None ks ls ps qs new more one wide run to long room e f =
-      let last = packed_right new (None ∷ []) (subst (λ l. IsPacked (length l) l) e run.packed) in
-      absurd (omega (arith, last.0))
-  leaf_given i m (Some x) ks ls ps qs new more one wide run to long room e f =
-      let packed = packed_left new (Some x ∷ []) (subst (λ l. IsPacked (length l) l) e run.packed) in
-      let len : length new ≡ i = omega (arith, one, ap length e, length-append new (Some x ∷ [])) in
-      let used : length (somes new) ≡ i = packed_length (length new) new packed ∙ len in
-      let some : somes ps ≡ somes new ++ (x ∷ []) = ap somes e ∙ somes_append new (Some x ∷ []) in
-      let more_len : length more ≡ m + 1 = omega (arith, wide, ap length f, length-append qs (Some x ∷ [])) in
-      let filled : IsPacked (length more) more = subst (λ l. IsPacked (length l) l) (sym f) (packed_join qs (Some x ∷ []) to.packed (omega arith, refl)) in
-      let given = run_given (length ps) i m x ks ls ps qs new more one run
-      (subst (λ j. AreEntries j ls qs) (sym wide) to) long (omega (arith, wide, room))
-      (ap (λ l. get_or l i None) e ∙ get_or_push new (Some x) None i len)
-      (packed_same (length new) i new len packed)
-      (sym (ap (take i) some ∙ ap (λ j. take j (somes new ++ (x ∷ []))) (sym used) ∙ take-append_seam (somes new) (x ∷ [])))
-      (packed_same (length more) (m + 1) more more_len filled)
-      (ap somes f ∙ somes_append qs (Some x ∷ [])) in (
-        subst (λ j. AreEntries j (set ks i no_key) new) (sym len) given.0,
-        subst (λ j. AreEntries j (set ls m (get_or ks i 0)) more) (sym more_len) given.1,
-        given.2,
-        given.3,
+  -- two leaves after the last entry of the one went behind those of the other; before, these were their entries
+  abbrev pub AreGivenValues : (ks ls : List ℕ) (new more : List X) (from to : List (ℕ × X)) → Type 0
+  AreGivenValues ks ls new more from to = (AreKeyed ks new) × (AreKeyed ls more) × (zip ks new ≡ take (length from - 1) from) × (zip ls more ≡ to ++ drop (length from - 1) from)
+
+  -- the last value goes from the one list to the other
+  pub leaf_given : (i m : ℕ) (x : X) (ks ls : List ℕ) (xs ys new more : List X) → i + 1 ≡ length xs → m ≡ length ys → AreKeyed ks xs → AreKeyed ls ys → length ls ≡ 32 → length ys < 32 → xs ≡ new ++ (x ∷ []) → more ≡ ys ++ (x ∷ [])
+      → AreGivenValues (set ks i no_key) (set ls m (get_or ks i 0)) new more (zip ks xs) (zip ls ys)
+  leaf_given i m x ks ls xs ys new more one wide from to long room e f =
+      let all : List (ℕ × X) = zip ks xs in
+      let len : length new ≡ i = omega (arith, one, ap length e, length-append new (x ∷ [])) in
+      let rest : new ≡ take i xs = sym (ap (take i) e ∙ take_at new (x ∷ []) i len) in
+      let read : get_or xs i x ≡ x = ap (λ l. get_or l i x) e ∙ get_or_push new x x i len in
+      let got = slice_get_read xs (length xs) i x refl (omega (arith, one)) (sym read) in
+      let popped = keyed_popped i ks xs one from in
+      let pushed = keyed_pushed m (get_or ks i 0) x ls ys to long wide (omega (arith, wide, room)) in
+      let at : i ≡ length all - 1 = omega (arith, keyed_length ks xs from, one) in
+      let last : drop i all ≡ (get_or ks i 0, x) ∷ [] = keyed_rest i x ks xs from got ∙ ap (λ l. (get_or ks i 0, x) ∷ l) (drop_all (i + 1) all (omega (arith, keyed_length ks xs from, one))) in (
+        subst (AreKeyed (set ks i no_key)) (sym rest) popped.0,
+        subst (AreKeyed (set ls m (get_or ks i 0))) (sym f) pushed.0,
+        ap (zip (set ks i no_key)) rest ∙ popped.1 ∙ ap (λ j. take j all) at,
+        ap (zip (set ls m (get_or ks i 0))) f ∙ pushed.1 ∙ ap (λ l. zip ls ys ++ l) (sym last) ∙ ap (λ j. zip ls ys ++ drop j all) at,
       )
 
   -- of places of which the first are used, the last used goes from the one list to the other
@@ -195,7 +194,7 @@ module _ {X : Type 0} where
       let used = packed_some n i ps run.packed (omega (arith, one)) in
       let same : o ≡ Some used.0 = eo ∙ get_or_default ps i r None (omega (arith, packed_fits n ps run.packed, one)) ∙ used.1 in
       let packed = packed_same n (i + 1) ps (sym one) run.packed in
-      let given = run_given n i m used.0 ks ls ps qs (set ps i None) (set qs m (Some used.0)) one run to long room used.1
+      let given = entries_given n i m used.0 ks ls ps qs (set ps i None) (set qs m (Some used.0)) one run to long room used.1
       (packed_less i ps packed) (somes_less i ps packed) (packed_next m used.0 qs to.packed (omega (arith, wide, room))) (somes_next m used.0 qs to.packed (omega (arith, wide, room))) in
       let new = ap (set ps i) (sym ey) in
       let more = ap (set qs m) (sym same) in (
@@ -206,29 +205,28 @@ module _ {X : Type 0} where
       )
 
   -- a slice of the same length, back in its vector
-  pub refilled : (ps ws : List (Option X)) → length ws ≡ length ps → refill (length ps) ps ws ≡ ws
-  refilled ps ws long =
-      ap (λ l. take (length ps) (ws ++ l)) (drop_all (length ws) ps (omega (arith, long)))
-      ∙ ap (take (length ps)) (append-nil ws)
-      ∙ take_all (length ps) ws (omega (arith, long))
+  pub refilled : (xs ws : List X) → length ws ≡ length xs → refill (length xs) xs ws ≡ ws
+  refilled xs ws long =
+      ap (λ l. take (length xs) (ws ++ l)) (drop_all (length ws) xs (omega (arith, long)))
+      ∙ ap (take (length xs)) (append-nil ws)
+      ∙ take_all (length xs) ws (omega (arith, long))
+
+  -- one with a place written
+  pub written_back : (i : ℕ) (y : X) (xs ws : List X) → ws ≡ xs → refill (length xs) xs (set ws i y) ≡ set xs i y
+  written_back i y xs ws e = refilled xs (set ws i y) (length-set ws i y ∙ ap length e) ∙ ap (λ l. set l i y) e
 
   -- one that was turned
-  pub turned_back : (ps ws : List (Option X)) → ws ≡ reverse ps → refill (length ps) ps ws ≡ reverse ps
-  turned_back ps ws e = refilled ps ws (ap length e ∙ length-reverse ps) ∙ e
+  pub turned_back : (xs ws : List X) → ws ≡ reverse xs → refill (length xs) xs ws ≡ reverse xs
+  turned_back xs ws e = refilled xs ws (ap length e ∙ length-reverse xs) ∙ e
 
   -- all entries in the other order
-  pub leaf_turned : (n : ℕ) (ks keys : List ℕ) (ps new : List (Option X)) → n ≡ length ps → AreEntries (length ps) ks ps → keys ≡ reverse (take n ks) ++ drop n ks → new ≡ reverse ps → (AreEntries (length new) keys new) × (entries keys new ≡ reverse (entries ks ps))
-  leaf_turned n ks keys ps new wide run ek e =
-      let len : length new ≡ n = ap length e ∙ length-reverse ps ∙ sym wide in
-      let packed : IsPacked (length new) new = subst (λ l. IsPacked (length l) l) (sym e) (packed_reverse ps run.packed) in
-      let turned = run_turned n ks ps new (subst (λ j. AreEntries j ks ps) (sym wide) run) (packed_same (length new) n new len packed) (ap somes e ∙ somes_reverse ps) in
-      subst (λ l. (AreEntries (length new) l new) × (entries l new ≡ reverse (entries ks ps))) (sym ek)
-      (subst (λ j. AreEntries j (reverse (take n ks) ++ drop n ks) new) (sym len) turned.0, turned.1)
+  pub leaf_turned : (n : ℕ) (ks keys : List ℕ) (xs new : List X) → n ≡ length xs → AreKeyed ks xs → keys ≡ reverse (take n ks) ++ drop n ks → new ≡ reverse xs → (AreKeyed keys new) × (zip keys new ≡ reverse (zip ks xs))
+  leaf_turned n ks keys xs new wide h ek e = rw (ek, e) (keyed_turned n ks xs wide h)
 
   pub inner_turned : (n : ℕ) (ks keys : List ℕ) (ps new : List (Option X)) → AreEntries n ks ps → keys ≡ reverse (take n ks) ++ drop n ks → new ≡ reverse (take n ps) ++ drop n ps → (AreEntries n keys new) × (entries keys new ≡ reverse (entries ks ps))
   inner_turned n ks keys ps new run ek e =
       subst (λ l. (AreEntries n l new) × (entries l new ≡ reverse (entries ks ps))) (sym ek)
-      (run_turned n ks ps new run (subst (IsPacked n) (sym e) (packed_turned n ps run.packed)) (ap somes e ∙ somes_turned n ps run.packed))
+      (entries_turned n ks ps new run (subst (IsPacked n) (sym e) (packed_turned n ps run.packed)) (ap somes e ∙ somes_turned n ps run.packed))
 
   -- the last one goes behind the left ones, which are too few
   pub fill_step : (low : ℕ) (ls rs front back xs ys : List X) → low ≤ length ls + length rs → front ++ reverse back ≡ ls ++ reverse rs → length ls ≤ length front → length front < low → xs ≡ take (length back - 1) back → ys ≡ front ++ drop (length back - 1) back
@@ -254,10 +252,6 @@ module _ {X : Type 0} where
   -- there is room on the right
   pub spill_room : (low : ℕ) (ls rs front back : List X) → length ls + length rs ≤ low + 32 → front ++ reverse back ≡ ls ++ reverse rs → low < length front → length back < 32
   spill_room low ls rs front back room same lt = omega (arith, same_sum front back ls rs same, room, lt)
-
-  -- as many as before the turn
-  pub turned_sum : (ls rs turned front back : List X) → turned ≡ reverse rs → front ++ reverse back ≡ ls ++ reverse turned → length front + length back ≡ length ls + length rs
-  turned_sum ls rs turned front back e same = omega (arith, same_sum front back ls turned same, ap length e, length-reverse rs)
 
   pub appended_sum : (xs ys ls rs : List X) → xs ++ ys ≡ ls ++ rs → length xs + length ys ≡ length ls + length rs
   appended_sum xs ys ls rs e = omega (arith, ap length e, length-append xs ys, length-append ls rs)

@@ -9,20 +9,20 @@ use Rattle.mr_node.specs.Rows.{Seen, key_of_pair, key_limit, StartsWith}
 use Rattle.mr_node.specs.Levels.{NodeChild, NodeInner, NodeBody, pairs_of, children_of, seen, IsNode, rows_of, IsWell, IsChild, IsLeaf, IsInner, seen_leaf, seen_inner}
 use Rattle.mr_node.specs.declared.body.Leaf.{Leaf}
 use Rattle.mr_node.specs.declared.body.Body.TheVariants.{Leaf as AsLeaf, Inner as AsInner}
-use Rattle.mr_node.proofs.PlaceLemmas.{packed_some}
-use Rattle.mr_node.proofs.EntryListLemmas.{run_length, run_split}
+use Rattle.mr_node.proofs.KeyedLemmas.{item_at, keyed_length, keyed_split}
+use Rattle.mr_node.proofs.EntryListLemmas.{entries_length}
 
 module _ {V : Type 0} where
   pub leaf_well : (leaf : Leaf V) → IsLeaf leaf → IsWell (seen_leaf leaf)
   leaf_well leaf is =
-      let len = run_length (length leaf.values.items) leaf.keys leaf.values.items is.run in
-      record { fits = is.run.fits; ordered = is.ordered; keys = is.keys; at_least = omega (arith, len); at_most = omega (arith, len) }
+      let len = keyed_length leaf.keys leaf.values.items is.values in
+      record { fits = is.values.fits; ordered = is.ordered; keys = is.keys; at_least = omega (arith, len); at_most = omega (arith, len) }
 
   -- the first key of a leaf
   pub least_leaf : (leaf : Leaf V) → IsLeaf leaf → 0 < length leaf.values.items → StartsWith (get_or leaf.keys 0 0) (pairs_of leaf)
   least_leaf leaf is lt =
-      let some = packed_some (length leaf.values.items) 0 leaf.values.items is.run.packed lt in
-      subst (StartsWith (get_or leaf.keys 0 0)) (sym (run_split (length leaf.values.items) 0 some.0 leaf.keys leaf.values.items is.run some.1)) refl
+      let some = item_at 0 leaf.values.items lt in
+      subst (StartsWith (get_or leaf.keys 0 0)) (sym (keyed_split 0 some.0 leaf.keys leaf.values.items is.values some.1)) refl
 
   -- what is seen of a leaf by its parts, and with other rows
   abbrev seen_of : ℕ → List (ℕ × V) → Seen V
@@ -57,11 +57,11 @@ module _ {V : Type 0} where
   pub inner_well : (b : NodeInner V) → IsInner b → IsWell (seen_inner b)
   inner_well b inner =
       let children = children_of b in
-      let len = run_length b.len b.leasts b.children inner.run in
+      let len = entries_length b.len b.leasts b.children inner.entries in
       let height : suc (b.height - 1) ≡ b.height = omega (arith, inner.above_leaves) in
       let least = subst (λ n. length children * 16 ^ n ≤ length (rows_of children)) height (each_least (16 ^ suc (b.height - 1)) children (each-weaker {P = IsChild (b.height - 1)} {Q = λ k. 16 ^ suc (b.height - 1) ≤ length k.1.node.value.rows} (child_least (b.height - 1)) children inner.children)) in
       let most = subst (λ n. length (rows_of children) ≤ length children * 32 ^ n) height (each_most (32 ^ suc (b.height - 1)) children (each-weaker {P = IsChild (b.height - 1)} {Q = λ k. length k.1.node.value.rows ≤ 32 ^ suc (b.height - 1)} (child_most (b.height - 1)) children inner.children)) in
-      record { fits = inner.run.fits; ordered = inner.ordered; keys = inner.keys; at_least = subst (λ n. n * 16 ^ b.height ≤ length (rows_of children)) len least; at_most = subst (λ n. length (rows_of children) ≤ n * 32 ^ b.height) len most }
+      record { fits = inner.entries.fits; ordered = inner.ordered; keys = inner.keys; at_least = subst (λ n. n * 16 ^ b.height ≤ length (rows_of children)) len least; at_most = subst (λ n. length (rows_of children) ≤ n * 32 ^ b.height) len most }
 
   -- rows in order below the limit are few enough for a count, and for one more
   pub few_rows : (s : Seen V) → IsWell s → length s.rows ≤ key_limit

@@ -23,6 +23,12 @@ abbrev pub IsPadded : ℕ → List ℕ → Type 0
 IsPadded n [] = ⊤
 IsPadded n (k ∷ keys) = (n ≡ 0 → k ≡ no_key) × IsPadded (n - 1) keys
 
+-- the keys of so many items, at most 32, and behind those keys the greatest number alone
+pub record AreKeyed {X : Type 0} (keys : List ℕ) (items : List X) : Type 0 where
+  pub fits : length items ≤ 32
+  pub padded : IsPadded (length items) keys
+  pub keyed : length items ≤ length keys
+
 -- the entries: each key with what stands beside it
 abbrev pub entries : {X : Type 0} → List ℕ → List (Option X) → List (ℕ × X)
 entries keys places = zip keys (somes places)

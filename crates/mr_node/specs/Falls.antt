@@ -27,4 +27,4 @@ places_below f h n b none weighs le all = omega (arith, most_places f h n b.chil
 -- no child is as high as the node
 pub depth_le_height : (V : Type 0) (b : NodeBody V) → IsNode b → deep-Node V (record { body = b }) ≤ (seen b).height
 depth_le_height V (Leaf leaf) h = omega arith
-depth_le_height V (Inner b) h = places_below _ (b.height - 1) b.height b (omega arith) (λ k level. omega (arith, level, h.above_leaves)) h.run.keyed h.children
+depth_le_height V (Inner b) h = places_below _ (b.height - 1) b.height b (omega arith) (λ k level. omega (arith, level, h.above_leaves)) h.entries.keyed h.children

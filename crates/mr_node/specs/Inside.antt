@@ -17,7 +17,7 @@ pub record IsPairAt {V : Type 0} (place many : ℕ) (joined : Bool) (old new : N
   pub list : children_of new ≡ take place (children_of old) ++ (low ∷ (high ∷ drop (place + 2) (children_of old)))
   pub height : new.height ≡ old.height
   pub len : new.len ≡ old.len
-  pub run : AreEntries new.len new.leasts new.children
+  pub entries : AreEntries new.len new.leasts new.children
   pub children : ArePairChildren (old.height - 1) joined (take 2 (drop place (children_of old))) low high
   pub width : low.1.node.value.width ≡ many
 
@@ -31,7 +31,7 @@ pub record IsSplicedAt {V : Type 0} (place : ℕ) (old new : NodeInner V) : Type
   pub height : new.height ≡ old.height
   pub len : old.len ≤ new.len + 1
   pub some : 0 < new.len
-  pub run : AreEntries new.len new.leasts new.children
+  pub entries : AreEntries new.len new.leasts new.children
   pub rows : rows_of (children_of new) ≡ rows_of (children_of old)
   pub children : AreChildrenBeside place (place + 2) old → AllByRecursion (IsChild (old.height - 1)) (children_of new)
 
@@ -54,7 +54,7 @@ pub record IsSplitAt {V : Type 0} (from to : ℕ) (old new : NodeInner V) : Type
   pub list : children_of new ≡ take from (children_of old) ++ (low ∷ (high ∷ drop to (children_of old)))
   pub height : new.height ≡ old.height
   pub len : old.len ≤ new.len
-  pub run : AreEntries new.len new.leasts new.children
+  pub entries : AreEntries new.len new.leasts new.children
   pub rows : rows_of (children_of new) ≡ rows_of (children_of old)
   pub lower : IsChild (old.height - 1) low
   pub upper : IsChild (old.height - 1) high

@@ -1,6 +1,6 @@
 -- The rules of one level of a tree: what holds of a leaf, of an inner node, and of a child of one.
 use Rattle.std.specs.Prelude.{◌≡◌, ℕ, ◌+◌, ◌-◌, ◌*◌, ◌^◌, ◌<◌, ◌≤◌, List, length, slice_index_or}
-use Rattle.std.specs.List.{AllByRecursion, flat_map, sum_by}
+use Rattle.std.specs.List.{AllByRecursion, flat_map, sum_by, zip}
 use Rattle.std.specs.declared.boxed.Box.{Box}
 use Rattle.std.specs.declared.alloc.Global.{Global}
 use Rattle.tatp_rows.specs.Ordered.{IsOrderedBy}
@@ -10,7 +10,7 @@ use Rattle.mr_node.specs.declared.body.Leaf.{Leaf}
 use Rattle.mr_node.specs.declared.body.Body.{Body}
 use Rattle.mr_node.specs.declared.body.Body.TheVariants.{Leaf as AsLeaf, Inner as AsInner}
 use Rattle.mr_node.specs.Rows.{Seen, key_limit, key_of_pair, KeysBelow, StartsWith}
-use Rattle.mr_node.specs.EntryLists.{entries, AreEntries}
+use Rattle.mr_node.specs.EntryLists.{entries, AreEntries, AreKeyed}
 
 -- a child of an inner node: its count of rows, and what is seen of it
 abbrev pub NodePart : Type 0 → Type 0
@@ -30,7 +30,7 @@ NodeBody V = Body V (Box (Seen V) Global)
 
 -- the pairs of key and value of a leaf
 abbrev pub pairs_of : {V : Type 0} → Leaf V → List (ℕ × V)
-pairs_of leaf = entries leaf.keys leaf.values.items
+pairs_of leaf = zip leaf.keys leaf.values.items
 
 -- the children of an inner node
 abbrev pub children_of : {V : Type 0} → NodeInner V → List (NodeChild V)
@@ -64,9 +64,9 @@ pub record IsChildOf {V : Type 0} (w h : ℕ) (k : NodeChild V) : Type 0 where
 abbrev pub IsChild : {V : Type 0} → ℕ → NodeChild V → Type 0
 IsChild h k = IsChildOf 16 h k
 
--- a leaf: every place of its values is used, and its keys rise
+-- a leaf: each value has its key, and these rise
 pub record IsLeaf {V : Type 0} (leaf : Leaf V) : Type 0 where
-  pub run : AreEntries (length leaf.values.items) leaf.keys leaf.values.items
+  pub values : AreKeyed leaf.keys leaf.values.items
   pub ordered : IsOrderedBy key_of_pair (pairs_of leaf)
   pub keys : KeysBelow key_limit (pairs_of leaf)
 
@@ -75,7 +75,7 @@ pub record IsLeaf {V : Type 0} (leaf : Leaf V) : Type 0 where
 pub record IsInnerOf {V : Type 0} (w : ℕ) (b : NodeInner V) : Type 0 where
   pub above_leaves : 0 < b.height
   pub some : 0 < b.len
-  pub run : AreEntries b.len b.leasts b.children
+  pub entries : AreEntries b.len b.leasts b.children
   pub children : AllByRecursion (IsChildOf w (b.height - 1)) (children_of b)
   pub ordered : IsOrderedBy key_of_pair (rows_of (children_of b))
   pub keys : KeysBelow key_limit (rows_of (children_of b))

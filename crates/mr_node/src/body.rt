@@ -28,8 +28,8 @@ pub struct Inner<B> {
 pub struct Leaf<V> {
     /// The keys in rising order, and behind them 18446744073709551615.
     pub keys: [u64; 32],
-    /// The values by their keys, every place of them used.
-    pub values: ArrayVec<Option<V>, 32>,
+    /// The values by their keys.
+    pub values: ArrayVec<V, 32>,
 }
 
 /// A node taken apart.

@@ -22,10 +22,10 @@ fn no_children<B>() -> [Option<Child<B>>; 32]
 }
 
 /// The part of an inner node of a height, without children.
-pub fn no_inner<B>(height: u64) -> Inner<B>
+pub fn empty_inner<B>(height: u64) -> Inner<B>
     ensures height { result.height ≡ height }
     ensures len { result.len ≡ 0 }
-    ensures run { AreEntries 0 result.leasts result.children }
+    ensures entries { AreEntries 0 result.leasts result.children }
 {
     let children = no_children();
     Inner {
@@ -39,7 +39,7 @@ pub fn no_inner<B>(height: u64) -> Inner<B>
 /// The place of the child to which a key belongs: the last whose least key isn't above the key, or the first.
 pub fn child_place<B>(inner: &Inner<B>, key: u64) -> usize
     requires some { 0 < inner.now.len }
-    requires run { AreEntries inner.now.len inner.now.leasts inner.now.children }
+    requires entries { AreEntries inner.now.len inner.now.leasts inner.now.children }
     requires ordered { IsOrderedBy key_of_pair (entries inner.now.leasts inner.now.children) }
     requires below { KeysBelow key_limit (entries inner.now.leasts inner.now.children) }
     ensures { IsChildPlace key result inner.now.len inner.now.leasts }
@@ -51,7 +51,7 @@ pub fn child_place<B>(inner: &Inner<B>, key: u64) -> usize
 #[inline(never)]
 fn child_place_far<B>(inner: &Inner<B>, key: u64) -> usize
     requires some { 0 < inner.now.len }
-    requires run { AreEntries inner.now.len inner.now.leasts inner.now.children }
+    requires entries { AreEntries inner.now.len inner.now.leasts inner.now.children }
     requires ordered { IsOrderedBy key_of_pair (entries inner.now.leasts inner.now.children) }
     requires below { KeysBelow key_limit (entries inner.now.leasts inner.now.children) }
     ensures { IsChildPlace key result inner.now.len inner.now.leasts }
@@ -63,7 +63,7 @@ fn child_place_far<B>(inner: &Inner<B>, key: u64) -> usize
 #[inline(always)]
 pub(crate) fn child_place_at<B>(inner: &Inner<B>, key: u64, guess: usize) -> usize
     requires some { 0 < inner.now.len }
-    requires run { AreEntries inner.now.len inner.now.leasts inner.now.children }
+    requires entries { AreEntries inner.now.len inner.now.leasts inner.now.children }
     requires ordered { IsOrderedBy key_of_pair (entries inner.now.leasts inner.now.children) }
     requires below { KeysBelow key_limit (entries inner.now.leasts inner.now.children) }
     ensures { IsChildPlace key result inner.now.len inner.now.leasts }
@@ -87,7 +87,7 @@ fn count_at<B>(inner: &Inner<B>, place: usize) -> u64
 
 /// The sum of the children's counts.
 pub(crate) fn sum_counts<B>(inner: &Inner<B>) -> u64
-    requires run { AreEntries inner.now.len inner.now.leasts inner.now.children }
+    requires entries { AreEntries inner.now.len inner.now.leasts inner.now.children }
     requires fits { sum_by (λ k. k.1.count) (entries inner.now.leasts inner.now.children) < 18446744073709551616 }
     ensures { result ≡ sum_by (λ k. k.1.count) (entries inner.now.leasts inner.now.children) }
 {
@@ -100,11 +100,11 @@ pub(crate) fn sum_counts<B>(inner: &Inner<B>) -> u64
 
 /// Takes the child at a place out of an inner node's part.
 pub fn take_child<B>(inner: &mut Inner<B>, place: usize) -> Child<B>
-    requires run { AreEntries inner.old.len inner.old.leasts inner.old.children }
+    requires entries { AreEntries inner.old.len inner.old.leasts inner.old.children }
     requires within { place < inner.old.len }
     ensures height { inner.new.height ≡ inner.old.height }
     ensures len { inner.new.len + 1 ≡ inner.old.len }
-    ensures run { AreEntries inner.new.len inner.new.leasts inner.new.children }
+    ensures entries { AreEntries inner.new.len inner.new.leasts inner.new.children }
     ensures rest { entries inner.new.leasts inner.new.children ≡ take place (entries inner.old.leasts inner.old.children) ++ drop (place + 1) (entries inner.old.leasts inner.old.children) }
     ensures child { entries inner.old.leasts inner.old.children ≡ take place (entries inner.old.leasts inner.old.children) ++ ((slice_index_or inner.old.leasts place 0, result) ∷ drop (place + 1) (entries inner.old.leasts inner.old.children)) }
 {
@@ -120,12 +120,12 @@ pub fn take_child<B>(inner: &mut Inner<B>, place: usize) -> Child<B>
 
 /// Puts a child into an inner node's part at a place.
 pub(crate) fn put_child<B: Drop>(inner: &mut Inner<B>, place: usize, least: u64, child: Child<B>)
-    requires run { AreEntries inner.old.len inner.old.leasts inner.old.children }
+    requires entries { AreEntries inner.old.len inner.old.leasts inner.old.children }
     requires room { inner.old.len < 32 }
     requires within { place ≤ inner.old.len }
     ensures height { inner.new.height ≡ inner.old.height }
     ensures len { inner.new.len ≡ inner.old.len + 1 }
-    ensures run { AreEntries inner.new.len inner.new.leasts inner.new.children }
+    ensures entries { AreEntries inner.new.len inner.new.leasts inner.new.children }
     ensures children { entries inner.new.leasts inner.new.children ≡ take place (entries inner.old.leasts inner.old.children) ++ ((least, child) ∷ drop place (entries inner.old.leasts inner.old.children)) }
 {
     inner.children[31] = Some(child);

@@ -5,14 +5,14 @@ ghost use Rattle.mr_node.specs.Rows.{KeysBelow, KeysFrom};
 ghost use Rattle.mr_node.specs.Levels.{IsLeaf, pairs_of};
 ghost use Rattle.mr_node.specs.Steps.{after_steps};
 
-use crate::children::no_inner;
+use crate::children::empty_inner;
 use crate::entries::no_leaf;
 use crate::entry_lists::share;
 use crate::keys::count_below;
 use crate::{Inner, Leaf, Meter, Node, build_leaf};
 
 /// Cuts a leaf at a key: the entries from the key on are handed out.
-pub fn cut_leaf<V: Drop>(leaf: &mut Leaf<V>, key: u64) -> Leaf<V>
+pub fn cut_leaf<V: Drop + Default>(leaf: &mut Leaf<V>, key: u64) -> Leaf<V>
     requires { IsLeaf leaf.old }
     ensures low { IsLeaf leaf.new }
     ensures high { IsLeaf result }
@@ -28,7 +28,7 @@ pub fn cut_leaf<V: Drop>(leaf: &mut Leaf<V>, key: u64) -> Leaf<V>
 
 /// Cuts the children of an inner node's part at a place: those from there on are handed out.
 pub fn cut_children<B: Drop>(inner: &mut Inner<B>, place: usize) -> Inner<B>
-    requires run { AreEntries inner.old.len inner.old.leasts inner.old.children }
+    requires entries { AreEntries inner.old.len inner.old.leasts inner.old.children }
     requires within { place ≤ inner.old.len }
     ensures low { AreEntries inner.new.len inner.new.leasts inner.new.children }
     ensures high { AreEntries result.len result.leasts result.children }
@@ -37,13 +37,13 @@ pub fn cut_children<B: Drop>(inner: &mut Inner<B>, place: usize) -> Inner<B>
     ensures low_height { inner.new.height ≡ inner.old.height }
     ensures high_height { result.height ≡ inner.old.height }
 {
-    let mut high = no_inner(inner.height);
+    let mut high = empty_inner(inner.height);
     share(inner, &mut high, place);
     high
 }
 
 /// Builds a leaf without entries in a box. One step.
-pub fn build_blank<V: Drop>(blank: Box<Node<V>>, meter: &mut Meter) -> Box<Node<V>>
+pub fn build_blank<V: Drop + Default>(blank: Box<Node<V>>, meter: &mut Meter) -> Box<Node<V>>
     ensures seen { result.value ≡ record { height = 0; width = 0; rows = [] } }
     ensures steps { meter.new ≡ after_steps 1 meter.old }
 {

@@ -1,5 +1,5 @@
 //! The entries of a leaf.
-ghost use Rattle.std.specs.Prelude.{◌≡◌, ◌<◌, ◌≤◌, ◌+◌, ℕ, [], ◌∷◌, None, Some, IsSome, IfSome, MatchResult, length, option_map, is_some, nat_le, slice_index_or, slice_set, Ok, Err, if◌then◌else◌};
+ghost use Rattle.std.specs.Prelude.{◌≡◌, ◌<◌, ◌≤◌, ◌+◌, ℕ, [], None, IsSome, IfSome, MatchResult, length, option_map, is_some, nat_le, slice_get, slice_set, Ok, Err, if◌then◌else◌};
 ghost use Rattle.std.specs.List.{find};
 ghost use Rattle.tatp_rows.specs.Ordered.{row_at, without_row};
 ghost use Rattle.mr_node.specs.Rows.{key_limit, key_of_pair, value_at, StartsWith};
@@ -15,7 +15,7 @@ use crate::{Leaf, Revise, Room};
 use arrayvec::ArrayVec;
 
 /// A leaf without entries.
-pub(crate) fn no_leaf<V>() -> Leaf<V>
+pub(crate) fn no_leaf<V: Default>() -> Leaf<V>
     ensures leaf { IsLeaf result }
     ensures none { result.values.items ≡ [] }
 {
@@ -37,23 +37,13 @@ fn search<V>(leaf: &Leaf<V>, key: u64) -> Result<usize, usize>
     Err(place)
 }
 
-/// The value in a place.
-fn value_in<V>(place: &Option<V>) -> Option<&V>
-    ensures { option_map (λ r. r.now) result ≡ place.now }
-{
-    match place {
-        Some(value) => Some(value),
-        None => None,
-    }
-}
-
 /// The value at a key of a leaf.
 pub(crate) fn find_entry<V>(leaf: &Leaf<V>, key: u64) -> Option<&V>
     requires { IsLeaf leaf.now }
     ensures { option_map (λ r. r.now) result ≡ value_at key (pairs_of leaf.now) }
 {
     match search(leaf, key) {
-        Ok(place) => value_in(&leaf.values.as_slice()[place]),
+        Ok(place) => Some(&leaf.values.as_slice()[place]),
         Err(_) => None,
     }
 }
@@ -74,31 +64,18 @@ pub(crate) fn find_entry_at<V>(leaf: &Leaf<V>, key: u64, guess: usize) -> Option
     ensures { option_map (λ r. r.now) result ≡ value_at key (pairs_of leaf.now) }
 {
     if is_at(&leaf.keys, guess, key) {
-        return value_in(&leaf.values.as_slice()[guess]);
+        return Some(&leaf.values.as_slice()[guess]);
     }
     find_far(leaf, key)
 }
 
-/// Changes the value in a used place.
-fn revise_value<V, E: Revise<V>>(place: &mut Option<V>, edit: &mut E)
-    requires { IsSome place.old }
-    ensures place { IfSome place.old (λ v. place.new ≡ Some (E.revised edit.old v)) }
-    ensures spent { IfSome place.old (λ v. edit.new ≡ E.spent edit.old v) }
+/// Changes the value in a place of a leaf.
+fn revise_in<V, E: Revise<V>>(values: &mut ArrayVec<V, 32>, place: usize, edit: &mut E)
+    requires { place < length values.old.items }
+    ensures items { IfSome (slice_get values.old.items place) (λ v. values.new.items ≡ slice_set values.old.items place (E.revised edit.old v)) }
+    ensures spent { IfSome (slice_get values.old.items place) (λ v. edit.new ≡ E.spent edit.old v) }
 {
-    match place {
-        Some(value) => edit.revise(value),
-        None => unreachable!(),
-    }
-}
-
-/// Changes the value in a used place of a leaf.
-fn revise_in<V, E: Revise<V>>(values: &mut ArrayVec<Option<V>, 32>, place: usize, edit: &mut E)
-    requires within { place < length values.old.items }
-    requires some { IsSome (slice_index_or values.old.items place None) }
-    ensures items { IfSome (slice_index_or values.old.items place None) (λ v. values.new.items ≡ slice_set values.old.items place (Some (E.revised edit.old v))) }
-    ensures spent { IfSome (slice_index_or values.old.items place None) (λ v. edit.new ≡ E.spent edit.old v) }
-{
-    revise_value(&mut values.as_mut_slice()[place], edit)
+    edit.revise(&mut values.as_mut_slice()[place])
 }
 
 /// Changes the value at a key of a leaf: false where the key isn't there.
@@ -155,7 +132,26 @@ pub(crate) fn revise_entry_at<V, E: Revise<V>>(
 }
 
 /// Puts an entry into a leaf with room, at the place of its key.
-fn put_entry<V: Drop>(leaf: &mut Leaf<V>, place: usize, key: u64, value: &mut Option<V>)
+fn put_entry<V: Drop>(leaf: &mut Leaf<V>, place: usize, key: u64, value: V)
+    requires leaf { IsLeaf leaf.old }
+    requires small { key < key_limit }
+    requires free { IsFree key place leaf.old }
+    requires room { length leaf.old.values.items < 32 }
+    ensures leaf { IsLeaf leaf.new }
+    ensures grown { IsGrown key value (seen_leaf leaf.old) (seen_leaf leaf.new) }
+{
+    if place == leaf.values.len() {
+        // Behind the last row nothing moves.
+        leaf.keys[place] = key;
+        leaf.values.push(value);
+        return;
+    }
+    put_key(&mut leaf.keys, place, key);
+    leaf.values.insert(place, value);
+}
+
+/// Takes a value and puts it into a leaf with room, at the place of its key.
+fn take_in<V: Drop>(leaf: &mut Leaf<V>, place: usize, key: u64, value: &mut Option<V>)
     requires leaf { IsLeaf leaf.old }
     requires small { key < key_limit }
     requires free { IsFree key place leaf.old }
@@ -165,14 +161,10 @@ fn put_entry<V: Drop>(leaf: &mut Leaf<V>, place: usize, key: u64, value: &mut Op
     ensures grown { IfSome value.old (λ v. IsGrown key v (seen_leaf leaf.old) (seen_leaf leaf.new)) }
     ensures value { value.new ≡ None }
 {
-    if place == leaf.values.len() {
-        // Behind the last row nothing moves.
-        leaf.keys[place] = key;
-        leaf.values.push(value.take());
-        return;
+    match value.take() {
+        Some(value) => put_entry(leaf, place, key, value),
+        None => unreachable!(),
     }
-    put_key(&mut leaf.keys, place, key);
-    leaf.values.insert(place, value.take());
 }
 
 /// Puts a row into a leaf that has room.
@@ -190,7 +182,7 @@ pub(crate) fn insert_entry<V: Drop>(leaf: &mut Leaf<V>, key: u64, value: &mut Op
             if leaf.values.is_full() {
                 return Room::Full;
             }
-            put_entry(leaf, place, key, value);
+            take_in(leaf, place, key, value);
             Room::Done
         }
     }
@@ -209,12 +201,12 @@ pub(crate) fn insert_new<V: Drop>(leaf: &mut Leaf<V>, key: u64, value: &mut Opti
 {
     match search(leaf, key) {
         Ok(_) => unreachable!(),
-        Err(place) => put_entry(leaf, place, key, value),
+        Err(place) => take_in(leaf, place, key, value),
     }
 }
 
 /// Takes the row at a key out of a leaf.
-pub(crate) fn remove_entry<V: Drop>(leaf: &mut Leaf<V>, key: u64) -> Option<V>
+pub(crate) fn remove_entry<V: Drop + Default>(leaf: &mut Leaf<V>, key: u64) -> Option<V>
     requires { IsLeaf leaf.old }
     ensures rows { pairs_of leaf.new ≡ without_row key_of_pair key (pairs_of leaf.old) }
     ensures len { length leaf.old.values.items ≤ length leaf.new.values.items + 1 }
@@ -224,7 +216,7 @@ pub(crate) fn remove_entry<V: Drop>(leaf: &mut Leaf<V>, key: u64) -> Option<V>
     match search(leaf, key) {
         Ok(place) => {
             take_key(&mut leaf.keys, place);
-            leaf.values.remove(place)
+            Some(leaf.values.remove(place))
         }
         Err(_) => None,
     }
@@ -239,22 +231,7 @@ pub(crate) fn first_entry<V>(leaf: &Leaf<V>, key: u64) -> Option<(u64, &V)>
     if place >= leaf.values.len() {
         return None;
     }
-    match &leaf.values.as_slice()[place] {
-        Some(value) => Some((leaf.keys[place], value)),
-        None => unreachable!(),
-    }
-}
-
-/// What a fold makes of an entry.
-fn fold_entry<V, A, F: Fn(A, u64, &V) -> A>(key: u64, place: &Option<V>, so_far: A, f: &F) -> A
-    requires callable { F.IsAlwaysCallable f.now }
-    requires some { IsSome place.now }
-    ensures { IfSome place.now (λ v. FoldsRows (λ a k r b. F.post f.now a k r b) so_far ((key, v) ∷ []) result) }
-{
-    match place {
-        Some(value) => f(so_far, key, value),
-        None => unreachable!(),
-    }
+    Some((leaf.keys[place], &leaf.values.as_slice()[place]))
 }
 
 /// The fold over the rows of a leaf.
@@ -265,21 +242,9 @@ pub(crate) fn fold_entries<V, A, F: Fn(A, u64, &V) -> A>(leaf: &Leaf<V>, init: A
 {
     let mut folded = init;
     for place in 0..leaf.values.len() {
-        folded = fold_entry(leaf.keys[place], &leaf.values.as_slice()[place], folded, f);
+        folded = f(folded, leaf.keys[place], &leaf.values.as_slice()[place]);
     }
     folded
-}
-
-/// Hands an entry to a closure, with what it writes to.
-fn walk_entry<V, A, F: Fn(&mut A, u64, &V)>(key: u64, place: &Option<V>, so_far: &mut A, f: &F)
-    requires callable { F.IsAlwaysCallable f.now }
-    requires some { IsSome place.now }
-    ensures { IfSome place.now (λ v. WalksRows (λ a k r b. F.post f.now a k r tt b) so_far.old ((key, v) ∷ []) so_far.new) }
-{
-    match place {
-        Some(value) => f(so_far, key, value),
-        None => unreachable!(),
-    }
 }
 
 /// Hands each row of a leaf in order to a closure, with what it writes to.
@@ -289,18 +254,7 @@ pub(crate) fn walk_entries<V, A, F: Fn(&mut A, u64, &V)>(leaf: &Leaf<V>, so_far:
     ensures { WalksRows (λ a k r b. F.post f.now a k r tt b) so_far.old (pairs_of leaf.now) so_far.new }
 {
     for place in 0..leaf.values.len() {
-        walk_entry(leaf.keys[place], &leaf.values.as_slice()[place], so_far, f);
-    }
-}
-
-/// A copy of the value in a used place.
-fn copy_of<V: Copy>(place: &Option<V>) -> V
-    requires { IsSome place.now }
-    ensures { place.now ≡ Some result }
-{
-    match place {
-        Some(value) => *value,
-        None => unreachable!(),
+        f(so_far, leaf.keys[place], &leaf.values.as_slice()[place]);
     }
 }
 
@@ -312,6 +266,6 @@ pub(crate) fn page_entries<V: Copy>(leaf: &Leaf<V>, key: u64, page: &mut ArrayVe
 {
     let stop = count_below(&leaf.keys, key);
     for place in stop..leaf.values.len() {
-        page.push((leaf.keys[place], copy_of(&leaf.values.as_slice()[place])));
+        page.push((leaf.keys[place], leaf.values.as_slice()[place]));
     }
 }

@@ -1,6 +1,7 @@
 //! Two neighbours that share their entries or children anew.
-ghost use Rattle.std.specs.Prelude.{◌≡◌, ◌+◌, ◌-◌, ◌*◌, ◌<◌, ◌≤◌, ℕ, List, None, ◌++◌, length, reverse, take, drop, min, slice_index_or, slice_set};
-ghost use Rattle.mr_node.specs.EntryLists.{AreEntries, entries};
+ghost use Rattle.std.specs.Prelude.{◌≡◌, ◌+◌, ◌-◌, ◌*◌, ◌<◌, ◌≤◌, ℕ, List, Some, ◌++◌, length, reverse, take, drop, min, slice_get};
+ghost use Rattle.std.specs.List.{zip};
+ghost use Rattle.mr_node.specs.EntryLists.{AreEntries, AreKeyed, entries};
 ghost use Rattle.mr_node.specs.Levels.{pairs_of};
 ghost use Rattle.mr_node.specs.Pairs.{AreEvenWidths, IsShare};
 
@@ -8,6 +9,7 @@ use crate::keys::{NO_KEY, drop_keys};
 use crate::places::{close_front, turn_front};
 use crate::{Child, Inner, Leaf};
 use arrayvec::ArrayVec;
+use std::mem;
 
 /// A leaf or an inner node's part, as a list of entries that gives at both ends and takes at its end.
 pub(crate) trait EntryList {
@@ -26,12 +28,12 @@ pub(crate) trait EntryList {
 
     /// Moves the last entry behind those of another one.
     fn give_last(&mut self, to: &mut Self)
-        requires run { is_entry_list self.old }
-        requires to_run { is_entry_list to.old }
+        requires entries { is_entry_list self.old }
+        requires to_entries { is_entry_list to.old }
         requires some { 0 < length (list self.old) }
         requires room { length (list to.old) < 32 }
-        ensures run { is_entry_list self.new }
-        ensures to_run { is_entry_list to.new }
+        ensures entries { is_entry_list self.new }
+        ensures to_entries { is_entry_list to.new }
         ensures rest { list self.new ≡ take (length (list self.old) - 1) (list self.old) }
         ensures moved { list to.new ≡ list to.old ++ drop (length (list self.old) - 1) (list self.old) }
         ensures height { height self.new ≡ height self.old }
@@ -39,12 +41,12 @@ pub(crate) trait EntryList {
 
     /// Moves the first entries behind those of another one.
     fn give_front(&mut self, to: &mut Self, count: usize)
-        requires run { is_entry_list self.old }
-        requires to_run { is_entry_list to.old }
+        requires entries { is_entry_list self.old }
+        requires to_entries { is_entry_list to.old }
         requires some { count ≤ length (list self.old) }
         requires room { length (list to.old) + count ≤ 32 }
-        ensures run { is_entry_list self.new }
-        ensures to_run { is_entry_list to.new }
+        ensures entries { is_entry_list self.new }
+        ensures to_entries { is_entry_list to.new }
         ensures rest { list self.new ≡ drop count (list self.old) }
         ensures moved { list to.new ≡ list to.old ++ take count (list self.old) }
         ensures height { height self.new ≡ height self.old }
@@ -53,34 +55,35 @@ pub(crate) trait EntryList {
     /// Turns the order of the entries round.
     fn turn(&mut self)
         requires { is_entry_list self.old }
-        ensures run { is_entry_list self.new }
+        ensures entries { is_entry_list self.new }
         ensures turned { list self.new ≡ reverse (list self.old) }
         ensures height { height self.new ≡ height self.old };
 }
 
-/// Takes the value out of a place.
-fn take_value<V>(values: &mut ArrayVec<Option<V>, 32>, place: usize) -> Option<V>
+/// Takes the value out of a place, and leaves a default one.
+fn take_value<V: Default>(values: &mut ArrayVec<V, 32>, place: usize) -> V
     requires { place < length values.old.items }
-    ensures items { values.new.items ≡ slice_set values.old.items place None }
-    ensures value { result ≡ slice_index_or values.old.items place None }
+    ensures rest { drop (place + 1) values.new.items ≡ drop (place + 1) values.old.items }
+    ensures len { length values.new.items ≡ length values.old.items }
+    ensures value { slice_get values.old.items place ≡ Some result }
 {
-    values.as_mut_slice()[place].take()
+    mem::take(&mut values.as_mut_slice()[place])
 }
 
-/// Moves the first entries of a leaf, seen as its keys and its values, behind those of another one. Their places are
-/// left empty.
-fn move_front<V: Drop>(
+/// Moves the first entries of a leaf, seen as its keys and its values, behind those of another one. Default values stay
+/// in their places.
+fn move_front<V: Drop + Default>(
     keys: &[u64; 32],
-    values: &mut ArrayVec<Option<V>, 32>,
+    values: &mut ArrayVec<V, 32>,
     count: usize,
     to: &mut Leaf<V>,
 )
-    requires run { AreEntries (length values.old.items) keys.now values.old.items }
-    requires to_run { AreEntries (length to.old.values.items) to.old.keys to.old.values.items }
+    requires entries { AreKeyed keys.now values.old.items }
+    requires to_entries { AreKeyed to.old.keys to.old.values.items }
     requires some { count ≤ length values.old.items }
     requires room { length to.old.values.items + count ≤ 32 }
-    ensures to_run { AreEntries (length to.new.values.items) to.new.keys to.new.values.items }
-    ensures moved { pairs_of to.new ≡ pairs_of to.old ++ take count (entries keys.now values.old.items) }
+    ensures to_entries { AreKeyed to.new.keys to.new.values.items }
+    ensures moved { pairs_of to.new ≡ pairs_of to.old ++ take count (zip keys.now values.old.items) }
     ensures rest { drop count values.new.items ≡ drop count values.old.items }
     ensures len { length values.new.items ≡ length values.old.items }
 {
@@ -90,12 +93,12 @@ fn move_front<V: Drop>(
     }
 }
 
-impl<V: Drop> EntryList for Leaf<V> {
+impl<V: Drop + Default> EntryList for Leaf<V> {
     type Item = V;
 
     ghost list = { pairs_of };
 
-    ghost is_entry_list = { λ leaf. AreEntries (length leaf.values.items) leaf.keys leaf.values.items };
+    ghost is_entry_list = { λ leaf. AreKeyed leaf.keys leaf.values.items };
 
     ghost height = { λ leaf. 0 };
 
@@ -166,11 +169,11 @@ impl<B: Drop> EntryList for Inner<B> {
 
 /// Moves entries from the end of the left one to that of the right one, until the left one has `low`.
 fn spill<R: EntryList>(left: &mut R, right: &mut R, low: usize)
-    requires left_run { R.is_entry_list left.old }
-    requires right_run { R.is_entry_list right.old }
+    requires left_entries { R.is_entry_list left.old }
+    requires right_entries { R.is_entry_list right.old }
     requires room { length (R.list left.old) + length (R.list right.old) ≤ low + 32 }
-    ensures left_run { R.is_entry_list left.new }
-    ensures right_run { R.is_entry_list right.new }
+    ensures left_entries { R.is_entry_list left.new }
+    ensures right_entries { R.is_entry_list right.new }
     ensures list { R.list left.new ++ reverse (R.list right.new) ≡ R.list left.old ++ reverse (R.list right.old) }
     ensures len { length (R.list left.new) ≡ min (length (R.list left.old)) low }
     ensures left_height { R.height left.new ≡ R.height left.old }
@@ -183,13 +186,13 @@ fn spill<R: EntryList>(left: &mut R, right: &mut R, low: usize)
 
 /// Moves entries between two neighbours until the left one has `low` of them.
 pub(crate) fn share<R: EntryList>(left: &mut R, right: &mut R, low: usize)
-    requires left_run { R.is_entry_list left.old }
-    requires right_run { R.is_entry_list right.old }
+    requires left_entries { R.is_entry_list left.old }
+    requires right_entries { R.is_entry_list right.old }
     requires fits { low ≤ 32 }
     requires enough { low ≤ length (R.list left.old) + length (R.list right.old) }
     requires room { length (R.list left.old) + length (R.list right.old) ≤ low + 32 }
-    ensures left_run { R.is_entry_list left.new }
-    ensures right_run { R.is_entry_list right.new }
+    ensures left_entries { R.is_entry_list left.new }
+    ensures right_entries { R.is_entry_list right.new }
     ensures list { R.list left.new ++ R.list right.new ≡ R.list left.old ++ R.list right.old }
     ensures len { length (R.list left.new) ≡ low }
     ensures left_height { R.height left.new ≡ R.height left.old }
@@ -220,11 +223,11 @@ pub(crate) fn low_of(both: usize) -> usize
 /// Moves entries between two neighbours until the left one has `low` of them: true where it has all then; else both are
 /// half full.
 pub(crate) fn even<R: EntryList>(left: &mut R, right: &mut R, low: usize) -> bool
-    requires left_run { R.is_entry_list left.old }
-    requires right_run { R.is_entry_list right.old }
+    requires left_entries { R.is_entry_list left.old }
+    requires right_entries { R.is_entry_list right.old }
     requires share { IsShare (length (R.list left.old) + length (R.list right.old)) low }
-    ensures left_run { R.is_entry_list left.new }
-    ensures right_run { R.is_entry_list right.new }
+    ensures left_entries { R.is_entry_list left.new }
+    ensures right_entries { R.is_entry_list right.new }
     ensures list { R.list left.new ++ R.list right.new ≡ R.list left.old ++ R.list right.old }
     ensures even { AreEvenWidths result (length (R.list left.new)) (length (R.list right.new)) }
     ensures len { length (R.list left.new) ≡ low }

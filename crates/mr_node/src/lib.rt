@@ -1,5 +1,7 @@
-//! The nodes of a tree of rows: at most 32 entries or children each, with the meter that counts every node
-//! that is taken apart or built, and the stock of blank nodes from which trees grow.
+//! The nodes of a tree of rows: at most 32 entries or children each, with the meter that counts every node that is
+//! taken apart or built, and the stock of blank nodes from which trees grow. A call goes down one path, looks at eleven
+//! keys a node, and takes no memory but a blank node of the stock. An inner node keeps each child's least key and count
+//! of rows: whoever changes a child by hand has to set both anew.
 #![tactic(auto)]
 
 mod body;
@@ -18,7 +20,7 @@ mod room;
 mod stock;
 
 pub use body::{Body, Child, Inner, Leaf};
-pub use children::{child_place, no_inner, take_child};
+pub use children::{child_place, empty_inner, take_child};
 pub use cuts::{build_blank, cut_children, cut_leaf};
 pub use meter::Meter;
 pub use node::{Node, build_inner, build_leaf, insert_child, open};

@@ -11,10 +11,12 @@ ghost use Rattle.mr_node.specs.EntryLists.{AreEntries};
 ghost use Rattle.mr_node.specs.Growth.{IsGrown, IsRoomAnswer, is_done};
 ghost use Rattle.mr_node.specs.Pairs.{IsChildNode, IsHalved, IsShare, AreEvened};
 ghost use Rattle.mr_node.specs.Changes.{IsShrunk, HasNewRoot, IsLowered};
-ghost use Rattle.mr_node.specs.Parts.{IsWithChild};
+ghost use Rattle.mr_node.specs.Parts.{HasOneMoreChild};
 ghost use Rattle.mr_node.specs.Steps.{after_steps, IsRoomMade};
 
-use crate::children::{child_place, child_place_at, no_inner, put_child, sum_counts, take_child};
+use crate::children::{
+    child_place, child_place_at, empty_inner, put_child, sum_counts, take_child,
+};
 use crate::entries::{
     find_entry, find_entry_at, first_entry, fold_entries, insert_entry, insert_new, no_leaf,
     page_entries, remove_entry, revise_entry, revise_entry_at, walk_entries,
@@ -54,7 +56,7 @@ impl<V> Model for Node<V> {
     ghost size_decreases = { λ a h. depth_le_height V a.body h };
 }
 
-impl<V> Node<V> {
+impl<V: Default> Node<V> {
     /// A leaf without entries.
     pub fn new() -> Self
         ensures { result ≡ record { height = 0; width = 0; rows = [] } }
@@ -63,7 +65,9 @@ impl<V> Node<V> {
             body: Body::Leaf(no_leaf()),
         }
     }
+}
 
+impl<V> Node<V> {
     /// How far the node is above the leaves: 0 for a leaf.
     pub fn height(&self) -> u64
         ensures value { result ≡ self.now.height }
@@ -265,7 +269,7 @@ impl<V: Copy> Node<V> {
     }
 }
 
-impl<V: Drop> Node<V> {
+impl<V: Drop + Default> Node<V> {
     /// Replaces the value at a key in place, and gives the old one. `Err` with the new one where the key isn't there.
     pub fn replace(&mut self, key: u64, value: V) -> Result<V, V>
         ensures rows { self.new ≡ record self.old { rows = with_row_at key_of_pair key (key, value) self.old.rows } }
@@ -467,7 +471,7 @@ impl<V: Drop> Node<V> {
                 Body::Inner(_) => unreachable!(),
             },
             Body::Inner(left) => {
-                let mut right = no_inner(left.height);
+                let mut right = empty_inner(left.height);
                 share(left, &mut right, 16);
                 put_inner(high, right)
             }
@@ -568,7 +572,7 @@ fn least_after(least: u64, key: u64, is_in: bool) -> u64
 }
 
 /// Makes a node a leaf without entries, where it isn't one.
-fn make_blank<V: Drop>(node: &mut Node<V>)
+fn make_blank<V: Drop + Default>(node: &mut Node<V>)
     ensures { node.new ≡ record { height = 0; width = 0; rows = [] } }
 {
     if node.height() == 0 && node.width() == 0 {
@@ -578,7 +582,7 @@ fn make_blank<V: Drop>(node: &mut Node<V>)
 }
 
 /// Makes a node's parts those of a leaf without entries, where it has none left.
-fn let_go<V: Drop>(body: &mut Body<V, Box<Node<V>>>, none: bool)
+fn let_go<V: Drop + Default>(body: &mut Body<V, Box<Node<V>>>, none: bool)
     ensures gone { none ≡ true → IsNode body.new }
     ensures kept { none ≡ false → body.new ≡ body.old }
 {
@@ -610,14 +614,14 @@ fn put_inner<V: Drop>(node: &mut Node<V>, inner: Inner<Box<Node<V>>>)
 
 /// Puts a node into an inner node's part at a place, with its least key and its count.
 pub fn insert_child<V: Drop>(inner: &mut Inner<Box<Node<V>>>, place: usize, node: Box<Node<V>>)
-    requires run { AreEntries inner.old.len inner.old.leasts inner.old.children }
+    requires entries { AreEntries inner.old.len inner.old.leasts inner.old.children }
     requires room { inner.old.len < 32 }
     requires within { place ≤ inner.old.len }
     requires node { IsChildNode node.value.height node.value }
     ensures height { inner.new.height ≡ inner.old.height }
     ensures len { inner.new.len ≡ inner.old.len + 1 }
-    ensures run { AreEntries inner.new.len inner.new.leasts inner.new.children }
-    ensures children { IsWithChild place node.value inner.old inner.new }
+    ensures entries { AreEntries inner.new.len inner.new.leasts inner.new.children }
+    ensures children { HasOneMoreChild place node.value inner.old inner.new }
 {
     let least = node.least();
     let count = node.len();
@@ -625,14 +629,18 @@ pub fn insert_child<V: Drop>(inner: &mut Inner<Box<Node<V>>>, place: usize, node
 }
 
 /// A new root over the halves of a full node.
-fn root_over<V: Drop>(mut node: Box<Node<V>>, mut blank: Box<Node<V>>, meter: &mut Meter) -> Node<V>
+fn root_over<V: Drop + Default>(
+    mut node: Box<Node<V>>,
+    mut blank: Box<Node<V>>,
+    meter: &mut Meter,
+) -> Node<V>
     requires full { node.value.width ≡ 32 }
     requires well { IsWell node.value }
     ensures root { HasNewRoot node.value result }
     ensures steps { meter.new ≡ after_steps 4 meter.old }
 {
     meter.tick(4);
-    let mut root = no_inner(node.height() + 1);
+    let mut root = empty_inner(node.height() + 1);
     node.halve_into(&mut *blank);
     insert_child(&mut root, 0, node);
     insert_child(&mut root, 1, blank);
@@ -644,7 +652,7 @@ fn root_over<V: Drop>(mut node: Box<Node<V>>, mut blank: Box<Node<V>>, meter: &m
 /// Puts the only child of an inner root in its place.
 #[cold]
 #[inline(never)]
-fn drop_root<V: Drop>(root: &mut Node<V>, meter: &mut Meter)
+fn drop_root<V: Drop + Default>(root: &mut Node<V>, meter: &mut Meter)
     requires above_leaves { 0 < root.old.height }
     requires one { root.old.width ≡ 1 }
     ensures lowered { IsLowered root.old root.new }
@@ -656,7 +664,7 @@ fn drop_root<V: Drop>(root: &mut Node<V>, meter: &mut Meter)
 }
 
 /// The only child of an inner node.
-fn only_child<V: Drop>(node: Node<V>, meter: &mut Meter) -> Node<V>
+fn only_child<V: Drop + Default>(node: Node<V>, meter: &mut Meter) -> Node<V>
     requires above_leaves { 0 < node.height }
     requires one { node.width ≡ 1 }
     ensures rows { result.rows ≡ node.rows }
@@ -676,7 +684,7 @@ fn only_child<V: Drop>(node: Node<V>, meter: &mut Meter) -> Node<V>
 }
 
 /// Takes a node apart: its parts, and its box, which is now blank. One step.
-pub fn open<V: Drop>(
+pub fn open<V: Drop + Default>(
     mut node: Box<Node<V>>,
     meter: &mut Meter,
 ) -> (Body<V, Box<Node<V>>>, Box<Node<V>>)

@@ -2,6 +2,8 @@
 ghost use Rattle.std.specs.Prelude.{◌≡◌, ◌+◌, ◌-◌, ◌<◌, ◌≤◌, List, [], ◌∷◌, ◌++◌, length, reverse, take, drop, slice_range, insert};
 ghost use Rattle.std.specs.List.{remove_range};
 
+use std::mem;
+
 /// Moves the last element to `place`, and the elements from there on up.
 pub(crate) fn last_to<T>(items: &mut [T], place: usize)
     requires { place < length items.old }
@@ -20,13 +22,13 @@ pub(crate) fn move_to_end<T>(items: &mut [T], start: usize, end: usize)
 }
 
 /// Moves the values from `count` on down to the front.
-pub(crate) fn close_front<X: Drop>(places: &mut [Option<X>], count: usize)
+pub(crate) fn close_front<X: Drop + Default>(places: &mut [X], count: usize)
     requires { count ≤ length places.old }
     ensures front { take (length places.old - count) places.new ≡ drop count places.old }
     ensures len { length places.new ≡ length places.old }
 {
     for place in count..places.len() {
-        places[place - count] = places[place].take();
+        places[place - count] = mem::take(&mut places[place]);
     }
 }
 

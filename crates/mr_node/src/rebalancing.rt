@@ -45,7 +45,7 @@ fn pair_width<V>(inner: &Inner<Box<Node<V>>>, place: usize) -> usize
 
 /// Moves entries between the child at `place` and the next one until the first has `low`: true where the next one is
 /// empty then. Four steps.
-fn share_pair<V: Drop>(
+fn share_pair<V: Drop + Default>(
     inner: &mut Inner<Box<Node<V>>>,
     place: usize,
     low: usize,
@@ -74,7 +74,7 @@ fn share_pair<V: Drop>(
 }
 
 /// Evens out the child at `place` and the next one; one that is empty then is let go. Four steps.
-fn join_pair<V: Drop>(inner: &mut Inner<Box<Node<V>>>, place: usize, meter: &mut Meter)
+fn join_pair<V: Drop + Default>(inner: &mut Inner<Box<Node<V>>>, place: usize, meter: &mut Meter)
     requires loose { IsInnerOf 15 inner.old }
     requires within { place + 1 < inner.old.len }
     ensures spliced { IsSplicedAt place inner.old inner.new }
@@ -109,7 +109,11 @@ fn pair_of<V>(inner: &Inner<Box<Node<V>>>, place: usize) -> usize
 /// steps.
 #[cold]
 #[inline(never)]
-fn rebalance_thin<V: Drop>(inner: &mut Inner<Box<Node<V>>>, place: usize, meter: &mut Meter)
+fn rebalance_thin<V: Drop + Default>(
+    inner: &mut Inner<Box<Node<V>>>,
+    place: usize,
+    meter: &mut Meter,
+)
     requires loose { IsLooseAt place inner.old }
     requires two { 2 ≤ inner.old.len }
     requires within { place < inner.old.len }
@@ -121,7 +125,11 @@ fn rebalance_thin<V: Drop>(inner: &mut Inner<Box<Node<V>>>, place: usize, meter:
 }
 
 /// Rebalances an inner node whose child at `place` may be one short of half full: four steps where it is, else none.
-pub(crate) fn rebalance<V: Drop>(inner: &mut Inner<Box<Node<V>>>, place: usize, meter: &mut Meter)
+pub(crate) fn rebalance<V: Drop + Default>(
+    inner: &mut Inner<Box<Node<V>>>,
+    place: usize,
+    meter: &mut Meter,
+)
     requires loose { IsLooseAt place inner.old }
     requires two { 2 ≤ inner.old.len }
     requires within { place < inner.old.len }
@@ -136,7 +144,11 @@ pub(crate) fn rebalance<V: Drop>(inner: &mut Inner<Box<Node<V>>>, place: usize, 
 }
 
 /// Halves the full child at a place: its upper half goes into the blank node, behind it.
-fn split_child<V: Drop>(inner: &mut Inner<Box<Node<V>>>, place: usize, mut blank: Box<Node<V>>)
+fn split_child<V: Drop + Default>(
+    inner: &mut Inner<Box<Node<V>>>,
+    place: usize,
+    mut blank: Box<Node<V>>,
+)
     requires inner { IsInner inner.old }
     requires room { inner.old.len < 32 }
     requires within { place < inner.old.len }
@@ -156,9 +168,10 @@ fn split_child<V: Drop>(inner: &mut Inner<Box<Node<V>>>, place: usize, mut blank
     put_child(inner, place + 1, least, Child { count, node: blank });
 }
 
-/// Parts the full child at a place: it gives entries to the one before it where that has room for many, in four steps;
-/// else it is halved, in three steps and with one blank node. The place of the first of the two that have its entries.
-fn share_or_split<V: Drop>(
+/// Shares or splits the full child at a place: it gives entries to the one before it where that has room for many, in
+/// four steps; else it is halved, in three steps and with one blank node. The place of the first of the two that have
+/// its entries.
+fn share_or_split<V: Drop + Default>(
     inner: &mut Inner<Box<Node<V>>>,
     place: usize,
     stock: &mut Stock<V>,
@@ -183,8 +196,8 @@ fn share_or_split<V: Drop>(
     place
 }
 
-/// Finds the child to which a key belongs, and parts it first where it is full.
-pub(crate) fn make_room<V: Drop>(
+/// Finds the child to which a key belongs, and shares or splits it first where it is full.
+pub(crate) fn make_room<V: Drop + Default>(
     inner: &mut Inner<Box<Node<V>>>,
     key: u64,
     stock: &mut Stock<V>,

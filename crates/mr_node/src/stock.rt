@@ -39,7 +39,7 @@ impl<N> Blanks<N> {
     }
 }
 
-impl<V: Drop> Blanks<Node<V>> {
+impl<V: Drop + Default> Blanks<Node<V>> {
     /// `count` blank nodes. Memory where they can't be had: then none is kept.
     pub fn take(alloc: Global, count: usize) -> Result<Stock<V>, Refusal>
         ensures { MatchResult result (λ stock. stock ≡ count) (λ why. why ≡ Refusal.Memory) }

@@ -37,7 +37,7 @@ impl<V> Model for SubTree<V> {
     ghost invariant = { λ a. IsRoot a.root };
 }
 
-impl<V> SubTree<V> {
+impl<V: Default> SubTree<V> {
     /// A tree without rows. The root lies in the tree itself, so this is always `Ok`.
     pub fn new(alloc: Global) -> Result<Self, Refusal>
         ensures tree { IfOk result (λ tree. (tree.rows ≡ []) × (tree.height ≡ 0)) }
@@ -48,7 +48,9 @@ impl<V> SubTree<V> {
             spare: Stock::none(alloc),
         })
     }
+}
 
+impl<V> SubTree<V> {
     /// The tree of a root that meets the rules.
     pub fn from_root(alloc: Global, root: Node<V>) -> Self
         requires { IsRoot root }
@@ -137,7 +139,7 @@ impl<V: Copy> SubTree<V> {
     }
 }
 
-impl<V: Drop> SubTree<V> {
+impl<V: Drop + Default> SubTree<V> {
     /// The root, which meets the rules. Blank nodes that the tree kept are let go.
     pub fn into_root(self) -> Node<V>
         ensures same { result ≡ self }
@@ -237,7 +239,7 @@ fn blanks_wanted<V>(root: &Node<V>) -> usize
 }
 
 /// Puts a row in whose leaf is full, where the blank nodes for it are there.
-fn grow<V: Drop>(root: &mut Node<V>, key: u64, item: &mut Option<V>, stock: &mut Stock<V>)
+fn grow<V: Drop + Default>(root: &mut Node<V>, key: u64, item: &mut Option<V>, stock: &mut Stock<V>)
     requires root { IsRoot root.old }
     requires small { key < key_limit }
     requires some { IsSome item.old }

@@ -1,8 +1,6 @@
-//! Who holds which s_ids: regions of parts and of loose pieces, and the bounds between them.
-//!
-//! A part gives a stretch of its range away, which becomes a loose piece, and a neighbouring part takes it. A part is
-//! divided in two, or dissolved into the part in front of it. A proposal says where bounds between zones would give
-//! each part about its share of the rows, and a re-cut which bounds have to move. No call takes memory.
+//! Who has which s_ids: the regions of parts and loose pieces, how gives, takes, divides, dissolves and re-cuts change
+//! them, and which bounds would give each part about its share of the rows. A call looks at up to 32 regions and takes
+//! no memory. A list of regions knows no rows: whoever changes it has to move them too.
 #![tactic(auto)]
 
 mod bounds;

@@ -11,7 +11,7 @@ use Rattle.tatp_rows.specs.Zones.{zone_of}
 use Rattle.tatp_actions.specs.Book.{Book, IsBook, facility_at, has_active, forwarding_at, put_facility}
 use Rattle.tatp_actions.specs.Cell.{covers, active_forwardings, in_zone, has_active_facility}
 use Rattle.tatp_actions.specs.Change.{IsChange}
-use Rattle.tatp_actions.specs.Inside.{AreHours, covering, span_steps, steps, until}
+use Rattle.tatp_actions.specs.Inside.{AreHours, covering, span_amount, signed, until}
 use Rattle.tatp_actions.specs.declared.change.Spans.{Spans}
 use Rattle.tatp_actions.proofs.ChangeLemmas.{one, moved_by, not_moved}
 use Rattle.tatp_actions.proofs.CellLemmas.{change_by_kinds, area-facilities}
@@ -111,7 +111,7 @@ module _ (book : Book) (s t : ℕ) (x y : SpecialFacilityRow) (found : facility_
   -- a facility that is switched: each hour moves by how many of its forwardings cover it
   pub change_of_switch : (width : ℕ) (up : Bool) (spans : Spans) (notes : List (ℕ × ℤ)) → IsBook book → t < 256 → y.s_id ≡ x.s_id → (x.is_active == 1) ≡ not up → (y.is_active == 1) ≡ up
       → spans.from_0 ≡ until (forwarding_at book s t 0) → spans.from_8 ≡ until (forwarding_at book s t 8) → spans.from_16 ≡ until (forwarding_at book s t 16)
-      → AreHours (span_steps up spans) FIRST_AREA notes → IsChange width book (put_facility book s t y) notes
+      → AreHours (span_amount up spans) FIRST_AREA notes → IsChange width book (put_facility book s t y) notes
   change_of_switch width up spans notes rules small same was now first second third are =
       change_by_kinds width book (put_facility book s t y) notes
       (λ c low. rw (hours_moved-low up spans c notes are low)
@@ -119,6 +119,6 @@ module _ (book : Book) (s t : ℕ) (x y : SpecialFacilityRow) (found : facility_
       (λ a below. rw (area-facilities a book (with_row_at facility_key (key_of s t 0) y book.facilities), hours_moved-high up spans (FIRST_AREA + a) notes are (omega arith)) (not_moved _ _ refl))
       (λ z. rw (zone_kept width z same, hours_moved-high up spans (FIRST_ZONE + z) notes are (omega arith)) (not_moved _ _ refl))
     where
-      moved : (up : Bool) (n after before : ℕ) → after + (if not up then n else 0) ≡ before + (if up then n else 0) → pos after ≡ pos before +ℤ steps up n
+      moved : (up : Bool) (n after before : ℕ) → after + (if not up then n else 0) ≡ before + (if up then n else 0) → pos after ≡ pos before +ℤ signed up n
       moved true n after before counts = moved_by true after before n (omega arith)
       moved false n after before counts = moved_by false after before n (omega arith)

@@ -13,7 +13,7 @@ use Rattle.tatp_actions.specs.Book.{Book, IsWithin, subscriber_at, access_at, fa
 use Rattle.tatp_actions.specs.Change.{IsChange}
 use Rattle.tatp_actions.specs.Part.{PartState, IsPart}
 use Rattle.tatp_actions.specs.Edit.{Acts}
-use Rattle.tatp_actions.specs.Inside.{subscriber_added, row_moved, AreHours, span_steps, until, asked_once, changed_once, changed_to, subscriber_revised, facility_revised}
+use Rattle.tatp_actions.specs.Inside.{subscriber_added, row_moved, AreHours, span_amount, until, asked_once, changed_once, changed_to, subscriber_revised, facility_revised}
 use Rattle.tatp_actions.specs.Tables.{once_more}
 use Rattle.tatp_actions.specs.declared.action.Action.TheVariants.{AddSubscriber, AddAccess, AddFacility, SetActive, SetNumber}
 use Rattle.tatp_actions.specs.declared.action.RowReply.TheVariants as reply
@@ -184,7 +184,7 @@ pub switch_done : (p0 p1 p2 p3 p4 : PartState) (s t v : ℕ) (o : Option Special
     → p1 ≡ changed_to p0 (facility_revised p0.book s t (λ row. record row { is_active = if v == 1 then 1 else 0 })) p1
     → p1.asked ≤ p0.asked + 2
     → spans.from_0 ≡ until (forwarding_at p1.book s t 0) → p2 ≡ asked_once p1 → spans.from_8 ≡ until (forwarding_at p2.book s t 8) → p3 ≡ asked_once p2
-    → spans.from_16 ≡ until (forwarding_at p3.book s t 16) → p4 ≡ asked_once p3 → AreHours (span_steps (v == 1) spans) FIRST_AREA notes
+    → spans.from_16 ≡ until (forwarding_at p3.book s t 16) → p4 ≡ asked_once p3 → AreHours (span_amount (v == 1) spans) FIRST_AREA notes
     → Acts (SetActive s t v) p0 reply.Done notes p4
 switch_done p0 p1 p2 p3 p4 s t v None swap spans notes rules within kind small bit is some so differ kept few is0 kept2 is8 kept3 is16 kept4 noted = absurd cc
 switch_done p0 p1 p2 p3 p4 s t v (Some row) swap spans notes rules within kind small bit is some so differ kept few is0 kept2 is8 kept3 is16 kept4 noted =

@@ -5,7 +5,7 @@ use Rattle.std.proofs.lemmas.Bool.Decides.{nat_tests}
 use Rattle.std.proofs.lemmas.Int.{ints}
 use Rattle.tatp_rows.proofs.OrderedLemmas.{by_test}
 use Rattle.tatp_actions.specs.Change.{change_at}
-use Rattle.tatp_actions.specs.Inside.{area_moved, subscriber_added, steps, row_moved}
+use Rattle.tatp_actions.specs.Inside.{area_moved, subscriber_added, signed, row_moved}
 use Rattle.tatp_actions.specs.declared.cells.TheConstants.{FIRST_AREA, FIRST_ZONE}
 
 -- one for a test that holds, and none for one that doesn't
@@ -82,11 +82,11 @@ Moved true after before n = after ≡ n + before
 Moved false after before n = after + n ≡ before
 
 -- a count that moves by so many, and by one where a test holds
-pub moved_by : (up : Bool) (after before n : ℕ) → Moved up after before n → pos after ≡ pos before +ℤ steps up n
+pub moved_by : (up : Bool) (after before n : ℕ) → Moved up after before n → pos after ≡ pos before +ℤ signed up n
 moved_by true after before n moved = omega (arith, ints)
 moved_by false after before n moved = omega (arith, ints)
 
-pub moved_by_one : (up test : Bool) (after before : ℕ) → Moved up after before (one test) → pos after ≡ pos before +ℤ (if test then steps up 1 else pos 0)
+pub moved_by_one : (up test : Bool) (after before : ℕ) → Moved up after before (one test) → pos after ≡ pos before +ℤ (if test then signed up 1 else pos 0)
 moved_by_one up true after before moved = moved_by up after before 1 moved
 moved_by_one true false after before moved = omega (arith, ints)
 moved_by_one false false after before moved = omega (arith, ints)
@@ -97,10 +97,10 @@ not_moved after before same = omega (arith, ints)
 
 -- the notes of a row of another table: none for an hour or an area, one for its zone
 pub row_moved-low : (up : Bool) (zone c : ℕ) → c < FIRST_ZONE → change_at (row_moved up zone) c ≡ pos 0
-row_moved-low up zone c low = rw (note_other (FIRST_ZONE + zone) c (steps up 1) (λ h. omega arith)) refl
+row_moved-low up zone c low = rw (note_other (FIRST_ZONE + zone) c (signed up 1) (λ h. omega arith)) refl
 
-pub row_moved-zone : (up : Bool) (zone z : ℕ) → change_at (row_moved up zone) (FIRST_ZONE + z) ≡ (if zone == z then steps up 1 else pos 0)
+pub row_moved-zone : (up : Bool) (zone z : ℕ) → change_at (row_moved up zone) (FIRST_ZONE + z) ≡ (if zone == z then signed up 1 else pos 0)
 row_moved-zone up zone z =
     by_test (zone == z)
-    (λ e. rw (note_same (FIRST_ZONE + zone) (FIRST_ZONE + z) (steps up 1) (grind (arith, nat_tests)), e) (omega (arith, ints)))
-    (λ e. rw (note_other (FIRST_ZONE + zone) (FIRST_ZONE + z) (steps up 1) (λ h. grind (arith, nat_tests)), e) refl)
+    (λ e. rw (note_same (FIRST_ZONE + zone) (FIRST_ZONE + z) (signed up 1) (grind (arith, nat_tests)), e) (omega (arith, ints)))
+    (λ e. rw (note_other (FIRST_ZONE + zone) (FIRST_ZONE + z) (signed up 1) (λ h. grind (arith, nat_tests)), e) refl)

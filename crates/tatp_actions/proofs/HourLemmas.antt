@@ -8,8 +8,8 @@ use Rattle.std.proofs.lemmas.List.{append_assoc, length-append}
 use Rattle.tatp_rows.proofs.AppendLemmas.{each-append}
 use Rattle.tatp_rows.proofs.OrderedLemmas.{by_test, each-weaker}
 use Rattle.tatp_rows.specs.Rows.{CallForwardingRow}
-use Rattle.tatp_actions.specs.Change.{change_at, hour_notes, is_still, note_of, IsNote, NoteEachOnce}
-use Rattle.tatp_actions.specs.Inside.{AreHours, AreForwardingNotes, IsCellNote, IsCompact, notes_in, in_span, covering, span_steps, row_moved, row_steps, steps}
+use Rattle.tatp_actions.specs.Change.{change_at, hour_notes, is_zero, note_of, IsNote, NoteEachOnce}
+use Rattle.tatp_actions.specs.Inside.{AreHours, AreForwardingNotes, IsCellNote, IsCompact, notes_in, in_span, covering, span_amount, row_moved, row_amount, signed}
 use Rattle.tatp_actions.specs.declared.change.Change.TheInside as Change
 use Rattle.tatp_actions.specs.declared.change.Note.{Note}
 use Rattle.tatp_actions.specs.declared.change.Spans.{Spans}
@@ -25,22 +25,13 @@ once-more (first ∷ notes) note once new = (
   once-more notes note once.1 new.1,
 )
 
--- the rules of notes, with one more
-pub noted : (notes : List (ℕ × ℤ)) (cell : ℕ) (amount : ℤ) → AllByRecursion IsNote notes → NoteEachOnce notes → length notes < NOTES → IsNote (cell, amount)
-    → AllByRecursion (λ other. other.0 ≢ cell) notes → (length (notes ++ (cell, amount) ∷ []) ≤ NOTES) × AllByRecursion IsNote (notes ++ (cell, amount) ∷ []) × NoteEachOnce (notes ++ (cell, amount) ∷ [])
-noted notes cell amount each once room is new = (
-  rw length-append (omega arith),
-  each-append IsNote notes ((cell, amount) ∷ []) each (is, tt),
-  once-more notes (cell, amount) once new,
-)
-
 -- an amount that is tested to be 0
-still_is : (z : ℤ) → is_still z ≡ true → z ≡ pos 0
-still_is (pos n) e = let none : n ≡ 0 = grind (arith, nat_tests) in ap pos none
-still_is (negsuc n) e = let wrong : ⊥ = cc in absurd wrong
+zero_of : (z : ℤ) → is_zero z ≡ true → z ≡ pos 0
+zero_of (pos n) e = let none : n ≡ 0 = grind (arith, nat_tests) in ap pos none
+zero_of (negsuc n) e = let wrong : ⊥ = cc in absurd wrong
 
-moves : (z : ℤ) → is_still z ≡ false → z ≡ pos 0 → ⊥
-moves z e zero_is = let t : is_still z ≡ true = rw zero_is refl in cc (e, t)
+moves : (z : ℤ) → is_zero z ≡ false → z ≡ pos 0 → ⊥
+moves z e zero_is = let t : is_zero z ≡ true = rw zero_is refl in cc (e, t)
 
 module _ (amount : ℕ → ℤ) where
   -- before the first hour
@@ -88,8 +79,8 @@ module _ (amount : ℕ → ℤ) where
 
   -- the hours up to one that moves by its amount, or not at all
   hour_more : (hour : ℕ) (notes : List (ℕ × ℤ)) → AreHours amount hour notes → AreHours amount (hour + 1) (notes ++ note_of hour (amount hour))
-  hour_more hour notes so_far = by_test (is_still (amount hour))
-      (λ e. rw (e, append-nil notes) (hours_skipped hour (hour + 1) notes so_far (omega arith) (λ c after before. let same : c ≡ hour = omega (arith, after, before) in rw same (still_is (amount hour) e))))
+  hour_more hour notes so_far = by_test (is_zero (amount hour))
+      (λ e. rw (e, append-nil notes) (hours_skipped hour (hour + 1) notes so_far (omega arith) (λ c after before. let same : c ≡ hour = omega (arith, after, before) in rw same (zero_of (amount hour) e))))
       (λ e. rw e (one_hour hour hour (amount hour) notes so_far refl refl))
 
   -- and so many hours more
@@ -116,21 +107,21 @@ module _ (amount : ℕ → ℤ) where
   hour_notes-few zero from = omega arith
   hour_notes-few (suc n) from =
       let rest = hour_notes-few n (from + 1) in
-      by_test (is_still (amount from)) (λ e. rw e (omega (arith, rest))) (λ e. rw e (omega (arith, rest)))
+      by_test (is_zero (amount from)) (λ e. rw e (omega (arith, rest))) (λ e. rw e (omega (arith, rest)))
 
   pub hour_notes-from : (n from : ℕ) → AllByRecursion (λ (note : ℕ × ℤ). from ≤ note.0) (hour_notes amount n from)
   unfolding hour_notes
   hour_notes-from zero from = tt
   hour_notes-from (suc n) from =
       let rest = each-weaker {P = λ (note : ℕ × ℤ). from + 1 ≤ note.0} {Q = λ (note : ℕ × ℤ). from ≤ note.0} (λ note above. omega (arith, above)) (hour_notes amount n (from + 1)) (hour_notes-from n (from + 1)) in
-      by_test (is_still (amount from)) (λ e. rw e rest) (λ e. rw e (omega arith, rest))
+      by_test (is_zero (amount from)) (λ e. rw e rest) (λ e. rw e (omega arith, rest))
 
   pub hour_notes-each : (n from : ℕ) → from + n ≤ CELLS → ((c : ℕ) → (negsuc 7 ≤ℤ amount c) × (amount c ≤ℤ pos 8)) → AllByRecursion IsNote (hour_notes amount n from)
   unfolding hour_notes
   hour_notes-each zero from within small = tt
   hour_notes-each (suc n) from within small =
       let rest = hour_notes-each n (from + 1) (omega (arith, within)) small in
-      by_test (is_still (amount from)) (λ e. rw e rest) (λ e. rw e ((omega (arith, within), (small from).0, (small from).1, (λ z. moves (amount from) e z)), rest))
+      by_test (is_zero (amount from)) (λ e. rw e rest) (λ e. rw e ((omega (arith, within), (small from).0, (small from).1, (λ z. moves (amount from) e z)), rest))
 
   pub hour_notes-once : (n from : ℕ) → NoteEachOnce (hour_notes amount n from)
   unfolding hour_notes
@@ -138,12 +129,12 @@ module _ (amount : ℕ → ℤ) where
   hour_notes-once (suc n) from =
       let rest = hour_notes-once n (from + 1) in
       let above = each-weaker {P = λ (note : ℕ × ℤ). from + 1 ≤ note.0} {Q = λ (note : ℕ × ℤ). note.0 ≢ from} (λ note above same. omega (arith, above, same)) (hour_notes amount n (from + 1)) (hour_notes-from n (from + 1)) in
-      by_test (is_still (amount from)) (λ e. rw e rest) (λ e. rw e (above, rest))
+      by_test (is_zero (amount from)) (λ e. rw e rest) (λ e. rw e (above, rest))
 
 -- hours that no forwarding covers don't move
-pub no_steps : (up : Bool) → steps up 0 ≡ pos 0
-no_steps true = refl
-no_steps false = refl
+pub signed_none : (up : Bool) → signed up 0 ≡ pos 0
+signed_none true = refl
+signed_none false = refl
 
 -- an hour is covered by none behind the ends of those that start no later
 pub none_covers : (spans : Spans) (c : ℕ) → spans.from_0 ≤ c → (8 ≤ c → spans.from_8 ≤ c) → (16 ≤ c → spans.from_16 ≤ c) → covering spans c ≡ 0
@@ -163,32 +154,32 @@ covers_few spans c = omega (arith, at_most 0 spans.from_0 c, at_most 8 spans.fro
     at_most from to c = by_test (nat_le from c && nat_lt c to) (λ e. rw e (omega arith)) (λ e. rw e (omega arith))
 
 -- where no hour is covered there are no notes of hours
-pub no_span_notes : (up : Bool) (spans : Spans) → ((c : ℕ) → covering spans c ≡ 0) → hour_notes (span_steps up spans) FIRST_AREA 0 ≡ []
-no_span_notes up spans none = no_hour_notes (span_steps up spans) FIRST_AREA 0 (λ c. ap (steps up) (none c) ∙ no_steps up)
+pub no_span_notes : (up : Bool) (spans : Spans) → ((c : ℕ) → covering spans c ≡ 0) → hour_notes (span_amount up spans) FIRST_AREA 0 ≡ []
+no_span_notes up spans none = no_hour_notes (span_amount up spans) FIRST_AREA 0 (λ c. ap (signed up) (none c) ∙ signed_none up)
 
 -- the note of a cell moves it alone
 pub note_of-at : (cell : ℕ) (amount : ℤ) (c : ℕ) → change_at (note_of cell amount) c ≡ (if cell == c then amount else pos 0)
-note_of-at cell amount c = by_test (is_still amount)
-    (λ e. let none = still_is amount e in by_test (cell == c) (λ f. rw (e, f, none) refl) (λ f. rw (e, f) refl))
+note_of-at cell amount c = by_test (is_zero amount)
+    (λ e. let none = zero_of amount e in by_test (cell == c) (λ f. rw (e, f, none) refl) (λ f. rw (e, f) refl))
     (λ e. rw e (omega (arith, ints)))
 
--- an hour moves by the steps of a forwarding that covers it, whose facility is active
-row_span : (up active : Bool) (row : CallForwardingRow) (spans : Spans) (c : ℕ) → covering spans c ≡ (if active then in_span row.start_time row.end_time c else 0) → span_steps up spans c ≡ row_steps up active row c
-row_span up false row spans c is = by_test (nat_le row.start_time c && nat_lt c row.end_time) (λ e. rw (is, e) (no_steps up)) (λ e. rw (is, e) (no_steps up))
-row_span up true row spans c is = by_test (nat_le row.start_time c && nat_lt c row.end_time) (λ e. rw (is, e) refl) (λ e. rw (is, e) (no_steps up))
+-- an hour moves by the signed of a forwarding that covers it, whose facility is active
+row_span : (up active : Bool) (row : CallForwardingRow) (spans : Spans) (c : ℕ) → covering spans c ≡ (if active then in_span row.start_time row.end_time c else 0) → span_amount up spans c ≡ row_amount up active row c
+row_span up false row spans c is = by_test (nat_le row.start_time c && nat_lt c row.end_time) (λ e. rw (is, e) (signed_none up)) (λ e. rw (is, e) (signed_none up))
+row_span up true row spans c is = by_test (nat_le row.start_time c && nat_lt c row.end_time) (λ e. rw (is, e) refl) (λ e. rw (is, e) (signed_none up))
 
 -- the notes of hours, and one of a zone
 pub with_zone : (up active : Bool) (row : CallForwardingRow) (zone : ℕ) (spans : Spans) (notes : List (ℕ × ℤ)) (step : ℤ) → ((c : ℕ) → covering spans c ≡ (if active then in_span row.start_time row.end_time c else 0))
-    → notes ≡ hour_notes (span_steps up spans) FIRST_AREA 0 ++ note_of (FIRST_ZONE + zone) step → step ≡ steps up 1 → AreForwardingNotes up active row zone notes
+    → notes ≡ hour_notes (span_amount up spans) FIRST_AREA 0 ++ note_of (FIRST_ZONE + zone) step → step ≡ signed up 1 → AreForwardingNotes up active row zone notes
 with_zone up active row zone spans notes step covered noted by = λ c.
-    let hours = (hours_are (span_steps up spans) FIRST_AREA).moved c in
-    let rows : (if nat_lt c FIRST_AREA then span_steps up spans c else pos 0) ≡ (if nat_lt c FIRST_AREA then row_steps up active row c else pos 0) = ap (λ (z : ℤ). if nat_lt c FIRST_AREA then z else pos 0) (row_span up active row spans c (covered c)) in
-    let zone_at = note_of-at (FIRST_ZONE + zone) (steps up 1) c in
-    let moved : change_at (row_moved up zone) c ≡ (if FIRST_ZONE + zone == c then steps up 1 else pos 0) = omega (arith, ints) in
-    rw (noted, by) (change_at-append (hour_notes (span_steps up spans) FIRST_AREA 0) (note_of (FIRST_ZONE + zone) (steps up 1)) c ∙ rw (hours, rows, zone_at, moved) refl)
+    let hours = (hours_are (span_amount up spans) FIRST_AREA).moved c in
+    let rows : (if nat_lt c FIRST_AREA then span_amount up spans c else pos 0) ≡ (if nat_lt c FIRST_AREA then row_amount up active row c else pos 0) = ap (λ (z : ℤ). if nat_lt c FIRST_AREA then z else pos 0) (row_span up active row spans c (covered c)) in
+    let zone_at = note_of-at (FIRST_ZONE + zone) (signed up 1) c in
+    let moved : change_at (row_moved up zone) c ≡ (if FIRST_ZONE + zone == c then signed up 1 else pos 0) = omega (arith, ints) in
+    rw (noted, by) (change_at-append (hour_notes (span_amount up spans) FIRST_AREA 0) (note_of (FIRST_ZONE + zone) (signed up 1)) c ∙ rw (hours, rows, zone_at, moved) refl)
 
 -- what the notes of a forwarding say of an hour, of an area, and of a zone
-pub forwarding_notes-hour : (up active : Bool) (row : CallForwardingRow) (zone c : ℕ) (notes : List (ℕ × ℤ)) → AreForwardingNotes up active row zone notes → c < FIRST_AREA → change_at notes c ≡ row_steps up active row c
+pub forwarding_notes-hour : (up active : Bool) (row : CallForwardingRow) (zone c : ℕ) (notes : List (ℕ × ℤ)) → AreForwardingNotes up active row zone notes → c < FIRST_AREA → change_at notes c ≡ row_amount up active row c
 forwarding_notes-hour up active row zone c notes are low =
     let e : nat_lt c FIRST_AREA ≡ true = grind (arith, nat_tests) in are c ∙ rw (e, row_moved-low up zone c (omega arith)) (omega (arith, ints))
 
@@ -196,20 +187,20 @@ pub forwarding_notes-area : (up active : Bool) (row : CallForwardingRow) (zone a
 forwarding_notes-area up active row zone a notes are below =
     let e : nat_lt (FIRST_AREA + a) FIRST_AREA ≡ false = grind (arith, nat_tests) in are (FIRST_AREA + a) ∙ rw (e, row_moved-low up zone (FIRST_AREA + a) (omega arith)) refl
 
-pub forwarding_notes-zone : (up active : Bool) (row : CallForwardingRow) (zone z : ℕ) (notes : List (ℕ × ℤ)) → AreForwardingNotes up active row zone notes → change_at notes (FIRST_ZONE + z) ≡ (if zone == z then steps up 1 else pos 0)
+pub forwarding_notes-zone : (up active : Bool) (row : CallForwardingRow) (zone z : ℕ) (notes : List (ℕ × ℤ)) → AreForwardingNotes up active row zone notes → change_at notes (FIRST_ZONE + z) ≡ (if zone == z then signed up 1 else pos 0)
 forwarding_notes-zone up active row zone z notes are =
     let e : nat_lt (FIRST_ZONE + z) FIRST_AREA ≡ false = grind (arith, nat_tests) in are (FIRST_ZONE + z) ∙ rw (e, row_moved-zone up zone z) (omega (arith, ints))
 
 -- what the notes of hours say of an hour, and of another cell
-pub hours_moved-low : (up : Bool) (spans : Spans) (c : ℕ) (notes : List (ℕ × ℤ)) → AreHours (span_steps up spans) FIRST_AREA notes → c < FIRST_AREA → change_at notes c ≡ steps up (covering spans c)
+pub hours_moved-low : (up : Bool) (spans : Spans) (c : ℕ) (notes : List (ℕ × ℤ)) → AreHours (span_amount up spans) FIRST_AREA notes → c < FIRST_AREA → change_at notes c ≡ signed up (covering spans c)
 hours_moved-low up spans c notes are low = let e : nat_lt c FIRST_AREA ≡ true = grind (arith, nat_tests) in are.moved c ∙ rw e refl
 
-pub hours_moved-high : (up : Bool) (spans : Spans) (c : ℕ) (notes : List (ℕ × ℤ)) → AreHours (span_steps up spans) FIRST_AREA notes → FIRST_AREA ≤ c → change_at notes c ≡ pos 0
+pub hours_moved-high : (up : Bool) (spans : Spans) (c : ℕ) (notes : List (ℕ × ℤ)) → AreHours (span_amount up spans) FIRST_AREA notes → FIRST_AREA ≤ c → change_at notes c ≡ pos 0
 hours_moved-high up spans c notes are high = let e : nat_lt c FIRST_AREA ≡ false = grind (arith, nat_tests) in are.moved c ∙ rw e refl
 
 -- a note of a cell is one at most
 pub note_of-few : (cell : ℕ) (amount : ℤ) → length (note_of cell amount) ≤ 1
-note_of-few cell amount = by_test (is_still amount) (λ e. rw e (omega arith)) (λ e. rw e (omega arith))
+note_of-few cell amount = by_test (is_zero amount) (λ e. rw e (omega arith)) (λ e. rw e (omega arith))
 
 -- the notes of hours from one on are its own and those of the hours behind it
 pub next_hour : (amount : ℕ → ℤ) (hour : ℕ) → hour < FIRST_AREA → hour_notes amount (FIRST_AREA - hour) hour ≡ note_of hour (amount hour) ++ hour_notes amount (FIRST_AREA - (hour + 1)) (hour + 1)
@@ -235,30 +226,30 @@ hour_noted amount hour step notes more all below by so_far few noted =
 
 -- what a change that is kept in few bytes does to a cell
 module _ (change : Change.Inside) (is : IsCompact change) where
-  compact_hour : (c : ℕ) → change_at (hour_notes (span_steps change.up change.hours) FIRST_AREA 0) c ≡ steps change.up (covering change.hours c)
-  compact_hour c = (hours_are (span_steps change.up change.hours) FIRST_AREA).moved c ∙ by_test (nat_lt c FIRST_AREA)
+  compact_hour : (c : ℕ) → change_at (hour_notes (span_amount change.up change.hours) FIRST_AREA 0) c ≡ signed change.up (covering change.hours c)
+  compact_hour c = (hours_are (span_amount change.up change.hours) FIRST_AREA).moved c ∙ by_test (nat_lt c FIRST_AREA)
       (λ e. rw e refl)
       (λ e. let late : FIRST_AREA ≤ c = grind (arith, nat_tests) in
       let none = none_covers change.hours c (omega (arith, is.ends, late)) (λ _. omega (arith, is.ends, late)) (λ _. omega (arith, is.ends, late)) in
-      rw (e, none, no_steps change.up) refl)
+      rw (e, none, signed_none change.up) refl)
 
-  pub compact_at : (c : ℕ) → change_at (notes_in change) c ≡ steps change.up (covering change.hours c) +ℤ ((if change.first.cell == c then change.first.amount else pos 0) +ℤ (if change.second.cell == c then change.second.amount else pos 0))
+  pub compact_at : (c : ℕ) → change_at (notes_in change) c ≡ signed change.up (covering change.hours c) +ℤ ((if change.first.cell == c then change.first.amount else pos 0) +ℤ (if change.second.cell == c then change.second.amount else pos 0))
   compact_at c =
-      let hours = hour_notes (span_steps change.up change.hours) FIRST_AREA 0 in
+      let hours = hour_notes (span_amount change.up change.hours) FIRST_AREA 0 in
       let first = note_of change.first.cell change.first.amount in
       let second = note_of change.second.cell change.second.amount in
       change_at-append hours (first ++ second) c ∙ rw (compact_hour c, change_at-append first second c, note_of-at change.first.cell change.first.amount c, note_of-at change.second.cell change.second.amount c) refl
 
-  small_hours : (c : ℕ) → (negsuc 7 ≤ℤ span_steps change.up change.hours c) × (span_steps change.up change.hours c ≤ℤ pos 8)
+  small_hours : (c : ℕ) → (negsuc 7 ≤ℤ span_amount change.up change.hours c) × (span_amount change.up change.hours c ≤ℤ pos 8)
   small_hours c = small change.up (covering change.hours c) (covers_few change.hours c)
     where
-      small : (up : Bool) (n : ℕ) → n ≤ 3 → (negsuc 7 ≤ℤ steps up n) × (steps up n ≤ℤ pos 8)
+      small : (up : Bool) (n : ℕ) → n ≤ 3 → (negsuc 7 ≤ℤ signed up n) × (signed up n ≤ℤ pos 8)
       small true n few = (omega (arith, ints, few), omega (arith, ints, few))
       small false n few = (omega (arith, ints, few), omega (arith, ints, few))
 
   pub compact_few : length (notes_in change) ≤ NOTES
   compact_few =
-      let amount = span_steps change.up change.hours in
+      let amount = span_amount change.up change.hours in
       let first = note_of change.first.cell change.first.amount in
       let second = note_of change.second.cell change.second.amount in
       let whole = length-append (hour_notes amount FIRST_AREA 0) (first ++ second) in
@@ -275,7 +266,7 @@ module _ (change : Change.Inside) (is : IsCompact change) where
       ]
 
   -- there is room for the last note behind the others
-  pub last_fits : (hours notes : List (ℕ × ℤ)) → hours ++ [] ≡ hour_notes (span_steps change.up change.hours) FIRST_AREA 0 → length hours ≤ FIRST_AREA → notes ≡ hours ++ note_of change.first.cell change.first.amount → length notes < NOTES
+  pub last_fits : (hours notes : List (ℕ × ℤ)) → hours ++ [] ≡ hour_notes (span_amount change.up change.hours) FIRST_AREA 0 → length hours ≤ FIRST_AREA → notes ≡ hours ++ note_of change.first.cell change.first.amount → length notes < NOTES
   last_fits hours notes all most noted =
       let first = note_of change.first.cell change.first.amount in
       let whole = length-append hours first in
@@ -291,17 +282,17 @@ module _ (change : Change.Inside) (is : IsCompact change) where
       ]
 
   pub compact_each : AllByRecursion IsNote (notes_in change)
-  compact_each = each-append IsNote (hour_notes (span_steps change.up change.hours) FIRST_AREA 0) _ (hour_notes-each (span_steps change.up change.hours) FIRST_AREA 0 (omega arith) small_hours)
+  compact_each = each-append IsNote (hour_notes (span_amount change.up change.hours) FIRST_AREA 0) _ (hour_notes-each (span_amount change.up change.hours) FIRST_AREA 0 (omega arith) small_hours)
       (each-append IsNote (note_of change.first.cell change.first.amount) (note_of change.second.cell change.second.amount) (one change.first is.first) (one change.second is.second))
     where
       one : (note : Note) → IsCellNote note → AllByRecursion IsNote (note_of note.cell note.amount)
-      one note cell = by_test (is_still note.amount) (λ e. rw e tt) (λ e. rw e ((cell.within, omega (arith, ints, cell.least), omega (arith, ints, cell.most), (λ z. moves note.amount e z)), tt))
+      one note cell = by_test (is_zero note.amount) (λ e. rw e tt) (λ e. rw e ((cell.within, omega (arith, ints, cell.least), omega (arith, ints, cell.most), (λ z. moves note.amount e z)), tt))
 
   pub compact_once : NoteEachOnce (notes_in change)
   compact_once = subst NoteEachOnce (append_assoc hours first second) (more change.second (hours ++ first) (more change.first hours (hour_notes-once amount FIRST_AREA 0) (apart change.first is.first)) both)
     where
       amount : ℕ → ℤ
-      amount = span_steps change.up change.hours
+      amount = span_amount change.up change.hours
 
       hours : List (ℕ × ℤ)
       hours = hour_notes amount FIRST_AREA 0
@@ -316,8 +307,8 @@ module _ (change : Change.Inside) (is : IsCompact change) where
       apart note cell = each-weaker {P = λ (other : ℕ × ℤ). other.0 < FIRST_AREA} {Q = λ (other : ℕ × ℤ). other.0 ≢ note.cell} (λ other below same. omega (arith, below, same, cell.high)) hours (hours_are amount FIRST_AREA).below
 
       more : (note : Note) (notes : List (ℕ × ℤ)) → NoteEachOnce notes → AllByRecursion (λ (other : ℕ × ℤ). other.0 ≢ note.cell) notes → NoteEachOnce (notes ++ note_of note.cell note.amount)
-      more note notes once new = by_test (is_still note.amount) (λ e. rw (e, append-nil notes) once) (λ e. rw e (once-more notes (note.cell, note.amount) once new))
+      more note notes once new = by_test (is_zero note.amount) (λ e. rw (e, append-nil notes) once) (λ e. rw e (once-more notes (note.cell, note.amount) once new))
 
       both : AllByRecursion (λ (other : ℕ × ℤ). other.0 ≢ change.second.cell) (hours ++ first)
       both = each-append (λ (other : ℕ × ℤ). other.0 ≢ change.second.cell) hours first (apart change.second is.second)
-          (by_test (is_still change.first.amount) (λ e. rw e tt) (λ e. rw e (is.two, tt)))
+          (by_test (is_zero change.first.amount) (λ e. rw e tt) (λ e. rw e (is.two, tt)))

@@ -44,7 +44,7 @@ pub record AreHeightsOf (heights : Heights) (book : Book) : Type 0 where
   pub facilities : IsHeightOf heights.facilities (length book.facilities)
   pub forwardings : IsHeightOf heights.forwardings (length book.forwardings)
 
--- the most steps, and the fewest, that the slice of a part takes
+-- the most steps that the slice of a part takes
 abbrev pub slice_bound : Heights → ℕ
 slice_bound h =
     most_of_slice h.subscribers + most_of_slice h.access + most_of_slice h.facilities + most_of_slice h.forwardings
@@ -55,7 +55,7 @@ slice_least h =
     fewest_of_slice h.subscribers + fewest_of_slice h.access + fewest_of_slice h.facilities
     + fewest_of_slice h.forwardings
 
--- the most steps, and the fewest, that the meld of two parts takes
+-- the most steps that the meld of two parts takes
 abbrev pub meld_bound : Heights → Heights → ℕ
 meld_bound a b =
     most_of_meld a.subscribers b.subscribers + most_of_meld a.access b.access + most_of_meld a.facilities b.facilities

@@ -73,13 +73,13 @@ area_moved from to = if from == to then [] else (FIRST_AREA + from, negsuc 0) �
 abbrev pub subscriber_added : ℕ → ℕ → List (ℕ × ℤ)
 subscriber_added area zone = (FIRST_AREA + area, pos 1) ∷ (FIRST_ZONE + zone, pos 1) ∷ []
 
--- so many up, or down
-abbrev pub steps : Bool → ℕ → ℤ
-steps up n = if up then pos n else neg_ℤ (pos n)
+-- a number as it is where it goes up, and negated where it goes down
+abbrev pub signed : Bool → ℕ → ℤ
+signed up n = if up then pos n else neg_ℤ (pos n)
 
 -- the notes of a row of another table that comes into its zone, or leaves it
 abbrev pub row_moved : Bool → ℕ → List (ℕ × ℤ)
-row_moved up zone = (FIRST_ZONE + zone, steps up 1) ∷ []
+row_moved up zone = (FIRST_ZONE + zone, signed up 1) ∷ []
 
 -- an hour lies in a span, its end left out, 1 or 0
 abbrev pub in_span : ℕ → ℕ → ℕ → ℕ
@@ -94,8 +94,8 @@ abbrev pub AreSpans : Spans → Type 0
 AreSpans spans = (spans.from_0 ≤ FIRST_AREA) × (spans.from_8 ≤ FIRST_AREA) × (spans.from_16 ≤ FIRST_AREA)
 
 -- by how much an hour moves where a facility's forwardings come or go: by how many of them cover it
-abbrev pub span_steps : Bool → Spans → ℕ → ℤ
-span_steps up spans hour = steps up (covering spans hour)
+abbrev pub span_amount : Bool → Spans → ℕ → ℤ
+span_amount up spans hour = signed up (covering spans hour)
 
 -- a cell behind those of hours, which moves by one at most
 pub record IsCellNote (note : Note) : Type 0 where
@@ -114,15 +114,15 @@ pub record IsCompact (change : Change.Inside) : Type 0 where
 
 -- its notes: those of hours, then those of the two cells
 abbrev pub notes_in : Change.Inside → List (ℕ × ℤ)
-notes_in change = hour_notes (span_steps change.up change.hours) FIRST_AREA 0 ++ (note_of change.first.cell change.first.amount ++ note_of change.second.cell change.second.amount)
+notes_in change = hour_notes (span_amount change.up change.hours) FIRST_AREA 0 ++ (note_of change.first.cell change.first.amount ++ note_of change.second.cell change.second.amount)
 
 -- until when a forwarding that was found runs: 0 where there is none
 abbrev pub until : Option CallForwardingRow → ℕ
 until found = option_map_or (λ row. row.end_time) found 0
 
 -- by how much an hour moves where one forwarding comes or goes, whose facility is active or not
-abbrev pub row_steps : Bool → Bool → CallForwardingRow → ℕ → ℤ
-row_steps up active row hour = if covers row hour && active then steps up 1 else pos 0
+abbrev pub row_amount : Bool → Bool → CallForwardingRow → ℕ → ℤ
+row_amount up active row hour = if covers row hour && active then signed up 1 else pos 0
 
 -- notes of the hours in front of one, each of which moves by its amount
 pub record AreHours (amount : ℕ → ℤ) (hour : ℕ) (notes : List (ℕ × ℤ)) : Type 0 where
@@ -133,4 +133,4 @@ pub record AreHours (amount : ℕ → ℤ) (hour : ℕ) (notes : List (ℕ × �
 -- notes of a forwarding that comes or goes: of the hours, and of its zone
 abbrev pub AreForwardingNotes : Bool → Bool → CallForwardingRow → ℕ → List (ℕ × ℤ) → Type 0
 AreForwardingNotes up active row zone notes =
-    (c : ℕ) → change_at notes c ≡ (if nat_lt c FIRST_AREA then row_steps up active row c else pos 0) +ℤ change_at (row_moved up zone) c
+    (c : ℕ) → change_at notes c ≡ (if nat_lt c FIRST_AREA then row_amount up active row c else pos 0) +ℤ change_at (row_moved up zone) c

@@ -1,11 +1,11 @@
 //! By how much an action moves the cells.
-ghost use Rattle.std.specs.Prelude.{◌≡◌, ◌≢◌, ℕ, ◌+◌, ◌-◌, ◌<◌, ◌≤◌, true, List, [], ◌∷◌, ◌++◌, length, ℤ, pos, negsuc, ◌+ℤ◌, ◌≤ℤ◌, slice_index_or, slice_set, if◌then◌else◌};
+ghost use Rattle.std.specs.Prelude.{◌≡◌, ◌≢◌, ℕ, ◌+◌, ◌<◌, ◌≤◌, true, [], ◌++◌, length, pos, negsuc, ◌+ℤ◌, ◌≤ℤ◌, slice_set, if◌then◌else◌};
 ghost use Rattle.std.specs.Int.RustNames.{FitsSigned};
 ghost use Rattle.std.specs.List.{AllByRecursion};
 ghost use mir.Syntax.{w64};
 ghost use Rattle.tatp_rows.specs.Zones.{area_of};
-ghost use Rattle.tatp_actions.specs.Change.{IsNote, NoteEachOnce, change_at, hour_notes, note_of};
-ghost use Rattle.tatp_actions.specs.Inside.{area_moved, subscriber_added, steps, row_moved, in_span, covering, span_steps, row_steps, AreSpans, AreHours, AreForwardingNotes, IsCellNote};
+ghost use Rattle.tatp_actions.specs.Change.{IsNote, NoteEachOnce, NotesFit, change_at, delta_at, hour_notes, note_of};
+ghost use Rattle.tatp_actions.specs.Inside.{area_moved, subscriber_added, signed, row_moved, in_span, covering, span_amount, AreSpans, AreHours, AreForwardingNotes, IsCellNote};
 ghost use Rattle.tatp_actions.specs.declared.cells.TheConstants.{CELLS, FIRST_AREA, FIRST_ZONE};
 
 use crate::cells::{CELLS, FIRST_AREA, FIRST_ZONE};
@@ -16,10 +16,10 @@ use tatp_rows::{Forwarding, area};
 /// The most notes that one change has: one for each hour, and one for a zone.
 pub const NOTES: usize = FIRST_AREA as usize + 1;
 
-/// So many up, or down.
-fn steps(up: bool, count: u8) -> i8
+/// Gives a count, or less than 0 by as much where it isn't up.
+fn signed(up: bool, count: u8) -> i8
     requires { count ≤ 3 }
-    ensures value { result ≡ steps up count }
+    ensures value { result ≡ signed up count }
     ensures low { negsuc 7 ≤ℤ result }
     ensures high { result ≤ℤ pos 8 }
     ensures moves { 0 < count → result ≢ pos 0 }
@@ -119,11 +119,11 @@ fn push_note(notes: &mut ArrayVec<(u8, i8), NOTES>, cell: u8, amount: i8)
 /// Moves the deltas of the hours from one on up to another by one each, up or down.
 fn add_span(deltas: &mut [i64; CELLS as usize], up: bool, from: u8, to: u8)
     requires to { to ≤ FIRST_AREA }
-    requires fit { (c : ℕ) → c < CELLS → FitsSigned w64 (slice_index_or deltas.old c (pos 0)) }
-    requires fits { (c : ℕ) → c < CELLS → FitsSigned w64 (slice_index_or deltas.old c (pos 0) +ℤ steps up (in_span from to c)) }
-    ensures { (c : ℕ) → c < CELLS → slice_index_or deltas.new c (pos 0) ≡ slice_index_or deltas.old c (pos 0) +ℤ steps up (in_span from to c) }
+    requires fit { (c : ℕ) → c < CELLS → FitsSigned w64 (delta_at deltas.old c) }
+    requires fits { (c : ℕ) → c < CELLS → FitsSigned w64 (delta_at deltas.old c +ℤ signed up (in_span from to c)) }
+    ensures { (c : ℕ) → c < CELLS → delta_at deltas.new c ≡ delta_at deltas.old c +ℤ signed up (in_span from to c) }
 {
-    let step = i64::from(steps(up, 1));
+    let step = i64::from(signed(up, 1));
     for hour in from..to {
         deltas[usize::from(hour)] += step;
     }
@@ -132,8 +132,8 @@ fn add_span(deltas: &mut [i64; CELLS as usize], up: bool, from: u8, to: u8)
 /// Moves the delta of a cell by its amount.
 fn add_note(deltas: &mut [i64; CELLS as usize], note: Note)
     requires cell { note.cell < CELLS }
-    requires fits { FitsSigned w64 (slice_index_or deltas.old note.cell (pos 0) +ℤ note.amount) }
-    ensures { deltas.new ≡ slice_set deltas.old note.cell (slice_index_or deltas.old note.cell (pos 0) +ℤ note.amount) }
+    requires fits { FitsSigned w64 (delta_at deltas.old note.cell +ℤ note.amount) }
+    ensures { deltas.new ≡ slice_set deltas.old note.cell (delta_at deltas.old note.cell +ℤ note.amount) }
 {
     deltas[usize::from(note.cell)] += i64::from(note.amount);
 }
@@ -199,7 +199,7 @@ impl Change {
         requires ends { AreSpans hours }
         requires zone { IsCellNote zone }
         requires two { FIRST_AREA < zone.cell }
-        ensures { result ≡ hour_notes (span_steps up hours) FIRST_AREA 0 ++ note_of zone.cell zone.amount }
+        ensures { result ≡ hour_notes (span_amount up hours) FIRST_AREA 0 ++ note_of zone.cell zone.amount }
     {
         Change {
             up,
@@ -225,7 +225,7 @@ impl Change {
     {
         let mut notes = ArrayVec::new();
         for hour in 0..FIRST_AREA {
-            push_note(&mut notes, hour, steps(self.up, self.hours.covering(hour)));
+            push_note(&mut notes, hour, signed(self.up, self.hours.covering(hour)));
         }
         push_note(&mut notes, self.first.cell, self.first.amount);
         push_note(&mut notes, self.second.cell, self.second.amount);
@@ -234,9 +234,8 @@ impl Change {
 
     /// Moves each cell's delta by what the notes say of it. Each sum has to fit 64 bits.
     pub fn add_to(&self, deltas: &mut [i64; CELLS as usize])
-        requires fit { (c : ℕ) → c < CELLS → FitsSigned w64 (slice_index_or deltas.old c (pos 0)) }
-        requires fits { (c : ℕ) → c < CELLS → FitsSigned w64 (slice_index_or deltas.old c (pos 0) +ℤ change_at self.now c) }
-        ensures { (c : ℕ) → c < CELLS → slice_index_or deltas.new c (pos 0) ≡ slice_index_or deltas.old c (pos 0) +ℤ change_at self.now c }
+        requires { NotesFit deltas.old self.now }
+        ensures { (c : ℕ) → c < CELLS → delta_at deltas.new c ≡ delta_at deltas.old c +ℤ change_at self.now c }
     {
         add_span(deltas, self.up, 0, self.hours.from_0);
         add_span(deltas, self.up, 8, self.hours.from_8);
@@ -289,7 +288,7 @@ impl Change {
     /// many do.
     pub(crate) fn hours_moved(up: bool, spans: &Spans) -> Self
         requires { AreSpans spans.now }
-        ensures { AreHours (span_steps up spans.now) FIRST_AREA result }
+        ensures { AreHours (span_amount up spans.now) FIRST_AREA result }
     {
         Change::of_hours(up, *spans, zone_note(0, 0))
     }
@@ -299,6 +298,6 @@ impl Change {
         requires { zone < 32 }
         ensures { AreForwardingNotes up active row.now zone result }
     {
-        Change::of_hours(up, row_spans(active, row), zone_note(zone, steps(up, 1)))
+        Change::of_hours(up, row_spans(active, row), zone_note(zone, signed(up, 1)))
     }
 }

@@ -20,7 +20,7 @@ use tatp_rows::{Back, Refusal, subscriber_key};
 
 /// Cuts a tree at a key: it keeps the rows of one side, and those of the side that is named stand in another one, in
 /// place of its own; how many steps it took.
-fn cut_tree<V: Drop>(
+fn cut_tree<V: Drop + Default>(
     tree: &mut SubTree<V>,
     given: &mut SubTree<V>,
     side: Side,
@@ -54,7 +54,7 @@ fn exchange<V: Drop>(one: &mut SubTree<V>, two: &mut SubTree<V>)
 
 /// Joins a tree with another one, whose keys are all higher or all lower: it has the rows of both, and the other one
 /// none; how many steps it took.
-fn join_tree<V: Drop>(
+fn join_tree<V: Drop + Default>(
     tree: &mut SubTree<V>,
     other: &mut SubTree<V>,
     side: Side,

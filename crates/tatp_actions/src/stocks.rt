@@ -51,7 +51,7 @@ impl Stocks {
 }
 
 /// The blank nodes for a meld of two trees: `Memory` where they can't be had.
-fn meld_stock<V: Drop>(
+fn meld_stock<V: Drop + Default>(
     alloc: Global,
     tree: &SubTree<V>,
     other: &SubTree<V>,

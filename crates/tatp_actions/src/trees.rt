@@ -23,7 +23,7 @@ pub struct Trees {
 }
 
 /// A tree without rows.
-fn empty<V: Drop>(alloc: Global) -> SubTree<V>
+fn empty<V: Default>(alloc: Global) -> SubTree<V>
     ensures rows { result.rows ≡ [] }
     ensures height { result.height ≡ 0 }
 {

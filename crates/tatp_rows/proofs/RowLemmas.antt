@@ -1,11 +1,11 @@
 -- What the ranges of a row's fields say, one by one.
-use Rattle.std.proofs.Common.{◌≡◌, refl, subst, sym, ℕ, zero, suc, ◌+◌, ◌<◌, ◌≤◌, Bool, true, false, List, [], ◌∷◌, length, get_or, set, ◌↔◌, ◌⊎◌, inl, inr, IsTrue, arith}
+use Rattle.std.proofs.Common.{◌≡◌, refl, subst, sym, ℕ, zero, suc, ◌+◌, ◌<◌, ◌≤◌, Bool, true, false, List, [], ◌∷◌, length, replicate, get_or, set, ◌↔◌, ◌⊎◌, inl, inr, IsTrue, arith}
 use Rattle.std.specs.Prelude.{◌==◌, ◌&&◌, ◌||◌, nat_lt, nat_le, Ok, Err}
 use Rattle.std.specs.List.{EachIndex, list_all}
 use Rattle.std.proofs.lemmas.Bool.Decides.{nat_tests}
 use Rattle.std.proofs.lemmas.Str.{IsUtf8-from_ascii}
 use Rattle.std.proofs.lemmas.Bool.{cases_lt}
-use Rattle.std.proofs.lemmas.List.{get_or_past}
+use Rattle.std.proofs.lemmas.List.{get_or_past, length-replicate}
 use Rattle.std.specs.Str.{IsUtf8}
 use Rattle.tatp_rows.proofs.OrderedLemmas.{by_test}
 use Rattle.tatp_rows.specs.declared.ranges.TheConstants.{LAST_SUBSCRIBER}
@@ -37,6 +37,16 @@ number_test n below = grind (arith, nat_tests)
 -- numbers that lie in a range, so many
 pub length-are_between : (size low high : ℕ) (ns : List ℕ) → are_between size low high ns ≡ true → length ns ≡ size
 length-are_between size low high ns holds = let parts = both (length ns == size) (list_all (is_between low high) ns) holds in grind (arith, nat_tests)
+
+-- the least number of a range, so many times
+least_each : (low high size : ℕ) → low ≤ high → list_all (is_between low high) (replicate size low) ≡ true
+least_each low high zero le = refl
+least_each low high (suc size) le = both_from (is_between low high low) (list_all (is_between low high) (replicate size low)) (between_from low high low (omega arith) le) (least_each low high size le)
+
+pub least_between : (low high size : ℕ) → low ≤ high → are_between size low high (replicate size low) ≡ true
+least_between low high size le =
+    let long = length-replicate size low in
+    both_from (length (replicate size low) == size) (list_all (is_between low high) (replicate size low)) (grind (arith, nat_tests)) (least_each low high size le)
 
 -- the ranges of a Subscriber row's fields, one by one
 pub record SubscriberRanges (row : SubscriberRow) : Type 0 where

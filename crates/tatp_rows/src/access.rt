@@ -1,5 +1,5 @@
 //! Rows of the table Access_Info.
-ghost use Rattle.std.specs.Prelude.{◌≡◌, IsTrue};
+ghost use Rattle.std.specs.Prelude.{◌≡◌, IsTrue, replicate};
 ghost use Rattle.tatp_rows.specs.Rows.{AccessInfoRow, access_in_range, access_of};
 ghost use Rattle.tatp_rows.specs.Keys.{access_key};
 
@@ -49,6 +49,29 @@ impl Model for Access {
       data3 = a.data3;
       data4 = a.data4;
     } };
+}
+
+impl Default for Access {
+    ghost is_default = { λ row. row ≡ record {
+      s_id = 1;
+      ai_type = 1;
+      data1 = 0;
+      data2 = 0;
+      data3 = replicate 3 65;
+      data4 = replicate 5 65;
+    } };
+
+    /// Makes the row that stands in unused places: the least value of each field.
+    fn default() -> Self {
+        Access {
+            s_id: 1,
+            ai_type: 1,
+            data1: 0,
+            data2: 0,
+            data3: Letters::default(),
+            data4: Letters::default(),
+        }
+    }
 }
 
 impl Access {

@@ -1,5 +1,5 @@
 //! Rows of the table Special_Facility.
-ghost use Rattle.std.specs.Prelude.{◌≡◌, ◌==◌, IsTrue, if◌then◌else◌};
+ghost use Rattle.std.specs.Prelude.{◌≡◌, ◌==◌, IsTrue, replicate, if◌then◌else◌};
 ghost use Rattle.tatp_rows.specs.Rows.{SpecialFacilityRow, facility_in_range, facility_of};
 ghost use Rattle.tatp_rows.specs.Keys.{facility_key};
 
@@ -49,6 +49,29 @@ impl Model for Facility {
       data_a = f.data_a;
       data_b = f.data_b;
     } };
+}
+
+impl Default for Facility {
+    ghost is_default = { λ row. row ≡ record {
+      s_id = 1;
+      sf_type = 1;
+      is_active = 0;
+      error_cntrl = 0;
+      data_a = 0;
+      data_b = replicate 5 65;
+    } };
+
+    /// Makes the row that stands in unused places: the least value of each field.
+    fn default() -> Self {
+        Facility {
+            s_id: 1,
+            sf_type: 1,
+            is_active: 0,
+            error_cntrl: 0,
+            data_a: 0,
+            data_b: Letters::default(),
+        }
+    }
 }
 
 impl Facility {

@@ -47,6 +47,27 @@ impl Model for Forwarding {
     } };
 }
 
+impl Default for Forwarding {
+    ghost is_default = { λ row. row ≡ record {
+      s_id = 1;
+      sf_type = 1;
+      start_time = 0;
+      end_time = 1;
+      numberx = 0;
+    } };
+
+    /// Makes the row that stands in unused places: the least value of each field.
+    fn default() -> Self {
+        Forwarding {
+            s_id: 1,
+            sf_type: 1,
+            start_time: 0,
+            end_time: 1,
+            numberx: Number::default(),
+        }
+    }
+}
+
 impl Forwarding {
     /// The row with these fields, in TATP's order; `Field` where one is out of its range: s_id 1..=16,777,216,
     /// sf_type 1..=4, start_time 0, 8 or 16, end_time 1..=24. The end may lie before the start.

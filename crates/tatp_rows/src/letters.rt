@@ -1,5 +1,5 @@
 //! Letters: short texts of capital letters.
-ghost use Rattle.std.specs.Prelude.{◌≡◌, List, ℕ, Some};
+ghost use Rattle.std.specs.Prelude.{◌≡◌, List, ℕ, Some, replicate};
 ghost use Rattle.tatp_rows.specs.Letters.{AreLetters, letters_in};
 
 use crate::ranges::all_between;
@@ -22,6 +22,15 @@ impl<const N: usize> Model for Letters<N> {
     ghost invariant = { λ letters. AreLetters N letters.bytes };
 
     ghost inverse = { λ bytes. record { bytes = bytes } };
+}
+
+impl<const N: usize> Default for Letters<N> {
+    ghost is_default = { λ letters. letters ≡ replicate N 65 };
+
+    /// Makes the least letters: `N` times A.
+    fn default() -> Self {
+        Letters { bytes: [b'A'; N] }
+    }
 }
 
 impl<const N: usize> Letters<N> {

@@ -1,8 +1,6 @@
-//! The rows of the TATP tables, their ranges and keys, and the refusals of the store.
-//!
-//! The tables are those of the TATP benchmark (its description, sections 2.1 to 2.4). The ranges of the
-//! fields are this project's own choice. What is said of ordered lists of rows stands in `specs/Ordered.antt`,
-//! and every layer above cites it.
+//! The rows of the TATP tables (its description, sections 2.1 to 2.4): their fields, numbers, letters and keys, and the
+//! refusals of the store. A call looks at the fields of one row and takes no memory. The ranges of the fields are this
+//! project's own choice, and keys pack fields by them: a range that grows needs another packing.
 #![tactic(auto)]
 
 mod access;

@@ -1,5 +1,5 @@
 //! Rows of the table Subscriber.
-ghost use Rattle.std.specs.Prelude.{◌≡◌, ◌≤◌, ◌<◌, ◌^◌, IsTrue, slice_index, slice_set};
+ghost use Rattle.std.specs.Prelude.{◌≡◌, ◌≤◌, ◌<◌, ◌^◌, IsTrue, replicate, slice_index, slice_set};
 ghost use Rattle.std.specs.List.{EachIndex};
 ghost use Rattle.tatp_rows.specs.Packed.{packed, unpacked};
 ghost use Rattle.tatp_rows.specs.Rows.{SubscriberRow, subscriber_in_range, subscriber_of};
@@ -102,6 +102,31 @@ fn unpack(value: u64, base: u64) -> [u8; 10]
         rest /= base;
     }
     digits
+}
+
+impl Default for Subscriber {
+    ghost is_default = { λ row. row ≡ record {
+      s_id = 1;
+      sub_nbr = 0;
+      bits = replicate 10 0;
+      hexes = replicate 10 0;
+      bytes = replicate 10 0;
+      msc_location = 1;
+      vlr_location = 1;
+    } };
+
+    /// Makes the row that stands in unused places: the least value of each field.
+    fn default() -> Self {
+        Subscriber {
+            sub_nbr: Number::default(),
+            hexes: 0,
+            s_id: 1,
+            msc_location: 1,
+            vlr_location: 1,
+            bits: 0,
+            bytes: [0; 10],
+        }
+    }
 }
 
 impl Subscriber {

@@ -13,7 +13,7 @@ use std::test::*;
 use tatp_rows::Refusal;
 
 // A value that is neither Copy nor Clone.
-#[derive(Drop)]
+#[derive(Default, Drop)]
 struct Token(u64);
 
 // What a walk over rows saw: how many, the last key, how many were not above the one in front, and a sum that hangs on

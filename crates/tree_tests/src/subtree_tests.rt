@@ -48,7 +48,7 @@ impl Told for [u64; 3] {
 }
 
 // A value that is neither Copy nor Clone.
-#[derive(Drop)]
+#[derive(Default, Drop)]
 struct Token(u32);
 
 impl Told for Token {
@@ -62,7 +62,11 @@ impl Told for Token {
 }
 
 // What an insertion answers, with the number of the value that comes back.
-fn added<V: Told + Drop>(tree: &mut SubTree<V>, key: u64, number: u32) -> Option<(Refusal, u32)>
+fn added<V: Told + Drop + Default>(
+    tree: &mut SubTree<V>,
+    key: u64,
+    number: u32,
+) -> Option<(Refusal, u32)>
     requires { key < key_limit }
 {
     match tree.insert(key, V::of(number)) {
@@ -72,7 +76,11 @@ fn added<V: Told + Drop>(tree: &mut SubTree<V>, key: u64, number: u32) -> Option
 }
 
 // What a replacement answers, in numbers.
-fn replaced<V: Told + Drop>(tree: &mut SubTree<V>, key: u64, number: u32) -> Result<u32, u32> {
+fn replaced<V: Told + Drop + Default>(
+    tree: &mut SubTree<V>,
+    key: u64,
+    number: u32,
+) -> Result<u32, u32> {
     match tree.replace(key, V::of(number)) {
         Ok(old) => Ok(old.number()),
         Err(value) => Err(value.number()),
@@ -80,7 +88,7 @@ fn replaced<V: Told + Drop>(tree: &mut SubTree<V>, key: u64, number: u32) -> Res
 }
 
 // What a removal answers, in numbers.
-fn removed<V: Told + Drop>(tree: &mut SubTree<V>, key: u64) -> Option<u32> {
+fn removed<V: Told + Drop + Default>(tree: &mut SubTree<V>, key: u64) -> Option<u32> {
     let value = tree.remove(key)?;
     Some(value.number())
 }
@@ -287,7 +295,7 @@ fn drawn(turn: u64) -> u64 {
 }
 
 // An insertion into a tree where the plain table has this number, and what the table has then.
-fn insert<V: Told + Drop>(
+fn insert<V: Told + Drop + Default>(
     rt: &impl Abort,
     tree: &mut SubTree<V>,
     key: u64,
@@ -307,7 +315,7 @@ fn insert<V: Told + Drop>(
 }
 
 // The same of a replacement.
-fn replace<V: Told + Drop>(
+fn replace<V: Told + Drop + Default>(
     rt: &impl Abort,
     tree: &mut SubTree<V>,
     key: u64,
@@ -324,7 +332,7 @@ fn replace<V: Told + Drop>(
 }
 
 // One drawn change of a tree and of a plain table of numbers, where 0 is none: they have to answer alike.
-fn change<V: Told + Drop>(
+fn change<V: Told + Drop + Default>(
     rt: &impl Abort,
     tree: &mut SubTree<V>,
     table: &mut [u32; 2000],
@@ -365,7 +373,7 @@ fn compare<V: Told + Drop>(rt: &impl Abort, tree: &SubTree<V>, table: &[u32; 200
     assert_eq!(rt; (same, tree.len()), (true, count));
 }
 
-fn change_all<V: Told + Drop>(rt: &impl Abort, tree: &mut SubTree<V>) {
+fn change_all<V: Told + Drop + Default>(rt: &impl Abort, tree: &mut SubTree<V>) {
     let mut table = [0; 2000];
     for turn in 0..20_000u64 {
         change(rt, tree, &mut table, turn);

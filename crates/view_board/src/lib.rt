@@ -1,8 +1,7 @@
-//! The board of shared words: 16 slots, each with a plus-word and a minus-word for each cell.
-//!
-//! Words are raised by the desk that owns their slot and by nobody else, each in one atomic step, and any desk may look
-//! at all of them while others raise theirs. Desks move between threads; a slot that is split off goes along with its
-//! new desk, and a desk that is joined brings its slots home. No call waits.
+//! The board of shared words: 16 slots, each with a plus-word and a minus-word for each cell, which only the desk that
+//! owns the slot raises, while any desk may look at all. A raise is one atomic addition and a look one load of each
+//! word; no call waits. A look is no single moment: of words that are raised meanwhile it may see one before and
+//! another after.
 #![tactic(auto)]
 
 mod board;

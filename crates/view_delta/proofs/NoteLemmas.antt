@@ -7,7 +7,7 @@ use Rattle.tatp_rows.proofs.OrderedLemmas.{by_test}
 use Rattle.tatp_actions.specs.Change.{change_at, IsNote}
 use Rattle.tatp_actions.specs.declared.cells.TheConstants.{CELLS}
 use Rattle.tatp_actions.specs.declared.change.TheConstants.{NOTES}
-use Rattle.view_delta.specs.Pending.{pending_at, NotesFit}
+use Rattle.view_delta.specs.Pending.{delta_at, NotesFit}
 
 -- notes move a cell by at most eight each
 notes_small : (notes : List (ℕ × ℤ)) (c : ℕ) → AllByRecursion IsNote notes → (neg_ℤ (pos (8 * length notes)) ≤ℤ change_at notes c) × (change_at notes c ≤ℤ pos (8 * length notes))
@@ -24,7 +24,7 @@ notes_small (note ∷ notes) c each =
 
 -- so few notes fit
 pub notes_fit : (pending : List ℤ) (notes : List (ℕ × ℤ)) → AllByRecursion IsNote notes → length notes ≤ NOTES
-    → ((c : ℕ) → c < CELLS → (neg_ℤ (pos (2 ^ 60)) ≤ℤ pending_at pending c) × (pending_at pending c ≤ℤ pos (2 ^ 60))) → NotesFit pending notes
+    → ((c : ℕ) → c < CELLS → (neg_ℤ (pos (2 ^ 60)) ≤ℤ delta_at pending c) × (delta_at pending c ≤ℤ pos (2 ^ 60))) → NotesFit pending notes
 notes_fit pending notes each few small c below =
     let bounds = notes_small notes c each in
     let low = bounds.0 in

@@ -8,13 +8,13 @@ use Rattle.tatp_rows.proofs.OrderedLemmas.{by_test}
 use Rattle.std.proofs.Common.{replicate}
 use Rattle.std.proofs.lemmas.List.{length-set, length-replicate, get_or-set_same, get_or-set_other}
 use Rattle.tatp_actions.specs.declared.cells.TheConstants.{CELLS}
-use Rattle.view_delta.specs.Pending.{pending_at}
+use Rattle.view_delta.specs.Pending.{delta_at}
 
 -- the deltas of the first n cells are moved, each by its amount, and the others are as they were
 pub record AreMovedTo (amount : ℕ → ℤ) (start deltas : List ℤ) (n : ℕ) : Type 0 where
   pub wide : length deltas ≡ CELLS
-  pub moved : (c : ℕ) → c < n → pending_at deltas c ≡ pending_at start c +ℤ amount c
-  pub ahead : (c : ℕ) → n ≤ c → pending_at deltas c ≡ pending_at start c
+  pub moved : (c : ℕ) → c < n → delta_at deltas c ≡ delta_at start c +ℤ amount c
+  pub ahead : (c : ℕ) → n ≤ c → delta_at deltas c ≡ delta_at start c
 
 module _ (amount : ℕ → ℤ) (start : List ℤ) where
   -- before the first cell
@@ -22,7 +22,7 @@ module _ (amount : ℕ → ℤ) (start : List ℤ) where
   none_moved wide = record { wide = wide; moved = λ c below. absurd (omega arith); ahead = λ c from. refl }
 
   -- one more cell
-  pub one_moved : (deltas : List ℤ) (n at : ℕ) (value : ℤ) → n < CELLS → at ≡ n → value ≡ pending_at start n +ℤ amount n → AreMovedTo amount start deltas n
+  pub one_moved : (deltas : List ℤ) (n at : ℕ) (value : ℤ) → n < CELLS → at ≡ n → value ≡ delta_at start n +ℤ amount n → AreMovedTo amount start deltas n
       → AreMovedTo amount start (set deltas at value) (n + 1)
   one_moved deltas n at value below here sum so_far = rw here (record {
     wide = length-set deltas n value ∙ so_far.wide;
@@ -30,7 +30,7 @@ module _ (amount : ℕ → ℤ) (start : List ℤ) where
     ahead = λ c from. get_or-set_other deltas n c value (pos 0) (λ e. absurd (omega arith)) ∙ so_far.ahead c (omega arith);
   })
     where
-      by_order : (c : ℕ) → c < n + 1 → pending_at (set deltas n value) c ≡ pending_at start c +ℤ amount c
+      by_order : (c : ℕ) → c < n + 1 → delta_at (set deltas n value) c ≡ delta_at start c +ℤ amount c
       by_order c within = by_test (c == n)
           (λ same. let here : c ≡ n = grind (arith, nat_tests) in rw here (get_or-set_same deltas n value (pos 0) (omega (arith, so_far.wide)) ∙ sum))
           (λ other. let apart : c ≡ n → ⊥ = grind (arith, nat_tests) in get_or-set_other deltas n c value (pos 0) apart ∙ so_far.moved c (grind (arith, nat_tests)))

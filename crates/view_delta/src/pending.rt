@@ -4,7 +4,7 @@ ghost use Rattle.std.specs.Int.RustNames.{FitsSigned};
 ghost use mir.Syntax.{w64};
 ghost use Rattle.tatp_actions.specs.Change.{change_at};
 ghost use Rattle.tatp_actions.specs.declared.cells.TheConstants.{CELLS};
-ghost use Rattle.view_delta.specs.Pending.{pending_at, NotesFit, SumsFit, DifferencesFit, AreZero, IsNextNonzero};
+ghost use Rattle.view_delta.specs.Pending.{delta_at, NotesFit, SumsFit, DifferencesFit, AreZero, IsNextNonzero};
 
 use std::marker::Model;
 use tatp_actions::{CELLS, Cells, Change};
@@ -45,7 +45,7 @@ impl Pending {
     /// The delta of a cell.
     pub fn get(&self, cell: u8) -> i64
         requires { cell < CELLS }
-        ensures { result ≡ pending_at self.now cell }
+        ensures { result ≡ delta_at self.now cell }
     {
         self.deltas[usize::from(cell)]
     }
@@ -87,7 +87,7 @@ impl Pending {
     /// Moves each cell's delta as a change says. Each sum has to fit 64 bits.
     pub fn note(&mut self, change: &Change)
         requires { NotesFit self.old change.now }
-        ensures { (c : ℕ) → c < CELLS → pending_at self.new c ≡ pending_at self.old c +ℤ change_at change.now c }
+        ensures { (c : ℕ) → c < CELLS → delta_at self.new c ≡ delta_at self.old c +ℤ change_at change.now c }
     {
         change.add_to(&mut self.deltas);
     }
@@ -95,7 +95,7 @@ impl Pending {
     /// Raises each cell's delta by its count; each sum has to fit 64 bits.
     pub fn add(&mut self, counts: &Cells)
         requires { SumsFit self.old counts.now }
-        ensures { (c : ℕ) → c < CELLS → pending_at self.new c ≡ pending_at self.old c +ℤ pos (slice_index counts.now c) }
+        ensures { (c : ℕ) → c < CELLS → delta_at self.new c ≡ delta_at self.old c +ℤ pos (slice_index counts.now c) }
     {
         for cell in 0..CELLS {
             let delta = self.deltas[usize::from(cell)];
@@ -106,7 +106,7 @@ impl Pending {
     /// Lowers each cell's delta by its count; each difference has to fit 64 bits.
     pub fn subtract(&mut self, counts: &Cells)
         requires { DifferencesFit self.old counts.now }
-        ensures { (c : ℕ) → c < CELLS → pending_at self.new c ≡ pending_at self.old c -ℤ pos (slice_index counts.now c) }
+        ensures { (c : ℕ) → c < CELLS → delta_at self.new c ≡ delta_at self.old c -ℤ pos (slice_index counts.now c) }
     {
         for cell in 0..CELLS {
             let delta = self.deltas[usize::from(cell)];

@@ -1,5 +1,5 @@
-use Rattle.hlr_owners.proofs.Common.{pending_at, AreMovedTo}
+use Rattle.hlr_owners.proofs.Common.{delta_at, AreMovedTo}
 use Rattle.hlr_owners.proofs.counts.add_deltas.Given as goal
 
 abbrev pub invariant-loop-cell : goal.invariant-loop-cell
-invariant-loop-cell g l = AreMovedTo (λ c. pending_at (g.O.RangeOwner.deltas_of l.state) c) l.initial.sums l.sums l.cell
+invariant-loop-cell g l = AreMovedTo (λ c. delta_at (g.O.RangeOwner.deltas_of l.state) c) l.initial.sums l.sums l.cell

@@ -10,12 +10,12 @@ parted : (g : _) (c : After-take_child-mid g) → IsSplitAt c.args.key c.args.in
 parted g c =
     let cut = c.cut_children-behind.ensures in
     let taken = c.take_child-mid.ensures in
-    parted_at c.args.key c.child_place-place.result c.args.inner c.cut_children-behind.new.inner _ _ _ c.requires.inner c.child_place-place.ensures cut.children cut.len cut.low_height cut.high_height cut.low cut.high taken.height taken.len taken.run taken.rest taken.child
+    parted_at c.args.key c.child_place-place.result c.args.inner c.cut_children-behind.new.inner _ _ _ c.requires.inner c.child_place-place.ensures cut.children cut.len cut.low_height cut.high_height cut.low cut.high taken.height taken.len taken.entries taken.rest taken.child
 
 pub child_place-place-requires : goal.child_place-place-requires
 child_place-place-requires g c =
     let whole = c.requires.inner in
-    (search rules, (whole.some, (whole.run, (children_rise c.args.inner whole, children_below c.args.inner whole))))
+    (search rules, (whole.some, (whole.entries, (children_rise c.args.inner whole, children_below c.args.inner whole))))
 
 pub root_of-left-requires : goal.root_of-left-requires
 root_of-left-requires g c =

@@ -41,7 +41,7 @@ apart g t c =
     let whole = subst IsNode c.in-Inner.is c.open-body.ensures.whole in
     let now = sym (ap seen c.in-Inner.is) ∙ c.open-body.ensures.seen in
     let place = c.end_of-place.ensures in
-    apart_of _ _ child _ whole now place taken.height taken.len taken.run taken.rest taken.child c.requires.ordered
+    apart_of _ _ child _ whole now place taken.height taken.len taken.entries taken.rest taken.child c.requires.ordered
 
 pub even-requires : goal.even-requires
 even-requires g t c =
@@ -52,7 +52,7 @@ pub take_child-child-requires : goal.take_child-child-requires
 take_child-child-requires g t c =
     let whole = subst IsNode c.in-Inner.is c.open-body.ensures.whole in
     let within = place_within c.args.side _ _ c.end_of-place.ensures in
-    (search rules, (whole.run, omega (arith, within, whole.some)))
+    (search rules, (whole.entries, omega (arith, within, whole.some)))
 
 pub join_side-one-requires : goal.join_side-one-requires
 join_side-one-requires g t c κs within =

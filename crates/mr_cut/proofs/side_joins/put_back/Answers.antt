@@ -29,7 +29,7 @@ near g c child =
     let place = c.end_of-place.ensures in
     let put = c.insert_child.ensures in
     let turned = c.turned-near.ensures in
-    near_back _ _ _ _ _ _ _ _ place c.requires.rest put.children put.height put.len put.run child turned ordered
+    near_back _ _ _ _ _ _ _ _ place c.requires.rest put.children put.height put.len put.entries child turned ordered
 
 -- and a node of the other one beside it
 ends : (g : _) (c : After-turned-first g)
@@ -54,19 +54,19 @@ alone g c =
     let ordered = subst order c.in-None.is c.requires.ordered in
     let place = c.end_of-place.ensures in
     let put = c.insert_child-in-None.ensures in
-    put_beside _ _ _ _ _ place c.requires.rest put.children put.height put.len put.run c.requires.one ordered
+    put_beside _ _ _ _ _ place c.requires.rest put.children put.height put.len put.entries c.requires.one ordered
 
 pub insert_child-requires : goal.insert_child-requires
 insert_child-requires g c =
     let within = place_within c.args.side c.end_of-place.result c.args.inner.len c.end_of-place.ensures in
     let child = (children g (goal.at.insert_child-requires g c).After-turned-near).0 in
-    (search rules, (search rules, (c.requires.rest.run, (c.requires.room, (within, own_level _ _ child)))))
+    (search rules, (search rules, (c.requires.rest.entries, (c.requires.room, (within, own_level _ _ child)))))
 
 pub insert_child-requires-in-None : goal.insert_child-requires-in-None
 insert_child-requires-in-None g c =
     let within = place_within c.args.side c.end_of-place.result c.args.inner.len c.end_of-place.ensures in
     let child = c.requires.one in
-    (search rules, (search rules, (c.requires.rest.run, (c.requires.room, (within, own_level _ _ child)))))
+    (search rules, (search rules, (c.requires.rest.entries, (c.requires.room, (within, own_level _ _ child)))))
 
 pub built-node-requires : goal.built-node-requires
 built-node-requires g c =

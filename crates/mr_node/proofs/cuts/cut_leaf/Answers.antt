@@ -14,15 +14,15 @@ fits : (g : _) (c : After-count_below-place g) → (c.count_below-place.result �
 fits g c =
     let leaf = c.args.leaf.now in
     let stop = stop_fits c.args.key c.count_below-place.result leaf c.requires (omega (arith, c.ranges.key.fits)) c.count_below-place.ensures in
-    cut_fits _ _ _ _ (leaf_length leaf c.requires) (none g c) stop c.requires.run.fits
+    cut_fits _ _ _ _ (leaf_length leaf c.requires) (none g c) stop c.requires.values.fits
 
 -- the two leaves in the end
 halves : (g : _) (c : After-share g) → pairs_of c.no_leaf-high.result ≡ [] → AreCutLeaves c.args.key c.args.leaf.now c.share.new.left c.share.new.right
 halves g c empty =
     let leaf = c.args.leaf.now in
     let wide : length leaf.keys ≡ 32 = search rules in
-    let long : length leaf.values.items ≤ length leaf.keys = omega (arith, wide, c.requires.run.fits) in
-    let moved : AreMovedLeaves leaf c.no_leaf-high.result c.share.new.left c.share.new.right = record { left = c.share.ensures.left_run; right = c.share.ensures.right_run; list = c.share.ensures.list } in
+    let long : length leaf.values.items ≤ length leaf.keys = omega (arith, wide, c.requires.values.fits) in
+    let moved : AreMovedLeaves leaf c.no_leaf-high.result c.share.new.left c.share.new.right = record { left = c.share.ensures.left_entries; right = c.share.ensures.right_entries; list = c.share.ensures.list } in
     leaf_cut c.args.key c.count_below-place.result leaf c.no_leaf-high.result _ _ c.requires c.no_leaf-high.ensures.leaf empty (omega (arith, c.ranges.key.fits)) long c.count_below-place.ensures moved c.share.ensures.len
 
 pub count_below-place-requires : goal.count_below-place-requires

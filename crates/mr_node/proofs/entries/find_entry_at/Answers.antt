@@ -1,4 +1,4 @@
-use Rattle.std.proofs.Common.{rules, arith, ◌≡◌, length, get_or, ap, subst, ◌∙◌}
+use Rattle.std.proofs.Common.{rules, arith, ◌≡◌, length, get_or, ap, subst}
 use Rattle.mr_node.specs.Entries.{IsThere}
 use Rattle.mr_node.proofs.EntryLemmas.{there_at, read_value}
 use Rattle.mr_node.proofs.entries.find_entry_at.Goals.{Then-is_at}
@@ -14,7 +14,7 @@ there g c =
 pub returns-then-is_at : goal.returns-then-is_at
 returns-then-is_at g c =
     let r = c.index-as_slice-guess.result in
-    c.value_in.ensures ∙ read_value c.args.key c.args.guess r c.args.leaf.now c.requires (there g (goal.at.returns-then-is_at g c).Then-is_at) (subst (λ xs. r ≡ get_or xs c.args.guess r) c.as_slice.ensures.value c.index-as_slice-guess.is)
+    read_value c.args.key c.args.guess r c.args.leaf.now c.requires (there g (goal.at.returns-then-is_at g c).Then-is_at) (subst (λ xs. r ≡ get_or xs c.args.guess r) c.as_slice.ensures.value c.index-as_slice-guess.is)
 
 pub bounds-as_slice-guess : goal.bounds-as_slice-guess
 bounds-as_slice-guess g c = omega (arith, (there g (goal.at.bounds-as_slice-guess g c).Then-is_at).within, ap length c.as_slice.ensures.value)

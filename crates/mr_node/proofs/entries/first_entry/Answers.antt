@@ -1,6 +1,6 @@
 use Rattle.std.proofs.Common.{rules, arith, ◌≡◌, ◌<◌, length, get_or, sym, subst}
 use Rattle.mr_node.proofs.EntryLemmas.{leaf_rises}
-use Rattle.mr_node.proofs.FirstLemmas.{first_none, first_here, leaf_never_none}
+use Rattle.mr_node.proofs.FirstLemmas.{first_none, first_here}
 use Rattle.mr_node.proofs.entries.first_entry.Goals as goal
 
 pub count_below-place-requires : goal.count_below-place-requires
@@ -9,12 +9,6 @@ count_below-place-requires g c = leaf_rises c.args.leaf.now c.requires
 pub returns-then-place-len : goal.returns-then-place-len
 returns-then-place-len g c = sym (first_none c.args.key c.count_below-place.result c.args.leaf.now c.requires (omega (arith, c.ranges.key)) c.count_below-place.ensures (omega (arith, c.len.ensures.value, c.if-place-len.true)))
 
-pub unreachable-requires : goal.unreachable-requires
-unreachable-requires g c =
-    let r = c.index-as_slice-place.result in
-    let read = subst (λ xs. r ≡ get_or xs c.count_below-place.result r) c.as_slice.ensures.value c.index-as_slice-place.is in
-    leaf_never_none c.count_below-place.result r c.args.leaf.now c.requires (omega (arith, c.len.ensures.value, c.if-place-len.false)) read c.in-None.is
-
 pub returns : goal.returns
 returns g c =
     let leaf = c.args.leaf.now in
@@ -22,4 +16,4 @@ returns g c =
     let read = subst (λ xs. r ≡ get_or xs c.count_below-place.result r) c.as_slice.ensures.value c.index-as_slice-place.is in
     let long : length leaf.keys ≡ 32 = search rules in
     let lt : c.count_below-place.result < length leaf.values.items = omega (arith, c.len.ensures.value, c.if-place-len.false) in
-    sym (first_here c.args.key c.count_below-place.result r c.in-Some.value leaf c.requires (omega (arith, c.ranges.key)) c.count_below-place.ensures lt (omega (arith, lt, long, c.requires.run.fits)) read c.in-Some.is)
+    sym (first_here c.args.key c.count_below-place.result r leaf c.requires (omega (arith, c.ranges.key)) c.count_below-place.ensures lt (omega (arith, lt, long, c.requires.values.fits)) read)

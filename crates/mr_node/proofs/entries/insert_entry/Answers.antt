@@ -15,4 +15,4 @@ pub returns-in-Ok-clause-answer : goal.returns-in-Ok-clause-answer
 returns-in-Ok-clause-answer g c = room_exists c.args.key c.in-Ok.field-0 c.args.value.now c.args.leaf.now c.requires.leaf c.in-Ok.ensures c.requires.some
 
 pub returns-else-is_full-clause-answer : goal.returns-else-is_full-clause-answer
-returns-else-is_full-clause-answer g c = room_done c.args.key c.in-Err.place c.args.value.now c.args.leaf.now _ c.in-Err.ensures c.put_entry.ensures.grown
+returns-else-is_full-clause-answer g c = room_done c.args.key c.in-Err.place c.args.value.now c.args.leaf.now _ c.in-Err.ensures c.take_in.ensures.grown

@@ -1,24 +1,21 @@
-use Rattle.std.proofs.Common.{rules, ◌≡◌, length, set, [], ◌∷◌, ◌++◌, refl, ap, ◌∙◌}
-use Rattle.std.specs.List.{insert}
+use Rattle.std.proofs.Common.{rules, ◌≡◌, length, set, refl, ◌∙◌}
 use Rattle.mr_node.proofs.EntryLemmas.{IsPut, leaf_put, leaf_pushed}
 use Rattle.mr_node.proofs.entries.put_entry.Goals as goal
 use Rattle.mr_node.proofs.entries.put_entry.Goals.{After-insert, After-push}
 
 -- the row went in between others
-inserted : (g : _) (c : After-insert g) → IsPut c.args.key c.args.value.now c.args.leaf.now (record { keys = c.put_key.new.keys; values = c.insert.new.self })
+inserted : (g : _) (c : After-insert g) → IsPut c.args.key c.args.value c.args.leaf.now (record { keys = c.put_key.new.keys; values = c.insert.new.self })
 inserted g c =
     let leaf = c.args.leaf.now in
     let long : length leaf.keys ≡ 32 = search rules in
-    let items : c.insert.new.self.items ≡ insert leaf.values.items c.args.place c.args.value.now = c.insert.ensures.items ∙ ap (insert leaf.values.items c.args.place) c.take-2.ensures.value in
-    leaf_put c.args.key c.args.place c.args.value.now leaf _ c.requires.leaf c.requires.free long c.requires.room c.requires.small c.requires.some c.put_key.ensures items
+    leaf_put c.args.key c.args.place c.args.value leaf _ c.requires.leaf c.requires.free long c.requires.room c.requires.small c.put_key.ensures c.insert.ensures.items
 
 -- and behind all others
-pushed : (g : _) (c : After-push g) → IsPut c.args.key c.args.value.now c.args.leaf.now (record { keys = set c.args.leaf.now.keys c.args.place c.args.key; values = c.push.new.self })
+pushed : (g : _) (c : After-push g) → IsPut c.args.key c.args.value c.args.leaf.now (record { keys = set c.args.leaf.now.keys c.args.place c.args.key; values = c.push.new.self })
 pushed g c =
     let leaf = c.args.leaf.now in
     let long : length leaf.keys ≡ 32 = search rules in
-    let items : c.push.new.self.items ≡ leaf.values.items ++ (c.args.value.now ∷ []) = c.push.ensures.items ∙ ap (λ o. leaf.values.items ++ (o ∷ [])) c.take.ensures.value in
-    leaf_pushed c.args.key c.args.place c.args.value.now leaf _ c.requires.leaf c.requires.free long c.requires.room c.requires.small c.requires.some (c.if-place-len.true ∙ c.len.ensures.value) refl items
+    leaf_pushed c.args.key c.args.place c.args.value leaf _ c.requires.leaf c.requires.free long c.requires.room c.requires.small (c.if-place-len.true ∙ c.len.ensures.value) refl c.push.ensures.items
 
 pub returns-clause-leaf : goal.returns-clause-leaf
 returns-clause-leaf g c = (inserted g c).0

@@ -1,11 +1,11 @@
 use Rattle.std.proofs.Common.{rules, is_some, sym, ap, refl}
 use Rattle.mr_node.specs.Levels.{pairs_of}
-use Rattle.mr_node.proofs.EntryLemmas.{missing_value, there_some}
+use Rattle.mr_node.proofs.EntryLemmas.{missing_value}
 use Rattle.mr_node.proofs.ReviseLemmas.{revised_none, spent_none, leaf_revised, leaf_spent, leaf_found}
 use Rattle.mr_node.proofs.entries.revise_entry.Goals as goal
 
 pub revise_in-requires : goal.revise_in-requires
-revise_in-requires g c = (search rules, (c.in-Ok.ensures.within, there_some c.args.key c.in-Ok.place c.args.leaf.now c.requires c.in-Ok.ensures))
+revise_in-requires g c = (search rules, c.in-Ok.ensures.within)
 
 pub returns-in-Ok-clause-rows : goal.returns-in-Ok-clause-rows
 returns-in-Ok-clause-rows g c = (leaf_revised c.args.key c.in-Ok.place (g.E.Revise.revised c.args.edit.now) c.args.leaf.now _ c.requires c.in-Ok.ensures refl c.revise_in.ensures.items).1

@@ -1,6 +1,6 @@
 use Rattle.std.proofs.Common.{rules, ◌≡◌, length, refl}
 use Rattle.mr_node.specs.Entries.{IsThere}
-use Rattle.mr_node.proofs.EntryLemmas.{there_at, there_some}
+use Rattle.mr_node.proofs.EntryLemmas.{there_at}
 use Rattle.mr_node.proofs.ReviseLemmas.{leaf_revised, leaf_spent, leaf_found}
 use Rattle.mr_node.proofs.entries.revise_entry_at.Goals.{Then-is_at}
 use Rattle.mr_node.proofs.entries.revise_entry_at.Goals as goal
@@ -15,7 +15,7 @@ there g c =
 pub revise_in-requires : goal.revise_in-requires
 revise_in-requires g c =
     let here = there g (goal.at.revise_in-requires g c).Then-is_at in
-    (search rules, (here.within, there_some c.args.key c.args.guess c.args.leaf.now c.requires here))
+    (search rules, here.within)
 
 pub returns-then-is_at-clause-rows : goal.returns-then-is_at-clause-rows
 returns-then-is_at-clause-rows g c =

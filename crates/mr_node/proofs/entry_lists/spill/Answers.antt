@@ -13,4 +13,4 @@ loop-left-preserved g c =
     let given = c.give_last.ensures in
     let many : c.args.low < length (g.R.EntryList.list c.loop-left.left) = omega (arith, c.width.ensures, c.loop-left-test.true) in
     let step = spill_step c.args.low (g.R.EntryList.list c.args.left.now) (g.R.EntryList.list c.args.right.now) (g.R.EntryList.list c.loop-left.left) (g.R.EntryList.list c.loop-left.right) (g.R.EntryList.list c.give_last.new.self) (g.R.EntryList.list c.give_last.new.to) kept.2 kept.3 many given.rest given.moved in
-    (given.run, given.to_run, step.0, step.1, step.2, given.height ∙ kept.5, given.to_height ∙ kept.6)
+    (given.entries, given.to_entries, step.0, step.1, step.2, given.height ∙ kept.5, given.to_height ∙ kept.6)

@@ -11,7 +11,7 @@ pub child_place-place-requires : goal.child_place-place-requires
 child_place-place-requires g c =
     let b = c.args.inner.now in
     let whole = c.requires.inner in
-    (search rules, (whole.some, (whole.run, (children_rise b whole, children_below b whole))))
+    (search rules, (whole.some, (whole.entries, (children_rise b whole, children_below b whole))))
 
 pub returns-then-child_width-lt32-clause-same : goal.returns-then-child_width-lt32-clause-same
 returns-then-child_width-lt32-clause-same g c = same_alone c.args.inner.now c.requires.inner
@@ -32,7 +32,7 @@ cut : (g : _) (c : After-share_or_split-low g) → (k : NodeChild g.row.V.Denot)
 cut g c =
     let b = c.args.inner.now in
     let i = c.child_place-place.result in
-    let some = packed_some b.len i b.children c.requires.inner.run.packed c.child_place-place.ensures.within in
+    let some = packed_some b.len i b.children c.requires.inner.entries.packed c.child_place-place.ensures.within in
     (child_at b i some.0, cut_child c.args.key i b some.0 c.requires.inner c.child_place-place.ensures some.1)
 
 next : (g : _) (c : After-share_or_split-low g) → IsReadAs (c.share_or_split-low.result + 1) c.share_or_split-low.new.inner c.share_or_split-low.ensures.parted.high

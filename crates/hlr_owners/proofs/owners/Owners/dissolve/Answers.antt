@@ -15,13 +15,13 @@ pub lend-requires : goal.lend-requires
 lend-requires c =
     dissolved_home _ c.self.invariant.0 _ _ c.in_ok-i.ensures.answer _ c.in_ok-i.ensures.index c.in-Part.part_owner c.in-Part.ensures.value c.in-Part-index_mut.front (rw (c.in-Part-index_mut.is, c.remove.ensures.items) at c.index_mut.ensures.value) (rw (← c.self.view_is) at c.requires.home)
 
-pub dissolve-merged-requires-clause-home : goal.dissolve-merged-requires-clause-home
-dissolve-merged-requires-clause-home c =
+pub holding_mut-requires : goal.holding_mut-requires
+holding_mut-requires c =
     dissolver_home _ c.self.invariant.0 _ _ c.in_ok-i.ensures.answer _ c.in_ok-i.ensures.index c.in-Part.part_owner c.in-Part.ensures.value c.in-Part-index_mut.front (rw (c.in-Part-index_mut.is, c.remove.ensures.items) at c.index_mut.ensures.value) (rw (← c.self.view_is) at c.requires.home)
 
 pub dissolve-merged-requires-clause-width : goal.dissolve-merged-requires-clause-width
 dissolve-merged-requires-clause-width c =
-    rw c.lend.ensures.holding (dissolver_width _ c.self.invariant.0 _ _ c.in_ok-i.ensures.answer _ c.in_ok-i.ensures.index c.in-Part.part_owner c.in-Part.ensures.value c.in-Part-index_mut.front (rw (c.in-Part-index_mut.is, c.remove.ensures.items) at c.index_mut.ensures.value))
+    rw (c.lend.ensures.holding, c.holding_mut.ensures.value) (dissolver_width _ c.self.invariant.0 _ _ c.in_ok-i.ensures.answer _ c.in_ok-i.ensures.index c.in-Part.part_owner c.in-Part.ensures.value c.in-Part-index_mut.front (rw (c.in-Part-index_mut.is, c.remove.ensures.items) at c.index_mut.ensures.value))
 
 pub dissolve-merged-requires-clause-board : goal.dissolve-merged-requires-clause-board
 dissolve-merged-requires-clause-board c =
@@ -39,7 +39,7 @@ join-requires-clause-other c =
 
 pub invariant_of-self : goal.invariant_of-self
 invariant_of-self c =
-    let again = part_again _ c.self.invariant.0 _ _ c.in_ok-i.ensures.answer _ c.in_ok-i.ensures.index c.in-Part.part_owner c.in-Part.ensures.value c.in-Part-index_mut.front (rw (c.in-Part-index_mut.is, c.remove.ensures.items) at c.index_mut.ensures.value) c.dissolve-merged.new.self c.of.result c.in-Err.ensures.refused.1
+    let again = part_again _ c.self.invariant.0 _ _ c.in_ok-i.ensures.answer _ c.in_ok-i.ensures.index c.in-Part.part_owner c.in-Part.ensures.value c.in-Part-index_mut.front (rw (c.in-Part-index_mut.is, c.remove.ensures.items) at c.index_mut.ensures.value) c.dissolve-merged.new.self c.of.result (rw c.holding_mut.ensures.value at c.in-Err.ensures.refused.1)
     (c.of.ensures.0 ∙ (ap (λ b. b.value) c.in-Err.ensures.refused.0 ∙ c.lend.ensures.holding)) c.of.ensures.1 (rw (← c.self.view_is) at c.requires.home) in
     let longer = c.insert_reserved.ensures.capacity in
     let long = c.remove.ensures.capacity in
@@ -47,9 +47,9 @@ invariant_of-self c =
 
 pub returns-in-Err : goal.returns-in-Err
 returns-in-Err c =
-    let again = part_again _ c.self.invariant.0 _ _ c.in_ok-i.ensures.answer _ c.in_ok-i.ensures.index c.in-Part.part_owner c.in-Part.ensures.value c.in-Part-index_mut.front (rw (c.in-Part-index_mut.is, c.remove.ensures.items) at c.index_mut.ensures.value) c.dissolve-merged.new.self c.of.result c.in-Err.ensures.refused.1
+    let again = part_again _ c.self.invariant.0 _ _ c.in_ok-i.ensures.answer _ c.in_ok-i.ensures.index c.in-Part.part_owner c.in-Part.ensures.value c.in-Part-index_mut.front (rw (c.in-Part-index_mut.is, c.remove.ensures.items) at c.index_mut.ensures.value) c.dissolve-merged.new.self c.of.result (rw c.holding_mut.ensures.value at c.in-Err.ensures.refused.1)
     (c.of.ensures.0 ∙ (ap (λ b. b.value) c.in-Err.ensures.refused.0 ∙ c.lend.ensures.holding)) c.of.ensures.1 (rw (← c.self.view_is) at c.requires.home) in
-    let meets = rw (← c.lend.ensures.holding) at (dissolver_meets _ c.self.invariant.0 _ _ c.in_ok-i.ensures.answer _ c.in_ok-i.ensures.index c.in-Part.part_owner c.in-Part.ensures.value c.in-Part-index_mut.front (rw (c.in-Part-index_mut.is, c.remove.ensures.items) at c.index_mut.ensures.value)) in
+    let meets = rw (← c.lend.ensures.holding, ← c.holding_mut.ensures.value) at (dissolver_meets _ c.self.invariant.0 _ _ c.in_ok-i.ensures.answer _ c.in_ok-i.ensures.index c.in-Part.part_owner c.in-Part.ensures.value c.in-Part-index_mut.front (rw (c.in-Part-index_mut.is, c.remove.ensures.items) at c.index_mut.ensures.value)) in
     rw (← c.self.view_is, c.insert_reserved.ensures.items, c.remove.ensures.items, again) (record {
       answer = may_refuse _ _ _ _ c.in_ok-i.ensures.answer refl (only_memory _ _ meets c.in-Err.ensures.why);
       after = refl;
@@ -60,15 +60,15 @@ returns-in-Err c =
 pub invariant_of-self-2 : goal.invariant_of-self-2
 invariant_of-self-2 c =
     let all = all_dissolved _ c.self.invariant.0 _ _ c.in_ok-i.ensures.answer _ c.in_ok-i.ensures.index c.in-Part.part_owner c.in-Part.ensures.value _ c.self.invariant.1 c.in-Part-index_mut.front (rw (c.in-Part-index_mut.is, c.remove.ensures.items) at c.index_mut.ensures.value)
-    c.dissolve-merged.new.self _ (rw c.lend.ensures.holding at c.in-Ok.ensures.merged) c.in-Ok.ensures.after (rw c.lend.ensures.holding at c.in-Ok.ensures.other)
-    (rw (← c.self.view_is) at c.requires.home) c.dissolve-merged.ensures.home _ c.join.ensures.both in
+    c.dissolve-merged.new.self _ (rw (c.lend.ensures.holding, c.holding_mut.ensures.value) at c.in-Ok.ensures.merged) c.in-Ok.ensures.after (rw c.lend.ensures.holding at c.in-Ok.ensures.other)
+    (rw (← c.self.view_is) at c.requires.home) _ c.join.ensures.both in
     rw (c.dissolve_at.ensures c.args.part c.in_ok-i.ensures.index, c.remove.ensures.items) (all.ruled, all.desks, rw c.remove.ensures.capacity c.self.invariant.2)
 
 pub returns : goal.returns
 returns c =
     let all = all_dissolved _ c.self.invariant.0 _ _ c.in_ok-i.ensures.answer _ c.in_ok-i.ensures.index c.in-Part.part_owner c.in-Part.ensures.value _ c.self.invariant.1 c.in-Part-index_mut.front (rw (c.in-Part-index_mut.is, c.remove.ensures.items) at c.index_mut.ensures.value)
-    c.dissolve-merged.new.self _ (rw c.lend.ensures.holding at c.in-Ok.ensures.merged) c.in-Ok.ensures.after (rw c.lend.ensures.holding at c.in-Ok.ensures.other)
-    (rw (← c.self.view_is) at c.requires.home) c.dissolve-merged.ensures.home _ c.join.ensures.both in
+    c.dissolve-merged.new.self _ (rw (c.lend.ensures.holding, c.holding_mut.ensures.value) at c.in-Ok.ensures.merged) c.in-Ok.ensures.after (rw c.lend.ensures.holding at c.in-Ok.ensures.other)
+    (rw (← c.self.view_is) at c.requires.home) _ c.join.ensures.both in
     rw (← c.self.view_is, c.dissolve_at.ensures c.args.part c.in_ok-i.ensures.index, c.remove.ensures.items) (record {
       answer = rw c.in_ok-i.ensures.answer (inl refl);
       after = all.store;

@@ -2,7 +2,7 @@ use Rattle.hlr_owners.proofs.Common.{refl, inl, arith, Part}
 use Rattle.hlr_owners.proofs.DivideLemmas.{room_for_part, few_desks, divider_inside, divider_home, all_divided, spare_again}
 use Rattle.hlr_owners.proofs.IndexedLemmas.{set_same}
 use Rattle.hlr_owners.proofs.PartLemmas.{part_has_place, owner_is_part}
-use Rattle.hlr_owners.proofs.PartedDeskLemmas.{has_free, blank}
+use Rattle.hlr_owners.proofs.PartDeskLemmas.{has_free, blank}
 use Rattle.hlr_owners.proofs.RefusedLemmas.{only_memory, may_refuse}
 use Rattle.hlr_owners.proofs.owners.Owners.divide.Goals as goal
 
@@ -14,12 +14,12 @@ unreachable-requires c =
 pub index_mut-requires : goal.index_mut-requires
 index_mut-requires c = rw c.self.inside.owners.ok.0 (part_has_place _ c.self.invariant.0 c.args.part _ c.in_ok-i.ensures.index)
 
-pub divide-parted-requires-clause-home : goal.divide-parted-requires-clause-home
-divide-parted-requires-clause-home c =
+pub holding_mut-requires : goal.holding_mut-requires
+holding_mut-requires c =
     divider_home _ c.self.invariant.0 _ _ _ c.in_ok-i.ensures.answer _ c.in_ok-i.ensures.index c.in-Part.part_owner (rw c.in-Part.is at c.index_mut.ensures.value) (rw (← c.self.view_is) at c.requires.home)
 
-pub divide-parted-requires-clause-desk : goal.divide-parted-requires-clause-desk
-divide-parted-requires-clause-desk c = rw c.in_ok-desk.ensures.ok.0 (blank _ _ _ c.self.invariant.1 c.in-Some.slot c.in-Some.ensures.least.0 c.in-Some.ensures.least.1)
+pub divide-divided-requires : goal.divide-divided-requires
+divide-divided-requires c = rw c.in_ok-desk.ensures.ok.0 (blank _ _ _ c.self.invariant.1 c.in-Some.slot c.in-Some.ensures.least.0 c.in-Some.ensures.least.1)
 
 pub unreachable-requires-in-Piece : goal.unreachable-requires-in-Piece
 unreachable-requires-in-Piece c = owner_is_part _ c.self.invariant.0 c.args.part _ c.in_ok-i.ensures.index c.in-Piece.field-0 (rw c.in-Piece.is at c.index_mut.ensures.value)
@@ -29,7 +29,7 @@ invariant_of-self-in-Err c =
     let is = rw c.in-Part.is at c.index_mut.ensures.value in
     let spare = spare_again _ c.self.invariant.0 _ _ _ c.in_ok-i.ensures.answer _ c.in_ok-i.ensures.index c.in-Part.part_owner is _ c.self.invariant.1 c.in-Some.slot c.in-Some.ensures.least.0 c.in-Some.ensures.least.1
     c.in_ok-desk.ensures.once _ _ _ _ c.in_ok-desk.ensures.ok.0 c.in_ok-desk.ensures.ok.1 c.in-Err.ensures.refused.0 c.join.ensures.both in
-    rw (c.in-Err.ensures.refused.1, set_same c.self.inside.owners.items c.in_ok-i.i (Part c.in-Part.part_owner) is, spare) c.self.invariant
+    rw (c.in-Err.ensures.refused.1, c.holding_mut.ensures.value, set_same c.self.inside.owners.items c.in_ok-i.i (Part c.in-Part.part_owner) is, spare) c.self.invariant
 
 pub returns-in-Err : goal.returns-in-Err
 returns-in-Err c =
@@ -37,8 +37,8 @@ returns-in-Err c =
     let inside = divider_inside _ c.self.invariant.0 _ _ _ c.in_ok-i.ensures.answer _ c.in_ok-i.ensures.index c.in-Part.part_owner is in
     let spare = spare_again _ c.self.invariant.0 _ _ _ c.in_ok-i.ensures.answer _ c.in_ok-i.ensures.index c.in-Part.part_owner is _ c.self.invariant.1 c.in-Some.slot c.in-Some.ensures.least.0 c.in-Some.ensures.least.1
     c.in_ok-desk.ensures.once _ _ _ _ c.in_ok-desk.ensures.ok.0 c.in_ok-desk.ensures.ok.1 c.in-Err.ensures.refused.0 c.join.ensures.both in
-    rw (← c.self.view_is, c.in-Err.ensures.refused.1, set_same c.self.inside.owners.items c.in_ok-i.i (Part c.in-Part.part_owner) is, spare) (record {
-      answer = may_refuse _ _ _ _ c.in_ok-i.ensures.answer refl (only_memory _ _ inside c.in-Err.ensures.why);
+    rw (← c.self.view_is, c.in-Err.ensures.refused.1, c.holding_mut.ensures.value, set_same c.self.inside.owners.items c.in_ok-i.i (Part c.in-Part.part_owner) is, spare) (record {
+      answer = may_refuse _ _ _ _ c.in_ok-i.ensures.answer refl (only_memory _ _ inside (rw c.holding_mut.ensures.value at c.in-Err.ensures.why));
       after = refl;
       homes = refl;
       while_out = λ ks become. refl;
@@ -63,17 +63,17 @@ insert_reserved-requires-clause-room c =
 pub invariant_of-self-2 : goal.invariant_of-self-2
 invariant_of-self-2 c =
     let all = all_divided _ c.self.invariant.0 _ _ _ c.in_ok-i.ensures.answer _ c.in_ok-i.ensures.index c.in-Part.part_owner (rw c.in-Part.is at c.index_mut.ensures.value)
-    _ c.self.invariant.1 c.in-Some.slot c.in-Some.ensures.least.0 c.in-Some.ensures.least.1 c.divide-parted.new.self c.of.result _
-    (rw (← c.of.ensures.0) at c.in-Ok.ensures.parted) (rw (← c.of.ensures.0) at c.in-Ok.ensures.new) c.in-Ok.ensures.after c.in_ok-desk.ensures.ok.0
-    (rw (← c.self.view_is) at c.requires.home) c.divide-parted.ensures.home c.of.ensures.1 _ c.in_ok-desk.ensures.ok.1 in
+    _ c.self.invariant.1 c.in-Some.slot c.in-Some.ensures.least.0 c.in-Some.ensures.least.1 c.divide-divided.new.self c.of.result _
+    (rw (← c.of.ensures.0, c.holding_mut.ensures.value) at c.in-Ok.ensures.divided) (rw (← c.of.ensures.0) at c.in-Ok.ensures.new) c.in-Ok.ensures.after c.in_ok-desk.ensures.ok.0
+    (rw (← c.self.view_is) at c.requires.home) c.of.ensures.1 _ c.in_ok-desk.ensures.ok.1 in
     rw (c.divide_at.ensures c.args.part c.in_ok-i.ensures.index, c.insert_reserved.ensures.items) (all.ruled, all.desks, omega (arith, c.self.invariant.2, c.insert_reserved.ensures.capacity))
 
 pub returns : goal.returns
 returns c =
     let all = all_divided _ c.self.invariant.0 _ _ _ c.in_ok-i.ensures.answer _ c.in_ok-i.ensures.index c.in-Part.part_owner (rw c.in-Part.is at c.index_mut.ensures.value)
-    _ c.self.invariant.1 c.in-Some.slot c.in-Some.ensures.least.0 c.in-Some.ensures.least.1 c.divide-parted.new.self c.of.result _
-    (rw (← c.of.ensures.0) at c.in-Ok.ensures.parted) (rw (← c.of.ensures.0) at c.in-Ok.ensures.new) c.in-Ok.ensures.after c.in_ok-desk.ensures.ok.0
-    (rw (← c.self.view_is) at c.requires.home) c.divide-parted.ensures.home c.of.ensures.1 _ c.in_ok-desk.ensures.ok.1 in
+    _ c.self.invariant.1 c.in-Some.slot c.in-Some.ensures.least.0 c.in-Some.ensures.least.1 c.divide-divided.new.self c.of.result _
+    (rw (← c.of.ensures.0, c.holding_mut.ensures.value) at c.in-Ok.ensures.divided) (rw (← c.of.ensures.0) at c.in-Ok.ensures.new) c.in-Ok.ensures.after c.in_ok-desk.ensures.ok.0
+    (rw (← c.self.view_is) at c.requires.home) c.of.ensures.1 _ c.in_ok-desk.ensures.ok.1 in
     rw (← c.self.view_is, c.divide_at.ensures c.args.part c.in_ok-i.ensures.index, c.insert_reserved.ensures.items) (record {
       answer = rw c.in_ok-i.ensures.answer (inl refl);
       after = all.store;

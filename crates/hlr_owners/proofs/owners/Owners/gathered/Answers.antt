@@ -1,4 +1,4 @@
-use Rattle.hlr_owners.proofs.Common.{◌∙◌, ap, List, arith, Box, Global, length-map, HoldingState, PieceState, unboxed, AreRuled, store_in, unposted, RegionOwner}
+use Rattle.hlr_owners.proofs.Common.{◌∙◌, ap, List, arith, Box, Global, length-map, HoldingState, PieceState, unboxed, AreOwners, store_in, unposted, RegionOwner}
 use Rattle.hlr_owners.proofs.ApartFitLemmas.{do_fit, gathered_desks}
 use Rattle.hlr_owners.proofs.ApartLemmas.{desks_from}
 use Rattle.hlr_owners.proofs.ApartStoreLemmas.{ruled_from, store_from_owners, pending_from}
@@ -8,7 +8,7 @@ use Rattle.hlr_owners.proofs.SumLemmas.{unposted_is}
 use Rattle.hlr_owners.proofs.owners.Owners.gathered.Goals as goal
 
 -- the rules of the owners
-ruled : (c : goal.After-owners_of) → AreRuled (record { regions = c.prepared.inside.regions; owners = c.owners_of.result.items; spare = c.args.scattered.frame.spare; width = c.args.scattered.frame.width })
+ruled : (c : goal.After-owners_of) → AreOwners (record { regions = c.prepared.inside.regions; owners = c.owners_of.result.items; spare = c.args.scattered.frame.spare; width = c.args.scattered.frame.width })
 ruled c =
     let is = c.requires.surveyed in
     rw (c.owners_of.ensures.owners, c.prepared.view_is, is.over)

@@ -4,23 +4,23 @@ use Rattle.hlr_owners.proofs.HomeLemmas.{each_home}
 use Rattle.hlr_owners.proofs.SumLemmas.{unposted_is}
 use Rattle.hlr_owners.proofs.owners.Owners.scatter.Goals as goal
 
-pub parted-holdings-requires-clause-home : goal.parted-holdings-requires-clause-home
-parted-holdings-requires-clause-home c = each_home _ (rw (← c.self.view_is) at c.requires.home)
+pub split_owners-holdings-requires-clause-home : goal.split_owners-holdings-requires-clause-home
+split_owners-holdings-requires-clause-home c = each_home _ (rw (← c.self.view_is) at c.requires.home)
 
-pub parted-holdings-requires-clause-room : goal.parted-holdings-requires-clause-room
-parted-holdings-requires-clause-room c =
+pub split_owners-holdings-requires-clause-room : goal.split_owners-holdings-requires-clause-room
+split_owners-holdings-requires-clause-room c =
     let few = few_again _ c.self.invariant.0 (rw (← c.self.view_is) at c.requires.home) in
     omega (arith, few.1, c.rooms.invariant.2)
 
-pub parted-holdings-requires-clause-room_for_pieces : goal.parted-holdings-requires-clause-room_for_pieces
-parted-holdings-requires-clause-room_for_pieces c =
+pub split_owners-holdings-requires-clause-room_for_pieces : goal.split_owners-holdings-requires-clause-room_for_pieces
+split_owners-holdings-requires-clause-room_for_pieces c =
     let few = few_again _ c.self.invariant.0 (rw (← c.self.view_is) at c.requires.home) in
     omega (arith, few.2, c.rooms.invariant.3)
 
 pub returns : goal.returns
 returns c =
     let home = rw (← c.self.view_is) at c.requires.home in
-    rw (← c.self.view_is, c.parted-holdings.ensures.holdings, c.parted-holdings.ensures.pieces) (record {
+    rw (← c.self.view_is, c.split_owners-holdings.ensures.holdings, c.split_owners-holdings.ensures.pieces) (record {
       holdings = refl;
       pieces = refl;
       store = rw (again _ c.self.invariant.0 home) refl;

@@ -1,5 +1,5 @@
 use Rattle.hlr_core.proofs.HomeLemmas.{desk_after}
-use Rattle.hlr_workers.proofs.PartedLemmas.{applied, spare_after}
+use Rattle.hlr_workers.proofs.WorkersChangeLemmas.{applied, spare_after}
 use Rattle.hlr_workers.proofs.workers.Workers.apply.Goals as goal
 
 pub part_workers-requires : goal.part_workers-requires
@@ -13,8 +13,8 @@ invariant_of-self c =
     rw c.part_workers.ensures
     (applied c.args.self.now c.self.inside.register c.self.inside.by_part.items c.self.view_is c.board-board.ensures.ruled c.self.invariant c.args.event did.result did.new.self c.requires did.ensures.step did.ensures.homes).each
 
-pub returns-clause-parted : goal.returns-clause-parted
-returns-clause-parted c =
+pub returns-clause-changed : goal.returns-clause-changed
+returns-clause-changed c =
     let did = c.apply-reply in
     rw c.part_workers.ensures
     (applied c.args.self.now c.self.inside.register c.self.inside.by_part.items c.self.view_is c.board-board.ensures.ruled c.self.invariant c.args.event did.result did.new.self c.requires did.ensures.step did.ensures.homes).now

@@ -2,7 +2,7 @@ use Rattle.std.proofs.Common.{◌≡◌, ◌+ℤ◌, arith, pos, subst, sym}
 use Rattle.std.proofs.lemmas.Int.{ints}
 use Rattle.tatp_actions.specs.Cell.{cell}
 use Rattle.view_board.specs.Nets.{net_of}
-use Rattle.view_delta.specs.Pending.{pending_at}
+use Rattle.view_delta.specs.Pending.{delta_at}
 use Rattle.holding.proofs.HeldLemmas.{change_fits}
 use Rattle.holding.proofs.holding.Holding.act.Goals as goal
 
@@ -13,7 +13,7 @@ pub invariant_of-self : goal.invariant_of-self
 invariant_of-self g c = record {
   rules = c.act-reply.ensures.after;
   slot = c.self.invariant.slot;
-  law = λ at lt. subst (λ width. net_of c.self.inside.desk.view at +ℤ pending_at c.note.new.self at ≡ pos (cell width at c.act-reply.new.self.book)) (sym c.act-reply.ensures.range.2) (omega (arith, ints, c.act-reply.ensures.change at lt, c.note.ensures at lt, c.self.invariant.law at lt));
+  law = λ at lt. subst (λ width. net_of c.self.inside.desk.view at +ℤ delta_at c.note.new.self at ≡ pos (cell width at c.act-reply.new.self.book)) (sym c.act-reply.ensures.range.2) (omega (arith, ints, c.act-reply.ensures.change at lt, c.note.ensures at lt, c.self.invariant.law at lt));
   small = c.self.invariant.small;
   wide = c.self.invariant.wide;
 }

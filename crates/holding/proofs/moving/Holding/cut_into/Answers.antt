@@ -1,7 +1,7 @@
 use Rattle.std.proofs.Common.{◌∙◌, ap, sym, refl}
 use Rattle.std.specs.Prelude.{ℤ, ◌-ℤ◌}
 use Rattle.holding.proofs.MovedLemmas.{differences_fit, left, divided, counts_pending, are_piece}
-use Rattle.view_delta.specs.Pending.{pending_at}
+use Rattle.view_delta.specs.Pending.{delta_at}
 use Rattle.holding.proofs.moving.Holding.cut_into.Goals as goal
 
 pub subtract-requires : goal.subtract-requires
@@ -17,7 +17,7 @@ returns-clause-given c = rw (← c.self.view_is) (record {
   inside = rw (← c.self.view_is) at c.requires;
   given = c.in_ok-slice_into.ensures.given;
   kept = c.in_ok-slice_into.ensures.kept;
-  less = λ k below. c.subtract.ensures k below ∙ ap (λ (z : ℤ). pending_at c.self.inside.pending k -ℤ z) (sym (counts_pending _ k));
+  less = λ k below. c.subtract.ensures k below ∙ ap (λ (z : ℤ). delta_at c.self.inside.pending k -ℤ z) (sym (counts_pending _ k));
   desk = refl;
   slot = refl;
 })

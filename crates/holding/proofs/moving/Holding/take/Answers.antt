@@ -1,5 +1,5 @@
 use Rattle.std.proofs.Common.{◌∙◌}
-use Rattle.holding.proofs.PartedLemmas.{box_same}
+use Rattle.holding.proofs.FillLemmas.{box_same}
 use Rattle.holding.proofs.moving.Holding.take.Goals as goal
 
 pub returns-in-Err-clause-refused : goal.returns-in-Err-clause-refused

@@ -3,7 +3,7 @@ use Rattle.std.specs.Prelude.{ℤ, pos}
 use Rattle.tatp_rows.proofs.BlankLemmas.{blank_at}
 use Rattle.tatp_actions.specs.declared.cells.TheConstants.{CELLS}
 use Rattle.tatp_actions.specs.Part.{PartState}
-use Rattle.holding.proofs.PartedLemmas.{alone_least, emptied}
+use Rattle.holding.proofs.FillLemmas.{alone_least, emptied}
 use Rattle.holding.proofs.parting.Holding.absorb.Goals as goal
 
 pub withdraw-requires-clause-alone : goal.withdraw-requires-clause-alone

@@ -2,8 +2,8 @@ use Rattle.std.proofs.Common.{◌∙◌, ap}
 use Rattle.holding.specs.Held.{HoldingState}
 use Rattle.holding.proofs.parting.Holding.divide.Goals as goal
 
-pub returns-in-Ok-fill-clause-parted : goal.returns-in-Ok-fill-clause-parted
-returns-in-Ok-fill-clause-parted c =
+pub returns-in-Ok-fill-clause-divided : goal.returns-in-Ok-fill-clause-divided
+returns-in-Ok-fill-clause-divided c =
     let was = ap (λ (h : HoldingState). h.desk) c.deref_mut.ensures.value in
     record {
       given = c.in-Ok-fill.ensures.given;

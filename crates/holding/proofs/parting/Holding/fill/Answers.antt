@@ -1,7 +1,7 @@
 use Rattle.std.proofs.Common.{refl, arith}
 use Rattle.std.proofs.lemmas.Int.{ints}
 use Rattle.holding.proofs.MovedLemmas.{sums_fit, counts_of, counts_pending}
-use Rattle.holding.proofs.PartedLemmas.{filled, given_to, counted_by}
+use Rattle.holding.proofs.FillLemmas.{filled, given_to, counted_by}
 use Rattle.holding.proofs.parting.Holding.fill.Goals as goal
 
 pub add-requires : goal.add-requires

@@ -4,7 +4,7 @@ use Rattle.std.specs.Int.{w128}
 use Rattle.std.proofs.lemmas.Int.{ints, to_z-of_z}
 use Rattle.std.proofs.lemmas.List.{length-set}
 use Rattle.view_board.specs.Nets.{net_of}
-use Rattle.view_delta.specs.Pending.{pending_at}
+use Rattle.view_delta.specs.Pending.{delta_at}
 use Rattle.holding.specs.Held.{count_of}
 use Rattle.holding.proofs.HeldLemmas.{pending_small, one_told}
 use Rattle.holding.proofs.parting.Holding.pending_with.Goals as goal
@@ -32,5 +32,5 @@ loop-cell-preserved c =
     let made = rw (to_z-of_z w64 c.pending.result first, to_z-of_z w64 c.pending-in-loop-cell.result second, c.from.ensures, net, to_z-of_z w128 _ wide, c.pending.ensures.value, c.pending-in-loop-cell.ensures.value, law) at c.raised.ensures in
     record {
       wide = length-set _ _ _ ∙ c.loop-cell.invariant.wide;
-      told = one_told (λ (k : ℕ). pending_at c.args.self.now.pending k +ℤ pos (count_of c.args.other.now.part k)) c.loop-cell.deltas cell _ _ c.loop-cell.invariant.wide c.loop-cell-test.true c.from-in-loop-cell.ensures (to_z-of_z w64 c.raised.result last ∙ made) c.loop-cell.invariant.told;
+      told = one_told (λ (k : ℕ). delta_at c.args.self.now.pending k +ℤ pos (count_of c.args.other.now.part k)) c.loop-cell.deltas cell _ _ c.loop-cell.invariant.wide c.loop-cell-test.true c.from-in-loop-cell.ensures (to_z-of_z w64 c.raised.result last ∙ made) c.loop-cell.invariant.told;
     }

@@ -1,12 +1,12 @@
 use Rattle.std.proofs.Common.{◌≡◌, ℕ, ◌<◌, length}
 use Rattle.std.specs.Prelude.{pos, ◌+ℤ◌}
 use Rattle.tatp_actions.specs.declared.cells.TheConstants.{CELLS}
-use Rattle.view_delta.specs.Pending.{pending_at}
+use Rattle.view_delta.specs.Pending.{delta_at}
 use Rattle.holding.specs.Held.{count_of}
 use Rattle.holding.proofs.parting.Holding.pending_with.Given as goal
 
 abbrev pub invariant-loop-cell : goal.invariant-loop-cell
 invariant-loop-cell l = record {
   wide : length l.deltas ≡ CELLS;
-  told : (c : ℕ) → c < l.cell → pending_at l.deltas c ≡ pending_at l.self.pending c +ℤ pos (count_of l.other.part c);
+  told : (c : ℕ) → c < l.cell → delta_at l.deltas c ≡ delta_at l.self.pending c +ℤ pos (count_of l.other.part c);
 }

@@ -1,6 +1,6 @@
 use Rattle.std.proofs.Common.{rules, arith, ◌≡◌, ◌+◌, ◌-◌, length, get_or, set}
 use Rattle.mr_node.specs.EntryLists.{no_key, entries}
-use Rattle.mr_node.proofs.EntryListLemmas.{run_length}
+use Rattle.mr_node.proofs.EntryListLemmas.{entries_length}
 use Rattle.mr_node.proofs.ShareLemmas.{IsGiven, inner_given}
 use Rattle.mr_node.proofs.entry_lists.InnerEntryList.give_last.Goals.{After-take}
 use Rattle.mr_node.proofs.entry_lists.InnerEntryList.give_last.Goals as goal
@@ -13,29 +13,29 @@ given g c =
     let t = c.args.to.now in
     let long : length t.leasts ≡ 32 = search rules in
     let wide : length t.children ≡ 32 = search rules in
-    let len = run_length _ _ _ c.requires.run in
-    let room = run_length _ _ _ c.requires.to_run in
-    inner_given b.len (b.len - 1) t.len c.index-self-last.result c.take.new.self c.take.result b.leasts t.leasts b.children t.children (omega (arith, len, c.requires.some)) c.requires.run c.requires.to_run long wide (omega (arith, room, c.requires.room)) c.take.ensures.value c.take.ensures.after
+    let len = entries_length _ _ _ c.requires.entries in
+    let room = entries_length _ _ _ c.requires.to_entries in
+    inner_given b.len (b.len - 1) t.len c.index-self-last.result c.take.new.self c.take.result b.leasts t.leasts b.children t.children (omega (arith, len, c.requires.some)) c.requires.entries c.requires.to_entries long wide (omega (arith, room, c.requires.room)) c.take.ensures.value c.take.ensures.after
 
 pub overflow_sub-self : goal.overflow_sub-self
-overflow_sub-self g c = omega (arith, run_length _ _ _ c.requires.run, c.requires.some)
+overflow_sub-self g c = omega (arith, entries_length _ _ _ c.requires.entries, c.requires.some)
 
 pub bounds-to-to : goal.bounds-to-to
-bounds-to-to g c = omega (arith, run_length _ _ _ c.requires.to_run, c.requires.room)
+bounds-to-to g c = omega (arith, entries_length _ _ _ c.requires.to_entries, c.requires.room)
 
 pub listed-2 : goal.listed-2
 listed-2 g c =
     let wide : length c.args.to.now.children ≡ 32 = search rules in
-    omega (arith, run_length _ _ _ c.requires.to_run, c.requires.room, wide)
+    omega (arith, entries_length _ _ _ c.requires.to_entries, c.requires.room, wide)
 
 pub way_replace-to : goal.way_replace-to
-way_replace-to g c = omega (arith, run_length _ _ _ c.requires.to_run, c.requires.room)
+way_replace-to g c = omega (arith, entries_length _ _ _ c.requires.to_entries, c.requires.room)
 
-pub returns-clause-run : goal.returns-clause-run
-returns-clause-run g c = (given g (goal.at.returns-clause-run g c).After-take).0
+pub returns-clause-entries : goal.returns-clause-entries
+returns-clause-entries g c = (given g (goal.at.returns-clause-entries g c).After-take).0
 
-pub returns-clause-to_run : goal.returns-clause-to_run
-returns-clause-to_run g c = (given g (goal.at.returns-clause-to_run g c).After-take).1
+pub returns-clause-to_entries : goal.returns-clause-to_entries
+returns-clause-to_entries g c = (given g (goal.at.returns-clause-to_entries g c).After-take).1
 
 pub returns-clause-rest : goal.returns-clause-rest
 returns-clause-rest g c = (given g (goal.at.returns-clause-rest g c).After-take).2

@@ -1,6 +1,6 @@
 use Rattle.std.proofs.Common.{sym}
-use Rattle.mr_node.proofs.EntryListLemmas.{run_length}
+use Rattle.mr_node.proofs.EntryListLemmas.{entries_length}
 use Rattle.mr_node.proofs.entry_lists.InnerEntryList.width.Goals as goal
 
 pub returns : goal.returns
-returns g c = sym (run_length _ _ _ c.requires)
+returns g c = sym (entries_length _ _ _ c.requires)

@@ -10,14 +10,14 @@ unreachable-requires g t c =
     let inner = c.in-Inner.inner in
     let whole : IsInner inner = subst IsNode c.in-Inner.is c.self.invariant in
     let at = c.child_place-place.ensures in
-    never_none inner.len c.child_place-place.result c.index-inner-place.result inner.children whole.run.packed at.within c.in-None.is
+    never_none inner.len c.child_place-place.result c.index-inner-place.result inner.children whole.entries.packed at.within c.in-None.is
 
 pub returns-in-Some : goal.returns-in-Some
 returns-in-Some g t c =
     let inner = c.in-Inner.inner in
     let whole : IsInner inner = subst IsNode c.in-Inner.is c.self.invariant in
     let at = c.child_place-place.ensures in
-    let got = got_used inner.len c.child_place-place.result c.index-inner-place.result c.in-Some.child inner.children whole.run.packed at.within c.in-Some.is in
+    let got = got_used inner.len c.child_place-place.result c.index-inner-place.result c.in-Some.child inner.children whole.entries.packed at.within c.in-Some.is in
     let now : c.args.self.now ≡ seen_inner inner = sym c.self.view_is ∙ ap seen c.in-Inner.is in
     let below = find_inner c.args.key c.child_place-place.result inner c.in-Some.child whole at got in
     c.find.ensures ∙ ap (λ s. value_at c.args.key s.rows) c.deref.ensures ∙ sym (ap (option_map (λ p. p.1)) below) ∙ sym (ap (λ s. value_at c.args.key s.rows) now)
@@ -26,13 +26,13 @@ pub child_place-place-requires : goal.child_place-place-requires
 child_place-place-requires g t c =
     let inner = c.in-Inner.inner in
     let whole : IsInner inner = subst IsNode c.in-Inner.is c.self.invariant in
-    (search rules, (whole.some, (whole.run, (children_rise inner whole, children_below inner whole))))
+    (search rules, (whole.some, (whole.entries, (children_rise inner whole, children_below inner whole))))
 
 pub listed : goal.listed
-listed g t c = omega (arith, c.child_place-place.ensures.within, packed_fits c.in-Inner.inner.len c.in-Inner.inner.children (subst IsNode c.in-Inner.is c.self.invariant).run.packed)
+listed g t c = omega (arith, c.child_place-place.ensures.within, packed_fits c.in-Inner.inner.len c.in-Inner.inner.children (subst IsNode c.in-Inner.is c.self.invariant).entries.packed)
 
 pub bounds-inner-place : goal.bounds-inner-place
-bounds-inner-place g t c = omega (arith, c.child_place-place.ensures.within, (subst IsNode c.in-Inner.is c.self.invariant).run.fits)
+bounds-inner-place g t c = omega (arith, c.child_place-place.ensures.within, (subst IsNode c.in-Inner.is c.self.invariant).entries.fits)
 
 pub offset_bounds-inner-place : goal.offset_bounds-inner-place
-offset_bounds-inner-place g t c = omega (arith, c.child_place-place.ensures.within, (subst IsNode c.in-Inner.is c.self.invariant).run.fits)
+offset_bounds-inner-place g t c = omega (arith, c.child_place-place.ensures.within, (subst IsNode c.in-Inner.is c.self.invariant).entries.fits)

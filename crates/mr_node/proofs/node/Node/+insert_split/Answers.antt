@@ -25,7 +25,7 @@ cut g t c =
     let mid = c.make_room-place.new.inner in
     let same = c.make_room-place.ensures.same in
     let place = c.make_room-place.ensures.place in
-    cut_of_room c.args.key c.make_room-place.result mid c.in-Some.child same.whole place (got_used mid.len c.make_room-place.result _ c.in-Some.child mid.children same.whole.run.packed place.within c.in-Some.is)
+    cut_of_room c.args.key c.make_room-place.result mid c.in-Some.child same.whole place (got_used mid.len c.make_room-place.result _ c.in-Some.child mid.children same.whole.entries.packed place.within c.in-Some.is)
 
 -- its level below the node
 level : (g : _) (t : _) (c : After-deref_mut-node g t) → IsInner c.in-Inner.inner → c.args.self.now ≡ seen_inner c.in-Inner.inner → c.deref_mut-node.result.now.height + 1 ≡ c.args.self.now.height
@@ -44,7 +44,7 @@ make_room-place-requires g t c =
     (search rules, (search rules, (inner, (omega (arith, ap (λ s. s.width) is, c.requires.room), omega (arith, ap (λ s. s.height) is, inner.above_leaves, c.requires.stock)))))
 
 pub unreachable-requires : goal.unreachable-requires
-unreachable-requires g t c = never_none c.make_room-place.new.inner.len c.make_room-place.result c.index-inner-place.result c.make_room-place.new.inner.children c.make_room-place.ensures.same.whole.run.packed c.make_room-place.ensures.place.within c.in-None.is
+unreachable-requires g t c = never_none c.make_room-place.new.inner.len c.make_room-place.result c.index-inner-place.result c.make_room-place.new.inner.children c.make_room-place.ensures.same.whole.entries.packed c.make_room-place.ensures.place.within c.in-None.is
 
 pub insert_split-requires : goal.insert_split-requires
 insert_split-requires g t c κs within =

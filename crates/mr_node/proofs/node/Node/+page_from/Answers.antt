@@ -16,7 +16,7 @@ now g t c = sym (ap seen c.in-Inner.is) ∙ c.self.view_is
 
 -- the child in turn
 got : (g : _) (t : _) (c : In-Some g t) → IsInner c.in-Inner.inner → get_or c.in-Inner.inner.children c.loop-place.place None ≡ Some c.in-Some.child
-got g t c inner = got_used c.in-Inner.inner.len c.loop-place.place c.index-inner-place.result c.in-Some.child c.in-Inner.inner.children inner.run.packed c.loop-place-test.true c.in-Some.is
+got g t c inner = got_used c.in-Inner.inner.len c.loop-place.place c.index-inner-place.result c.in-Some.child c.in-Inner.inner.children inner.entries.packed c.loop-place-test.true c.in-Some.is
 
 -- its page
 in_child : (g : _) (t : _) (c : After-page_from g t) → IsPage c.args.key c.in-Some.child.node.value.rows c.page_from.new.page.items
@@ -28,12 +28,12 @@ returns-in-Leaf g t c = subst (λ s. IsPage c.args.key s.rows c.page_entries.new
 pub child_place-place-requires : goal.child_place-place-requires
 child_place-place-requires g t c =
     let inner = whole g t (goal.at.child_place-place-requires g t c).In-Inner in
-    (search rules, (inner.some, (inner.run, (children_rise c.in-Inner.inner inner, children_below c.in-Inner.inner inner))))
+    (search rules, (inner.some, (inner.entries, (children_rise c.in-Inner.inner inner, children_below c.in-Inner.inner inner))))
 
 pub unreachable-requires : goal.unreachable-requires
 unreachable-requires g t c =
     let inner = whole g t (goal.at.unreachable-requires g t c).In-Inner in
-    never_none c.in-Inner.inner.len c.loop-place.place c.index-inner-place.result c.in-Inner.inner.children inner.run.packed c.loop-place-test.true c.in-None.is
+    never_none c.in-Inner.inner.len c.loop-place.place c.index-inner-place.result c.in-Inner.inner.children inner.entries.packed c.loop-place-test.true c.in-None.is
 
 pub loop-place-init : goal.loop-place-init
 loop-place-init g t c = (c.requires, none_before c.args.key c.child_place-place.result c.in-Inner.inner (whole g t (goal.at.loop-place-init g t c).In-Inner) c.child_place-place.ensures)
@@ -70,10 +70,10 @@ returns-after-loop-place g t c =
     (page_of_none c.args.key c.loop-place.place c.in-Inner.inner page (whole g t at.In-Inner) c.loop-place-test.false c.loop-place.invariant.0 c.loop-place.invariant.1)
 
 pub listed : goal.listed
-listed g t c = omega (arith, c.loop-place-test.true, packed_fits c.in-Inner.inner.len c.in-Inner.inner.children (whole g t (goal.at.listed g t c).In-Inner).run.packed)
+listed g t c = omega (arith, c.loop-place-test.true, packed_fits c.in-Inner.inner.len c.in-Inner.inner.children (whole g t (goal.at.listed g t c).In-Inner).entries.packed)
 
 pub bounds-inner-place : goal.bounds-inner-place
-bounds-inner-place g t c = omega (arith, c.loop-place-test.true, (whole g t (goal.at.bounds-inner-place g t c).In-Inner).run.fits)
+bounds-inner-place g t c = omega (arith, c.loop-place-test.true, (whole g t (goal.at.bounds-inner-place g t c).In-Inner).entries.fits)
 
 pub offset_bounds-inner-place : goal.offset_bounds-inner-place
-offset_bounds-inner-place g t c = omega (arith, c.loop-place-test.true, (whole g t (goal.at.offset_bounds-inner-place g t c).In-Inner).run.fits)
+offset_bounds-inner-place g t c = omega (arith, c.loop-place-test.true, (whole g t (goal.at.offset_bounds-inner-place g t c).In-Inner).entries.fits)

@@ -18,7 +18,7 @@ now g t c = sym c.self.view_is ∙ ap seen c.in-Inner.is
 
 -- the child to which the key belongs
 got : (g : _) (t : _) (c : In-Some g t) → IsInner c.in-Inner.inner → get_or c.in-Inner.inner.children c.child_place-place.result None ≡ Some c.in-Some.child
-got g t c inner = got_used c.in-Inner.inner.len c.child_place-place.result _ c.in-Some.child c.in-Inner.inner.children inner.run.packed c.child_place-place.ensures.within c.in-Some.is
+got g t c inner = got_used c.in-Inner.inner.len c.child_place-place.result _ c.in-Some.child c.in-Inner.inner.children inner.entries.packed c.child_place-place.ensures.within c.in-Some.is
 
 -- the node with the value changed in that child
 revised : (g : _) (t : _) (c : After-revise g t) → IsInner c.in-Inner.inner → get_or c.in-Inner.inner.children c.child_place-place.result None ≡ Some c.in-Some.child → IsRevisedIn c.args.key c.child_place-place.result (g.E.Revise.revised c.args.edit.now) c.in-Inner.inner c.in-Some.child c.revise.new.self
@@ -27,12 +27,12 @@ revised g t c inner is = revised_inner c.args.key c.child_place-place.result (g.
 pub child_place-place-requires : goal.child_place-place-requires
 child_place-place-requires g t c =
     let inner = whole g t (goal.at.child_place-place-requires g t c).In-Inner in
-    (search rules, (inner.some, (inner.run, (children_rise c.in-Inner.inner inner, children_below c.in-Inner.inner inner))))
+    (search rules, (inner.some, (inner.entries, (children_rise c.in-Inner.inner inner, children_below c.in-Inner.inner inner))))
 
 pub unreachable-requires : goal.unreachable-requires
 unreachable-requires g t c =
     let inner = whole g t (goal.at.unreachable-requires g t c).In-Inner in
-    never_none c.in-Inner.inner.len c.child_place-place.result _ c.in-Inner.inner.children inner.run.packed c.child_place-place.ensures.within c.in-None.is
+    never_none c.in-Inner.inner.len c.child_place-place.result _ c.in-Inner.inner.children inner.entries.packed c.child_place-place.ensures.within c.in-None.is
 
 pub invariant_of-self-in-Inner : goal.invariant_of-self-in-Inner
 invariant_of-self-in-Inner g t c =
@@ -80,10 +80,10 @@ returns-in-Some-clause-found g t c =
     c.revise.ensures.found ∙ ap is_some same
 
 pub listed : goal.listed
-listed g t c = omega (arith, c.child_place-place.ensures.within, packed_fits c.in-Inner.inner.len c.in-Inner.inner.children (whole g t (goal.at.listed g t c).In-Inner).run.packed)
+listed g t c = omega (arith, c.child_place-place.ensures.within, packed_fits c.in-Inner.inner.len c.in-Inner.inner.children (whole g t (goal.at.listed g t c).In-Inner).entries.packed)
 
 pub bounds-inner-place : goal.bounds-inner-place
-bounds-inner-place g t c = omega (arith, c.child_place-place.ensures.within, (whole g t (goal.at.bounds-inner-place g t c).In-Inner).run.fits)
+bounds-inner-place g t c = omega (arith, c.child_place-place.ensures.within, (whole g t (goal.at.bounds-inner-place g t c).In-Inner).entries.fits)
 
 pub offset_bounds-inner-place : goal.offset_bounds-inner-place
-offset_bounds-inner-place g t c = omega (arith, c.child_place-place.ensures.within, (whole g t (goal.at.offset_bounds-inner-place g t c).In-Inner).run.fits)
+offset_bounds-inner-place g t c = omega (arith, c.child_place-place.ensures.within, (whole g t (goal.at.offset_bounds-inner-place g t c).In-Inner).entries.fits)

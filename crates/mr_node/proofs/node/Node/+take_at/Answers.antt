@@ -19,7 +19,7 @@ now g t c = sym c.self.view_is ∙ ap seen c.in-Inner.is
 
 -- the child to which the key belongs
 cut : (g : _) (t : _) (c : After-deref_mut-node g t) → IsInner c.in-Inner.inner → IsCutAt c.args.key (c.in-Inner.inner.height - 1) c.child_place-place.result (children_of c.in-Inner.inner) (child_at c.in-Inner.inner c.child_place-place.result c.in-Some.child)
-cut g t c inner = cut_child c.args.key c.child_place-place.result c.in-Inner.inner c.in-Some.child inner c.child_place-place.ensures (got_used c.in-Inner.inner.len c.child_place-place.result _ c.in-Some.child c.in-Inner.inner.children inner.run.packed c.child_place-place.ensures.within c.in-Some.is)
+cut g t c inner = cut_child c.args.key c.child_place-place.result c.in-Inner.inner c.in-Some.child inner c.child_place-place.ensures (got_used c.in-Inner.inner.len c.child_place-place.result _ c.in-Some.child c.in-Inner.inner.children inner.entries.packed c.child_place-place.ensures.within c.in-Some.is)
 
 -- its level below the node
 level : (g : _) (t : _) (c : After-deref_mut-node g t) → IsInner c.in-Inner.inner → c.args.self.now ≡ seen_inner c.in-Inner.inner → c.deref_mut-node.result.now.height + 1 ≡ c.args.self.now.height
@@ -39,7 +39,7 @@ removed g t c inner at =
 pub child_place-place-requires : goal.child_place-place-requires
 child_place-place-requires g t c =
     let inner = whole g t (goal.at.child_place-place-requires g t c).In-Inner in
-    (search rules, (inner.some, (inner.run, (children_rise c.in-Inner.inner inner, children_below c.in-Inner.inner inner))))
+    (search rules, (inner.some, (inner.entries, (children_rise c.in-Inner.inner inner, children_below c.in-Inner.inner inner))))
 
 pub take_at-requires : goal.take_at-requires
 take_at-requires g t c κs within =
@@ -60,7 +60,7 @@ rebalance-requires g t c =
 pub unreachable-requires : goal.unreachable-requires
 unreachable-requires g t c =
     let inner = whole g t (goal.at.unreachable-requires g t c).In-Inner in
-    never_none c.in-Inner.inner.len c.child_place-place.result _ c.in-Inner.inner.children inner.run.packed c.child_place-place.ensures.within c.in-None.is
+    never_none c.in-Inner.inner.len c.child_place-place.result _ c.in-Inner.inner.children inner.entries.packed c.child_place-place.ensures.within c.in-None.is
 
 pub returns-in-Leaf-clause-new : goal.returns-in-Leaf-clause-new
 returns-in-Leaf-clause-new g t c =
@@ -100,16 +100,16 @@ pub returns-in-Leaf-clause-no_fewer : goal.returns-in-Leaf-clause-no_fewer
 returns-in-Leaf-clause-no_fewer g t c = omega (arith, c.tick.ensures, ap (λ s. s.height) (sym (ap seen c.in-Leaf.is) ∙ c.self.view_is))
 
 pub listed : goal.listed
-listed g t c = omega (arith, c.child_place-place.ensures.within, packed_fits c.in-Inner.inner.len c.in-Inner.inner.children (whole g t (goal.at.listed g t c).In-Inner).run.packed)
+listed g t c = omega (arith, c.child_place-place.ensures.within, packed_fits c.in-Inner.inner.len c.in-Inner.inner.children (whole g t (goal.at.listed g t c).In-Inner).entries.packed)
 
 pub bounds-inner-place : goal.bounds-inner-place
-bounds-inner-place g t c = omega (arith, c.child_place-place.ensures.within, (whole g t (goal.at.bounds-inner-place g t c).In-Inner).run.fits)
+bounds-inner-place g t c = omega (arith, c.child_place-place.ensures.within, (whole g t (goal.at.bounds-inner-place g t c).In-Inner).entries.fits)
 
 pub offset_bounds-inner-place : goal.offset_bounds-inner-place
-offset_bounds-inner-place g t c = omega (arith, c.child_place-place.ensures.within, (whole g t (goal.at.offset_bounds-inner-place g t c).In-Inner).run.fits)
+offset_bounds-inner-place g t c = omega (arith, c.child_place-place.ensures.within, (whole g t (goal.at.offset_bounds-inner-place g t c).In-Inner).entries.fits)
 
 pub bounds-inner-place-in-Some : goal.bounds-inner-place-in-Some
-bounds-inner-place-in-Some g t c = omega (arith, c.child_place-place.ensures.within, (whole g t (goal.at.bounds-inner-place-in-Some g t c).In-Inner).run.fits)
+bounds-inner-place-in-Some g t c = omega (arith, c.child_place-place.ensures.within, (whole g t (goal.at.bounds-inner-place-in-Some g t c).In-Inner).entries.fits)
 
 pub offset_bounds-inner-place-in-Some : goal.offset_bounds-inner-place-in-Some
-offset_bounds-inner-place-in-Some g t c = omega (arith, c.child_place-place.ensures.within, (whole g t (goal.at.offset_bounds-inner-place-in-Some g t c).In-Inner).run.fits)
+offset_bounds-inner-place-in-Some g t c = omega (arith, c.child_place-place.ensures.within, (whole g t (goal.at.offset_bounds-inner-place-in-Some g t c).In-Inner).entries.fits)

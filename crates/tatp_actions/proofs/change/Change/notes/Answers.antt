@@ -3,7 +3,7 @@ use Rattle.std.specs.Prelude.{ℤ}
 use Rattle.std.proofs.lemmas.Int.{ints, to_z-of_z}
 use Rattle.std.proofs.lemmas.List.{append_assoc}
 use Rattle.tatp_actions.specs.Change.{hour_notes, note_of}
-use Rattle.tatp_actions.specs.Inside.{span_steps, steps, IsCellNote}
+use Rattle.tatp_actions.specs.Inside.{span_amount, signed, IsCellNote}
 use Rattle.tatp_actions.specs.declared.change.Note.{Note}
 use Rattle.tatp_actions.specs.declared.cells.TheConstants.{FIRST_AREA}
 use Rattle.tatp_actions.proofs.HourLemmas.{compact_each, compact_few, compact_once, hour_noted, last_fits, no_hour}
@@ -12,17 +12,17 @@ use Rattle.tatp_actions.proofs.change.Change.notes.Goals as goal
 
 pub loop-hour-preserved : goal.loop-hour-preserved
 loop-hour-preserved c =
-    let low = c.steps.ensures.low in
-    let high = c.steps.ensures.high in
+    let low = c.signed.ensures.low in
+    let high = c.signed.ensures.high in
     let inside = c.self.inside in
-    let amount = to_z-of_z w8 c.steps.result (omega (arith, ints)) in
-    let by = amount ∙ c.steps.ensures.value ∙ ap (steps inside.up) c.covering.ensures.value in
-    hour_noted (span_steps inside.up inside.hours) c.loop-hour.hour _ c.loop-hour.notes.items c.push_note.new.notes.items _ c.loop-hour-test.true by c.loop-hour.invariant.2 c.loop-hour.invariant.1 c.push_note.ensures
+    let amount = to_z-of_z w8 c.signed.result (omega (arith, ints)) in
+    let by = amount ∙ c.signed.ensures.value ∙ ap (signed inside.up) c.covering.ensures.value in
+    hour_noted (span_amount inside.up inside.hours) c.loop-hour.hour _ c.loop-hour.notes.items c.push_note.new.notes.items _ c.loop-hour-test.true by c.loop-hour.invariant.2 c.loop-hour.invariant.1 c.push_note.ensures
 
 -- all hours are noted
-hours : (c : After-push_note-2) → c.loop-hour.notes.items ++ [] ≡ hour_notes (span_steps c.self.inside.up c.self.inside.hours) FIRST_AREA 0
+hours : (c : After-push_note-2) → c.loop-hour.notes.items ++ [] ≡ hour_notes (span_amount c.self.inside.up c.self.inside.hours) FIRST_AREA 0
 hours c =
-    let none = no_hour (span_steps c.self.inside.up c.self.inside.hours) (FIRST_AREA - c.loop-hour.hour) c.loop-hour.hour (omega (arith, c.loop-hour-test.false)) in
+    let none = no_hour (span_amount c.self.inside.up c.self.inside.hours) (FIRST_AREA - c.loop-hour.hour) c.loop-hour.hour (omega (arith, c.loop-hour-test.false)) in
     ap (λ (rest : List (ℕ × ℤ)). c.loop-hour.notes.items ++ rest) (sym none) ∙ c.loop-hour.invariant.2
 
 -- an amount, as it is read from a byte
@@ -44,7 +44,7 @@ returns-clause-value c =
     let first = note_of inside.first.cell inside.first.amount in
     let second = note_of inside.second.cell inside.second.amount in
     let items = sym (append-nil c.loop-hour.notes.items) ∙ hours here in
-    c.push_note-3.ensures ∙ rw (read inside.second c.self.invariant.second, first_noted here, items) (append_assoc (hour_notes (span_steps inside.up inside.hours) FIRST_AREA 0) first second) ∙ c.self.view_is
+    c.push_note-3.ensures ∙ rw (read inside.second c.self.invariant.second, first_noted here, items) (append_assoc (hour_notes (span_amount inside.up inside.hours) FIRST_AREA 0) first second) ∙ c.self.view_is
 
 pub returns-clause-few : goal.returns-clause-few
 returns-clause-few c = rw (← c.self.view_is) (compact_few c.self.inside c.self.invariant)

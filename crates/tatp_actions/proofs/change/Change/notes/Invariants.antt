@@ -1,9 +1,9 @@
 use Rattle.std.specs.Prelude.{◌≡◌, ◌≤◌, ◌-◌, ◌++◌, length}
 use Rattle.tatp_actions.specs.Change.{hour_notes}
-use Rattle.tatp_actions.specs.Inside.{span_steps}
+use Rattle.tatp_actions.specs.Inside.{span_amount}
 use Rattle.tatp_actions.specs.declared.cells.TheConstants.{FIRST_AREA}
 use Rattle.tatp_actions.proofs.change.Change.notes.Given as goal
 
 abbrev pub invariant-loop-hour : goal.invariant-loop-hour
 invariant-loop-hour l = (l.hour ≤ FIRST_AREA) × (length l.notes.items ≤ l.hour)
-    × (l.notes.items ++ hour_notes (span_steps l.self-inside.up l.self-inside.hours) (FIRST_AREA - l.hour) l.hour ≡ hour_notes (span_steps l.self-inside.up l.self-inside.hours) FIRST_AREA 0)
+    × (l.notes.items ++ hour_notes (span_amount l.self-inside.up l.self-inside.hours) (FIRST_AREA - l.hour) l.hour ≡ hour_notes (span_amount l.self-inside.up l.self-inside.hours) FIRST_AREA 0)

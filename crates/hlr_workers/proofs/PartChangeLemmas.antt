@@ -9,7 +9,7 @@ use Rattle.holding.specs.Held.{HoldingState}
 use Rattle.holding.specs.declared.job.Job.{Job}
 use Rattle.hlr_owners.proofs.ZipLemmas.{zip_insert, zip_remove}
 use Rattle.hlr_core.specs.declared.event.Reply.{Reply}
-use Rattle.hlr_workers.specs.Inside.{Gone, IsBehind, IsPlace, New, Parting, Same, parted}
+use Rattle.hlr_workers.specs.Inside.{Gone, IsBehind, IsPlace, New, PartChange, Same, with_part_change}
 use Rattle.hlr_workers.specs.Kept.{InOrder}
 use Rattle.hlr_workers.specs.Relay.{nothing}
 use Rattle.hlr_workers.specs.Standing.{AreEnds, numbered, numbered_in}
@@ -31,16 +31,16 @@ module _ {A B : Type 0} where
   remove_long (a ∷ xs) (b ∷ ys) zero same = omega arith
   remove_long (a ∷ xs) (b ∷ ys) (suc i) same = ap suc (remove_long xs ys i (omega arith))
 
-  pub parted_long : (told : Parting) (x : A) (y : B) (xs : List A) (ys : List B) → length xs ≡ length ys → length (parted told x xs) ≡ length (parted told y ys)
-  parted_long Same x y xs ys same = same
-  parted_long (New i) x y xs ys same = insert_long xs ys i x y same
-  parted_long (Gone i) x y xs ys same = remove_long xs ys i same
+  pub changed_long : (told : PartChange) (x : A) (y : B) (xs : List A) (ys : List B) → length xs ≡ length ys → length (with_part_change told x xs) ≡ length (with_part_change told y ys)
+  changed_long Same x y xs ys same = same
+  changed_long (New i) x y xs ys same = insert_long xs ys i x y same
+  changed_long (Gone i) x y xs ys same = remove_long xs ys i same
 
   -- what is related place by place stays so
-  pub parted_zip : (P : A → B → Type 0) (told : Parting) (x : A) (y : B) (xs : List A) (ys : List B) → P x y → AllZip P xs ys → AllZip P (parted told x xs) (parted told y ys)
-  parted_zip P Same x y xs ys one each = each
-  parted_zip P (New i) x y xs ys one each = zip_insert P xs ys i x y each one
-  parted_zip P (Gone i) x y xs ys one each = zip_remove P xs ys i each
+  pub changed_zip : (P : A → B → Type 0) (told : PartChange) (x : A) (y : B) (xs : List A) (ys : List B) → P x y → AllZip P xs ys → AllZip P (with_part_change told x xs) (with_part_change told y ys)
+  changed_zip P Same x y xs ys one each = each
+  changed_zip P (New i) x y xs ys one each = zip_insert P xs ys i x y each one
+  changed_zip P (Gone i) x y xs ys one each = zip_remove P xs ys i each
 
 -- what a function makes of each
 module _ {A B : Type 0} (f : A → B) where
@@ -55,10 +55,10 @@ module _ {A B : Type 0} (f : A → B) where
   map_remove (a ∷ xs) zero = refl
   map_remove (a ∷ xs) (suc i) = ap (λ (rest : List B). f a ∷ rest) (map_remove xs i)
 
-  pub map_parted : (told : Parting) (x : A) (xs : List A) → map f (parted told x xs) ≡ parted told (f x) (map f xs)
-  map_parted Same x xs = refl
-  map_parted (New i) x xs = map_insert xs i x
-  map_parted (Gone i) x xs = map_remove xs i
+  pub map_changed : (told : PartChange) (x : A) (xs : List A) → map f (with_part_change told x xs) ≡ with_part_change told (f x) (map f xs)
+  map_changed Same x xs = refl
+  map_changed (New i) x xs = map_insert xs i x
+  map_changed (Gone i) x xs = map_remove xs i
 
 -- what each has
 module _ {A : Type 0} (P : A → Type 0) where
@@ -73,10 +73,10 @@ module _ {A : Type 0} (P : A → Type 0) where
   all_remove (a ∷ xs) zero all = all.1
   all_remove (a ∷ xs) (suc i) all = (all.0, all_remove xs i all.1)
 
-  pub all_parted : (told : Parting) (x : A) (xs : List A) → P x → AllByRecursion P xs → AllByRecursion P (parted told x xs)
-  all_parted Same x xs one all = all
-  all_parted (New i) x xs one all = all_insert xs i x one all
-  all_parted (Gone i) x xs one all = all_remove xs i all
+  pub all_changed : (told : PartChange) (x : A) (xs : List A) → P x → AllByRecursion P xs → AllByRecursion P (with_part_change told x xs)
+  all_changed Same x xs one all = all
+  all_changed (New i) x xs one all = all_insert xs i x one all
+  all_changed (Gone i) x xs one all = all_remove xs i all
 
   -- the same of whoever stands at a place
   each_insert : (xs : List A) (i : ℕ) (x : A) → P x → ((k : ℕ) (y : A) → slice_get xs k ≡ Some y → P y) → (k : ℕ) (y : A) → slice_get (insert xs i x) k ≡ Some y → P y
@@ -94,10 +94,10 @@ module _ {A : Type 0} (P : A → Type 0) where
   each_remove (a ∷ xs) (suc i) each zero y is = each 0 y is
   each_remove (a ∷ xs) (suc i) each (suc k) y is = each_remove xs i (λ q z e. each (suc q) z e) k y is
 
-  pub each_parted : (told : Parting) (x : A) (xs : List A) → P x → ((k : ℕ) (y : A) → slice_get xs k ≡ Some y → P y) → (k : ℕ) (y : A) → slice_get (parted told x xs) k ≡ Some y → P y
-  each_parted Same x xs one each = each
-  each_parted (New i) x xs one each = each_insert xs i x one each
-  each_parted (Gone i) x xs one each = each_remove xs i each
+  pub each_changed : (told : PartChange) (x : A) (xs : List A) → P x → ((k : ℕ) (y : A) → slice_get xs k ≡ Some y → P y) → (k : ℕ) (y : A) → slice_get (with_part_change told x xs) k ≡ Some y → P y
+  each_changed Same x xs one each = each
+  each_changed (New i) x xs one each = each_insert xs i x one each
+  each_changed (Gone i) x xs one each = each_remove xs i each
 
 -- in front of a part that comes or goes the list is as it was
 module _ {A : Type 0} where
@@ -142,21 +142,21 @@ numbered_remove k [] (suc i) none = refl
 numbered_remove k (own ∷ jobs) zero none = let here = ap (numbered k) none in omega arith
 numbered_remove k (own ∷ jobs) (suc i) none = let rest = numbered_remove k jobs i none in omega arith
 
-pub numbered_parted : (k : ℕ) (told : Parting) (jobs : List (List (ℕ × Job))) → ((q : ℕ) → IsBehind told q → get_or jobs q [] ≡ []) → numbered_in k (parted told [] jobs) ≡ numbered_in k jobs
-numbered_parted k Same jobs none = refl
-numbered_parted k (New i) jobs none = numbered_insert k jobs i
-numbered_parted k (Gone i) jobs none = numbered_remove k jobs i (none i (omega arith))
+pub numbered_changed : (k : ℕ) (told : PartChange) (jobs : List (List (ℕ × Job))) → ((q : ℕ) → IsBehind told q → get_or jobs q [] ≡ []) → numbered_in k (with_part_change told [] jobs) ≡ numbered_in k jobs
+numbered_changed k Same jobs none = refl
+numbered_changed k (New i) jobs none = numbered_insert k jobs i
+numbered_changed k (Gone i) jobs none = numbered_remove k jobs i (none i (omega arith))
 
-pub order_parted : (told : Parting) (jobs : List (List (ℕ × Job))) (replies : List (ℕ × Reply)) → ((q : ℕ) → IsBehind told q → get_or jobs q [] ≡ []) → InOrder jobs replies → InOrder (parted told [] jobs) replies
-order_parted told jobs replies none order = record {
+pub order_changed : (told : PartChange) (jobs : List (List (ℕ × Job))) (replies : List (ℕ × Reply)) → ((q : ℕ) → IsBehind told q → get_or jobs q [] ≡ []) → InOrder jobs replies → InOrder (with_part_change told [] jobs) replies
+order_changed told jobs replies none order = record {
   places = order.places;
-  once = λ k. let same = numbered_parted k told jobs none in let was = order.once k in omega arith;
-  below = λ k high. numbered_parted k told jobs none ∙ order.below k high;
-  few = each_parted (λ (own : List (ℕ × Job)). length own ≤ length replies) told [] jobs (omega arith) order.few;
+  once = λ k. let same = numbered_changed k told jobs none in let was = order.once k in omega arith;
+  below = λ k high. numbered_changed k told jobs none ∙ order.below k high;
+  few = each_changed (λ (own : List (ℕ × Job)). length own ≤ length replies) told [] jobs (omega arith) order.few;
 }
 
 -- the other way round
-abbrev pub undone : Parting → Parting
+abbrev pub undone : PartChange → PartChange
 undone Same = Same
 undone (New i) = Gone i
 undone (Gone i) = New i
@@ -180,15 +180,15 @@ module _ (reply : ℕ → Reply) where
   ends_gone (o ∷ outs) (own ∷ jobs) [] (suc i) x paired low none are = absurd are
   ends_gone (o ∷ outs) (own ∷ jobs) (y ∷ ends) (suc i) x paired low none are = (are.0, ends_gone outs jobs ends i x (omega arith) (omega arith) none are.1)
 
-  pub ends_parted : (told : Parting) (outs : List (Option HoldingState)) (jobs : List (List (ℕ × Job))) (ends : List HoldingState) → length jobs ≡ length outs → IsPlace told (length outs)
-      → ((q : ℕ) → IsBehind told q → get_or outs q None ≡ None) → AreEnds reply (parted told None outs) (parted told [] jobs) ends → AreEnds reply outs jobs (parted (undone told) nothing ends)
-  ends_parted Same outs jobs ends paired place none are = are
-  ends_parted (New i) outs jobs ends paired place none are = ends_new outs jobs ends i paired place.0 are
-  ends_parted (Gone i) outs jobs ends paired place none are = ends_gone outs jobs ends i nothing paired place (none i (omega arith)) are
+  pub ends_changed : (told : PartChange) (outs : List (Option HoldingState)) (jobs : List (List (ℕ × Job))) (ends : List HoldingState) → length jobs ≡ length outs → IsPlace told (length outs)
+      → ((q : ℕ) → IsBehind told q → get_or outs q None ≡ None) → AreEnds reply (with_part_change told None outs) (with_part_change told [] jobs) ends → AreEnds reply outs jobs (with_part_change (undone told) nothing ends)
+  ends_changed Same outs jobs ends paired place none are = are
+  ends_changed (New i) outs jobs ends paired place none are = ends_new outs jobs ends i paired place.0 are
+  ends_changed (Gone i) outs jobs ends paired place none are = ends_gone outs jobs ends i nothing paired place (none i (omega arith)) are
 
 -- where a part is out, they are the same
-pub ends_alike : (told : Parting) (outs : List (Option HoldingState)) (ends : List HoldingState) → IsPlace told (length outs) → length ends ≡ length (parted told None outs)
-    → ((q : ℕ) → IsBehind told q → get_or outs q None ≡ None) → (q : ℕ) → (get_or (parted told None outs) q None ≡ None) ⊎ (slice_get (parted (undone told) nothing ends) q ≡ slice_get ends q)
+pub ends_alike : (told : PartChange) (outs : List (Option HoldingState)) (ends : List HoldingState) → IsPlace told (length outs) → length ends ≡ length (with_part_change told None outs)
+    → ((q : ℕ) → IsBehind told q → get_or outs q None ≡ None) → (q : ℕ) → (get_or (with_part_change told None outs) q None ≡ None) ⊎ (slice_get (with_part_change (undone told) nothing ends) q ≡ slice_get ends q)
 ends_alike Same outs ends place long none q = inr refl
 ends_alike (New i) outs ends place long none q = elim (cases_lt q i) [
   | inl front ↦ inr (get_remove ends i q front)

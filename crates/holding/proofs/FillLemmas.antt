@@ -15,7 +15,7 @@ use Rattle.view_board.specs.Nets.{net_of}
 use Rattle.view_board.specs.Views.{IsLeastSlot, OwnsAlone, taken_back}
 use Rattle.view_board.specs.declared.rule.View.{View}
 use Rattle.view_board.proofs.BackLemmas.{wide_back}
-use Rattle.view_delta.specs.Pending.{pending_at}
+use Rattle.view_delta.specs.Pending.{delta_at}
 use Rattle.holding.specs.Held.{HoldingState, PieceState, IsHolding, IsPiece, count_of}
 use Rattle.holding.specs.Moved.{IsGiven}
 use Rattle.holding.proofs.HeldLemmas.{empty_cell}
@@ -26,7 +26,7 @@ abbrev pub IsIdle : View → Type 0
 IsIdle view = (c : ℕ) → c < CELLS → net_of view c ≡ pos 0
 
 -- nothing is pending of a holding with no row of which nothing is published
-pub none_pending : (holding : HoldingState) → IsHolding holding → holding.part.book ≡ empty_book → IsIdle holding.desk.view → (c : ℕ) → c < CELLS → pending_at holding.pending c ≡ pos 0
+pub none_pending : (holding : HoldingState) → IsHolding holding → holding.part.book ≡ empty_book → IsIdle holding.desk.view → (c : ℕ) → c < CELLS → delta_at holding.pending c ≡ pos 0
 none_pending holding is empty idle c below =
     let law = is.law c below in
     let none = idle c below in
@@ -35,8 +35,8 @@ none_pending holding is empty idle c below =
 
 -- a holding with no row is filled with those of a piece, all of which is pending
 pub filled : (old part : PartState) (pending pending' : List ℤ) (counts : List ℕ) (desk : Station) (slot : ℕ) → IsHolding (record { part = old; pending = pending; desk = desk; slot = slot })
-    → IsPiece (record { part = part; pending = map pos counts }) → IsIdle desk.view → ((c : ℕ) → c < CELLS → pending_at pending c ≡ pos 0)
-    → ((c : ℕ) → c < CELLS → pending_at pending' c ≡ pending_at pending c +ℤ pos (get_or counts c 0))
+    → IsPiece (record { part = part; pending = map pos counts }) → IsIdle desk.view → ((c : ℕ) → c < CELLS → delta_at pending c ≡ pos 0)
+    → ((c : ℕ) → c < CELLS → delta_at pending' c ≡ delta_at pending c +ℤ pos (get_or counts c 0))
     → IsHolding (record { part = part; pending = pending'; desk = desk; slot = slot })
 filled old part pending pending' counts desk slot is piece idle none more = record {
   rules = piece.rules;
@@ -48,7 +48,7 @@ filled old part pending pending' counts desk slot is piece idle none more = reco
 
 -- a piece that went to a new holding, of which the same is pending there
 pub given_to : (side : Side) (at : ℕ) (before after : HoldingState) (piece piece' : PieceState) → IsGiven side at before piece after → piece'.part ≡ piece.part
-    → ((c : ℕ) → c < CELLS → pending_at piece'.pending c ≡ pending_at piece.pending c) → IsGiven side at before piece' after
+    → ((c : ℕ) → c < CELLS → delta_at piece'.pending c ≡ delta_at piece.pending c) → IsGiven side at before piece' after
 given_to side at before after piece piece' is part same = record {
   inside = is.inside;
   given = rw part is.given;
@@ -58,7 +58,7 @@ given_to side at before after piece piece' is part same = record {
   slot = is.slot;
 }
 
-pub counted_by : (piece piece' : PieceState) → IsPiece piece → piece'.part ≡ piece.part → ((c : ℕ) → c < CELLS → pending_at piece'.pending c ≡ pending_at piece.pending c) → IsPiece piece'
+pub counted_by : (piece piece' : PieceState) → IsPiece piece → piece'.part ≡ piece.part → ((c : ℕ) → c < CELLS → delta_at piece'.pending c ≡ delta_at piece.pending c) → IsPiece piece'
 counted_by piece piece' is part same = record { rules = rw part is.rules; law = λ c below. rw (part, same c below) (is.law c below) }
 
 -- the counts of a part, as a list
@@ -75,7 +75,7 @@ alone_least view slot other least alone = (least.0, λ s own. alone.1 s own ∙ 
 
 -- a holding whose rows are gone, and which took back all that was published
 pub emptied : (part empty : PartState) (pending none : List ℤ) (desk desk' : Station) (slot : ℕ) → IsHolding (record { part = part; pending = pending; desk = desk; slot = slot })
-    → IsPart empty → empty.book ≡ empty_book → desk' ≡ with_view desk (taken_back desk.view slot) → IsIdle desk'.view → ((c : ℕ) → c < CELLS → pending_at none c ≡ pos 0)
+    → IsPart empty → empty.book ≡ empty_book → desk' ≡ with_view desk (taken_back desk.view slot) → IsIdle desk'.view → ((c : ℕ) → c < CELLS → delta_at none c ≡ pos 0)
     → IsHolding (record { part = empty; pending = none; desk = desk'; slot = slot })
 emptied part empty pending none desk desk' slot is rules book back idle nothing = record {
   rules = rules;

@@ -22,7 +22,7 @@ use Rattle.part_table.proofs.FirstLemmas.{find_none}
 use Rattle.holding.specs.Held.{HoldingState}
 use Rattle.hlr_owners.specs.Answered.{MayAnswer, is_loose}
 use Rattle.hlr_owners.specs.Out.{out_of, outs_in}
-use Rattle.hlr_owners.specs.Owners.{AreRuled, IsHomeFrom, OwnersState, homes_in, store_in}
+use Rattle.hlr_owners.specs.Owners.{AreOwners, IsHomeFrom, OwnersState, homes_in, store_in}
 use Rattle.hlr_owners.specs.Store.{Store}
 use Rattle.hlr_owners.specs.declared.part_owner.RegionOwner.{RegionOwner}
 use Rattle.hlr_owners.specs.declared.part_owner.RegionOwner.TheVariants.{Part, Piece}
@@ -33,45 +33,45 @@ use Rattle.hlr_core.specs.declared.event.Event.TheVariants.{SubscriberData, NewD
 use Rattle.hlr_core.specs.declared.event.Event.TheVariants.{AddSubscriber, AddAccess, AddFacility, SetActive, SetNumber, Post, Give, Take, Divide, Dissolve}
 use Rattle.hlr_core.specs.declared.event.Reply.{Reply}
 use Rattle.hlr_workers.specs.Finish.{Sent}
-use Rattle.hlr_workers.specs.Inside.{IsBehind, AreWorkersParted, IsPlace, New, Parting, Same, parted, parting_of}
+use Rattle.hlr_workers.specs.Inside.{IsBehind, AreWorkersChanged, IsPlace, New, PartChange, Same, with_part_change, part_change_of}
 use Rattle.hlr_workers.specs.Kept.{WorkersState, HasWorker, jobs_at}
 use Rattle.hlr_workers.specs.Standing.{changes_parts}
 use Rattle.hlr_workers.proofs.WorkersLemmas.{as_parts, idle_parts, out_is, outs_home}
 use Rattle.hlr_workers.proofs.RegisterLemmas.{part_at}
-use Rattle.hlr_workers.proofs.PartingLemmas.{map_parted, parted_zip}
+use Rattle.hlr_workers.proofs.PartChangeLemmas.{map_changed, changed_zip}
 
 -- a reply to anything but a divide and a dissolve tells of no part that came or went
-rows_told : (rows : RowReply) → parting_of (reply_of rows) ≡ Same
+rows_told : (rows : RowReply) → part_change_of (reply_of rows) ≡ Same
 rows_told row.Done = refl
 rows_told (row.Row subscriber) = refl
 rows_told (row.Numbers numbers) = refl
 rows_told (row.AccessRow data1 data2 data3 data4) = refl
 rows_told (row.Refused why) = refl
 
-owned_told : (loose : Bool) (act : Action) (b : Store) (r : Reply) (c : Store) → IsOwnedStep loose act b r c → parting_of r ≡ Same
-owned_told true act b r c step = ap parting_of step.0
-owned_told false act b r c step = ap parting_of step.3 ∙ rows_told step.0
+owned_told : (loose : Bool) (act : Action) (b : Store) (r : Reply) (c : Store) → IsOwnedStep loose act b r c → part_change_of r ≡ Same
+owned_told true act b r c step = ap part_change_of step.0
+owned_told false act b r c step = ap part_change_of step.3 ∙ rows_told step.0
 
-asked_told : (asked : Result Action Refusal) (b : Store) (r : Reply) (c : Store) → IsAskedStep asked b r c → parting_of r ≡ Same
+asked_told : (asked : Result Action Refusal) (b : Store) (r : Reply) (c : Store) → IsAskedStep asked b r c → part_change_of r ≡ Same
 asked_told (Ok act) b r c step = owned_told (is_loose (s_id_of act) b.regions) act b r c step
-asked_told (Err why) b r c step = ap parting_of step.0
+asked_told (Err why) b r c step = ap part_change_of step.0
 
-posted_told : (done : Result ℕ Refusal) → parting_of (posted_reply done) ≡ Same
+posted_told : (done : Result ℕ Refusal) → part_change_of (posted_reply done) ≡ Same
 posted_told (Ok n) = refl
 posted_told (Err why) = refl
 
-given_told : (done : Result (ℕ × ℕ × ℕ) Refusal) → parting_of (given_reply done) ≡ Same
+given_told : (done : Result (ℕ × ℕ × ℕ) Refusal) → part_change_of (given_reply done) ≡ Same
 given_told (Ok piece) = refl
 given_told (Err why) = refl
 
-taken_told : (piece part : ℕ) (done : Result Side Refusal) → parting_of (taken_reply piece part done) ≡ Same
+taken_told : (piece part : ℕ) (done : Result Side Refusal) → part_change_of (taken_reply piece part done) ≡ Same
 taken_told piece part (Ok side) = refl
 taken_told piece part (Err why) = refl
 
 -- what is so of each other event
 record IsOther (event : Event) : Type 0 where
   register : (r : Reply) (h g : OwnersState) → AreHomesAfter event r h g → HaveSameHomes h g
-  told : (b : Store) (r : Reply) (c : Store) → IsStep event b r c → parting_of r ≡ Same
+  told : (b : Store) (r : Reply) (c : Store) → IsStep event b r c → part_change_of r ≡ Same
 
 rows_other : (event : Event) → ((r : Reply) (h g : OwnersState) → AreHomesAfter event r h g → HaveSameHomes h g)
     → ((b : Store) (r : Reply) (c : Store) → IsStep event b r c → IsAskedStep (action_for event b.book) b r c) → IsOther event
@@ -81,9 +81,9 @@ rows_other event register step = record { register = register; told = λ b r c i
 kind : (event : Event) → ((part : ℕ) × (at : ℕ) × (event ≡ Divide part at)) ⊎ (((part : ℕ) × (event ≡ Dissolve part)) ⊎ IsOther event)
 kind (Divide part at) = inl (part, at, refl)
 kind (Dissolve part) = inr (inl (part, refl))
-kind (Post part limit) = inr (inr (record { register = λ r h g is. is; told = λ b r c step. ap parting_of step.2 ∙ posted_told step.0 }))
-kind (Give part side at) = inr (inr (record { register = λ r h g is. is; told = λ b r c step. ap parting_of step.2 ∙ given_told step.0 }))
-kind (Take piece part) = inr (inr (record { register = λ r h g is. is; told = λ b r c step. ap parting_of step.2 ∙ taken_told piece part step.0 }))
+kind (Post part limit) = inr (inr (record { register = λ r h g is. is; told = λ b r c step. ap part_change_of step.2 ∙ posted_told step.0 }))
+kind (Give part side at) = inr (inr (record { register = λ r h g is. is; told = λ b r c step. ap part_change_of step.2 ∙ given_told step.0 }))
+kind (Take piece part) = inr (inr (record { register = λ r h g is. is; told = λ b r c step. ap part_change_of step.2 ∙ taken_told piece part step.0 }))
 kind (SubscriberData s_id) = inr (inr (rows_other (SubscriberData s_id) (λ r h g is. is) (λ b r c step. step)))
 kind (NewDestination s_id t a e) = inr (inr (rows_other (NewDestination s_id t a e) (λ r h g is. is) (λ b r c step. step)))
 kind (AccessData s_id t) = inr (inr (rows_other (AccessData s_id t) (λ r h g is. is) (λ b r c step. step)))
@@ -120,7 +120,7 @@ outs_from (Piece b ∷ owners) (suc first) all q from = outs_from owners (suc fi
 outs_from (Part l ∷ owners) (suc first) all zero from = absurd (omega arith)
 outs_from (Part l ∷ owners) (suc first) all (suc q) from = outs_from owners first all q (omega arith)
 
-module _ (h : OwnersState) (are : AreRuled h) where
+module _ (h : OwnersState) (are : AreOwners h) where
   -- a part whose region is found has its place among all parts
   found_low : (p : ℕ) (region : Region) → find (is_part p) h.regions ≡ Some region → p < length (outs_in h.owners)
   found_low p region found = cases (position (is_part p) h.regions) refl
@@ -165,66 +165,66 @@ module _ (h : OwnersState) (are : AreRuled h) where
       (λ e. let clash = rw e at may in absurd cc)
 
 -- what the register leaves of who is out, where the parts that work on an event were at home
-record AreHomesParted (told : Parting) (h g : OwnersState) : Type 0 where
-  pub outs : outs_in g.owners ≡ parted told None (outs_in h.owners)
+record AreHomesChanged (told : PartChange) (h g : OwnersState) : Type 0 where
+  pub outs : outs_in g.owners ≡ with_part_change told None (outs_in h.owners)
   pub place : IsPlace told (length (outs_in h.owners))
   pub home : (q : ℕ) → IsBehind told q → get_or (outs_in h.owners) q None ≡ None
 
-same_parted : (h g : OwnersState) → outs_in g.owners ≡ outs_in h.owners → AreHomesParted Same h g
-same_parted h g same = record { outs = same; place = tt; home = λ q behind. absurd behind }
+same_changed : (h g : OwnersState) → outs_in g.owners ≡ outs_in h.owners → AreHomesChanged Same h g
+same_changed h g same = record { outs = same; place = tt; home = λ q behind. absurd behind }
 
-module _ (h : OwnersState) (are : AreRuled h) (g : OwnersState) where
-  divide_parted : (p at : ℕ) (done : Result (ℕ × ℕ × ℕ) Refusal) → MayAnswer (divide_answer p at h.regions) done → AreHomesAfter (Divide p at) (divided_reply done) h g → IsHomeFrom p h
-      → AreHomesParted (parting_of (divided_reply done)) h g
-  divide_parted p at (Err why) may register home = same_parted h g register.outs
-  divide_parted p at (Ok new) may register home =
+module _ (h : OwnersState) (are : AreOwners h) (g : OwnersState) where
+  divide_changed : (p at : ℕ) (done : Result (ℕ × ℕ × ℕ) Refusal) → MayAnswer (divide_answer p at h.regions) done → AreHomesAfter (Divide p at) (divided_reply done) h g → IsHomeFrom p h
+      → AreHomesChanged (part_change_of (divided_reply done)) h g
+  divide_changed p at (Err why) may register home = same_changed h g register.outs
+  divide_changed p at (Ok new) may register home =
       let there = divided_there h are p at (find (is_part p) h.regions) new refl may in
       rw (there.0) (record { outs = register.outs; place = there.1; home = λ q behind. outs_from h.owners p home q (omega arith) })
 
-  dissolve_parted : (p : ℕ) (done : Result (ℕ × ℕ × ℕ) Refusal) → MayAnswer (dissolve_answer p h.regions) done → AreHomesAfter (Dissolve p) (dissolved_reply done) h g → IsHomeFrom (p - 1) h
-      → AreHomesParted (parting_of (dissolved_reply done)) h g
-  dissolve_parted p (Err why) may register home = same_parted h g register.outs
-  dissolve_parted p (Ok front) may register home =
+  dissolve_changed : (p : ℕ) (done : Result (ℕ × ℕ × ℕ) Refusal) → MayAnswer (dissolve_answer p h.regions) done → AreHomesAfter (Dissolve p) (dissolved_reply done) h g → IsHomeFrom (p - 1) h
+      → AreHomesChanged (part_change_of (dissolved_reply done)) h g
+  dissolve_changed p (Err why) may register home = same_changed h g register.outs
+  dissolve_changed p (Ok front) may register home =
       let there = dissolved_there h are p (find (is_part p) h.regions) (part_before p h.regions) front refl refl may in
       rw (there.0) (record { outs = register.outs; place = there.1; home = λ q behind. outs_from h.owners (p - 1) home q (omega arith) })
 
-  register_parted : (event : Event) (r : Reply) → IsStep event (store_in h) r (store_in g) → AreHomesAfter event r h g → IsHomeTo event h → AreHomesParted (parting_of r) h g
-  register_parted event r step register home = elim (kind event) [
+  register_changed : (event : Event) (r : Reply) → IsStep event (store_in h) r (store_in g) → AreHomesAfter event r h g → IsHomeTo event h → AreHomesChanged (part_change_of r) h g
+  register_changed event r step register home = elim (kind event) [
     | inl divide ↦ divided (divide.0) (divide.1) (rw divide.2 at step) (rw divide.2 at register) (rw divide.2 at home)
     | inr rest ↦ elim rest [
       | inl dissolve ↦ dissolved (dissolve.0) (rw dissolve.1 at step) (rw dissolve.1 at register) (rw dissolve.1 at home)
-      | inr other ↦ rw (other.told (store_in h) r (store_in g) step) (same_parted h g (other.register r h g register).outs)
+      | inr other ↦ rw (other.told (store_in h) r (store_in g) step) (same_changed h g (other.register r h g register).outs)
     ]
   ]
     where
-      divided : (p at : ℕ) → IsStep (Divide p at) (store_in h) r (store_in g) → AreHomesAfter (Divide p at) r h g → IsHomeFrom p h → AreHomesParted (parting_of r) h g
-      divided p at step register home = rw (step.2) (divide_parted p at step.0 step.1 (rw (step.2) at register) home)
+      divided : (p at : ℕ) → IsStep (Divide p at) (store_in h) r (store_in g) → AreHomesAfter (Divide p at) r h g → IsHomeFrom p h → AreHomesChanged (part_change_of r) h g
+      divided p at step register home = rw (step.2) (divide_changed p at step.0 step.1 (rw (step.2) at register) home)
 
-      dissolved : (p : ℕ) → IsStep (Dissolve p) (store_in h) r (store_in g) → AreHomesAfter (Dissolve p) r h g → IsHomeFrom (p - 1) h → AreHomesParted (parting_of r) h g
-      dissolved p step register home = rw (step.2) (dissolve_parted p step.0 step.1 (rw (step.2) at register) home)
+      dissolved : (p : ℕ) → IsStep (Dissolve p) (store_in h) r (store_in g) → AreHomesAfter (Dissolve p) r h g → IsHomeFrom (p - 1) h → AreHomesChanged (part_change_of r) h g
+      dissolved p step register home = rw (step.2) (dissolve_changed p step.0 step.1 (rw (step.2) at register) home)
 
 -- what that leaves of workers: each part that is out keeps its worker
-pub record IsApplied (old : WorkersState) (g : OwnersState) (ws : List (Option Sent)) (told : Parting) : Type 0 where
+pub record IsApplied (old : WorkersState) (g : OwnersState) (ws : List (Option Sent)) (told : PartChange) : Type 0 where
   pub room : IsPlace told (length ws)
-  pub each : AllZip HasWorker (outs_in g.owners) (parted told None ws)
-  pub now : AreWorkersParted told old (record { register = g; jobs = map jobs_at (parted told None ws) })
+  pub each : AllZip HasWorker (outs_in g.owners) (with_part_change told None ws)
+  pub now : AreWorkersChanged told old (record { register = g; jobs = map jobs_at (with_part_change told None ws) })
 
-workers_applied : (h : OwnersState) (ws : List (Option Sent)) → AllZip HasWorker (outs_in h.owners) ws → (told : Parting) (g : OwnersState) → AreHomesParted told h g
+workers_applied : (h : OwnersState) (ws : List (Option Sent)) → AllZip HasWorker (outs_in h.owners) ws → (told : PartChange) (g : OwnersState) → AreHomesChanged told h g
     → IsApplied (record { register = h; jobs = map jobs_at ws }) g ws told
 workers_applied h ws each told g is = record {
   room = subst (λ (n : ℕ). IsPlace told n) (sym (AllZip-long HasWorker (outs_in h.owners) ws each)) is.place;
-  each = rw (is.outs) (parted_zip HasWorker told None None (outs_in h.owners) ws tt each);
+  each = rw (is.outs) (changed_zip HasWorker told None None (outs_in h.owners) ws tt each);
   now = record {
     outs = is.outs;
-    jobs = map_parted jobs_at told None ws;
+    jobs = map_changed jobs_at told None ws;
     place = is.place;
     home = is.home;
     idle = idle_parts h ws each;
   };
 }
 
-pub applied : (old : WorkersState) (h : OwnersState) (ws : List (Option Sent)) → record { register = h; jobs = map jobs_at ws } ≡ old → AreRuled h → AllZip HasWorker (outs_in h.owners) ws
-    → (event : Event) (r : Reply) (g : OwnersState) → IsHomeTo event old.register → IsStep event (store_in h) r (store_in g) → AreHomesAfter event r h g → IsApplied old g ws (parting_of r)
+pub applied : (old : WorkersState) (h : OwnersState) (ws : List (Option Sent)) → record { register = h; jobs = map jobs_at ws } ≡ old → AreOwners h → AllZip HasWorker (outs_in h.owners) ws
+    → (event : Event) (r : Reply) (g : OwnersState) → IsHomeTo event old.register → IsStep event (store_in h) r (store_in g) → AreHomesAfter event r h g → IsApplied old g ws (part_change_of r)
 applied old h ws view are each event r g home step register =
-    subst (λ (workers : WorkersState). IsApplied workers g ws (parting_of r)) view
-    (workers_applied h ws each (parting_of r) g (register_parted h are g event r step register (subst (λ (workers : WorkersState). IsHomeTo event workers.register) (sym view) home)))
+    subst (λ (workers : WorkersState). IsApplied workers g ws (part_change_of r)) view
+    (workers_applied h ws each (part_change_of r) g (register_changed h are g event r step register (subst (λ (workers : WorkersState). IsHomeTo event workers.register) (sym view) home)))
