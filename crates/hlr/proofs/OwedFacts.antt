@@ -1,10 +1,7 @@
 -- How the text of a run with threads grows: events are owed, and their answers are written at a settle.
-use Rattle.std.proofs.Common.{◌≡◌, refl, sym, ap, ◌∙◌, subst, ℕ, ◌+◌, ◌≤◌, ◌<◌, List, [], ◌∷◌, ◌++◌, length, Option, Some, None, Bool, true, false, append_assoc, length-append, inl, inr, arith}
+use Rattle.std.proofs.Common.{◌≡◌, refl, sym, ap, ◌∙◌, subst, ℕ, ◌+◌, ◌≤◌, ◌<◌, List, [], ◌∷◌, ◌++◌, length, Option, Some, Bool, true, false, append_assoc, length-append, inl, inr, arith}
 use Rattle.std.specs.Prelude.{◌⊎◌, map, IfSome, Result, Ok, Err, MatchResult}
 use Rattle.std.proofs.lemmas.List.{append-nil}
-use Rattle.std.specs.Io.KnownBytes.{Keeps}
-use Rattle.csv.specs.Reading.{Reached, default_config}
-use Rattle.csv.specs.declared.parser.State.{State}
 use Rattle.csv.specs.declared.parser.State.TheVariants as st
 use Rattle.arrayvec.specs.ArrayVec.{ArrayVec}
 use Rattle.tatp_rows.specs.declared.refusal.Refusal.{Refusal}
@@ -18,12 +15,11 @@ use Rattle.hlr_workers.specs.Standing.{answers_with, events_in, orders_of, Asked
 use Rattle.hlr_workers.proofs.UnseenLemmas.{recut_unseen, seen_as, stands_unseen, step_unseen}
 use Rattle.hlr.specs.Command.{Command}
 use Rattle.hlr.specs.Command.{Command as command}
-use Rattle.hlr.specs.Inside.{Answers, AreAnswered, AreBrokenOff, AskFor, HasAnswered, HasCome, HasComeTo, HasComeToEnd, HasTaken, IsAtRest, IsOwed, IsUnderway, kind_of, replies_text, with_sight, word_of_report}
+use Rattle.hlr.specs.Inside.{Answers, AreAnswered, AreBrokenOff, AskFor, HasAnswered, HasCome, HasComeToEnd, HasTaken, IsAtRest, IsOwed, IsUnderway, kind_of, replies_text, with_sight, word_of_report, WritesOwed}
 use Rattle.hlr.specs.Lines.{reply_line}
 use Rattle.hlr.specs.Records.{bounds_of, command_named, command_of, field, word_named}
-use Rattle.hlr.specs.Run.{RanFront}
-use Rattle.hlr.specs.Sink.{Puts}
-use Rattle.hlr.specs.Source.{AreRead, AsksEvent, HasNextEvent, RanUntil, ReadsOne, StoppedFront, StopsBehind, Unread}
+use Rattle.hlr.specs.Outgoing.{Adds, Outgoing}
+use Rattle.hlr.specs.Source.{AreRead, AsksEvent, HasNextEvent, ReadsOne, StopsBehind, Unread}
 use Rattle.hlr.specs.Text.{CommandText, RecordText, RecordsText, RecutText}
 use Rattle.hlr.specs.declared.fault.Fault.{Fault}
 use Rattle.hlr.specs.declared.fault.Fault.TheVariants as fault
@@ -32,11 +28,9 @@ use Rattle.hlr.specs.declared.records.Report.{Report}
 use Rattle.hlr.specs.declared.records.Report.TheVariants as report
 use Rattle.hlr.specs.declared.records.Word.{Word}
 use Rattle.hlr.specs.declared.records.Word.TheVariants as word
-use Rattle.hlr.specs.declared.run.TheConstants.{RECORDS}
 use Rattle.hlr.specs.declared.sink.Stalled.{Stalled}
-use Rattle.hlr.proofs.OrderFacts.{answered_records}
-use Rattle.hlr.proofs.RunFacts.{front_is_whole, has_next, if_known, if_some, read_all, read_more, read_none, records_more, stopped_at_last, stopped_by_read}
-use Rattle.hlr.proofs.SinkFacts.{appends_both, appends_kept, appends_none, front_after, front_all}
+use Rattle.hlr.proofs.RunFacts.{answered_kept, broken_kept, come_to, has_next, if_known, if_some, read_all, read_is_no_write, read_more, read_none, records_more, stopped_at_last, stopped_by_read}
+use Rattle.hlr.proofs.SinkFacts.{adds_both, adds_front_after, adds_none}
 
 -- the events that records ask for, one more
 ask_more : (rows : List (List (List ℕ))) (events : List Event) (fields : List (List ℕ)) (event : Event) → AskFor rows events
@@ -104,30 +98,30 @@ records_after (row ∷ rows) more s m t text behind h k =
 
 -- what is owed is written
 module _ (rows : List (List (List ℕ))) (start : Store) (e : Engaged) (replies : List (ℕ × Reply)) (register : OwnersState) (settled : IsSettled e replies register)
-    (each : length replies ≡ length e.replies) (old mid new : Option (List ℕ)) (under : IsUnderway rows start e old mid) where
+    (each : length replies ≡ length e.replies) (old mid new : Outgoing) (under : IsUnderway rows start e old mid) where
   whole_text : RecordsText rows start (under.text ++ replies_text replies) (with_sight under.now.sight register)
   whole_text =
       rw under.all (records_after under.answered under.owed start under.now (with_sight under.now.sight register) under.text (replies_text replies) under.answers
       (owed_text under.owed under.now e replies register under.owes settled each))
 
-  pub settled_text : (stalled : Bool) (r : Result (Unit {0}) Stalled) → Puts (replies_text replies) mid new stalled r
+  pub settled_text : (stalled : Bool) (r : Result (Unit {0}) Stalled) → Adds (replies_text replies) mid new stalled r
       → MatchResult r (λ done. AreAnswered rows start register old new) (λ why. AreBrokenOff rows start old new stalled)
   settled_text stalled (Ok done) put = record {
     text = under.text ++ replies_text replies;
     sight = under.now.sight;
     answers = whole_text;
-    grew = appends_both old mid new under.text (replies_text replies) under.grew put;
+    grew = adds_both under.text (replies_text replies) old mid new under.grew put;
   }
   settled_text stalled (Err why) put = record {
     text = under.text ++ replies_text replies;
     end = with_sight under.now.sight register;
     answers = whole_text;
-    front = front_after old mid new under.text (replies_text replies) under.grew put.0;
+    front = adds_front_after under.text (replies_text replies) old mid new under.grew put.0;
     told = put.1;
   }
 
 -- records that are answered by an engine which is at rest
-pub underway_at_rest : (rows : List (List (List ℕ))) (start : Store) (e : Engaged) (old new : Option (List ℕ)) → IsAtRest e → AreAnswered rows start e.register old new → IsUnderway rows start e old new
+pub underway_at_rest : (rows : List (List (List ℕ))) (start : Store) (e : Engaged) (old new : Outgoing) → IsAtRest e → AreAnswered rows start e.register old new → IsUnderway rows start e old new
 underway_at_rest rows start e old new rest done = record {
   answered = rows;
   owed = [];
@@ -140,13 +134,13 @@ underway_at_rest rows start e old new rest done = record {
 }
 
 -- no record is answered yet
-pub underway_none : (e : Engaged) (old : Option (List ℕ)) → IsAtRest e → IsUnderway [] (store_in e.register) e old old
+pub underway_none : (e : Engaged) (old : Outgoing) → IsAtRest e → IsUnderway [] (store_in e.register) e old old
 unfolding RecordsText
 underway_none e old rest =
-    underway_at_rest [] (store_in e.register) e old old rest (record { text = []; sight = e.register.spare.view.seen; answers = (refl, refl); grew = appends_none old })
+    underway_at_rest [] (store_in e.register) e old old rest (record { text = []; sight = e.register.spare.view.seen; answers = (refl, refl); grew = adds_none old })
 
 -- one more record is owed
-pub underway_more : (rows : List (List (List ℕ))) (start : Store) (a b : Engaged) (old new : Option (List ℕ)) (fields : List (List ℕ)) (event : Event) → IsUnderway rows start a old new
+pub underway_more : (rows : List (List (List ℕ))) (start : Store) (a b : Engaged) (old new : Outgoing) (fields : List (List ℕ)) (event : Event) → IsUnderway rows start a old new
     → command_of fields ≡ Ok (command.Ask event) → TookNext (Took event) a b → IsUnderway (rows ++ fields ∷ []) start b old new
 underway_more rows start a b old new fields event under is took = record {
   answered = under.answered;
@@ -179,7 +173,7 @@ text_unseen w fields (Ok command.Recut) before text after told = recut_text_unse
 text_unseen w fields (Err why) before text after told = (told.0, ap (seen_as w) told.1)
 
 -- the text of records that are answered, and of one more behind them
-module _ (rows : List (List (List ℕ))) (fields : List (List ℕ)) (start : Store) (before : OwnersState) (e : Engaged) (old mid new : Option (List ℕ)) (stalled : Bool)
+module _ (rows : List (List (List ℕ))) (fields : List (List ℕ)) (start : Store) (before : OwnersState) (e : Engaged) (old mid new : Outgoing) (stalled : Bool)
     (r : Result (Unit {0}) Stalled) (all : AreAnswered rows start before old mid) (one : Answers fields (store_in before) (store_in e.register) mid new stalled r) where
   next_text : RecordsText (rows ++ fields ∷ []) start (all.text ++ one.text) (with_sight all.sight e.register)
   next_text =
@@ -187,20 +181,20 @@ module _ (rows : List (List (List ℕ))) (fields : List (List ℕ)) (start : Sto
       (text_unseen all.sight fields (command_of fields) (store_in before) one.text (store_in e.register) one.answer)
 
 -- so that one is answered too
-pub answered_next : (rows : List (List (List ℕ))) (fields : List (List ℕ)) (start : Store) (before : OwnersState) (e : Engaged) (old mid new : Option (List ℕ)) (stalled : Bool)
+pub answered_next : (rows : List (List (List ℕ))) (fields : List (List ℕ)) (start : Store) (before : OwnersState) (e : Engaged) (old mid new : Outgoing) (stalled : Bool)
     (r : Result (Unit {0}) Stalled) → AreAnswered rows start before old mid → Answers fields (store_in before) (store_in e.register) mid new stalled r → IsAtRest e
     → HasAnswered rows fields start e old new stalled r
 answered_next rows fields start before e old mid new stalled (Ok done) all one rest = underway_at_rest (rows ++ fields ∷ []) start e old new rest (record {
   text = all.text ++ one.text;
   sight = all.sight;
   answers = next_text rows fields start before e old mid new stalled (Ok done) all one;
-  grew = appends_both old mid new all.text one.text all.grew one.put;
+  grew = adds_both all.text one.text old mid new all.grew one.put;
 })
 answered_next rows fields start before e old mid new stalled (Err why) all one rest = inr (record {
   text = all.text ++ one.text;
   end = with_sight all.sight e.register;
   answers = next_text rows fields start before e old mid new stalled (Err why) all one;
-  front = front_after old mid new all.text one.text all.grew one.put.0;
+  front = adds_front_after all.text one.text old mid new all.grew one.put.0;
   told = one.put.1;
 })
 
@@ -219,104 +213,21 @@ nothing_more before [] none same = refl
 nothing_more [] (r ∷ after) none same = absurd (omega (arith, same))
 nothing_more (b ∷ before) (r ∷ after) none same = absurd cc
 
--- records that are answered, and the sink was flushed
-pub answered_kept : (rows : List (List (List ℕ))) (start : Store) (register : OwnersState) (old mid new : Option (List ℕ)) → AreAnswered rows start register old mid → Keeps mid new
-    → AreAnswered rows start register old new
-answered_kept rows start register old mid new done kept =
-    record { text = done.text; sight = done.sight; answers = done.answers; grew = appends_kept old mid new done.text done.grew kept }
-
--- or failed in that
-pub broken_kept : (rows : List (List (List ℕ))) (start : Store) (register : OwnersState) (old mid new : Option (List ℕ)) (stalled : Bool) → AreAnswered rows start register old mid
-    → Keeps mid new → stalled ≡ true → AreBrokenOff rows start old new stalled
-broken_kept rows start register old mid new stalled done kept told = record {
-  text = done.text;
-  end = with_sight done.sight register;
-  answers = done.answers;
-  front = front_all old new done.text (appends_kept old mid new done.text done.grew kept);
-  told = told;
-}
-
--- a run that came to a record and no further, unless the sink failed
-pub come_to : (stops : List (List (List ℕ)) → Fault → Type 0) (start : Store) (bytes : List ℕ) (e : Engaged) (old new : Option (List ℕ)) (why : Fault) → (why ≡ fault.Write → ⊥)
-    → HasComeTo stops start bytes e old new why → HasCome stops start bytes e old new (Err why)
-come_to stops start bytes e old new fault.Memory unless come = come
-come_to stops start bytes e old new fault.Field unless come = come
-come_to stops start bytes e old new fault.Thread unless come = come
-come_to stops start bytes e old new fault.Read unless come = come
-come_to stops start bytes e old new fault.Write unless come = absurd (unless refl)
-
--- a reader's fault is none of the sink
-pub read_is_no_write : (why : Fault) → (why ≡ fault.Memory) ⊎ (why ≡ fault.Read) → why ≡ fault.Write → ⊥
-read_is_no_write why (inl memory) is = let clash : fault.Memory ≡ fault.Write = sym memory ∙ is in cc
-read_is_no_write why (inr read) is = let clash : fault.Read ≡ fault.Write = sym read ∙ is in cc
-
--- records of some bytes are answered by a text, of which the sink took a front
-broken_front : (rows : List (List (List ℕ))) (start : Store) (bytes : List ℕ) (old new : Option (List ℕ)) (stalled : Bool) (state : State) (left : List ℕ) → AreBrokenOff rows start old new stalled
-    → length rows ≤ RECORDS → Reached default_config st.StartRecord bytes rows state left → RanFront start bytes old new fault.Write
-broken_front rows start bytes old new stalled state left broken few reached = record {
-  answered = answered_records start rows broken.text broken.end few broken.answers;
-  state = state;
-  left = left;
-  are_first = reached;
-  written = broken.front.front;
-  begins = broken.front.begins;
-  whole = tt;
-  grew = broken.front.grew;
-}
-
--- a front of the text after a fault of the sink
-pub front_until : (stops : List (List (List ℕ)) → Fault → Type 0) (start : Store) (bytes : List ℕ) (old new : Option (List ℕ)) → RanFront start bytes old new fault.Write
-    → StoppedFront stops start bytes old new fault.Write
-front_until stops start bytes old new front = record { front = front; stopped = λ unless. absurd (unless refl) }
-
--- and what is owed of all records is written, after no fault of the sink
-module _ (stops : List (List (List ℕ)) → Fault → Type 0) (start : Store) (bytes : List ℕ) (e : Engaged) (old mid new : Option (List ℕ)) where
-  stopped : (register : OwnersState) (why : Fault) → HasComeTo stops start bytes e old mid why → ((rows : List (List (List ℕ))) → IsUnderway rows start e old mid → AreAnswered rows start register old new)
-      → StoppedFront stops start bytes old new why
-  stopped register why come write =
-      let all = write come.rows come.underway in
-      record {
-        front = front_is_whole start bytes old new why (answered_records start come.rows all.text (with_sight all.sight register) come.few all.answers) come.state come.left come.are_first all.grew;
-        stopped = λ unless. come.stopped;
-      }
-
-  cut : (why : Fault) (stalled : Bool) → HasComeTo stops start bytes e old mid why → ((rows : List (List (List ℕ))) → IsUnderway rows start e old mid → AreBrokenOff rows start old new stalled)
-      → StoppedFront stops start bytes old new fault.Write
-  cut why stalled come write =
-      front_until stops start bytes old new (broken_front come.rows start bytes old new stalled come.state come.left (write come.rows come.underway) come.few come.are_first)
-
-  pub come_whole : (register : OwnersState) (done : Result (Unit {0}) Fault) → (done ≡ Err fault.Write → ⊥) → HasCome stops start bytes e old mid done
-      → ((rows : List (List (List ℕ))) → IsUnderway rows start e old mid → AreAnswered rows start register old new) → RanUntil stops start bytes old new done
-  come_whole register (Ok done) unless come write =
-      let all = write come.rows come.underway in
-      record { answered = answered_records start come.rows all.text (with_sight all.sight register) come.few all.answers; are_records = come.are_records; grew = all.grew }
-  come_whole register (Err fault.Memory) unless come write = stopped register fault.Memory come write
-  come_whole register (Err fault.Field) unless come write = stopped register fault.Field come write
-  come_whole register (Err fault.Thread) unless come write = stopped register fault.Thread come write
-  come_whole register (Err fault.Read) unless come write = stopped register fault.Read come write
-  come_whole register (Err fault.Write) unless come write = absurd (unless refl)
-
-  -- or the sink fails in that
-  pub come_broken : (stalled : Bool) (done : Result (Unit {0}) Fault) → (done ≡ Err fault.Write → ⊥) → HasCome stops start bytes e old mid done
-      → ((rows : List (List (List ℕ))) → IsUnderway rows start e old mid → AreBrokenOff rows start old new stalled) → StoppedFront stops start bytes old new fault.Write
-  come_broken stalled (Ok done) unless come write =
-      front_until stops start bytes old new
-      (broken_front come.rows start bytes old new stalled come.are_records.0 come.are_records.1 (write come.rows come.underway) come.few come.are_records.2)
-  come_broken stalled (Err fault.Memory) unless come write = cut fault.Memory stalled come write
-  come_broken stalled (Err fault.Field) unless come write = cut fault.Field stalled come write
-  come_broken stalled (Err fault.Thread) unless come write = cut fault.Thread stalled come write
-  come_broken stalled (Err fault.Read) unless come write = cut fault.Read stalled come write
-  come_broken stalled (Err fault.Write) unless come write = absurd (unless refl)
+-- what is owed was written, and then the line was handed on
+pub owed_handed : (before : Engaged) (after : OwnersState) (taken mid new : Outgoing) (stalled : Bool) (r : Result (Unit {0}) Stalled) → WritesOwed before after taken mid stalled (Ok tt) → Adds [] mid new stalled r
+    → WritesOwed before after taken new stalled r
+owed_handed before after taken mid new stalled (Ok done) write handed = λ rows start old under. answered_kept rows start after old mid new (write rows start old under) handed
+owed_handed before after taken mid new stalled (Err why) write handed = λ rows start old under. broken_kept rows start after old mid new stalled (write rows start old under) handed.0 handed.1
 
 -- so many records were read, of the bytes if they are known, and are answered or owed
-pub record SoFarOwed (start : Store) (known : Option (List ℕ)) (unread : Unread) (e : Engaged) (old new : Option (List ℕ)) (count : ℕ) : Type 0 where
+pub record SoFarOwed (start : Store) (known : Option (List ℕ)) (unread : Unread) (e : Engaged) (old new : Outgoing) (count : ℕ) : Type 0 where
   pub rows : List (List (List ℕ))
   pub many : length rows ≡ count
   pub underway : IsUnderway rows start e old new
   pub read : IfSome known (λ bytes. AreRead bytes unread rows)
 
 -- nothing is read yet
-pub owed_started : (e : Engaged) (unread : Unread) (old : Option (List ℕ)) → IsAtRest e → unread.state ≡ st.StartRecord → SoFarOwed (store_in e.register) unread.bytes unread e old old 0
+pub owed_started : (e : Engaged) (unread : Unread) (old : Outgoing) → IsAtRest e → unread.state ≡ st.StartRecord → SoFarOwed (store_in e.register) unread.bytes unread e old old 0
 owed_started e unread old rest at_start = record {
   rows = [];
   many = refl;
@@ -325,7 +236,7 @@ owed_started e unread old rest at_start = record {
 }
 
 module _ (a b : Unread) (fields : List (List ℕ)) (found : Bool) (taken : ReadsOne a b found fields) (start : Store) (known : Option (List ℕ)) (e : Engaged)
-    (old mid new : Option (List ℕ)) (count : ℕ) (so : SoFarOwed start known a e old mid count) where
+    (old mid new : Outgoing) (count : ℕ) (so : SoFarOwed start known a e old mid count) where
   -- one record more is answered or owed
   pub owed_goes_on : (next : Engaged) → found ≡ true → IsUnderway (so.rows ++ fields ∷ []) start next old new → SoFarOwed start known b next old new (count + 1)
   owed_goes_on next there under =
@@ -338,23 +249,24 @@ module _ (a b : Unread) (fields : List (List ℕ)) (found : Bool) (taken : Reads
       }
 
   -- the bytes end
-  pub owed_ends : found ≡ false → count ≤ 1048576 → IfSome known (λ bytes. HasComeToEnd start bytes e old mid)
+  pub owed_ends : found ≡ false → count ≤ 1048576 → IfSome known (λ bytes. HasComeToEnd bytes (λ rows. IsUnderway rows start e old mid))
   owed_ends none within =
       let many = so.many in
       if_some known _ _ (λ bytes read.
-      record { rows = so.rows; few = omega arith; are_records = read_all bytes a b so.rows fields read found none taken; underway = so.underway }) so.read
+      record { rows = so.rows; few = omega arith; are_records = read_all bytes a b so.rows fields read found none taken; holds = so.underway }) so.read
 
   -- a run stops in front of the record, for one or the other reason
-  stops_at : (stops : List ℕ → List (List (List ℕ)) → Fault → Type 0) (next : Engaged) (why : Fault) → count ≤ 1048576 → (why ≡ fault.Write → ⊥) → IsUnderway so.rows start next old new
-      → ((bytes : List ℕ) → AreRead bytes a so.rows → stops bytes so.rows why) → IfSome known (λ bytes. HasCome (stops bytes) start bytes next old new (Err why))
-  stops_at stops next why within unless under stopped =
+  stops_at : (stops : List ℕ → List (List (List ℕ)) → Fault → Type 0) (broken : List (List (List ℕ)) → Type 0) (next : Engaged) (why : Fault) → count ≤ 1048576 → (why ≡ fault.Write → ⊥)
+      → IsUnderway so.rows start next old new → ((bytes : List ℕ) → AreRead bytes a so.rows → stops bytes so.rows why)
+      → IfSome known (λ bytes. HasCome (stops bytes) bytes (λ rows. IsUnderway rows start next old new) broken (Err why))
+  stops_at stops broken next why within unless under stopped =
       let many = so.many in
       if_some known _ _ (λ bytes read.
-      come_to (stops bytes) start bytes next old new why unless
-      (record { rows = so.rows; few = omega arith; state = a.state; left = read.left; are_first = read.reached; underway = under; stopped = stopped bytes read })) so.read
+      come_to (stops bytes) bytes (λ rows. IsUnderway rows start next old new) broken why unless
+      (record { rows = so.rows; few = omega arith; state = a.state; left = read.left; are_first = read.reached; holds = (under, stopped bytes read) })) so.read
 
 module _ {T : Type 0} (unread : T → Unread) (fails : T → T → Fault → Type 0) (at now : T) (b : Unread) (fields : List (List ℕ)) (found : Bool)
-    (taken : ReadsOne (unread at) b found fields) (start : Store) (known : Option (List ℕ)) (e : Engaged) (old mid new : Option (List ℕ)) (count : ℕ)
+    (taken : ReadsOne (unread at) b found fields) (start : Store) (known : Option (List ℕ)) (e : Engaged) (old mid new : Outgoing) (count : ℕ)
     (so : SoFarOwed start known (unread at) e old mid count) where
   -- the event of the record was refused, for want of memory or a thread
   next_event : (bytes : List ℕ) → AreRead bytes (unread at) so.rows → found ≡ true → AsksEvent fields → HasNextEvent bytes so.rows
@@ -363,75 +275,75 @@ module _ {T : Type 0} (unread : T → Unread) (fails : T → T → Fault → Typ
 
   -- the record ended the run
   pub owed_fails : (next : Engaged) (stalled : Bool) (why : Fault) → found ≡ true → count < 1048576 → HasTaken so.rows fields start next old new stalled (Err why)
-      → IfSome known (λ bytes. HasCome (StopsBehind unread fails true bytes now) start bytes next old new (Err why))
-  owed_fails next stalled fault.Memory there below held =
-      stops_at (unread at) b fields found taken start known e old mid new count so (λ bytes. StopsBehind unread fails true bytes now) next fault.Memory (omega arith) (λ is. cc) held.0
-      (λ bytes read. inr (refl, next_event bytes read there held.1))
-  owed_fails next stalled fault.Thread there below held =
-      stops_at (unread at) b fields found taken start known e old mid new count so (λ bytes. StopsBehind unread fails true bytes now) next fault.Thread (omega arith) (λ is. cc) held.0
-      (λ bytes read. (refl, next_event bytes read there held.1))
-  owed_fails next stalled fault.Field there below held = absurd held
-  owed_fails next stalled fault.Read there below held = absurd held
-  owed_fails next stalled fault.Write there below held =
+      → IfSome known (λ bytes. HasCome (StopsBehind unread fails true bytes now) bytes (λ rows. IsUnderway rows start next old new) (λ rows. AreBrokenOff rows start old new stalled) (Err why))
+  owed_fails next stalled fault.Memory there below outgoing =
+      stops_at (unread at) b fields found taken start known e old mid new count so (λ bytes. StopsBehind unread fails true bytes now) (λ rows. AreBrokenOff rows start old new stalled) next fault.Memory (omega arith) (λ is. cc) outgoing.0
+      (λ bytes read. inr (refl, next_event bytes read there outgoing.1))
+  owed_fails next stalled fault.Thread there below outgoing =
+      stops_at (unread at) b fields found taken start known e old mid new count so (λ bytes. StopsBehind unread fails true bytes now) (λ rows. AreBrokenOff rows start old new stalled) next fault.Thread (omega arith) (λ is. cc) outgoing.0
+      (λ bytes read. (refl, next_event bytes read there outgoing.1))
+  owed_fails next stalled fault.Field there below outgoing = absurd outgoing
+  owed_fails next stalled fault.Read there below outgoing = absurd outgoing
+  owed_fails next stalled fault.Write there below was =
       let many = so.many in
       if_some known _ _ (λ bytes read.
-      elim held [
-        | inl before ↦ broken_front so.rows start bytes old new stalled (unread at).state read.left before (omega arith) read.reached
+      elim was [
+        | inl before ↦ record { rows = so.rows; few = omega arith; state = (unread at).state; left = read.left; are_first = read.reached; holds = before }
         | inr itself ↦
             let more = read_more bytes (unread at) b so.rows fields read found there taken in
-            broken_front (so.rows ++ fields ∷ []) start bytes old new stalled b.state more.left itself (rw length-append (omega arith)) more.reached
+            record { rows = so.rows ++ fields ∷ []; few = rw length-append (omega arith); state = b.state; left = more.left; are_first = more.reached; holds = itself }
       ]) so.read
 
   -- the record is one too many
-  pub owed_stops_at_last : found ≡ true → count ≡ 1048576 → IfSome known (λ bytes. HasCome (StopsBehind unread fails true bytes now) start bytes e old mid (Err fault.Read))
-  owed_stops_at_last there last =
+  pub owed_stops_at_last : (broken : List (List (List ℕ)) → Type 0) → found ≡ true → count ≡ 1048576
+      → IfSome known (λ bytes. HasCome (StopsBehind unread fails true bytes now) bytes (λ rows. IsUnderway rows start e old mid) broken (Err fault.Read))
+  owed_stops_at_last broken there last =
       let many = so.many in
-      stops_at (unread at) b fields found taken start known e old mid mid count so (λ bytes. StopsBehind unread fails true bytes now) e fault.Read (omega arith) (λ is. cc) so.underway
+      stops_at (unread at) b fields found taken start known e old mid mid count so (λ bytes. StopsBehind unread fails true bytes now) broken e fault.Read (omega arith) (λ is. cc) so.underway
       (λ bytes read.
       stopped_at_last unread fails true bytes so.rows now fields (omega arith)
       (has_next bytes b so.rows fields (read_more bytes (unread at) b so.rows fields read found there taken)))
 
 -- the read of a record failed
-pub owed_stops : {T : Type 0} (unread : T → Unread) (fails : T → T → Fault → Type 0) (at now : T) (start : Store) (known : Option (List ℕ)) (e : Engaged) (old new : Option (List ℕ)) (count : ℕ)
-    (why : Fault) → (so : SoFarOwed start known (unread at) e old new count) → count ≤ 1048576 → fails at now why → (why ≡ fault.Memory) ⊎ (why ≡ fault.Read)
-    → IfSome known (λ bytes. HasCome (StopsBehind unread fails true bytes now) start bytes e old new (Err why))
-owed_stops unread fails at now start known e old new count why so within failed either =
+pub owed_stops : {T : Type 0} (unread : T → Unread) (fails : T → T → Fault → Type 0) (at now : T) (start : Store) (known : Option (List ℕ)) (e : Engaged) (old new : Outgoing) (count : ℕ)
+    (broken : List (List (List ℕ)) → Type 0) (why : Fault) → (so : SoFarOwed start known (unread at) e old new count) → count ≤ 1048576 → fails at now why → (why ≡ fault.Memory) ⊎ (why ≡ fault.Read)
+    → IfSome known (λ bytes. HasCome (StopsBehind unread fails true bytes now) bytes (λ rows. IsUnderway rows start e old new) broken (Err why))
+owed_stops unread fails at now start known e old new count broken why so within failed either =
     let many = so.many in
     if_some known _ _ (λ bytes read.
-    come_to (StopsBehind unread fails true bytes now) start bytes e old new why (read_is_no_write why either) (record {
+    come_to (StopsBehind unread fails true bytes now) bytes (λ rows. IsUnderway rows start e old new) broken why (read_is_no_write why either) (record {
       rows = so.rows;
       few = omega arith;
       state = (unread at).state;
       left = read.left;
       are_first = read.reached;
-      underway = so.underway;
-      stopped = stopped_by_read unread fails true bytes so.rows now at why read failed either;
+      holds = (so.underway, stopped_by_read unread fails true bytes so.rows now at why read failed either);
     })) so.read
 
 -- a record that ended a run was no option out of range, and where the sink failed it told so
-pub taken_no_field : (rows : List (List (List ℕ))) (fields : List (List ℕ)) (start : Store) (e : Engaged) (old new : Option (List ℕ)) (stalled : Bool) (r : Result (Unit {0}) Fault)
+pub taken_no_field : (rows : List (List (List ℕ))) (fields : List (List ℕ)) (start : Store) (e : Engaged) (old new : Outgoing) (stalled : Bool) (r : Result (Unit {0}) Fault)
     → HasTaken rows fields start e old new stalled r → r ≡ Err fault.Field → ⊥
-taken_no_field rows fields start e old new stalled r held is = subst (λ (r : Result (Unit {0}) Fault). HasTaken rows fields start e old new stalled r) is held
+taken_no_field rows fields start e old new stalled r outgoing is = subst (λ (r : Result (Unit {0}) Fault). HasTaken rows fields start e old new stalled r) is outgoing
 
-pub taken_told : (rows : List (List (List ℕ))) (fields : List (List ℕ)) (start : Store) (e : Engaged) (old new : Option (List ℕ)) (stalled : Bool) (r : Result (Unit {0}) Fault)
+pub taken_told : (rows : List (List (List ℕ))) (fields : List (List ℕ)) (start : Store) (e : Engaged) (old new : Outgoing) (stalled : Bool) (r : Result (Unit {0}) Fault)
     → HasTaken rows fields start e old new stalled r → r ≡ Err fault.Write → stalled ≡ true
-taken_told rows fields start e old new stalled r held is = elim (subst (λ (r : Result (Unit {0}) Fault). HasTaken rows fields start e old new stalled r) is held) [
+taken_told rows fields start e old new stalled r outgoing is = elim (subst (λ (r : Result (Unit {0}) Fault). HasTaken rows fields start e old new stalled r) is outgoing) [
   | inl before ↦ before.told
   | inr itself ↦ itself.told
 ]
 
 -- a record that is answered, or in which the sink failed, as a run takes it
-pub answered_taken : (rows : List (List (List ℕ))) (fields : List (List ℕ)) (start : Store) (e : Engaged) (old new : Option (List ℕ)) (stalled : Bool) (done : Result (Unit {0}) Stalled) (r : Result (Unit {0}) Fault)
+pub answered_taken : (rows : List (List (List ℕ))) (fields : List (List ℕ)) (start : Store) (e : Engaged) (old new : Outgoing) (stalled : Bool) (done : Result (Unit {0}) Stalled) (r : Result (Unit {0}) Fault)
     → HasAnswered rows fields start e old new stalled done → MatchResult done (λ unit. r ≡ Ok unit) (λ why. r ≡ Err fault.Write) → HasTaken rows fields start e old new stalled r
-answered_taken rows fields start e old new stalled (Ok done) r held is = rw is held
-answered_taken rows fields start e old new stalled (Err why) r held is = rw is held
+answered_taken rows fields start e old new stalled (Ok done) r outgoing is = rw is outgoing
+answered_taken rows fields start e old new stalled (Err why) r outgoing is = rw is outgoing
 
 -- a record was taken, and then what is owed was handed on
-pub handed_taken : (rows : List (List (List ℕ))) (fields : List (List ℕ)) (start : Store) (e : Engaged) (old new : Option (List ℕ)) (stalled : Bool) (done : Result (Unit {0}) Stalled) (r : Result (Unit {0}) Fault)
+pub handed_taken : (rows : List (List (List ℕ))) (fields : List (List ℕ)) (start : Store) (e : Engaged) (old new : Outgoing) (stalled : Bool) (done : Result (Unit {0}) Stalled) (r : Result (Unit {0}) Fault)
     → MatchResult done (λ unit. AreAnswered (rows ++ fields ∷ []) start e.register old new) (λ why. AreBrokenOff (rows ++ fields ∷ []) start old new stalled) → IsAtRest e
     → MatchResult done (λ unit. r ≡ Ok unit) (λ why. r ≡ Err fault.Write) → HasTaken rows fields start e old new stalled r
-handed_taken rows fields start e old new stalled (Ok done) r held rest is = rw is (underway_at_rest (rows ++ fields ∷ []) start e old new rest held)
-handed_taken rows fields start e old new stalled (Err why) r held rest is = rw is (inr held)
+handed_taken rows fields start e old new stalled (Ok done) r outgoing rest is = rw is (underway_at_rest (rows ++ fields ∷ []) start e old new rest outgoing)
+handed_taken rows fields start e old new stalled (Err why) r outgoing rest is = rw is (inr outgoing)
 
 -- the command of a record whose word is known
 pub command_is : (fields : List (List ℕ)) (named : Word) (asked : Result Command Refusal) → Some named ≡ word_named (field fields 0) → command_named (Some named) fields ≡ asked → command_of fields ≡ asked

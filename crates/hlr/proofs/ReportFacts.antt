@@ -1,11 +1,10 @@
 -- The lines of a report, one after another.
 use Rattle.std.proofs.Common.{◌≡◌, refl, sym, ap, ◌∙◌, subst, ℕ, zero, suc, ◌+◌, ◌-◌, ◌*◌, ◌^◌, ◌<◌, ◌≤◌, ◌==◌, min, List, [], ◌∷◌, ◌++◌, length, drop, get_or, Bool, true, false, Option, append_assoc, arith}
-use Rattle.std.specs.Prelude.{ℤ, Result, nat_le}
+use Rattle.std.specs.Prelude.{ℤ, nat_le}
 use Rattle.std.specs.List.{AllByRecursion, filter, flat_map, range_with_len}
 use Rattle.std.proofs.lemmas.Bool.Decides.{nat_tests}
 use Rattle.std.proofs.lemmas.List.{append-nil, drop_more, length-append}
 use Rattle.std.proofs.lemmas.List.Concat.{flat_map-append}
-use Rattle.std.specs.Io.KnownBytes.{Appends}
 use Rattle.tatp_rows.proofs.OrderedLemmas.{by_test, each-weaker, filter_all}
 use Rattle.tatp_rows.specs.Ordered.{IsOrderedBy}
 use Rattle.tatp_rows.specs.Spans.{keys_from}
@@ -18,87 +17,70 @@ use Rattle.number_index.specs.Pairs.{ArePairs}
 use Rattle.tatp_actions.specs.declared.cells.TheConstants.{CELLS}
 use Rattle.hlr.specs.Lines.{total_line}
 use Rattle.hlr.specs.Reports.{cells_where, rows_line, is_counted, is_standing, report_text, scan_text, standing_line, views_text}
-use Rattle.hlr.specs.Sink.{AppendsFront, Puts}
-use Rattle.hlr.specs.declared.sink.Stalled.{Stalled}
-use Rattle.hlr.proofs.SinkFacts.{appends_none, appends_both, front_after, front_wider, puts_after}
+use Rattle.hlr.specs.Outgoing.{AddsFront, AddsWhole, Outgoing, outgoing}
+use Rattle.hlr.proofs.LineFacts.{put_both}
+use Rattle.hlr.proofs.SinkFacts.{adds_both, adds_front_after, adds_front_wider, adds_grown, adds_none}
 
 -- a list from a place on begins with what stands there
 pub drop_item : {X : Type 0} (xs : List X) (i : ℕ) (x : X) → i < length xs → x ≡ get_or xs i x → drop i xs ≡ x ∷ drop (i + 1) xs
 drop_item xs i x low is = drop_more xs i x low ∙ ap (λ y. y ∷ drop (i + 1) xs) (sym is)
 
--- the lines of all but the rest were taken
-pub record ReportTo {X : Type 0} (line : X → List ℕ) (all rest : List X) (old new : Option (List ℕ)) : Type 0 where
+-- the lines of all but the rest were added
+pub record ReportTo {X : Type 0} (line : X → List ℕ) (all rest : List X) (old new : Outgoing) : Type 0 where
   pub shown : List X
   pub all_is : all ≡ shown ++ rest
-  pub grew : Appends old new (flat_map line shown)
+  pub grew : AddsWhole (flat_map line shown) old new
 
 module _ {X : Type 0} (line : X → List ℕ) (all : List X) where
-  -- no line was taken yet
-  pub report_started : (rest : List X) (old : Option (List ℕ)) → all ≡ rest → ReportTo line all rest old old
-  report_started rest old e = record { shown = []; all_is = e; grew = appends_none old }
-
-  -- one line more
-  pub report_goes_on : (rest left : List X) (x : X) (old mid new : Option (List ℕ)) (bytes : List ℕ) → ReportTo line all rest old mid
-      → rest ≡ x ∷ left → bytes ≡ line x → Appends mid new bytes → ReportTo line all left old new
-  report_goes_on rest left x old mid new bytes to first is took = record {
-    shown = to.shown ++ x ∷ [];
-    all_is = to.all_is ∙ ap (λ xs. to.shown ++ xs) first ∙ sym (append_assoc to.shown (x ∷ []) left);
-    grew = rw (flat_map-append line to.shown (x ∷ []), append-nil (line x)) (appends_both old mid new _ _ to.grew (rw is at took));
-  }
+  -- no line was added yet
+  pub report_started : (rest : List X) (old : Outgoing) → all ≡ rest → ReportTo line all rest old old
+  report_started rest old e = record { shown = []; all_is = e; grew = adds_none old }
 
   -- the lines of a front of the rest
-  pub report_goes_on_by : (rest left more : List X) (old mid new : Option (List ℕ)) → ReportTo line all rest old mid → rest ≡ more ++ left → Appends mid new (flat_map line more) → ReportTo line all left old new
-  report_goes_on_by rest left more old mid new to front took = record {
+  pub report_goes_on_by : (rest left more : List X) (old mid new : Outgoing) → ReportTo line all rest old mid → rest ≡ more ++ left → AddsWhole (flat_map line more) mid new → ReportTo line all left old new
+  report_goes_on_by rest left more old mid new to front added = record {
     shown = to.shown ++ more;
     all_is = to.all_is ∙ ap (λ xs. to.shown ++ xs) front ∙ sym (append_assoc to.shown more left);
-    grew = rw (flat_map-append line to.shown more) (appends_both old mid new _ _ to.grew took);
+    grew = rw (flat_map-append line to.shown more) (adds_both _ _ old mid new to.grew added);
   }
 
-  -- the sink failed in them
-  pub lines_stop_by : (rest left more : List X) (old mid new : Option (List ℕ)) → ReportTo line all rest old mid → rest ≡ more ++ left → AppendsFront mid new (flat_map line more) → AppendsFront old new (flat_map line all)
-  lines_stop_by rest left more old mid new to front took =
+  -- one line more, once there was room for it
+  pub report_goes_on : (rest left : List X) (x : X) (page grown : List ℕ) (taken : Option (List ℕ)) (old mid : Outgoing) → ReportTo line all rest old mid → rest ≡ x ∷ left
+      → AddsWhole [] mid (outgoing page taken) → grown ≡ page ++ line x → ReportTo line all left old (outgoing grown taken)
+  report_goes_on rest left x page grown taken old mid to first room is =
+      report_goes_on_by rest left (x ∷ []) old mid (outgoing grown taken) to first
+      (rw (append-nil (line x)) (adds_both [] (line x) mid (outgoing page taken) (outgoing grown taken) room (adds_grown (line x) page grown taken is)))
+
+  -- the sink failed in the lines of a front of the rest
+  pub lines_stop_by : (rest left more : List X) (old mid new : Outgoing) → ReportTo line all rest old mid → rest ≡ more ++ left → AddsFront (flat_map line more) mid new → AddsFront (flat_map line all) old new
+  lines_stop_by rest left more old mid new to front cut =
       let whole : flat_map line all ≡ flat_map line to.shown ++ (flat_map line more ++ flat_map line left) =
       ap (flat_map line) (to.all_is ∙ ap (λ xs. to.shown ++ xs) front) ∙ flat_map-append line to.shown (more ++ left)
       ∙ ap (λ bytes. flat_map line to.shown ++ bytes) (flat_map-append line more left) in
-      rw whole (front_after old mid new _ _ to.grew (front_wider mid new (flat_map line more) _ took))
+      rw whole (adds_front_after _ _ old mid new to.grew (adds_front_wider (flat_map line more) _ mid new cut))
 
-  pub report_stops_by : (word : List ℕ) (rest left more : List X) (old mid new : Option (List ℕ)) → ReportTo line all rest old mid → rest ≡ more ++ left → AppendsFront mid new (flat_map line more)
-      → AppendsFront old new (report_text word line all)
+  pub report_stops_by : (word : List ℕ) (rest left more : List X) (old mid new : Outgoing) → ReportTo line all rest old mid → rest ≡ more ++ left → AddsFront (flat_map line more) mid new
+      → AddsFront (report_text word line all) old new
   unfolding report_text
-  report_stops_by word rest left more old mid new to front took = front_wider old new (flat_map line all) _ (lines_stop_by rest left more old mid new to front took)
+  report_stops_by word rest left more old mid new to front cut = adds_front_wider (flat_map line all) _ old new (lines_stop_by rest left more old mid new to front cut)
 
-  -- the sink failed in a line
-  pub lines_stop : (rest left : List X) (x : X) (old mid new : Option (List ℕ)) (bytes : List ℕ) → ReportTo line all rest old mid
-      → rest ≡ x ∷ left → bytes ≡ line x → AppendsFront mid new bytes → AppendsFront old new (flat_map line all)
-  lines_stop rest left x old mid new bytes to first is took =
-      let whole : flat_map line all ≡ flat_map line to.shown ++ (line x ++ flat_map line left) =
-      ap (flat_map line) (to.all_is ∙ ap (λ xs. to.shown ++ xs) first) ∙ flat_map-append line to.shown (x ∷ left) in
-      rw whole (front_after old mid new _ _ to.grew (front_wider mid new (line x) _ (rw is at took)))
-
-  pub report_stops : (word : List ℕ) (rest left : List X) (x : X) (old mid new : Option (List ℕ)) (bytes : List ℕ) → ReportTo line all rest old mid
-      → rest ≡ x ∷ left → bytes ≡ line x → AppendsFront mid new bytes → AppendsFront old new (report_text word line all)
-  unfolding report_text
-  report_stops word rest left x old mid new bytes to first is took = front_wider old new (flat_map line all) _ (lines_stop rest left x old mid new bytes to first is took)
-
-  -- all lines were handed on at once, and the sink took them, or failed in them
-  pub report_at_once : (old new : Option (List ℕ)) (bytes : List ℕ) → bytes ≡ flat_map line all → Appends old new bytes → ReportTo line all [] old new
-  report_at_once old new bytes is took = record { shown = all; all_is = sym (append-nil all); grew = rw is at took }
-
-  pub report_stops_at_once : (word : List ℕ) (old new : Option (List ℕ)) (bytes : List ℕ) → bytes ≡ flat_map line all → AppendsFront old new bytes → AppendsFront old new (report_text word line all)
-  unfolding report_text
-  report_stops_at_once word old new bytes is took = front_wider old new (flat_map line all) _ (rw is at took)
-
-  -- all lines were taken
-  pub report_whole : (rest : List X) (old new : Option (List ℕ)) → ReportTo line all rest old new → rest ≡ [] → Appends old new (flat_map line all)
+  -- all lines were added
+  pub report_whole : (rest : List X) (old new : Outgoing) → ReportTo line all rest old new → rest ≡ [] → AddsWhole (flat_map line all) old new
   report_whole rest old new to none =
       let whole : all ≡ to.shown = to.all_is ∙ ap (λ xs. to.shown ++ xs) none ∙ append-nil to.shown in rw whole to.grew
 
-  -- and then the last one was put
-  pub report_ends : (word : List ℕ) (rest : List X) (old mid new : Option (List ℕ)) (stalled : Bool) (total : ℕ) (bytes : List ℕ) (r : Result (Unit {0}) Stalled) → ReportTo line all rest old mid
-      → rest ≡ [] → total ≡ length all → bytes ≡ total_line word total → Puts bytes mid new stalled r → Puts (report_text word line all) old new stalled r
+  -- and then the last one
+  pub report_ends : (word : List ℕ) (rest : List X) (page grown : List ℕ) (taken : Option (List ℕ)) (old mid : Outgoing) (total : ℕ) → ReportTo line all rest old mid → rest ≡ []
+      → total ≡ length all → AddsWhole [] mid (outgoing page taken) → grown ≡ page ++ total_line word total → AddsWhole (report_text word line all) old (outgoing grown taken)
   unfolding report_text
-  report_ends word rest old mid new stalled total bytes r to none total_is is put =
-      puts_after old mid new stalled (flat_map line all) _ r (report_whole rest old mid to none) (rw (is, total_is) at put)
+  report_ends word rest page grown taken old mid total to none total_is room is =
+      adds_both (flat_map line all) (total_line word (length all)) old mid (outgoing grown taken) (report_whole rest old mid to none)
+      (adds_both [] (total_line word (length all)) mid (outgoing page taken) (outgoing grown taken) room (adds_grown _ page grown taken (rw total_is at is)))
+
+  -- all lines stand behind a line, and then the last one
+  pub report_built : (word old mid new : List ℕ) (total : ℕ) → mid ≡ old ++ flat_map line all → total ≡ length all → new ≡ mid ++ total_line word total → new ≡ old ++ report_text word line all
+  unfolding report_text
+  report_built word old mid new total lines total_is is = put_both old mid new (flat_map line all) (total_line word (length all)) lines (rw total_is at is)
 
 -- the pairs from a number on
 abbrev pub pairs_from : ℕ → List (ℕ × ℕ) → List (ℕ × ℕ)
@@ -217,56 +199,65 @@ pub cells_all : (mark : ℕ → Bool) → cells_where mark ≡ cells_left mark 0
 unfolding cells_left cells_where
 cells_all mark = refl
 
--- the lines of the cells from one on were built
-pub record AreBuilt (line : ℕ → List ℕ) (mark : ℕ → Bool) (c : ℕ) (items : List ℕ) (count : ℕ) : Type 0 where
-  pub lines : items ≡ flat_map line (cells_left mark c)
-  pub count_is : count ≡ length (cells_left mark c)
-  pub few : count + c ≤ CELLS
-  pub room : length items + 70 * c ≤ 70 * CELLS
+-- the lines of the cells before one stand behind a line
+pub record AreBuilt (line : ℕ → List ℕ) (mark : ℕ → Bool) (old : List ℕ) (c : ℕ) (items : List ℕ) (count : ℕ) : Type 0 where
+  pub lines : items ++ flat_map line (cells_left mark c) ≡ old ++ flat_map line (cells_where mark)
+  pub count_is : count + length (cells_left mark c) ≡ length (cells_where mark)
+  pub few : count ≤ c
+  pub within : c ≤ CELLS
+  pub room : length items ≤ length old + 70 * c
 
-module _ (line : ℕ → List ℕ) (mark : ℕ → Bool) where
+module _ (line : ℕ → List ℕ) (mark : ℕ → Bool) (old : List ℕ) where
   -- none yet
-  pub built_none : (items : List ℕ) → items ≡ [] → AreBuilt line mark CELLS items 0
-  built_none items none = record {
-    lines = none ∙ sym (ap (flat_map line) (cells_none mark));
-    count_is = sym (ap length (cells_none mark));
+  pub built_none : AreBuilt line mark old 0 old 0
+  built_none = record {
+    lines = sym (ap (λ cs. old ++ flat_map line cs) (cells_all mark));
+    count_is = let all = ap length (cells_all mark) in omega arith;
     few = omega arith;
-    room = rw none (omega arith);
+    within = omega arith;
+    room = omega arith;
   }
 
-  -- the line of the cell before in front
-  pub built_more : (c : ℕ) (items after : List ℕ) (count : ℕ) → 0 < c → c ≤ CELLS → AreBuilt line mark c items count → mark (c - 1) ≡ true → after ≡ line (c - 1) ++ items
-      → length after ≤ length items + 70 → AreBuilt line mark (c - 1) after (count + 1)
-  built_more c items after count some within built e is few =
-      let back : c - 1 + 1 ≡ c = omega arith in
-      let next : cells_left mark (c - 1) ≡ (c - 1) ∷ cells_left mark c = cells_next mark (c - 1) (omega arith) e ∙ ap (λ n. (c - 1) ∷ cells_left mark n) back in
+  -- the line of the next cell
+  pub built_more : (c : ℕ) (items after : List ℕ) (count : ℕ) → c < CELLS → AreBuilt line mark old c items count → mark c ≡ true → after ≡ items ++ line c
+      → length after ≤ length items + 70 → AreBuilt line mark old (c + 1) after (count + 1)
+  built_more c items after count below built e is few =
+      let next = cells_next mark c below e in
+      let more : length (cells_left mark c) ≡ 1 + length (cells_left mark (c + 1)) = ap length next ∙ omega arith in
       record {
-        lines = is ∙ (ap (λ ys. line (c - 1) ++ ys) built.lines ∙ sym (ap (flat_map line) next));
-        count_is = ap (λ n. n + 1) built.count_is ∙ (omega arith ∙ sym (ap length next));
+        lines = ap (λ ys. ys ++ flat_map line (cells_left mark (c + 1))) is ∙ append_assoc items (line c) (flat_map line (cells_left mark (c + 1)))
+            ∙ ap (λ cs. items ++ flat_map line cs) (sym next) ∙ built.lines;
+        count_is = omega (arith, built.count_is, more);
         few = omega (arith, built.few);
+        within = omega arith;
         room = omega (arith, built.room, few);
       }
 
-  -- the cell before has no line
-  pub built_skip : (c : ℕ) (items : List ℕ) (count : ℕ) → 0 < c → c ≤ CELLS → AreBuilt line mark c items count → mark (c - 1) ≡ false → AreBuilt line mark (c - 1) items count
-  built_skip c items count some within built e =
-      let back : c - 1 + 1 ≡ c = omega arith in
-      let next : cells_left mark (c - 1) ≡ cells_left mark c = cells_skip mark (c - 1) (omega arith) e ∙ ap (cells_left mark) back in
+  -- the next cell has no line
+  pub built_skip : (c : ℕ) (items : List ℕ) (count : ℕ) → c < CELLS → AreBuilt line mark old c items count → mark c ≡ false → AreBuilt line mark old (c + 1) items count
+  built_skip c items count below built e =
+      let next = cells_skip mark c below e in
       record {
-        lines = built.lines ∙ sym (ap (flat_map line) next);
-        count_is = built.count_is ∙ sym (ap length next);
+        lines = ap (λ cs. items ++ flat_map line cs) (sym next) ∙ built.lines;
+        count_is = ap (λ cs. count + length cs) (sym next) ∙ built.count_is;
         few = omega (arith, built.few);
+        within = omega arith;
         room = omega (arith, built.room);
       }
 
-  -- all of them
-  pub built_lines : (c : ℕ) (items : List ℕ) (count : ℕ) → c ≤ 0 → AreBuilt line mark c items count → items ≡ flat_map line (cells_where mark)
-  built_lines c items count end built =
-      let first : c ≡ 0 = omega arith in built.lines ∙ ap (flat_map line) (ap (cells_left mark) first ∙ sym (cells_all mark))
+  module _ (c : ℕ) (items : List ℕ) (count : ℕ) (end : CELLS ≤ c) (built : AreBuilt line mark old c items count) where
+    none_left : cells_left mark c ≡ []
+    none_left = let within = built.within in let last : c ≡ CELLS = omega arith in ap (cells_left mark) last ∙ cells_none mark
 
-  pub built_count : (c : ℕ) (items : List ℕ) (count : ℕ) → c ≤ 0 → AreBuilt line mark c items count → count ≡ length (cells_where mark)
-  built_count c items count end built =
-      let first : c ≡ 0 = omega arith in built.count_is ∙ ap length (ap (cells_left mark) first ∙ sym (cells_all mark))
+    -- all of them
+    pub built_lines : items ≡ old ++ flat_map line (cells_where mark)
+    built_lines = sym (append-nil items) ∙ ap (λ cs. items ++ flat_map line cs) (sym none_left) ∙ built.lines
+
+    pub built_count : count ≡ length (cells_where mark)
+    built_count = let none = ap length none_left in omega (arith, built.count_is, none)
+
+    pub built_len : length items ≤ length old + 70 * CELLS
+    built_len = omega (arith, built.room, built.within)
 
 -- cells with the same marks and the same lines make the same report
 marks_same : (p q : ℕ → Bool) (a n : ℕ) → ((c : ℕ) → c < a + n → p c ≡ q c) → filter p (range_with_len a n) ≡ filter q (range_with_len a n)

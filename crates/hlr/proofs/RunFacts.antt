@@ -11,15 +11,16 @@ use Rattle.csv.specs.Reading.{AreRecords, NextIs, Reached, ReadsNext, default_co
 use Rattle.csv.specs.declared.parser.State.{State}
 use Rattle.csv.specs.declared.parser.State.TheVariants as st
 use Rattle.csv.proofs.ReadFacts.{reached-more}
+use Rattle.hlr_owners.specs.Owners.{OwnersState, store_in}
 use Rattle.hlr_owners.specs.Store.{Store}
 use Rattle.hlr.specs.Records.{command_of, command_named, field, word_named}
 use Rattle.hlr.specs.declared.records.Report.{Report}
 use Rattle.hlr.specs.declared.records.Report.TheVariants as report
 use Rattle.hlr.specs.declared.records.Word.{Word}
 use Rattle.hlr.specs.declared.records.Word.TheVariants as word
-use Rattle.hlr.specs.Inside.{Answers, word_of_report, report_on}
-use Rattle.hlr.specs.Sink.{Puts}
-use Rattle.hlr.specs.Run.{WritesWhole, AnsweredRecords, RanWhole, RanFront, Ran}
+use Rattle.hlr.specs.Inside.{AddsAnswer, Answers, AreAnswered, AreBrokenOff, HasCome, HasComeTo, HasComeToEnd, report_on, with_sight, word_of_report}
+use Rattle.hlr.specs.Outgoing.{Adds, AddsFront, AddsWhole, Outgoing, outgoing}
+use Rattle.hlr.specs.Run.{WritesWhole, AnsweredRecords, RanFront, Ran}
 use Rattle.hlr.specs.Source.{AreRead, HasNext, RanUntil, ReadsOne, StoppedFront, StopsBehind, Unread}
 use Rattle.hlr.specs.Text.{CommandText, RecordText, RecordsText}
 use Rattle.hlr.proofs.OrderFacts.{answered_records}
@@ -30,31 +31,37 @@ use Rattle.hlr.specs.Command.{Command}
 use Rattle.hlr.specs.Command.{Command as command}
 use Rattle.hlr.specs.declared.sink.Stalled.{Stalled}
 use Rattle.hlr.specs.declared.fault.Fault.TheVariants as fault
-use Rattle.hlr.proofs.SinkFacts.{appends_none, appends_both, appends_kept, begins_all, begins_after, put_whole, put_front, puts_flushed}
+use Rattle.hlr.proofs.SinkFacts.{adds_all, adds_begun, adds_both, adds_front, adds_front_after, adds_grown, adds_none, adds_on, adds_whole, appends_kept, appends_none, begins_all}
 
--- the command that a record is was answered by a text, and that was put
-pub answered : (fields : List (List ℕ)) (asked : Result Command Refusal) (before after : Store) (old new : Option (List ℕ)) (stalled : Bool) (text piece : List ℕ) (r : Result (Unit {0}) Stalled)
-    → asked ≡ command_of fields → CommandText fields asked before text after → piece ≡ text → Puts piece old new stalled r → Answers fields before after old new stalled r
-answered fields asked before after old new stalled text piece r is answer same put = record { text = text; answer = rw (← is) answer; put = rw (← same) put }
+-- a record was answered behind a line, as the command that it is
+pub answered : (fields : List (List ℕ)) (asked : Result Command Refusal) (before after : Store) (page grown : List ℕ) (taken : Option (List ℕ)) → asked ≡ command_of fields
+    → AddsAnswer fields asked before after page grown → (stalled : Bool) → Answers fields before after (outgoing page taken) (outgoing grown taken) stalled (Ok tt)
+answered fields asked before after page grown taken is added stalled =
+    record { text = added.text; answer = rw (← is) added.answer; put = adds_grown added.text page grown taken added.grew }
+
+-- a command was answered by a text that was added
+pub answered_by : (fields : List (List ℕ)) (asked : Result Command Refusal) (before after : Store) (text : List ℕ) (old new : Outgoing) (stalled : Bool) (r : Result (Unit {0}) Stalled) → asked ≡ command_of fields
+    → CommandText fields asked before text after → Adds text old new stalled r → Answers fields before after old new stalled r
+answered_by fields asked before after text old new stalled r is answer added = record { text = text; answer = rw (← is) answer; put = added }
 
 -- a record was answered, which is all
-pub answered_on : (fields : List (List ℕ)) (before after : Store) (old new : Option (List ℕ)) (stalled : Bool) (r s : Result (Unit {0}) Stalled)
+pub answered_on : (fields : List (List ℕ)) (before after : Store) (old new : Outgoing) (stalled : Bool) (r s : Result (Unit {0}) Stalled)
     → is_err r ≡ is_err s → Answers fields before after old new stalled r → Answers fields before after old new stalled s
 answered_on fields before after old new stalled r s same done = record { text = done.text; answer = done.answer; put = on r s same done.put }
   where
-    on : (r s : Result (Unit {0}) Stalled) → is_err r ≡ is_err s → Puts done.text old new stalled r → Puts done.text old new stalled s
+    on : (r s : Result (Unit {0}) Stalled) → is_err r ≡ is_err s → Adds done.text old new stalled r → Adds done.text old new stalled s
     on (Ok x) (Ok y) same put = put
     on (Err x) (Err y) same put = put
     on (Ok x) (Err y) same put = absurd (false≢true same)
     on (Err x) (Ok y) same put = absurd (false≢true (sym same))
 
--- and then the sink was flushed, or failed in that
-pub answered_flushed : (fields : List (List ℕ)) (before after : Store) (old mid new : Option (List ℕ)) (stalled later : Bool) (r s : Result (Unit {0}) Stalled)
-    → is_err r ≡ false → Answers fields before after old mid stalled r → Keeps mid new → (is_err s ≡ true → later ≡ true) → Answers fields before after old new later s
-answered_flushed fields before after old mid new stalled later r s passed done kept told = record {
+-- and then the line was handed on, or the sink failed in that
+pub answered_handed : (fields : List (List ℕ)) (before after : Store) (old mid new : Outgoing) (stalled later : Bool) (r s : Result (Unit {0}) Stalled)
+    → is_err r ≡ false → Answers fields before after old mid stalled r → Adds [] mid new later s → Answers fields before after old new later s
+answered_handed fields before after old mid new stalled later r s passed done handed = record {
   text = done.text;
   answer = done.answer;
-  put = puts_flushed done.text old mid new later s (put_whole done.text old mid stalled r passed done.put) kept told;
+  put = adds_on done.text old mid new later s (adds_whole done.text old mid stalled r passed done.put) handed;
 }
 
 -- one record more
@@ -105,38 +112,38 @@ module _ (bytes : List ℕ) (a b : Unread) (rows : List (List (List ℕ))) (fiel
 pub has_next : (bytes : List ℕ) (unread : Unread) (rows : List (List (List ℕ))) (fields : List (List ℕ)) → AreRead bytes unread (rows ++ fields ∷ []) → HasNext bytes rows fields
 has_next bytes unread rows fields read = (unread.state, read.left, read.reached)
 
--- the first records of the bytes are read and answered
-pub record SoFar (start : Store) (bytes : List ℕ) (unread : Unread) (now : Store) (old new : Option (List ℕ)) (count : ℕ) : Type 0 where
+-- so many records of the bytes are read and answered
+pub record SoFar (start : Store) (bytes : List ℕ) (unread : Unread) (register : OwnersState) (old new : Outgoing) (count : ℕ) : Type 0 where
   pub rows : List (List (List ℕ))
   pub read : AreRead bytes unread rows
   pub text : List ℕ
-  pub answers : RecordsText rows start text now
-  pub grew : Appends old new text
+  pub answers : RecordsText rows start text (store_in register)
+  pub grew : AddsWhole text old new
   pub many : length rows ≡ count
 
 -- nothing is read yet
-pub started : (start : Store) (bytes : List ℕ) (unread : Unread) (old : Option (List ℕ)) → unread.bytes ≡ Some bytes → unread.state ≡ st.StartRecord
-    → SoFar start bytes unread start old old 0
+pub started : (bytes : List ℕ) (unread : Unread) (register : OwnersState) (old : Outgoing) → unread.bytes ≡ Some bytes → unread.state ≡ st.StartRecord
+    → SoFar (store_in register) bytes unread register old old 0
 unfolding RecordsText
-started start bytes unread old is at_start = record {
+started bytes unread register old is at_start = record {
   rows = [];
   read = read_none bytes unread is at_start;
   text = [];
   answers = (refl, refl);
-  grew = appends_none old;
+  grew = adds_none old;
   many = refl;
 }
 
--- what is answered so far, where the count is within the limit
-abbrev answered_so_far : (start : Store) (bytes : List ℕ) (unread : Unread) (now : Store) (old new : Option (List ℕ)) (count : ℕ)
-    → SoFar start bytes unread now old new count → count ≤ 1048576 → AnsweredRecords start
-answered_so_far start bytes unread now old new count so within =
-    let many = so.many in answered_records start so.rows so.text now (omega arith) so.answers
+-- the records so far are answered
+pub answered_so_far : (start : Store) (bytes : List ℕ) (unread : Unread) (register : OwnersState) (old new : Outgoing) (count : ℕ) (so : SoFar start bytes unread register old new count)
+    → AreAnswered so.rows start register old new
+answered_so_far start bytes unread register old new count so =
+    record { text = so.text; sight = register.spare.view.seen; answers = so.answers; grew = so.grew }
 
-module _ (start : Store) (bytes : List ℕ) (a b : Unread) (fields : List (List ℕ)) (now next : Store) (old mid new : Option (List ℕ)) (count : ℕ)
-    (so : SoFar start bytes a now old mid count) (found : Bool) (taken : ReadsOne a b found fields) where
+module _ (start : Store) (bytes : List ℕ) (a b : Unread) (fields : List (List ℕ)) (register next : OwnersState) (old mid new : Outgoing) (count : ℕ)
+    (so : SoFar start bytes a register old mid count) (found : Bool) (taken : ReadsOne a b found fields) where
   -- one record more is read and answered
-  pub goes_on : found ≡ true → (stalled : Bool) (r : Result (Unit {0}) Stalled) → is_err r ≡ false → Answers fields now next mid new stalled r
+  pub goes_on : found ≡ true → (stalled : Bool) (r : Result (Unit {0}) Stalled) → is_err r ≡ false → Answers fields (store_in register) (store_in next) mid new stalled r
       → SoFar start bytes b next old new (count + 1)
   goes_on there stalled r passed done =
       let many = so.many in
@@ -144,39 +151,40 @@ module _ (start : Store) (bytes : List ℕ) (a b : Unread) (fields : List (List 
         rows = so.rows ++ fields ∷ [];
         read = read_more bytes a b so.rows fields so.read found there taken;
         text = so.text ++ done.text;
-        answers = records_more so.rows fields start now next so.text done.text so.answers done.answer;
-        grew = appends_both old mid new so.text done.text so.grew (put_whole done.text mid new stalled r passed done.put);
+        answers = records_more so.rows fields start (store_in register) (store_in next) so.text done.text so.answers done.answer;
+        grew = adds_both so.text done.text old mid new so.grew (adds_whole done.text mid new stalled r passed done.put);
         many = rw length-append (omega arith);
       }
 
   -- the bytes end
-  pub ends : found ≡ false → count ≤ 1048576 → RanWhole start bytes old mid
+  pub ends : found ≡ false → count ≤ 1048576 → HasComeToEnd bytes (λ rows. AreAnswered rows start register old mid)
   ends none few = record {
-    answered = answered_so_far start bytes a now old mid count so few;
+    rows = so.rows;
+    few = let many = so.many in omega arith;
     are_records = read_all bytes a b so.rows fields so.read found none taken;
-    grew = so.grew;
+    holds = answered_so_far start bytes a register old mid count so;
   }
 
   -- the sink failed in the answer of a record
-  pub breaks : (stops : List (List (List ℕ)) → Fault → Type 0) → found ≡ true → (stalled : Bool) (r : Result (Unit {0}) Stalled) → is_err r ≡ true
-      → Answers fields now next mid new stalled r → count < 1048576 → StoppedFront stops start bytes old new fault.Write
-  breaks stops there stalled r failed cut below =
+  pub breaks : found ≡ true → (stalled : Bool) (r : Result (Unit {0}) Stalled) → is_err r ≡ true → Answers fields (store_in register) (store_in next) mid new stalled r → count < 1048576
+      → HasComeTo bytes (λ rows. AreBrokenOff rows start old new stalled)
+  breaks there stalled r failed cut below =
       let more = read_more bytes a b so.rows fields so.read found there taken in
       let many = so.many in
-      let front = (put_front cut.text mid new stalled r failed cut.put).0 in
+      let front = adds_front cut.text mid new stalled r failed cut.put in
       record {
-        front = record {
-          answered = answered_records start (so.rows ++ fields ∷ []) (so.text ++ cut.text) next (rw length-append (omega arith))
-              (records_more so.rows fields start now next so.text cut.text so.answers cut.answer);
-          state = b.state;
-          left = more.left;
-          are_first = more.reached;
-          written = so.text ++ front.front;
-          begins = begins_after so.text front.front cut.text front.begins;
-          whole = tt;
-          grew = appends_both old mid new so.text front.front so.grew front.grew;
+        rows = so.rows ++ fields ∷ [];
+        few = rw length-append (omega arith);
+        state = b.state;
+        left = more.left;
+        are_first = more.reached;
+        holds = record {
+          text = so.text ++ cut.text;
+          end = store_in next;
+          answers = records_more so.rows fields start (store_in register) (store_in next) so.text cut.text so.answers cut.answer;
+          front = adds_front_after so.text cut.text old mid new so.grew front.0;
+          told = front.1;
         };
-        stopped = λ unless. absurd (unless refl);
       }
 
 -- a text that is written whole
@@ -215,13 +223,34 @@ front_kept start bytes old mid new why other ran whole kept = record {
   grew = appends_kept old mid new ran.written ran.grew kept;
 }
 
+-- a run that came to a record and no further, unless the sink failed
+pub come_to : (stops : List (List (List ℕ)) → Fault → Type 0) (bytes : List ℕ) (P broken : List (List (List ℕ)) → Type 0) (why : Fault) → (why ≡ fault.Write → ⊥)
+    → HasComeTo bytes (λ rows. P rows × stops rows why) → HasCome stops bytes P broken (Err why)
+come_to stops bytes P broken fault.Memory unless come = come
+come_to stops bytes P broken fault.Field unless come = come
+come_to stops bytes P broken fault.Thread unless come = come
+come_to stops bytes P broken fault.Read unless come = come
+come_to stops bytes P broken fault.Write unless come = absurd (unless refl)
+
+-- a reader's fault is none of the sink
+pub read_is_no_write : (why : Fault) → (why ≡ fault.Memory) ⊎ (why ≡ fault.Read) → why ≡ fault.Write → ⊥
+read_is_no_write why (inl memory) is = let clash : fault.Memory ≡ fault.Write = sym memory ∙ is in cc
+read_is_no_write why (inr read) is = let clash : fault.Read ≡ fault.Write = sym read ∙ is in cc
+
 -- the run stops between two records
-pub stops_so : (stops : List (List (List ℕ)) → Fault → Type 0) (start : Store) (bytes : List ℕ) (unread : Unread) (now : Store) (old new : Option (List ℕ)) (count : ℕ) (why : Fault)
-    → (so : SoFar start bytes unread now old new count) → count ≤ 1048576 → stops so.rows why → StoppedFront stops start bytes old new why
-stops_so stops start bytes unread now old new count why so within stopped = record {
-  front = front_is_whole start bytes old new why (answered_so_far start bytes unread now old new count so within) unread.state so.read.left so.read.reached so.grew;
-  stopped = λ unless. stopped;
-}
+pub stops_so : (stops : List (List (List ℕ)) → Fault → Type 0) (broken : List (List (List ℕ)) → Type 0) (start : Store) (bytes : List ℕ) (unread : Unread) (register : OwnersState) (old new : Outgoing)
+    (count : ℕ) (why : Fault) → (so : SoFar start bytes unread register old new count) → count ≤ 1048576 → (why ≡ fault.Write → ⊥) → stops so.rows why
+    → HasCome stops bytes (λ rows. AreAnswered rows start register old new) broken (Err why)
+stops_so stops broken start bytes unread register old new count why so within unless stopped =
+    let many = so.many in
+    come_to stops bytes (λ rows. AreAnswered rows start register old new) broken why unless (record {
+      rows = so.rows;
+      few = omega arith;
+      state = unread.state;
+      left = so.read.left;
+      are_first = so.read.reached;
+      holds = (answered_so_far start bytes unread register old new count so, stopped);
+    })
 
 module _ {T : Type 0} (unread : T → Unread) (fails : T → T → Fault → Type 0) (threads : Bool) (bytes : List ℕ) (rows : List (List (List ℕ))) (now : T) where
   -- a read failed
@@ -240,12 +269,12 @@ module _ {T : Type 0} (unread : T → Unread) (fails : T → T → Fault → Typ
   stopped_at_last fields many next = inr (many, fields, next)
 
 -- the run stops at a record that is one too many
-pub stops_full : {T : Type 0} (unread : T → Unread) (fails : T → T → Fault → Type 0) (last : T) (start : Store) (bytes : List ℕ) (a b : Unread) (fields : List (List ℕ)) (now : Store)
-    (old new : Option (List ℕ)) (count : ℕ) (so : SoFar start bytes a now old new count) (found : Bool) → ReadsOne a b found fields → found ≡ true → count ≡ 1048576
-    → StoppedFront (StopsBehind unread fails false bytes last) start bytes old new fault.Read
-stops_full unread fails last start bytes a b fields now old new count so found taken there full =
+pub stops_full : {T : Type 0} (unread : T → Unread) (fails : T → T → Fault → Type 0) (last : T) (broken : List (List (List ℕ)) → Type 0) (start : Store) (bytes : List ℕ) (a b : Unread)
+    (fields : List (List ℕ)) (register : OwnersState) (old new : Outgoing) (count : ℕ) (so : SoFar start bytes a register old new count) (found : Bool) → ReadsOne a b found fields → found ≡ true
+    → count ≡ 1048576 → HasCome (StopsBehind unread fails false bytes last) bytes (λ rows. AreAnswered rows start register old new) broken (Err fault.Read)
+stops_full unread fails last broken start bytes a b fields register old new count so found taken there full =
     let many = so.many in
-    stops_so (StopsBehind unread fails false bytes last) start bytes a now old new count fault.Read so (omega arith)
+    stops_so (StopsBehind unread fails false bytes last) broken start bytes a register old new count fault.Read so (omega arith) (λ is. cc)
     (stopped_at_last unread fails false bytes so.rows last fields (omega arith) (has_next bytes b so.rows fields (read_more bytes a b so.rows fields so.read found there taken)))
 
 -- a run that read nothing and wrote nothing
@@ -318,10 +347,13 @@ ran_flushed stops (Some bytes) source start old mid new done r is ran kept ended
     ran_finished start (strip_bom bytes) old mid new done r (ran_until (stops (strip_bom bytes)) start (strip_bom bytes) old mid done until) kept ended
 
 -- the answer to a record whose word is known
-pub named_text : (fields : List (List ℕ)) (named : Option Word) (before after : Store) (text : List ℕ) → named ≡ word_named (field fields 0) → CommandText fields (command_named named fields) before text after
-    → RecordText fields before text after
-unfolding command_of
-named_text fields named before after text is answer = subst (λ (w : Option Word). CommandText fields (command_named w fields) before text after) is answer
+module _ (fields : List (List ℕ)) (named : Option Word) (before after : Store) (page grown : List ℕ) (is : named ≡ word_named (field fields 0)) where
+  pub named_adds : AddsAnswer fields (command_named named fields) before after page grown → AddsAnswer fields (command_of fields) before after page grown
+  unfolding command_of
+  named_adds added = subst (λ (w : Option Word). AddsAnswer fields (command_named w fields) before after page grown) is added
+
+  pub named_done : (text : List ℕ) → CommandText fields (command_named named fields) before text after → grown ≡ page ++ text → AddsAnswer fields (command_of fields) before after page grown
+  named_done text answer grew = named_adds (record { text = text; answer = answer; grew = grew })
 
 -- a number that isn't 1, as a test
 not_one : (n : ℕ) → (n ≡ 1 → ⊥) → (n == 1) ≡ false
@@ -365,3 +397,98 @@ report_refused fields report.Propose is more = rw (← is, not_one (length field
 pub recut_named : (fields : List (List ℕ)) → Some word.Recut ≡ word_named (field fields 0) → command_of fields ≡ Ok command.Recut
 unfolding command_of
 recut_named fields is = rw (← is) refl
+
+-- records that are answered, and then the line was handed on
+pub answered_kept : (rows : List (List (List ℕ))) (start : Store) (register : OwnersState) (old mid new : Outgoing) → AreAnswered rows start register old mid → AddsWhole [] mid new
+    → AreAnswered rows start register old new
+answered_kept rows start register old mid new done handed =
+    record { text = done.text; sight = done.sight; answers = done.answers; grew = rw (append-nil done.text) at (adds_both done.text [] old mid new done.grew handed) }
+
+-- or the sink failed in that
+pub broken_kept : (rows : List (List (List ℕ))) (start : Store) (register : OwnersState) (old mid new : Outgoing) (stalled : Bool) → AreAnswered rows start register old mid
+    → AddsFront [] mid new → stalled ≡ true → AreBrokenOff rows start old new stalled
+broken_kept rows start register old mid new stalled done cut told = record {
+  text = done.text;
+  end = with_sight done.sight register;
+  answers = done.answers;
+  front = rw (append-nil done.text) at (adds_front_after done.text [] old mid new done.grew cut);
+  told = told;
+}
+
+-- records of some bytes are answered by a text, of which the sink took a front
+pub broken_front : (stops : List (List (List ℕ)) → Fault → Type 0) (start : Store) (bytes : List ℕ) (old new : Outgoing) (stalled : Bool) → old.line ≡ []
+    → HasComeTo bytes (λ rows. AreBrokenOff rows start old new stalled) → StoppedFront stops start bytes old.taken new.taken fault.Write
+broken_front stops start bytes old new stalled none come =
+    let broken = come.holds in
+    let front = adds_begun broken.text old new none broken.front in
+    record {
+      front = record {
+        answered = answered_records start come.rows broken.text broken.end come.few broken.answers;
+        state = come.state;
+        left = come.left;
+        are_first = come.are_first;
+        written = front.front;
+        begins = front.begins;
+        whole = tt;
+        grew = front.grew;
+      };
+      stopped = λ unless. absurd (unless refl);
+    }
+
+-- and the last answers are handed on, after no fault of the sink
+module _ (stops : List (List (List ℕ)) → Fault → Type 0) (start : Store) (bytes : List ℕ) (P broken : List (List (List ℕ)) → Type 0) (old new : Outgoing) (none : old.line ≡ []) where
+  module _ (register : OwnersState) (empty : new.line ≡ []) (write : (rows : List (List (List ℕ))) → P rows → AreAnswered rows start register old new) where
+    stopped : (why : Fault) → HasComeTo bytes (λ rows. P rows × stops rows why) → StoppedFront stops start bytes old.taken new.taken why
+    stopped why come =
+        let all = write come.rows come.holds.0 in
+        record {
+          front = front_is_whole start bytes old.taken new.taken why (answered_records start come.rows all.text (with_sight all.sight register) come.few all.answers) come.state come.left come.are_first
+              (adds_all all.text old new none empty all.grew);
+          stopped = λ unless. come.holds.1;
+        }
+
+    pub come_whole : (done : Result (Unit {0}) Fault) → (done ≡ Err fault.Write → ⊥) → HasCome stops bytes P broken done → RanUntil stops start bytes old.taken new.taken done
+    come_whole (Ok done) unless come =
+        let all = write come.rows come.holds in
+        record {
+          answered = answered_records start come.rows all.text (with_sight all.sight register) come.few all.answers;
+          are_records = come.are_records;
+          grew = adds_all all.text old new none empty all.grew;
+        }
+    come_whole (Err fault.Memory) unless come = stopped fault.Memory come
+    come_whole (Err fault.Field) unless come = stopped fault.Field come
+    come_whole (Err fault.Thread) unless come = stopped fault.Thread come
+    come_whole (Err fault.Read) unless come = stopped fault.Read come
+    come_whole (Err fault.Write) unless come = absurd (unless refl)
+
+  -- or the sink fails in that
+  module _ (stalled : Bool) (write : (rows : List (List (List ℕ))) → P rows → AreBrokenOff rows start old new stalled) where
+    cut : (why : Fault) → HasComeTo bytes (λ rows. P rows × stops rows why) → StoppedFront stops start bytes old.taken new.taken fault.Write
+    cut why come = broken_front stops start bytes old new stalled none (record {
+      rows = come.rows;
+      few = come.few;
+      state = come.state;
+      left = come.left;
+      are_first = come.are_first;
+      holds = write come.rows come.holds.0;
+    })
+
+    pub come_broken : (done : Result (Unit {0}) Fault) → (done ≡ Err fault.Write → ⊥) → HasCome stops bytes P broken done → StoppedFront stops start bytes old.taken new.taken fault.Write
+    come_broken (Ok done) unless come = broken_front stops start bytes old new stalled none (record {
+      rows = come.rows;
+      few = come.few;
+      state = come.are_records.0;
+      left = come.are_records.1;
+      are_first = come.are_records.2;
+      holds = write come.rows come.holds;
+    })
+    come_broken (Err fault.Memory) unless come = cut fault.Memory come
+    come_broken (Err fault.Field) unless come = cut fault.Field come
+    come_broken (Err fault.Thread) unless come = cut fault.Thread come
+    come_broken (Err fault.Read) unless come = cut fault.Read come
+    come_broken (Err fault.Write) unless come = absurd (unless refl)
+
+-- the sink failed before
+pub come_cut : (stops : List (List (List ℕ)) → Fault → Type 0) (start : Store) (bytes : List ℕ) (P : List (List (List ℕ)) → Type 0) (old new : Outgoing) (stalled : Bool) (done : Result (Unit {0}) Fault)
+    → old.line ≡ [] → done ≡ Err fault.Write → HasCome stops bytes P (λ rows. AreBrokenOff rows start old new stalled) done → StoppedFront stops start bytes old.taken new.taken fault.Write
+come_cut stops start bytes P old new stalled done none is come = broken_front stops start bytes old new stalled none (rw is at come)

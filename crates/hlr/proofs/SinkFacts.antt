@@ -5,7 +5,8 @@ use Rattle.std.specs.Result.{is_err}
 use Rattle.std.proofs.lemmas.Bool.{false≢true}
 use Rattle.std.proofs.lemmas.List.{append-nil, take-append-drop, take_rest}
 use Rattle.std.specs.Io.KnownBytes.{Appends, Keeps}
-use Rattle.hlr.specs.Sink.{Begins, AppendsFront, Puts}
+use Rattle.hlr.specs.Sink.{AppendsFront, Begins}
+use Rattle.hlr.specs.Outgoing.{Adds, AddsFront, AddsWhole, Outgoing, outgoing}
 use Rattle.hlr.specs.declared.sink.Stalled.{Stalled}
 
 -- nothing was taken yet
@@ -27,13 +28,6 @@ appends_kept (Some xs) None new a h k = absurd h
 appends_kept (Some xs) (Some ys) None a h k = k
 appends_kept (Some xs) (Some ys) (Some zs) a h k = rw k h
 
--- bytes that stayed as they were, before they grew
-pub appends_after : (old mid new : Option (List ℕ)) (a : List ℕ) → Keeps old mid → Appends mid new a → Appends old new a
-appends_after None mid new a h k = tt
-appends_after (Some xs) None new a h k = absurd h
-appends_after (Some xs) (Some ys) None a h k = k
-appends_after (Some xs) (Some ys) (Some zs) a h k = rw (← h) k
-
 -- a front of the first piece is one of both
 pub begins_wider : (front a b : List ℕ) → Begins front a → Begins front (a ++ b)
 begins_wider front a b h = record { rest = h.rest ++ b; whole_is = ap (λ w. w ++ b) h.whole_is ∙ append_assoc front h.rest b }
@@ -51,10 +45,6 @@ front_wider old new a b h = record { front = h.front; begins = begins_wider h.fr
 
 pub front_after : (old mid new : Option (List ℕ)) (a b : List ℕ) → Appends old mid a → AppendsFront mid new b → AppendsFront old new (a ++ b)
 front_after old mid new a b h k = record { front = a ++ k.front; begins = begins_after a k.front b k.begins; grew = appends_both old mid new a k.front h k.grew }
-
--- a whole piece as a front of it
-pub front_all : (old new : Option (List ℕ)) (a : List ℕ) → Appends old new a → AppendsFront old new a
-front_all old new a h = record { front = a; begins = begins_all a; grew = h }
 
 -- what is left of a piece of which a front was taken
 pub record IsLeft (old now : Option (List ℕ)) (piece rest : List ℕ) : Type 0 where
@@ -83,35 +73,77 @@ pub or_false_left : (now before part : Bool) → now ≡ (before || part) → no
 or_false_left now true part e f = sym e ∙ f
 or_false_left now false part e f = refl
 
--- a front of a front is one of the whole
-pub begins_in : (front mid whole : List ℕ) → Begins front mid → Begins mid whole → Begins front whole
-begins_in front mid whole h k =
-    record { rest = h.rest ++ k.rest; whole_is = k.whole_is ∙ ap (λ w. w ++ k.rest) h.whole_is ∙ append_assoc front h.rest k.rest }
+-- a line was built on
+pub adds_grown : (text page grown : List ℕ) (taken : Option (List ℕ)) → grown ≡ page ++ text → AddsWhole text (outgoing page taken) (outgoing grown taken)
+adds_grown text page grown taken is = record { put = []; grew = appends_none taken; all = is }
 
-pub front_in : (old new : Option (List ℕ)) (mid whole : List ℕ) → Begins mid whole → AppendsFront old new mid → AppendsFront old new whole
-front_in old new mid whole b h = record { front = h.front; begins = begins_in h.front mid whole h.begins b; grew = h.grew }
+-- nothing was added
+pub adds_none : (h : Outgoing) → AddsWhole [] h h
+adds_none h = record { put = []; grew = appends_none h.taken; all = sym (append-nil h.line) }
 
--- what was put, where it is known how that ended
-module _ (piece : List ℕ) (old new : Option (List ℕ)) (stalled : Bool) where
-  pub put_whole : (r : Result (Unit {0}) Stalled) → is_err r ≡ false → Puts piece old new stalled r → Appends old new piece
-  put_whole (Ok done) passed put = put
-  put_whole (Err why) passed put = absurd (false≢true (sym passed))
+-- a text was added, and then another one
+module _ (a b : List ℕ) (old mid new : Outgoing) (h : AddsWhole a old mid) where
+  -- what was put, what the line had then, and the other text
+  both_texts : h.put ++ (mid.line ++ b) ≡ old.line ++ (a ++ b)
+  both_texts = sym (append_assoc h.put mid.line b) ∙ ap (λ w. w ++ b) h.all ∙ append_assoc old.line a b
 
-  pub put_front : (r : Result (Unit {0}) Stalled) → is_err r ≡ true → Puts piece old new stalled r → AppendsFront old new piece × (stalled ≡ true)
-  put_front (Ok done) failed put = absurd (false≢true failed)
-  put_front (Err why) failed put = put
+  pub adds_both : AddsWhole b mid new → AddsWhole (a ++ b) old new
+  adds_both k = record {
+    put = h.put ++ k.put;
+    grew = appends_both old.taken mid.taken new.taken h.put k.put h.grew k.grew;
+    all = append_assoc h.put k.put new.line ∙ ap (λ w. h.put ++ w) k.all ∙ both_texts;
+  }
+
+  pub adds_front_after : AddsFront b mid new → AddsFront (a ++ b) old new
+  adds_front_after k = rw both_texts at (front_after old.taken mid.taken new.taken h.put (mid.line ++ b) h.grew k)
+
+  pub adds_after : (stalled : Bool) (r : Result (Unit {0}) Stalled) → Adds b mid new stalled r → Adds (a ++ b) old new stalled r
+  adds_after stalled (Ok done) k = adds_both k
+  adds_after stalled (Err why) k = (adds_front_after k.0, k.1)
+
+-- a front of a text is one of a longer text
+pub adds_front_wider : (a b : List ℕ) (old new : Outgoing) → AddsFront a old new → AddsFront (a ++ b) old new
+adds_front_wider a b old new h = rw (append_assoc old.line a b) at (front_wider old.taken new.taken (old.line ++ a) b h)
+
+-- a text was added, and then the line was handed on
+pub adds_on : (a : List ℕ) (old mid new : Outgoing) (stalled : Bool) (r : Result (Unit {0}) Stalled) → AddsWhole a old mid → Adds [] mid new stalled r → Adds a old new stalled r
+adds_on a old mid new stalled r h k = rw (append-nil a) at (adds_after a [] old mid new h stalled r k)
+
+-- the sink took a line, or a front of it
+pub handed_on : (items piece left : List ℕ) (old new : Option (List ℕ)) → piece ≡ items → left ≡ [] → Appends old new piece → AddsWhole [] (outgoing items old) (outgoing left new)
+handed_on items piece left old new same none took = record { put = items; grew = rw same at took; all = ap (λ w. items ++ w) none }
+
+pub handed_front : (items piece left : List ℕ) (old new : Option (List ℕ)) → piece ≡ items → AppendsFront old new piece → AddsFront [] (outgoing items old) (outgoing left new)
+handed_front items piece left old new same took = rw (append-nil items) (rw same at took)
+
+-- a text was added, and then the sink was flushed, or failed in that
+module _ (text page : List ℕ) (old : Outgoing) (mid new : Option (List ℕ)) (h : AddsWhole text old (outgoing page mid)) (kept : Keeps mid new) where
+  pub adds_flushed : AddsWhole text old (outgoing page new)
+  adds_flushed = record { put = h.put; grew = appends_kept old.taken mid new h.put h.grew kept; all = h.all }
+
+  pub adds_unflushed : AddsFront text old (outgoing page new)
+  adds_unflushed = record { front = h.put; begins = record { rest = page; whole_is = sym h.all }; grew = appends_kept old.taken mid new h.put h.grew kept }
+
+-- what was added, where it is known how that ended
+module _ (text : List ℕ) (old new : Outgoing) (stalled : Bool) where
+  pub adds_whole : (r : Result (Unit {0}) Stalled) → is_err r ≡ false → Adds text old new stalled r → AddsWhole text old new
+  adds_whole (Ok done) passed put = put
+  adds_whole (Err why) passed put = absurd (false≢true (sym passed))
+
+  pub adds_front : (r : Result (Unit {0}) Stalled) → is_err r ≡ true → Adds text old new stalled r → AddsFront text old new × (stalled ≡ true)
+  adds_front (Ok done) failed put = absurd (false≢true failed)
+  adds_front (Err why) failed put = put
 
   -- the sink failed in it
-  pub puts_front : (Q : Stalled → Type 0) (r : Result (Unit {0}) Stalled) → IsErrAnd r Q → AppendsFront old new piece → stalled ≡ true → Puts piece old new stalled r
-  puts_front Q (Ok done) failed front told = absurd failed
-  puts_front Q (Err why) failed front told = (front, told)
+  pub adds_failed : (Q : Stalled → Type 0) (r : Result (Unit {0}) Stalled) → IsErrAnd r Q → AddsFront text old new → stalled ≡ true → Adds text old new stalled r
+  adds_failed Q (Ok done) failed front told = absurd failed
+  adds_failed Q (Err why) failed front told = (front, told)
 
--- a piece was taken, and then another one was put
-pub puts_after : (old mid new : Option (List ℕ)) (stalled : Bool) (a b : List ℕ) (r : Result (Unit {0}) Stalled) → Appends old mid a → Puts b mid new stalled r → Puts (a ++ b) old new stalled r
-puts_after old mid new stalled a b (Ok done) h k = appends_both old mid new a b h k
-puts_after old mid new stalled a b (Err why) h k = (front_after old mid new a b h k.0, k.1)
+-- a text was added to an empty line, and the line is empty
+pub adds_all : (text : List ℕ) (old new : Outgoing) → old.line ≡ [] → new.line ≡ [] → AddsWhole text old new → Appends old.taken new.taken text
+adds_all text old new none empty h =
+    let all : h.put ≡ text = sym (append-nil h.put) ∙ ap (λ w. h.put ++ w) (sym empty) ∙ h.all ∙ ap (λ w. w ++ text) none in rw all at h.grew
 
--- a piece was taken, and then the sink was flushed, or failed
-pub puts_flushed : (piece : List ℕ) (old mid new : Option (List ℕ)) (stalled : Bool) (r : Result (Unit {0}) Stalled) → Appends old mid piece → Keeps mid new → (is_err r ≡ true → stalled ≡ true) → Puts piece old new stalled r
-puts_flushed piece old mid new stalled (Ok done) h kept told = appends_kept old mid new piece h kept
-puts_flushed piece old mid new stalled (Err why) h kept told = (front_all old new piece (appends_kept old mid new piece h kept), told refl)
+-- or a front of it was taken
+pub adds_begun : (text : List ℕ) (old new : Outgoing) → old.line ≡ [] → AddsFront text old new → AppendsFront old.taken new.taken text
+adds_begun text old new none h = rw none at h

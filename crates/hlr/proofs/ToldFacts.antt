@@ -1,6 +1,6 @@
 -- From the store before a record, the text of its answer tells the answer.
 use Rattle.std.proofs.Common.{◌≡◌, refl, sym, ap, ◌∙◌, ℕ, ◌<◌, List, [], ◌∷◌, Option, Some, None, Bool, true, false, inl, inr, arith}
-use Rattle.std.specs.Prelude.{codes, Result, Ok, Err}
+use Rattle.std.specs.Prelude.{Result, Ok, Err}
 use Rattle.tatp_rows.specs.declared.refusal.Refusal.{Refusal}
 use Rattle.tatp_rows.specs.declared.refusal.Refusal.TheVariants as refusal
 use Rattle.tatp_actions.specs.declared.action.Action.{Action}
@@ -17,17 +17,17 @@ use Rattle.part_table.specs.Give.{give_answer}
 use Rattle.part_table.specs.Take.{take_answer}
 use Rattle.hlr_owners.specs.Answered.{is_loose, MayAnswer}
 use Rattle.hlr_owners.specs.Posting.{IsPosting}
-use Rattle.hlr_owners.specs.Recut.{IsRecut, IsRecutBy}
+use Rattle.hlr_owners.specs.Recut.{IsRecutBy}
 use Rattle.hlr_owners.specs.Store.{Store, slots_of}
 use Rattle.tatp_actions.specs.Action.{s_id_of}
-use Rattle.hlr_core.specs.Step.{action_for, divided_reply, dissolved_reply, given_reply, posted_reply, reply_of, taken_reply, whole_effect, IsAskedStep, IsOwnedStep, IsStep, IsWholeOutcome}
+use Rattle.hlr_core.specs.Step.{action_for, divided_reply, dissolved_reply, given_reply, posted_reply, reply_of, taken_reply, IsAskedStep, IsOwnedStep, IsStep, IsWholeOutcome}
 use Rattle.hlr_core.specs.declared.event.Event.{Event}
 use Rattle.hlr_core.specs.declared.event.Event.TheVariants.{SubscriberData, NewDestination, AccessData, UpdateSubscriber, UpdateLocation, InsertForwarding, DeleteForwarding, AddSubscriber, AddAccess, AddFacility, SetActive, SetNumber, Post, Give, Take, Divide, Dissolve}
 use Rattle.hlr_core.specs.declared.event.Reply.{Reply}
 use Rattle.hlr_core.specs.declared.order.Answer.TheVariants as answer
 use Rattle.hlr.specs.Command.{Command}
 use Rattle.hlr.specs.Command.{Command as command}
-use Rattle.hlr.specs.Lines.{ok_line, parted_line, recut_line, refused_line, region_line, reply_line, taken_line, total_line}
+use Rattle.hlr.specs.Lines.{ok_line, part_change_line, recut_line, refused_line, region_line, reply_line, taken_line, total_line}
 use Rattle.hlr.specs.Orders.{answer_in, recut_answer_in, TellAnswers}
 use Rattle.hlr.specs.Records.{bounds_of, command_of}
 use Rattle.hlr.specs.Text.{CommandText, RecordsText, RecutText}
@@ -59,11 +59,11 @@ unfolding refused_line taken_line
 no_taken n q side same = not_both 114 116 (ap first_of (sym same)) (omega arith)
 
 no_divided : (done : ℕ × ℕ × ℕ) → reply_line (divided_reply (Ok done)) ≡ reply_line (divided_reply (Err refusal.Memory)) → ⊥
-unfolding refused_line parted_line
+unfolding refused_line part_change_line
 no_divided done same = not_both 100 114 (ap first_of same) (omega arith)
 
 no_dissolved : (done : ℕ × ℕ × ℕ) → reply_line (dissolved_reply (Ok done)) ≡ reply_line (dissolved_reply (Err refusal.Memory)) → ⊥
-unfolding refused_line parted_line
+unfolding refused_line part_change_line
 no_dissolved done same = not_both 100 114 (ap first_of same) (omega arith)
 
 no_moves : (n : ℕ) → recut_line (Ok n) ≡ recut_line (Err refusal.Memory) → ⊥

@@ -1,7 +1,6 @@
 -- What the calls that write answers promise each other; no clause of `run` or `run_alone` cites this.
-use Rattle.std.specs.Prelude.{◌≡◌, ◌++◌, ◌≤◌, ⊤, ◌⊎◌, length, ℕ, Bool, true, List, [], ◌∷◌, map, MatchResult, Option, Result, Ok, Err, codes, ℤ, pos, slice_index, slice_index_or}
+use Rattle.std.specs.Prelude.{◌≡◌, ◌++◌, ◌≤◌, ⊤, ◌⊎◌, length, ℕ, Bool, true, List, [], ◌∷◌, map, MatchResult, Result, Ok, Err, codes, ℤ, pos, slice_index, slice_index_or}
 use Rattle.std.specs.List.{flat_map}
-use Rattle.std.specs.Io.KnownBytes.{Appends}
 use Rattle.tatp_rows.specs.declared.refusal.Refusal.{Refusal}
 use Rattle.hlr_core.specs.declared.event.Event.{Event}
 use Rattle.hlr_core.specs.declared.event.Reply.{Reply}
@@ -18,10 +17,9 @@ use Rattle.hlr_owners.specs.Owners.{OwnersState, store_in}
 use Rattle.hlr_owners.specs.Store.{Store, published, unpublished}
 use Rattle.hlr_core.specs.Index.{index_of}
 use Rattle.hlr.specs.Reports.{report_text, cells_where, is_standing, standing_line, is_counted, rows_line, index_text, regions_text, scan_text, views_text}
-use Rattle.hlr.specs.Run.{RanFront}
-use Rattle.hlr.specs.Sink.{AppendsFront, Puts}
+use Rattle.hlr.specs.Outgoing.{Adds, AddsFront, AddsWhole, Outgoing}
 use Rattle.hlr.specs.Source.{AsksEvent}
-use Rattle.hlr.specs.Text.{proposal_line, RecordText, RecordsText}
+use Rattle.hlr.specs.Text.{proposal_line, CommandText, RecordText, RecordsText}
 use Rattle.hlr.specs.declared.fault.Fault.{Fault}
 use Rattle.hlr.specs.declared.fault.Fault.TheVariants as fault
 use Rattle.hlr.specs.declared.run.TheConstants.{RECORDS}
@@ -35,12 +33,19 @@ use Rattle.hlr.specs.declared.reports.Counts.{Counts}
 use Rattle.hlr.specs.declared.reports.Counts.TheVariants as counts
 use Rattle.hlr.specs.declared.sink.Stalled.{Stalled}
 
--- a record is answered, and its answer put
-pub record Answers (fields : List (List ℕ)) (before after : Store) (old new : Option (List ℕ)) (stalled : Bool)
+-- a command of a record is answered, and the answer stands behind a line
+pub record AddsAnswer (fields : List (List ℕ)) (asked : Result Command Refusal) (before after : Store) (old new : List ℕ)
+    : Type 0 where
+  pub text : List ℕ
+  pub answer : CommandText fields asked before text after
+  pub grew : new ≡ old ++ text
+
+-- a record is answered, and its answer added
+pub record Answers (fields : List (List ℕ)) (before after : Store) (old new : Outgoing) (stalled : Bool)
     (r : Result (Unit {0}) Stalled) : Type 0 where
   pub text : List ℕ
   pub answer : RecordText fields before text after
-  pub put : Puts text old new stalled r
+  pub put : Adds text old new stalled r
 
 -- the count of a cell in an array of them
 abbrev pub signed_at : List ℤ → ℕ → ℤ
@@ -112,8 +117,8 @@ pub record IsOwed (rows : List (List (List ℕ))) (before : Store) (engine : Eng
   pub asked : AskFor rows events
   pub stands : Stands engine before (map Took events)
 
--- of records from a store on, the first are answered, and the sink took their text; the answers to the others are owed
-pub record IsUnderway (rows : List (List (List ℕ))) (start : Store) (engine : Engaged) (old new : Option (List ℕ))
+-- of records from a store on, the first are answered, and their text is added; the answers to the others are owed
+pub record IsUnderway (rows : List (List (List ℕ))) (start : Store) (engine : Engaged) (old new : Outgoing)
     : Type 0 where
   pub answered : List (List (List ℕ))
   pub owed : List (List (List ℕ))
@@ -121,34 +126,34 @@ pub record IsUnderway (rows : List (List (List ℕ))) (start : Store) (engine : 
   pub text : List ℕ
   pub now : Store
   pub answers : RecordsText answered start text now
-  pub grew : Appends old new text
+  pub grew : AddsWhole text old new
   pub owes : IsOwed owed now engine
 
 -- the store of a register, with some sight of the words, of which no text tells
 abbrev pub with_sight : List ℕ → OwnersState → Store
 with_sight sight register = record (store_in register) { sight = sight }
 
--- records from a store on are answered, up to the store of a register, and the sink took their text
-pub record AreAnswered (rows : List (List (List ℕ))) (start : Store) (register : OwnersState) (old new : Option (List ℕ))
+-- records from a store on are answered, up to the store of a register, and their text is added
+pub record AreAnswered (rows : List (List (List ℕ))) (start : Store) (register : OwnersState) (old new : Outgoing)
     : Type 0 where
   pub text : List ℕ
   pub sight : List ℕ
   pub answers : RecordsText rows start text (with_sight sight register)
-  pub grew : Appends old new text
+  pub grew : AddsWhole text old new
 
 -- records from a store on are answered, of whose text the sink took a front and then told of a fault
-pub record AreBrokenOff (rows : List (List (List ℕ))) (start : Store) (old new : Option (List ℕ)) (stalled : Bool)
+pub record AreBrokenOff (rows : List (List (List ℕ))) (start : Store) (old new : Outgoing) (stalled : Bool)
     : Type 0 where
   pub text : List ℕ
   pub end : Store
   pub answers : RecordsText rows start text end
-  pub front : AppendsFront old new text
+  pub front : AddsFront text old new
   pub told : stalled ≡ true
 
 -- whatever records are underway, what is owed of them is written, or the sink told of a fault in their text
-abbrev pub WritesOwed : Engaged → OwnersState → Option (List ℕ) → Option (List ℕ) → Bool → Result (Unit {0}) Stalled → Type 0
+abbrev pub WritesOwed : Engaged → OwnersState → Outgoing → Outgoing → Bool → Result (Unit {0}) Stalled → Type 0
 WritesOwed before after taken new stalled r =
-    (rows : List (List (List ℕ))) (start : Store) (old : Option (List ℕ)) → IsUnderway rows start before old taken
+    (rows : List (List (List ℕ))) (start : Store) (old : Outgoing) → IsUnderway rows start before old taken
     → MatchResult r (λ done. AreAnswered rows start after old new) (λ why. AreBrokenOff rows start old new stalled)
 
 -- nothing is owed: no event is pending, and the engine stands at its register
@@ -157,22 +162,22 @@ pub record IsAtRest (engine : Engaged) : Type 0 where
   pub stands : Stands engine (store_in engine.register) []
 
 -- behind records, one more is answered, or the sink told of a fault in the text of the others or in its own
-abbrev pub HasAnswered : List (List (List ℕ)) → List (List ℕ) → Store → Engaged → Option (List ℕ) → Option (List ℕ) → Bool
+abbrev pub HasAnswered : List (List (List ℕ)) → List (List ℕ) → Store → Engaged → Outgoing → Outgoing → Bool
     → Result (Unit {0}) Stalled → Type 0
 HasAnswered rows fields start engine old new stalled (Ok done) = IsUnderway (rows ++ fields ∷ []) start engine old new
 HasAnswered rows fields start engine old new stalled (Err why) =
     AreBrokenOff rows start old new stalled ⊎ AreBrokenOff (rows ++ fields ∷ []) start old new stalled
 
 -- whatever records are underway, one more is answered behind them
-abbrev pub AnswersNext : List (List ℕ) → Engaged → Engaged → Option (List ℕ) → Option (List ℕ) → Bool
+abbrev pub AnswersNext : List (List ℕ) → Engaged → Engaged → Outgoing → Outgoing → Bool
     → Result (Unit {0}) Stalled → Type 0
 AnswersNext fields before after taken new stalled r =
-    (rows : List (List (List ℕ))) (start : Store) (old : Option (List ℕ)) → IsUnderway rows start before old taken
+    (rows : List (List (List ℕ))) (start : Store) (old : Outgoing) → IsUnderway rows start before old taken
     → HasAnswered rows fields start after old new stalled r
 
 -- behind records, one more is answered or owed; the engine stands as it did where it has no memory or thread for the
 -- event that it asks for
-abbrev pub HasTaken : List (List (List ℕ)) → List (List ℕ) → Store → Engaged → Option (List ℕ) → Option (List ℕ) → Bool
+abbrev pub HasTaken : List (List (List ℕ)) → List (List ℕ) → Store → Engaged → Outgoing → Outgoing → Bool
     → Result (Unit {0}) Fault → Type 0
 HasTaken rows fields start engine old new stalled (Ok done) = IsUnderway (rows ++ fields ∷ []) start engine old new
 HasTaken rows fields start engine old new stalled (Err fault.Memory) = IsUnderway rows start engine old new × AsksEvent fields
@@ -182,33 +187,32 @@ HasTaken rows fields start engine old new stalled (Err fault.Write) =
 HasTaken rows fields start engine old new stalled (Err _) = ⊥
 
 -- whatever records are underway, one more is taken behind them
-abbrev pub TakesNext : List (List ℕ) → Engaged → Engaged → Option (List ℕ) → Option (List ℕ) → Bool
+abbrev pub TakesNext : List (List ℕ) → Engaged → Engaged → Outgoing → Outgoing → Bool
     → Result (Unit {0}) Fault → Type 0
 TakesNext fields before after taken new stalled r =
-    (rows : List (List (List ℕ))) (start : Store) (old : Option (List ℕ)) → IsUnderway rows start before old taken
+    (rows : List (List (List ℕ))) (start : Store) (old : Outgoing) → IsUnderway rows start before old taken
     → HasTaken rows fields start after old new stalled r
 
--- all records of the bytes are answered or owed, and a run may answer so many
-pub record HasComeToEnd (start : Store) (bytes : List ℕ) (engine : Engaged) (old new : Option (List ℕ)) : Type 0 where
+-- all records of the bytes are read, and this holds of them, and a run may answer so many
+pub record HasComeToEnd (bytes : List ℕ) (P : List (List (List ℕ)) → Type 0) : Type 0 where
   pub rows : List (List (List ℕ))
   pub few : length rows ≤ RECORDS
   pub are_records : AreRecords default_config st.StartRecord bytes rows
-  pub underway : IsUnderway rows start engine old new
+  pub holds : P rows
 
--- the first records of the bytes are, and behind them a run stopped so
-pub record HasComeTo (stops : List (List (List ℕ)) → Fault → Type 0) (start : Store) (bytes : List ℕ) (engine : Engaged)
-    (old new : Option (List ℕ)) (why : Fault) : Type 0 where
+-- the first records of the bytes are read, and this holds of them
+pub record HasComeTo (bytes : List ℕ) (P : List (List (List ℕ)) → Type 0) : Type 0 where
   pub rows : List (List (List ℕ))
   pub few : length rows ≤ RECORDS
   pub state : State
   pub left : List ℕ
   pub are_first : Reached default_config st.StartRecord bytes rows state left
-  pub underway : IsUnderway rows start engine old new
-  pub stopped : stops rows why
+  pub holds : P rows
 
--- how far a run came that ended so, before what is owed is written: after a fault of the sink nothing more will be
-abbrev pub HasCome : (List (List (List ℕ)) → Fault → Type 0) → Store → List ℕ → Engaged → Option (List ℕ) → Option (List ℕ)
-    → Result (Unit {0}) Fault → Type 0
-HasCome stops start bytes engine old new (Ok done) = HasComeToEnd start bytes engine old new
-HasCome stops start bytes engine old new (Err fault.Write) = RanFront start bytes old new fault.Write
-HasCome stops start bytes engine old new (Err why) = HasComeTo stops start bytes engine old new why
+-- how far a run came that ended so, before the last answers are handed on: this holds of the records that were read, and
+-- a run stopped so behind them; or the sink failed, and that holds of them
+abbrev pub HasCome : (List (List (List ℕ)) → Fault → Type 0) → List ℕ → (List (List (List ℕ)) → Type 0)
+    → (List (List (List ℕ)) → Type 0) → Result (Unit {0}) Fault → Type 0
+HasCome stops bytes P broken (Ok done) = HasComeToEnd bytes P
+HasCome stops bytes P broken (Err fault.Write) = HasComeTo bytes broken
+HasCome stops bytes P broken (Err why) = HasComeTo bytes (λ rows. P rows × stops rows why)

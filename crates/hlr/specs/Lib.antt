@@ -1,10 +1,12 @@
 pub mod Command
+pub mod Digits
 pub mod Fault
 pub mod Fields
 pub mod Inside
 pub mod Lines
 pub mod Options
 pub mod Orders
+pub mod Outgoing
 pub mod Records
 pub mod Reports
 pub mod Run

@@ -86,8 +86,8 @@ unfoldable pub taken_line : ℕ → ℕ → List ℕ
 taken_line n q = codes "taken," ++ decimal n ++ codes "," ++ decimal q ++ codes "\n"
 
 -- the line of a part that came, or has the rows of one that went: a word, its number, and where it begins and ends
-unfoldable pub parted_line : List ℕ → ℕ → ℕ → ℕ → List ℕ
-parted_line word part lo hi =
+unfoldable pub part_change_line : List ℕ → ℕ → ℕ → ℕ → List ℕ
+part_change_line word part lo hi =
     word ++ decimal part ++ codes "," ++ decimal lo ++ codes "," ++ decimal hi ++ codes "\n"
 
 -- numbers in decimal, each after a comma
@@ -117,6 +117,6 @@ reply_line (reply.Rows answer) = row_reply_line answer
 reply_line (reply.Posted n) = total_line (codes "posted,") n
 reply_line (reply.Given n lo hi) = region_line (record { lo = lo; hi = hi; place = Piece n })
 reply_line (reply.Taken n q) = taken_line n q
-reply_line (reply.Divided new lo hi) = parted_line (codes "divided,") new lo hi
-reply_line (reply.Dissolved front lo hi) = parted_line (codes "dissolved,") front lo hi
+reply_line (reply.Divided new lo hi) = part_change_line (codes "divided,") new lo hi
+reply_line (reply.Dissolved front lo hi) = part_change_line (codes "dissolved,") front lo hi
 reply_line (reply.Refused why) = refused_line why

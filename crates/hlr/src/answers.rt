@@ -5,7 +5,9 @@ ghost use Rattle.hlr_owners.specs.Owners.{AllHome, store_in};
 ghost use Rattle.hlr.specs.Lines.{access_line, numbers_line, refused_line, subscriber_line};
 ghost use Rattle.hlr.specs.Records.{command_named};
 ghost use Rattle.hlr.specs.declared.records.Word.TheVariants as word;
+ghost use Rattle.hlr.specs.Inside.{AddsAnswer};
 ghost use Rattle.hlr.specs.Text.{CommandText};
+ghost use Rattle.hlr.specs.Written.{HasRoom};
 
 use crate::events::{read_gad, read_gnd, read_gsd};
 use crate::lines::{Line, build_access, build_numbers, build_refused, build_subscriber};
@@ -44,10 +46,11 @@ fn find_numbers(row: &ByteRecord, register: &Register) -> Result<ArrayVec<Number
     register.destinations(s_id, sf_type, start_time, end_time)
 }
 
-/// Builds the answer to a record whose word is `gsd`: `gsd,S`.
+/// Puts the answer to a record whose word is `gsd`: `gsd,S`.
 pub fn build_gsd(row: &ByteRecord, register: &Register, line: &mut Line)
-    requires { AllHome register.now.owners }
-    ensures { CommandText (fields_of row.now) (command_named (Some word.Gsd) (fields_of row.now)) (store_in register.now) line.new.items (store_in register.now) }
+    requires home { AllHome register.now.owners }
+    requires room { HasRoom line.old.items }
+    ensures { AddsAnswer (fields_of row.now) (command_named (Some word.Gsd) (fields_of row.now)) (store_in register.now) (store_in register.now) line.old.items line.new.items }
 {
     match find_subscriber(row, register) {
         Ok(found) => build_subscriber(line, found),
@@ -55,10 +58,11 @@ pub fn build_gsd(row: &ByteRecord, register: &Register, line: &mut Line)
     }
 }
 
-/// Builds the answer to a record whose word is `gad`: `gad,S,ai_type`.
+/// Puts the answer to a record whose word is `gad`: `gad,S,ai_type`.
 pub fn build_gad(row: &ByteRecord, register: &Register, line: &mut Line)
-    requires { AllHome register.now.owners }
-    ensures { CommandText (fields_of row.now) (command_named (Some word.Gad) (fields_of row.now)) (store_in register.now) line.new.items (store_in register.now) }
+    requires home { AllHome register.now.owners }
+    requires room { HasRoom line.old.items }
+    ensures { AddsAnswer (fields_of row.now) (command_named (Some word.Gad) (fields_of row.now)) (store_in register.now) (store_in register.now) line.old.items line.new.items }
 {
     match find_access(row, register) {
         Ok(found) => build_access(
@@ -72,10 +76,11 @@ pub fn build_gad(row: &ByteRecord, register: &Register, line: &mut Line)
     }
 }
 
-/// Builds the answer to a record whose word is `gnd`: `gnd,S,sf_type,start_time,end_time`.
+/// Puts the answer to a record whose word is `gnd`: `gnd,S,sf_type,start_time,end_time`.
 pub fn build_gnd(row: &ByteRecord, register: &Register, line: &mut Line)
-    requires { AllHome register.now.owners }
-    ensures { CommandText (fields_of row.now) (command_named (Some word.Gnd) (fields_of row.now)) (store_in register.now) line.new.items (store_in register.now) }
+    requires home { AllHome register.now.owners }
+    requires room { HasRoom line.old.items }
+    ensures { AddsAnswer (fields_of row.now) (command_named (Some word.Gnd) (fields_of row.now)) (store_in register.now) (store_in register.now) line.old.items line.new.items }
 {
     match find_numbers(row, register) {
         Ok(found) => build_numbers(line, &found),

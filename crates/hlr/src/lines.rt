@@ -1,9 +1,11 @@
 //! The lines of the answers.
-ghost use Rattle.std.specs.Prelude.{◌≡◌, ◌≤◌, ◌<◌, ◌+◌, ◌*◌, ◌++◌, ◌∷◌, [], length, codes, decimal, MatchResult};
+ghost use Rattle.std.specs.Prelude.{◌≡◌, ◌≤◌, ◌<◌, ◌+◌, ◌*◌, ◌++◌, ◌∷◌, [], length, decimal, nat_le};
 ghost use Rattle.std.specs.Fmt.{signed_decimal};
 ghost use Rattle.tatp_rows.specs.Number.{number_text};
 ghost use Rattle.hlr_core.specs.Step.{edited_reply};
-ghost use Rattle.hlr.specs.Lines.{hex_digit, hexes_text, bytes_text, numbers_text, ok_line, refused_line, subscriber_line, numbers_line, access_line, total_line, cell_line, counted_line, number_line, place_text, region_line, taken_line, parted_line, decimals_text, bounds_line, recut_line, row_reply_line, reply_line};
+ghost use Rattle.hlr.specs.Digits.{four_digits, two_digits};
+ghost use Rattle.hlr.specs.Lines.{hex_digit, hexes_text, bytes_text, numbers_text, ok_line, refused_line, subscriber_line, numbers_line, access_line, total_line, cell_line, counted_line, number_line, place_text, region_line, taken_line, part_change_line, decimals_text, bounds_line, recut_line, row_reply_line, reply_line};
+ghost use Rattle.hlr.specs.Written.{HasRoom};
 
 use arrayvec::ArrayVec;
 use hlr_core::Reply;
@@ -14,39 +16,58 @@ use tatp_actions::{CELLS, RowReply};
 use tatp_rows::{Letters, Number, Refusal, Subscriber};
 
 /// The most bytes that the line of a cell, of a pair or of a region takes.
-const SHORT_LINE: usize = 70;
+pub const SHORT_LINE: usize = 70;
 
-/// How many bytes a line has room for: those of the lines of all cells.
-pub const LINE_ROOM: usize = SHORT_LINE * CELLS as usize;
+/// The most bytes that are put before it is asked again whether there is room: the lines of all cells, and how many they
+/// are.
+const LINE_ROOM: usize = SHORT_LINE * (CELLS as usize + 1);
 
-/// A line while it is built, or several that go out together. It is built from its last byte to its first, so that each
-/// number's digits are written where they stay: what is put stands in front of what is there. It takes no memory: its
-/// bytes lie in the value itself.
+/// How many bytes may be there when a line is begun; where there are more, they are handed on first.
+pub const LINE_LIMIT: usize = 65_536;
+
+/// How many bytes there is room for.
+const LINE_SPACE: usize = LINE_LIMIT + LINE_ROOM;
+
+/// The two digits of each number below 100.
+static TWO_DIGITS: [u8; 200] = *b"00010203040506070809\
+10111213141516171819\
+20212223242526272829\
+30313233343536373839\
+40414243444546474849\
+50515253545556575859\
+60616263646566676869\
+70717273747576777879\
+80818283848586878889\
+90919293949596979899";
+
+/// The lines that aren't handed on yet, and behind them the one that is built. They take no memory: their bytes lie in
+/// the value itself, whence they go out.
 #[derive(Drop)]
 pub struct Line {
-    bytes: [u8; LINE_ROOM],
-    start: usize,
+    bytes: [u8; LINE_SPACE],
+    len: usize,
 }
 
 impl Model for Line {
-    ghost use Rattle.std.specs.Prelude.{◌≤◌, drop};
+    ghost use Rattle.std.specs.Prelude.{◌≤◌, take};
     ghost use Rattle.hlr.specs.Written.{Written};
-    ghost use Rattle.hlr.specs.declared.lines.TheConstants.{LINE_ROOM};
+    ghost use Rattle.hlr.specs.declared.lines.TheConstants.{LINE_SPACE};
 
     ghost Value = { Written };
 
-    ghost view = { λ l. record { items = drop l.start l.bytes } };
+    ghost view = { λ l. record { items = take l.len l.bytes } };
 
-    ghost invariant = { λ l. l.start ≤ LINE_ROOM };
+    ghost invariant = { λ l. l.len ≤ LINE_SPACE };
 }
 
-/// Makes an empty line.
+/// Makes room for lines, with none in it.
+#[inline(always)]
 pub fn empty_line() -> Line
     ensures { result.items ≡ [] }
 {
     Line {
-        bytes: [0; LINE_ROOM],
-        start: LINE_ROOM,
+        bytes: [0; LINE_SPACE],
+        len: 0,
     }
 }
 
@@ -54,10 +75,17 @@ impl Line {
     /// Gives what was put.
     #[inline(always)]
     pub fn as_slice(&self) -> &[u8]
-        ensures value { result.now ≡ self.now.items }
-        ensures fits { length result.now ≤ LINE_ROOM }
+        ensures { result.now ≡ self.now.items }
     {
-        &self.bytes[self.start..]
+        &self.bytes[..self.len]
+    }
+
+    /// Tells whether it is short enough to be built on.
+    #[inline(always)]
+    pub fn has_room(&self) -> bool
+        ensures { result ≡ nat_le (length self.now.items) LINE_LIMIT }
+    {
+        self.len <= LINE_LIMIT
     }
 
     /// Takes all away.
@@ -65,81 +93,164 @@ impl Line {
     pub fn clear(&mut self)
         ensures { self.new.items ≡ [] }
     {
-        self.start = LINE_ROOM;
+        self.len = 0;
     }
 
-    /// Puts bytes in front.
+    /// Puts bytes behind.
     #[inline(always)]
     pub fn put(&mut self, bytes: &[u8])
-        requires { length self.old.items + length bytes.now ≤ LINE_ROOM }
-        ensures bytes { self.new.items ≡ bytes.now ++ self.old.items }
-        ensures len { length self.new.items ≡ length bytes.now + length self.old.items }
+        requires { length self.old.items + length bytes.now ≤ LINE_SPACE }
+        ensures bytes { self.new.items ≡ self.old.items ++ bytes.now }
+        ensures len { length self.new.items ≡ length self.old.items + length bytes.now }
     {
-        let end = self.start;
-        let start = end - bytes.len();
+        let start = self.len;
+        let end = start + bytes.len();
         self.bytes[start..end].copy_from_slice(bytes);
-        self.start = start;
+        self.len = end;
     }
 
-    /// Puts a byte in front.
+    /// Puts a byte behind.
     #[inline(always)]
     fn put_byte(&mut self, byte: u8)
-        requires { length self.old.items < LINE_ROOM }
-        ensures bytes { self.new.items ≡ byte ∷ self.old.items }
+        requires { length self.old.items < LINE_SPACE }
+        ensures bytes { self.new.items ≡ self.old.items ++ byte ∷ [] }
         ensures len { length self.new.items ≡ length self.old.items + 1 }
     {
-        let start = self.start - 1;
-        self.bytes[start] = byte;
-        self.start = start;
+        let at = self.len;
+        self.bytes[at] = byte;
+        self.len = at + 1;
     }
 
-    /// Puts a word of a fixed length in front, byte by byte, so that it is compiled into stores.
+    /// Puts a word of a fixed length behind, byte by byte, so that it is compiled into stores.
     #[inline(always)]
     fn put_word<const N: usize>(&mut self, word: &[u8; N])
-        requires { length self.old.items + N ≤ LINE_ROOM }
-        ensures bytes { self.new.items ≡ word.now ++ self.old.items }
-        ensures len { length self.new.items ≡ N + length self.old.items }
+        requires { length self.old.items + N ≤ LINE_SPACE }
+        ensures bytes { self.new.items ≡ self.old.items ++ word.now }
+        ensures len { length self.new.items ≡ length self.old.items + N }
     {
-        for at in (0..N).rev() {
+        for at in 0..N {
             self.put_byte(word[at]);
         }
     }
 
-    /// Puts a number in decimal in front.
+    /// Puts two digits behind: those of a number below 100.
     #[inline(always)]
-    fn put_decimal(&mut self, n: u64)
-        requires { length self.old.items + 20 ≤ LINE_ROOM }
-        ensures bytes { self.new.items ≡ decimal n ++ self.old.items }
-        ensures len { length self.new.items ≤ length self.old.items + 20 }
+    fn put_two(&mut self, n: u64)
+        requires { (n < 100) × (length self.old.items + 2 ≤ LINE_SPACE) }
+        ensures bytes { self.new.items ≡ self.old.items ++ two_digits n }
+        ensures len { length self.new.items ≡ length self.old.items + 2 }
     {
-        self.start = write_digits(n, &mut self.bytes, self.start);
+        let at = 2 * n as usize;
+        self.put_byte(TWO_DIGITS[at]);
+        self.put_byte(TWO_DIGITS[at + 1]);
     }
 
-    /// Puts a number in decimal in front, with `-` before it where it is negative.
+    /// Puts four digits behind: those of a number below 10,000.
+    #[inline(always)]
+    fn put_four(&mut self, n: u64)
+        requires { (n < 10000) × (length self.old.items + 4 ≤ LINE_SPACE) }
+        ensures bytes { self.new.items ≡ self.old.items ++ four_digits n }
+        ensures len { length self.new.items ≡ length self.old.items + 4 }
+    {
+        self.put_two(n / 100);
+        self.put_two(n % 100);
+    }
+
+    /// Puts a number below 100 in decimal behind.
+    #[inline(always)]
+    fn put_tiny(&mut self, n: u64)
+        requires { (n < 100) × (length self.old.items + 2 ≤ LINE_SPACE) }
+        ensures bytes { self.new.items ≡ self.old.items ++ decimal n }
+        ensures len { length self.new.items ≤ length self.old.items + 2 }
+    {
+        if n < 10 {
+            self.put_byte(b'0' + n as u8);
+        } else {
+            self.put_two(n);
+        }
+    }
+
+    /// Puts a number below 10,000 in decimal behind.
+    #[inline(always)]
+    fn put_short(&mut self, n: u64)
+        requires { (n < 10000) × (length self.old.items + 4 ≤ LINE_SPACE) }
+        ensures bytes { self.new.items ≡ self.old.items ++ decimal n }
+        ensures len { length self.new.items ≤ length self.old.items + 4 }
+    {
+        if n < 100 {
+            return self.put_tiny(n);
+        }
+        self.put_tiny(n / 100);
+        self.put_two(n % 100);
+    }
+
+    /// Puts a number below 100,000,000 in decimal behind.
+    #[inline(always)]
+    fn put_middle(&mut self, n: u64)
+        requires { (n < 100000000) × (length self.old.items + 8 ≤ LINE_SPACE) }
+        ensures bytes { self.new.items ≡ self.old.items ++ decimal n }
+        ensures len { length self.new.items ≤ length self.old.items + 8 }
+    {
+        if n < 10_000 {
+            return self.put_short(n);
+        }
+        self.put_short(n / 10_000);
+        self.put_four(n % 10_000);
+    }
+
+    /// Puts a number in decimal behind.
+    #[inline(always)]
+    fn put_decimal(&mut self, n: u64)
+        requires { length self.old.items + 20 ≤ LINE_SPACE }
+        ensures bytes { self.new.items ≡ self.old.items ++ decimal n }
+        ensures len { length self.new.items ≤ length self.old.items + 20 }
+    {
+        if n < 100 {
+            return self.put_tiny(n);
+        }
+        if n < 100_000_000 {
+            return self.put_middle(n);
+        }
+        let high = n / 10_000;
+        if n < 1_000_000_000_000 {
+            self.put_short(high / 10_000);
+        } else {
+            self.put_middle(high / 100_000_000);
+            self.put_four(high / 10_000 % 10_000);
+        }
+        self.put_four(high % 10_000);
+        self.put_four(n % 10_000);
+    }
+
+    /// Puts a number in decimal behind, with `-` before it where it is negative.
     #[inline(always)]
     fn put_signed(&mut self, n: i64)
-        requires { length self.old.items + 21 ≤ LINE_ROOM }
-        ensures bytes { self.new.items ≡ signed_decimal n ++ self.old.items }
+        requires { length self.old.items + 21 ≤ LINE_SPACE }
+        ensures bytes { self.new.items ≡ self.old.items ++ signed_decimal n }
         ensures len { length self.new.items ≤ length self.old.items + 21 }
     {
+        if 0 <= n && n < 100 {
+            return self.put_tiny(n as u64);
+        }
         if n >= 0 {
             return self.put_decimal(n as u64);
         }
-        self.put_decimal(n.unsigned_abs());
         self.put_byte(b'-');
+        self.put_decimal(n.unsigned_abs());
     }
 
-    /// Puts the digits of a number in front, 15 at least: zeros, and the number's own over the last of them.
+    /// Puts the digits of a number behind, 15 at least: zeros, and the number's own over the last of them.
     #[inline(always)]
     fn put_number(&mut self, n: u64)
-        requires { length self.old.items + 20 ≤ LINE_ROOM }
-        ensures bytes { self.new.items ≡ number_text n ++ self.old.items }
+        requires { length self.old.items + 20 ≤ LINE_SPACE }
+        ensures bytes { self.new.items ≡ self.old.items ++ number_text n }
         ensures len { length self.new.items ≤ length self.old.items + 20 }
     {
-        let end = self.start;
-        self.put(b"000000000000000");
-        let first = write_digits(n, &mut self.bytes, end);
-        self.start = first.min(self.start);
+        if n > 999_999_999_999_999 {
+            return self.put_decimal(n);
+        }
+        self.put_word(b"000000000000000");
+        write_digits(n, &mut self.bytes, self.len);
     }
 }
 
@@ -155,258 +266,258 @@ fn hex_digit(byte: u8) -> u8
     }
 }
 
-/// Puts one hexadecimal digit for each number in front.
+/// Puts one hexadecimal digit for each number behind.
 fn put_hexes(line: &mut Line, digits: &[u8])
-    requires { length line.old.items + length digits.now ≤ LINE_ROOM }
-    ensures bytes { line.new.items ≡ hexes_text digits.now ++ line.old.items }
-    ensures len { length line.new.items ≡ length digits.now + length line.old.items }
+    requires { length line.old.items + length digits.now ≤ LINE_SPACE }
+    ensures bytes { line.new.items ≡ line.old.items ++ hexes_text digits.now }
+    ensures len { length line.new.items ≡ length line.old.items + length digits.now }
 {
-    for at in (0..digits.len()).rev() {
+    for at in 0..digits.len() {
         line.put_byte(hex_digit(digits[at]));
     }
 }
 
-/// Puts two hexadecimal digits for each byte in front.
+/// Puts two hexadecimal digits for each byte behind.
 fn put_bytes(line: &mut Line, bytes: &[u8])
-    requires { length line.old.items + 2 * length bytes.now ≤ LINE_ROOM }
-    ensures bytes { line.new.items ≡ bytes_text bytes.now ++ line.old.items }
-    ensures len { length line.new.items ≡ 2 * length bytes.now + length line.old.items }
+    requires { length line.old.items + 2 * length bytes.now ≤ LINE_SPACE }
+    ensures bytes { line.new.items ≡ line.old.items ++ bytes_text bytes.now }
+    ensures len { length line.new.items ≡ length line.old.items + 2 * length bytes.now }
 {
-    for at in (0..bytes.len()).rev() {
-        line.put_byte(hex_digit(bytes[at]));
+    for at in 0..bytes.len() {
         line.put_byte(hex_digit(bytes[at] / 16));
+        line.put_byte(hex_digit(bytes[at]));
     }
 }
 
-/// Builds the line of what was done.
+/// Puts the line of what was done.
 pub fn build_ok(line: &mut Line)
-    ensures { line.new.items ≡ ok_line }
+    requires { HasRoom line.old.items }
+    ensures { line.new.items ≡ line.old.items ++ ok_line }
 {
-    line.clear();
     line.put_word(b"ok\n");
 }
 
-/// Builds the line of a refusal.
+/// Puts the line of a refusal.
 #[tactic(auto, unfolding(crate::specs::Lines::refused_line))]
 pub fn build_refused(line: &mut Line, why: Refusal)
-    ensures { line.new.items ≡ refused_line why }
+    requires { HasRoom line.old.items }
+    ensures { line.new.items ≡ line.old.items ++ refused_line why }
 {
-    line.clear();
-    line.put_byte(b'\n');
-    line.put(why.name().as_bytes());
-    line.put_byte(b',');
-    line.put_decimal(u64::from(why.code()));
     line.put_word(b"refused,");
+    line.put_decimal(u64::from(why.code()));
+    line.put_byte(b',');
+    line.put(why.name().as_bytes());
+    line.put_byte(b'\n');
 }
 
-/// Builds the line of a Subscriber row.
+/// Puts the line of a Subscriber row.
 #[tactic(auto, unfolding(crate::specs::Lines::subscriber_line))]
 pub fn build_subscriber(line: &mut Line, row: &Subscriber)
-    ensures { line.new.items ≡ subscriber_line row.now }
+    requires { HasRoom line.old.items }
+    ensures { line.new.items ≡ line.old.items ++ subscriber_line row.now }
 {
-    line.clear();
-    line.put_byte(b'\n');
-    line.put_decimal(u64::from(row.vlr_location()));
-    line.put_byte(b',');
-    line.put_decimal(u64::from(row.msc_location()));
-    line.put_byte(b',');
-    put_bytes(line, &row.bytes());
-    line.put_byte(b',');
-    put_hexes(line, &row.hexes());
-    line.put_byte(b',');
-    put_hexes(line, &row.bits());
+    line.put_word(b"subscriber,");
+    line.put_decimal(u64::from(row.s_id()));
     line.put_byte(b',');
     line.put_number(row.sub_nbr().value());
     line.put_byte(b',');
-    line.put_decimal(u64::from(row.s_id()));
-    line.put_word(b"subscriber,");
+    put_hexes(line, &row.bits());
+    line.put_byte(b',');
+    put_hexes(line, &row.hexes());
+    line.put_byte(b',');
+    put_bytes(line, &row.bytes());
+    line.put_byte(b',');
+    line.put_decimal(u64::from(row.msc_location()));
+    line.put_byte(b',');
+    line.put_decimal(u64::from(row.vlr_location()));
+    line.put_byte(b'\n');
 }
 
-/// Puts the numbers of a list in front, each after a comma.
+/// Puts the numbers of a list behind, each after a comma.
 fn put_numbers(line: &mut Line, numbers: &[Number])
-    requires { length line.old.items + 21 * length numbers.now ≤ LINE_ROOM }
-    ensures bytes { line.new.items ≡ numbers_text numbers.now ++ line.old.items }
+    requires { length line.old.items + 21 * length numbers.now ≤ LINE_SPACE }
+    ensures bytes { line.new.items ≡ line.old.items ++ numbers_text numbers.now }
     ensures len { length line.new.items ≤ length line.old.items + 21 * length numbers.now }
 {
-    for at in (0..numbers.len()).rev() {
-        line.put_number(numbers[at].value());
+    for at in 0..numbers.len() {
         line.put_byte(b',');
+        line.put_number(numbers[at].value());
     }
 }
 
-/// Builds the line of the numbers that were found.
+/// Puts the line of the numbers that were found.
 #[tactic(auto, unfolding(crate::specs::Lines::numbers_line))]
 pub fn build_numbers(line: &mut Line, numbers: &ArrayVec<Number, 3>)
-    ensures { line.new.items ≡ numbers_line numbers.now.items }
+    requires { HasRoom line.old.items }
+    ensures { line.new.items ≡ line.old.items ++ numbers_line numbers.now.items }
 {
-    line.clear();
-    line.put_byte(b'\n');
-    put_numbers(line, numbers.as_slice());
     line.put_word(b"numbers");
+    put_numbers(line, numbers.as_slice());
+    line.put_byte(b'\n');
 }
 
-/// Builds the line of an access: data1 to data4.
+/// Puts the line of an access: data1 to data4.
 #[tactic(auto, unfolding(crate::specs::Lines::access_line))]
 pub fn build_access(line: &mut Line, data1: u8, data2: u8, data3: Letters<3>, data4: Letters<5>)
-    ensures { line.new.items ≡ access_line data1 data2 data3 data4 }
+    requires { HasRoom line.old.items }
+    ensures { line.new.items ≡ line.old.items ++ access_line data1 data2 data3 data4 }
 {
-    line.clear();
-    line.put_byte(b'\n');
-    line.put(&data4.bytes());
-    line.put_byte(b',');
-    line.put(&data3.bytes());
+    line.put_word(b"access,");
+    line.put_decimal(u64::from(data1));
     line.put_byte(b',');
     line.put_decimal(u64::from(data2));
     line.put_byte(b',');
-    line.put_decimal(u64::from(data1));
-    line.put_word(b"access,");
+    line.put(&data3.bytes());
+    line.put_byte(b',');
+    line.put(&data4.bytes());
+    line.put_byte(b'\n');
 }
 
-/// Builds the line of a word, which ends with a comma, and a count.
+/// Puts the line of a word, which ends with a comma, and a count.
 #[tactic(auto, unfolding(crate::specs::Lines::total_line))]
 pub fn build_total(line: &mut Line, word: &[u8], count: u64)
-    requires { length word.now ≤ 8 }
-    ensures { line.new.items ≡ total_line word.now count }
+    requires { (length word.now ≤ 8) × (length line.old.items + SHORT_LINE ≤ LINE_SPACE) }
+    ensures { line.new.items ≡ line.old.items ++ total_line word.now count }
 {
-    line.clear();
-    line.put_byte(b'\n');
-    line.put_decimal(count);
     line.put(word);
+    line.put_decimal(count);
+    line.put_byte(b'\n');
 }
 
-/// Puts the line of a cell in front: its published and its unposted count.
+/// Puts the line of a cell behind: its published and its unposted count.
 #[tactic(auto, unfolding(crate::specs::Lines::cell_line))]
 pub fn put_cell(line: &mut Line, cell: u64, published: i64, unposted: i64)
-    requires { length line.old.items + SHORT_LINE ≤ LINE_ROOM }
-    ensures bytes { line.new.items ≡ cell_line cell published unposted ++ line.old.items }
+    requires { length line.old.items + SHORT_LINE ≤ LINE_SPACE }
+    ensures bytes { line.new.items ≡ line.old.items ++ cell_line cell published unposted }
     ensures len { length line.new.items ≤ length line.old.items + SHORT_LINE }
 {
-    line.put_byte(b'\n');
-    line.put_signed(unposted);
+    line.put_word(b"cell,");
+    line.put_decimal(cell);
     line.put_byte(b',');
     line.put_signed(published);
     line.put_byte(b',');
-    line.put_decimal(cell);
-    line.put_word(b"cell,");
+    line.put_signed(unposted);
+    line.put_byte(b'\n');
 }
 
-/// Puts the line of a cell counted over the rows in front.
+/// Puts the line of a cell counted over the rows behind.
 #[tactic(auto, unfolding(crate::specs::Lines::counted_line))]
 pub fn put_counted(line: &mut Line, cell: u64, count: u64)
-    requires { length line.old.items + SHORT_LINE ≤ LINE_ROOM }
-    ensures bytes { line.new.items ≡ counted_line cell count ++ line.old.items }
+    requires { length line.old.items + SHORT_LINE ≤ LINE_SPACE }
+    ensures bytes { line.new.items ≡ line.old.items ++ counted_line cell count }
     ensures len { length line.new.items ≤ length line.old.items + SHORT_LINE }
 {
-    line.put_byte(b'\n');
-    line.put_decimal(count);
-    line.put_byte(b',');
-    line.put_decimal(cell);
     line.put_word(b"cell,");
+    line.put_decimal(cell);
+    line.put_byte(b',');
+    line.put_decimal(count);
+    line.put_byte(b'\n');
 }
 
-/// Puts the line of a number and the subscriber who has it in front.
+/// Puts the line of a number and the subscriber who has it behind.
 #[tactic(auto, unfolding(crate::specs::Lines::number_line))]
 pub fn put_pair(line: &mut Line, number: u64, s_id: u32)
-    requires { length line.old.items + SHORT_LINE ≤ LINE_ROOM }
-    ensures bytes { line.new.items ≡ number_line (number, s_id) ++ line.old.items }
+    requires { length line.old.items + SHORT_LINE ≤ LINE_SPACE }
+    ensures bytes { line.new.items ≡ line.old.items ++ number_line (number, s_id) }
     ensures len { length line.new.items ≤ length line.old.items + SHORT_LINE }
 {
-    line.put_byte(b'\n');
-    line.put_decimal(u64::from(s_id));
-    line.put_byte(b',');
-    line.put_number(number);
     line.put_word(b"number,");
+    line.put_number(number);
+    line.put_byte(b',');
+    line.put_decimal(u64::from(s_id));
+    line.put_byte(b'\n');
 }
 
-/// Puts a part or a loose piece in front, by its number.
+/// Puts a part or a loose piece behind, by its number.
 fn put_place(line: &mut Line, place: Place)
-    requires { length line.old.items + 26 ≤ LINE_ROOM }
-    ensures bytes { line.new.items ≡ place_text place ++ line.old.items }
+    requires { length line.old.items + 26 ≤ LINE_SPACE }
+    ensures bytes { line.new.items ≡ line.old.items ++ place_text place }
     ensures len { length line.new.items ≤ length line.old.items + 26 }
 {
     match place {
         Place::Part(part) => {
-            line.put_decimal(u64::from(part));
             line.put_word(b"part,");
+            line.put_decimal(u64::from(part));
         }
         Place::Piece(piece) => {
-            line.put_decimal(u64::from(piece));
             line.put_word(b"piece,");
+            line.put_decimal(u64::from(piece));
         }
     }
 }
 
-/// Builds the line of a region: who has it, and where it begins and ends.
+/// Puts the line of a region: who has it, and where it begins and ends.
 #[tactic(auto, unfolding(crate::specs::Lines::region_line))]
 pub fn build_region(line: &mut Line, region: &Region)
-    ensures { line.new.items ≡ region_line region.now }
+    requires { HasRoom line.old.items }
+    ensures { line.new.items ≡ line.old.items ++ region_line region.now }
 {
-    line.clear();
-    line.put_byte(b'\n');
-    line.put_decimal(u64::from(region.hi));
+    put_place(line, region.place);
     line.put_byte(b',');
     line.put_decimal(u64::from(region.lo));
     line.put_byte(b',');
-    put_place(line, region.place);
+    line.put_decimal(u64::from(region.hi));
+    line.put_byte(b'\n');
 }
 
-/// Builds the line of a loose piece that a part took.
+/// Puts the line of a loose piece that a part took.
 #[tactic(auto, unfolding(crate::specs::Lines::taken_line))]
 pub fn build_taken(line: &mut Line, piece: u8, part: u8)
-    ensures { line.new.items ≡ taken_line piece part }
+    requires { HasRoom line.old.items }
+    ensures { line.new.items ≡ line.old.items ++ taken_line piece part }
 {
-    line.clear();
-    line.put_byte(b'\n');
-    line.put_decimal(u64::from(part));
-    line.put_byte(b',');
-    line.put_decimal(u64::from(piece));
     line.put_word(b"taken,");
+    line.put_decimal(u64::from(piece));
+    line.put_byte(b',');
+    line.put_decimal(u64::from(part));
+    line.put_byte(b'\n');
 }
 
-/// Builds the line of a part that came, or has the rows of one that went: a word, which ends with a comma, the part's
+/// Puts the line of a part that came, or has the rows of one that went: a word, which ends with a comma, the part's
 /// number, and where it begins and ends.
-#[tactic(auto, unfolding(crate::specs::Lines::parted_line))]
-pub fn build_parted(line: &mut Line, word: &[u8], part: u8, lo: u32, hi: u32)
-    requires { length word.now ≤ 10 }
-    ensures { line.new.items ≡ parted_line word.now part lo hi }
+#[tactic(auto, unfolding(crate::specs::Lines::part_change_line))]
+pub fn build_part_change(line: &mut Line, word: &[u8], part: u8, lo: u32, hi: u32)
+    requires short { length word.now ≤ 10 }
+    requires room { HasRoom line.old.items }
+    ensures { line.new.items ≡ line.old.items ++ part_change_line word.now part lo hi }
 {
-    line.clear();
-    line.put_byte(b'\n');
-    line.put_decimal(u64::from(hi));
+    line.put(word);
+    line.put_decimal(u64::from(part));
     line.put_byte(b',');
     line.put_decimal(u64::from(lo));
     line.put_byte(b',');
-    line.put_decimal(u64::from(part));
-    line.put(word);
+    line.put_decimal(u64::from(hi));
+    line.put_byte(b'\n');
 }
 
-/// Puts bounds between parts in front, each after a comma.
+/// Puts bounds between parts behind, each after a comma.
 fn put_bounds(line: &mut Line, bounds: &Bounds)
-    requires { length line.old.items + 315 ≤ LINE_ROOM }
-    ensures bytes { line.new.items ≡ decimals_text bounds.now ++ line.old.items }
+    requires { length line.old.items + 315 ≤ LINE_SPACE }
+    ensures bytes { line.new.items ≡ line.old.items ++ decimals_text bounds.now }
     ensures len { length line.new.items ≤ length line.old.items + 315 }
 {
     let list = bounds.list();
-    for at in (0..list.len()).rev() {
-        line.put_decimal(list[at]);
+    for at in 0..list.len() {
         line.put_byte(b',');
+        line.put_decimal(list[at]);
     }
 }
 
-/// Builds the line of bounds between parts.
+/// Puts the line of bounds between parts.
 #[tactic(auto, unfolding(crate::specs::Lines::bounds_line))]
 pub fn build_bounds(line: &mut Line, bounds: &Bounds)
-    ensures { line.new.items ≡ bounds_line bounds.now }
+    requires { HasRoom line.old.items }
+    ensures { line.new.items ≡ line.old.items ++ bounds_line bounds.now }
 {
-    line.clear();
-    line.put_byte(b'\n');
-    put_bounds(line, bounds);
     line.put_word(b"bounds");
+    put_bounds(line, bounds);
+    line.put_byte(b'\n');
 }
 
-/// Builds the line of a re-cut: how many bounds were moved, or its refusal.
+/// Puts the line of a re-cut: how many bounds were moved, or its refusal.
 pub fn build_recut(line: &mut Line, answer: Result<u8, Refusal>)
-    ensures { line.new.items ≡ recut_line answer }
+    requires { HasRoom line.old.items }
+    ensures { line.new.items ≡ line.old.items ++ recut_line answer }
 {
     match answer {
         Ok(moves) => build_total(line, b"recut,", u64::from(moves)),
@@ -414,9 +525,10 @@ pub fn build_recut(line: &mut Line, answer: Result<u8, Refusal>)
     }
 }
 
-/// Builds the line of the rows' answer.
+/// Puts the line of the rows' answer.
 fn build_row_reply(line: &mut Line, reply: &RowReply)
-    ensures { line.new.items ≡ row_reply_line reply.now }
+    requires { HasRoom line.old.items }
+    ensures { line.new.items ≡ line.old.items ++ row_reply_line reply.now }
 {
     match reply {
         RowReply::Done => build_ok(line),
@@ -432,9 +544,10 @@ fn build_row_reply(line: &mut Line, reply: &RowReply)
     }
 }
 
-/// Builds the line of what was done, or refused.
+/// Puts the line of what was done, or refused.
 pub fn build_done(line: &mut Line, done: Result<(), Refusal>)
-    ensures { line.new.items ≡ reply_line (edited_reply done) }
+    requires { HasRoom line.old.items }
+    ensures { line.new.items ≡ line.old.items ++ reply_line (edited_reply done) }
 {
     match done {
         Ok(()) => build_ok(line),
@@ -442,9 +555,10 @@ pub fn build_done(line: &mut Line, done: Result<(), Refusal>)
     }
 }
 
-/// Builds the line of a reply.
+/// Puts the line of a reply.
 pub fn build_reply(line: &mut Line, reply: &Reply)
-    ensures { line.new.items ≡ reply_line reply.now }
+    requires { HasRoom line.old.items }
+    ensures { line.new.items ≡ line.old.items ++ reply_line reply.now }
 {
     match reply {
         Reply::Rows(rows) => build_row_reply(line, rows),
@@ -458,8 +572,14 @@ pub fn build_reply(line: &mut Line, reply: &Reply)
             build_region(line, &region);
         }
         Reply::Taken { piece, part } => build_taken(line, *piece, *part),
-        Reply::Divided { part, lo, hi } => build_parted(line, b"divided,", *part, *lo, *hi),
-        Reply::Dissolved { part, lo, hi } => build_parted(line, b"dissolved,", *part, *lo, *hi),
+        Reply::Divided { part, lo, hi } => build_part_change(line, b"divided,", *part, *lo, *hi),
+        Reply::Dissolved { part, lo, hi } => build_part_change(
+            line,
+            b"dissolved,",
+            *part,
+            *lo,
+            *hi,
+        ),
         Reply::Refused(why) => build_refused(line, *why),
     }
 }

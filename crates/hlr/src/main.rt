@@ -1,4 +1,6 @@
-//! A home location register: command records on standard input, an answer for each on standard output.
+//! A home location register: command records on standard input, an answer for each on standard output. A record costs
+//! its reading by `csv` and its event, and its answer waits for no later record. All rows are in memory alone, and gone
+//! when the program ends.
 #![tactic(auto)]
 
 mod answers;
@@ -25,11 +27,10 @@ use options::{Options, read_options};
 use run::run;
 use sink::Out;
 use std::env::{self, Env};
-use std::io::{self, BufWriter};
+use std::io;
 use std::process::ExitCode;
 use std::sync::Wait;
 use std::thread::Threads;
-use whole_records::BLOCK;
 
 /// Says a fault on standard error, and gives the program's status after it.
 fn fail(rt: &impl Eprint, fault: Fault) -> ExitCode {
@@ -90,10 +91,7 @@ fn answer_input<R: AllocGlobal + Input + Print + Threads + Wait + Copy + Send + 
     rt: &R,
     options: Options,
 ) -> Result<(), Fault> {
-    let Ok(writer) = BufWriter::with_capacity(rt.alloc(), BLOCK, io::writer(rt)) else {
-        return Err(Fault::Memory);
-    };
-    let mut sink = Out::new(writer);
+    let mut sink = Out::new(io::writer(rt));
     run(
         rt,
         rt.alloc(),

@@ -4,12 +4,12 @@ ghost use Rattle.csv.specs.Records.{fields_of};
 ghost use Rattle.csv.specs.declared.parser.State.TheVariants as state;
 ghost use Rattle.hlr_owners.specs.Owners.{store_in};
 ghost use Rattle.hlr.specs.Command.{Command as command};
-ghost use Rattle.hlr.specs.Inside.{AnswersNext, HasCome, IsAtRest, TakesNext, WritesOwed, replies_text, word_of_report};
+ghost use Rattle.hlr.specs.Inside.{AddsAnswer, AnswersNext, AreBrokenOff, HasCome, IsAtRest, IsUnderway, TakesNext, WritesOwed, replies_text, word_of_report};
 ghost use Rattle.hlr.specs.Lines.{refused_line};
 ghost use Rattle.hlr.specs.Records.{bounds_of, command_of, field, word_named};
-ghost use Rattle.hlr.specs.Sink.{Puts};
+ghost use Rattle.hlr.specs.Outgoing.{Adds, Outgoing, outgoing};
 ghost use Rattle.hlr.specs.Source.{RanUntil, StopsBehind};
-ghost use Rattle.hlr.specs.Text.{RecutText};
+ghost use Rattle.hlr.specs.Written.{HasRoom};
 ghost use Rattle.hlr.specs.declared.fault.Fault.TheVariants as fault;
 ghost use Rattle.hlr_workers.specs.declared.work.TheConstants.{MOST_PENDING};
 
@@ -18,7 +18,7 @@ use crate::fault::Fault;
 use crate::lines::{Line, build_recut, build_refused, build_reply, empty_line};
 use crate::records::{Kind, Report, Word, field, kind_of, read_bounds, word_of};
 use crate::run::{RECORDS, answer_report};
-use crate::sink::{Sink, Stalled, put_all};
+use crate::sink::{Sink, Stalled, flush_line, hand_on, make_room};
 use crate::source::Source;
 use csv::ByteRecord;
 use hlr_core::{Event, Reply};
@@ -37,31 +37,33 @@ impl Gate for OpenGate {
     fn after(&self, _part: u8, _seq: u64) {}
 }
 
-/// Writes the lines of replies, one after another.
+/// Writes the lines of replies, one after another, and leaves room for a further line.
 fn write_replies<S: Sink>(
     replies: &[(u64, Reply)],
     line: &mut Line,
     sink: &mut S,
 ) -> Result<(), Stalled>
-    ensures { Puts (replies_text replies.now) (S.taken sink.old) (S.taken sink.new) (S.has_stalled sink.new) result }
+    ensures text { Adds (replies_text replies.now) (outgoing line.old.items (S.taken sink.old)) (outgoing line.new.items (S.taken sink.new)) (S.has_stalled sink.new) result }
+    ensures room { OnOk result (HasRoom line.new.items) }
 {
     for one in replies {
+        make_room(line, sink)?;
         build_reply(line, &one.1);
-        put_all(sink, line.as_slice())?;
     }
-    Ok(())
+    make_room(line, sink)
 }
 
-/// Settles an engine, and writes the answers that are owed, in order.
+/// Settles an engine, and writes the answers that are owed, in order. It leaves room for a further line.
 fn write_owed<H: Threads + Wait, S: Sink>(
     rt: &H,
     engine: &mut Engine<OpenGate>,
     line: &mut Line,
     sink: &mut S,
 ) -> Result<(), Stalled>
-    ensures text { WritesOwed engine.old engine.new.register (S.taken sink.old) (S.taken sink.new) (S.has_stalled sink.new) result }
+    ensures text { WritesOwed engine.old engine.new.register (outgoing line.old.items (S.taken sink.old)) (outgoing line.new.items (S.taken sink.new)) (S.has_stalled sink.new) result }
     ensures told { OnErr result (S.has_stalled sink.new ≡ true) }
     ensures rest { IsAtRest engine.new }
+    ensures room { OnOk result (HasRoom line.new.items) }
 {
     let replies = engine.settle(rt);
     write_replies(replies.as_slice(), line, sink)
@@ -74,7 +76,7 @@ fn owe_event<H: Threads + Wait + Copy + Send + Sync + 'static>(
     engine: &mut Engine<OpenGate>,
 ) -> Result<(), Fault>
     requires { length engine.old.replies < MOST_PENDING }
-    ensures { (fields : List (List ℕ)) (taken : Option (List ℕ)) (stalled : Bool) → command_of fields ≡ Ok (command.Ask event)
+    ensures { (fields : List (List ℕ)) (taken : Outgoing) (stalled : Bool) → command_of fields ≡ Ok (command.Ask event)
         → TakesNext fields engine.old engine.new taken taken stalled result }
 {
     match engine.submit(rt, event) {
@@ -93,11 +95,11 @@ fn refuse<H: Threads + Wait, S: Sink>(
     sink: &mut S,
 ) -> Result<(), Stalled>
     ensures { (fields : List (List ℕ)) → command_of fields ≡ Err why
-        → AnswersNext fields engine.old engine.new (S.taken sink.old) (S.taken sink.new) (S.has_stalled sink.new) result }
+        → AnswersNext fields engine.old engine.new (outgoing line.old.items (S.taken sink.old)) (outgoing line.new.items (S.taken sink.new)) (S.has_stalled sink.new) result }
 {
     write_owed(rt, engine, line, sink)?;
     build_refused(line, why);
-    put_all(sink, line.as_slice())
+    Ok(())
 }
 
 /// Answers a record whose word is that of a report, once nothing is owed.
@@ -110,7 +112,7 @@ fn report<H: Threads + Wait, S: Sink>(
     sink: &mut S,
 ) -> Result<(), Stalled>
     requires named { Some (word_of_report report) ≡ word_named (field (fields_of row.now) 0) }
-    ensures { AnswersNext (fields_of row.now) engine.old engine.new (S.taken sink.old) (S.taken sink.new) (S.has_stalled sink.new) result }
+    ensures { AnswersNext (fields_of row.now) engine.old engine.new (outgoing line.old.items (S.taken sink.old)) (outgoing line.new.items (S.taken sink.new)) (S.has_stalled sink.new) result }
 {
     write_owed(rt, engine, line, sink)?;
     answer_report(report, row, engine.register(), line, sink)
@@ -127,7 +129,8 @@ fn build_recut_by<H: Threads + Wait>(
     line: &mut Line,
 )
     requires rest { IsAtRest engine.old }
-    ensures text { RecutText (bounds_of (fields_of row.now)) (store_in engine.old.register) line.new.items (store_in engine.new.register) }
+    requires room { HasRoom line.old.items }
+    ensures text { AddsAnswer (fields_of row.now) (Ok command.Recut) (store_in engine.old.register) (store_in engine.new.register) line.old.items line.new.items }
     ensures rest { IsAtRest engine.new }
 {
     match read_bounds(row) {
@@ -149,11 +152,11 @@ fn recut<H: Threads + Wait, S: Sink>(
     sink: &mut S,
 ) -> Result<(), Stalled>
     requires named { command_of (fields_of row.now) ≡ Ok command.Recut }
-    ensures { AnswersNext (fields_of row.now) engine.old engine.new (S.taken sink.old) (S.taken sink.new) (S.has_stalled sink.new) result }
+    ensures { AnswersNext (fields_of row.now) engine.old engine.new (outgoing line.old.items (S.taken sink.old)) (outgoing line.new.items (S.taken sink.new)) (S.has_stalled sink.new) result }
 {
     write_owed(rt, engine, line, sink)?;
     build_recut_by(rt, row, engine, line);
-    put_all(sink, line.as_slice())
+    Ok(())
 }
 
 /// The fault that a sink's is.
@@ -177,7 +180,7 @@ fn take_word<H: Threads + Wait + Copy + Send + Sync + 'static, S: Sink>(
 ) -> Result<(), Fault>
     requires named { Some word ≡ word_named (field (fields_of row.now) 0) }
     requires room { length engine.old.replies < MOST_PENDING }
-    ensures { TakesNext (fields_of row.now) engine.old engine.new (S.taken sink.old) (S.taken sink.new) (S.has_stalled sink.new) result }
+    ensures { TakesNext (fields_of row.now) engine.old engine.new (outgoing line.old.items (S.taken sink.old)) (outgoing line.new.items (S.taken sink.new)) (S.has_stalled sink.new) result }
 {
     match kind_of(word) {
         Kind::Event => match event_of(word, row) {
@@ -198,7 +201,7 @@ fn take_record<H: Threads + Wait + Copy + Send + Sync + 'static, S: Sink>(
     sink: &mut S,
 ) -> Result<(), Fault>
     requires room { length engine.old.replies < MOST_PENDING }
-    ensures { TakesNext (fields_of row.now) engine.old engine.new (S.taken sink.old) (S.taken sink.new) (S.has_stalled sink.new) result }
+    ensures { TakesNext (fields_of row.now) engine.old engine.new (outgoing line.old.items (S.taken sink.old)) (outgoing line.new.items (S.taken sink.new)) (S.has_stalled sink.new) result }
 {
     match word_of(field(row, 0)) {
         Some(word) => take_word(rt, word, row, engine, line, sink),
@@ -207,20 +210,34 @@ fn take_record<H: Threads + Wait + Copy + Send + Sync + 'static, S: Sink>(
 }
 
 /// Writes what is owed, and flushes the sink.
-fn hand_on<H: Threads + Wait, S: Sink>(
+fn flush_owed<H: Threads + Wait, S: Sink>(
     rt: &H,
     engine: &mut Engine<OpenGate>,
     line: &mut Line,
     sink: &mut S,
 ) -> Result<(), Stalled>
-    ensures text { WritesOwed engine.old engine.new.register (S.taken sink.old) (S.taken sink.new) (S.has_stalled sink.new) result }
+    ensures text { WritesOwed engine.old engine.new.register (outgoing line.old.items (S.taken sink.old)) (outgoing line.new.items (S.taken sink.new)) (S.has_stalled sink.new) result }
+    ensures empty { OnOk result (line.new.items ≡ []) }
     ensures rest { IsAtRest engine.new }
 {
     write_owed(rt, engine, line, sink)?;
-    match sink.flush() {
-        Ok(()) => Ok(()),
-        Err(_) => Err(Stalled),
-    }
+    flush_line(line, sink)
+}
+
+/// Writes what is owed, and hands it on.
+fn hand_on_owed<H: Threads + Wait, S: Sink>(
+    rt: &H,
+    engine: &mut Engine<OpenGate>,
+    line: &mut Line,
+    sink: &mut S,
+) -> Result<(), Stalled>
+    ensures text { WritesOwed engine.old engine.new.register (outgoing line.old.items (S.taken sink.old)) (outgoing line.new.items (S.taken sink.new)) (S.has_stalled sink.new) result }
+    ensures told { OnErr result (S.has_stalled sink.new ≡ true) }
+    ensures empty { OnOk result (line.new.items ≡ []) }
+    ensures rest { IsAtRest engine.new }
+{
+    write_owed(rt, engine, line, sink)?;
+    hand_on(line, sink)
 }
 
 /// Takes the record that was read last. What is owed is written where 4,096 events are pending, and before a read that
@@ -234,12 +251,12 @@ fn take_in_time<T: Source, H: Threads + Wait + Copy + Send + Sync + 'static, S: 
     sink: &mut S,
 ) -> Result<(), Fault>
     requires room { length engine.old.replies < MOST_PENDING }
-    ensures text { TakesNext (fields_of row.now) engine.old engine.new (S.taken sink.old) (S.taken sink.new) (S.has_stalled sink.new) result }
+    ensures text { TakesNext (fields_of row.now) engine.old engine.new (outgoing line.old.items (S.taken sink.old)) (outgoing line.new.items (S.taken sink.new)) (S.has_stalled sink.new) result }
     ensures room { OnOk result (length engine.new.replies < MOST_PENDING) }
 {
     take_record(rt, row, engine, line, sink)?;
     if !source.has_record() {
-        return sink_fault(hand_on(rt, engine, line, sink));
+        return sink_fault(flush_owed(rt, engine, line, sink));
     }
     if engine.pending() < MOST_PENDING {
         return Ok(());
@@ -262,7 +279,9 @@ fn take_all<T: Source, H: Threads + Wait + Copy + Send + Sync + 'static, S: Sink
     requires start { (T.unread source.old).state ≡ state.StartRecord }
     requires rest { IsAtRest engine.old }
     ensures text { IfSome (T.unread source.old).bytes
-        (λ bytes. HasCome (StopsBehind T.unread T.fails true bytes source.new) (store_in engine.old.register) bytes engine.new (S.taken sink.old) (S.taken sink.new) result) }
+        (λ bytes. HasCome (StopsBehind T.unread T.fails true bytes source.new) bytes
+        (λ rows. IsUnderway rows (store_in engine.old.register) engine.new (outgoing line.old.items (S.taken sink.old)) (outgoing line.new.items (S.taken sink.new)))
+        (λ rows. AreBrokenOff rows (store_in engine.old.register) (outgoing line.old.items (S.taken sink.old)) (outgoing line.new.items (S.taken sink.new)) (S.has_stalled sink.new)) result) }
     ensures write { result ≡ Err fault.Write → S.has_stalled sink.new ≡ true }
     ensures field { result ≢ Err fault.Field }
 {
@@ -304,7 +323,7 @@ pub fn answer_all_by<T: Source, H: Threads + Wait + Copy + Send + Sync + 'static
     let done = take_all(rt, source, row, engine, &mut line, sink);
     match done {
         Err(Fault::Write) => Err(Fault::Write),
-        _ => match write_owed(rt, engine, &mut line, sink) {
+        _ => match hand_on_owed(rt, engine, &mut line, sink) {
             Ok(()) => done,
             Err(_) => Err(Fault::Write),
         },

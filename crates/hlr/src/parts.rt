@@ -3,9 +3,9 @@
 ghost use Rattle.std.specs.Prelude.{◌≡◌, Some};
 ghost use Rattle.csv.specs.Records.{fields_of};
 ghost use Rattle.hlr_owners.specs.Owners.{AllHome, store_in};
-ghost use Rattle.hlr.specs.Inside.{kind_of};
+ghost use Rattle.hlr.specs.Inside.{AddsAnswer, kind_of};
 ghost use Rattle.hlr.specs.Records.{command_named};
-ghost use Rattle.hlr.specs.Text.{CommandText};
+ghost use Rattle.hlr.specs.Written.{HasRoom};
 ghost use Rattle.hlr.specs.declared.records.Kind.TheVariants as kind;
 ghost use Rattle.hlr.specs.declared.records.Word.TheVariants as word;
 
@@ -15,11 +15,12 @@ use crate::records::Word;
 use csv::ByteRecord;
 use hlr_core::Register;
 
-/// Builds the answer to a record whose word is `post`: `post,part,limit`.
+/// Puts the answer to a record whose word is `post`: `post,part,limit`.
 #[inline(never)]
 pub fn build_post(row: &ByteRecord, register: &mut Register, line: &mut Line)
-    requires { AllHome register.old.owners }
-    ensures text { CommandText (fields_of row.now) (command_named (Some word.Post) (fields_of row.now)) (store_in register.old) line.new.items (store_in register.new) }
+    requires home { AllHome register.old.owners }
+    requires room { HasRoom line.old.items }
+    ensures text { AddsAnswer (fields_of row.now) (command_named (Some word.Post) (fields_of row.now)) (store_in register.old) (store_in register.new) line.old.items line.new.items }
     ensures home { AllHome register.new.owners }
 {
     match read_post(row) {
@@ -28,12 +29,13 @@ pub fn build_post(row: &ByteRecord, register: &mut Register, line: &mut Line)
     }
 }
 
-/// Builds the answer to a record that moves regions, or has a part come or go: what the register replies to its event.
+/// Puts the answer to a record that moves regions, or has a part come or go: what the register replies to its event.
 #[inline(never)]
 pub fn build_moved(word: Word, row: &ByteRecord, register: &mut Register, line: &mut Line)
     requires event { kind_of word ≡ kind.Event }
     requires home { AllHome register.old.owners }
-    ensures text { CommandText (fields_of row.now) (command_named (Some word) (fields_of row.now)) (store_in register.old) line.new.items (store_in register.new) }
+    requires room { HasRoom line.old.items }
+    ensures text { AddsAnswer (fields_of row.now) (command_named (Some word) (fields_of row.now)) (store_in register.old) (store_in register.new) line.old.items line.new.items }
     ensures home { AllHome register.new.owners }
 {
     match event_of(word, row) {

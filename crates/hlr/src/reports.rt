@@ -1,20 +1,21 @@
-//! The reports: their lines go out, and then how many they are.
-ghost use Rattle.std.specs.Prelude.{◌≡◌, ◌+◌, ◌-◌, ◌^◌, ◌<◌, ◌≤◌, ◌&&◌, not, min, true, length, pos, slice_index, slice_index_or};
+//! The reports: their lines are put behind the answers so far, and then how many they are.
+ghost use Rattle.std.specs.Prelude.{◌≡◌, ◌+◌, ◌-◌, ◌*◌, ◌^◌, ◌<◌, ◌≤◌, ◌&&◌, ◌++◌, not, min, true, length, pos, slice_index, slice_index_or};
 ghost use Rattle.std.specs.List.{flat_map};
 ghost use Rattle.tatp_actions.specs.Cell.{cell};
 ghost use Rattle.view_delta.specs.Pending.{is_zero};
 ghost use Rattle.hlr_owners.specs.Owners.{AllHome, book_in, store_in};
 ghost use Rattle.hlr_owners.specs.Store.{published, unpublished};
-ghost use Rattle.hlr.specs.Sink.{Puts};
+ghost use Rattle.hlr.specs.Outgoing.{Adds, outgoing};
 ghost use Rattle.hlr.specs.Lines.{number_line};
 ghost use Rattle.hlr.specs.Reports.{cells_where, index_text, is_counted, is_standing, regions_text, rows_line, scan_text, standing_line, views_text};
 ghost use Rattle.hlr.specs.Text.{proposal_line};
 ghost use Rattle.hlr.specs.Inside.{cells_text, is_shown, shown_line, signed_at, total_word};
+ghost use Rattle.hlr.specs.Written.{HasRoom};
 
 use crate::lines::{
-    Line, build_bounds, build_region, build_total, put_cell, put_counted, put_pair,
+    Line, SHORT_LINE, build_bounds, build_region, build_total, put_cell, put_counted, put_pair,
 };
-use crate::sink::{Sink, Stalled, put_all};
+use crate::sink::{Sink, Stalled, make_room};
 use hlr_core::Register;
 use number_index::{NumberIndex, Page};
 use part_table::Regions;
@@ -50,20 +51,21 @@ fn stands(published: i64, unposted: i64) -> bool
     !(published == 0 && unposted == 0)
 }
 
-/// Builds the lines of the cells of which something is published or unposted, by their numbers, and answers how many
+/// Puts the lines of the cells of which something is published or unposted, by their numbers, and answers how many
 /// they are.
 fn build_standing(
     published: &[i64; CELLS as usize],
     unposted: &[i64; CELLS as usize],
     line: &mut Line,
 ) -> u64
-    ensures lines { line.new.items ≡ flat_map (standing_line (signed_at published.now) (signed_at unposted.now))
+    requires { HasRoom line.old.items }
+    ensures lines { line.new.items ≡ line.old.items ++ flat_map (standing_line (signed_at published.now) (signed_at unposted.now))
         (cells_where (is_standing (signed_at published.now) (signed_at unposted.now))) }
     ensures count { result ≡ length (cells_where (is_standing (signed_at published.now) (signed_at unposted.now))) }
+    ensures len { length line.new.items ≤ length line.old.items + SHORT_LINE * CELLS }
 {
-    line.clear();
     let mut lines = 0;
-    for cell in (0..CELLS).rev() {
+    for cell in 0..CELLS {
         let published = count_at(published, cell);
         let unposted = count_at(unposted, cell);
         if stands(published, unposted) {
@@ -74,15 +76,16 @@ fn build_standing(
     lines
 }
 
-/// Builds the lines of the cells that count some rows, by their numbers, and answers how many they are.
+/// Puts the lines of the cells that count some rows, by their numbers, and answers how many they are.
 fn build_counted(cells: &Cells, line: &mut Line) -> u64
-    ensures lines { line.new.items ≡ flat_map (rows_line (slice_index cells.now))
+    requires { HasRoom line.old.items }
+    ensures lines { line.new.items ≡ line.old.items ++ flat_map (rows_line (slice_index cells.now))
         (cells_where (is_counted (slice_index cells.now))) }
     ensures count { result ≡ length (cells_where (is_counted (slice_index cells.now))) }
+    ensures len { length line.new.items ≤ length line.old.items + SHORT_LINE * CELLS }
 {
-    line.clear();
     let mut lines = 0;
-    for cell in (0..CELLS).rev() {
+    for cell in 0..CELLS {
         let count = cells.get(cell);
         if count != 0 {
             put_counted(line, u64::from(cell), count);
@@ -92,10 +95,12 @@ fn build_counted(cells: &Cells, line: &mut Line) -> u64
     lines
 }
 
-/// Builds the lines of the cells that a report shows, and answers how many they are.
+/// Puts the lines of the cells that a report shows, and answers how many they are.
 fn build_cells(counts: &Counts<'_>, line: &mut Line) -> u64
-    ensures lines { line.new.items ≡ flat_map (shown_line counts.now) (cells_where (is_shown counts.now)) }
+    requires { HasRoom line.old.items }
+    ensures lines { line.new.items ≡ line.old.items ++ flat_map (shown_line counts.now) (cells_where (is_shown counts.now)) }
     ensures count { result ≡ length (cells_where (is_shown counts.now)) }
+    ensures len { length line.new.items ≤ length line.old.items + SHORT_LINE * CELLS }
 {
     match counts {
         Counts::Standing {
@@ -117,72 +122,61 @@ fn total_word(counts: &Counts<'_>) -> &'static [u8]
     }
 }
 
-/// Writes a report of the cells: a line for each cell with a count that isn't 0, by the cells' numbers, and then the
-/// line of how many they are. The lines of all cells are handed on at once; the line is the memory to build them in.
-/// Where the sink fails, a front of the report was taken.
-pub fn write_cells<S: Sink>(
-    counts: &Counts<'_>,
-    line: &mut Line,
-    sink: &mut S,
-) -> Result<(), Stalled>
-    ensures { Puts (cells_text counts.now) (S.taken sink.old) (S.taken sink.new) (S.has_stalled sink.new) result }
+/// Puts a report of the cells: a line for each cell with a count that isn't 0, by the cells' numbers, and then the line
+/// of how many they are.
+pub fn build_counts(counts: &Counts<'_>, line: &mut Line)
+    requires { HasRoom line.old.items }
+    ensures { line.new.items ≡ line.old.items ++ cells_text counts.now }
 {
     let lines = build_cells(counts, line);
-    put_all(sink, line.as_slice())?;
     build_total(line, total_word(counts), lines);
-    put_all(sink, line.as_slice())
 }
 
-/// Writes the report of a register's standing counts, as published and not posted yet.
+/// Puts the report of a register's standing counts, as published and not posted yet.
 ///
 /// It is not inlined: its arrays would be filled with zeros in each answer to an event.
 #[inline(never)]
-pub fn write_views<S: Sink>(
-    register: &Register,
-    line: &mut Line,
-    sink: &mut S,
-) -> Result<(), Stalled>
-    requires { AllHome register.now.owners }
-    ensures { Puts (views_text (published (store_in register.now)) (unpublished (store_in register.now))) (S.taken sink.old) (S.taken sink.new) (S.has_stalled sink.new) result }
+pub fn build_views(register: &Register, line: &mut Line)
+    requires home { AllHome register.now.owners }
+    requires room { HasRoom line.old.items }
+    ensures { line.new.items ≡ line.old.items ++ views_text (published (store_in register.now)) (unpublished (store_in register.now)) }
 {
     let counts = Counts::Standing {
         published: &register.published(),
         unposted: &register.unposted(),
     };
-    write_cells(&counts, line, sink)
+    build_counts(&counts, line);
 }
 
-/// Writes the report of a register's counts over the rows.
+/// Puts the report of a register's counts over the rows.
 #[inline(never)]
-pub fn write_scan<S: Sink>(
-    register: &Register,
-    line: &mut Line,
-    sink: &mut S,
-) -> Result<(), Stalled>
-    requires { AllHome register.now.owners }
-    ensures { Puts (scan_text (λ c. cell register.now.width c (book_in register.now.owners))) (S.taken sink.old) (S.taken sink.new) (S.has_stalled sink.new) result }
+pub fn build_scan(register: &Register, line: &mut Line)
+    requires home { AllHome register.now.owners }
+    requires room { HasRoom line.old.items }
+    ensures { line.new.items ≡ line.old.items ++ scan_text (λ c. cell register.now.width c (book_in register.now.owners)) }
 {
-    write_cells(&Counts::Rows(&register.recount()), line, sink)
+    build_counts(&Counts::Rows(&register.recount()), line);
 }
 
-/// Builds the lines of a page's pairs of a number and a subscriber.
+/// Puts the lines of a page's pairs of a number and a subscriber.
 fn build_page(page: &Page, line: &mut Line)
-    ensures { line.new.items ≡ flat_map number_line page.now.items }
+    requires { HasRoom line.old.items }
+    ensures { line.new.items ≡ line.old.items ++ flat_map number_line page.now.items }
 {
-    line.clear();
     let pairs = page.as_slice();
-    for at in (0..pairs.len()).rev() {
+    for at in 0..pairs.len() {
         let (number, s_id) = pairs[at];
         put_pair(line, number, s_id);
     }
 }
 
-/// Writes the lines of a page's pairs at once. Where the sink fails, a front of them was taken.
+/// Makes room, and puts the lines of a page's pairs. Where the sink fails, a front of the answers so far was taken.
 fn write_page<S: Sink>(page: &Page, line: &mut Line, sink: &mut S) -> Result<(), Stalled>
-    ensures { Puts (flat_map number_line page.now.items) (S.taken sink.old) (S.taken sink.new) (S.has_stalled sink.new) result }
+    ensures { Adds (flat_map number_line page.now.items) (outgoing line.old.items (S.taken sink.old)) (outgoing line.new.items (S.taken sink.new)) (S.has_stalled sink.new) result }
 {
+    make_room(line, sink)?;
     build_page(page, line);
-    put_all(sink, line.as_slice())
+    Ok(())
 }
 
 /// Gives the number after that of the last pair.
@@ -195,15 +189,14 @@ fn after_last(pairs: &[(u64, u32)]) -> u64
 }
 
 /// Writes the report of the numbers: a line for each pair of the index, by number, and then the line of how many they
-/// are. The lines of a page of pairs are handed on at once; the line is the memory to build them in. Where the sink
-/// fails, a front of the report was taken.
+/// are. Where the sink fails, a front of the answers so far and of the report was taken.
 #[inline(never)]
 pub fn write_index<S: Sink>(
     index: &NumberIndex,
     line: &mut Line,
     sink: &mut S,
 ) -> Result<(), Stalled>
-    ensures { Puts (index_text index.now) (S.taken sink.old) (S.taken sink.new) (S.has_stalled sink.new) result }
+    ensures { Adds (index_text index.now) (outgoing line.old.items (S.taken sink.old)) (outgoing line.new.items (S.taken sink.new)) (S.has_stalled sink.new) result }
 {
     let mut from = 0u64;
     let mut page = Page::new();
@@ -213,39 +206,37 @@ pub fn write_index<S: Sink>(
         from = after_last(page.as_slice());
         index.page_from(from, &mut page);
     }
+    make_room(line, sink)?;
     build_total(line, b"index,", index.len());
-    put_all(sink, line.as_slice())
+    Ok(())
 }
 
 /// Writes the report of the regions: a line for each, in the order of their ranges, and then the line of how many they
-/// are. The line is the memory to build them in. Where the sink fails, a front of the report was taken.
+/// are. Where the sink fails, a front of the answers so far and of the report was taken.
 #[inline(never)]
 pub fn write_regions<S: Sink>(
     regions: &Regions,
     line: &mut Line,
     sink: &mut S,
 ) -> Result<(), Stalled>
-    ensures { Puts (regions_text regions.now) (S.taken sink.old) (S.taken sink.new) (S.has_stalled sink.new) result }
+    ensures { Adds (regions_text regions.now) (outgoing line.old.items (S.taken sink.old)) (outgoing line.new.items (S.taken sink.new)) (S.has_stalled sink.new) result }
 {
     let regions = regions.list();
     for region in regions {
+        make_room(line, sink)?;
         build_region(line, region);
-        put_all(sink, line.as_slice())?;
     }
+    make_room(line, sink)?;
     build_total(line, b"regions,", regions.len() as u64);
-    put_all(sink, line.as_slice())
+    Ok(())
 }
 
-/// Writes the line of the bounds that would give each part about its share of a register's rows, as they are published.
+/// Puts the line of the bounds that would give each part about its share of a register's rows, as they are published.
 #[inline(never)]
-pub fn write_proposal<S: Sink>(
-    register: &Register,
-    line: &mut Line,
-    sink: &mut S,
-) -> Result<(), Stalled>
-    requires { AllHome register.now.owners }
-    ensures { Puts (proposal_line (store_in register.now)) (S.taken sink.old) (S.taken sink.new) (S.has_stalled sink.new) result }
+pub fn build_proposal(register: &Register, line: &mut Line)
+    requires home { AllHome register.now.owners }
+    requires room { HasRoom line.old.items }
+    ensures { line.new.items ≡ line.old.items ++ proposal_line (store_in register.now) }
 {
     build_bounds(line, &register.propose());
-    put_all(sink, line.as_slice())
 }

@@ -1,5 +1,5 @@
 //! A run: every record of a reader is answered.
-ghost use Rattle.std.specs.Prelude.{◌≡◌, ◌≢◌, ◌⊎◌, ◌↔◌, true, false, Some, Err, Ok, IfOk, IfSome, option_map};
+ghost use Rattle.std.specs.Prelude.{◌≡◌, ◌≢◌, ◌⊎◌, ◌↔◌, true, false, Some, Err, Ok, IfOk, IfSome, OnOk, option_map};
 ghost use Rattle.std.specs.Result.{is_err};
 ghost use Rattle.std.specs.Io.KnownBytes.{Keeps};
 ghost use Rattle.csv.specs.Reading.{Ready, default_config, reader_config, reader_state, reader_trim, source_of, strip_bom};
@@ -12,9 +12,10 @@ ghost use Rattle.hlr.specs.WholeRecords.{inner_remaining};
 ghost use Rattle.hlr.specs.Records.{command_of, field, word_named};
 ghost use Rattle.hlr.specs.Run.{IsFlushedAfter, Ran};
 ghost use Rattle.hlr.specs.Command.{Command as command};
-ghost use Rattle.hlr.specs.Inside.{Answers, IsAtRest, report_on, word_of_report};
-ghost use Rattle.hlr.specs.Sink.{Puts};
+ghost use Rattle.hlr.specs.Inside.{AddsAnswer, Answers, AreAnswered, AreBrokenOff, HasCome, IsAtRest, report_on, word_of_report};
+ghost use Rattle.hlr.specs.Outgoing.{Adds, outgoing};
 ghost use Rattle.hlr.specs.Source.{RanUntil, StopsBehind};
+ghost use Rattle.hlr.specs.Written.{HasRoom};
 ghost use Rattle.tatp_rows.specs.declared.refusal.Refusal.TheVariants as refusal;
 ghost use Rattle.hlr.specs.declared.fault.Fault.TheVariants as fault;
 
@@ -28,8 +29,8 @@ use crate::lines::{Line, build_done, build_recut, build_refused, empty_line};
 use crate::owed::{OpenGate, answer_all_by};
 use crate::parts::{build_moved, build_post};
 use crate::records::{Report, Word, field, read_bounds, word_of};
-use crate::reports::{write_index, write_proposal, write_regions, write_scan, write_views};
-use crate::sink::{Sink, Stalled, put_all};
+use crate::reports::{build_proposal, build_scan, build_views, write_index, write_regions};
+use crate::sink::{Sink, Stalled, flush_line, hand_on, make_room};
 use crate::source::Source;
 use crate::whole_records::WholeRecords;
 use csv::{ByteRecord, Reader, ReaderBuilder};
@@ -51,22 +52,16 @@ const _: () = prove!(RECORDS == 1_048_576);
 ///
 /// It is not inlined: its list of bounds would be filled with zeros in each answer to an event.
 #[inline(never)]
-fn write_recut<S: Sink>(
-    row: &ByteRecord,
-    register: &mut Register,
-    line: &mut Line,
-    sink: &mut S,
-) -> Result<(), Stalled>
-    requires named { command_of (fields_of row.now) ≡ Ok command.Recut }
+fn recut(row: &ByteRecord, register: &mut Register, line: &mut Line)
     requires home { AllHome register.old.owners }
-    ensures text { Answers (fields_of row.now) (store_in register.old) (store_in register.new) (S.taken sink.old) (S.taken sink.new) (S.has_stalled sink.new) result }
+    requires room { HasRoom line.old.items }
+    ensures text { AddsAnswer (fields_of row.now) (Ok command.Recut) (store_in register.old) (store_in register.new) line.old.items line.new.items }
     ensures home { AllHome register.new.owners }
 {
     match read_bounds(row) {
         Ok(bounds) => build_recut(line, register.recut_to(bounds.as_slice())),
         Err(why) => build_refused(line, why),
     }
-    put_all(sink, line.as_slice())
 }
 
 /// Writes a report.
@@ -76,16 +71,18 @@ fn write_report<S: Sink>(
     line: &mut Line,
     sink: &mut S,
 ) -> Result<(), Stalled>
-    requires { AllHome register.now.owners }
-    ensures { Puts (report_on report (store_in register.now)) (S.taken sink.old) (S.taken sink.new) (S.has_stalled sink.new) result }
+    requires home { AllHome register.now.owners }
+    requires room { HasRoom line.old.items }
+    ensures { Adds (report_on report (store_in register.now)) (outgoing line.old.items (S.taken sink.old)) (outgoing line.new.items (S.taken sink.new)) (S.has_stalled sink.new) result }
 {
     match report {
-        Report::Views => write_views(register, line, sink),
-        Report::Scan => write_scan(register, line, sink),
-        Report::Index => write_index(register.index(), line, sink),
-        Report::Regions => write_regions(register.regions(), line, sink),
-        Report::Propose => write_proposal(register, line, sink),
+        Report::Views => build_views(register, line),
+        Report::Scan => build_scan(register, line),
+        Report::Index => return write_index(register.index(), line, sink),
+        Report::Regions => return write_regions(register.regions(), line, sink),
+        Report::Propose => build_proposal(register, line),
     }
+    Ok(())
 }
 
 /// Answers a record whose word is that of a report: `Syntax` where it has a further field.
@@ -98,11 +95,12 @@ pub fn answer_report<S: Sink>(
 ) -> Result<(), Stalled>
     requires named { Some (word_of_report report) ≡ word_named (field (fields_of row.now) 0) }
     requires home { AllHome register.now.owners }
-    ensures { Answers (fields_of row.now) (store_in register.now) (store_in register.now) (S.taken sink.old) (S.taken sink.new) (S.has_stalled sink.new) result }
+    requires room { HasRoom line.old.items }
+    ensures { Answers (fields_of row.now) (store_in register.now) (store_in register.now) (outgoing line.old.items (S.taken sink.old)) (outgoing line.new.items (S.taken sink.new)) (S.has_stalled sink.new) result }
 {
     if row.len() != 1 {
         build_refused(line, Refusal::Syntax);
-        return put_all(sink, line.as_slice());
+        return Ok(());
     }
     write_report(report, register, line, sink)
 }
@@ -117,7 +115,8 @@ fn answer_word<S: Sink>(
 ) -> Result<(), Stalled>
     requires named { Some word ≡ word_named (field (fields_of row.now) 0) }
     requires home { AllHome register.old.owners }
-    ensures text { Answers (fields_of row.now) (store_in register.old) (store_in register.new) (S.taken sink.old) (S.taken sink.new) (S.has_stalled sink.new) result }
+    requires room { HasRoom line.old.items }
+    ensures text { Answers (fields_of row.now) (store_in register.old) (store_in register.new) (outgoing line.old.items (S.taken sink.old)) (outgoing line.new.items (S.taken sink.new)) (S.has_stalled sink.new) result }
     ensures home { AllHome register.new.owners }
 {
     match word {
@@ -142,13 +141,12 @@ fn answer_word<S: Sink>(
         Word::Index => return answer_report(Report::Index, row, register, line, sink),
         Word::Regions => return answer_report(Report::Regions, row, register, line, sink),
         Word::Propose => return answer_report(Report::Propose, row, register, line, sink),
-        Word::Recut => return write_recut(row, register, line, sink),
+        Word::Recut => recut(row, register, line),
     }
-    put_all(sink, line.as_slice())
+    Ok(())
 }
 
-/// Answers a record. The line is the memory to build the answer in. Where the sink fails, a front of the answer was
-/// taken.
+/// Answers a record, behind the answers in the line. Where the sink fails, a front of them and this one was taken.
 #[tactic(auto, unfolding(crate::specs::Records::command_of))]
 fn answer<S: Sink>(
     row: &ByteRecord,
@@ -156,21 +154,23 @@ fn answer<S: Sink>(
     line: &mut Line,
     sink: &mut S,
 ) -> Result<(), Stalled>
-    requires { AllHome register.old.owners }
-    ensures text { Answers (fields_of row.now) (store_in register.old) (store_in register.new) (S.taken sink.old) (S.taken sink.new) (S.has_stalled sink.new) result }
+    requires home { AllHome register.old.owners }
+    requires room { HasRoom line.old.items }
+    ensures text { Answers (fields_of row.now) (store_in register.old) (store_in register.new) (outgoing line.old.items (S.taken sink.old)) (outgoing line.new.items (S.taken sink.new)) (S.has_stalled sink.new) result }
     ensures home { AllHome register.new.owners }
 {
     match word_of(field(row, 0)) {
         Some(word) => answer_word(word, row, register, line, sink),
         None => {
             build_refused(line, Refusal::Syntax);
-            put_all(sink, line.as_slice())
+            Ok(())
         }
     }
 }
 
-/// Answers the record that was read last, and flushes the sink before a read that may wait: where no whole record is
-/// left of what was read. Where the sink fails, a front of the answer was taken.
+/// Answers the record that was read last. The answers so far are handed on and flushed before a read that may wait,
+/// where no whole record is left of what was read, and handed on where they are many. Where the sink fails, a front of
+/// them was taken.
 fn answer_in_time<T: Source, S: Sink>(
     source: &T,
     row: &ByteRecord,
@@ -178,20 +178,57 @@ fn answer_in_time<T: Source, S: Sink>(
     line: &mut Line,
     sink: &mut S,
 ) -> Result<(), Stalled>
-    requires { AllHome register.old.owners }
-    ensures text { Answers (fields_of row.now) (store_in register.old) (store_in register.new) (S.taken sink.old) (S.taken sink.new) (S.has_stalled sink.new) result }
+    requires home { AllHome register.old.owners }
+    requires room { HasRoom line.old.items }
+    ensures text { Answers (fields_of row.now) (store_in register.old) (store_in register.new) (outgoing line.old.items (S.taken sink.old)) (outgoing line.new.items (S.taken sink.new)) (S.has_stalled sink.new) result }
     ensures home { AllHome register.new.owners }
+    ensures room { OnOk result (HasRoom line.new.items) }
 {
     if answer(row, register, line, sink).is_err() {
         return Err(Stalled);
     }
     if source.has_record() {
-        return Ok(());
+        return make_room(line, sink);
     }
-    match sink.flush() {
-        Ok(()) => Ok(()),
-        Err(_) => Err(Stalled),
+    flush_line(line, sink)
+}
+
+/// Answers the records of a source in turn, as `answer_all`. Unless the sink failed, the last answers are left in the
+/// line.
+fn answer_records<T: Source, S: Sink>(
+    source: &mut T,
+    row: &mut ByteRecord,
+    register: &mut Register,
+    line: &mut Line,
+    sink: &mut S,
+) -> Result<(), Fault>
+    requires open { T.is_open source.old }
+    requires start { (T.unread source.old).state ≡ state.StartRecord }
+    requires home { AllHome register.old.owners }
+    requires room { HasRoom line.old.items }
+    ensures text { IfSome (T.unread source.old).bytes
+        (λ bytes. HasCome (StopsBehind T.unread T.fails false bytes source.new) bytes
+        (λ rows. AreAnswered rows (store_in register.old) register.new (outgoing line.old.items (S.taken sink.old)) (outgoing line.new.items (S.taken sink.new)))
+        (λ rows. AreBrokenOff rows (store_in register.old) (outgoing line.old.items (S.taken sink.old)) (outgoing line.new.items (S.taken sink.new)) (S.has_stalled sink.new)) result) }
+    ensures write { result ≡ Err fault.Write → S.has_stalled sink.new ≡ true }
+    ensures field { result ≢ Err fault.Field }
+    ensures thread { result ≢ Err fault.Thread }
+{
+    for count in 0..RECORDS + 1 {
+        match source.read(row) {
+            Ok(false) => return Ok(()),
+            Ok(true) => {
+                if count == RECORDS {
+                    return Err(Fault::Read);
+                }
+                if answer_in_time(source, row, register, line, sink).is_err() {
+                    return Err(Fault::Write);
+                }
+            }
+            Err(why) => return Err(why),
+        }
     }
+    Err(Fault::Read)
 }
 
 /// Answers the records of a source in turn, each before the next read may wait: `Read` where the source fails or gives
@@ -213,21 +250,14 @@ pub fn answer_all<T: Source, S: Sink>(
     ensures thread { result ≢ Err fault.Thread }
 {
     let mut line = empty_line();
-    for count in 0..RECORDS + 1 {
-        match source.read(row) {
-            Ok(false) => return Ok(()),
-            Ok(true) => {
-                if count == RECORDS {
-                    return Err(Fault::Read);
-                }
-                if answer_in_time(source, row, register, &mut line, sink).is_err() {
-                    return Err(Fault::Write);
-                }
-            }
-            Err(why) => return Err(why),
-        }
+    let done = answer_records(source, row, register, &mut line, sink);
+    match done {
+        Err(Fault::Write) => Err(Fault::Write),
+        _ => match hand_on(&mut line, sink) {
+            Ok(()) => done,
+            Err(_) => Err(Fault::Write),
+        },
     }
-    Err(Fault::Read)
 }
 
 /// Flushes the sink at the end of a run, unless the sink failed already: `Write` where that fails, and else what the

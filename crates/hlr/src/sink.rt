@@ -1,9 +1,12 @@
 //! Where answers are written.
-ghost use Rattle.std.specs.Prelude.{◌≡◌, ◌≤◌, ◌&&◌, ◌||◌, Bool, true, false, not, List, ℕ, Option, length, IfOk, OnOk};
+ghost use Rattle.std.specs.Prelude.{◌≡◌, ◌≤◌, ◌&&◌, ◌||◌, Bool, true, false, not, List, ℕ, Option, [], length, IfOk, OnOk};
 ghost use Rattle.std.specs.Result.{is_err};
 ghost use Rattle.std.specs.Io.KnownBytes.{Keeps, WriteAppends};
 ghost use Rattle.hlr.specs.Sink.{Puts, stalls, takes};
+ghost use Rattle.hlr.specs.Outgoing.{Adds, outgoing};
+ghost use Rattle.hlr.specs.Written.{HasRoom};
 
+use crate::lines::Line;
 use std::io::{self, ErrorKind, Write};
 
 /// Why a sink took no bytes.
@@ -138,4 +141,38 @@ pub fn put_all<S: Sink>(sink: &mut S, piece: &[u8]) -> Result<(), Stalled>
         }
     }
     Ok(())
+}
+
+/// Hands all lines on, so that none is left. Where the sink fails, a front of them was taken.
+pub fn hand_on<S: Sink>(line: &mut Line, sink: &mut S) -> Result<(), Stalled>
+    ensures text { Adds [] (outgoing line.old.items (S.taken sink.old)) (outgoing line.new.items (S.taken sink.new)) (S.has_stalled sink.new) result }
+    ensures empty { OnOk result (line.new.items ≡ []) }
+{
+    put_all(sink, line.as_slice())?;
+    line.clear();
+    Ok(())
+}
+
+/// Hands all lines on where there isn't room for a further one.
+#[inline(always)]
+pub fn make_room<S: Sink>(line: &mut Line, sink: &mut S) -> Result<(), Stalled>
+    ensures text { Adds [] (outgoing line.old.items (S.taken sink.old)) (outgoing line.new.items (S.taken sink.new)) (S.has_stalled sink.new) result }
+    ensures room { OnOk result (HasRoom line.new.items) }
+{
+    if line.has_room() {
+        return Ok(());
+    }
+    hand_on(line, sink)
+}
+
+/// Hands all lines on, and flushes the sink.
+pub fn flush_line<S: Sink>(line: &mut Line, sink: &mut S) -> Result<(), Stalled>
+    ensures text { Adds [] (outgoing line.old.items (S.taken sink.old)) (outgoing line.new.items (S.taken sink.new)) (S.has_stalled sink.new) result }
+    ensures empty { OnOk result (line.new.items ≡ []) }
+{
+    hand_on(line, sink)?;
+    match sink.flush() {
+        Ok(()) => Ok(()),
+        Err(_) => Err(Stalled),
+    }
 }

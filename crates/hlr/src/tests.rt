@@ -5,21 +5,24 @@ mod parts;
 
 use crate::fault::Fault;
 use crate::fields::{parse_byte, parse_bytes, parse_digits, parse_number};
-use crate::lines::{build_recut, build_reply, build_total, empty_line, put_cell, put_counted};
+use crate::lines::{
+    build_recut, build_reply, build_total, empty_line, put_cell, put_counted, put_pair,
+};
 use crate::options::{Options, read_options};
 use crate::records::{Word, word_of};
-use crate::reports::{Counts, write_cells};
+use crate::reports::{Counts, build_counts, write_index};
 use crate::run::run;
-use crate::sink::{Out, PutFault, Sink, put_all};
+use crate::sink::{Out, PutFault, Sink, hand_on, put_all};
 use clap::error::ErrorKind as OptionFault;
 use hlr_core::Reply;
+use number_index::NumberIndex;
 use std::cell::Cell;
 use std::io::{self, ErrorKind, Read, Write};
 use std::process::Abort;
 use std::sync::Wait;
 use std::thread::Threads;
 use tatp_actions::CELLS;
-use tatp_rows::Refusal;
+use tatp_rows::{Number, Refusal};
 
 /// A run without threads, and one with.
 const WAYS: [bool; 2] = [false, true];
@@ -38,6 +41,8 @@ struct Tape<'a> {
     bytes: [u8; 2048],
     kept: usize,
     taken: u64,
+    writes: u32,
+    longest: usize,
     stride: usize,
     room: usize,
     ending: Ending,
@@ -55,6 +60,8 @@ impl<'a> Tape<'a> {
             bytes: [0; 2048],
             kept: 0,
             taken: 0,
+            writes: 0,
+            longest: 0,
             stride: usize::MAX,
             room: usize::MAX,
             ending: Ending::Fails,
@@ -89,6 +96,8 @@ impl<'a> Write for Tape<'a> {
         }
         self.room = self.room.saturating_sub(count);
         self.taken = self.taken.saturating_add(count as u64);
+        self.writes = self.writes.saturating_add(1);
+        self.longest = self.longest.max(count);
         self.pending.set(true);
         Ok(count)
     }
@@ -415,6 +424,69 @@ fn answers_come_before_a_read_may_wait(rt: HostRuntime) {
     }
 }
 
+/// A writer that tells how many lines were flushed.
+#[derive(Drop)]
+struct FlushedLines<'a> {
+    flushed: &'a Cell<usize>,
+    lines: usize,
+}
+
+impl<'a> Write for FlushedLines<'a> {
+    fn write(&mut self, buf: &[u8]) -> io::Result<usize> {
+        for byte in buf {
+            self.lines = self.lines.saturating_add(usize::from(*byte == b'\n'));
+        }
+        Ok(buf.len())
+    }
+
+    fn flush(&mut self) -> io::Result<()> {
+        self.flushed.set(self.lines);
+        Ok(())
+    }
+}
+
+/// A reader that gives so many records, one at a time. It fails where one of them isn't answered and flushed yet.
+#[derive(Drop)]
+struct OneByOne<'a> {
+    flushed: &'a Cell<usize>,
+    given: usize,
+    records: usize,
+}
+
+impl<'a> Read for OneByOne<'a> {
+    fn read(&mut self, buf: &mut [u8]) -> io::Result<usize> {
+        if self.flushed.get() != self.given {
+            return Err(io::Error::from(ErrorKind::WouldBlock));
+        }
+        if self.given >= self.records {
+            return Ok(0);
+        }
+        self.given = self.given.saturating_add(1);
+        for (place, byte) in buf.iter_mut().zip(b"gsd,007\n") {
+            *place = *byte;
+        }
+        Ok(buf.len().min(8))
+    }
+}
+
+#[test]
+fn each_answer_is_out_before_the_next_read(rt: HostRuntime) {
+    for threads in WAYS {
+        let flushed = Cell::new(0);
+        let feed = OneByOne {
+            flushed: &flushed,
+            given: 0,
+            records: 5,
+        };
+        let writer = FlushedLines {
+            flushed: &flushed,
+            lines: 0,
+        };
+        let done = run(&rt, rt.alloc(), feed, &mut Out::new(writer), 2, 4, threads);
+        assert_eq!(rt; (done, flushed.get()), (Ok(()), 5));
+    }
+}
+
 /// How many bytes come in all, how many at most at a time, and how often the sink is flushed: behind each piece that
 /// ends a record, where a piece has at most 65,536 bytes, and at the end.
 const PIECES: [(usize, usize, u32); 12] = [
@@ -462,6 +534,46 @@ fn answers_are_flushed_once_a_piece(rt: HostRuntime) {
     for threads in WAYS {
         expect_flushes(&rt, &repeated(b"xxxxxxxxxxxxxxx\n"), threads);
         expect_flushes(&rt, &repeated(b"xx,\"xxxxxxxxx\"\r\n"), threads);
+    }
+}
+
+/// Answers of 18 bytes are handed on once they are more than 65,536 bytes, and at the end of a piece.
+#[test]
+fn many_answers_are_handed_on_at_once(rt: HostRuntime) {
+    let pending = Cell::new(false);
+    let text = repeated(b"xxxxxxxxxxxxxxx\n");
+    for threads in WAYS {
+        let mut tape = Tape::new(&pending);
+        let feed = Feed::new(&pending, &text, usize::MAX);
+        let done = answer_feed(&rt, feed, &mut tape, threads);
+        assert_eq!(rt;
+            (done, tape.taken, tape.writes, tape.longest),
+            (Ok(()), 9_216 * 18, 5, 65_538)
+        );
+    }
+}
+
+/// A report of 82,904 bytes.
+#[test]
+fn a_long_report_comes_whole(rt: HostRuntime) {
+    let pending = Cell::new(false);
+    let mut index = NumberIndex::new(rt.alloc()).expect(&rt, "an index");
+    for s_id in 1..=3000 {
+        let number = Number::try_new(u64::from(s_id)).expect(&rt, "a number");
+        index.add(number, s_id).expect(&rt, "a pair");
+    }
+    for stride in [usize::MAX, 1000] {
+        let mut tape = Tape::new(&pending);
+        tape.stride = stride;
+        let mut line = empty_line();
+        let mut sink = Out::new(&mut tape);
+        assert_eq!(rt; write_index(&index, &mut line, &mut sink), Ok(()));
+        assert_eq!(rt; hand_on(&mut line, &mut sink), Ok(()));
+        let begins = tape
+            .text()
+            .starts_with(b"number,000000000000001,1\nnumber,000000000000002,2\n");
+        let whole = line.as_slice().is_empty();
+        assert_eq!(rt; (tape.taken, begins, whole), (82_904, true, true));
     }
 }
 
@@ -807,11 +919,14 @@ fn lines_and_fields_are_as_told(rt: HostRuntime) {
     put_cell(&mut line, 71, i64::MIN, -1);
     put_counted(&mut line, 71, u64::MAX);
     let mut are_told = line.as_slice()
-        == b"cell,71,18446744073709551615\ncell,71,-9223372036854775808,-1\n".as_slice();
+        == b"cell,71,-9223372036854775808,-1\ncell,71,18446744073709551615\n".as_slice();
+    line.clear();
     build_total(&mut line, b"views,", 72);
     are_told &= line.as_slice() == b"views,72\n".as_slice();
+    line.clear();
     build_reply(&mut line, &Reply::Refused(Refusal::Worn));
     are_told &= line.as_slice() == b"refused,17,Worn\n".as_slice();
+    line.clear();
     build_recut(&mut line, Ok(15));
     are_told &= line.as_slice() == b"recut,15\n".as_slice();
     assert!(rt; are_told);
@@ -879,6 +994,75 @@ fn numbers_are_read_to_their_borders(rt: HostRuntime) {
 }
 
 #[test]
+fn numbers_are_written_to_their_borders(rt: HostRuntime) {
+    let pending = Cell::new(false);
+    let mut tape = Tape::new(&pending);
+    let mut sink = Out::new(&mut tape);
+    let mut line = empty_line();
+    let mut power = 1u64;
+    for _ in 0..19 {
+        for number in [power.wrapping_sub(1), power] {
+            line.clear();
+            build_total(&mut line, b"", number);
+            assert_eq!(rt; put_all(&mut sink, line.as_slice()), Ok(()));
+        }
+        power = power.wrapping_mul(10);
+    }
+    for (number, s_id) in [
+        (999_999_999_999_999, 10),
+        (1_000_000_000_000_000, 4_294_967_295),
+        (u64::MAX, 0),
+    ] {
+        line.clear();
+        put_pair(&mut line, number, s_id);
+        assert_eq!(rt; put_all(&mut sink, line.as_slice()), Ok(()));
+    }
+    let told = b"0
+1
+9
+10
+99
+100
+999
+1000
+9999
+10000
+99999
+100000
+999999
+1000000
+9999999
+10000000
+99999999
+100000000
+999999999
+1000000000
+9999999999
+10000000000
+99999999999
+100000000000
+999999999999
+1000000000000
+9999999999999
+10000000000000
+99999999999999
+100000000000000
+999999999999999
+1000000000000000
+9999999999999999
+10000000000000000
+99999999999999999
+100000000000000000
+999999999999999999
+1000000000000000000
+number,999999999999999,10
+number,1000000000000000,4294967295
+number,18446744073709551615,0
+";
+    assert_eq!(rt; tape.text(), told.as_slice());
+}
+
+#[test]
 fn pieces_and_reports_are_put(rt: HostRuntime) {
     let pending = Cell::new(false);
     let mut tape = Tape::new(&pending);
@@ -892,7 +1076,8 @@ fn pieces_and_reports_are_put(rt: HostRuntime) {
         published: &published,
         unposted: &[0; CELLS as usize],
     };
-    assert_eq!(rt; write_cells(&counts, &mut line, &mut sink), Ok(()));
+    build_counts(&counts, &mut line);
+    assert_eq!(rt; hand_on(&mut line, &mut sink), Ok(()));
     assert_eq!(rt; sink.flush(), Ok(()));
     assert_eq!(rt; tape.text(), b"abcdcell,71,-3,0\nviews,1\n".as_slice());
     let mut tape = Tape::new(&pending);

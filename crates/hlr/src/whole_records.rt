@@ -131,8 +131,8 @@ impl Seen {
     }
 }
 
-/// How many bytes are read at once, and written at once.
-pub const BLOCK: usize = 65_536;
+/// How many bytes are read at once.
+const BLOCK: usize = 65_536;
 
 /// A reader that reads another one's bytes in blocks, and knows how far those that it read are whole records. It reads
 /// a block where all of the one before is handed on.

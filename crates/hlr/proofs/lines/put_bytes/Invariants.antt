@@ -4,6 +4,6 @@ use Rattle.hlr.proofs.lines.put_bytes.Given as goal
 
 abbrev pub invariant-loop-at : goal.invariant-loop-at
 invariant-loop-at l = record {
-  bytes : l.line.items ≡ bytes_text (drop l.at l.bytes) ++ l.fn.line.items;
-  len : length l.line.items + 2 * l.at ≡ 2 * length l.bytes + length l.fn.line.items;
+  bytes : l.line.items ++ bytes_text (drop l.at l.bytes) ≡ l.fn.line.items ++ bytes_text l.bytes;
+  len : length l.line.items ≡ length l.fn.line.items + 2 * l.at;
 }

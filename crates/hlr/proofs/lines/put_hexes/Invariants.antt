@@ -4,6 +4,6 @@ use Rattle.hlr.proofs.lines.put_hexes.Given as goal
 
 abbrev pub invariant-loop-at : goal.invariant-loop-at
 invariant-loop-at l = record {
-  bytes : l.line.items ≡ hexes_text (drop l.at l.digits) ++ l.fn.line.items;
-  len : length l.line.items + l.at ≡ length l.digits + length l.fn.line.items;
+  bytes : l.line.items ++ hexes_text (drop l.at l.digits) ≡ l.fn.line.items ++ hexes_text l.digits;
+  len : length l.line.items ≡ length l.fn.line.items + l.at;
 }

@@ -1,25 +1,14 @@
-use Rattle.std.proofs.Common.{◌≡◌, ℕ, List, Option, rules, Err}
-use Rattle.std.specs.Prelude.{Result}
-use Rattle.hlr_owners.specs.Store.{Store}
-use Rattle.hlr_workers.specs.Standing.{Engaged}
-use Rattle.hlr.specs.Inside.{HasCome}
-use Rattle.hlr.specs.Source.{StoppedFront}
-use Rattle.hlr.specs.declared.fault.Fault.{Fault}
+use Rattle.std.proofs.Common.{◌≡◌, rules, Err}
 use Rattle.hlr.specs.declared.fault.Fault.TheVariants as fault
-use Rattle.hlr.proofs.OwedFacts.{come_broken, come_whole, front_until}
-use Rattle.hlr.proofs.RunFacts.{if_some}
+use Rattle.hlr.specs.Outgoing.{outgoing}
+use Rattle.hlr.proofs.RunFacts.{come_broken, come_cut, come_whole, if_some}
 use Rattle.hlr.proofs.owed.answer_all_by.Goals.{in_default-via-in-Err+in_default, in_default-via-in_default}
 use Rattle.hlr.proofs.owed.answer_all_by.Goals as goal
-
--- where the sink failed, a front of the text was taken
-come_cut : (stops : List (List (List ℕ)) → Fault → Type 0) (start : Store) (bytes : List ℕ) (e : Engaged) (old new : Option (List ℕ)) (done : Result (Unit {0}) Fault)
-    → done ≡ Err fault.Write → HasCome stops start bytes e old new done → StoppedFront stops start bytes old new fault.Write
-come_cut stops start bytes e old new done is come = front_until stops start bytes old new (rw is at come)
 
 pub returns-in-Err-Write-clause-text : goal.returns-in-Err-Write-clause-text
 returns-in-Err-Write-clause-text g c =
     let is : c.take_all-done.result ≡ Err fault.Write = search rules in
-    if_some _ _ _ (λ bytes come. come_cut _ _ bytes c.take_all-done.new.engine _ _ c.take_all-done.result is come) c.take_all-done.ensures.text
+    if_some _ _ _ (λ bytes come. come_cut _ _ bytes _ (outgoing c.empty_line-line.result.items (g.S.Sink.taken c.args.sink.now)) (outgoing c.take_all-done.new.line.items (g.S.Sink.taken c.take_all-done.new.sink)) _ c.take_all-done.result c.empty_line-line.ensures is come) c.take_all-done.ensures.text
 
 pub returns-in-Ok-clause-text : goal.returns-in-Ok-clause-text
 returns-in-Ok-clause-text g c =
@@ -27,7 +16,7 @@ returns-in-Ok-clause-text g c =
       | in_default-via-in-Err+in_default w ↦ λ is. search rules
       | in_default-via-in_default w ↦ λ is. search rules
     ] in
-    if_some _ _ _ (λ bytes come. come_whole _ _ bytes c.take_all-done.new.engine _ _ _ _ c.take_all-done.result unless come (λ rows under. c.in-Ok.ensures.text rows _ _ under)) c.take_all-done.ensures.text
+    if_some _ _ _ (λ bytes come. come_whole _ _ bytes _ _ (outgoing c.empty_line-line.result.items (g.S.Sink.taken c.args.sink.now)) (outgoing c.hand_on_owed.new.line.items (g.S.Sink.taken c.hand_on_owed.new.sink)) c.empty_line-line.ensures _ c.in-Ok.ensures.empty (λ rows under. c.in-Ok.ensures.text rows _ _ under) c.take_all-done.result unless come) c.take_all-done.ensures.text
 
 pub returns-in-Err-clause-text : goal.returns-in-Err-clause-text
 returns-in-Err-clause-text g c =
@@ -35,4 +24,4 @@ returns-in-Err-clause-text g c =
       | in_default-via-in-Err+in_default w ↦ λ is. search rules
       | in_default-via-in_default w ↦ λ is. search rules
     ] in
-    if_some _ _ _ (λ bytes come. come_broken _ _ bytes c.take_all-done.new.engine _ _ _ _ c.take_all-done.result unless come (λ rows under. c.in-Err.ensures.text rows _ _ under)) c.take_all-done.ensures.text
+    if_some _ _ _ (λ bytes come. come_broken _ _ bytes _ _ (outgoing c.empty_line-line.result.items (g.S.Sink.taken c.args.sink.now)) (outgoing c.hand_on_owed.new.line.items (g.S.Sink.taken c.hand_on_owed.new.sink)) c.empty_line-line.ensures _ (λ rows under. c.in-Err.ensures.text rows _ _ under) c.take_all-done.result unless come) c.take_all-done.ensures.text

@@ -6,5 +6,5 @@ use Rattle.hlr.proofs.owed.recut.Goals as goal
 
 pub returns : goal.returns
 returns g c = λ rows start old under.
-    answered_next rows _ start _ c.build_recut_by.new.engine old _ _ _ c.put_all.result (c.in_ok-write_owed.ensures.text rows start old under)
-    (answered _ (Ok command.Recut) _ _ _ _ _ _ _ _ (sym c.requires.named) c.build_recut_by.ensures.text c.as_slice.ensures.value c.put_all.ensures.put) c.build_recut_by.ensures.rest
+    answered_next rows _ start _ c.build_recut_by.new.engine old _ _ (g.S.Sink.has_stalled c.write_owed.new.sink) _ (c.in_ok-write_owed.ensures.text rows start old under)
+    (answered _ (Ok command.Recut) _ _ _ _ _ (sym c.requires.named) c.build_recut_by.ensures.text _) c.build_recut_by.ensures.rest

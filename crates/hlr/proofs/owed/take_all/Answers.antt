@@ -1,5 +1,9 @@
 use Rattle.std.proofs.Common.{arith, Err}
 use Rattle.std.proofs.lemmas.Result.{err_from_is_err_and}
+use Rattle.std.specs.Prelude.{⊤}
+use Rattle.hlr_owners.specs.Owners.{store_in}
+use Rattle.hlr.specs.Inside.{AreBrokenOff}
+use Rattle.hlr.specs.Outgoing.{outgoing}
 use Rattle.hlr.proofs.OwedFacts.{owed_ends, owed_fails, owed_goes_on, owed_started, owed_stops, owed_stops_at_last, taken_no_field, taken_told}
 use Rattle.hlr.proofs.owed.take_all.Goals as goal
 
@@ -25,7 +29,7 @@ loop-count-preserved g c =
 pub returns-in-Ok-false-clause-text : goal.returns-in-Ok-false-clause-text
 returns-in-Ok-false-clause-text g c =
     let so = c.loop-count.invariant.so_far in
-    owed_ends _ _ _ _ c.in-Ok-false.ensures.reads _ _ _ _ _ (g.S.Sink.taken c.loop-count.sink) _ so c.in-Ok-false.field-0-test (omega arith)
+    owed_ends _ _ _ _ c.in-Ok-false.ensures.reads _ _ _ _ _ (outgoing c.loop-count.line.items (g.S.Sink.taken c.loop-count.sink)) _ so c.in-Ok-false.field-0-test (omega arith)
 
 pub returns-in_err-take_in_time-in-Ok-true-clause-text : goal.returns-in_err-take_in_time-in-Ok-true-clause-text
 returns-in_err-take_in_time-in-Ok-true-clause-text g c =
@@ -49,10 +53,10 @@ returns-in_err-take_in_time-in-Ok-true-clause-field g c =
 
 pub returns-in-Err-clause-text : goal.returns-in-Err-clause-text
 returns-in-Err-clause-text g c =
-    owed_stops g.T.Source.unread g.T.Source.fails c.loop-count.source c.read.new.self _ _ _ _ _ _ c.in-Err.why c.loop-count.invariant.so_far c.loop-count.invariant.few c.in-Err.ensures.failed
+    owed_stops g.T.Source.unread g.T.Source.fails c.loop-count.source c.read.new.self _ _ _ _ _ _ (λ rows. AreBrokenOff rows (store_in c.args.engine.now.register) (outgoing c.args.line.now.items (g.S.Sink.taken c.args.sink.now)) (outgoing c.loop-count.line.items (g.S.Sink.taken c.loop-count.sink)) (g.S.Sink.has_stalled c.loop-count.sink)) c.in-Err.why c.loop-count.invariant.so_far c.loop-count.invariant.few c.in-Err.ensures.failed
     c.in-Err.ensures.fault
 
 pub returns-then-count-eq-RECORDS-clause-text : goal.returns-then-count-eq-RECORDS-clause-text
 returns-then-count-eq-RECORDS-clause-text g c =
-    owed_stops_at_last g.T.Source.unread g.T.Source.fails c.loop-count.source c.read.new.self _ _ _ c.in-Ok-true.ensures.reads _ _ _ _ (g.S.Sink.taken c.loop-count.sink)
-    (g.S.Sink.taken c.loop-count.sink) _ c.loop-count.invariant.so_far c.in-Ok-true.field-0-test (omega arith)
+    owed_stops_at_last g.T.Source.unread g.T.Source.fails c.loop-count.source c.read.new.self _ _ _ c.in-Ok-true.ensures.reads _ _ _ _ (outgoing c.loop-count.line.items (g.S.Sink.taken c.loop-count.sink))
+    (outgoing c.loop-count.line.items (g.S.Sink.taken c.loop-count.sink)) _ c.loop-count.invariant.so_far (λ rows. ⊤) c.in-Ok-true.field-0-test (omega arith)

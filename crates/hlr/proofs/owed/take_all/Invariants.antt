@@ -1,5 +1,6 @@
 use Rattle.std.proofs.Common.{◌≤◌, ◌<◌, length}
 use Rattle.hlr_owners.specs.Owners.{store_in}
+use Rattle.hlr.specs.Outgoing.{outgoing}
 use Rattle.hlr.proofs.OwedFacts.{SoFarOwed}
 use Rattle.hlr.proofs.owed.take_all.Given as goal
 
@@ -8,5 +9,5 @@ invariant-loop-count g l = record {
   open_still : g.T.Source.is_open l.source;
   few : l.count ≤ 1048576;
   room : length l.engine.replies < 4096;
-  so_far : SoFarOwed (store_in l.fn.engine.register) (g.T.Source.unread l.fn.source).bytes (g.T.Source.unread l.source) l.engine (g.S.Sink.taken l.fn.sink) (g.S.Sink.taken l.sink) l.count;
+  so_far : SoFarOwed (store_in l.fn.engine.register) (g.T.Source.unread l.fn.source).bytes (g.T.Source.unread l.source) l.engine (outgoing l.fn.line.items (g.S.Sink.taken l.fn.sink)) (outgoing l.line.items (g.S.Sink.taken l.sink)) l.count;
 }

@@ -11,8 +11,8 @@ returns-in_err-take_record-clause-text g c =
 
 pub returns-then-not-has_record-clause-text : goal.returns-then-not-has_record-clause-text
 returns-then-not-has_record-clause-text g c = λ rows start old under.
-    handed_taken rows _ start c.hand_on.new.engine old _ _ c.hand_on.result _
-    (c.hand_on.ensures.text (rows ++ fields_of c.args.row.now ∷ []) start old (c.in_ok-take_record.ensures rows start old under)) c.hand_on.ensures.rest c.sink_fault.ensures
+    handed_taken rows _ start c.flush_owed.new.engine old _ _ c.flush_owed.result _
+    (c.flush_owed.ensures.text (rows ++ fields_of c.args.row.now ∷ []) start old (c.in_ok-take_record.ensures rows start old under)) c.flush_owed.ensures.rest c.sink_fault.ensures
 
 pub returns-clause-text : goal.returns-clause-text
 returns-clause-text g c = λ rows start old under.

@@ -1,6 +1,7 @@
-use Rattle.std.proofs.Common.{◌∙◌}
-use Rattle.hlr.proofs.SinkFacts.{puts_front}
-use Rattle.hlr.proofs.ReportFacts.{pairs_all, page_step, page_some, page_none, report_started, report_goes_on_by, report_stops_by, report_ends}
+use Rattle.std.proofs.Common.{[]}
+use Rattle.hlr.specs.Outgoing.{outgoing}
+use Rattle.hlr.proofs.SinkFacts.{adds_failed}
+use Rattle.hlr.proofs.ReportFacts.{page_none, page_some, page_step, pairs_all, report_ends, report_goes_on_by, report_started, report_stops_by}
 use Rattle.hlr.proofs.reports.write_index.Goals as goal
 
 pub loop-page-init : goal.loop-page-init
@@ -8,7 +9,7 @@ loop-page-init g c = (report_started _ _ _ _ (pairs_all _), c.page_from.ensures.
 
 pub returns-in_err-write_page : goal.returns-in_err-write_page
 returns-in_err-write_page g c =
-    puts_front _ _ _ _ _ c.from_residual.result c.from_residual.ensures.1 (report_stops_by _ _ _ _ _ _ _ _ _ c.loop-page.invariant.0 c.loop-page.invariant.1.front c.in_err-write_page.ensures.0) c.in_err-write_page.ensures.1
+    adds_failed _ _ _ _ _ c.from_residual.result c.from_residual.ensures.1 (report_stops_by _ _ _ _ _ _ _ _ (outgoing [] (g.S.Sink.taken c.write_page.new.sink)) c.loop-page.invariant.0 c.loop-page.invariant.1.front c.in_err-write_page.ensures.0) c.in_err-write_page.ensures.1
 
 pub after_last-from-requires : goal.after_last-from-requires
 after_last-from-requires g c = rw c.as_slice.ensures.value (page_some c.loop-page.page.items _ c.is_empty.ensures c.loop-page-test.true)
@@ -23,7 +24,13 @@ loop-page-preserved g c =
     let step = page_step c.loop-page.from c.after_last-from.result c.args.index.now c.loop-page.page.items _ c.loop-page.invariant.2 c.loop-page.invariant.1 c.is_empty.ensures c.loop-page-test.true (rw c.as_slice.ensures.value at c.after_last-from.ensures) in
     (report_goes_on_by _ _ _ _ _ _ _ _ c.loop-page.invariant.0 step.front c.in_ok-write_page.ensures, c.page_from-in-loop-page.ensures.page, c.page_from-in-loop-page.ensures.pairs)
 
+pub returns-in_err-make_room : goal.returns-in_err-make_room
+returns-in_err-make_room g c =
+    let text = c.in_err-make_room.ensures.text in
+    let none = page_none c.loop-page.from c.args.index.now c.loop-page.page.items _ c.loop-page.invariant.1 c.is_empty.ensures c.loop-page-test.false in
+    adds_failed _ _ _ _ _ c.from_residual-in_err-make_room.result c.from_residual-in_err-make_room.ensures.1 (report_stops_by _ _ _ _ [] [] _ _ (outgoing [] (g.S.Sink.taken c.make_room.new.sink)) c.loop-page.invariant.0 none text.0) text.1
+
 pub returns : goal.returns
 returns g c =
     let none = page_none c.loop-page.from c.args.index.now c.loop-page.page.items _ c.loop-page.invariant.1 c.is_empty.ensures c.loop-page-test.false in
-    report_ends _ _ _ _ _ _ _ _ _ _ c.put_all.result c.loop-page.invariant.0 none c.len.ensures (c.as_slice-2.ensures.value ∙ c.build_total.ensures) c.put_all.ensures.put
+    report_ends _ _ _ _ _ _ _ _ _ _ c.loop-page.invariant.0 none c.len.ensures c.in_ok-make_room.ensures.text c.build_total.ensures

@@ -10,4 +10,4 @@ unfolding command_of
 returns-in-None-clause-text g c =
     let none : word_named (field (fields_of c.args.row.now) 0) ≡ None = rw c.field.ensures at (sym c.word_of.ensures ∙ c.in-None.is) in
     let asked : Err Syntax ≡ command_of (fields_of c.args.row.now) = rw none refl in
-    answered _ (Err Syntax) _ _ _ _ _ _ _ _ asked (refl, refl) (c.as_slice.ensures.value ∙ c.build_refused.ensures) c.put_all.ensures.put
+    answered _ (Err Syntax) _ _ _ _ _ asked (record { text = _; answer = (refl, refl); grew = c.build_refused.ensures }) _

@@ -1,14 +1,17 @@
 use Rattle.std.proofs.Common.{◌≤◌}
 use Rattle.std.specs.Prelude.{IfSome}
 use Rattle.hlr_owners.specs.Owners.{AllHome, store_in}
+use Rattle.hlr.specs.Outgoing.{outgoing}
+use Rattle.hlr.specs.Written.{HasRoom}
 use Rattle.hlr.proofs.RunFacts.{SoFar}
-use Rattle.hlr.proofs.run.answer_all.Given as goal
+use Rattle.hlr.proofs.run.answer_records.Given as goal
 
 abbrev pub invariant-loop-count : goal.invariant-loop-count
 invariant-loop-count g l = record {
   open_still : g.T.Source.is_open l.source;
   few : l.count ≤ 1048576;
   home : AllHome l.register.owners;
+  room : HasRoom l.line.items;
   so_far : IfSome (g.T.Source.unread l.fn.source).bytes (λ bytes.
-      SoFar (store_in l.fn.register) bytes (g.T.Source.unread l.source) (store_in l.register) (g.S.Sink.taken l.fn.sink) (g.S.Sink.taken l.sink) l.count);
+      SoFar (store_in l.fn.register) bytes (g.T.Source.unread l.source) l.register (outgoing l.fn.line.items (g.S.Sink.taken l.fn.sink)) (outgoing l.line.items (g.S.Sink.taken l.sink)) l.count);
 }
