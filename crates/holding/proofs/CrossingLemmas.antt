@@ -1,7 +1,7 @@
 -- Holdings, pieces and what a posting answers may go to another thread.
 use denote.Struct.Field.{bool-field, u8-field}
 use denote.Param.Send.{IsSend, sendable}
-use Rattle.std.proofs.Crossing.{Box-send}
+use Rattle.holding.proofs.Common.{Box-send, trees_send, ghosts}
 use Rattle.std.specs.contracts.alloc.Global as Heap
 use Rattle.std.specs.contracts.boxed.Box as Box
 use Rattle.std.specs.contracts.impls.GlobalAllocator.TheImpl as heap
@@ -9,11 +9,9 @@ use Rattle.std.specs.contracts.option.Option as Option
 use Rattle.std.specs.contracts.result.Result as Result
 use Rattle.tatp_rows.proofs.refusal.Refusal.TheSendSync.{the_send as refusal_send}
 use Rattle.tatp_rows.specs.contracts.refusal.Refusal as Refusal
-use Rattle.tatp_actions.proofs.CrossingLemmas.{trees_send}
 use Rattle.tatp_actions.proofs.cells.Cells.TheSendSync.{the_send as cells_send}
 use Rattle.tatp_actions.proofs.part.Part.TheSendSync.{the_send as part_send}
 use Rattle.tatp_actions.specs.contracts.trees.Trees as Trees
-use Rattle.tatp_actions.specs.contracts.trees.TreesRows.TheImpl.{ghosts}
 use Rattle.holding.proofs.holding.Holding.TheSendSync.{the_send as send_with}
 use Rattle.holding.specs.contracts.holding.Holding as Holding
 use Rattle.holding.specs.contracts.piece.Piece as Piece

@@ -1,23 +1,5 @@
 -- A holding that starts with no row and is filled, and one whose rows go to another one.
-use Rattle.std.proofs.Common.{◌≡◌, ℕ, ◌<◌, refl, sym, arith, List, map, get_or, ◌∙◌}
-use Rattle.std.specs.Prelude.{ℤ, pos, ◌+ℤ◌, Box}
-use Rattle.std.specs.Box.{with_value}
-use Rattle.std.specs.declared.alloc.Global.{Global}
-use Rattle.std.specs.List.{range_with_len}
-use Rattle.std.proofs.lemmas.Int.{ints}
-use Rattle.std.proofs.lemmas.List.FromFn.{get_or-map-range_with_len}
-use Rattle.part_table.specs.declared.region.Side.{Side}
-use Rattle.tatp_actions.specs.Book.{empty_book}
-use Rattle.tatp_actions.specs.Part.{PartState, IsPart}
-use Rattle.tatp_actions.specs.declared.cells.TheConstants.{CELLS}
-use Rattle.view_board.specs.Desks.{Station, with_view}
-use Rattle.view_board.specs.Nets.{net_of}
-use Rattle.view_board.specs.Views.{IsLeastSlot, OwnsAlone, taken_back}
-use Rattle.view_board.specs.declared.rule.View.{View}
-use Rattle.view_board.proofs.BackLemmas.{wide_back}
-use Rattle.view_delta.specs.Pending.{delta_at}
-use Rattle.holding.specs.Held.{HoldingState, PieceState, IsHolding, IsPiece, count_of}
-use Rattle.holding.specs.Moved.{IsGiven}
+use Rattle.holding.proofs.Common.{◌≡◌, ℕ, ◌<◌, refl, sym, arith, List, map, get_or, ◌∙◌, ℤ, pos, ◌+ℤ◌, Box, with_value, Global, range_with_len, ints, get_or-map-range_with_len, Side, empty_book, PartState, IsPart, CELLS, Station, with_view, net_of, IsLeastSlot, OwnsAlone, taken_back, View, wide_back, delta_at, HoldingState, PieceState, IsHolding, IsPiece, count_of, IsGiven}
 use Rattle.holding.proofs.HeldLemmas.{empty_cell}
 use Rattle.holding.proofs.MovedLemmas.{counts_of}
 

@@ -1,25 +1,6 @@
 -- The local law, from the opening of a holding through its actions and postings.
-use Rattle.std.proofs.Common.{◌≡◌, ℕ, ◌+◌, ◌-◌, ◌^◌, ◌<◌, ◌≤◌, ◌==◌, refl, arith, List, length, set, get_or, subst, ◌∙◌, inl, inr, nat_lt, true, false}
-use Rattle.std.specs.Prelude.{ℤ, pos, neg_ℤ, ◌-ℤ◌, ◌≤ℤ◌}
-use Rattle.std.proofs.lemmas.Bool.{cases_lt}
-use Rattle.std.proofs.lemmas.Bool.Decides.{nat_tests}
-use Rattle.std.proofs.lemmas.Int.{ints}
-use Rattle.std.proofs.lemmas.List.{get_or-set_same, get_or-set_other, get_or_past, length-set}
-use Rattle.tatp_rows.proofs.OrderedLemmas.{by_test}
-use Rattle.tatp_actions.specs.Book.{empty_book}
-use Rattle.tatp_actions.specs.Change.{IsChange}
-use Rattle.tatp_actions.specs.Cell.{cell, active_forwardings, in_area, in_zone}
-use Rattle.tatp_actions.specs.Part.{PartState, IsPart}
-use Rattle.tatp_actions.proofs.CountLemmas.{few_cells}
-use Rattle.tatp_actions.specs.declared.cells.TheConstants.{CELLS, FIRST_AREA, FIRST_ZONE}
-use Rattle.view_board.specs.Desks.{Station}
-use Rattle.view_board.specs.Nets.{net_of, NetMoves}
-use Rattle.view_board.specs.Views.{IsLeastSlot, IsWide, OwnsAlone, posted}
-use Rattle.view_board.specs.Words.{slot_net, word_of}
-use Rattle.view_board.proofs.OwnLemmas.{net_alone}
-use Rattle.view_board.specs.declared.rule.View.{View}
-use Rattle.view_delta.specs.Pending.{delta_at, NotesFit}
-use Rattle.holding.specs.Held.{HoldingState, IsHolding, HasSmallNets, count_of}
+use Rattle.holding.proofs.Common.{◌≡◌, ℕ, ◌+◌, ◌-◌, ◌^◌, ◌<◌, ◌≤◌, ◌==◌, refl, arith, List, length, set, get_or, subst, ◌∙◌, inl, inr, nat_lt, true, false, ℤ, pos, neg_ℤ, ◌-ℤ◌, ◌≤ℤ◌, cases_lt, nat_tests, ints, get_or-set_same, get_or-set_other, get_or_past, length-set, by_test, empty_book, IsChange, cell, PartState, IsPart, few_cells, CELLS, FIRST_AREA, FIRST_ZONE, Station, net_of, NetMoves, IsLeastSlot, IsWide, OwnsAlone, posted, slot_net, word_of, net_alone, View, delta_at, NotesFit, HoldingState, IsHolding, HasSmallNets, count_of}
+use Rattle.tatp_actions.specs.Cell.{active_forwardings, in_area, in_zone}
 
 -- an empty book has no count
 empty_active : (hour : ℕ) → active_forwardings hour empty_book ≡ 0

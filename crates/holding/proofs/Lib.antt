@@ -1,3 +1,4 @@
+pub mod Common
 pub mod HeldLemmas
 pub mod MovedLemmas
 pub mod FillLemmas

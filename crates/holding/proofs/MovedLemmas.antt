@@ -1,26 +1,5 @@
 -- A part that is cut in two, and two that become one: their counts add up, and the local law is kept.
-use Rattle.std.proofs.Common.{◌≡◌, ℕ, ◌+◌, ◌<◌, ◌==◌, refl, arith, List, get_or, map, ◌∙◌, ap, inl, inr, false}
-use Rattle.std.specs.Prelude.{ℤ, pos, ◌-ℤ◌, Box}
-use Rattle.std.specs.Box.{with_value}
-use Rattle.std.specs.declared.alloc.Global.{Global}
-use Rattle.std.proofs.Math.ListN.{get_or-map}
-use Rattle.std.proofs.lemmas.Bool.Decides.{nat_tests}
-use Rattle.std.proofs.lemmas.Int.{ints}
-use Rattle.part_table.specs.declared.region.Side.{Side}
-use Rattle.part_table.specs.declared.region.Side.TheVariants.{Low, High}
-use Rattle.tatp_rows.proofs.OrderedLemmas.{by_test}
-use Rattle.tatp_actions.specs.Book.{Book, IsRowsOf}
-use Rattle.tatp_actions.specs.Cell.{cell}
-use Rattle.tatp_actions.specs.Cut.{given_part, kept_part, melded, Touch}
-use Rattle.tatp_actions.specs.Joined.{join_books}
-use Rattle.tatp_actions.specs.Part.{PartState, IsPart}
-use Rattle.tatp_actions.specs.declared.cells.TheConstants.{CELLS}
-use Rattle.tatp_actions.proofs.CutLemmas.{cell_cut}
-use Rattle.tatp_actions.proofs.JoinedLemmas.{cell_joined}
-use Rattle.view_board.specs.Desks.{Station}
-use Rattle.view_delta.specs.Pending.{delta_at, SumsFit, DifferencesFit}
-use Rattle.holding.specs.Held.{HoldingState, IsHolding, IsPiece, count_of}
-use Rattle.holding.specs.Inside.{IsPendingWith}
+use Rattle.holding.proofs.Common.{◌≡◌, ℕ, ◌+◌, ◌<◌, ◌==◌, arith, List, get_or, map, ◌∙◌, ap, inl, inr, false, ℤ, pos, ◌-ℤ◌, get_or-map, nat_tests, ints, Side, Low, High, by_test, Book, IsRowsOf, cell, given_part, kept_part, melded, Touch, join_books, PartState, IsPart, CELLS, cell_cut, cell_joined, Station, delta_at, SumsFit, DifferencesFit, HoldingState, IsHolding, IsPiece, count_of, IsPendingWith}
 use Rattle.holding.proofs.HeldLemmas.{few, pending_small}
 
 -- the counts of a part's rows
@@ -105,7 +84,3 @@ grown part other whole pending pending' desk slot is rules both more = record {
   small = is.small;
   wide = is.wide;
 }
-
--- a box that is written twice, at last with what it contained, is the box
-pub box_back : {X : Type 0} (b : Box X Global) (x v : X) → v ≡ b.value → with_value (with_value b x) v ≡ b
-box_back b x v is = rw is refl

@@ -1,23 +1,7 @@
 -- A posting, cell by cell.
-use Rattle.std.proofs.Common.{◌≡◌, ℕ, ◌+◌, ◌-◌, ◌<◌, ◌≤◌, refl, arith, zero, suc, true, false, not, List, ◌∷◌, take, set, sym, subst, ◌∙◌, Some, None, Ok, Err}
-use Rattle.std.specs.Prelude.{ℤ, pos, negsuc, ◌+ℤ◌}
-use Rattle.std.specs.List.{range_with_len, filter}
-use Rattle.std.proofs.Math.Seq.{take-nil}
-use Rattle.std.proofs.lemmas.Bool.Decides.{nat_tests}
-use Rattle.std.proofs.lemmas.Int.{ints}
-use Rattle.std.proofs.lemmas.List.{get_or-set_other}
-use Rattle.tatp_rows.specs.declared.refusal.Refusal.{Refusal}
+use Rattle.holding.proofs.Common.{◌≡◌, ℕ, ◌+◌, ◌-◌, ◌<◌, ◌≤◌, refl, arith, zero, suc, true, false, not, List, ◌∷◌, take, set, sym, subst, ◌∙◌, Some, None, Ok, Err, ℤ, pos, negsuc, ◌+ℤ◌, range_with_len, filter, take-nil, nat_tests, ints, get_or-set_other, Refusal, CELLS, net_of, posted, is_worn, View, raises_once, delta_at, is_zero, AreZero, IsNextNonzero, HoldingState, IsCellPosted, post_cells, gap, post}
 use Rattle.tatp_rows.specs.declared.refusal.Refusal.TheVariants as refusal
-use Rattle.tatp_actions.specs.declared.cells.TheConstants.{CELLS}
-use Rattle.view_board.specs.Nets.{net_of}
-use Rattle.view_board.specs.Views.{posted}
-use Rattle.view_board.specs.Words.{is_worn}
-use Rattle.view_board.specs.declared.rule.View.{View}
-use Rattle.view_board.proofs.PostedLemmas.{raises_once}
-use Rattle.view_delta.specs.Pending.{delta_at, is_zero, AreZero, IsNextNonzero}
-use Rattle.holding.specs.Held.{HoldingState}
-use Rattle.holding.specs.Inside.{IsCellPosted}
-use Rattle.holding.specs.Post.{post_cells, all_cells, gap, post}
+use Rattle.holding.specs.Post.{all_cells}
 
 -- the cells from one on, with a gap
 abbrev pub open_from : (ℕ → ℤ) → ℕ → ℕ → List ℕ

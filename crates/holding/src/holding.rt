@@ -161,8 +161,9 @@ impl<R: Rows> Holding<R> {
 }
 
 impl Holding {
-    /// A part and the desk of its owner, which owns a slot and has published at most 2^40 of each cell, up or down. The
-    /// rows are counted once: what the desk has not published of them is pending. It keeps the allocator.
+    /// Makes a holding of a part and the desk of its owner, which owns a slot and has published at most 2^40 of each
+    /// cell, up or down. The rows are counted once: what the desk has not published of them is pending. It keeps the
+    /// allocator.
     pub fn of(alloc: Global, part: Part, desk: Desk) -> Self
         requires slot { (slot : ℕ) × (slot < SLOTS) × Owns desk.view slot }
         requires small { HasSmallNets desk.view }
@@ -170,7 +171,7 @@ impl Holding {
         ensures desk { result.desk ≡ desk }
         ensures rules { IsHolding result }
     {
-        // Opens the part for the prover: it keeps its rules.
+        // For the prover: the part keeps its rules.
         let _width = part.width();
         let counts = part.recount();
         let pending = Pending::of(pending_of(&counts, &desk));
@@ -184,7 +185,15 @@ impl Holding {
         }
     }
 
-    /// The first subscriber of the range, 1..=16,777,216.
+    /// Tells the prover that the holding keeps its rules. It does nothing.
+    #[inline(always)]
+    pub fn rules(&self)
+        ensures { IsHolding self.now }
+    {
+        let _ = &self.part;
+    }
+
+    /// Gives the first subscriber of the range, 1..=16,777,216.
     pub fn lo(&self) -> u32
         ensures value { result ≡ self.now.part.lo }
         ensures rules { IsHolding self.now }
@@ -192,7 +201,7 @@ impl Holding {
         self.part.lo()
     }
 
-    /// The end of the range: one past its last subscriber, at most 16,777,217.
+    /// Gives the end of the range: one past its last subscriber, at most 16,777,217.
     pub fn hi(&self) -> u32
         ensures value { result ≡ self.now.part.hi }
         ensures rules { IsHolding self.now }
@@ -200,7 +209,7 @@ impl Holding {
         self.part.hi()
     }
 
-    /// The width of the zones, 1..=524,288.
+    /// Gives the width of the zones, 1..=524,288.
     pub fn width(&self) -> u32
         ensures value { result ≡ self.now.part.width }
         ensures rules { IsHolding self.now }
@@ -208,7 +217,7 @@ impl Holding {
         self.part.width()
     }
 
-    /// What is pending of a cell below `CELLS`.
+    /// Gives what is pending of a cell below `CELLS`.
     pub fn pending(&self, cell: u8) -> i64
         requires { cell < CELLS }
         ensures value { result ≡ delta_at self.now.pending cell }
@@ -217,7 +226,7 @@ impl Holding {
         self.pending.get(cell)
     }
 
-    /// Whether the slot is the desk's; one past the last is nobody's.
+    /// Tells whether the slot is the desk's; one past the last is nobody's.
     pub fn owns(&self, slot: u8) -> bool
         ensures value { IsTrue result ↔ Owns self.now.desk.view slot }
         ensures rules { IsHolding self.now }
@@ -225,7 +234,7 @@ impl Holding {
         self.desk.owns(slot)
     }
 
-    /// What the desk has published of a cell below `CELLS`.
+    /// Gives what the desk has published of a cell below `CELLS`.
     #[inline(always)]
     pub fn net(&self, cell: u8) -> i128
         requires { cell < CELLS }
@@ -235,7 +244,7 @@ impl Holding {
         self.desk.net(cell)
     }
 
-    /// What the desk has published of each cell.
+    /// Gives what the desk has published of each cell.
     pub fn nets(&self) -> [i128; CELLS as usize]
         ensures value { (c : ℕ) → c < CELLS → slice_index_or result c (pos 0) ≡ net_of self.now.desk.view c }
         ensures rules { IsHolding self.now }
@@ -254,7 +263,7 @@ impl Holding {
         self.desk.add_slot_nets(self.slot, sums);
     }
 
-    /// The count of each cell, taken by a walk over all rows.
+    /// Counts each cell by a walk over all rows.
     pub fn recount(&self) -> Cells
         ensures value { (c : ℕ) → c < CELLS → slice_index result c ≡ count_of self.now.part c }
         ensures rules { IsHolding self.now }
@@ -262,7 +271,7 @@ impl Holding {
         self.part.recount()
     }
 
-    /// The first Subscriber row of the part from a subscriber on.
+    /// Finds the first Subscriber row of the part from a subscriber on.
     pub fn first_sub_from(&self, s_id: u64) -> Option<&Subscriber>
         ensures value { option_copied result ≡ first_subscriber s_id self.now.part.book.subscribers }
         ensures rules { IsHolding self.now }

@@ -29,8 +29,8 @@ impl Model for Piece {
     ghost invariant = { λ p. IsPiece (record { part = p.part; pending = map pos p.pending }) };
 }
 
-/// A count as a delta.
-fn signed(count: u64) -> i64
+/// Gives a count as a delta.
+fn delta_of(count: u64) -> i64
     requires { count ≤ 2 ^ 40 }
     ensures { result ≡ pos count }
 {
@@ -45,7 +45,7 @@ impl Piece {
         let Ok(part) = Part::new(alloc, 1, 2, 1) else {
             unreachable!()
         };
-        // Opens the part for the prover: it keeps its rules.
+        // For the prover: the part keeps its rules.
         let _width = part.width();
         Piece {
             part,
@@ -61,7 +61,7 @@ impl Piece {
         Ok(Box::new(alloc, Piece::blank(alloc))?)
     }
 
-    /// The first subscriber of the range, 1..=16,777,216.
+    /// Gives the first subscriber of the range, 1..=16,777,216.
     pub fn lo(&self) -> u32
         ensures value { result ≡ self.now.part.lo }
         ensures rules { IsPiece self.now }
@@ -69,7 +69,7 @@ impl Piece {
         self.part.lo()
     }
 
-    /// The end of the range: one past its last subscriber, at most 16,777,217.
+    /// Gives the end of the range: one past its last subscriber, at most 16,777,217.
     pub fn hi(&self) -> u32
         ensures value { result ≡ self.now.part.hi }
         ensures rules { IsPiece self.now }
@@ -77,7 +77,7 @@ impl Piece {
         self.part.hi()
     }
 
-    /// The width of the zones, 1..=524,288.
+    /// Gives the width of the zones, 1..=524,288.
     pub fn width(&self) -> u32
         ensures value { result ≡ self.now.part.width }
         ensures rules { IsPiece self.now }
@@ -85,16 +85,16 @@ impl Piece {
         self.part.width()
     }
 
-    /// What is pending of a cell below `CELLS`: its count.
+    /// Gives what is pending of a cell below `CELLS`: its count.
     pub fn pending(&self, cell: u8) -> i64
         requires { cell < CELLS }
         ensures value { result ≡ delta_at self.now.pending cell }
         ensures rules { IsPiece self.now }
     {
-        signed(self.pending.get(cell))
+        delta_of(self.pending.get(cell))
     }
 
-    /// The count of each cell, taken by a walk over all rows.
+    /// Counts each cell by a walk over all rows.
     pub fn recount(&self) -> Cells
         ensures value { (c : ℕ) → c < CELLS → slice_index result c ≡ count_of self.now.part c }
         ensures rules { IsPiece self.now }
@@ -102,7 +102,7 @@ impl Piece {
         self.part.recount()
     }
 
-    /// The first Subscriber row of the piece from a subscriber on.
+    /// Finds the first Subscriber row of the piece from a subscriber on.
     pub fn first_sub_from(&self, s_id: u64) -> Option<&Subscriber>
         ensures value { option_copied result ≡ first_subscriber s_id self.now.part.book.subscribers }
         ensures rules { IsPiece self.now }

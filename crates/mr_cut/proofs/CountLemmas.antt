@@ -1,12 +1,5 @@
 -- The steps of nodes that become one, and the blank nodes that they use.
-use Rattle.std.proofs.Common.{◌≡◌, ℕ, ◌+◌, ◌-◌, ◌*◌, ◌<◌, ◌≤◌, max, List, Some, None, sym, ap, subst, ◌∙◌, arith}
-use Rattle.std.specs.Int.{abs_diff}
-use Rattle.mr_node.specs.Rows.{Seen}
-use Rattle.mr_node.specs.Steps.{after_steps}
-use Rattle.mr_cut.specs.Bounds.{join_steps}
-use Rattle.mr_cut.specs.SideJoins.{MaybeNode, IsSideJoined, more_of}
-use Rattle.mr_cut.specs.declared.side_joins.Side.{Side}
-use Rattle.mr_cut.specs.Joins.{IsRootOf, IsRootCount}
+use Rattle.mr_cut.proofs.Common.{◌≡◌, ℕ, ◌+◌, ◌-◌, ◌*◌, ◌<◌, ◌≤◌, max, List, Some, None, sym, ap, subst, ◌∙◌, arith, abs_diff, Seen, after_steps, join_steps, MaybeNode, IsSideJoined, more_of, Side, IsRootOf, IsRootCount}
 use Rattle.mr_cut.proofs.JoinLemmas.{AreHigherFirst, both_height}
 
 -- the nodes are of one height

@@ -1,29 +1,5 @@
 -- A tree that is cut at a key.
-use Rattle.std.proofs.Common.{◌≡◌, ℕ, ◌+◌, ◌-◌, ◌*◌, ◌<◌, ◌≤◌, List, [], ◌∷◌, ◌++◌, length, take, drop, nat_lt, nat_le, true, false, sym, ap, subst, ◌∙◌, arith, append-nil, take_at, inl, inr}
-use Rattle.std.specs.List.{AllByRecursion}
-use Rattle.std.proofs.Math.Nat.{add-mul, le-mul_of_pos_right, mul-add}
-use Rattle.std.proofs.lemmas.Nat.{mul-le}
-use Rattle.std.proofs.lemmas.Bool.{cases_lt, lt-ltb, lt-leb, le-ltb, le-leb}
-use Rattle.std.proofs.lemmas.List.Elements.{filter-append}
-use Rattle.std.specs.Int.{abs_diff}
-use Rattle.tatp_rows.proofs.OrderedLemmas.{each-weaker, filter_all, filter_none}
-use Rattle.std.proofs.lemmas.List.{append_assoc, drop_all, drop_at, length-append, nil_from_length}
-use Rattle.tatp_rows.specs.Ordered.{IsOrderedBy}
-use Rattle.tatp_rows.proofs.AppendLemmas.{each-append, each-left, each-right, ordered-left, ordered-right}
-use Rattle.tatp_rows.proofs.SpanLemmas.{from-weaker}
-use Rattle.mr_node.specs.declared.body.Leaf.{Leaf}
-use Rattle.mr_node.specs.Rows.{Seen, key_of_pair, key_limit, KeysBelow, KeysFrom}
-use Rattle.mr_node.specs.EntryLists.{AreEntries}
-use Rattle.mr_node.specs.Levels.{IsChildPlace}
-use Rattle.mr_node.specs.Levels.{NodeChild, NodeInner, children_of, rows_of, pairs_of, IsChild, IsLeaf, IsInner, seen_leaf, seen_inner}
-use Rattle.mr_node.proofs.PlaceLemmas.{packed_some}
-use Rattle.mr_node.proofs.EntryListLemmas.{entries_length}
-use Rattle.mr_node.proofs.ChildLemmas.{rows_of-append, cut_child}
-use Rattle.mr_node.proofs.SizeLemmas.{leaf_well, inner_well}
-use Rattle.mr_subtree.specs.Trees.{IsRoot}
-use Rattle.mr_cut.specs.SideJoins.{IsRest}
-use Rattle.mr_cut.specs.Joins.{IsHeightOfBoth}
-use Rattle.mr_cut.specs.Cuts.{rows_below, rows_from, IsSideRoot, IsDivided, IsCut}
+use Rattle.mr_cut.proofs.Common.{◌≡◌, ℕ, ◌+◌, ◌-◌, ◌*◌, ◌<◌, ◌≤◌, List, [], ◌∷◌, ◌++◌, length, take, drop, nat_lt, nat_le, true, false, sym, ap, subst, ◌∙◌, arith, append-nil, take_at, inl, inr, AllByRecursion, add-mul, le-mul_of_pos_right, mul-add, mul-le, cases_lt, lt-ltb, lt-leb, le-ltb, le-leb, filter-append, abs_diff, each-weaker, filter_all, filter_none, append_assoc, drop_all, drop_at, length-append, nil_from_length, IsOrderedBy, each-append, each-left, each-right, ordered-left, ordered-right, from-weaker, Leaf, Seen, key_of_pair, key_limit, KeysBelow, KeysFrom, AreEntries, IsChildPlace, NodeChild, NodeInner, children_of, rows_of, pairs_of, IsChild, IsLeaf, IsInner, seen_leaf, seen_inner, packed_some, entries_length, rows_of-append, cut_child, leaf_well, inner_well, IsRoot, IsRest, IsHeightOfBoth, rows_below, rows_from, IsSideRoot, IsDivided, IsCut}
 
 -- numbers up to a bound are no further apart
 near : (a b n : ℕ) → a ≤ n → b ≤ n → abs_diff a b ≤ n

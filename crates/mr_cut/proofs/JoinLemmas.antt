@@ -1,21 +1,5 @@
 -- Two trees that become one: the root of what came of them, and how high it is.
-use Rattle.std.proofs.Common.{◌≡◌, ℕ, ◌+◌, ◌-◌, ◌<◌, ◌≤◌, max, List, ◌++◌, Some, None}
-use Rattle.std.proofs.Common.{refl, sym, ap, subst, ◌∙◌, arith}
-use Rattle.std.specs.Int.{abs_diff}
-use Rattle.tatp_rows.specs.Ordered.{IsOrderedBy}
-use Rattle.tatp_rows.proofs.AppendLemmas.{ordered-append}
-use Rattle.mr_node.specs.Rows.{Seen, key_of_pair}
-use Rattle.mr_node.specs.EntryLists.{AreEntries}
-use Rattle.mr_node.specs.Levels.{NodeInner, children_of, rows_of, IsInner, seen_inner}
-use Rattle.mr_node.specs.Pairs.{IsChildNode}
-use Rattle.mr_node.specs.Parts.{HasOneMoreChild}
-use Rattle.mr_node.proofs.SizeLemmas.{inner_well, low_tree}
-use Rattle.mr_subtree.specs.Trees.{IsRoot}
-use Rattle.mr_cut.specs.declared.side_joins.Side.{Side}
-use Rattle.mr_cut.specs.declared.side_joins.Side.TheVariants.{Low, High}
-use Rattle.mr_cut.specs.SideJoins.{beside, IsTurned, MaybeNode, IsRest, IsSideJoined}
-use Rattle.mr_cut.specs.Cuts.{AreApart}
-use Rattle.mr_cut.specs.Joins.{AreToRoot, IsRootOf, IsHeightOfBoth, IsLower}
+use Rattle.mr_cut.proofs.Common.{◌≡◌, ℕ, ◌+◌, ◌-◌, ◌<◌, ◌≤◌, max, List, ◌++◌, Some, None, refl, sym, ap, subst, ◌∙◌, arith, abs_diff, IsOrderedBy, ordered-append, Seen, key_of_pair, AreEntries, NodeInner, children_of, rows_of, IsInner, seen_inner, IsChildNode, HasOneMoreChild, inner_well, low_tree, IsRoot, Side, Low, High, beside, IsTurned, MaybeNode, IsRest, IsSideJoined, AreApart, FitUnderRoot, IsRootOf, IsHeightOfBoth, IsLower}
 use Rattle.mr_cut.proofs.SideJoinLemmas.{lone_inner, put_beside}
 
 module _ {V : Type 0} where
@@ -102,7 +86,7 @@ module _ {V : Type 0} where
 
   -- what came of a root and its neighbour wants a root over it where it is two
   rootless : (h w lower : ℕ) (rows : List (ℕ × V)) (x : Seen V) (o : MaybeNode V)
-      → (0 < h → 2 ≤ w) → IsOrderedBy key_of_pair rows → IsSideJoined h w lower rows x o → AreToRoot x o
+      → (0 < h → 2 ≤ w) → IsOrderedBy key_of_pair rows → IsSideJoined h w lower rows x o → FitUnderRoot x o
   rootless h w lower rows x None two ordered side_joined = record { well = side_joined.well; two = λ above_leaves. omega (arith, side_joined.wide, two (omega (arith, above_leaves, side_joined.level))) }
   rootless h w lower rows x (Some y) two ordered side_joined = (
     subst (λ m. IsChildNode m x) (sym side_joined.first.level) side_joined.first,
@@ -112,12 +96,12 @@ module _ {V : Type 0} where
 
   pub both_rootless : {s : Side} {a b node other : Seen V} (x : Seen V) (o : MaybeNode V)
       → AreHigherFirst s a b node other → IsOrderedBy key_of_pair (a.rows ++ b.rows)
-      → IsSideJoined node.height node.width other.height (beside s node.rows other.rows) x o → AreToRoot x o
+      → IsSideJoined node.height node.width other.height (beside s node.rows other.rows) x o → FitUnderRoot x o
   both_rootless {s = s} {node = node} {other = other} x o first ordered side_joined =
       let order = subst (IsOrderedBy key_of_pair) (sym first.list) ordered in
       rootless node.height node.width other.height (beside s node.rows other.rows) x o first.root.two order side_joined
 
-  pub root_left : (x z : Seen V) (o : MaybeNode V) → AreToRoot x o → IsRootOf x o z → IsRoot z
+  pub root_left : (x z : Seen V) (o : MaybeNode V) → FitUnderRoot x o → IsRootOf x o z → IsRoot z
   root_left x z None whole root_of_both = subst IsRoot (sym root_of_both) whole
   root_left x z (Some y) whole root_of_both = root_of_both.0
 

@@ -1,21 +1,5 @@
 -- A node that is joined beside another one.
-use Rattle.std.proofs.Common.{refl, ◌≡◌, ℕ, ◌+◌, ◌-◌, ◌<◌, ◌≤◌, List, [], ◌∷◌, ◌++◌, take, drop, length, append-nil}
-use Rattle.std.proofs.Common.{Some, None, IfSome, sym, ap, subst, ◌∙◌, arith}
-use Rattle.std.specs.List.{AllByRecursion}
-use Rattle.std.proofs.lemmas.List.{append_assoc, drop_all, take_all, nil_from_length}
-use Rattle.tatp_rows.specs.Ordered.{IsOrderedBy}
-use Rattle.tatp_rows.proofs.AppendLemmas.{each-append, each-left, each-right, ordered-left, ordered-right}
-use Rattle.mr_node.specs.Rows.{Seen, key_of_pair, key_limit, KeysBelow}
-use Rattle.mr_node.specs.EntryLists.{AreEntries}
-use Rattle.mr_node.specs.Levels.{NodeChild, NodeInner, children_of, rows_of, IsWell, IsChild, IsInner, seen_inner}
-use Rattle.mr_node.specs.Pairs.{IsChildNode}
-use Rattle.mr_node.specs.Parts.{HasOneMoreChild}
-use Rattle.mr_node.proofs.EntryListLemmas.{entries_length}
-use Rattle.mr_node.proofs.ChildLemmas.{rows_of-append}
-use Rattle.mr_node.proofs.SizeLemmas.{inner_well}
-use Rattle.mr_cut.specs.declared.side_joins.Side.{Side}
-use Rattle.mr_cut.specs.declared.side_joins.Side.TheVariants.{Low, High}
-use Rattle.mr_cut.specs.SideJoins.{beside, end_of, IsTurned, MaybeNode, IsRest, rows_with, IsEvened, IsOneOf, IsSideJoined}
+use Rattle.mr_cut.proofs.Common.{refl, ◌≡◌, ℕ, ◌+◌, ◌-◌, ◌<◌, ◌≤◌, List, [], ◌∷◌, ◌++◌, take, drop, length, append-nil, Some, None, IfSome, sym, ap, subst, ◌∙◌, arith, AllByRecursion, append_assoc, drop_all, take_all, nil_from_length, IsOrderedBy, each-append, each-left, each-right, ordered-left, ordered-right, Seen, key_of_pair, key_limit, KeysBelow, AreEntries, NodeChild, NodeInner, children_of, rows_of, IsWell, IsChild, IsInner, seen_inner, IsChildNode, HasOneMoreChild, entries_length, rows_of-append, inner_well, Side, Low, High, beside, end_of, IsTurned, MaybeNode, IsRest, rows_with, IsEvened, IsOneOf, IsSideJoined}
 
 pub place_within : (s : Side) (i n : ℕ) → i ≡ end_of s n → i ≤ n
 place_within Low i n place = omega (arith, place)

@@ -15,9 +15,9 @@ IsLower Low low high = low < high
 IsLower High low high = high ≤ low
 
 -- a root, or two nodes that want one over them
-abbrev pub AreToRoot : {V : Type 0} → Seen V → MaybeNode V → Type 0
-AreToRoot one None = IsRoot one
-AreToRoot one (Some two) = IsChildNode one.height one × IsChildNode one.height two.value × IsOrderedBy key_of_pair (one.rows ++ two.value.rows)
+abbrev pub FitUnderRoot : {V : Type 0} → Seen V → MaybeNode V → Type 0
+FitUnderRoot one None = IsRoot one
+FitUnderRoot one (Some two) = IsChildNode one.height one × IsChildNode one.height two.value × IsOrderedBy key_of_pair (one.rows ++ two.value.rows)
 
 -- the root of one node, or of two, a level higher
 abbrev pub IsRootOf : {V : Type 0} → Seen V → MaybeNode V → Seen V → Type 0

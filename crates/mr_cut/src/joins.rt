@@ -7,7 +7,7 @@ ghost use Rattle.mr_node.specs.Steps.{after_steps};
 ghost use Rattle.mr_subtree.specs.Trees.{IsRoot};
 ghost use Rattle.mr_cut.specs.Bounds.{join_steps, most_of_meld, fewest_of_meld};
 ghost use Rattle.mr_cut.specs.SideJoins.{more_of};
-ghost use Rattle.mr_cut.specs.Joins.{AreToRoot, IsRootOf, IsRootCount, IsHeightOfBoth, IsLower};
+ghost use Rattle.mr_cut.specs.Joins.{FitUnderRoot, IsRootOf, IsRootCount, IsHeightOfBoth, IsLower};
 
 use crate::side_joins::{Side, join_side, turned};
 use mr_node::{Meter, Node, Stock, build_inner, empty_inner, insert_child};
@@ -20,7 +20,7 @@ fn root_of_both<V: Drop + Default>(
     stock: &mut Stock<V>,
     meter: &mut Meter,
 ) -> Box<Node<V>>
-    requires whole { AreToRoot one.value two }
+    requires whole { FitUnderRoot one.value two }
     requires stock { 0 < stock.old }
     ensures root { IsRootOf one.value two result.value }
     ensures stock { stock.old ≡ stock.new + more_of two }

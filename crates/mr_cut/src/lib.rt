@@ -1,5 +1,5 @@
 //! Slice and meld: a tree is cut at a key, and two trees are joined, along one path, while whole sub-trees go over as
-//! boxes. Both take a bounded number of steps a level, and no memory but blank nodes of a stock. The stock has to be
+//! boxes. Both take a number of steps that the height bounds, and no memory but blank nodes of a stock. The stock has to be
 //! large enough before the call, which refuses nothing: `need_slice` and `need_meld` tell how large.
 #![tactic(auto)]
 

@@ -1,18 +1,5 @@
 -- The children of an inner node, cut at the one to which a key belongs.
-use Rattle.std.proofs.Common.{◌≡◌, ℕ, ◌+◌, ◌-◌, ◌<◌, ◌≤◌, List, [], ◌∷◌, ◌++◌, length, get_or, take, drop, Option, Some, None, IfSome, refl, sym, ap, subst, ◌∙◌, arith, inl, inr}
-use Rattle.std.specs.List.{AllByRecursion, sum_by}
-use Rattle.std.proofs.lemmas.List.Sums.{sum_by-append, sum_by-cons}
-use Rattle.std.proofs.lemmas.List.{take-append-drop, drop_all, length-append}
-use Rattle.std.proofs.lemmas.List.Concat.{flat_map-append}
-use Rattle.std.proofs.lemmas.Bool.{cases_lt}
-use Rattle.tatp_rows.specs.Ordered.{IsOrderedBy}
-use Rattle.tatp_rows.proofs.AppendLemmas.{each-append, each-left, each-right, ordered-right}
-use Rattle.tatp_rows.proofs.SpanLemmas.{below-weaker, from-weaker, below_start, from_start, starts_left}
-use Rattle.mr_node.specs.Rows.{key_of_pair, KeysBelow, KeysFrom, key_limit, StartsWith}
-use Rattle.mr_node.specs.EntryLists.{entries, AreEntries}
-use Rattle.mr_node.specs.Levels.{NodePart, NodeChild, NodeInner, children_of, rows_of, IsChild, IsChildOf, IsInner}
-use Rattle.mr_node.specs.Levels.{IsChildPlace}
-use Rattle.mr_node.specs.declared.body.Child.{Child}
+use Rattle.mr_node.proofs.Common.{◌≡◌, ℕ, ◌+◌, ◌-◌, ◌<◌, ◌≤◌, List, [], ◌∷◌, ◌++◌, length, get_or, take, drop, Option, Some, None, IfSome, refl, sym, ap, subst, ◌∙◌, arith, inl, inr, AllByRecursion, sum_by, sum_by-append, sum_by-cons, take-append-drop, drop_all, length-append, flat_map-append, cases_lt, IsOrderedBy, each-append, each-left, each-right, ordered-right, below-weaker, from-weaker, below_start, from_start, starts_left, key_of_pair, KeysBelow, KeysFrom, key_limit, StartsWith, entries, AreEntries, NodePart, NodeChild, NodeInner, children_of, rows_of, IsChild, IsChildOf, IsInner, IsChildPlace, Child}
 use Rattle.mr_node.proofs.PlaceLemmas.{packed_some}
 use Rattle.mr_node.proofs.EntryListLemmas.{entries_length, entries_split, entries_next, entries_rest}
 

@@ -1,17 +1,5 @@
 -- A full child that is parted: halved, or with its neighbour, to which it gave.
-use Rattle.std.proofs.Common.{◌≡◌, ℕ, ◌+◌, ◌-◌, ◌<◌, ◌≤◌, List, [], ◌∷◌, ◌++◌, length, get_or, set, take, drop, Option, Some, None, IsSome, IfSome, min, refl, sym, ap, subst, ◌∙◌, arith, take_at}
-use Rattle.std.specs.List.{AllByRecursion}
-use Rattle.std.proofs.lemmas.List.{append_assoc, drop_at, length-take-le, length-append, get_or_at, take-append-drop, take-take}
-use Rattle.tatp_rows.specs.Ordered.{IsOrderedBy, row_at, with_row}
-use Rattle.tatp_rows.proofs.AppendLemmas.{each-append, each-left, each-right, ordered-right}
-use Rattle.tatp_rows.proofs.SpanLemmas.{below-weaker, from-weaker, below_start, from_start, starts_left}
-use Rattle.mr_node.specs.Rows.{Seen, key_of_pair, key_limit, KeysBelow, KeysFrom, StartsWith}
-use Rattle.mr_node.specs.EntryLists.{AreEntries}
-use Rattle.mr_node.specs.Levels.{NodePart, NodeChild, NodeInner, children_of, rows_of, IsChild, IsInner, seen_inner}
-use Rattle.mr_node.specs.Growth.{IsGrown}
-use Rattle.mr_node.specs.Levels.{IsChildPlace}
-use Rattle.mr_node.specs.Pairs.{IsHalved}
-use Rattle.mr_node.specs.Inside.{IsWholeAgain, IsRoomAt, IsSplitAt}
+use Rattle.mr_node.proofs.Common.{◌≡◌, ℕ, ◌+◌, ◌-◌, ◌<◌, ◌≤◌, List, [], ◌∷◌, ◌++◌, length, get_or, set, take, drop, Option, Some, None, IsSome, IfSome, min, refl, sym, ap, subst, ◌∙◌, arith, take_at, AllByRecursion, append_assoc, drop_at, length-take-le, length-append, get_or_at, take-append-drop, take-take, IsOrderedBy, row_at, with_row, each-append, each-left, each-right, ordered-right, below-weaker, from-weaker, below_start, from_start, starts_left, Seen, key_of_pair, key_limit, KeysBelow, KeysFrom, StartsWith, AreEntries, NodePart, NodeChild, NodeInner, children_of, rows_of, IsChild, IsInner, seen_inner, IsGrown, IsChildPlace, IsHalved, IsWholeAgain, IsRoomAt, IsSplitAt}
 use Rattle.mr_node.proofs.PlaceLemmas.{packed_some}
 use Rattle.mr_node.proofs.EntryListLemmas.{entries_length, entries_read, entries_split, entries_written}
 use Rattle.mr_node.proofs.ChildLemmas.{IsCutAt, rows_of-append, child_at, cut_child}

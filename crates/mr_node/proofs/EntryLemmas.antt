@@ -1,22 +1,5 @@
 -- What a leaf has at and round the place of a key.
-use Rattle.std.proofs.Common.{◌≡◌, ◌≢◌, ℕ, ◌+◌, ◌-◌, ◌<◌, ◌≤◌, suc, zero, List, [], ◌∷◌, ◌++◌, length, get_or, set, take, drop, Option, Some, None, IsSome, IfSome, option_map, refl, sym, ap, subst, ◌∙◌, arith, add-one, inl, inr}
-use Rattle.std.specs.List.{insert, remove, slice_get}
-use Rattle.std.proofs.lemmas.List.{drop_all, length-set, length-append, length-take, length-drop, take-append-drop}
-use Rattle.std.proofs.lemmas.Option.{slice_get_read}
-use Rattle.std.proofs.lemmas.List.Edits.{insert_end}
-use Rattle.std.proofs.lemmas.Bool.{cases_lt}
-use Rattle.tatp_rows.specs.Ordered.{IsOrderedBy, row_at, with_row_at, with_row, without_row}
-use Rattle.tatp_rows.proofs.AppendLemmas.{each-append}
-use Rattle.tatp_rows.proofs.OrderedLemmas.{each-with_row, each-without_row, ordered-with_row, ordered-with_row_at, ordered-without_row}
-use Rattle.tatp_rows.proofs.SpanLemmas.{below-weaker, from-weaker, ordered_front, ordered_back, row_at-skip, row_at-absent, row_at-here, with_row_at-skip, with_row_at-absent, with_row_at-here, without_row-skip, without_row-absent, without_row-here, with_row-skip, with_row-front, every-with_row_at-same}
-use Rattle.mr_node.specs.declared.body.Leaf.{Leaf}
-use Rattle.mr_node.specs.Rows.{value_at, key_of_pair, KeysBelow, KeysFrom, key_limit}
-use Rattle.mr_node.specs.EntryLists.{no_key, AreKeyed, IsPadded}
-use Rattle.mr_node.specs.Search.{IsRising, IsStop}
-use Rattle.mr_node.specs.Levels.{IsLeaf, pairs_of, seen_leaf}
-use Rattle.mr_node.specs.Entries.{IsThere, IsFree}
-use Rattle.mr_node.specs.Growth.{IsGrown, IsRoomAnswer}
-use Rattle.mr_node.specs.declared.room.Room.TheVariants.{Done, Exists, Full}
+use Rattle.mr_node.proofs.Common.{◌≡◌, ◌≢◌, ℕ, ◌+◌, ◌-◌, ◌<◌, ◌≤◌, suc, zero, List, [], ◌∷◌, ◌++◌, length, get_or, set, take, drop, Option, Some, None, IsSome, IfSome, option_map, refl, sym, ap, subst, ◌∙◌, arith, add-one, inl, inr, insert, remove, slice_get, drop_all, length-set, length-append, length-take, length-drop, take-append-drop, slice_get_read, insert_end, cases_lt, IsOrderedBy, row_at, with_row_at, with_row, without_row, each-append, each-with_row, each-without_row, ordered-with_row, ordered-with_row_at, ordered-without_row, below-weaker, from-weaker, ordered_front, ordered_back, row_at-skip, row_at-absent, row_at-here, with_row_at-skip, with_row_at-absent, with_row_at-here, without_row-skip, without_row-absent, without_row-here, with_row-skip, with_row-front, every-with_row_at-same, Leaf, value_at, key_of_pair, KeysBelow, KeysFrom, key_limit, no_key, AreKeyed, IsPadded, IsRising, IsStop, IsLeaf, pairs_of, seen_leaf, IsThere, IsFree, IsGrown, IsRoomAnswer, Done, Exists, Full}
 use Rattle.mr_node.proofs.SizeLemmas.{leaf_well}
 use Rattle.mr_node.proofs.KeyedLemmas.{item_at, keyed_length, keyed_split, keyed_written, keyed_inserted, keyed_removed, keyed_behind, keyed_below, put_behind, keyed_rises, keyed_next, keyed_rest}
 

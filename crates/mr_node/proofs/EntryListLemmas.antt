@@ -1,13 +1,6 @@
 -- Entries in order: their keys in an array, and beside them places; what they are after a write, an insertion and a
 -- removal.
-use Rattle.std.proofs.Common.{◌≡◌, ℕ, ◌+◌, ◌-◌, ◌<◌, ◌≤◌, List, [], ◌∷◌, ◌++◌, length, reverse, replicate, get_or, set, take, drop, Option, Some, None, sym, ap, subst, ◌∙◌, arith, add-one}
-use Rattle.std.proofs.lemmas.List.{set_split, length-set, get_or-set_same, set-set}
-use Rattle.std.proofs.lemmas.Option.{slice_get-get_or}
-use Rattle.std.specs.List.{insert, remove, slice_get, zip}
-use Rattle.tatp_rows.specs.Ordered.{IsOrderedBy}
-use Rattle.mr_node.specs.Rows.{key_of_pair, key_limit, KeysBelow}
-use Rattle.mr_node.specs.Search.{IsRising}
-use Rattle.mr_node.specs.EntryLists.{no_key, somes, IsPacked, IsPadded, entries, AreEntries, AreKeyed}
+use Rattle.mr_node.proofs.Common.{◌≡◌, ℕ, ◌+◌, ◌-◌, ◌<◌, ◌≤◌, List, [], ◌∷◌, ◌++◌, length, reverse, replicate, get_or, set, take, drop, Option, Some, None, sym, ap, subst, ◌∙◌, arith, add-one, set_split, length-set, get_or-set_same, set-set, slice_get-get_or, insert, remove, slice_get, zip, IsOrderedBy, key_of_pair, key_limit, KeysBelow, IsRising, no_key, somes, IsPacked, IsPadded, entries, AreEntries, AreKeyed}
 use Rattle.mr_node.proofs.PlaceLemmas.{packed_length, packed_within, packed_read, packed_set, somes_set}
 use Rattle.mr_node.proofs.KeyedLemmas.{padded_same, padded_set, padded_blank, zip_keyed, zip_set, keyed_length, keyed_read, keyed_split, keyed_next, keyed_rest, keyed_written, keyed_inserted, keyed_removed, keyed_popped, keyed_pushed, keyed_turned, keyed_behind, keyed_below, keyed_rises}
 

@@ -1,15 +1,6 @@
 -- Two neighbours that share their rows anew.
-use Rattle.std.proofs.Common.{◌≡◌, ℕ, ◌+◌, ◌-◌, ◌<◌, List, [], ◌++◌, length, refl, sym, ap, subst, ◌∙◌, arith, append-nil, length-append, Bool, true, false}
-use Rattle.std.specs.List.{AllByRecursion}
-use Rattle.std.proofs.lemmas.List.{nil_from_length}
-use Rattle.tatp_rows.specs.Ordered.{IsOrderedBy}
-use Rattle.tatp_rows.proofs.AppendLemmas.{each-append, each-left, each-right, ordered-left, ordered-right}
-use Rattle.mr_node.specs.declared.body.Leaf.{Leaf}
-use Rattle.mr_node.specs.Rows.{Seen, key_of_pair, key_limit}
+use Rattle.mr_node.proofs.Common.{◌≡◌, ℕ, ◌+◌, ◌-◌, ◌<◌, List, [], ◌++◌, length, refl, sym, ap, subst, ◌∙◌, arith, append-nil, length-append, Bool, true, false, AllByRecursion, nil_from_length, IsOrderedBy, each-append, each-left, each-right, ordered-left, ordered-right, Leaf, Seen, key_of_pair, key_limit, AreEntries, AreKeyed, NodeBody, NodeInner, IsNode, pairs_of, children_of, rows_of, IsWell, IsLeaf, IsChild, IsInner, seen_leaf, seen_inner, AreEvenWidths, IsShare, IsChildNode, AreEvened, IsHalved}
 use Rattle.mr_node.specs.declared.body.Body.TheVariants.{Inner as AsInner}
-use Rattle.mr_node.specs.EntryLists.{AreEntries, AreKeyed}
-use Rattle.mr_node.specs.Levels.{NodeBody, NodeInner, IsNode, pairs_of, children_of, rows_of, IsWell, IsLeaf, IsChild, IsInner, seen_leaf, seen_inner}
-use Rattle.mr_node.specs.Pairs.{AreEvenWidths, IsShare, IsChildNode, AreEvened, IsHalved}
 use Rattle.mr_node.proofs.KeyedLemmas.{keyed_length}
 use Rattle.mr_node.proofs.EntryListLemmas.{entries_length}
 use Rattle.mr_node.proofs.ChildLemmas.{rows_of-append}

@@ -1,19 +1,8 @@
 -- The first row from a key on.
-use Rattle.std.proofs.Common.{◌≡◌, ℕ, ◌+◌, ◌<◌, ◌≤◌, List, length, get_or, take, drop, Option, Some, None, leb, refl, sym, ap, ◌∙◌, arith, ◌-◌, [], ◌∷◌, ◌++◌, subst}
-use Rattle.std.specs.List.{find, AllByRecursion}
-use Rattle.std.proofs.lemmas.List.{drop_all, take-append-drop}
-use Rattle.std.proofs.lemmas.Option.{slice_get_read}
-use Rattle.tatp_rows.proofs.SpanLemmas.{find-skip, find-head, find-left, find-right}
-use Rattle.mr_node.specs.declared.body.Leaf.{Leaf}
-use Rattle.mr_node.specs.Rows.{key_of_pair}
-use Rattle.mr_node.specs.EntryLists.{no_key}
-use Rattle.mr_node.specs.Search.{IsStop}
-use Rattle.mr_node.specs.Levels.{IsChildPlace}
-use Rattle.mr_node.specs.Levels.{IsLeaf, pairs_of, NodePart, NodeChild, NodeInner, children_of, rows_of, IsChild, IsInner}
+use Rattle.mr_node.proofs.Common.{◌≡◌, ℕ, ◌+◌, ◌<◌, ◌≤◌, List, length, get_or, take, drop, Option, Some, None, leb, refl, sym, ap, ◌∙◌, arith, ◌-◌, [], ◌∷◌, ◌++◌, subst, find, AllByRecursion, drop_all, take-append-drop, slice_get_read, find-skip, find-head, find-left, find-right, Leaf, key_of_pair, no_key, IsStop, IsChildPlace, IsLeaf, pairs_of, NodePart, NodeChild, NodeInner, children_of, rows_of, IsChild, IsInner, StartsAt}
 use Rattle.mr_node.proofs.KeyedLemmas.{keyed_rest}
 use Rattle.mr_node.proofs.EntryListLemmas.{entries_rest, entries_length}
 use Rattle.mr_node.proofs.EntryLemmas.{cut_below, leaf_length}
-use Rattle.tatp_rows.specs.Spans.{StartsAt}
 use Rattle.mr_node.proofs.ChildLemmas.{IsCutAt, child_at, cut_child}
 
 module _ {V : Type 0} where

@@ -1,11 +1,5 @@
 -- Folds and walks that go on.
-use Rattle.std.proofs.Common.{◌≡◌, ℕ, ◌+◌, ◌<◌, ◌≤◌, List, [], ◌∷◌, ◌++◌, length, get_or, take, Some, None, refl, sym, subst, ◌∙◌, arith, ap, append-nil}
-use Rattle.std.specs.Borrow.{Bor}
-use Rattle.std.proofs.lemmas.List.{take_all}
-use Rattle.std.proofs.lemmas.Option.{slice_get_read}
-use Rattle.mr_node.specs.declared.body.Leaf.{Leaf}
-use Rattle.mr_node.specs.Levels.{IsLeaf, pairs_of, NodePart, NodeInner, children_of, rows_of, IsInner}
-use Rattle.mr_node.specs.Folds.{FoldsRows}
+use Rattle.mr_node.proofs.Common.{◌≡◌, ℕ, ◌+◌, ◌<◌, ◌≤◌, List, [], ◌∷◌, ◌++◌, length, get_or, take, Some, None, refl, sym, subst, ◌∙◌, arith, ap, append-nil, Bor, take_all, slice_get_read, Leaf, IsLeaf, pairs_of, NodePart, NodeInner, children_of, rows_of, IsInner, FoldsRows}
 use Rattle.mr_node.proofs.KeyedLemmas.{keyed_next}
 use Rattle.mr_node.proofs.EntryListLemmas.{entries_next, entries_length}
 use Rattle.mr_node.proofs.EntryLemmas.{leaf_length}

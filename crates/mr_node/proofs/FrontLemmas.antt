@@ -1,10 +1,6 @@
 -- The first entries of a leaf that go behind those of another one: what each turn of the loops leaves, and both leaves
 -- after them.
-use Rattle.std.proofs.Common.{◌≡◌, ℕ, ◌+◌, ◌-◌, ◌<◌, ◌≤◌, List, [], ◌∷◌, ◌++◌, length, max, replicate, reverse, get_or, set, take, drop, Some, refl, sym, ap, subst, ◌∙◌, arith, length-append, length-drop, take_at}
-use Rattle.std.proofs.lemmas.List.{append_assoc, drop-drop, drop-set-lt, drop_at, get_or-drop, length-reverse, length-set, length-take-le, reverse-reverse, take-append-drop, take-set-le, take_more, take_more_set}
-use Rattle.std.proofs.lemmas.Option.{get_or_from_slice_get, slice_get_read}
-use Rattle.std.specs.List.{refill, slice_get, zip}
-use Rattle.mr_node.specs.EntryLists.{no_key, AreKeyed}
+use Rattle.mr_node.proofs.Common.{◌≡◌, ℕ, ◌+◌, ◌-◌, ◌<◌, ◌≤◌, List, [], ◌∷◌, ◌++◌, length, max, replicate, reverse, get_or, set, take, drop, Some, refl, sym, ap, subst, ◌∙◌, arith, length-append, length-drop, take_at, append_assoc, drop-drop, drop-set-lt, drop_at, get_or-drop, length-reverse, length-set, length-take-le, reverse-reverse, take-append-drop, take-set-le, take_more, take_more_set, get_or_from_slice_get, slice_get_read, refill, slice_get, zip, no_key, AreKeyed}
 use Rattle.mr_node.proofs.ShareLemmas.{refilled, same_sum, written_back}
 use Rattle.mr_node.proofs.KeyedLemmas.{keyed_dropped, keyed_next, keyed_pushed}
 

@@ -1,6 +1,5 @@
 -- Where a key is in a dense tree.
-use Rattle.std.proofs.Common.{◌≡◌, ℕ, ◌+◌, ◌-◌, ◌*◌, ◌/◌, ◌%◌, ◌^◌, ◌<◌, ap, ◌∙◌, arith}
-use Rattle.std.proofs.lemmas.Nat.{shl-shr}
+use Rattle.mr_node.proofs.Common.{◌≡◌, ℕ, ◌+◌, ◌-◌, ◌*◌, ◌/◌, ◌%◌, ◌^◌, ◌<◌, ap, ◌∙◌, arith, shl-shr}
 
 -- the distance to the least key, in rows
 pub rows_counted : (key least shift n : ℕ) → key < 2 ^ 64 → shift < 64 → key ≡ least + n * 2 ^ shift → (key + (2 ^ 64 - least)) % 2 ^ 64 / 2 ^ (shift % 64) ≡ n

@@ -1,16 +1,6 @@
 -- Keys in an array, and beside them items, of which each has its key: what the pairs are after a write, an insertion and
 -- a removal.
-use Rattle.std.proofs.Common.{◌≡◌, ℕ, ◌+◌, ◌-◌, ◌<◌, ◌≤◌, suc, zero, List, [], ◌∷◌, ◌++◌, length, reverse, replicate, get_or, set, take, drop, Some, IfSome, refl, sym, ap, subst, ◌∙◌, arith, add-one, inl, inr, length-append, length-take, length-drop}
-use Rattle.std.proofs.lemmas.List.{set_split, take-set, length-set, length-take-le, length-reverse, reverse-append, take_all, take_more, drop_more}
-use Rattle.std.proofs.lemmas.Option.{slice_get_within, get_or_from_slice_get, slice_get-get_or}
-use Rattle.std.proofs.lemmas.Slice.Zip.{length-zip, get_or-zip}
-use Rattle.std.proofs.Math.Seq.{split_at}
-use Rattle.std.proofs.lemmas.Bool.{cases_lt}
-use Rattle.std.specs.List.{insert, remove, slice_get, zip, AllByRecursion}
-use Rattle.tatp_rows.specs.Ordered.{IsOrderedBy}
-use Rattle.mr_node.specs.Rows.{key_of_pair, key_limit, KeysBelow}
-use Rattle.mr_node.specs.Search.{IsRising}
-use Rattle.mr_node.specs.EntryLists.{no_key, IsPadded, AreKeyed}
+use Rattle.mr_node.proofs.Common.{◌≡◌, ℕ, ◌+◌, ◌-◌, ◌<◌, ◌≤◌, suc, zero, List, [], ◌∷◌, ◌++◌, length, reverse, replicate, get_or, set, take, drop, Some, IfSome, refl, sym, ap, subst, ◌∙◌, arith, add-one, inl, inr, length-append, length-take, length-drop, set_split, take-set, length-set, length-take-le, length-reverse, reverse-append, take_all, take_more, drop_more, slice_get_within, get_or_from_slice_get, slice_get-get_or, length-zip, get_or-zip, split_at, cases_lt, insert, remove, slice_get, zip, AllByRecursion, IsOrderedBy, key_of_pair, key_limit, KeysBelow, IsRising, no_key, IsPadded, AreKeyed}
 
 -- what stands behind the keys
 pub padded_same : (n m : ℕ) (ks : List ℕ) → n ≡ m → IsPadded n ks → IsPadded m ks

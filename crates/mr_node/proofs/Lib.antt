@@ -1,3 +1,4 @@
+pub mod Common
 pub mod PlaceLemmas
 pub mod KeyedLemmas
 pub mod EntryListLemmas

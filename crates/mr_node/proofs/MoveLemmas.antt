@@ -1,7 +1,5 @@
 -- Places into which a child goes, and from which one is taken.
-use Rattle.std.proofs.Common.{◌≡◌, ℕ, ◌+◌, ◌-◌, ◌<◌, ◌≤◌, List, [], ◌∷◌, ◌++◌, length, get_or, set, take, drop, Option, Some, None, slice_range, sym, ap, subst, ◌∙◌, arith, add-one}
-use Rattle.std.specs.List.{insert, remove, remove_range}
-use Rattle.mr_node.specs.EntryLists.{no_key, somes, IsPacked, entries, AreEntries}
+use Rattle.mr_node.proofs.Common.{◌≡◌, ℕ, ◌+◌, ◌-◌, ◌<◌, ◌≤◌, List, [], ◌∷◌, ◌++◌, length, get_or, set, take, drop, Option, Some, None, slice_range, sym, ap, subst, ◌∙◌, arith, add-one, insert, remove, remove_range, no_key, somes, IsPacked, entries, AreEntries}
 use Rattle.mr_node.proofs.PlaceLemmas.{packed_fits, packed_insert, somes_insert, packed_front, somes_front, packed_remove, somes_remove, packed_pad, somes_pad, last_set, moved_behind, got_used}
 use Rattle.mr_node.proofs.EntryListLemmas.{entries_inserted, entries_removed, entries_split}
 

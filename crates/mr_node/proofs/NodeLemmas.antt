@@ -1,17 +1,6 @@
 -- What becomes of an inner node when a child of it changes in place.
-use Rattle.std.proofs.Common.{◌≡◌, ℕ, Bool, true, false, ◌+◌, ◌-◌, ◌<◌, ◌≤◌, min, List, ◌∷◌, ◌++◌, length, get_or, set, take, drop, Option, Some, None, IsSome, IfSome, refl, sym, ap, subst, ◌∙◌, arith, if◌then◌else◌}
+use Rattle.mr_node.proofs.Common.{◌≡◌, ℕ, Bool, true, false, ◌+◌, ◌-◌, ◌<◌, ◌≤◌, min, List, ◌∷◌, ◌++◌, length, get_or, set, take, drop, Option, Some, None, IsSome, IfSome, refl, sym, ap, subst, ◌∙◌, arith, if◌then◌else◌, length-append, set-get_or, IsOrderedBy, row_at, with_row_at, with_row, StartsAt, each-with_row, ordered-with_row, ordered-with_row_at, row_at-part, with_row_at-part, with_row-part, every-with_row_at-same, length-with_row_at, length-with_row, starts_with_row, starts_with_row_at, Seen, key_of_pair, key_limit, KeysBelow, NodePart, NodeChild, NodeInner, children_of, rows_of, IsWell, IsChild, IsInner, seen_inner, IsChildPlace, IsGrown, IsRoomAnswer, is_done, Room, Done, Exists, Full}
 use mir.Val.{bool_byte}
-use Rattle.std.proofs.lemmas.List.{length-append, set-get_or}
-use Rattle.tatp_rows.specs.Ordered.{IsOrderedBy, row_at, with_row_at, with_row}
-use Rattle.tatp_rows.specs.Spans.{StartsAt}
-use Rattle.tatp_rows.proofs.OrderedLemmas.{each-with_row, ordered-with_row, ordered-with_row_at}
-use Rattle.tatp_rows.proofs.SpanLemmas.{row_at-part, with_row_at-part, with_row-part, every-with_row_at-same, length-with_row_at, length-with_row, starts_with_row, starts_with_row_at}
-use Rattle.mr_node.specs.Rows.{Seen, key_of_pair, key_limit, KeysBelow}
-use Rattle.mr_node.specs.Levels.{NodePart, NodeChild, NodeInner, children_of, rows_of, IsWell, IsChild, IsInner, seen_inner}
-use Rattle.mr_node.specs.Levels.{IsChildPlace}
-use Rattle.mr_node.specs.Growth.{IsGrown, IsRoomAnswer, is_done}
-use Rattle.mr_node.specs.declared.room.Room.{Room}
-use Rattle.mr_node.specs.declared.room.Room.TheVariants.{Done, Exists, Full}
 use Rattle.mr_node.proofs.PlaceLemmas.{same_written}
 use Rattle.mr_node.proofs.EntryListLemmas.{entries_written, entries_both}
 use Rattle.mr_node.proofs.ChildLemmas.{IsCutAt, child_at, cut_child, rows_of-append, inner_of, leasts_are, leasts_rise}

@@ -1,20 +1,5 @@
 -- The next rows from a key on.
-use Rattle.std.proofs.Common.{◌≡◌, ℕ, ◌+◌, ◌-◌, ◌<◌, ◌≤◌, List, [], ◌∷◌, ◌++◌, length, get_or, take, drop, Some, None, Bool, true, false, ◌==◌, refl, sym, ap, subst, ◌∙◌, arith, append_assoc, append-nil}
-use Rattle.std.specs.List.{AllByRecursion}
-use Rattle.std.proofs.lemmas.Bool.Decides.{nat_tests}
-use Rattle.std.proofs.lemmas.List.{take_all, take-append-drop, drop_at, length-take, length-append}
-use Rattle.std.proofs.lemmas.Option.{slice_get_read}
-use Rattle.std.proofs.lemmas.List.Elements.{filter-append}
-use Rattle.tatp_rows.specs.Spans.{keys_from}
-use Rattle.tatp_rows.proofs.AppendLemmas.{each-right}
-use Rattle.tatp_rows.proofs.OrderedLemmas.{each-weaker, filter_all, filter_none}
-use Rattle.mr_node.specs.declared.body.Leaf.{Leaf}
-use Rattle.mr_node.specs.Rows.{key_of_pair, KeysBelow, KeysFrom}
-use Rattle.mr_node.specs.EntryLists.{no_key}
-use Rattle.mr_node.specs.Search.{IsStop}
-use Rattle.mr_node.specs.Levels.{IsChildPlace}
-use Rattle.mr_node.specs.Levels.{IsLeaf, pairs_of, NodePart, NodeInner, children_of, rows_of, IsChild, IsInner}
-use Rattle.mr_node.specs.Pages.{IsPage}
+use Rattle.mr_node.proofs.Common.{◌≡◌, ℕ, ◌+◌, ◌-◌, ◌<◌, ◌≤◌, List, [], ◌∷◌, ◌++◌, length, get_or, take, drop, Some, None, Bool, true, false, ◌==◌, refl, sym, ap, subst, ◌∙◌, arith, append_assoc, append-nil, AllByRecursion, nat_tests, take_all, take-append-drop, drop_at, length-take, length-append, slice_get_read, filter-append, keys_from, each-right, each-weaker, filter_all, filter_none, Leaf, key_of_pair, KeysBelow, KeysFrom, no_key, IsStop, IsChildPlace, IsLeaf, pairs_of, NodePart, NodeInner, children_of, rows_of, IsChild, IsInner, IsPage}
 use Rattle.mr_node.proofs.KeyedLemmas.{keyed_next}
 use Rattle.mr_node.proofs.EntryListLemmas.{entries_next, entries_rest, entries_length}
 use Rattle.mr_node.proofs.EntryLemmas.{leaf_length, stop_fits, cut_below}

@@ -1,13 +1,5 @@
 -- A leaf that is cut at a key, and children that are cut at a place.
-use Rattle.std.proofs.Common.{◌≡◌, ℕ, ◌+◌, ◌≤◌, List, [], ◌++◌, length, take, drop, sym, ap, subst, ◌∙◌, arith, take_at, inl, inr}
-use Rattle.std.proofs.lemmas.Bool.{cases_lt}
-use Rattle.std.proofs.lemmas.List.{drop_at, drop_all}
-use Rattle.tatp_rows.specs.Ordered.{IsOrderedBy}
-use Rattle.mr_node.specs.declared.body.Leaf.{Leaf}
-use Rattle.mr_node.specs.Rows.{key_of_pair, KeysBelow, KeysFrom}
-use Rattle.mr_node.specs.EntryLists.{no_key}
-use Rattle.mr_node.specs.Search.{IsStop}
-use Rattle.mr_node.specs.Levels.{pairs_of, IsLeaf}
+use Rattle.mr_node.proofs.Common.{◌≡◌, ℕ, ◌+◌, ◌≤◌, List, [], ◌++◌, length, take, drop, sym, ap, subst, ◌∙◌, arith, take_at, inl, inr, cases_lt, drop_at, drop_all, IsOrderedBy, Leaf, key_of_pair, KeysBelow, KeysFrom, no_key, IsStop, pairs_of, IsLeaf}
 use Rattle.mr_node.proofs.EntryLemmas.{leaf_length, leaf_some, back_from, cut_below}
 use Rattle.mr_node.proofs.EvenLemmas.{AreLeaves, AreMovedLeaves, left_leaf, right_leaf, alone, no_more}
 

@@ -1,10 +1,6 @@
 -- Places of which the first ones are used: what they hold after a write, an insertion and a removal.
-use Rattle.std.proofs.Common.{◌≡◌, ℕ, ◌+◌, ◌-◌, ◌<◌, ◌≤◌, suc, zero, List, [], ◌∷◌, ◌++◌, length, get_or, set, take, drop, slice_range, Option, Some, None, refl, sym, ap, subst, ◌∙◌, arith, append-nil, add-one, inl, inr}
-use Rattle.std.proofs.lemmas.List.{get_or_default, nil_from_length, set_split, set-get_or, drop_all, take-set, drop-set, drop-set-lt, take-take, take-append-le, drop-take, length-take-le, length-drop, length-append}
+use Rattle.mr_node.proofs.Common.{◌≡◌, ℕ, ◌+◌, ◌-◌, ◌<◌, ◌≤◌, suc, zero, List, [], ◌∷◌, ◌++◌, length, get_or, set, take, drop, slice_range, Option, Some, None, refl, sym, ap, subst, ◌∙◌, arith, append-nil, add-one, inl, inr, get_or_default, nil_from_length, set_split, set-get_or, drop_all, take-set, drop-set, drop-set-lt, take-take, take-append-le, drop-take, length-take-le, length-drop, length-append, cases_lt, insert, remove, remove_range, somes, IsPacked}
 use lib.Seq.{paste, drop_at}
-use Rattle.std.proofs.lemmas.Bool.{cases_lt}
-use Rattle.std.specs.List.{insert, remove, remove_range}
-use Rattle.mr_node.specs.EntryLists.{somes, IsPacked}
 
 module _ {X : Type 0} where
   -- a write of the last of 32

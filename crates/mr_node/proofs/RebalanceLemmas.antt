@@ -1,19 +1,5 @@
 -- Inner nodes two of whose children share their entries anew.
-use Rattle.std.proofs.Common.{◌≡◌, ℕ, ◌+◌, ◌-◌, ◌*◌, ◌^◌, ◌<◌, ◌≤◌, List, [], ◌∷◌, ◌++◌, length, get_or, set, take, drop, Option, Some, None, IfSome, Bool, true, false, refl, sym, ap, subst, ◌∙◌, arith, lit<, append-nil, take_at, inl, inr}
-use Rattle.std.specs.List.{AllByRecursion}
-use Rattle.std.proofs.lemmas.List.Sums.{sum_by-cons}
-use Rattle.std.proofs.lemmas.Bool.{cases_lt}
-use Rattle.std.proofs.Math.Nat.{mul-le-mul_right, pow-le-pow_right}
-use Rattle.std.proofs.lemmas.List.{append_assoc, drop-drop, drop_at, length-append, length-take-le, set-set, set_comm, take-append-drop, take-take}
-use Rattle.tatp_rows.specs.Ordered.{IsOrderedBy}
-use Rattle.tatp_rows.proofs.OrderedLemmas.{each-weaker}
-use Rattle.tatp_rows.proofs.AppendLemmas.{each-append, each-left, each-right, ordered-left, ordered-right}
-use Rattle.tatp_rows.proofs.SpanLemmas.{starts_left}
-use Rattle.mr_node.specs.Rows.{Seen, key_of_pair, key_limit, KeysBelow, StartsWith}
-use Rattle.mr_node.specs.EntryLists.{entries, AreEntries}
-use Rattle.mr_node.specs.Levels.{NodePart, NodeChild, NodeInner, children_of, rows_of, widths_of, IsWell, IsChild, IsChildOf, IsInner, IsInnerOf}
-use Rattle.mr_node.specs.Pairs.{IsChildNode, IsJoined, IsShare, AreEvened}
-use Rattle.mr_node.specs.Inside.{AreChildrenBeside, IsLooseAt, ArePairChildren, IsPairAt, IsSplicedAt, IsWholeAgain, IsSplitAt}
+use Rattle.mr_node.proofs.Common.{◌≡◌, ℕ, ◌+◌, ◌-◌, ◌*◌, ◌^◌, ◌<◌, ◌≤◌, List, [], ◌∷◌, ◌++◌, length, get_or, set, take, drop, Option, Some, None, IfSome, Bool, true, false, refl, sym, ap, subst, ◌∙◌, arith, lit<, append-nil, take_at, inl, inr, AllByRecursion, sum_by-cons, cases_lt, mul-le-mul_right, pow-le-pow_right, append_assoc, drop-drop, drop_at, length-append, length-take-le, set-set, set_comm, take-append-drop, take-take, IsOrderedBy, each-weaker, each-append, each-left, each-right, ordered-left, ordered-right, starts_left, Seen, key_of_pair, key_limit, KeysBelow, StartsWith, entries, AreEntries, NodePart, NodeChild, NodeInner, children_of, rows_of, widths_of, IsWell, IsChild, IsChildOf, IsInner, IsInnerOf, IsChildNode, IsJoined, IsShare, AreEvened, AreChildrenBeside, IsLooseAt, ArePairChildren, IsPairAt, IsSplicedAt, IsWholeAgain, IsSplitAt}
 use Rattle.mr_node.proofs.PlaceLemmas.{packed_some}
 use Rattle.mr_node.proofs.EntryListLemmas.{entries_length, entries_split, entries_rest, entries_written, entries_both}
 use Rattle.mr_node.proofs.ChildLemmas.{rows_of-append, child_at}

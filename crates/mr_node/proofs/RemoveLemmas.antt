@@ -1,17 +1,5 @@
 -- A row taken out of a child.
-use Rattle.std.proofs.Common.{◌≡◌, ℕ, ◌+◌, ◌-◌, ◌<◌, ◌≤◌, List, [], ◌∷◌, ◌++◌, length, get_or, take, drop, Option, Some, None, IfSome, cond, eqb, is_some, sym, ap, subst, ◌∙◌, arith, take_at, inl, inr}
-use Rattle.std.specs.List.{AllByRecursion}
-use Rattle.std.proofs.lemmas.Bool.{cases_lt}
-use Rattle.std.proofs.lemmas.List.{append_assoc, drop_at, get_or-set_same, length-append, length-take-le}
-use Rattle.tatp_rows.specs.Ordered.{IsOrderedBy, without_row}
-use Rattle.tatp_rows.proofs.AppendLemmas.{each-append}
-use Rattle.tatp_rows.proofs.OrderedLemmas.{by_test, each-weaker, each-without_row, ordered-without_row}
-use Rattle.tatp_rows.proofs.SpanLemmas.{without_row-part}
-use Rattle.mr_node.specs.Rows.{Seen, key_of_pair, key_limit, value_at, KeysBelow, StartsWith}
-use Rattle.mr_node.specs.Levels.{NodePart, NodeChild, NodeInner, children_of, rows_of, IsWell, IsChild, IsChildOf, IsInner, seen_inner}
-use Rattle.mr_node.specs.Changes.{IsShrunk}
-use Rattle.mr_node.specs.Inside.{IsLooseAt, IsWholeAgain}
-use Rattle.mr_node.specs.Steps.{after_steps}
+use Rattle.mr_node.proofs.Common.{◌≡◌, ℕ, ◌+◌, ◌-◌, ◌<◌, ◌≤◌, List, [], ◌∷◌, ◌++◌, length, get_or, take, drop, Option, Some, None, IfSome, cond, eqb, is_some, sym, ap, subst, ◌∙◌, arith, take_at, inl, inr, AllByRecursion, cases_lt, append_assoc, drop_at, get_or-set_same, length-append, length-take-le, IsOrderedBy, without_row, each-append, by_test, each-weaker, each-without_row, ordered-without_row, without_row-part, Seen, key_of_pair, key_limit, value_at, KeysBelow, StartsWith, NodePart, NodeChild, NodeInner, children_of, rows_of, IsWell, IsChild, IsChildOf, IsInner, seen_inner, IsShrunk, IsLooseAt, IsWholeAgain, after_steps}
 use Rattle.mr_node.proofs.PlaceLemmas.{packed_fits}
 use Rattle.mr_node.proofs.EntryListLemmas.{entries_length, entries_both}
 use Rattle.mr_node.proofs.ChildLemmas.{IsCutAt, rows_of-append, child_at}

@@ -1,15 +1,5 @@
 -- What becomes of a node when a value in it is changed in place.
-use Rattle.std.proofs.Common.{◌≡◌, ℕ, ◌<◌, List, Option, Some, None, IfSome, length, get_or, set, option_map, is_some, true, refl, sym, ap, subst, ◌∙◌}
-use Rattle.std.specs.List.{refill, slice_get}
-use Rattle.std.specs.Option.{unwrap_or}
-use Rattle.tatp_rows.specs.Ordered.{row_at, with_row_at}
-use Rattle.tatp_rows.proofs.OrderedLemmas.{with_row_at_absent}
-use Rattle.mr_node.specs.Rows.{Seen, key_of_pair, value_at}
-use Rattle.mr_node.specs.Levels.{IsChildPlace}
-use Rattle.mr_node.specs.Entries.{IsThere}
-use Rattle.mr_node.specs.declared.body.Leaf.{Leaf}
-use Rattle.mr_node.specs.Levels.{IsLeaf, pairs_of, NodePart, NodeInner, children_of, rows_of, IsWell, IsInner, seen_inner}
-use Rattle.mr_node.specs.Revisions.{revised_at, spent_at}
+use Rattle.mr_node.proofs.Common.{◌≡◌, ℕ, ◌<◌, List, Option, Some, None, IfSome, length, get_or, set, option_map, is_some, true, refl, sym, ap, subst, ◌∙◌, refill, slice_get, unwrap_or, row_at, with_row_at, with_row_at_absent, Seen, key_of_pair, value_at, IsChildPlace, IsThere, Leaf, IsLeaf, pairs_of, NodePart, NodeInner, children_of, rows_of, IsWell, IsInner, seen_inner, revised_at, spent_at}
 use Rattle.mr_node.proofs.PlaceLemmas.{same_written}
 use Rattle.mr_node.proofs.KeyedLemmas.{of_item}
 use Rattle.mr_node.proofs.ShareLemmas.{written_back}

@@ -1,14 +1,5 @@
 -- A root that gets a new one above it, or that has only one child; and a node that is joined below an inner node.
-use Rattle.std.proofs.Common.{◌≡◌, ℕ, ◌+◌, ◌-◌, ◌<◌, [], ◌∷◌, ◌++◌, length, take, drop, sym, ap, subst, ◌∙◌, arith, append-nil}
-use Rattle.std.specs.List.{AllByRecursion}
-use Rattle.std.proofs.lemmas.List.{drop_all, nil_from_length}
-use Rattle.tatp_rows.specs.Ordered.{IsOrderedBy}
-use Rattle.mr_node.specs.Rows.{Seen, key_of_pair, key_limit, KeysBelow, StartsWith}
-use Rattle.mr_node.specs.EntryLists.{AreEntries}
-use Rattle.mr_node.specs.Levels.{NodeChild, NodeInner, children_of, rows_of, IsWell, IsChild, IsInner, seen_inner}
-use Rattle.mr_node.specs.Pairs.{IsChildNode, IsHalved}
-use Rattle.mr_node.specs.Changes.{HasNewRoot}
-use Rattle.mr_node.specs.Parts.{HasOneMoreChild}
+use Rattle.mr_node.proofs.Common.{◌≡◌, ℕ, ◌+◌, ◌-◌, ◌<◌, [], ◌∷◌, ◌++◌, length, take, drop, sym, ap, subst, ◌∙◌, arith, append-nil, AllByRecursion, drop_all, nil_from_length, IsOrderedBy, Seen, key_of_pair, key_limit, KeysBelow, StartsWith, AreEntries, NodeChild, NodeInner, children_of, rows_of, IsWell, IsChild, IsInner, seen_inner, IsChildNode, IsHalved, HasNewRoot, HasOneMoreChild}
 use Rattle.mr_node.proofs.EntryListLemmas.{entries_length}
 use Rattle.mr_node.proofs.SizeLemmas.{inner_well}
 

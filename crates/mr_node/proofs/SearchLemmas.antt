@@ -1,12 +1,5 @@
 -- Where a search among rising keys stops.
-use Rattle.std.proofs.Common.{◌≡◌, ℕ, ◌+◌, ◌-◌, ◌*◌, ◌<◌, ◌≤◌, suc, zero, List, length, get_or, min, cond, ltb, true, false, Option, sym, ap, subst, ◌∙◌, arith, inl, inr}
-use Rattle.std.proofs.lemmas.Bool.{cases_lt}
-use Rattle.std.proofs.lemmas.Bool.Decides.{nat_tests}
-use Rattle.tatp_rows.specs.Ordered.{IsOrderedBy}
-use Rattle.mr_node.specs.Rows.{key_of_pair, key_limit, KeysBelow}
-use Rattle.mr_node.specs.EntryLists.{no_key, entries, AreEntries}
-use Rattle.mr_node.specs.Search.{IsRising, IsStop}
-use Rattle.mr_node.specs.Levels.{IsChildPlace}
+use Rattle.mr_node.proofs.Common.{◌≡◌, ℕ, ◌+◌, ◌-◌, ◌*◌, ◌<◌, ◌≤◌, suc, zero, List, length, get_or, min, cond, ltb, true, false, Option, sym, ap, subst, ◌∙◌, arith, inl, inr, cases_lt, nat_tests, IsOrderedBy, key_of_pair, key_limit, KeysBelow, no_key, entries, AreEntries, IsRising, IsStop, IsChildPlace}
 use Rattle.mr_node.proofs.EntryListLemmas.{entries_behind, entries_below, entries_rises}
 
 -- the sum of the first n

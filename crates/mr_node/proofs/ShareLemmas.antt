@@ -1,13 +1,5 @@
 -- Two neighbours that share entries: what the last entry's move from one to the other and a turn make of both.
-use Rattle.std.proofs.Common.{◌≡◌, ℕ, ◌+◌, ◌-◌, ◌<◌, ◌≤◌, suc, zero, List, [], ◌∷◌, ◌++◌, length, reverse, get_or, set, take, drop, min, max, Option, Some, None, refl, sym, ap, subst, ◌∙◌, arith, append-nil, length-append, length-drop, take_at, eqb, inl, inr}
-use Rattle.std.proofs.lemmas.List.{drop_all, take_all, get_or_default, length-take-le, reverse-append, append_assoc, length-reverse, length-set, take-append-drop, get_or_push}
-use Rattle.std.proofs.Math.Nat.{le-max_right, min-le_right}
-use Rattle.std.proofs.Math.Seq.{drop-append_seam}
-use Rattle.std.specs.List.{refill, zip}
-use Rattle.std.proofs.lemmas.Option.{slice_get_read}
-use Rattle.std.proofs.lemmas.Bool.Decides.{eqb_tells}
-use Rattle.mr_node.specs.Pairs.{AreEvenWidths, IsShare}
-use Rattle.mr_node.specs.EntryLists.{no_key, somes, IsPacked, entries, AreEntries, AreKeyed}
+use Rattle.mr_node.proofs.Common.{◌≡◌, ℕ, ◌+◌, ◌-◌, ◌<◌, ◌≤◌, suc, zero, List, [], ◌∷◌, ◌++◌, length, reverse, get_or, set, take, drop, min, max, Option, Some, None, refl, sym, ap, subst, ◌∙◌, arith, append-nil, length-append, length-drop, take_at, eqb, inl, inr, drop_all, take_all, get_or_default, length-take-le, reverse-append, append_assoc, length-reverse, length-set, take-append-drop, get_or_push, le-max_right, min-le_right, drop-append_seam, refill, zip, slice_get_read, eqb_tells, AreEvenWidths, IsShare, no_key, somes, IsPacked, entries, AreEntries, AreKeyed}
 use Rattle.mr_node.proofs.PlaceLemmas.{packed_fits, packed_some, somes_front, packed_join, somes_append}
 use Rattle.mr_node.proofs.KeyedLemmas.{keyed_length, keyed_popped, keyed_pushed, keyed_rest, keyed_turned}
 use Rattle.mr_node.proofs.EntryListLemmas.{entries_length, entries_split, entries_popped, entries_pushed, entries_turned}

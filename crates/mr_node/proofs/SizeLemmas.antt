@@ -1,13 +1,5 @@
 -- How many rows a node of a height has.
-use Rattle.std.proofs.Common.{◌≡◌, ℕ, ◌-◌, ◌*◌, ◌^◌, ◌<◌, ◌≤◌, suc, List, [], ◌∷◌, length, get_or, refl, sym, ap, subst, ◌∙◌, arith, lit<, inl, inr, length-append}
-use Rattle.std.proofs.lemmas.Bool.{cases_lt}
-use Rattle.std.specs.List.{AllByRecursion}
-use Rattle.std.proofs.Math.Nat.{mul-le-mul_right, pow-suc, pow-le-pow_right}
-use Rattle.tatp_rows.proofs.OrderedLemmas.{each-weaker}
-use Rattle.tatp_rows.proofs.SpanLemmas.{few_between}
-use Rattle.mr_node.specs.Rows.{Seen, key_of_pair, key_limit, StartsWith}
-use Rattle.mr_node.specs.Levels.{NodeChild, NodeInner, NodeBody, pairs_of, children_of, seen, IsNode, rows_of, IsWell, IsChild, IsLeaf, IsInner, seen_leaf, seen_inner}
-use Rattle.mr_node.specs.declared.body.Leaf.{Leaf}
+use Rattle.mr_node.proofs.Common.{◌≡◌, ℕ, ◌-◌, ◌*◌, ◌^◌, ◌<◌, ◌≤◌, suc, List, [], ◌∷◌, length, get_or, refl, sym, ap, subst, ◌∙◌, arith, lit<, inl, inr, length-append, cases_lt, AllByRecursion, mul-le-mul_right, pow-suc, pow-le-pow_right, each-weaker, few_between, Seen, key_of_pair, key_limit, StartsWith, NodeChild, NodeInner, NodeBody, pairs_of, children_of, seen, IsNode, rows_of, IsWell, IsChild, IsLeaf, IsInner, seen_leaf, seen_inner, Leaf}
 use Rattle.mr_node.specs.declared.body.Body.TheVariants.{Leaf as AsLeaf, Inner as AsInner}
 use Rattle.mr_node.proofs.KeyedLemmas.{item_at, keyed_length, keyed_split}
 use Rattle.mr_node.proofs.EntryListLemmas.{entries_length}

@@ -1,6 +1,5 @@
 -- The steps of room that is made on the way down, level by level.
-use Rattle.std.proofs.Common.{◌≡◌, ℕ, ◌+◌, ◌-◌, ◌*◌, ◌≤◌, arith}
-use Rattle.mr_node.specs.Steps.{after_steps, IsRoomMade}
+use Rattle.mr_node.proofs.Common.{◌≡◌, ℕ, ◌+◌, ◌-◌, ◌*◌, ◌≤◌, arith, after_steps, IsRoomMade}
 
 -- a level above others: two steps and what room took there, then those below
 pub room_made : (h g s t u a b c d : ℕ) → h + 1 ≡ g → t ≤ s → u ≤ t → b ≡ after_steps 2 a → IsRoomMade 1 (s - t) b c → IsRoomMade h (t - u) (after_steps (2 * (h + 1)) c) d → IsRoomMade g (s - u) (after_steps (2 * (g + 1)) a) d

@@ -6,7 +6,7 @@ ghost use Rattle.mr_node.specs.Levels.{IsLeaf, pairs_of};
 ghost use Rattle.mr_node.specs.Steps.{after_steps};
 
 use crate::children::empty_inner;
-use crate::entries::no_leaf;
+use crate::entries::empty_leaf;
 use crate::entry_lists::share;
 use crate::keys::count_below;
 use crate::{Inner, Leaf, Meter, Node, build_leaf};
@@ -20,7 +20,7 @@ pub fn cut_leaf<V: Drop + Default>(leaf: &mut Leaf<V>, key: u64) -> Leaf<V>
     ensures below { KeysBelow key (pairs_of leaf.new) }
     ensures from { KeysFrom key (pairs_of result) }
 {
-    let mut high = no_leaf();
+    let mut high = empty_leaf();
     let place = count_below(&leaf.keys, key);
     share(leaf, &mut high, place);
     high
@@ -47,5 +47,5 @@ pub fn build_blank<V: Drop + Default>(blank: Box<Node<V>>, meter: &mut Meter) ->
     ensures seen { result.value ≡ record { height = 0; width = 0; rows = [] } }
     ensures steps { meter.new ≡ after_steps 1 meter.old }
 {
-    build_leaf(no_leaf(), blank, meter)
+    build_leaf(empty_leaf(), blank, meter)
 }

@@ -2,7 +2,7 @@
 ghost use Rattle.std.specs.Prelude.{◌≡◌, ◌<◌, ◌≤◌, ◌+◌, ℕ, [], None, IsSome, IfSome, MatchResult, length, option_map, is_some, nat_le, slice_get, slice_set, Ok, Err, if◌then◌else◌};
 ghost use Rattle.std.specs.List.{find};
 ghost use Rattle.tatp_rows.specs.Ordered.{row_at, without_row};
-ghost use Rattle.mr_node.specs.Rows.{key_limit, key_of_pair, value_at, StartsWith};
+ghost use Rattle.mr_node.specs.Rows.{key_limit, key_of_pair, value_at};
 ghost use Rattle.mr_node.specs.Levels.{IsLeaf, pairs_of, seen_leaf};
 ghost use Rattle.mr_node.specs.Entries.{IsThere, IsFree};
 ghost use Rattle.mr_node.specs.Folds.{FoldsRows, WalksRows};
@@ -15,7 +15,7 @@ use crate::{Leaf, Revise, Room};
 use arrayvec::ArrayVec;
 
 /// A leaf without entries.
-pub(crate) fn no_leaf<V: Default>() -> Leaf<V>
+pub(crate) fn empty_leaf<V: Default>() -> Leaf<V>
     ensures leaf { IsLeaf result }
     ensures none { result.values.items ≡ [] }
 {

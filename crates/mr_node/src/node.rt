@@ -18,7 +18,7 @@ use crate::children::{
     child_place, child_place_at, empty_inner, put_child, sum_counts, take_child,
 };
 use crate::entries::{
-    find_entry, find_entry_at, first_entry, fold_entries, insert_entry, insert_new, no_leaf,
+    empty_leaf, find_entry, find_entry_at, first_entry, fold_entries, insert_entry, insert_new,
     page_entries, remove_entry, revise_entry, revise_entry_at, walk_entries,
 };
 use crate::entry_lists::{even, low_of, share};
@@ -62,7 +62,7 @@ impl<V: Default> Node<V> {
         ensures { result ≡ record { height = 0; width = 0; rows = [] } }
     {
         Node {
-            body: Body::Leaf(no_leaf()),
+            body: Body::Leaf(empty_leaf()),
         }
     }
 }
@@ -269,7 +269,7 @@ impl<V: Copy> Node<V> {
     }
 }
 
-impl<V: Drop + Default> Node<V> {
+impl<V: Drop> Node<V> {
     /// Replaces the value at a key in place, and gives the old one. `Err` with the new one where the key isn't there.
     pub fn replace(&mut self, key: u64, value: V) -> Result<V, V>
         ensures rows { self.new ≡ record self.old { rows = with_row_at key_of_pair key (key, value) self.old.rows } }
@@ -341,6 +341,34 @@ impl<V: Drop + Default> Node<V> {
         }
     }
 
+    /// Puts a row in place where its leaf has room, with no new node: the value is taken where it went in.
+    pub fn insert_room(&mut self, key: u64, value: &mut Option<V>) -> Room
+        requires small { key < key_limit }
+        requires some { IsSome value.old }
+        ensures answer { IfSome value.old (λ v. IsRoomAnswer key v self.old self.new result) }
+        ensures value { value.new ≡ (if is_done result then None else value.old) }
+    {
+        match &mut self.body {
+            Body::Leaf(leaf) => insert_entry(leaf, key, value),
+            Body::Inner(inner) => {
+                let place = child_place(inner, key);
+                match &mut inner.children[place] {
+                    Some(child) => {
+                        let node = &mut *child.node;
+                        let answer = node.insert_room(key, value);
+                        let is_in = answer.is_done();
+                        child.count += u64::from(is_in);
+                        inner.leasts[place] = least_after(inner.leasts[place], key, is_in);
+                        answer
+                    }
+                    None => unreachable!(),
+                }
+            }
+        }
+    }
+}
+
+impl<V: Drop + Default> Node<V> {
     /// Takes the row at a key out in place, and evens out what is less than half full. Two steps a level, and four for
     /// each two neighbours that are evened out. A root may be left with one child.
     pub fn remove(&mut self, key: u64, meter: &mut Meter) -> Option<V>
@@ -516,32 +544,6 @@ impl<V: Drop + Default> Node<V> {
             },
         }
     }
-
-    /// Puts a row in place where its leaf has room, with no new node: the value is taken where it went in.
-    pub fn insert_room(&mut self, key: u64, value: &mut Option<V>) -> Room
-        requires small { key < key_limit }
-        requires some { IsSome value.old }
-        ensures answer { IfSome value.old (λ v. IsRoomAnswer key v self.old self.new result) }
-        ensures value { value.new ≡ (if is_done result then None else value.old) }
-    {
-        match &mut self.body {
-            Body::Leaf(leaf) => insert_entry(leaf, key, value),
-            Body::Inner(inner) => {
-                let place = child_place(inner, key);
-                match &mut inner.children[place] {
-                    Some(child) => {
-                        let node = &mut *child.node;
-                        let answer = node.insert_room(key, value);
-                        let is_in = answer.is_done();
-                        child.count += u64::from(is_in);
-                        inner.leasts[place] = least_after(inner.leasts[place], key, is_in);
-                        answer
-                    }
-                    None => unreachable!(),
-                }
-            }
-        }
-    }
 }
 
 /// Puts a value in the place of what was there.
@@ -589,7 +591,7 @@ fn let_go<V: Drop + Default>(body: &mut Body<V, Box<Node<V>>>, none: bool)
     if !none {
         return;
     }
-    *body = Body::Leaf(no_leaf());
+    *body = Body::Leaf(empty_leaf());
 }
 
 /// Makes a node a leaf of these entries.

@@ -182,7 +182,7 @@ fn share_or_split<V: Drop + Default>(
     requires within { place < inner.old.len }
     requires full { IfSome (slice_index_or inner.old.children place None) (λ k. k.node.value.width ≡ 32) }
     requires stock { 0 < stock.old }
-    ensures parted { IsSplitAt result (place + 1) inner.old inner.new }
+    ensures split { IsSplitAt result (place + 1) inner.old inner.new }
     ensures place { result ≤ place }
     ensures stock { stock.new ≤ stock.old }
     ensures made { IsRoomMade 1 (stock.old - stock.new) meter.old meter.new }

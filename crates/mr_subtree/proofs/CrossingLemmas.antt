@@ -1,9 +1,8 @@
 -- Nodes and trees may go to another thread, where their values may.
 use denote.RattleType.{RattleType}
 use denote.Param.Send.{IsSend, sendable}
-use Rattle.std.proofs.Crossing.{Box-send}
+use Rattle.mr_subtree.proofs.Common.{Box-send, send-Node}
 use Rattle.mr_node.proofs.body.Body.TheSendSync.{the_send as body_send}
-use Rattle.mr_node.proofs.node.Node.TheLaws.TheKnot.{send-Node}
 use Rattle.mr_node.proofs.stock.Blanks.TheSendSync.{the_send as blanks_send}
 use Rattle.mr_node.specs.contracts.node.Node as Node
 use Rattle.mr_subtree.specs.contracts.subtree.SubTree as SubTree

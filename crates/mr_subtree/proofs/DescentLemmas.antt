@@ -1,8 +1,5 @@
 -- Descents to several keys side by side.
-use Rattle.std.proofs.Common.{◌≡◌, ℕ, zero, suc, ◌<◌, ◌≤◌, List, [], ◌∷◌, length, get_or, set, replicate, ap, ◌∙◌, arith}
-use Rattle.std.specs.Borrow.{Bor}
-use Rattle.mr_node.specs.Rows.{Seen, value_at}
-use Rattle.mr_subtree.specs.Inside.{HaveSameValues}
+use Rattle.mr_subtree.proofs.Common.{◌≡◌, ℕ, zero, suc, ◌<◌, ◌≤◌, List, [], ◌∷◌, length, get_or, set, replicate, ap, ◌∙◌, arith, Bor, Seen, value_at, HaveSameValues}
 
 module _ {V : Type 0} (rows : List (ℕ × V)) where
   -- the root stands beside each key

@@ -1,3 +1,4 @@
+pub mod Common
 pub mod RootFacts
 pub mod CrossingLemmas
 pub mod DescentLemmas

@@ -1,16 +1,5 @@
 -- What the rules of a root say of its height.
-use Rattle.std.proofs.Common.{◌≡◌, ℕ, ◌^◌, ◌<◌, ◌≤◌, length, List, Option, Some, None, IsSome, IfSome, Result, Ok, Err, IfErr, MatchResult, is_err, false, max, refl, sym, ap, subst, ◌∙◌, arith, inl, inr, add-one}
-use Rattle.tatp_rows.specs.declared.refusal.Back.{Back}
-use Rattle.tatp_rows.specs.declared.refusal.Refusal.{Refusal}
-use Rattle.tatp_rows.specs.declared.refusal.Refusal.TheVariants.{Memory}
-use Rattle.std.proofs.Math.Nat.{mul-le-mul_right, pow-suc}
-use Rattle.std.proofs.lemmas.Bool.{cases_lt}
-use Rattle.tatp_rows.specs.Ordered.{row_at, with_row}
-use Rattle.mr_node.specs.Rows.{Seen, key_of_pair}
-use Rattle.mr_node.specs.Growth.{IsGrown}
-use Rattle.mr_node.specs.Changes.{HasNewRoot}
-use Rattle.mr_node.proofs.SizeLemmas.{low_tree}
-use Rattle.mr_subtree.specs.Trees.{IsRoot, IsHeightOf, IsInserted}
+use Rattle.mr_subtree.proofs.Common.{◌≡◌, ℕ, ◌^◌, ◌<◌, ◌≤◌, length, List, Option, Some, None, IsSome, IfSome, Result, Ok, Err, IfErr, MatchResult, is_err, false, max, refl, sym, ap, subst, ◌∙◌, arith, inl, inr, add-one, Back, Refusal, Memory, mul-le-mul_right, pow-suc, cases_lt, row_at, with_row, Seen, key_of_pair, IsGrown, HasNewRoot, low_tree, IsRoot, IsHeightOf, IsInserted}
 
 module _ {V : Type 0} where
   height_bounds : (s : Seen V) → IsRoot s → IsHeightOf s.height (length s.rows)

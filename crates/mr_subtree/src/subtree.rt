@@ -139,7 +139,7 @@ impl<V: Copy> SubTree<V> {
     }
 }
 
-impl<V: Drop + Default> SubTree<V> {
+impl<V: Drop> SubTree<V> {
     /// The root, which meets the rules. Blank nodes that the tree kept are let go.
     pub fn into_root(self) -> Node<V>
         ensures same { result ≡ self }
@@ -175,7 +175,9 @@ impl<V: Drop + Default> SubTree<V> {
     {
         self.root.revise_by_guess(key, shift, edit)
     }
+}
 
+impl<V: Drop + Default> SubTree<V> {
     /// Takes the row at a key out, and gives its value. Takes no memory.
     pub fn remove(&mut self, key: u64) -> Option<V>
         ensures rows { self.new.rows ≡ without_row key_of_pair key self.old.rows }

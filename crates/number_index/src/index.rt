@@ -34,7 +34,7 @@ impl Model for NumberIndex {
 }
 
 impl NumberIndex {
-    /// An index without a pair. Its tree takes no memory, so this is always `Ok`.
+    /// Makes an index without a pair. Its tree takes no memory, so this is always `Ok`.
     pub fn new(alloc: Global) -> Result<Self, Refusal>
         ensures index { IfOk result (λ index. index ≡ []) }
         ensures ok { IfErr result (λ _. ⊥) }
@@ -43,7 +43,7 @@ impl NumberIndex {
         Ok(NumberIndex { tree })
     }
 
-    /// The subscriber who has a number, or `None`.
+    /// Finds the subscriber who has a number, or `None`.
     pub fn find(&self, number: Number) -> Option<u32>
         ensures { result ≡ bearer_in number self.now }
     {
@@ -51,14 +51,14 @@ impl NumberIndex {
         self.tree.get_by_guess(number.value(), 0).copied()
     }
 
-    /// The number of pairs.
+    /// Counts the pairs.
     pub fn len(&self) -> u64
         ensures { result ≡ length self.now }
     {
         self.tree.len()
     }
 
-    /// The first pair from a number on, or `None`.
+    /// Finds the first pair from a number on, or `None`.
     pub fn first_from(&self, number: u64) -> Option<(Number, u32)>
         ensures first { result ≡ find (λ pair. nat_le number pair.0) self.now }
         ensures pairs { ArePairs self.now }

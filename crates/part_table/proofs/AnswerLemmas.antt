@@ -1,15 +1,5 @@
 -- The answers of a re-cut, one after another.
-use Rattle.std.proofs.Common.{◌≡◌, ◌≢◌, ◌∙◌, refl, ap, ℕ, ◌+◌, ◌<◌, ◌≤◌, List, [], ◌∷◌, ◌++◌, true, false, length, arith}
-use Rattle.std.specs.Prelude.{◌==◌, nat_lt, count_by, Ok, Err}
-use Rattle.std.proofs.lemmas.Bool.Decides.{nat_tests}
-use Rattle.std.proofs.lemmas.List.{nil_from_length}
-use Rattle.tatp_rows.proofs.OrderedLemmas.{by_test}
-use Rattle.tatp_rows.specs.declared.refusal.Refusal.TheVariants.{Field, Moving}
-use Rattle.part_table.specs.Bounds.{are_rising, parts_between}
-use Rattle.part_table.specs.Recut.{bounds_of, rising_moves, falling_moves, recut_answer, all_moved}
-use Rattle.part_table.specs.Region.{is_of_part}
-use Rattle.part_table.specs.Regions.{AreRegions, parts_of, pieces_of}
-use Rattle.part_table.specs.declared.region.Region.{Region}
+use Rattle.part_table.proofs.Common.{◌≡◌, ◌≢◌, ◌∙◌, refl, ap, ℕ, ◌+◌, ◌<◌, ◌≤◌, List, [], ◌∷◌, ◌++◌, true, false, length, arith, ◌==◌, nat_lt, count_by, Ok, Err, nat_tests, nil_from_length, by_test, Field, Moving, are_rising, parts_between, bounds_of, rising_moves, falling_moves, recut_answer, all_moved, is_of_part, AreRegions, parts_of, pieces_of, Region}
 use Rattle.part_table.proofs.BoundsLemmas.{parts_alone, rising-bounds_of}
 use Rattle.part_table.proofs.MoveLemmas.{length_bounds, length_moves}
 use Rattle.part_table.proofs.NumberLemmas.{count_parts, length_regions}

@@ -1,8 +1,5 @@
 -- Lists whose elements from an index on are made anew, and edits at that index.
-use Rattle.std.proofs.Common.{◌≡◌, ◌∙◌, refl, ap, ℕ, zero, suc, ◌+◌, ◌<◌, ◌≤◌, List, [], ◌∷◌, ◌++◌, length, get_or, set, take, drop, map, arith}
-use Rattle.std.specs.Prelude.{insert, remove}
-use Rattle.std.specs.List.{AllZip, refill}
-use Rattle.std.proofs.lemmas.List.{append-nil, drop_all, take_all}
+use Rattle.part_table.proofs.Common.{◌≡◌, ◌∙◌, refl, ap, ℕ, zero, suc, ◌+◌, ◌<◌, ◌≤◌, List, [], ◌∷◌, ◌++◌, length, get_or, set, take, drop, map, arith, insert, remove, AllZip, refill, append-nil, drop_all, take_all}
 
 module _ {X : Type 0} (f : X → X) where
   -- the elements in front of an index as they were, and the others made anew

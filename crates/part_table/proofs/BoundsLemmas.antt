@@ -1,20 +1,6 @@
 -- Bounds that rise, and the regions of parts alone between them.
-use Rattle.std.proofs.Common.{◌≡◌, refl, sym, ap, ℕ, zero, suc, ◌+◌, ◌<◌, ◌≤◌, List, [], ◌∷◌, ◌++◌, true, length, map, arith}
-use Rattle.std.specs.Prelude.{◌&&◌, Bool, Some, find, nat_lt, nat_le}
-use Rattle.std.specs.List.{range_with_len}
-use Rattle.std.proofs.lemmas.Bool.Decides.{nat_tests}
-use Rattle.tatp_rows.proofs.OrderedLemmas.{by_test}
-use Rattle.tatp_rows.proofs.RowLemmas.{both, both_from}
-use Rattle.tatp_rows.specs.declared.ranges.TheConstants.{LAST_SUBSCRIBER}
-use Rattle.part_table.specs.Bounds.{are_rising, parts_between}
-use Rattle.part_table.specs.Recut.{bounds_of}
-use Rattle.part_table.specs.Region.{part_number, piece_number}
-use Rattle.part_table.specs.Regions.{AreRegions, IsConsecutive, parts_of, pieces_of}
+use Rattle.part_table.proofs.Common.{◌≡◌, refl, sym, ap, ℕ, zero, suc, ◌+◌, ◌<◌, ◌≤◌, List, [], ◌∷◌, ◌++◌, true, length, map, arith, ◌&&◌, Bool, Some, find, nat_lt, nat_le, range_with_len, nat_tests, by_test, both, both_from, LAST_SUBSCRIBER, are_rising, parts_between, bounds_of, part_number, piece_number, AreRegions, IsConsecutive, parts_of, pieces_of, Place, Part, Piece, Region, END, MOST_PARTS}
 use Rattle.part_table.proofs.NumberLemmas.{none_twice}
-use Rattle.part_table.specs.declared.region.Place.{Place}
-use Rattle.part_table.specs.declared.region.Place.TheVariants.{Part, Piece}
-use Rattle.part_table.specs.declared.region.Region.{Region}
-use Rattle.part_table.specs.declared.region.TheConstants.{END, MOST_PARTS}
 
 -- what rising bounds say of the first
 pub rising_first : (low bound : ℕ) (bounds : List ℕ) → are_rising low (bound ∷ bounds) ≡ true → (low < bound) × (bound ≤ LAST_SUBSCRIBER) × (are_rising bound bounds ≡ true)

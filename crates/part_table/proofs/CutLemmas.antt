@@ -1,18 +1,5 @@
 -- What a cut of a part's region keeps.
-use Rattle.std.proofs.Common.{◌≡◌, refl, ap, ℕ, zero, suc, ◌+◌, ◌<◌, List, [], ◌∷◌, ◌++◌, true, false, length, get_or, set, arith}
-use Rattle.std.specs.Prelude.{Some, ◌==◌, find, insert, position}
-use Rattle.std.specs.List.{AllByRecursion, IsDistinct, list_any}
-use Rattle.std.proofs.lemmas.List.Quantifiers.{position-Some}
-use Rattle.std.proofs.lemmas.Map.Keys.{IsDistinct-cons, IsDistinct-head, IsDistinct-tail}
-use Rattle.tatp_rows.proofs.OrderedLemmas.{by_test}
-use Rattle.part_table.specs.Give.{cut, halves}
-use Rattle.part_table.specs.Region.{is_part, is_part_place, part_number, piece_number}
-use Rattle.part_table.specs.Regions.{AreRegions, IsConsecutive, IsPieceNumber, parts_of, pieces_of}
-use Rattle.part_table.specs.declared.region.Place.{Place}
-use Rattle.part_table.specs.declared.region.Place.TheVariants.{Part, Piece}
-use Rattle.part_table.specs.declared.region.Region.{Region}
-use Rattle.part_table.specs.declared.region.Side.{Side}
-use Rattle.part_table.specs.declared.region.Side.TheVariants.{Low, High}
+use Rattle.part_table.proofs.Common.{◌≡◌, refl, ap, ℕ, zero, suc, ◌+◌, ◌<◌, List, [], ◌∷◌, ◌++◌, true, false, length, get_or, set, arith, Some, ◌==◌, find, insert, position, AllByRecursion, IsDistinct, list_any, position-Some, IsDistinct-cons, IsDistinct-head, IsDistinct-tail, by_test, cut, halves, is_part, is_part_place, part_number, piece_number, AreRegions, IsConsecutive, IsPieceNumber, parts_of, pieces_of, Place, Part, Piece, Region, Side, Low, High}
 use Rattle.part_table.proofs.NumberLemmas.{each_differs, each_with}
 
 -- a part's region cut in two, in its place

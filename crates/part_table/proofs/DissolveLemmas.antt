@@ -1,27 +1,11 @@
 -- What the answer of a dissolve says that is no refusal, and what a dissolve leaves.
-use Rattle.std.proofs.Common.{◌≡◌, ◌≢◌, ◌∙◌, refl, sym, ap, subst, ℕ, zero, suc, ◌+◌, ◌-◌, ◌<◌, ◌≤◌, List, [], ◌∷◌, ◌++◌, append_assoc, length, get_or, set, take, drop, map, length-append, arith, true, false}
-use Rattle.std.specs.Prelude.{Option, Some, None, Ok, Err, ◌==◌, nat_le, nat_lt, find, remove, option_map, position}
-use Rattle.std.specs.List.{range_with_len}
-use Rattle.std.proofs.Math.Seq.{drop-cons, split_at, take-suc}
-use Rattle.std.proofs.lemmas.Bool.Decides.{nat_tests}
-use Rattle.std.proofs.lemmas.List.{append-nil}
-use Rattle.std.proofs.lemmas.List.FromFn.{length-range_with_len}
-use Rattle.std.proofs.lemmas.List.Quantifiers.{position-Some}
-use Rattle.tatp_rows.proofs.OrderedLemmas.{by_test}
-use Rattle.tatp_rows.specs.declared.refusal.Refusal.TheVariants.{NotAdjacent}
-use Rattle.part_table.specs.Dissolve.{dissolve_answer, dissolve_answer_of, dissolved, lowered, part_before, place_lowered}
-use Rattle.part_table.specs.Region.{is_part, piece_number}
-use Rattle.part_table.specs.Regions.{AreRegions, IsConsecutive, parts_of, pieces_of, place_of}
-use Rattle.part_table.specs.declared.region.Place.{Place}
-use Rattle.part_table.specs.declared.region.Place.TheVariants.{Part, Piece}
-use Rattle.part_table.specs.declared.region.Region.{Region}
+use Rattle.part_table.proofs.Common.{◌≡◌, ◌≢◌, ◌∙◌, refl, sym, ap, subst, ℕ, zero, suc, ◌+◌, ◌-◌, ◌<◌, ◌≤◌, List, [], ◌∷◌, ◌++◌, append_assoc, length, get_or, set, take, drop, map, length-append, arith, true, false, Option, Some, None, Ok, Err, ◌==◌, find, remove, position, range_with_len, drop-cons, split_at, take-suc, nat_tests, append-nil, length-range_with_len, position-Some, by_test, NotAdjacent, dissolve_answer, dissolve_answer_of, dissolved, lowered, part_before, place_lowered, is_part, AreRegions, IsConsecutive, parts_of, pieces_of, Part, Region}
 use Rattle.part_table.proofs.BehindLemmas.{anew_from, remove_anew}
 use Rattle.part_table.proofs.FirstLemmas.{find_index, find_none}
-use Rattle.part_table.proofs.PairLemmas.{meet_at}
 use Rattle.part_table.proofs.PlaceLemmas.{blank}
 use Rattle.part_table.proofs.RangeLemmas.{range_append, range_count, range_lowered, range_split}
-use Rattle.part_table.proofs.RenumberLemmas.{consecutive-renumbered, lowered_piece, parts_of-lowered, piece_at-renumbered, pieces_of-lowered, region_lowered}
-use Rattle.part_table.proofs.SplitLemmas.{all_pieces, consecutive_front, count_of_parts, here, higher_parts, lower_parts, own_place, parts_of-append, pieces_of-append, place_front, same_piece}
+use Rattle.part_table.proofs.RenumberLemmas.{consecutive-renumbered, parts_of-lowered, pieces_of-lowered, region_lowered}
+use Rattle.part_table.proofs.SplitLemmas.{all_pieces, consecutive_front, count_of_parts, here, higher_parts, lower_parts, own_place, parts_of-append, pieces_of-append}
 
 -- both parts are there and touch
 pub record IsDissolve (p : ℕ) (regions : List Region) (answer : ℕ × ℕ × ℕ) : Type 0 where
@@ -116,23 +100,6 @@ follows_at from (region ∷ regions) (suc i) (suc j) consecutive within below me
     let same = follows_at region.hi regions i j consecutive.2 (omega arith) (omega arith) meets in
     omega (arith, same)
 
--- two ranges as one: an s_id of either is in no piece
-piece_at-both : (s_id : ℕ) (front part : Region) (behind : List Region) → piece_number front.place ≡ [] → piece_number part.place ≡ [] → front.lo < front.hi → front.hi ≡ part.lo → part.lo < part.hi
-    → option_map piece_number (place_of s_id (both_ranges front part ∷ lowered behind)) ≡ option_map piece_number (place_of s_id (front ∷ (part ∷ behind)))
-piece_at-both s_id front part behind first second some meets more =
-    let rest = piece_at-renumbered place_lowered lowered_piece s_id behind in
-    by_test (nat_lt s_id front.hi)
-    (λ e. let inside : nat_lt s_id part.hi ≡ true = grind (arith, nat_tests) in
-    let outside : nat_le part.lo s_id ≡ false = grind (arith, nat_tests) in
-    by_test (nat_le front.lo s_id) (λ f. rw (f, e, inside) refl) (λ f. rw (f, outside) rest))
-    (λ e. let above : nat_le front.lo s_id ≡ true = grind (arith, nat_tests) in
-    let inside : nat_le part.lo s_id ≡ true = grind (arith, nat_tests) in
-    by_test (nat_lt s_id part.hi) (λ f. rw (above, e, inside, f, first, second) refl) (λ f. rw (above, e, inside, f) rest))
-
--- a part's place is no piece's
-part_alone : (p : ℕ) (place : Place) → place ≡ Part p → piece_number place ≡ []
-part_alone p place is = rw is refl
-
 -- the list in front of two, and the first of them
 two_behind : (regions : List Region) (j : ℕ) → j + 1 < length regions → regions ≡ take j regions ++ get_or regions j blank ∷ (get_or regions (j + 1) blank ∷ drop (j + 2) regions)
 two_behind regions j lt =
@@ -197,14 +164,6 @@ module _ (p q : ℕ) (regions : List Region) (are : AreRegions regions) (j : ℕ
       let all : pieces_of regions ≡ pieces_of (take j regions) ++ pieces_of behind = rw (first, after) at (all_pieces p regions are (j + 1) index) in
       ap pieces_of (dissolved_split p regions j index) ∙ pieces_of-append (take j regions) _ ∙ rw (other, pieces_of-lowered behind) (sym all)
 
-  piece_at_after : (s_id : ℕ) → option_map piece_number (place_of s_id (dissolved p regions)) ≡ option_map piece_number (place_of s_id regions)
-  piece_at_after s_id =
-      let meet = meet_at 1 regions j are.consecutive within in
-      ap (λ others. option_map piece_number (place_of s_id others)) (dissolved_split p regions j index)
-      ∙ (place_front (option_map piece_number) s_id (take j regions) (front ∷ (part ∷ behind)) _
-      (piece_at-both s_id front part behind (part_alone q front.place other) (part_alone p part.place (own_place p regions are (j + 1) index)) meet.0 meet.1 meet.2)
-      ∙ sym (ap (λ others. option_map piece_number (place_of s_id others)) (two_behind regions j within)))
-
   consecutive_after : IsConsecutive 1 (dissolved p regions)
   consecutive_after =
       rw (dissolved_split p regions j index) (consecutive_front 1 (take j regions) (front ∷ (part ∷ behind)) _
@@ -263,33 +222,11 @@ module _ (p : ℕ) (regions : List Region) (answer : ℕ × ℕ × ℕ) (dissolv
   pub ranges_meet : (get_or regions (i - 1) blank).hi ≡ (get_or regions i blank).lo
   ranges_meet = rw (front_region, part_region) dissolve.meets
 
-  -- so the answer is the number of the part in front, and both ranges
-  pub dissolve_told : answer ≡ (p - 1, (get_or regions (i - 1) blank).lo, (get_or regions i blank).hi)
-  dissolve_told = rw (front_region, part_region) dissolve.told
-
   next_index : position (is_part p) regions ≡ Some (i - 1 + 1)
   next_index = let same : i - 1 + 1 ≡ i = let is = front_stands.0 in omega arith in rw same index
 
   pub front_place : (get_or regions (i - 1) blank).place ≡ Part (p - 1)
   front_place = own_place (p - 1) regions are (i - 1) front_index
-
-  -- there is one part less
-  pub count-dissolved : length (parts_of (dissolved p regions)) + 1 ≡ length (parts_of regions)
-  count-dissolved = count_after p (p - 1) regions are (i - 1) next_index front_place
-
-  -- the loose pieces stay
-  pub pieces_of-dissolved : pieces_of (dissolved p regions) ≡ pieces_of regions
-  pieces_of-dissolved = pieces_after p (p - 1) regions are (i - 1) next_index front_place
-
-  -- and each s_id lies in the piece in which it lay, if in any
-  pub piece_at-dissolved : (s_id : ℕ) → option_map piece_number (place_of s_id (dissolved p regions)) ≡ option_map piece_number (place_of s_id regions)
-  piece_at-dissolved s_id = piece_at_after p (p - 1) regions are (i - 1) next_index front_place s_id
-
-  pub piece_stays-dissolved : (s_id n : ℕ) → place_of s_id regions ≡ Some (Piece n) → place_of s_id (dissolved p regions) ≡ Some (Piece n)
-  piece_stays-dissolved s_id n is = same_piece (place_of s_id regions) (place_of s_id (dissolved p regions)) n (sym (piece_at-dissolved s_id)) is
-
-  pub piece_was-dissolved : (s_id n : ℕ) → place_of s_id (dissolved p regions) ≡ Some (Piece n) → place_of s_id regions ≡ Some (Piece n)
-  piece_was-dissolved s_id n is = same_piece (place_of s_id (dissolved p regions)) (place_of s_id regions) n (piece_at-dissolved s_id) is
 
   -- a dissolve leaves regions of all s_ids
   pub regions-dissolved : AreRegions (dissolved p regions)

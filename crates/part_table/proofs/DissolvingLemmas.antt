@@ -1,16 +1,5 @@
 -- The answer of a dissolve by the index of the part's region.
-use Rattle.std.proofs.Common.{◌≡◌, ◌≢◌, ◌∙◌, refl, ap, ℕ, zero, suc, ◌+◌, ◌-◌, ◌≤◌, List, [], length, get_or, take, arith, true, false}
-use Rattle.std.specs.Prelude.{Option, Some, None, Result, Ok, Err, ◌==◌, find, position}
-use Rattle.std.proofs.lemmas.Bool.Decides.{nat_tests}
-use Rattle.tatp_rows.proofs.OrderedLemmas.{by_test}
-use Rattle.tatp_rows.specs.declared.refusal.Refusal.{Refusal}
-use Rattle.tatp_rows.specs.declared.refusal.Refusal.TheVariants.{NoPart, NotAdjacent}
-use Rattle.part_table.specs.Dissolve.{dissolve_answer, dissolve_answer_of, part_before}
-use Rattle.part_table.specs.Region.{is_of_part, is_of_part_place, is_part}
-use Rattle.part_table.specs.Regions.{AreRegions, parts_of}
-use Rattle.part_table.specs.declared.region.Place.{Place}
-use Rattle.part_table.specs.declared.region.Place.TheVariants.{Part, Piece}
-use Rattle.part_table.specs.declared.region.Region.{Region}
+use Rattle.part_table.proofs.Common.{◌≡◌, ◌≢◌, ◌∙◌, refl, ap, ℕ, zero, suc, ◌+◌, ◌-◌, ◌≤◌, List, [], length, get_or, take, arith, true, false, Option, Some, None, Result, Ok, Err, ◌==◌, find, position, nat_tests, by_test, Refusal, NoPart, NotAdjacent, dissolve_answer, dissolve_answer_of, part_before, is_of_part, is_of_part_place, is_part, AreRegions, parts_of, Place, Part, Piece, Region}
 use Rattle.part_table.proofs.FirstLemmas.{find_index, find_none}
 use Rattle.part_table.proofs.IndexLemmas.{is_part_there, part_found}
 use Rattle.part_table.proofs.PairLemmas.{meet_at}

@@ -1,26 +1,13 @@
 -- What the answer of a divide says that is no refusal, and what a divide leaves.
-use Rattle.std.proofs.Common.{◌≡◌, ◌≢◌, ◌∙◌, refl, sym, ap, subst, ℕ, zero, suc, ◌+◌, ◌<◌, List, [], ◌∷◌, ◌++◌, length, get_or, set, take, drop, map, arith, true, false}
-use Rattle.std.specs.Prelude.{Option, Some, None, Ok, Err, ◌==◌, ◌&&◌, nat_le, nat_lt, count_by, find, insert, option_map, position}
-use Rattle.std.specs.List.{range_with_len}
-use Rattle.std.proofs.lemmas.Bool.Decides.{nat_tests}
-use Rattle.std.proofs.lemmas.List.Quantifiers.{position-Some}
-use Rattle.tatp_rows.proofs.OrderedLemmas.{by_test}
-use Rattle.tatp_rows.proofs.RowLemmas.{both}
-use Rattle.tatp_rows.specs.declared.refusal.Refusal.TheVariants.{OutOfRange, ManyParts, NoPart}
-use Rattle.part_table.specs.Divide.{divide_answer, divide_answer_of, divided, place_raised, raised}
-use Rattle.part_table.specs.Region.{is_of_part, is_part, piece_number}
-use Rattle.part_table.specs.Regions.{AreRegions, IsConsecutive, parts_of, pieces_of, place_of}
-use Rattle.part_table.specs.declared.region.Place.TheVariants.{Part, Piece}
-use Rattle.part_table.specs.declared.region.Region.{Region}
-use Rattle.part_table.specs.declared.region.TheConstants.{END, MOST_PARTS}
+use Rattle.part_table.proofs.Common.{◌≡◌, ◌≢◌, ◌∙◌, refl, sym, ap, subst, ℕ, zero, suc, ◌+◌, ◌<◌, List, [], ◌∷◌, ◌++◌, length, get_or, set, take, drop, map, arith, true, false, Option, Some, None, Ok, Err, ◌==◌, ◌&&◌, nat_lt, count_by, find, insert, position, range_with_len, nat_tests, position-Some, by_test, both, OutOfRange, ManyParts, NoPart, divide_answer, divide_answer_of, divided, place_raised, raised, is_of_part, is_part, AreRegions, IsConsecutive, parts_of, pieces_of, Part, Region, END, MOST_PARTS}
 use Rattle.part_table.proofs.BehindLemmas.{anew_from, insert_anew}
 use Rattle.part_table.proofs.BoundsLemmas.{found_within}
 use Rattle.part_table.proofs.FirstLemmas.{find_index, find_none}
 use Rattle.part_table.proofs.NumberLemmas.{count_parts, length_regions, most_pieces}
 use Rattle.part_table.proofs.PlaceLemmas.{blank}
 use Rattle.part_table.proofs.RangeLemmas.{range_append, range_count, range_raised}
-use Rattle.part_table.proofs.RenumberLemmas.{consecutive-renumbered, parts_of-raised, pieces_of-raised, piece_at-renumbered, raised_piece, region_raised}
-use Rattle.part_table.proofs.SplitLemmas.{all_pieces, consecutive_front, count_of_parts, higher_parts, lower_parts, own_place, parts_of-append, pieces_of-append, place_front, same_piece, split}
+use Rattle.part_table.proofs.RenumberLemmas.{consecutive-renumbered, parts_of-raised, pieces_of-raised, region_raised}
+use Rattle.part_table.proofs.SplitLemmas.{all_pieces, consecutive_front, count_of_parts, higher_parts, lower_parts, own_place, parts_of-append, pieces_of-append, split}
 
 -- the part is there and has the bound strictly inside, and there are fewer than sixteen parts
 pub record IsDivide (p : ℕ) (at : ℕ) (regions : List Region) (answer : ℕ × ℕ × ℕ) : Type 0 where
@@ -113,19 +100,6 @@ divide_at_index p at regions i d index = ap (λ found. divide_answer_of found p 
 pub divide_nowhere : (p at : ℕ) (regions : List Region) → position (is_part p) regions ≡ None → divide_answer p at regions ≡ Err NoPart
 divide_nowhere p at regions none = ap (λ found. divide_answer_of found p at regions) (find_none (is_part p) regions none)
 
--- the halves have no piece
-piece_at-halves : (s_id p at : ℕ) (part : Region) (behind : List Region) → part.place ≡ Part p → part.lo < at → at < part.hi
-    → option_map piece_number (place_of s_id (low_half at part ∷ (high_half p at part ∷ raised behind))) ≡ option_map piece_number (place_of s_id (part ∷ behind))
-piece_at-halves s_id p at part behind own above below =
-    let rest = piece_at-renumbered place_raised raised_piece s_id behind in
-    by_test (nat_lt s_id at)
-    (λ e. let high : nat_le at s_id ≡ false = grind (arith, nat_tests) in
-    let inside : nat_lt s_id part.hi ≡ true = grind (arith, nat_tests) in
-    by_test (nat_le part.lo s_id) (λ f. rw (f, e, inside) refl) (λ f. rw (f, high) rest))
-    (λ e. let high : nat_le at s_id ≡ true = grind (arith, nat_tests) in
-    let inside : nat_le part.lo s_id ≡ true = grind (arith, nat_tests) in
-    by_test (nat_lt s_id part.hi) (λ f. rw (inside, e, high, f, own) refl) (λ f. rw (inside, e, high, f) rest))
-
 module _ (p : ℕ) (at : ℕ) (regions : List Region) (answer : ℕ × ℕ × ℕ) (divide : IsDivide p at regions answer) (are : AreRegions regions) where
   -- there is room for one more
   pub divide_room : length regions < 32
@@ -149,10 +123,6 @@ module _ (p : ℕ) (at : ℕ) (regions : List Region) (answer : ℕ × ℕ × �
   pub bound_inside : (part.lo < at) × (at < part.hi)
   bound_inside = rw same_part (divide.above, divide.below)
 
-  -- so the answer is the next number, and the range from the bound on
-  pub divide_told : answer ≡ (p + 1, at, part.hi)
-  divide_told = rw same_part divide.told
-
   parts-divided : parts_of (divided p at regions) ≡ range_with_len 0 (p + suc (suc (length (parts_of behind))))
   parts-divided =
       let high : parts_of (raised behind) ≡ range_with_len (p + 1 + 1) (length (parts_of behind)) =
@@ -170,20 +140,6 @@ module _ (p : ℕ) (at : ℕ) (regions : List Region) (answer : ℕ × ℕ × �
   pieces_of-divided =
       ap pieces_of (divided_split p at regions i index) ∙ pieces_of-append (take i regions) _
       ∙ rw (own_place p regions are i index, pieces_of-raised behind) (sym (all_pieces p regions are i index))
-
-  -- and each s_id lies in the piece in which it lay, if in any
-  pub piece_at-divided : (s_id : ℕ) → option_map piece_number (place_of s_id (divided p at regions)) ≡ option_map piece_number (place_of s_id regions)
-  piece_at-divided s_id =
-      ap (λ others. option_map piece_number (place_of s_id others)) (divided_split p at regions i index)
-      ∙ (place_front (option_map piece_number) s_id (take i regions) (part ∷ behind) _
-      (piece_at-halves s_id p at part behind (own_place p regions are i index) bound_inside.0 bound_inside.1)
-      ∙ sym (ap (λ others. option_map piece_number (place_of s_id others)) (split p regions are i index)))
-
-  pub piece_stays-divided : (s_id n : ℕ) → place_of s_id regions ≡ Some (Piece n) → place_of s_id (divided p at regions) ≡ Some (Piece n)
-  piece_stays-divided s_id n is = same_piece (place_of s_id regions) (place_of s_id (divided p at regions)) n (sym (piece_at-divided s_id)) is
-
-  pub piece_was-divided : (s_id n : ℕ) → place_of s_id (divided p at regions) ≡ Some (Piece n) → place_of s_id regions ≡ Some (Piece n)
-  piece_was-divided s_id n is = same_piece (place_of s_id (divided p at regions)) (place_of s_id regions) n (piece_at-divided s_id) is
 
   consecutive-divided : IsConsecutive 1 (divided p at regions)
   consecutive-divided =

@@ -1,10 +1,5 @@
 -- The first element of a list that passes a test.
-use Rattle.std.proofs.Common.{◌≡◌, refl, ℕ, zero, suc, ◌+◌, ◌<◌, List, [], ◌∷◌, Bool, true, false, length, get_or, arith}
-use Rattle.std.specs.Prelude.{Some, None, nat_lt, position, find}
-use Rattle.std.specs.List.{list_any, position_or_len}
-use Rattle.std.proofs.lemmas.Bool.Decides.{nat_tests}
-use Rattle.std.proofs.lemmas.List.Quantifiers.{position-Some}
-use Rattle.tatp_rows.proofs.OrderedLemmas.{by_test}
+use Rattle.part_table.proofs.Common.{◌≡◌, refl, ℕ, zero, suc, ◌+◌, ◌<◌, List, [], ◌∷◌, Bool, true, false, length, get_or, arith, Some, None, nat_lt, position, find, list_any, position_or_len, nat_tests, position-Some, by_test}
 
 module _ {X : Type 0} (test : X → Bool) where
   -- there is none where there is no place of one

@@ -1,15 +1,5 @@
 -- The least piece number that is free, one number after another.
-use Rattle.std.proofs.Common.{◌≡◌, ◌≢◌, ◌∙◌, refl, sym, ap, ℕ, ◌+◌, ◌-◌, ◌<◌, ◌≤◌, inl, inr, List, Bool, true, false, length, arith}
-use Rattle.std.specs.Prelude.{◌==◌, not}
-use Rattle.std.specs.List.{list_any}
-use Rattle.std.proofs.lemmas.Bool.Decides.{nat_tests}
-use Rattle.tatp_rows.proofs.OrderedLemmas.{by_test}
-use Rattle.part_table.specs.Give.{free_number, IsFreeNumber}
-use Rattle.part_table.specs.Least.{least}
-use Rattle.part_table.specs.Region.{is_piece}
-use Rattle.part_table.specs.Regions.{AreRegions, pieces_of}
-use Rattle.part_table.specs.declared.region.Region.{Region}
-use Rattle.part_table.specs.declared.region.TheConstants.{MOST_PIECES}
+use Rattle.part_table.proofs.Common.{◌≡◌, ◌≢◌, ◌∙◌, refl, sym, ap, ℕ, ◌+◌, ◌-◌, ◌<◌, ◌≤◌, inl, inr, List, Bool, true, false, length, arith, ◌==◌, not, list_any, nat_tests, by_test, free_number, IsFreeNumber, least, is_piece, AreRegions, pieces_of, Region, MOST_PIECES}
 use Rattle.part_table.proofs.LeastLemmas.{least_here, least_more, least_passes}
 use Rattle.part_table.proofs.NumberLemmas.{any_piece, all_pieces, fewer_pieces, most_pieces}
 

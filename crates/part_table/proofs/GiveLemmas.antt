@@ -1,16 +1,5 @@
 -- What the answer of a give says that is no refusal.
-use Rattle.std.proofs.Common.{◌≡◌, ◌≢◌, refl, ℕ, ◌<◌, List, length, arith}
-use Rattle.std.specs.Prelude.{Option, Some, None, Ok, Err, ◌==◌, ◌&&◌, nat_lt, find}
-use Rattle.std.proofs.lemmas.Bool.Decides.{nat_tests}
-use Rattle.tatp_rows.proofs.OrderedLemmas.{by_test}
-use Rattle.tatp_rows.proofs.RowLemmas.{both}
-use Rattle.tatp_rows.specs.declared.refusal.Refusal.TheVariants.{OutOfRange, ManyPieces}
-use Rattle.part_table.specs.Give.{IsFreeNumber, free_number, given, answer_of_part, give_answer, cut}
-use Rattle.part_table.specs.Region.{is_part}
-use Rattle.part_table.specs.Regions.{AreRegions, pieces_of}
-use Rattle.part_table.specs.declared.region.Region.{Region}
-use Rattle.part_table.specs.declared.region.Side.{Side}
-use Rattle.part_table.specs.declared.region.TheConstants.{MOST_PIECES}
+use Rattle.part_table.proofs.Common.{◌≡◌, ◌≢◌, refl, ℕ, ◌<◌, List, length, arith, Option, Some, None, Ok, Err, ◌==◌, ◌&&◌, nat_lt, find, nat_tests, by_test, both, OutOfRange, ManyPieces, IsFreeNumber, free_number, given, answer_of_part, give_answer, cut, is_part, AreRegions, pieces_of, Region, Side, MOST_PIECES}
 use Rattle.part_table.proofs.CutLemmas.{regions-cut}
 use Rattle.part_table.proofs.FreeLemmas.{free_is}
 use Rattle.part_table.proofs.NumberLemmas.{length_regions}

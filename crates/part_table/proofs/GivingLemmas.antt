@@ -1,14 +1,5 @@
 -- A give by the index of the part's region.
-use Rattle.std.proofs.Common.{◌≡◌, ◌∙◌, refl, sym, ap, ℕ, zero, suc, ◌+◌, ◌<◌, List, [], ◌∷◌, length, get_or, set, arith}
-use Rattle.std.specs.Prelude.{Some, None, Err, insert, position}
-use Rattle.std.proofs.lemmas.List.Quantifiers.{position-Some}
-use Rattle.tatp_rows.specs.declared.refusal.Refusal.TheVariants.{NoPart}
-use Rattle.part_table.specs.Give.{answer_of_part, cut, give_answer, piece_index}
-use Rattle.part_table.specs.Region.{is_part}
-use Rattle.part_table.specs.declared.region.Place.TheVariants.{Piece}
-use Rattle.part_table.specs.declared.region.Region.{Region}
-use Rattle.part_table.specs.declared.region.Side.{Side}
-use Rattle.part_table.specs.declared.region.Side.TheVariants.{Low, High}
+use Rattle.part_table.proofs.Common.{◌≡◌, ◌∙◌, refl, sym, ap, ℕ, zero, suc, ◌+◌, ◌<◌, List, [], ◌∷◌, length, get_or, set, arith, Some, None, Err, insert, position, position-Some, NoPart, answer_of_part, cut, give_answer, piece_index, is_part, Piece, Region, Side, Low, High}
 use Rattle.part_table.proofs.CutLemmas.{cut_found}
 use Rattle.part_table.proofs.FirstLemmas.{find_index, find_none}
 use Rattle.part_table.proofs.PlaceLemmas.{blank}

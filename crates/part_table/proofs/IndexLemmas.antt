@@ -1,17 +1,5 @@
 -- Regions by their index: each part, each piece and each s_id has one.
-use Rattle.std.proofs.Common.{◌≡◌, ◌≢◌, ◌∙◌, refl, sym, ap, ℕ, zero, suc, ◌+◌, ◌<◌, ◌≤◌, List, [], ◌∷◌, Bool, true, false, length, get_or, arith, inl, inr}
-use Rattle.std.specs.Prelude.{Option, Some, None, ◌==◌, position}
-use Rattle.std.specs.List.{IsDistinct, list_any, range_with_len}
-use Rattle.std.proofs.lemmas.Bool.{cases_lt}
-use Rattle.std.proofs.lemmas.Bool.Decides.{nat_tests}
-use Rattle.std.proofs.lemmas.List.Folds.{list_any_at}
-use Rattle.std.proofs.lemmas.List.Quantifiers.{position-Some}
-use Rattle.tatp_rows.proofs.OrderedLemmas.{by_test}
-use Rattle.part_table.specs.Region.{is_part, is_piece, lies_in}
-use Rattle.part_table.specs.Regions.{AreRegions, parts_of, pieces_of, place_of}
-use Rattle.part_table.specs.declared.region.Place.{Place}
-use Rattle.part_table.specs.declared.region.Place.TheVariants.{Part, Piece}
-use Rattle.part_table.specs.declared.region.Region.{Region}
+use Rattle.part_table.proofs.Common.{◌≡◌, ◌≢◌, ◌∙◌, refl, sym, ap, ℕ, zero, suc, ◌+◌, ◌<◌, ◌≤◌, List, [], ◌∷◌, Bool, true, false, length, get_or, arith, inl, inr, Option, Some, None, ◌==◌, position, IsDistinct, list_any, range_with_len, cases_lt, nat_tests, list_any_at, position-Some, by_test, is_part, is_piece, lies_in, AreRegions, parts_of, pieces_of, place_of, Place, Part, Piece, Region}
 use Rattle.part_table.proofs.FirstLemmas.{none_passes}
 use Rattle.part_table.proofs.NumberLemmas.{any_part, range_distinct}
 use Rattle.part_table.proofs.PlaceLemmas.{blank}

@@ -1,18 +1,5 @@
 -- What joining a piece to the part beside it keeps.
-use Rattle.std.proofs.Common.{◌≡◌, refl, ap, ℕ, List, [], ◌∷◌, ◌++◌, append_assoc, arith}
-use Rattle.std.specs.Prelude.{Some, None, Option, ◌==◌, ◌&&◌}
-use Rattle.std.specs.List.{AllByRecursion, IsDistinct}
-use Rattle.std.proofs.lemmas.Map.Keys.{IsDistinct-tail}
-use Rattle.tatp_rows.proofs.OrderedLemmas.{by_test}
-use Rattle.tatp_rows.proofs.RowLemmas.{both}
-use Rattle.part_table.specs.Region.{is_part, is_piece, part_number, piece_number}
-use Rattle.part_table.specs.Regions.{AreRegions, IsConsecutive, IsPieceNumber, parts_of, pieces_of}
-use Rattle.part_table.specs.Take.{side_between, part_place, joined_pair, joined_behind, joined}
-use Rattle.part_table.specs.declared.region.Place.{Place}
-use Rattle.part_table.specs.declared.region.Place.TheVariants.{Part, Piece}
-use Rattle.part_table.specs.declared.region.Region.{Region}
-use Rattle.part_table.specs.declared.region.Side.{Side}
-use Rattle.part_table.specs.declared.region.Side.TheVariants.{Low, High}
+use Rattle.part_table.proofs.Common.{◌≡◌, refl, ap, ℕ, List, [], ◌∷◌, ◌++◌, append_assoc, arith, Some, None, Option, ◌==◌, ◌&&◌, AllByRecursion, IsDistinct, IsDistinct-tail, by_test, both, is_part, is_piece, part_number, piece_number, AreRegions, IsConsecutive, IsPieceNumber, parts_of, pieces_of, side_between, part_place, joined_pair, joined_behind, joined, Place, Part, Piece, Region, Side, Low, High}
 use Rattle.part_table.proofs.NumberLemmas.{part_place_is, piece_place_is, each_with, distinct_behind}
 
 -- two neighbours that are a piece and a part

@@ -1,7 +1,5 @@
 -- The least number that passes a test, one number after another.
-use Rattle.std.proofs.Common.{◌≡◌, refl, ℕ, zero, suc, ◌+◌, ◌<◌, ◌≤◌, ◌⊎◌, inl, inr, Bool, true, false, arith}
-use Rattle.std.proofs.lemmas.Bool.{cases_lt}
-use Rattle.tatp_rows.proofs.OrderedLemmas.{by_test}
+use Rattle.part_table.proofs.Common.{◌≡◌, refl, ℕ, zero, suc, ◌+◌, ◌<◌, ◌≤◌, ◌⊎◌, inl, inr, Bool, true, false, arith, cases_lt, by_test}
 use Rattle.part_table.specs.Least.{least}
 
 -- the first number passes

@@ -1,13 +1,5 @@
 -- The moves of a re-cut, one bound after another.
-use Rattle.std.proofs.Common.{◌≡◌, ◌∙◌, refl, sym, ap, ℕ, zero, suc, ◌+◌, ◌-◌, ◌<◌, ◌≤◌, List, [], ◌∷◌, ◌++◌, Bool, true, false, length, get_or, drop, append_assoc, append-nil, length-append, add-one, arith}
-use Rattle.std.specs.Prelude.{nat_lt, if◌then◌else◌}
-use Rattle.std.proofs.lemmas.Bool.Decides.{nat_tests}
-use Rattle.std.proofs.lemmas.List.{drop_more, drop_all, get_or-map, length-map, length-drop}
-use Rattle.tatp_rows.specs.declared.ranges.TheConstants.{LAST_SUBSCRIBER}
-use Rattle.part_table.specs.Bounds.{are_rising}
-use Rattle.part_table.specs.Recut.{bounds_of, rising_moves, falling_moves}
-use Rattle.part_table.specs.declared.moves.CutMove.{CutMove}
-use Rattle.part_table.specs.declared.region.Region.{Region}
+use Rattle.part_table.proofs.Common.{◌≡◌, ◌∙◌, refl, sym, ap, ℕ, zero, suc, ◌+◌, ◌-◌, ◌<◌, ◌≤◌, List, [], ◌∷◌, ◌++◌, Bool, true, false, length, get_or, drop, append_assoc, append-nil, length-append, add-one, arith, nat_lt, if◌then◌else◌, nat_tests, drop_more, drop_all, get_or-map, length-map, length-drop, LAST_SUBSCRIBER, are_rising, bounds_of, rising_moves, falling_moves, CutMove, Region}
 use Rattle.part_table.proofs.BoundsLemmas.{rising_first}
 
 -- a bound is where the region behind it begins

@@ -1,23 +1,6 @@
 -- The numbers of parts and of loose pieces among regions.
-use Rattle.std.proofs.Common.{◌≡◌, ◌∙◌, refl, sym, ap, ℕ, ◌-◌, zero, suc, ◌+◌, ◌<◌, ◌≤◌, ◌≢◌, List, [], ◌∷◌, ◌++◌, Bool, true, false, length, arith, inl, inr}
-use Rattle.std.specs.Prelude.{◌==◌, ◌||◌, eqb, cond, count_by, if◌then◌else◌, nat_lt, drop, option_map, None, Option, position, take, slice_range}
-use Rattle.std.specs.List.{AllByRecursion, IsDistinct, list_any, position_or_len, range_with_len}
-use Rattle.std.proofs.lemmas.Bool.{cases_lt}
-use Rattle.std.proofs.lemmas.Bool.Decides.{nat_tests}
-use Rattle.std.proofs.lemmas.List.{length-drop, take_all}
-use Rattle.std.proofs.lemmas.List.Sums.{sum_by-cons}
-use Rattle.std.proofs.lemmas.Map.Keys.{IsDistinct-cons, IsDistinct-head, IsDistinct-tail}
-use Rattle.std.proofs.lemmas.Map.Steps.{length-le_from_distinct_below}
-use Rattle.std.proofs.lemmas.Cmp.{nat_eq_equiv}
-use Rattle.std.proofs.lemmas.List.FromFn.{length-range_with_len}
-use Rattle.std.proofs.lemmas.Map.Made.{length-le_from_is_member}
-use Rattle.tatp_rows.proofs.OrderedLemmas.{by_test, each-weaker}
-use Rattle.part_table.specs.Region.{is_part, is_of_part, is_of_part_place, is_piece, is_part_place, is_piece_place, part_number, piece_number}
-use Rattle.part_table.specs.Regions.{AreRegions, parts_of, pieces_of, IsPieceNumber}
-use Rattle.part_table.specs.declared.region.Place.{Place}
-use Rattle.part_table.specs.declared.region.Place.TheVariants.{Part, Piece}
-use Rattle.part_table.specs.declared.region.Region.{Region}
-use Rattle.part_table.specs.declared.region.TheConstants.{MOST_PIECES}
+use Rattle.part_table.proofs.Common.{◌≡◌, ◌∙◌, refl, sym, ap, ℕ, ◌-◌, zero, suc, ◌+◌, ◌<◌, ◌≤◌, ◌≢◌, List, [], ◌∷◌, ◌++◌, Bool, true, false, length, arith, inl, inr, ◌==◌, ◌||◌, eqb, cond, count_by, if◌then◌else◌, nat_lt, drop, option_map, None, Option, position, take, slice_range, AllByRecursion, list_any, position_or_len, range_with_len, cases_lt, nat_tests, length-drop, take_all, sum_by-cons, IsDistinct-cons, IsDistinct-head, IsDistinct-tail, length-le_from_distinct_below, nat_eq_equiv, length-range_with_len, length-le_from_is_member, by_test, each-weaker, is_part, is_of_part, is_of_part_place, is_piece, is_part_place, is_piece_place, part_number, piece_number, AreRegions, parts_of, pieces_of, IsPieceNumber, Place, Part, Piece, Region, MOST_PIECES}
+use Rattle.std.specs.List.{IsDistinct}
 
 -- the place that a test of a part's number finds
 pub part_place_is : (p : ℕ) (place : Place) → is_part_place p place ≡ true → place ≡ Part p

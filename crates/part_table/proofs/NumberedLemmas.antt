@@ -1,19 +1,5 @@
 -- Ranges of parts and loose pieces, numbered in their order.
-use Rattle.std.proofs.Common.{◌≡◌, ◌∙◌, refl, sym, ap, ℕ, zero, suc, ◌+◌, ◌<◌, ◌≤◌, List, [], ◌∷◌, ◌++◌, length, drop, get_or, Bool, true, false, arith}
-use Rattle.std.specs.Prelude.{◌==◌, nat_lt}
-use Rattle.std.specs.List.{AllByRecursion, range_with_len}
-use Rattle.std.proofs.Math.Seq.{drop-cons}
-use Rattle.std.proofs.lemmas.Bool.Decides.{nat_tests}
-use Rattle.std.proofs.lemmas.List.{append_assoc, append-nil, drop_all}
-use Rattle.std.proofs.lemmas.List.FromFn.{length-range_with_len}
-use Rattle.tatp_rows.proofs.OrderedLemmas.{by_test}
-use Rattle.part_table.specs.Numbered.{place_numbered, part_after, piece_after, numbered, do_follow}
-use Rattle.part_table.specs.Region.{part_number, piece_number}
-use Rattle.part_table.specs.Regions.{AreRegions, IsConsecutive, IsPieceNumber, parts_of, pieces_of}
-use Rattle.part_table.specs.declared.region.Place.{Place}
-use Rattle.part_table.specs.declared.region.Place.TheVariants.{Part, Piece}
-use Rattle.part_table.specs.declared.region.Region.{Region}
-use Rattle.part_table.specs.declared.region.TheConstants.{END, MOST_PARTS, MOST_PIECES}
+use Rattle.part_table.proofs.Common.{◌≡◌, ◌∙◌, refl, sym, ap, ℕ, zero, suc, ◌+◌, ◌<◌, ◌≤◌, List, [], ◌∷◌, ◌++◌, length, drop, get_or, Bool, true, false, arith, ◌==◌, nat_lt, AllByRecursion, range_with_len, drop-cons, nat_tests, append_assoc, append-nil, drop_all, length-range_with_len, by_test, place_numbered, part_after, piece_after, numbered, do_follow, part_number, piece_number, AreRegions, IsConsecutive, IsPieceNumber, parts_of, pieces_of, Place, Part, Piece, Region, END, MOST_PARTS, MOST_PIECES}
 use Rattle.part_table.proofs.NumberLemmas.{range_distinct}
 
 -- the parts are numbered from a number on

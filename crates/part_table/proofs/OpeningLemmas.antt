@@ -1,19 +1,5 @@
 -- The regions at opening, one part after another.
-use Rattle.std.proofs.Common.{◌≡◌, ◌∙◌, refl, ℕ, suc, ◌+◌, ◌*◌, ◌-◌, ◌/◌, ◌<◌, ◌≤◌, List, [], ◌∷◌, ◌++◌, true, map, append_assoc, arith}
-use Rattle.std.specs.Prelude.{Ok}
-use Rattle.std.specs.List.{range_with_len}
-use Rattle.std.proofs.Math.Nat.{mul-le-mul}
-use Rattle.std.proofs.lemmas.Nat.{div_below}
-use Rattle.std.proofs.lemmas.List.FromFn.{length-map-range_with_len}
-use Rattle.tatp_rows.proofs.RowLemmas.{between_is, both}
-use Rattle.tatp_rows.specs.Rows.{is_between}
-use Rattle.tatp_rows.specs.declared.ranges.TheConstants.{GREATEST_WIDTH}
-use Rattle.part_table.specs.Bounds.{parts_between}
-use Rattle.part_table.specs.Opening.{opening, opening_bound, can_open}
-use Rattle.part_table.specs.Regions.{AreRegions}
-use Rattle.part_table.specs.declared.region.Place.TheVariants.{Part}
-use Rattle.part_table.specs.declared.region.Region.{Region}
-use Rattle.part_table.specs.declared.region.TheConstants.{END, MOST_PARTS}
+use Rattle.part_table.proofs.Common.{◌≡◌, ◌∙◌, refl, ℕ, suc, ◌+◌, ◌*◌, ◌-◌, ◌/◌, ◌<◌, ◌≤◌, List, [], ◌∷◌, ◌++◌, true, map, append_assoc, arith, Ok, range_with_len, mul-le-mul, div_below, length-map-range_with_len, between_is, both, is_between, GREATEST_WIDTH, parts_between, opening, opening_bound, can_open, AreRegions, Part, Region, END, MOST_PARTS}
 use Rattle.part_table.proofs.BoundsLemmas.{regions-parts_between}
 use Rattle.part_table.proofs.ProposalLemmas.{rising_opening}
 

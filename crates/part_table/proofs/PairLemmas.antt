@@ -1,17 +1,6 @@
 -- A take by the index of the piece's region: the part stands beside it.
-use Rattle.std.proofs.Common.{◌≡◌, ◌∙◌, refl, sym, ap, ℕ, zero, suc, ◌+◌, ◌-◌, ◌<◌, ◌≤◌, List, [], ◌∷◌, length, get_or, set, arith, true, false, Some, None, Err}
-use Rattle.std.specs.Prelude.{Ok, remove, Option, position, ◌==◌}
-use Rattle.std.proofs.lemmas.Bool.Decides.{nat_tests}
-use Rattle.std.proofs.lemmas.List.Quantifiers.{position-Some}
-use Rattle.tatp_rows.specs.declared.refusal.Refusal.TheVariants.{NoPiece, NoPart}
-use Rattle.part_table.specs.Give.{piece_index, second_index}
-use Rattle.part_table.specs.Region.{is_part, is_piece}
-use Rattle.part_table.specs.Regions.{AreRegions, IsConsecutive, pieces_of}
-use Rattle.part_table.specs.Take.{answer_of_both, joint, joined, side_between, take_answer, touching}
+use Rattle.part_table.proofs.Common.{◌≡◌, ◌∙◌, refl, sym, ap, ℕ, zero, suc, ◌+◌, ◌-◌, ◌<◌, ◌≤◌, List, [], ◌∷◌, length, get_or, set, arith, true, false, Some, None, Err, Ok, remove, Option, position, ◌==◌, nat_tests, position-Some, NoPiece, NoPart, piece_index, second_index, is_part, is_piece, AreRegions, IsConsecutive, pieces_of, answer_of_both, joint, joined, side_between, take_answer, touching, Region, Side, Low, High}
 use Rattle.part_table.specs.declared.region.Place.TheVariants as place
-use Rattle.part_table.specs.declared.region.Region.{Region}
-use Rattle.part_table.specs.declared.region.Side.{Side}
-use Rattle.part_table.specs.declared.region.Side.TheVariants.{Low, High}
 use Rattle.part_table.proofs.FirstLemmas.{find_index, find_none}
 use Rattle.part_table.proofs.IndexLemmas.{one_piece, is_piece_there}
 use Rattle.part_table.proofs.JoinLemmas.{places_of_pair, ArePlaces}

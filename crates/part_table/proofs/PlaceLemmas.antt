@@ -1,17 +1,5 @@
 -- Each s_id lies in one of the regions.
-use Rattle.std.proofs.Common.{◌≡◌, ◌∙◌, refl, ap, ℕ, zero, suc, ◌+◌, ◌<◌, ◌≤◌, List, [], ◌∷◌, length, get_or, true, false, arith, inl, inr}
-use Rattle.std.specs.Prelude.{Some, None, count_by, cond, find, position}
-use Rattle.std.specs.List.{position_or_len}
-use Rattle.std.proofs.lemmas.Bool.Decides.{nat_tests}
-use Rattle.std.proofs.lemmas.Bool.{cases_lt}
-use Rattle.std.proofs.lemmas.List.Quantifiers.{position-Some}
-use Rattle.std.proofs.lemmas.List.Sums.{sum_by-cons}
-use Rattle.tatp_rows.proofs.OrderedLemmas.{by_test}
-use Rattle.part_table.specs.Region.{ends_behind, lies_in}
-use Rattle.part_table.specs.Regions.{IsConsecutive, place_of}
-use Rattle.part_table.specs.declared.region.Place.TheVariants.{Part}
-use Rattle.part_table.specs.declared.region.Region.{Region}
-use Rattle.part_table.specs.declared.region.TheConstants.{END}
+use Rattle.part_table.proofs.Common.{◌≡◌, ◌∙◌, refl, ap, ℕ, zero, suc, ◌+◌, ◌<◌, ◌≤◌, List, [], ◌∷◌, length, get_or, true, false, arith, inl, inr, Some, None, count_by, cond, find, position, position_or_len, nat_tests, cases_lt, position-Some, sum_by-cons, by_test, ends_behind, lies_in, IsConsecutive, place_of, Part, Region, END}
 use Rattle.part_table.proofs.FirstLemmas.{find_none}
 
 -- what a list of regions has behind its end

@@ -1,17 +1,5 @@
 -- Bounds at opening and proposed bounds rise and lie in range.
-use Rattle.std.proofs.Common.{◌≡◌, ◌∙◌, refl, sym, ℕ, zero, suc, ◌+◌, ◌*◌, ◌-◌, ◌/◌, ◌<◌, ◌≤◌, List, [], ◌∷◌, ◌++◌, true, false, length, map, min, max, sum, arith, add-one}
-use Rattle.std.specs.Ordering.{ord_max, nat_cmp}
-use Rattle.std.specs.List.{range_with_len, All}
-use Rattle.std.proofs.Math.Nat.{mul-le-mul, mul-le-mul_right, div-mul-le_self}
-use Rattle.std.proofs.lemmas.List.Sums.{sum_by-le, sum_by-take-le}
-use Rattle.std.proofs.lemmas.Nat.{le-div, div_below}
-use Rattle.std.proofs.lemmas.List.FromFn.{map-range_with_len_more, length-map-range_with_len}
-use Rattle.tatp_rows.specs.declared.ranges.TheConstants.{LAST_SUBSCRIBER, GREATEST_WIDTH}
-use Rattle.part_table.specs.Bounds.{are_rising}
-use Rattle.part_table.specs.Opening.{opening_bound}
-use Rattle.part_table.specs.Proposal.{bound_zone, share_zone, has_shares, weight_below, proposed_bound, proposal}
-use Rattle.part_table.specs.Least.{least}
-use Rattle.std.proofs.lemmas.Bool.Decides.{nat_tests}
+use Rattle.part_table.proofs.Common.{◌≡◌, ◌∙◌, refl, sym, ℕ, zero, suc, ◌+◌, ◌*◌, ◌-◌, ◌/◌, ◌<◌, ◌≤◌, List, [], ◌∷◌, ◌++◌, true, false, length, map, min, max, sum, arith, add-one, ord_max, nat_cmp, range_with_len, All, mul-le-mul, mul-le-mul_right, div-mul-le_self, sum_by-le, le-div, div_below, map-range_with_len_more, length-map-range_with_len, LAST_SUBSCRIBER, GREATEST_WIDTH, are_rising, opening_bound, bound_zone, share_zone, has_shares, weight_below, proposed_bound, proposal, least, nat_tests}
 use Rattle.part_table.proofs.LeastLemmas.{least_here, least_more, least_none}
 use Rattle.part_table.proofs.BoundsLemmas.{rising_map}
 
@@ -127,7 +115,3 @@ share_all weights parts shares zone last left =
 -- products of small numbers are small
 pub product_small : (parts weight most : ℕ) → parts ≤ 16 → weight ≤ most → parts * weight ≤ 16 * most
 product_small parts weight most few light = mul-le-mul few light
-
--- the weight below a zone
-pub below_small : (weights : List ℕ) (zone most : ℕ) → sum weights ≤ most → weight_below weights zone ≤ most
-below_small weights zone most small = omega (arith, sum_by-take-le (λ w. w) weights zone)

@@ -1,7 +1,5 @@
 -- Numbers in order, from one on.
-use Rattle.std.proofs.Common.{◌≡◌, ◌∙◌, refl, ap, ℕ, zero, suc, ◌+◌, ◌-◌, ◌<◌, ◌≤◌, List, [], ◌∷◌, ◌++◌, length, map, arith}
-use Rattle.std.specs.List.{AllByRecursion, range_with_len}
-use Rattle.std.proofs.lemmas.List.FromFn.{length-range_with_len}
+use Rattle.part_table.proofs.Common.{◌≡◌, ◌∙◌, refl, ap, ℕ, zero, suc, ◌+◌, ◌-◌, ◌<◌, ◌≤◌, List, [], ◌∷◌, ◌++◌, length, map, arith, AllByRecursion, range_with_len, length-range_with_len}
 
 -- one of them: where it stands, those in front of it, and those behind it
 pub range_split : (a n p : ℕ) (ns ms : List ℕ) → ns ++ p ∷ ms ≡ range_with_len a n → (p ≡ a + length ns) × (ns ≡ range_with_len a (length ns)) × (ms ≡ range_with_len (p + 1) (length ms))

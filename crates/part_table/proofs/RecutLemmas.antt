@@ -1,26 +1,8 @@
 -- The moves of a re-cut can be done one after another, and lead to its bounds.
-use Rattle.std.proofs.Common.{◌≡◌, ◌∙◌, refl, sym, ap, ℕ, ◌+◌, ◌-◌, ◌<◌, ◌≤◌, List, [], ◌∷◌, ◌++◌, Bool, true, false, length, arith}
-use Rattle.std.specs.Prelude.{◌==◌, nat_lt, if◌then◌else◌, Result, Ok, Err, Some, None, Option}
-use Rattle.std.specs.List.{AllByRecursion, find}
-use Rattle.std.proofs.lemmas.Bool.Decides.{nat_tests}
-use Rattle.tatp_rows.proofs.OrderedLemmas.{by_test, each-weaker}
-use Rattle.tatp_rows.proofs.AppendLemmas.{each-append}
+use Rattle.part_table.proofs.Common.{◌≡◌, ◌∙◌, refl, sym, ap, ℕ, ◌+◌, ◌-◌, ◌<◌, ◌≤◌, List, [], ◌∷◌, ◌++◌, Bool, true, false, length, arith, ◌==◌, nat_lt, if◌then◌else◌, Result, Ok, Err, Some, None, Option, AllByRecursion, nat_tests, by_test, each-weaker, each-append, LAST_SUBSCRIBER, Refusal, are_rising, parts_between, give_answer, cut, free_number, answer_of_part, rising_moves, falling_moves, taken, handed_on, handed_over, moved, all_moved, is_part, is_piece, piece_number, pieces_of, take_answer, side_between, joined, CutMove, Part, Piece, Region, Side, Low, High, END}
+use Rattle.std.specs.List.{find}
 use Rattle.part_table.proofs.BoundsLemmas.{rising_first, no_pieces, rising_from}
-use Rattle.tatp_rows.specs.declared.ranges.TheConstants.{LAST_SUBSCRIBER}
-use Rattle.tatp_rows.specs.declared.refusal.Refusal.{Refusal}
-use Rattle.part_table.specs.Bounds.{are_rising, parts_between}
-use Rattle.part_table.specs.Give.{give_answer, cut, free_number, answer_of_part}
 use Rattle.part_table.specs.Least.{least}
-use Rattle.part_table.specs.Recut.{rising_moves, falling_moves, taken, handed_on, handed_over, moved, all_moved}
-use Rattle.part_table.specs.Region.{is_part, is_piece, piece_number}
-use Rattle.part_table.specs.Regions.{pieces_of}
-use Rattle.part_table.specs.Take.{take_answer, side_between, joined}
-use Rattle.part_table.specs.declared.moves.CutMove.{CutMove}
-use Rattle.part_table.specs.declared.region.Place.TheVariants.{Part, Piece}
-use Rattle.part_table.specs.declared.region.Region.{Region}
-use Rattle.part_table.specs.declared.region.Side.{Side}
-use Rattle.part_table.specs.declared.region.Side.TheVariants.{Low, High}
-use Rattle.part_table.specs.declared.region.TheConstants.{END}
 
 -- regions with one more in front, where there are any
 abbrev in_front : Region → Result (List Region) Refusal → Result (List Region) Refusal

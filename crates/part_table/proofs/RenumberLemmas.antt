@@ -1,18 +1,5 @@
 -- Regions whose parts' numbers change.
-use Rattle.std.proofs.Common.{◌≡◌, refl, sym, ap, subst, ℕ, suc, ◌+◌, ◌-◌, ◌<◌, List, [], ◌∷◌, ◌++◌, length, get_or, set, drop, map, arith}
-use Rattle.std.specs.Prelude.{Some, option_map}
-use Rattle.std.specs.List.{AllByRecursion}
-use Rattle.std.proofs.Math.Seq.{drop-cons}
-use Rattle.std.proofs.lemmas.List.{drop-set-lt, map-append}
-use Rattle.tatp_rows.proofs.AppendLemmas.{each-left, each-right}
-use Rattle.tatp_rows.proofs.OrderedLemmas.{by_test}
-use Rattle.part_table.specs.Dissolve.{lowered, place_lowered}
-use Rattle.part_table.specs.Divide.{place_raised, raised}
-use Rattle.part_table.specs.Region.{lies_in, part_number, piece_number}
-use Rattle.part_table.specs.Regions.{IsConsecutive, parts_of, pieces_of, place_of}
-use Rattle.part_table.specs.declared.region.Place.{Place}
-use Rattle.part_table.specs.declared.region.Place.TheVariants.{Part, Piece}
-use Rattle.part_table.specs.declared.region.Region.{Region}
+use Rattle.part_table.proofs.Common.{◌≡◌, refl, sym, ap, subst, ℕ, suc, ◌+◌, ◌-◌, ◌<◌, List, [], ◌∷◌, ◌++◌, length, get_or, set, drop, map, arith, AllByRecursion, drop-cons, drop-set-lt, map-append, each-left, each-right, lowered, place_lowered, place_raised, raised, part_number, piece_number, IsConsecutive, parts_of, pieces_of, Place, Part, Piece, Region}
 
 module _ (g : Place → Place) where
   -- regions with other places
@@ -32,12 +19,6 @@ module _ (g : Place → Place) where
   pub pieces_of-renumbered : (each : (place : Place) → piece_number (g place) ≡ piece_number place) (regions : List Region) → pieces_of (renumbered regions) ≡ pieces_of regions
   pieces_of-renumbered each [] = refl
   pieces_of-renumbered each (region ∷ regions) = rw (each region.place, pieces_of-renumbered each regions) refl
-
-  -- the loose piece in which an s_id lies is the same
-  pub piece_at-renumbered : (each : (place : Place) → piece_number (g place) ≡ piece_number place) (s_id : ℕ) (regions : List Region)
-      → option_map piece_number (place_of s_id (renumbered regions)) ≡ option_map piece_number (place_of s_id regions)
-  piece_at-renumbered each s_id [] = refl
-  piece_at-renumbered each s_id (region ∷ regions) = by_test (lies_in s_id region) (λ e. rw e (ap Some (each region.place))) (λ e. rw e (piece_at-renumbered each s_id regions))
 
 -- numbers that rise
 abbrev pub region_raised : Region → Region

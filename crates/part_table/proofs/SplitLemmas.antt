@@ -1,16 +1,5 @@
 -- A part's region among all: the regions in front of it, and those behind it.
-use Rattle.std.proofs.Common.{◌≡◌, ◌∙◌, refl, sym, ap, subst, ℕ, suc, ◌+◌, ◌<◌, ◌≤◌, List, [], ◌∷◌, ◌++◌, append_assoc, true, false, length, get_or, take, drop, length-append, arith}
-use Rattle.std.specs.Prelude.{Some, None, Option, option_map, position}
-use Rattle.std.specs.List.{AllByRecursion, range_with_len}
-use Rattle.std.proofs.Math.Seq.{split_at}
-use Rattle.std.proofs.lemmas.List.Quantifiers.{position-Some}
-use Rattle.tatp_rows.proofs.OrderedLemmas.{by_test, each-weaker}
-use Rattle.part_table.specs.Region.{is_part, lies_in, part_number, piece_number}
-use Rattle.part_table.specs.Regions.{AreRegions, IsConsecutive, parts_of, pieces_of, place_of}
-use Rattle.part_table.specs.declared.region.Place.{Place}
-use Rattle.part_table.specs.declared.region.Place.TheVariants.{Part, Piece}
-use Rattle.part_table.specs.declared.region.Region.{Region}
-use Rattle.part_table.specs.declared.region.TheConstants.{MOST_PARTS}
+use Rattle.part_table.proofs.Common.{◌≡◌, ◌∙◌, refl, sym, ap, subst, ℕ, suc, ◌+◌, ◌<◌, ◌≤◌, List, [], ◌∷◌, ◌++◌, append_assoc, true, false, length, get_or, take, drop, length-append, arith, Some, position, AllByRecursion, range_with_len, split_at, position-Some, each-weaker, is_part, part_number, piece_number, AreRegions, IsConsecutive, parts_of, pieces_of, Part, Region, MOST_PARTS}
 use Rattle.part_table.proofs.NumberLemmas.{part_place_is}
 use Rattle.part_table.proofs.PlaceLemmas.{blank}
 use Rattle.part_table.proofs.RangeLemmas.{range_split, range_within}
@@ -28,10 +17,6 @@ pieces_of-append (region ∷ front) rest = rw (pieces_of-append front rest) (sym
 pub consecutive_front : (from : ℕ) (front rest others : List Region) → ((at : ℕ) → IsConsecutive at rest → IsConsecutive at others) → IsConsecutive from (front ++ rest) → IsConsecutive from (front ++ others)
 consecutive_front from [] rest others keeps consecutive = keeps from consecutive
 consecutive_front from (region ∷ front) rest others keeps consecutive = (consecutive.0, consecutive.1, consecutive_front region.hi front rest others keeps consecutive.2)
-
-pub place_front : {Y : Type 0} (k : Option Place → Y) (s_id : ℕ) (front rest others : List Region) → k (place_of s_id others) ≡ k (place_of s_id rest) → k (place_of s_id (front ++ others)) ≡ k (place_of s_id (front ++ rest))
-place_front k s_id [] rest others same = same
-place_front k s_id (region ∷ front) rest others same = by_test (lies_in s_id region) (λ e. rw e refl) (λ e. rw e (place_front k s_id front rest others same))
 
 module _ (p : ℕ) (regions : List Region) (are : AreRegions regions) (i : ℕ) (index : position (is_part p) regions ≡ Some i) where
   pub here : (i < length regions) × (is_part p (get_or regions i blank) ≡ true) × ((k : ℕ) → k < i → is_part p (get_or regions k blank) ≡ false)
@@ -86,12 +71,3 @@ module _ (p : ℕ) (regions : List Region) (are : AreRegions regions) (i : ℕ) 
 
   pub all_pieces : pieces_of regions ≡ pieces_of (take i regions) ++ pieces_of (drop (i + 1) regions)
   all_pieces = ap pieces_of split ∙ pieces_of-append (take i regions) _ ∙ rw own_place refl
-
--- an s_id lies in the same loose piece
-pub same_piece : (one two : Option Place) (n : ℕ) → option_map piece_number one ≡ option_map piece_number two → one ≡ Some (Piece n) → two ≡ Some (Piece n)
-same_piece one None n same is = let clash : Some (n ∷ []) ≡ None = sym (ap (option_map piece_number) is) ∙ same in absurd cc
-same_piece one (Some (Part p)) n same is = let clash : Some (n ∷ []) ≡ Some [] = sym (ap (option_map piece_number) is) ∙ same in absurd cc
-same_piece one (Some (Piece m)) n same is =
-    let told : Some (n ∷ []) ≡ Some (m ∷ []) = sym (ap (option_map piece_number) is) ∙ same in
-    let number : n ≡ m = cc in
-    ap (λ k. Some (Piece k)) (sym number)

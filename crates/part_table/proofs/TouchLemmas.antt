@@ -1,19 +1,5 @@
 -- A piece and a part touch where they are neighbours among the regions.
-use Rattle.std.proofs.Common.{◌≡◌, ◌∙◌, refl, sym, ap, ℕ, ◌<◌, ◌≤◌, List, [], ◌∷◌, ◌++◌, Bool, true, false, length, arith}
-use Rattle.std.specs.Prelude.{Some, None, Ok, Option, ◌==◌, find}
-use Rattle.std.specs.List.{IsDistinct, list_any}
-use Rattle.std.specs.Option.{ok_or, option_or}
-use Rattle.std.proofs.lemmas.Bool.Decides.{nat_tests}
-use Rattle.std.proofs.lemmas.Map.Keys.{IsDistinct-head, IsDistinct-tail}
-use Rattle.tatp_rows.proofs.OrderedLemmas.{by_test}
-use Rattle.part_table.specs.Region.{is_part, is_piece, is_part_place, is_piece_place, part_number, piece_number}
-use Rattle.part_table.specs.Regions.{AreRegions, IsConsecutive, parts_of, pieces_of}
-use Rattle.part_table.specs.Take.{side_between, touching, answer_of_both, take_answer}
-use Rattle.part_table.specs.declared.region.Place.{Place}
-use Rattle.part_table.specs.declared.region.Place.TheVariants.{Part, Piece}
-use Rattle.part_table.specs.declared.region.Region.{Region}
-use Rattle.part_table.specs.declared.region.Side.{Side}
-use Rattle.tatp_rows.specs.declared.refusal.Refusal.TheVariants.{NotAdjacent}
+use Rattle.part_table.proofs.Common.{◌≡◌, ◌∙◌, refl, sym, ap, ℕ, ◌<◌, ◌≤◌, List, [], ◌∷◌, ◌++◌, Bool, true, false, length, arith, Some, None, Ok, Option, ◌==◌, find, IsDistinct, list_any, ok_or, option_or, nat_tests, IsDistinct-head, IsDistinct-tail, by_test, is_part, is_piece, is_part_place, is_piece_place, part_number, piece_number, AreRegions, IsConsecutive, parts_of, pieces_of, side_between, touching, answer_of_both, take_answer, Place, Part, Piece, Region, Side, NotAdjacent}
 use Rattle.part_table.proofs.NumberLemmas.{part_place_is, piece_place_is, any_piece, any_part, none_among, range_distinct}
 
 -- the side of a part on which a piece lies, where two neighbours among a region and those behind it are the two

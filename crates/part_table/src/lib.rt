@@ -1,6 +1,6 @@
 //! Who has which s_ids: the regions of parts and loose pieces, how gives, takes, divides, dissolves and re-cuts change
-//! them, and which bounds would give each part about its share of the rows. A call looks at up to 32 regions and takes
-//! no memory. A list of regions knows no rows: whoever changes it has to move them too.
+//! them, and which bounds would give each part about its share of the rows. A call looks at up to 32 regions or weights
+//! and takes no memory. A list of regions knows no rows: whoever changes it has to move them too.
 #![tactic(auto)]
 
 mod bounds;

@@ -1,23 +1,10 @@
 -- The counts of active forwardings, where another row is put in a facility's place.
-use Rattle.std.proofs.Common.{◌≡◌, ◌≢◌, refl, ◌∙◌, ap, subst, ℕ, ◌+◌, ◌<◌, arith, Bool, true, false, List, [], ◌∷◌, Some, if◌then◌else◌}
-use Rattle.std.specs.Prelude.{ℤ, pos, ◌+ℤ◌, ◌==◌, ◌&&◌, not, ⊤, count_by}
-use Rattle.std.specs.List.{AllByRecursion, sum_by}
-use Rattle.std.proofs.lemmas.Bool.Decides.{nat_tests}
-use Rattle.tatp_rows.proofs.OrderedLemmas.{by_test, sums_agree, sum_by-with_row_at, row_at-with_row_at_same, row_at-with_row_at_other, count_of_none}
-use Rattle.tatp_rows.specs.Keys.{key_of, facility_key}
-use Rattle.tatp_rows.specs.Ordered.{row_at, with_row_at}
-use Rattle.tatp_rows.specs.Rows.{SpecialFacilityRow, CallForwardingRow}
-use Rattle.tatp_rows.specs.Zones.{zone_of}
-use Rattle.tatp_actions.specs.Book.{Book, IsBook, facility_at, has_active, forwarding_at, put_facility}
-use Rattle.tatp_actions.specs.Cell.{covers, active_forwardings, in_zone, has_active_facility}
-use Rattle.tatp_actions.specs.Change.{IsChange}
-use Rattle.tatp_actions.specs.Inside.{AreHours, covering, span_amount, signed, until}
-use Rattle.tatp_actions.specs.declared.change.Spans.{Spans}
+use Rattle.tatp_actions.proofs.Common.{◌≡◌, ◌≢◌, refl, ◌∙◌, ap, subst, ℕ, ◌+◌, ◌<◌, arith, Bool, true, false, List, [], ◌∷◌, Some, if◌then◌else◌, ℤ, pos, ◌+ℤ◌, ◌==◌, ◌&&◌, not, ⊤, count_by, AllByRecursion, sum_by, nat_tests, by_test, sums_agree, sum_by-with_row_at, row_at-with_row_at_same, row_at-with_row_at_other, count_of_none, key_of, facility_key, row_at, with_row_at, SpecialFacilityRow, CallForwardingRow, zone_of, Book, IsBook, facility_at, has_active, forwarding_at, put_facility, covers, has_active_facility, IsChange, AreHours, covering, span_amount, signed, until, Spans, FIRST_AREA, FIRST_ZONE}
+use Rattle.tatp_actions.specs.Cell.{active_forwardings, in_zone}
 use Rattle.tatp_actions.proofs.ChangeLemmas.{one, moved_by, not_moved}
 use Rattle.tatp_actions.proofs.CellLemmas.{change_by_kinds, area-facilities}
 use Rattle.tatp_actions.proofs.CoverLemmas.{is_of, all_that_cover}
 use Rattle.tatp_actions.proofs.HourLemmas.{hours_moved-low, hours_moved-high}
-use Rattle.tatp_actions.specs.declared.cells.TheConstants.{FIRST_AREA, FIRST_ZONE}
 
 -- tests of a row that count alike on both sides
 crosswise : (here x y : Bool) → one (here && y) + one (x && here) ≡ one (here && x) + one (y && here)

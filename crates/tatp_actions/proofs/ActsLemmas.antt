@@ -1,25 +1,6 @@
 -- What each action does to a part, from what its calls by keys do.
-use Rattle.std.proofs.Common.{◌≡◌, refl, sym, ap, ℕ, ◌+◌, ◌<◌, ◌≤◌, arith, rules, Bool, true, false, List, [], Option, Some, None, Result, Ok, Err, IsErr, IsErrAnd, nat_le, inl, inr, if◌then◌else◌}
-use Rattle.std.specs.Prelude.{ℤ, is_some}
-use Rattle.std.proofs.lemmas.Bool.Decides.{nat_tests}
-use Rattle.std.proofs.lemmas.Int.{ints}
-use Rattle.tatp_rows.proofs.OrderedLemmas.{each_found}
-use Rattle.tatp_rows.proofs.RowLemmas.{both_from, subscriber_ranges}
-use Rattle.tatp_rows.specs.Keys.{key_of, subscriber_key}
-use Rattle.tatp_rows.specs.Rows.{SubscriberRow, is_between, subscriber_in_range}
-use Rattle.tatp_rows.specs.Zones.{area_of}
-use Rattle.tatp_rows.specs.declared.ranges.TheConstants.{LAST_SUBSCRIBER}
-use Rattle.tatp_rows.specs.declared.refusal.Refusal.{Refusal}
+use Rattle.tatp_actions.proofs.Common.{◌≡◌, refl, sym, ap, ℕ, ◌+◌, ◌<◌, ◌≤◌, arith, rules, Bool, true, false, List, [], Option, Some, None, Result, Ok, Err, IsErr, IsErrAnd, nat_le, inl, inr, if◌then◌else◌, ℤ, is_some, nat_tests, ints, each_found, both_from, subscriber_ranges, key_of, subscriber_key, SubscriberRow, is_between, subscriber_in_range, area_of, LAST_SUBSCRIBER, Refusal, IsOutcome, effect, is_in_range, is_typed, adds_row, Book, IsBook, IsWithin, subscriber_at, IsChange, Heights, PartState, IsPart, Acts, once_more, Action, RowReply}
 use Rattle.tatp_rows.specs.declared.refusal.Refusal.TheVariants as refusal
-use Rattle.tatp_actions.specs.Action.{IsOutcome, effect, is_in_range, is_typed, adds_row}
-use Rattle.tatp_actions.specs.Book.{Book, IsBook, IsWithin, subscriber_at}
-use Rattle.tatp_actions.specs.Change.{IsChange}
-use Rattle.tatp_actions.specs.Heights.{Heights}
-use Rattle.tatp_actions.specs.Part.{PartState, IsPart}
-use Rattle.tatp_actions.specs.Edit.{Acts}
-use Rattle.tatp_actions.specs.Tables.{once_more}
-use Rattle.tatp_actions.specs.declared.action.Action.{Action}
-use Rattle.tatp_actions.specs.declared.action.RowReply.{RowReply}
 use Rattle.tatp_actions.specs.declared.action.RowReply.TheVariants as reply
 
 -- no notes change nothing

@@ -1,25 +1,7 @@
 -- What the administrative actions do to a part.
-use Rattle.std.proofs.Common.{◌≡◌, refl, sym, ◌∙◌, ap, subst, ℕ, ◌<◌, ◌≤◌, ◌+◌, arith, Bool, true, false, List, [], Option, Some, None, IfSome, if◌then◌else◌}
-use Rattle.std.specs.Prelude.{ℤ, ◌==◌, not, is_some}
-use Rattle.std.proofs.lemmas.Bool.Decides.{nat_tests}
+use Rattle.tatp_actions.proofs.Common.{◌≡◌, refl, sym, ◌∙◌, ap, subst, ℕ, ◌<◌, ◌≤◌, ◌+◌, arith, Bool, true, false, List, [], Option, Some, None, IfSome, if◌then◌else◌, ℤ, ◌==◌, not, is_some, nat_tests, by_test, each_found, with_row_at_same, both_from, between_is, between_from, number_test, subscriber_ranges, facility_ranges, key_of, facility_key, SubscriberRow, AccessInfoRow, SpecialFacilityRow, is_between, subscriber_in_range, access_in_range, facility_in_range, zone_of, area_of, is_in_range, Book, IsWithin, subscriber_at, access_at, facility_at, forwarding_at, put_subscriber, put_facility, more_subscribers, more_access, more_facilities, IsChange, PartState, IsPart, Acts, subscriber_added, row_moved, AreHours, span_amount, until, asked_once, changed_once, changed_to, subscriber_revised, facility_revised, once_more, AddSubscriber, AddAccess, AddFacility, SetActive, SetNumber, FIRST_AREA, Spans, SwapActive}
 use mathlib.Core.Bool.{beq}
-use Rattle.tatp_rows.proofs.OrderedLemmas.{by_test, each_found, with_row_at_same}
-use Rattle.tatp_rows.proofs.RowLemmas.{both_from, between_is, between_from, number_test, subscriber_ranges, facility_ranges}
-use Rattle.tatp_rows.specs.Keys.{key_of, facility_key}
-use Rattle.tatp_rows.specs.Rows.{SubscriberRow, AccessInfoRow, SpecialFacilityRow, is_between, subscriber_in_range, access_in_range, facility_in_range}
-use Rattle.tatp_rows.specs.Zones.{zone_of, area_of}
-use Rattle.tatp_actions.specs.Action.{is_in_range}
-use Rattle.tatp_actions.specs.Book.{Book, IsWithin, subscriber_at, access_at, facility_at, forwarding_at, put_subscriber, put_facility, more_subscribers, more_access, more_facilities}
-use Rattle.tatp_actions.specs.Change.{IsChange}
-use Rattle.tatp_actions.specs.Part.{PartState, IsPart}
-use Rattle.tatp_actions.specs.Edit.{Acts}
-use Rattle.tatp_actions.specs.Inside.{subscriber_added, row_moved, AreHours, span_amount, until, asked_once, changed_once, changed_to, subscriber_revised, facility_revised}
-use Rattle.tatp_actions.specs.Tables.{once_more}
-use Rattle.tatp_actions.specs.declared.action.Action.TheVariants.{AddSubscriber, AddAccess, AddFacility, SetActive, SetNumber}
 use Rattle.tatp_actions.specs.declared.action.RowReply.TheVariants as reply
-use Rattle.tatp_actions.specs.declared.cells.TheConstants.{FIRST_AREA}
-use Rattle.tatp_actions.specs.declared.change.Spans.{Spans}
-use Rattle.tatp_actions.specs.declared.revisions.SwapActive.{SwapActive}
 use Rattle.tatp_actions.proofs.ActsLemmas.{acts_done, no_change, few_1, few_2, few_3, is_subscriber, is_typed_from, none_from, area_below, area_found}
 use Rattle.tatp_actions.proofs.BookLemmas.{facility_found}
 use Rattle.tatp_actions.proofs.ActiveLemmas.{change_of_switch}

@@ -1,15 +1,6 @@
 -- The rows of a range, where all rows belong to it.
-use Rattle.std.proofs.Common.{◌≡◌, ◌∙◌, refl, sym, ap, ℕ, ◌≤◌, ◌&&◌, arith, Bool, true, false}
-use Rattle.std.specs.Prelude.{nat_le, nat_lt}
-use Rattle.std.proofs.lemmas.Bool.Decides.{nat_tests}
-use Rattle.tatp_rows.proofs.OrderedLemmas.{each-weaker, filter_all, filter_none}
-use Rattle.tatp_rows.proofs.RowLemmas.{both_from}
-use Rattle.tatp_rows.specs.Rows.{SubscriberRow, AccessInfoRow, SpecialFacilityRow, CallForwardingRow}
-use Rattle.tatp_actions.specs.Book.{Book, IsRowsOf, IsWithin, is_within, rows_between, empty_book}
-use Rattle.tatp_actions.specs.Joined.{join_books, cut_low, cut_high}
+use Rattle.tatp_actions.proofs.Common.{◌≡◌, ◌∙◌, refl, sym, ap, ℕ, ◌≤◌, ◌&&◌, arith, Bool, true, false, nat_le, nat_lt, nat_tests, each-weaker, filter_all, filter_none, both_from, SubscriberRow, AccessInfoRow, SpecialFacilityRow, CallForwardingRow, Book, IsRowsOf, IsWithin, is_within, rows_between, empty_book, join_books, cut_low, cut_high, filter-append, append-nil}
 use Rattle.tatp_actions.proofs.CutLemmas.{same_tables, cut_joined, cut_low_rows, cut_high_rows}
-use Rattle.std.proofs.lemmas.List.Elements.{filter-append}
-use Rattle.std.proofs.lemmas.List.{append-nil}
 
 -- the test of a range
 pub within_test : (lo hi s_id : ℕ) → IsWithin lo hi s_id → is_within lo hi s_id ≡ true

@@ -1,13 +1,5 @@
 -- The rules of a book after an edit of one of its tables.
-use Rattle.std.proofs.Common.{◌≡◌, ℕ, ◌<◌, refl, arith, true, List, Option, Some, None, IsSome, subst}
-use Rattle.std.specs.List.{AllByRecursion}
-use Rattle.tatp_rows.proofs.OrderedLemmas.{key_found, each_found, each-weaker, each-with_row_at, each-with_row_at_same, each-with_row, each-without_row, each_both, ordered-with_row_at, ordered-with_row, ordered-without_row, still_found-with_row_at, still_found-with_row}
-use Rattle.tatp_rows.proofs.KeyLemmas.{key_parts}
-use Rattle.tatp_rows.proofs.RowLemmas.{facility_type, forwarding_type, forwarding_ranges}
-use Rattle.tatp_rows.specs.Keys.{key_of, subscriber_key, access_key, facility_key, forwarding_key}
-use Rattle.tatp_rows.specs.Ordered.{IsOrderedBy, row_at, with_row}
-use Rattle.tatp_rows.specs.Rows.{SubscriberRow, AccessInfoRow, SpecialFacilityRow, CallForwardingRow, subscriber_in_range, access_in_range, facility_in_range, forwarding_in_range}
-use Rattle.tatp_actions.specs.Book.{Book, IsBook, IsRowsOf, IsWithin, subscriber_at, access_at, facility_at, forwarding_at, put_subscriber, put_facility, more_access, more_facilities, more_forwardings, without_forwarding}
+use Rattle.tatp_actions.proofs.Common.{◌≡◌, ℕ, ◌<◌, refl, arith, true, List, Option, Some, None, IsSome, subst, AllByRecursion, key_found, each_found, each-weaker, each-with_row_at, each-with_row_at_same, each-with_row, each-without_row, each_both, ordered-with_row_at, ordered-with_row, ordered-without_row, still_found-with_row_at, still_found-with_row, key_parts, facility_type, forwarding_type, forwarding_ranges, key_of, subscriber_key, access_key, facility_key, forwarding_key, IsOrderedBy, row_at, with_row, SubscriberRow, AccessInfoRow, SpecialFacilityRow, CallForwardingRow, subscriber_in_range, access_in_range, facility_in_range, forwarding_in_range, Book, IsBook, IsRowsOf, IsWithin, subscriber_at, access_at, facility_at, forwarding_at, put_subscriber, put_facility, more_access, more_facilities, more_forwardings, without_forwarding}
 
 -- a book with other subscribers keeps the rules, where those of the subscribers hold and each that was found is found
 pub rules_of_subscribers : (lo hi : ℕ) (book : Book) (rows : List SubscriberRow) → IsRowsOf lo hi book

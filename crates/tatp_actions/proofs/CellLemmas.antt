@@ -1,21 +1,8 @@
 -- The counts of the cells after an edit of a table.
-use Rattle.std.proofs.Common.{◌≡◌, ◌≢◌, ℕ, ◌+◌, ◌-◌, ◌<◌, ◌==◌, ◌&&◌, refl, arith, Bool, true, false, List, [], nat_lt, Some, None, IsSome, subst}
-use Rattle.std.specs.Prelude.{ℤ, pos, ◌+ℤ◌, count_by}
-use Rattle.std.proofs.lemmas.Bool.Decides.{nat_tests}
-use Rattle.std.proofs.lemmas.Int.{ints}
-use Rattle.std.specs.List.{sum_by}
-use Rattle.tatp_rows.proofs.OrderedLemmas.{by_test, each-weaker, sum_by-same, sum_by-with_row_at, sum_by-with_row, sum_by-without_row, row_at-with_row_other}
-use Rattle.tatp_rows.specs.Keys.{key_of, subscriber_key, access_key, facility_key, forwarding_key}
-use Rattle.tatp_rows.specs.Ordered.{row_at, with_row_at, with_row, without_row}
-use Rattle.tatp_rows.specs.Rows.{SubscriberRow, AccessInfoRow, SpecialFacilityRow, CallForwardingRow}
-use Rattle.tatp_rows.specs.Zones.{zone_of, area_of}
-use Rattle.tatp_actions.specs.Book.{Book, IsBook, subscriber_at, facility_at, forwarding_at, put_subscriber, more_access, more_facilities, more_forwardings, without_forwarding}
-use Rattle.tatp_actions.specs.Cell.{covers, active_forwardings, in_area, in_zone, has_active_facility}
-use Rattle.tatp_actions.specs.Change.{change_at, IsChange}
-use Rattle.tatp_actions.specs.Inside.{area_moved, subscriber_added, row_moved, AreForwardingNotes}
+use Rattle.tatp_actions.proofs.Common.{◌≡◌, ◌≢◌, ℕ, ◌+◌, ◌-◌, ◌<◌, ◌==◌, ◌&&◌, refl, arith, Bool, true, false, List, [], nat_lt, Some, None, IsSome, subst, ℤ, pos, ◌+ℤ◌, count_by, nat_tests, ints, sum_by, by_test, each-weaker, sum_by-same, sum_by-with_row_at, sum_by-with_row, sum_by-without_row, row_at-with_row_other, key_of, subscriber_key, access_key, facility_key, forwarding_key, row_at, with_row_at, with_row, without_row, SubscriberRow, AccessInfoRow, SpecialFacilityRow, CallForwardingRow, zone_of, area_of, Book, IsBook, subscriber_at, facility_at, forwarding_at, put_subscriber, more_access, more_facilities, more_forwardings, without_forwarding, covers, has_active_facility, change_at, IsChange, area_moved, subscriber_added, row_moved, AreForwardingNotes, FIRST_AREA, FIRST_ZONE}
+use Rattle.tatp_actions.specs.Cell.{active_forwardings, in_area, in_zone}
 use Rattle.tatp_actions.proofs.HourLemmas.{forwarding_notes-hour, forwarding_notes-area, forwarding_notes-zone}
 use Rattle.tatp_actions.proofs.ChangeLemmas.{Moved, moved_by_one, not_moved, row_moved-low, row_moved-zone, one, area_moved-low, area_moved-area, area_moved-zone, subscriber_added-low, subscriber_added-area, subscriber_added-zone}
-use Rattle.tatp_actions.specs.declared.cells.TheConstants.{FIRST_AREA, FIRST_ZONE}
 
 -- how many of the subscribers are in an area, and in a zone
 abbrev pub area_count : ℕ → List SubscriberRow → ℕ

@@ -1,12 +1,5 @@
 -- What the notes of a change say of each cell.
-use Rattle.std.proofs.Common.{◌≡◌, ℕ, ◌+◌, ◌<◌, ◌==◌, refl, arith, Bool, true, false, List, [], ◌∷◌, ◌++◌, if◌then◌else◌, subst}
-use Rattle.std.specs.Prelude.{ℤ, pos, negsuc, ◌+ℤ◌}
-use Rattle.std.proofs.lemmas.Bool.Decides.{nat_tests}
-use Rattle.std.proofs.lemmas.Int.{ints}
-use Rattle.tatp_rows.proofs.OrderedLemmas.{by_test}
-use Rattle.tatp_actions.specs.Change.{change_at}
-use Rattle.tatp_actions.specs.Inside.{area_moved, subscriber_added, signed, row_moved}
-use Rattle.tatp_actions.specs.declared.cells.TheConstants.{FIRST_AREA, FIRST_ZONE}
+use Rattle.tatp_actions.proofs.Common.{◌≡◌, ℕ, ◌+◌, ◌<◌, ◌==◌, refl, arith, Bool, true, false, List, [], ◌∷◌, ◌++◌, if◌then◌else◌, subst, ℤ, pos, negsuc, ◌+ℤ◌, nat_tests, ints, by_test, change_at, area_moved, subscriber_added, signed, row_moved, FIRST_AREA, FIRST_ZONE}
 
 -- one for a test that holds, and none for one that doesn't
 abbrev pub one : Bool → ℕ

@@ -1,19 +1,6 @@
 -- A subscriber has at most 21 rows, so no cell counts more than a weight can be.
-use Rattle.std.proofs.Common.{◌≡◌, ℕ, ◌+◌, ◌-◌, ◌*◌, ◌/◌, ◌^◌, ◌<◌, ◌≤◌, ◌==◌, ◌&&◌, arith, true, List, [], ◌∷◌, length, nat_lt}
-use Rattle.std.specs.Prelude.{◌⊎◌}
-use Rattle.std.specs.List.{AllByRecursion}
-use Rattle.std.proofs.lemmas.List.Sums.{count_by-le-length}
-use Rattle.tatp_rows.proofs.OrderedLemmas.{by_test, each-weaker, each_from_two, length-ordered}
-use Rattle.tatp_rows.proofs.RowLemmas.{subscriber_ranges, access_s_id, access_type, facility_s_id, facility_type, forwarding_s_id, forwarding_type, forwarding_ranges}
-use Rattle.tatp_rows.specs.Keys.{subscriber_key, access_key, facility_key, forwarding_key}
-use Rattle.tatp_rows.specs.Ordered.{IsOrderedBy}
-use Rattle.tatp_rows.specs.Rows.{SubscriberRow, AccessInfoRow, SpecialFacilityRow, CallForwardingRow, subscriber_in_range, access_in_range, facility_in_range, forwarding_in_range}
-use Rattle.tatp_rows.specs.Zones.{zone_of, area_of}
-use Rattle.tatp_actions.specs.Book.{Book, IsBook, IsRowsOf}
-use Rattle.tatp_actions.specs.Cell.{cell, covers, active_forwardings, in_area, in_zone, has_active_facility}
-use Rattle.tatp_actions.specs.declared.cells.TheConstants.{FIRST_AREA, FIRST_ZONE}
-use Rattle.tatp_rows.specs.declared.ranges.TheConstants.{LAST_SUBSCRIBER}
-use Rattle.part_table.specs.declared.bounds.TheConstants.{GREATEST_WEIGHT}
+use Rattle.tatp_actions.proofs.Common.{◌≡◌, ℕ, ◌+◌, ◌-◌, ◌*◌, ◌/◌, ◌^◌, ◌<◌, ◌≤◌, ◌==◌, ◌&&◌, arith, true, List, [], ◌∷◌, length, nat_lt, ◌⊎◌, AllByRecursion, count_by-le-length, by_test, each-weaker, each_from_two, length-ordered, subscriber_ranges, access_s_id, access_type, facility_s_id, facility_type, forwarding_s_id, forwarding_type, forwarding_ranges, subscriber_key, access_key, facility_key, forwarding_key, IsOrderedBy, SubscriberRow, AccessInfoRow, SpecialFacilityRow, CallForwardingRow, subscriber_in_range, access_in_range, facility_in_range, forwarding_in_range, zone_of, area_of, Book, IsBook, IsRowsOf, cell, covers, has_active_facility, FIRST_AREA, FIRST_ZONE, LAST_SUBSCRIBER, GREATEST_WEIGHT}
+use Rattle.tatp_actions.specs.Cell.{active_forwardings, in_area, in_zone}
 
 -- a list that is ordered by key is ordered by each number that rises with the key
 ordered_by_other : {X : Type 0} (P : X → Type 0) (key other : X → ℕ) → ((x y : X) → P x → P y → key x < key y → other x < other y) → (xs : List X) → AllByRecursion P xs → IsOrderedBy key xs → IsOrderedBy other xs

@@ -1,18 +1,5 @@
 -- How a walk over rows counts them in a cell.
-use Rattle.std.proofs.Common.{◌≡◌, ◌≢◌, refl, sym, ◌∙◌, ap, subst, ℕ, zero, suc, ◌+◌, ◌-◌, ◌<◌, ◌≤◌, ◌==◌, ◌&&◌, arith, true, false, Bool, List, [], ◌∷◌, length, get_or, nat_le, nat_lt, Bor, MutBor, if◌then◌else◌}
-use Rattle.std.specs.Prelude.{⊤}
-use Rattle.std.specs.List.{sum_by}
-use Rattle.std.proofs.lemmas.List.{get_or-set_same, get_or-set_other, length-set}
-use Rattle.std.proofs.lemmas.List.Sums.{sum_by-cons}
-use Rattle.std.proofs.lemmas.Bool.Decides.{nat_tests}
-use Rattle.mr_node.specs.Folds.{WalksRows}
-use Rattle.tatp_rows.specs.Rows.{SubscriberRow, SpecialFacilityRow, CallForwardingRow, forwarding_in_range}
-use Rattle.tatp_rows.specs.Zones.{zone_of, area_of}
-use Rattle.tatp_rows.proofs.OrderedLemmas.{by_test}
-use Rattle.tatp_rows.proofs.RowLemmas.{forwarding_ranges}
-use Rattle.tatp_actions.specs.Cell.{covers}
-use Rattle.tatp_actions.specs.Recount.{Tallied, one_more_in, one_more_from, with_row_of, with_subscriber, with_forwarding}
-use Rattle.tatp_actions.specs.declared.cells.TheConstants.{FIRST_AREA, FIRST_ZONE}
+use Rattle.tatp_actions.proofs.Common.{◌≡◌, ◌≢◌, refl, sym, ◌∙◌, ap, subst, ℕ, zero, suc, ◌+◌, ◌-◌, ◌<◌, ◌≤◌, ◌==◌, ◌&&◌, arith, true, false, Bool, List, [], ◌∷◌, length, get_or, nat_le, nat_lt, Bor, MutBor, if◌then◌else◌, ⊤, sum_by, get_or-set_same, get_or-set_other, length-set, sum_by-cons, nat_tests, WalksRows, SubscriberRow, SpecialFacilityRow, CallForwardingRow, forwarding_in_range, zone_of, area_of, by_test, forwarding_ranges, covers, Tallied, one_more_in, one_more_from, with_row_of, with_subscriber, with_forwarding, FIRST_AREA, FIRST_ZONE}
 
 -- what a row of a subscriber counts in a cell by its zone
 abbrev pub zone_in : ℕ → ℕ → ℕ → ℕ

@@ -1,19 +1,5 @@
 -- How many forwardings of a facility cover an hour: counted over the rows, and by those that are found by key.
-use Rattle.std.proofs.Common.{◌≡◌, ◌≢◌, refl, ◌∙◌, ap, ℕ, ◌+◌, ◌<◌, ◌==◌, ◌&&◌, nat_le, nat_lt, arith, Bool, true, false, List, [], ◌∷◌, Option, Some, None, inl, inr, if◌then◌else◌}
-use Rattle.std.specs.Prelude.{count_by, ◌⊎◌}
-use Rattle.std.specs.List.{AllByRecursion, sum_by}
-use Rattle.std.specs.Option.{option_map_or}
-use Rattle.std.proofs.lemmas.Bool.Decides.{nat_tests}
-use Rattle.std.proofs.lemmas.List.Sums.{sum_by-cons}
-use Rattle.tatp_rows.proofs.OrderedLemmas.{by_test, absent_below, each-weaker}
-use Rattle.tatp_rows.proofs.RowLemmas.{forwarding_ranges}
-use Rattle.tatp_rows.specs.Keys.{key_of, forwarding_key}
-use Rattle.tatp_rows.specs.Ordered.{IsOrderedBy, row_at}
-use Rattle.tatp_rows.specs.Rows.{CallForwardingRow, forwarding_in_range}
-use Rattle.tatp_actions.specs.Book.{Book, IsBook, forwarding_at}
-use Rattle.tatp_actions.specs.Cell.{covers}
-use Rattle.tatp_actions.specs.Inside.{in_span, covering, until}
-use Rattle.tatp_actions.specs.declared.change.Spans.{Spans}
+use Rattle.tatp_actions.proofs.Common.{◌≡◌, ◌≢◌, refl, ◌∙◌, ap, ℕ, ◌+◌, ◌<◌, ◌==◌, ◌&&◌, nat_le, nat_lt, arith, Bool, true, false, List, [], ◌∷◌, Option, Some, None, inl, inr, if◌then◌else◌, count_by, ◌⊎◌, AllByRecursion, sum_by, option_map_or, nat_tests, sum_by-cons, by_test, absent_below, each-weaker, forwarding_ranges, key_of, forwarding_key, IsOrderedBy, row_at, CallForwardingRow, forwarding_in_range, Book, IsBook, forwarding_at, covers, in_span, covering, until, Spans}
 use Rattle.tatp_actions.proofs.BookLemmas.{forwarding_found}
 use Rattle.tatp_actions.proofs.ChangeLemmas.{one}
 

@@ -1,11 +1,10 @@
 -- The rows of a part may go to another thread.
 use denote.Param.Send.{IsSend, sendable}
-use Rattle.mr_subtree.proofs.CrossingLemmas.{tree_send}
+use Rattle.tatp_actions.proofs.Common.{tree_send, the_row}
 use Rattle.tatp_rows.proofs.access.Access.TheSendSync.{the_send as access_send}
 use Rattle.tatp_rows.proofs.facility.Facility.TheSendSync.{the_send as facility_send}
 use Rattle.tatp_rows.proofs.forwarding.Forwarding.TheSendSync.{the_send as forwarding_send}
 use Rattle.tatp_rows.proofs.subscriber.Subscriber.TheSendSync.{the_send as subscriber_send}
-use Rattle.tatp_actions.specs.contracts.trees.Trees.{the_row}
 
 pub trees_send : IsSend the_row
 trees_send =

@@ -1,16 +1,5 @@
 -- A book cut between two subscribers: its two halves, and the counts of each.
-use Rattle.std.proofs.Common.{◌≡◌, ◌∙◌, sym, ap, subst, ℕ, ◌+◌, ◌*◌, ◌<◌, ◌≤◌, arith, true, List, IsSome}
-use Rattle.std.specs.List.{AllByRecursion}
-use Rattle.tatp_rows.proofs.AppendLemmas.{each-left, each-right, ordered-left, ordered-right}
-use Rattle.tatp_rows.proofs.HalfLemmas.{below_each, from_each, halves_joined}
-use Rattle.tatp_rows.proofs.KeyLemmas.{key_below_is, key_from_is}
-use Rattle.tatp_rows.proofs.OrderedLemmas.{each-weaker, each_from_two, each_both}
-use Rattle.tatp_rows.proofs.RowLemmas.{access_type, facility_type, forwarding_type, forwarding_ranges}
-use Rattle.tatp_rows.specs.Keys.{subscriber_key, access_key, facility_key, forwarding_key}
-use Rattle.tatp_rows.specs.Rows.{SubscriberRow, AccessInfoRow, SpecialFacilityRow, CallForwardingRow, subscriber_in_range, access_in_range, facility_in_range, forwarding_in_range}
-use Rattle.tatp_actions.specs.Book.{Book, IsBook, IsRowsOf, IsWithin, subscriber_at, facility_at}
-use Rattle.tatp_actions.specs.Cell.{cell}
-use Rattle.tatp_actions.specs.Joined.{join_books, cut_low, cut_high}
+use Rattle.tatp_actions.proofs.Common.{◌≡◌, ◌∙◌, sym, ap, subst, ℕ, ◌+◌, ◌*◌, ◌<◌, ◌≤◌, arith, true, List, IsSome, AllByRecursion, each-left, each-right, ordered-left, ordered-right, below_each, from_each, halves_joined, key_below_is, key_from_is, each-weaker, each_from_two, each_both, access_type, facility_type, forwarding_type, forwarding_ranges, subscriber_key, access_key, facility_key, forwarding_key, SubscriberRow, AccessInfoRow, SpecialFacilityRow, CallForwardingRow, subscriber_in_range, access_in_range, facility_in_range, forwarding_in_range, Book, IsBook, IsRowsOf, IsWithin, subscriber_at, facility_at, cell, join_books, cut_low, cut_high}
 use Rattle.tatp_actions.proofs.JoinedLemmas.{cell_joined}
 use Rattle.tatp_actions.proofs.LocalLemmas.{Apart, subscriber-low, subscriber-high, facility-low, facility-high}
 

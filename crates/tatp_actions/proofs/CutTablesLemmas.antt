@@ -1,27 +1,5 @@
 -- Stored tables that are cut or joined: which books they are, and the rules of their parts.
-use Rattle.std.proofs.Common.{◌≡◌, ◌∙◌, refl, sym, ap, subst, ℕ, ◌*◌, ◌<◌, ◌≤◌, ◌==◌, arith, Bool, true, false, List, [], ◌∷◌, ◌++◌, length, nat_lt}
-use Rattle.std.specs.Prelude.{nat_le}
-use Rattle.std.specs.Int.{abs_diff}
-use Rattle.std.specs.List.{AllByRecursion, filter}
-use Rattle.std.proofs.lemmas.Bool.Decides.{nat_tests}
-use Rattle.std.proofs.lemmas.List.{length-map, map-append}
-use Rattle.mr_cut.specs.Cuts.{rows_below, rows_from, AreApart}
-use Rattle.mr_subtree.specs.Trees.{IsHeightOf}
-use Rattle.part_table.specs.declared.region.Side.TheVariants.{Low, High}
-use Rattle.tatp_rows.proofs.AppendLemmas.{each-append}
-use Rattle.tatp_rows.proofs.MapLemmas.{each-unmap}
-use Rattle.tatp_rows.proofs.OrderedLemmas.{by_test, each_from_two}
-use Rattle.tatp_rows.specs.Keys.{key_of, subscriber_key, access_key, facility_key, forwarding_key}
-use Rattle.tatp_rows.specs.Rows.{SubscriberRow, AccessInfoRow, SpecialFacilityRow, CallForwardingRow}
-use Rattle.tatp_rows.specs.Spans.{AllBelow, AllFrom, keys_below, keys_from}
-use Rattle.tatp_actions.specs.Book.{IsRowsOf, empty_book}
-use Rattle.tatp_actions.specs.Cut.{AreHeightsOf, low_part, high_part, melded, meld_bound, meld_least}
-use Rattle.tatp_actions.specs.CutTables.{TablesApartAt, tables_of, heights_of}
-use Rattle.tatp_actions.specs.Heights.{Heights, zero_heights}
-use Rattle.tatp_actions.specs.Joined.{join_books, cut_low, cut_high}
-use Rattle.tatp_actions.specs.Part.{PartState, IsWidth}
-use Rattle.tatp_actions.specs.Tables.{Tables, AreKeyed, IsKeyed, empty_tables, stored_book, values_of}
-use Rattle.tatp_actions.specs.declared.trees.Trees.{Trees}
+use Rattle.tatp_actions.proofs.Common.{◌≡◌, ◌∙◌, refl, sym, ap, subst, ℕ, ◌*◌, ◌<◌, ◌≤◌, ◌==◌, arith, Bool, true, false, List, [], ◌∷◌, ◌++◌, length, nat_lt, nat_le, AllByRecursion, filter, nat_tests, length-map, map-append, rows_below, rows_from, AreApart, IsHeightOf, Low, High, each-append, each-unmap, by_test, each_from_two, key_of, subscriber_key, access_key, facility_key, forwarding_key, SubscriberRow, AccessInfoRow, SpecialFacilityRow, CallForwardingRow, AllBelow, AllFrom, keys_below, keys_from, IsRowsOf, empty_book, AreHeightsOf, low_part, high_part, melded, TablesApartAt, tables_of, heights_of, Heights, zero_heights, join_books, cut_low, cut_high, PartState, IsWidth, Tables, AreKeyed, IsKeyed, empty_tables, stored_book, values_of, Trees}
 use Rattle.tatp_actions.proofs.CutLemmas.{same_tables, cut_low_rows, cut_high_rows}
 use Rattle.tatp_actions.proofs.JoinedLemmas.{rows_joined}
 use Rattle.tatp_actions.proofs.LocalLemmas.{apart}
@@ -281,16 +259,6 @@ module _ {h : Heights} (tables none : Tables) (asked lo hi width steps : ℕ) wh
     record { range = holds.0.range; width = holds.0.width; rows = no_rows lo hi },
     record { subscribers = tt; access = tt; facilities = tt; forwardings = tt },
   )
-
--- the steps of a join are bounded alike in either order
-apart_swapped : (a b : ℕ) → abs_diff a b ≡ abs_diff b a
-apart_swapped a b = omega arith
-
-pub bound_swapped : (a b : Heights) → meld_bound a b ≡ meld_bound b a
-bound_swapped a b = rw (apart_swapped a.subscribers b.subscribers, apart_swapped a.access b.access, apart_swapped a.facilities b.facilities, apart_swapped a.forwardings b.forwardings) refl
-
-pub least_swapped : (a b : Heights) → meld_least a b ≡ meld_least b a
-least_swapped a b = rw (apart_swapped a.subscribers b.subscribers, apart_swapped a.access b.access, apart_swapped a.facilities b.facilities, apart_swapped a.forwardings b.forwardings) refl
 
 -- the heights of trees, as those of their tables' book
 pub heights_are : (trees : Trees) → IsHeightOf trees.subscribers.height (length trees.subscribers.rows) → IsHeightOf trees.access.height (length trees.access.rows)

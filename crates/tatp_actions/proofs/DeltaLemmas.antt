@@ -1,16 +1,6 @@
 -- Deltas of all cells, moved by what a change says.
-use Rattle.std.proofs.Common.{◌≡◌, ◌≢◌, ℕ, ◌+◌, ◌<◌, ◌≤◌, ◌==◌, arith, Bool, true, false, ◌&&◌, List, length, set, refl, ◌∙◌, nat_le, nat_lt, max, subst, inl, inr, if◌then◌else◌, FitsSigned, w64, to_z, of_z}
-use Rattle.std.specs.Prelude.{ℤ, pos, ◌+ℤ◌}
-use Rattle.std.proofs.lemmas.Int.{ints, to_z-of_z}
-use Rattle.std.proofs.lemmas.List.{length-set, get_or-set_same, get_or-set_other}
-use Rattle.std.proofs.lemmas.Bool.{cases_lt}
-use Rattle.std.proofs.lemmas.Bool.Decides.{nat_tests}
-use Rattle.tatp_rows.proofs.OrderedLemmas.{by_test}
-use Rattle.tatp_actions.specs.Change.{NotesFit, change_at, delta_at}
-use Rattle.tatp_actions.specs.Inside.{covering, in_span, signed, notes_in, IsCellNote, IsCompact}
+use Rattle.tatp_actions.proofs.Common.{◌≡◌, ◌≢◌, ℕ, ◌+◌, ◌<◌, ◌≤◌, ◌==◌, arith, Bool, true, false, ◌&&◌, List, length, set, refl, ◌∙◌, nat_le, nat_lt, max, subst, inl, inr, if◌then◌else◌, FitsSigned, w64, to_z, of_z, ℤ, pos, ◌+ℤ◌, ints, to_z-of_z, length-set, get_or-set_same, get_or-set_other, cases_lt, nat_tests, by_test, NotesFit, change_at, delta_at, covering, in_span, signed, notes_in, IsCellNote, IsCompact, Note, CELLS, FIRST_AREA}
 use Rattle.tatp_actions.specs.declared.change.Change.TheInside as Change
-use Rattle.tatp_actions.specs.declared.change.Note.{Note}
-use Rattle.tatp_actions.specs.declared.cells.TheConstants.{CELLS, FIRST_AREA}
 use Rattle.tatp_actions.proofs.ChangeLemmas.{note_other, note_same}
 use Rattle.tatp_actions.proofs.HourLemmas.{compact_at, signed_none, none_covers}
 
@@ -28,13 +18,6 @@ no_span up from to c none =
     still : (up : Bool) → signed up 0 ≡ pos 0
     still true = refl
     still false = refl
-
--- before the first hour
-pub none_spanned : (start : List ℤ) (up : Bool) (from : ℕ) → length start ≡ CELLS → AreSpanned start start up from from
-none_spanned start up from wide = record {
-  wide = wide;
-  moved = λ c below. let none = no_span up from from c (omega arith) in omega (arith, ints, none);
-}
 
 -- one hour more
 pub one_spanned : (start deltas : List ℤ) (up : Bool) (from hour : ℕ) (value : ℤ) → from ≤ hour → hour < CELLS → AreSpanned start deltas up from hour → value ≡ delta_at deltas hour +ℤ signed up 1 → AreSpanned start (set deltas hour value) up from (hour + 1)

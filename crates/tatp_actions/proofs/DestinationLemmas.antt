@@ -1,23 +1,6 @@
 -- The numbers that a call is forwarded to, from three questions by key.
-use Rattle.std.proofs.Common.{◌≡◌, refl, sym, ◌∙◌, ap, ℕ, ◌+◌, ◌<◌, ◌≤◌, arith, true, false, List, [], ◌∷◌, ◌++◌, map, length, Option, Some, None, nat_le, nat_lt, inl, inr}
-use Rattle.std.specs.Prelude.{◌&&◌, ◌==◌, ◌⊎◌, if◌then◌else◌}
-use Rattle.std.specs.List.{filter, list_all}
-use Rattle.std.specs.Option.{option_to_list}
-use Rattle.std.proofs.lemmas.Bool.Decides.{nat_tests}
-use Rattle.std.proofs.lemmas.List.{map-append}
-use Rattle.arrayvec.specs.ArrayVec.{ArrayVec, array_vec_len}
-use Rattle.tatp_rows.proofs.FilterLemmas.{kept, kept_of_three}
-use Rattle.tatp_rows.proofs.OrderedLemmas.{by_test, each-weaker, key_found}
-use Rattle.tatp_rows.proofs.RowLemmas.{both, both_from, forwarding_ranges}
-use Rattle.tatp_rows.specs.Keys.{key_of, forwarding_key}
-use Rattle.tatp_rows.specs.Rows.{CallForwardingRow, SpecialFacilityRow, is_between, is_start_time, forwarding_in_range}
+use Rattle.tatp_actions.proofs.Common.{◌≡◌, refl, sym, ◌∙◌, ap, ℕ, ◌+◌, ◌<◌, ◌≤◌, arith, true, false, List, [], ◌∷◌, ◌++◌, map, length, Option, Some, None, nat_le, nat_lt, inl, inr, ◌&&◌, ◌==◌, ◌⊎◌, if◌then◌else◌, filter, list_all, option_to_list, nat_tests, map-append, ArrayVec, array_vec_len, kept, kept_of_three, by_test, each-weaker, key_found, both, both_from, forwarding_ranges, key_of, forwarding_key, CallForwardingRow, SpecialFacilityRow, is_between, is_start_time, forwarding_in_range, is_in_range, takes_call, destinations, new_destination, Book, IsBook, IsWithin, facility_at, has_active, forwarding_at, PartState, IsPart, Acts, destination, number_in_time, IsOnlyAsked, NewDestination}
 use Rattle.tatp_rows.specs.declared.refusal.Refusal.TheVariants as refusal
-use Rattle.tatp_actions.specs.Action.{is_in_range, takes_call, destinations, new_destination}
-use Rattle.tatp_actions.specs.Book.{Book, IsBook, IsWithin, facility_at, has_active, forwarding_at}
-use Rattle.tatp_actions.specs.Part.{PartState, IsPart}
-use Rattle.tatp_actions.specs.Edit.{Acts}
-use Rattle.tatp_actions.specs.Inside.{destination, number_in_time, IsOnlyAsked}
-use Rattle.tatp_actions.specs.declared.action.Action.TheVariants.{NewDestination}
 use Rattle.tatp_actions.specs.declared.action.RowReply.TheVariants as reply
 use Rattle.tatp_actions.proofs.ActsLemmas.{acts_read, is_typed_from}
 use Rattle.tatp_actions.proofs.BookLemmas.{forwarding_found}
@@ -138,9 +121,6 @@ module _ (p0 p1 p2 p3 p4 : PartState) (s t a e : ℕ) (n0 n8 n16 : Option ℕ) (
 
   asked_thrice : IsOnlyAsked 3 p0 p3
   asked_thrice = asked_then 2 1 p0 p2 p3 asked_twice asked3
-
-  pub asked_in_all : IsOnlyAsked 4 p0 p4
-  asked_in_all = asked_then 3 1 p0 p3 p4 asked_thrice asked4
 
   pub numbers_found : true ≡ has_active (facility_at p0.book s t)
       → n0 ≡ destination s t a e (forwarding_at p1.book s t 0) → n8 ≡ destination s t a e (forwarding_at p2.book s t 8) → n16 ≡ destination s t a e (forwarding_at p3.book s t 16)

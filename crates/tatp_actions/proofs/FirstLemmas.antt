@@ -1,13 +1,5 @@
 -- The first subscriber of a part from one on.
-use Rattle.std.proofs.Common.{◌≡◌, refl, ◌∙◌, ap, ℕ, ◌<◌, ◌≤◌, arith, true, false, List, [], ◌∷◌}
-use Rattle.std.specs.Prelude.{nat_le, Option, None, option_map}
-use Rattle.std.specs.List.{AllByRecursion, find}
-use Rattle.std.proofs.lemmas.Bool.Decides.{nat_tests}
-use Rattle.tatp_rows.specs.Keys.{key_of, subscriber_key}
-use Rattle.tatp_rows.specs.Rows.{SubscriberRow}
-use Rattle.tatp_rows.proofs.OrderedLemmas.{by_test}
-use Rattle.tatp_actions.specs.Book.{first_subscriber, IsWithin}
-use Rattle.tatp_actions.specs.Tables.{IsKeyed, values_of}
+use Rattle.tatp_actions.proofs.Common.{◌≡◌, refl, ◌∙◌, ap, ℕ, ◌<◌, ◌≤◌, arith, true, false, List, [], ◌∷◌, nat_le, Option, None, option_map, AllByRecursion, find, nat_tests, key_of, subscriber_key, SubscriberRow, by_test, first_subscriber, IsWithin, IsKeyed, values_of}
 
 -- the first pair from a subscriber's key on is of the first row from the subscriber on
 pub first_of_keyed : (s_id : ℕ) (pairs : List (ℕ × SubscriberRow)) → IsKeyed subscriber_key pairs

@@ -1,20 +1,7 @@
 -- Notes of hours: how they grow, hour by hour.
-use Rattle.std.proofs.Common.{◌≡◌, ◌≢◌, ℕ, ◌+◌, ◌-◌, ◌<◌, ◌≤◌, ◌==◌, refl, sym, ◌∙◌, ap, arith, suc, zero, subst, append-nil, Bool, true, false, List, [], ◌∷◌, ◌++◌, length, nat_le, nat_lt, ◌&&◌, inl, inr, if◌then◌else◌}
-use Rattle.std.specs.Prelude.{ℤ, pos, negsuc, ◌+ℤ◌, ◌≤ℤ◌}
-use Rattle.std.specs.List.{AllByRecursion}
-use Rattle.std.proofs.lemmas.Bool.Decides.{nat_tests}
-use Rattle.std.proofs.lemmas.Int.{ints}
-use Rattle.std.proofs.lemmas.List.{append_assoc, length-append}
-use Rattle.tatp_rows.proofs.AppendLemmas.{each-append}
-use Rattle.tatp_rows.proofs.OrderedLemmas.{by_test, each-weaker}
-use Rattle.tatp_rows.specs.Rows.{CallForwardingRow}
-use Rattle.tatp_actions.specs.Change.{change_at, hour_notes, is_zero, note_of, IsNote, NoteEachOnce}
-use Rattle.tatp_actions.specs.Inside.{AreHours, AreForwardingNotes, IsCellNote, IsCompact, notes_in, in_span, covering, span_amount, row_moved, row_amount, signed}
+use Rattle.tatp_actions.proofs.Common.{◌≡◌, ◌≢◌, ℕ, ◌+◌, ◌-◌, ◌<◌, ◌≤◌, ◌==◌, refl, sym, ◌∙◌, ap, arith, suc, zero, subst, append-nil, Bool, true, false, List, [], ◌∷◌, ◌++◌, length, nat_le, nat_lt, ◌&&◌, inl, inr, if◌then◌else◌, ℤ, pos, negsuc, ◌+ℤ◌, ◌≤ℤ◌, AllByRecursion, nat_tests, ints, append_assoc, length-append, each-append, by_test, each-weaker, CallForwardingRow, change_at, is_zero, note_of, IsNote, NoteEachOnce, AreHours, AreForwardingNotes, IsCellNote, IsCompact, notes_in, in_span, covering, span_amount, row_moved, row_amount, signed, Note, Spans, NOTES, CELLS, FIRST_AREA, FIRST_ZONE}
+use Rattle.tatp_actions.specs.Change.{hour_notes}
 use Rattle.tatp_actions.specs.declared.change.Change.TheInside as Change
-use Rattle.tatp_actions.specs.declared.change.Note.{Note}
-use Rattle.tatp_actions.specs.declared.change.Spans.{Spans}
-use Rattle.tatp_actions.specs.declared.change.TheConstants.{NOTES}
-use Rattle.tatp_actions.specs.declared.cells.TheConstants.{CELLS, FIRST_AREA, FIRST_ZONE}
 use Rattle.tatp_actions.proofs.ChangeLemmas.{change_at-append, row_moved-low, row_moved-zone}
 
 -- one more note, of a cell that none names

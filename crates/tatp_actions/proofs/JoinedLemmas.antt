@@ -1,18 +1,7 @@
 -- The rules and the counts of a book that is joined of two.
-use Rattle.std.proofs.Common.{◌≡◌, ◌∙◌, refl, sym, ap, subst, ℕ, ◌+◌, ◌-◌, ◌*◌, ◌≤◌, ◌==◌, ◌&&◌, arith, true, ◌++◌, IsSome, nat_lt, if◌then◌else◌}
-use Rattle.std.specs.List.{AllByRecursion, sum_by}
-use Rattle.std.proofs.lemmas.List.Sums.{sum_by-append}
-use Rattle.tatp_rows.proofs.AppendLemmas.{each-append, ordered-append}
-use Rattle.tatp_rows.proofs.OrderedLemmas.{by_test, each-weaker, each_from_two, each_both, sum_by-same}
-use Rattle.tatp_rows.proofs.RowLemmas.{forwarding_type}
-use Rattle.tatp_rows.specs.Keys.{subscriber_key, access_key, facility_key, forwarding_key}
-use Rattle.tatp_rows.specs.Rows.{SubscriberRow, AccessInfoRow, SpecialFacilityRow, CallForwardingRow, subscriber_in_range, access_in_range, facility_in_range, forwarding_in_range}
-use Rattle.tatp_rows.specs.Zones.{zone_of, area_of}
-use Rattle.tatp_actions.specs.Book.{Book, IsBook, IsRowsOf, IsWithin, subscriber_at, facility_at}
-use Rattle.tatp_actions.specs.Cell.{cell, covers, active_forwardings, in_area, in_zone, has_active_facility}
-use Rattle.tatp_actions.specs.Joined.{join_books}
+use Rattle.tatp_actions.proofs.Common.{◌≡◌, ◌∙◌, refl, sym, ap, subst, ℕ, ◌+◌, ◌-◌, ◌*◌, ◌≤◌, ◌==◌, ◌&&◌, arith, true, ◌++◌, IsSome, nat_lt, if◌then◌else◌, AllByRecursion, sum_by, sum_by-append, each-append, ordered-append, by_test, each-weaker, each_from_two, each_both, sum_by-same, forwarding_type, subscriber_key, access_key, facility_key, forwarding_key, SubscriberRow, AccessInfoRow, SpecialFacilityRow, CallForwardingRow, subscriber_in_range, access_in_range, facility_in_range, forwarding_in_range, zone_of, area_of, Book, IsBook, IsRowsOf, IsWithin, subscriber_at, facility_at, cell, covers, has_active_facility, join_books, FIRST_AREA, FIRST_ZONE}
+use Rattle.tatp_actions.specs.Cell.{active_forwardings, in_area, in_zone}
 use Rattle.tatp_actions.proofs.LocalLemmas.{Apart, apart, subscriber-low, subscriber-high, facility-low, facility-high}
-use Rattle.tatp_actions.specs.declared.cells.TheConstants.{FIRST_AREA, FIRST_ZONE}
 
 -- a wider range
 wider : (lo hi lo' hi' s : ℕ) → lo' ≤ lo → hi ≤ hi' → IsWithin lo hi s → IsWithin lo' hi' s

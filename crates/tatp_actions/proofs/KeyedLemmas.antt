@@ -1,16 +1,6 @@
 -- What each call by keys does to a part, from what it does to the rows.
-use Rattle.std.proofs.Common.{◌≡◌, refl, sym, ◌∙◌, ap, subst, ℕ, true, false, List, None, IsSome, if◌then◌else◌}
-use Rattle.std.specs.Prelude.{is_some}
-use Rattle.mr_node.specs.Rows.{key_of_pair}
-use Rattle.tatp_rows.specs.Keys.{key_of, subscriber_key, access_key, facility_key, forwarding_key}
-use Rattle.tatp_rows.specs.Ordered.{row_at, with_row_at, with_row, without_row}
-use Rattle.tatp_rows.specs.Rows.{SubscriberRow, AccessInfoRow, SpecialFacilityRow, CallForwardingRow, subscriber_in_range, access_in_range, facility_in_range, forwarding_in_range}
-use Rattle.tatp_rows.specs.declared.refusal.Refusal.{Refusal}
+use Rattle.tatp_actions.proofs.Common.{◌≡◌, refl, sym, ◌∙◌, ap, subst, ℕ, true, false, List, None, IsSome, if◌then◌else◌, is_some, key_of_pair, key_of, subscriber_key, access_key, facility_key, forwarding_key, row_at, with_row_at, with_row, without_row, SubscriberRow, AccessInfoRow, SpecialFacilityRow, CallForwardingRow, subscriber_in_range, access_in_range, facility_in_range, forwarding_in_range, Refusal, IsWithin, subscriber_at, access_at, facility_at, forwarding_at, put_subscriber, put_facility, more_subscribers, more_access, more_facilities, more_forwardings, without_forwarding, Heights, changed_once, Tables, AreKeyed, stored_book, once_more}
 use Rattle.tatp_rows.specs.declared.refusal.Refusal.TheVariants as refusal
-use Rattle.tatp_actions.specs.Book.{IsWithin, subscriber_at, access_at, facility_at, forwarding_at, put_subscriber, put_facility, more_subscribers, more_access, more_facilities, more_forwardings, without_forwarding}
-use Rattle.tatp_actions.specs.Heights.{Heights}
-use Rattle.tatp_actions.specs.Inside.{changed_once}
-use Rattle.tatp_actions.specs.Tables.{Tables, AreKeyed, stored_book, once_more}
 use Rattle.tatp_actions.proofs.BookLemmas.{rules_of_put_subscriber, rules_of_addition, rules_of_access, rules_of_put_facility, rules_of_facility, rules_of_insertion, rules_of_deletion}
 use Rattle.tatp_actions.proofs.StoredLemmas.{part_of, Holds, changed_is, changed_holds, absent_row, refused_pair, book_put_subscriber, keyed_put_subscriber, book_put_facility, keyed_put_facility, book_more_subscribers, keyed_more_subscribers, book_more_access, keyed_more_access, book_more_facilities, keyed_more_facilities, book_more_forwardings, keyed_more_forwardings, book_without_forwarding, keyed_without_forwarding}
 

@@ -1,3 +1,4 @@
+pub mod Common
 pub mod StoredLemmas
 pub mod KeyedLemmas
 pub mod RevisedLemmas

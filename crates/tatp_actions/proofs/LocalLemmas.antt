@@ -1,23 +1,5 @@
 -- An action on a subscriber of one of two books does to their join what it does to that book.
-use Rattle.std.proofs.Common.{◌≡◌, ◌∙◌, refl, sym, ap, ℕ, ◌*◌, ◌<◌, ◌≤◌, ◌==◌, ◌&&◌, arith, nat_le, nat_lt, true, false, List, [], ◌∷◌, ◌++◌, map, set, Option, Some, None, inl, inr, if◌then◌else◌}
-use Rattle.std.specs.List.{filter}
-use Rattle.std.proofs.lemmas.Bool.Decides.{nat_tests}
-use Rattle.std.proofs.lemmas.List.{append-nil}
-use Rattle.std.proofs.lemmas.List.Elements.{filter-append}
-use Rattle.tatp_rows.proofs.AppendLemmas.{row_at-low, row_at-high, with_row_at-low, with_row_at-high, with_row-low, with_row-high, without_row-low, without_row-high}
-use Rattle.tatp_rows.proofs.KeyLemmas.{key_below, key_from}
-use Rattle.tatp_rows.proofs.OrderedLemmas.{by_test, each_from_two, each-weaker, filter_none}
-use Rattle.tatp_rows.proofs.RowLemmas.{both, between_is, access_type, facility_type, forwarding_type, forwarding_ranges}
-use Rattle.tatp_rows.specs.Keys.{key_of, subscriber_key, access_key, facility_key, forwarding_key}
-use Rattle.tatp_rows.specs.Spans.{AllBelow, AllFrom}
-use Rattle.tatp_rows.specs.Rows.{SubscriberRow, AccessInfoRow, SpecialFacilityRow, CallForwardingRow, is_between, is_start_time, access_in_range, facility_in_range, forwarding_in_range}
-use Rattle.tatp_rows.specs.declared.ranges.TheConstants.{LAST_SUBSCRIBER}
-use Rattle.tatp_actions.specs.Action.{IsOutcome, effect, is_in_range, is_typed, s_id_of, takes_call, destinations, subscriber_data, new_destination, access_data, update_subscriber, update_location, insert_forwarding, delete_forwarding, add_subscriber, add_access, add_facility, set_active, set_number}
-use Rattle.tatp_actions.specs.Book.{Book, IsRowsOf, IsWithin, subscriber_at, access_at, facility_at, has_active, forwarding_at}
-use Rattle.tatp_actions.specs.Joined.{join_books}
-use Rattle.tatp_actions.specs.declared.action.Action.{Action}
-use Rattle.tatp_actions.specs.declared.action.Action.TheVariants.{SubscriberData, NewDestination, AccessData, UpdateSubscriber, UpdateLocation, InsertForwarding, DeleteForwarding, AddSubscriber, AddAccess, AddFacility, SetActive, SetNumber}
-use Rattle.tatp_actions.specs.declared.action.RowReply.{RowReply}
+use Rattle.tatp_actions.proofs.Common.{◌≡◌, ◌∙◌, refl, sym, ap, ℕ, ◌*◌, ◌<◌, ◌≤◌, ◌==◌, ◌&&◌, arith, nat_le, nat_lt, true, false, List, [], ◌∷◌, ◌++◌, map, set, Option, Some, None, inl, inr, if◌then◌else◌, filter, nat_tests, append-nil, filter-append, row_at-low, row_at-high, with_row_at-low, with_row_at-high, with_row-low, with_row-high, without_row-low, without_row-high, key_below, key_from, by_test, each_from_two, each-weaker, filter_none, both, between_is, access_type, facility_type, forwarding_type, forwarding_ranges, key_of, subscriber_key, access_key, facility_key, forwarding_key, AllBelow, AllFrom, SubscriberRow, AccessInfoRow, SpecialFacilityRow, CallForwardingRow, is_between, is_start_time, access_in_range, facility_in_range, forwarding_in_range, LAST_SUBSCRIBER, IsOutcome, effect, is_in_range, is_typed, s_id_of, takes_call, destinations, subscriber_data, new_destination, access_data, update_subscriber, update_location, insert_forwarding, delete_forwarding, add_subscriber, add_access, add_facility, set_active, set_number, Book, IsRowsOf, IsWithin, subscriber_at, access_at, facility_at, has_active, forwarding_at, join_books, Action, SubscriberData, NewDestination, AccessData, UpdateSubscriber, UpdateLocation, InsertForwarding, DeleteForwarding, AddSubscriber, AddAccess, AddFacility, SetActive, SetNumber, RowReply}
 
 -- the low book has rows of subscribers below n alone, and the high book of those from n on
 pub record Apart (n : ℕ) (low high : Book) : Type 0 where

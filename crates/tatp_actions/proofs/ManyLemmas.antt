@@ -1,10 +1,5 @@
 -- What is found at many keys.
-use Rattle.std.proofs.Common.{◌≡◌, ℕ, suc, ◌+◌, ◌<◌, List, [], ◌∷◌, ◌++◌, get_or, length, map, take, refl, sym, ap, ◌∙◌, arith}
-use Rattle.std.proofs.Math.Seq.{take-suc}
-use Rattle.std.proofs.lemmas.List.{get_or-map, map-append}
-use Rattle.mr_node.specs.Rows.{value_at}
-use Rattle.tatp_rows.specs.Ordered.{row_at}
-use Rattle.tatp_actions.specs.Tables.{IsKeyed, values_of}
+use Rattle.tatp_actions.proofs.Common.{◌≡◌, ℕ, suc, ◌+◌, ◌<◌, List, [], ◌∷◌, ◌++◌, get_or, length, map, take, refl, sym, ap, ◌∙◌, arith, take-suc, get_or-map, map-append, value_at, row_at, IsKeyed, values_of}
 use Rattle.tatp_actions.proofs.StoredLemmas.{found_in}
 
 -- the values at the keys of what is asked are the rows of each that is asked

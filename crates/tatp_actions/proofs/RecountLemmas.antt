@@ -1,24 +1,8 @@
 -- What a walk over all rows of a part counts.
-use Rattle.std.proofs.Common.{◌≡◌, refl, sym, ◌∙◌, ap, ℕ, ◌+◌, ◌-◌, ◌<◌, ◌==◌, ◌&&◌, arith, true, false, Bool, List, [], ◌∷◌, length, get_or, replicate, nat_lt, Bor, MutBor, if◌then◌else◌}
-use Rattle.std.specs.Prelude.{count_by}
-use Rattle.std.specs.List.{sum_by}
-use Rattle.std.specs.Option.{option_map_or}
-use Rattle.std.proofs.lemmas.List.{get_or-replicate, length-replicate, length-map}
-use Rattle.std.proofs.lemmas.List.Sums.{sum_by-cons}
-use Rattle.std.proofs.lemmas.Bool.Decides.{nat_tests}
-use Rattle.mr_node.specs.Folds.{WalksRows}
-use Rattle.tatp_rows.specs.Keys.{key_of, facility_key}
-use Rattle.tatp_rows.specs.Rows.{SubscriberRow, AccessInfoRow, SpecialFacilityRow, CallForwardingRow, forwarding_in_range}
-use Rattle.tatp_rows.specs.Zones.{zone_of, area_of}
-use Rattle.tatp_rows.proofs.MapLemmas.{row_at-pairs}
-use Rattle.tatp_rows.proofs.OrderedLemmas.{by_test}
-use Rattle.tatp_actions.specs.Book.{IsRowsOf}
-use Rattle.tatp_actions.specs.Cell.{cell, covers, active_forwardings, in_area, in_zone, has_active_facility}
-use Rattle.tatp_actions.specs.Recount.{Tallied, with_row_of, with_subscriber, is_active_in, with_forwarding}
-use Rattle.tatp_actions.specs.Tables.{Tables, AreKeyed, stored_book, values_of}
+use Rattle.tatp_actions.proofs.Common.{◌≡◌, refl, sym, ◌∙◌, ap, ℕ, ◌+◌, ◌-◌, ◌<◌, ◌==◌, ◌&&◌, arith, true, false, Bool, List, [], ◌∷◌, length, get_or, replicate, nat_lt, Bor, MutBor, if◌then◌else◌, count_by, sum_by, option_map_or, get_or-replicate, length-replicate, length-map, sum_by-cons, nat_tests, WalksRows, key_of, facility_key, SubscriberRow, AccessInfoRow, SpecialFacilityRow, CallForwardingRow, forwarding_in_range, zone_of, area_of, row_at-pairs, by_test, IsRowsOf, cell, covers, has_active_facility, Tallied, with_row_of, with_subscriber, is_active_in, with_forwarding, Tables, AreKeyed, stored_book, values_of, CELLS, FIRST_AREA, FIRST_ZONE}
+use Rattle.tatp_actions.specs.Cell.{active_forwardings, in_area, in_zone}
 use Rattle.tatp_actions.proofs.CountLemmas.{few_subscribers, few_access, few_facilities, few_forwardings}
 use Rattle.tatp_actions.proofs.CounterLemmas.{zone_in, subscriber_in, forwarding_in, tallied, counted_by_walk, still_over, row_counter, subscriber_counter, forwarding_counter}
-use Rattle.tatp_actions.specs.declared.cells.TheConstants.{CELLS, FIRST_AREA, FIRST_ZONE}
 
 -- sums over pairs
 sum-zero : {X : Type 0} (xs : List X) → sum_by (λ (x : X). 0) xs ≡ 0

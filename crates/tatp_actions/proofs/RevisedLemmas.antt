@@ -1,19 +1,5 @@
 -- What becomes of a part when a row of it is changed where it lies.
-use Rattle.std.proofs.Common.{◌≡◌, refl, sym, ◌∙◌, ap, subst, ℕ, ◌<◌, ◌≤◌, set, true, List, Option, Some, None, IfSome, option_map, arith}
-use Rattle.std.specs.Option.{unwrap_or}
-use Rattle.mr_node.specs.Rows.{key_of_pair, value_at}
-use Rattle.mr_node.specs.Revisions.{revised_at, spent_at}
-use Rattle.mr_node.proofs.ReviseLemmas.{revised_some, revised_none}
-use Rattle.tatp_rows.proofs.OrderedLemmas.{each_found}
-use Rattle.tatp_rows.proofs.RowLemmas.{bit_1_in_range}
-use Rattle.tatp_rows.specs.Keys.{key_of, subscriber_key, facility_key}
-use Rattle.tatp_rows.specs.Ordered.{with_row_at}
-use Rattle.tatp_rows.specs.Rows.{SubscriberRow, SpecialFacilityRow, subscriber_in_range, facility_in_range}
-use Rattle.tatp_actions.specs.Book.{Book, subscriber_at, facility_at, put_subscriber, put_facility}
-use Rattle.tatp_actions.specs.Heights.{Heights}
-use Rattle.tatp_actions.specs.Inside.{KeepsSubscriber, KeepsFacility, changed_to, subscriber_revised, facility_revised}
-use Rattle.tatp_actions.specs.Part.{PartState, IsPart}
-use Rattle.tatp_actions.specs.Tables.{Tables, AreKeyed, stored_book}
+use Rattle.tatp_actions.proofs.Common.{◌≡◌, refl, sym, ◌∙◌, ap, subst, ℕ, ◌<◌, ◌≤◌, set, true, List, Option, Some, None, IfSome, option_map, arith, unwrap_or, key_of_pair, value_at, revised_at, spent_at, revised_some, revised_none, each_found, bit_1_in_range, key_of, subscriber_key, facility_key, with_row_at, SubscriberRow, SpecialFacilityRow, subscriber_in_range, facility_in_range, Book, subscriber_at, facility_at, put_subscriber, put_facility, Heights, KeepsSubscriber, KeepsFacility, changed_to, subscriber_revised, facility_revised, PartState, IsPart, Tables, AreKeyed, stored_book}
 use Rattle.tatp_actions.proofs.BookLemmas.{s_id_found, facility_found}
 use Rattle.tatp_actions.proofs.KeyedLemmas.{put_subscriber_book, put_subscriber_holds, put_facility_book, put_facility_holds}
 use Rattle.tatp_actions.proofs.StoredLemmas.{part_of, Holds, found_in}

@@ -1,19 +1,6 @@
 -- The stored rows of a part, and what it is seen as, after a call of its rows.
-use Rattle.std.proofs.Common.{◌≡◌, refl, sym, ◌∙◌, ap, subst, ℕ, Bool, List, Option, Some, None, if◌then◌else◌}
-use Rattle.std.specs.Prelude.{option_map, is_some}
-use Rattle.mr_node.specs.Rows.{key_of_pair, value_at}
-use Rattle.tatp_rows.proofs.MapLemmas.{row_at-pairs, with_row_at-pairs, with_row-pairs, without_row-pairs}
-use Rattle.tatp_rows.proofs.OrderedLemmas.{each-with_row_at, each-with_row, each-without_row}
-use Rattle.tatp_rows.specs.Keys.{subscriber_key, access_key, facility_key, forwarding_key}
-use Rattle.tatp_rows.specs.Ordered.{row_at, with_row_at, with_row, without_row}
-use Rattle.tatp_rows.specs.Rows.{SubscriberRow, AccessInfoRow, SpecialFacilityRow, CallForwardingRow}
-use Rattle.tatp_rows.specs.declared.refusal.Refusal.{Refusal}
+use Rattle.tatp_actions.proofs.Common.{◌≡◌, refl, sym, ◌∙◌, ap, subst, ℕ, Bool, List, Option, Some, None, if◌then◌else◌, option_map, is_some, key_of_pair, value_at, row_at-pairs, with_row_at-pairs, with_row-pairs, without_row-pairs, each-with_row_at, each-with_row, each-without_row, subscriber_key, access_key, facility_key, forwarding_key, row_at, with_row_at, with_row, without_row, SubscriberRow, AccessInfoRow, SpecialFacilityRow, CallForwardingRow, Refusal, Book, IsRowsOf, Heights, PartState, IsPart, changed_once, Tables, AreKeyed, IsKeyed, stored_book, values_of, once_more}
 use Rattle.tatp_rows.specs.declared.refusal.Refusal.TheVariants as refusal
-use Rattle.tatp_actions.specs.Book.{Book, IsRowsOf}
-use Rattle.tatp_actions.specs.Heights.{Heights}
-use Rattle.tatp_actions.specs.Part.{PartState, IsPart}
-use Rattle.tatp_actions.specs.Inside.{changed_once}
-use Rattle.tatp_actions.specs.Tables.{Tables, AreKeyed, IsKeyed, stored_book, values_of, once_more}
 
 -- the part of these tables
 abbrev pub part_of : Tables → ℕ → ℕ → ℕ → ℕ → ℕ → Heights → PartState

@@ -1,6 +1,5 @@
 -- A pair of a table, read and known by its parts.
-use Rattle.std.proofs.Common.{◌≡◌, sym, ◌∙◌, ℕ, ◌<◌, List, length, get_or}
-use Rattle.std.proofs.lemmas.List.{get_or_read}
+use Rattle.tatp_actions.proofs.Common.{◌≡◌, sym, ◌∙◌, ℕ, ◌<◌, List, length, get_or, get_or_read}
 
 -- two reads of one place agree
 pub same_read : {X : Type 0} (xs : List X) (i : ℕ) (x y : X) → i < length xs → x ≡ get_or xs i x → y ≡ get_or xs i y → x ≡ y

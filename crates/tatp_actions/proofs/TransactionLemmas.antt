@@ -1,22 +1,6 @@
 -- What the transactions do to a part.
-use Rattle.std.proofs.Common.{◌≡◌, refl, sym, ◌∙◌, ap, subst, ℕ, ◌^◌, ◌<◌, ◌≤◌, arith, Bool, true, false, List, [], set, Option, Some, None, IsSome, IfSome, ◌+◌, if◌then◌else◌}
-use Rattle.std.specs.Prelude.{ℤ, ◌==◌, is_some}
-use Rattle.tatp_rows.proofs.FilterLemmas.{kept}
-use Rattle.tatp_rows.proofs.OrderedLemmas.{each_found, without_row_absent}
-use Rattle.tatp_rows.proofs.RowLemmas.{both_from, between_from}
-use Rattle.tatp_rows.specs.Keys.{key_of, facility_key, forwarding_key}
-use Rattle.tatp_rows.specs.Rows.{SubscriberRow, SpecialFacilityRow, CallForwardingRow, is_between, is_start_time, forwarding_in_range}
-use Rattle.tatp_rows.specs.Zones.{zone_of, area_of}
-use Rattle.tatp_rows.specs.declared.refusal.Refusal.{Refusal}
+use Rattle.tatp_actions.proofs.Common.{◌≡◌, refl, sym, ◌∙◌, ap, subst, ℕ, ◌^◌, ◌<◌, ◌≤◌, arith, Bool, true, false, List, [], set, Option, Some, None, IsSome, IfSome, ◌+◌, if◌then◌else◌, ℤ, ◌==◌, is_some, kept, each_found, without_row_absent, both_from, between_from, key_of, facility_key, forwarding_key, SubscriberRow, SpecialFacilityRow, CallForwardingRow, is_between, is_start_time, forwarding_in_range, zone_of, area_of, Refusal, effect, Book, IsWithin, subscriber_at, facility_at, has_active, forwarding_at, put_subscriber, put_facility, more_forwardings, without_forwarding, IsChange, PartState, IsPart, Acts, area_moved, AreForwardingNotes, asked_once, changed_once, changed_to, subscriber_revised, facility_revised, once_more, UpdateSubscriber, UpdateLocation, InsertForwarding, DeleteForwarding}
 use Rattle.tatp_rows.specs.declared.refusal.Refusal.TheVariants as refusal
-use Rattle.tatp_actions.specs.Action.{effect}
-use Rattle.tatp_actions.specs.Book.{Book, IsWithin, subscriber_at, facility_at, has_active, forwarding_at, put_subscriber, put_facility, more_forwardings, without_forwarding}
-use Rattle.tatp_actions.specs.Change.{IsChange}
-use Rattle.tatp_actions.specs.Part.{PartState, IsPart}
-use Rattle.tatp_actions.specs.Edit.{Acts}
-use Rattle.tatp_actions.specs.Inside.{area_moved, AreForwardingNotes, asked_once, changed_once, changed_to, subscriber_revised, facility_revised}
-use Rattle.tatp_actions.specs.Tables.{once_more}
-use Rattle.tatp_actions.specs.declared.action.Action.TheVariants.{UpdateSubscriber, UpdateLocation, InsertForwarding, DeleteForwarding}
 use Rattle.tatp_actions.specs.declared.action.RowReply.TheVariants as reply
 use Rattle.tatp_actions.proofs.ActiveLemmas.{change_of_put_facility}
 use Rattle.tatp_actions.proofs.ActsLemmas.{acts_done, acts_refused, addition_refused, by_effect, few_1, few_2, is_subscriber, is_typed_from, none_from, area_below, area_found}

@@ -16,7 +16,7 @@ use tatp_rows::{Forwarding, area};
 /// The most notes that one change has: one for each hour, and one for a zone.
 pub const NOTES: usize = FIRST_AREA as usize + 1;
 
-/// Gives a count, or less than 0 by as much where it isn't up.
+/// Gives a count as it is where it goes up, and negated where it goes down.
 fn signed(up: bool, count: u8) -> i8
     requires { count ≤ 3 }
     ensures value { result ≡ signed up count }
@@ -123,9 +123,9 @@ fn add_span(deltas: &mut [i64; CELLS as usize], up: bool, from: u8, to: u8)
     requires fits { (c : ℕ) → c < CELLS → FitsSigned w64 (delta_at deltas.old c +ℤ signed up (in_span from to c)) }
     ensures { (c : ℕ) → c < CELLS → delta_at deltas.new c ≡ delta_at deltas.old c +ℤ signed up (in_span from to c) }
 {
-    let step = i64::from(signed(up, 1));
+    let amount = i64::from(signed(up, 1));
     for hour in from..to {
-        deltas[usize::from(hour)] += step;
+        deltas[usize::from(hour)] += amount;
     }
 }
 

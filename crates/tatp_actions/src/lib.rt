@@ -1,8 +1,8 @@
-//! A part of the store: the rows of a range of subscribers, the seven transactions of the TATP benchmark (its
-//! description, section 3) and the administrative actions on them, and by how much each moves each cell. An action goes
-//! down one path for each row that it touches, and only one that adds a row takes memory. A part belongs to one owner,
-//! as a sub-tree does in physiological partitioning (PLP), and needs no latch: its counts are right only while that
-//! owner adds up every change.
+//! A part of the store: the rows of a range of subscribers, the seven transactions of TATP (its description, section 3)
+//! and the administrative actions on them, and by how much each moves each cell. An action goes down a path or two for
+//! each row that it touches, and only one that adds a row takes memory. A part belongs to one owner, as a sub-tree does
+//! in physiological partitioning (PLP), and needs no latch: its counts are right only while that owner adds up every
+//! change.
 #![tactic(auto)]
 
 mod action;

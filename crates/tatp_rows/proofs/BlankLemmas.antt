@@ -1,7 +1,5 @@
 -- A list of one value.
-use Rattle.std.proofs.Common.{◌≡◌, ℕ, replicate, get_or, inl, inr}
-use Rattle.std.proofs.lemmas.Bool.{cases_lt}
-use Rattle.std.proofs.lemmas.List.{length-replicate, get_or-replicate, get_or_past}
+use Rattle.tatp_rows.proofs.Common.{◌≡◌, ℕ, replicate, get_or, inl, inr, cases_lt, length-replicate, get_or-replicate, get_or_past}
 
 -- it has that value at each place, and past its end where the default is that
 pub blank_at : {A : Type 0} (n i : ℕ) (blank : A) → get_or (replicate n blank) i blank ≡ blank

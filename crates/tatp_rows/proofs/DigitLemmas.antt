@@ -1,24 +1,7 @@
 -- Eight digits that are read as one word.
-use Rattle.std.proofs.Common.{◌≡◌, refl, sym, ap, ◌∙◌, ℕ, ◌+◌, ◌-◌, ◌*◌, ◌/◌, ◌%◌, ◌^◌, ◌<◌, ◌≤◌, Bool, true, false, List, [], ◌∷◌, map, length, get_or, take, drop, Fits, w8, arith}
-use Rattle.std.specs.Prelude.{◌==◌, ◌&&◌, ◌++◌, not, slice_set, Ok, Err}
-use Rattle.std.specs.Int.Bits.{bit_and}
-use Rattle.std.specs.List.{list_all}
-use Rattle.std.specs.Char.{is_ascii_digit, digit_value}
-use Rattle.std.specs.Str.Parse.{AllDigits, digits_value, digits_value_after}
-use Rattle.std.proofs.lemmas.Bool.{agree_below, agree_below_at}
-use Rattle.std.proofs.lemmas.Bool.Decides.{nat_tests}
-use Rattle.std.proofs.lemmas.Nat.{and_block, and_mask, mod-mul-add}
-use Rattle.std.proofs.lemmas.List.{drop_more, length-drop, take_all, take-append-drop}
-use Rattle.std.proofs.lemmas.List.Folds.{list_all-append}
-use Rattle.std.proofs.lemmas.List.Elements.{All-get_or}
-use Rattle.std.proofs.lemmas.List.Sums.{AllPass-from_list_all}
-use Rattle.std.proofs.lemmas.Simd.{chunk-drop}
-use Rattle.std.proofs.Math.Nat.{pow-suc, pow-zero}
-use Rattle.tatp_rows.specs.declared.refusal.Refusal.TheVariants.{Field}
-use Rattle.tatp_rows.specs.Number.{number_in}
+use Rattle.tatp_rows.proofs.Common.{◌≡◌, refl, sym, ap, ◌∙◌, ℕ, ◌+◌, ◌-◌, ◌*◌, ◌/◌, ◌%◌, ◌^◌, ◌<◌, ◌≤◌, Bool, true, false, List, [], ◌∷◌, map, length, get_or, take, drop, Fits, w8, arith, ◌==◌, ◌&&◌, ◌++◌, not, slice_set, Ok, Err, bit_and, list_all, is_ascii_digit, digit_value, AllDigits, digits_value, digits_value_after, agree_below, agree_below_at, nat_tests, and_block, and_mask, mod-mul-add, drop_more, length-drop, take_all, take-append-drop, list_all-append, All-get_or, AllPass-from_list_all, chunk-drop, pow-suc, pow-zero, Field, number_in, digits_value-lt}
 use Rattle.tatp_rows.proofs.NumberLemmas.{AreDigits, digits_more, digit_is}
 use Rattle.tatp_rows.proofs.RowLemmas.{both}
-use Rattle.std.proofs.lemmas.Int.Digits.{digits_value-lt}
 use lib.Lanes.{Each1, chunk, mask_l}
 
 -- no lane stops where each byte passes

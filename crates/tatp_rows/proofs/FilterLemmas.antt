@@ -1,9 +1,5 @@
 -- What a filter keeps of an ordered list, where all that passes has one of three keys.
-use Rattle.std.proofs.Common.{◌≡◌, ◌≢◌, refl, sym, ap, ℕ, ◌<◌, List, [], ◌∷◌, ◌++◌, Bool, true, false, Option, ◌⊎◌, inl, inr, arith}
-use Rattle.std.specs.Prelude.{◌==◌, Some, None, if◌then◌else◌}
-use Rattle.std.specs.List.{AllByRecursion, filter}
-use Rattle.std.proofs.lemmas.Bool.Decides.{nat_tests}
-use Rattle.tatp_rows.specs.Ordered.{IsOrderedBy, row_at}
+use Rattle.tatp_rows.proofs.Common.{◌≡◌, ◌≢◌, refl, sym, ap, ℕ, ◌<◌, List, [], ◌∷◌, ◌++◌, Bool, true, false, Option, ◌⊎◌, inl, inr, arith, ◌==◌, Some, None, if◌then◌else◌, AllByRecursion, filter, nat_tests, IsOrderedBy, row_at}
 use Rattle.tatp_rows.proofs.OrderedLemmas.{by_test, each-weaker, absent_below}
 
 -- the element that is found, where it passes

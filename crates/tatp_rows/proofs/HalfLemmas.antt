@@ -1,10 +1,6 @@
 -- Lists cut at a key: the half below it and the half from it on.
-use Rattle.std.proofs.Common.{◌≡◌, refl, ap, ℕ, ◌<◌, ◌≤◌, arith, true, false, List, [], ◌∷◌, ◌++◌, nat_lt}
-use Rattle.std.specs.Prelude.{nat_le}
-use Rattle.std.proofs.lemmas.Bool.Decides.{nat_tests}
+use Rattle.tatp_rows.proofs.Common.{◌≡◌, refl, ap, ℕ, ◌<◌, ◌≤◌, arith, true, false, List, [], ◌∷◌, ◌++◌, nat_lt, nat_le, nat_tests, IsOrderedBy, AllBelow, AllFrom, keys_below, keys_from}
 use Rattle.tatp_rows.proofs.OrderedLemmas.{by_test, each-weaker}
-use Rattle.tatp_rows.specs.Ordered.{IsOrderedBy}
-use Rattle.tatp_rows.specs.Spans.{AllBelow, AllFrom, keys_below, keys_from}
 
 module _ {X : Type 0} (key : X → ℕ) where
   -- each key of the lower half is below the border, and each of the upper one from it on
@@ -20,11 +16,7 @@ module _ {X : Type 0} (key : X → ℕ) where
       (λ e. let over : k ≤ key x = grind (arith, nat_tests) in rw e (over, from_each k xs))
       (λ e. rw e (from_each k xs))
 
-  -- a list whose keys are all on one side
-  pub below_all : (k : ℕ) (xs : List X) → AllBelow key k xs → keys_below key k xs ≡ xs
-  below_all k [] under = refl
-  below_all k (x ∷ xs) under = let e : nat_lt (key x) k ≡ true = grind (arith, nat_tests) in rw e (ap (λ (rest : List X). x ∷ rest) (below_all k xs under.1))
-
+  -- a list whose keys are all from the border on has none below it
   pub below_none : (k : ℕ) (xs : List X) → AllFrom key k xs → keys_below key k xs ≡ []
   below_none k [] over = refl
   below_none k (x ∷ xs) over = let e : nat_lt (key x) k ≡ false = grind (arith, nat_tests) in rw e (below_none k xs over.1)

@@ -1,3 +1,4 @@
+pub mod Common
 pub mod FilterLemmas
 pub mod AppendLemmas
 pub mod BlankLemmas

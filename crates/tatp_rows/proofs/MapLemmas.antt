@@ -1,11 +1,6 @@
 -- Ordered lists under `map`: the edits of a list of pairs are the edits of its rows, where each pair's key is its
 -- row's.
-use Rattle.std.proofs.Common.{◌≡◌, refl, ℕ, ◌<◌, List, [], ◌∷◌, map, arith}
-use Rattle.std.specs.Prelude.{◌==◌}
-use Rattle.std.specs.Option.{option_map}
-use Rattle.std.specs.List.{AllByRecursion}
-use Rattle.std.proofs.lemmas.Bool.Decides.{nat_tests}
-use Rattle.tatp_rows.specs.Ordered.{IsOrderedBy, row_at, with_row_at, with_row, without_row}
+use Rattle.tatp_rows.proofs.Common.{◌≡◌, refl, ℕ, List, [], ◌∷◌, map, arith, ◌==◌, option_map, AllByRecursion, nat_tests, row_at, with_row_at, with_row, without_row}
 use Rattle.tatp_rows.proofs.OrderedLemmas.{by_test}
 
 module _ {X Y : Type 0} (f : X → Y) where
@@ -37,22 +32,6 @@ module _ {X Y : Type 0} (f : X → Y) where
     without_row-map k [] same = refl
     without_row-map k (x ∷ xs) same = grind (arith, nat_tests, without_row-map k xs)
 
-    pub ordered-map : (xs : List X) → AllByRecursion (λ x. key x ≡ key' (f x)) xs → IsOrderedBy key xs → IsOrderedBy key' (map f xs)
-    ordered-map [] same ordered = tt
-    ordered-map (x ∷ xs) same ordered = (above_map (key x) (key' (f x)) same.0 xs same.1 ordered.0, ordered-map xs same.1 ordered.1)
-      where
-        above_map : (low low' : ℕ) → low ≡ low' → (zs : List X) → AllByRecursion (λ z. key z ≡ key' (f z)) zs → AllByRecursion (λ z. low < key z) zs → AllByRecursion (λ z. low' < key' z) (map f zs)
-        above_map low low' e [] agree above = tt
-        above_map low low' e (z ∷ zs) agree above = (omega arith, above_map low low' e zs agree.1 above.1)
-
-    pub ordered-unmap : (xs : List X) → AllByRecursion (λ x. key x ≡ key' (f x)) xs → IsOrderedBy key' (map f xs) → IsOrderedBy key xs
-    ordered-unmap [] same ordered = tt
-    ordered-unmap (x ∷ xs) same ordered = (above_unmap (key x) (key' (f x)) same.0 xs same.1 ordered.0, ordered-unmap xs same.1 ordered.1)
-      where
-        above_unmap : (low low' : ℕ) → low ≡ low' → (zs : List X) → AllByRecursion (λ z. key z ≡ key' (f z)) zs → AllByRecursion (λ z. low' < key' z) (map f zs) → AllByRecursion (λ z. low < key z) zs
-        above_unmap low low' e [] agree above = tt
-        above_unmap low low' e (z ∷ zs) agree above = (omega arith, above_unmap low low' e zs agree.1 above.1)
-
 -- pairs of a key and a row, each with its row's key
 module _ {X : Type 0} (key : X → ℕ) where
   pub row_at-pairs : (k : ℕ) (pairs : List (ℕ × X)) → AllByRecursion (λ (p : ℕ × X). p.0 ≡ key p.1) pairs → row_at key k (map (λ (p : ℕ × X). p.1) pairs) ≡ option_map (λ (p : ℕ × X). p.1) (row_at (λ (p : ℕ × X). p.0) k pairs)
@@ -66,9 +45,3 @@ module _ {X : Type 0} (key : X → ℕ) where
 
   pub without_row-pairs : (k : ℕ) (pairs : List (ℕ × X)) → AllByRecursion (λ (p : ℕ × X). p.0 ≡ key p.1) pairs → map (λ (p : ℕ × X). p.1) (without_row (λ (p : ℕ × X). p.0) k pairs) ≡ without_row key k (map (λ (p : ℕ × X). p.1) pairs)
   without_row-pairs k pairs same = without_row-map (λ (p : ℕ × X). p.1) (λ (p : ℕ × X). p.0) key k pairs same
-
-  pub ordered-pairs : (pairs : List (ℕ × X)) → AllByRecursion (λ (p : ℕ × X). p.0 ≡ key p.1) pairs → IsOrderedBy (λ (p : ℕ × X). p.0) pairs → IsOrderedBy key (map (λ (p : ℕ × X). p.1) pairs)
-  ordered-pairs pairs same ordered = ordered-map (λ (p : ℕ × X). p.1) (λ (p : ℕ × X). p.0) key pairs same ordered
-
-  pub ordered-of_pairs : (pairs : List (ℕ × X)) → AllByRecursion (λ (p : ℕ × X). p.0 ≡ key p.1) pairs → IsOrderedBy key (map (λ (p : ℕ × X). p.1) pairs) → IsOrderedBy (λ (p : ℕ × X). p.0) pairs
-  ordered-of_pairs pairs same ordered = ordered-unmap (λ (p : ℕ × X). p.1) (λ (p : ℕ × X). p.0) key pairs same ordered

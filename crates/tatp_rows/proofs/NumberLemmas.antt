@@ -1,17 +1,6 @@
 -- Numbers of subscribers: how their digits are read one by one, and what is written.
-use Rattle.std.proofs.Common.{◌≡◌, refl, ap, ◌∙◌, ℕ, ◌+◌, ◌-◌, ◌*◌, ◌<◌, ◌≤◌, ◌++◌, List, [], length, get_or, take, true, false, length-append, rules, arith}
-use Rattle.std.specs.Prelude.{decimal, replicate}
-use Rattle.std.specs.List.{list_all}
-use Rattle.std.specs.Char.{is_ascii_digit, digit_value}
-use Rattle.std.specs.Str.Parse.{digits_value}
-use Rattle.std.specs.Fmt.{styled_decimal, format_spec, padded_integral, char_count}
-use Rattle.std.proofs.lemmas.Bool.Decides.{nat_tests}
-use Rattle.std.proofs.lemmas.Str.{digit_value_digit}
-use Rattle.std.proofs.lemmas.Int.Digits.{digits_value_more}
-use Rattle.std.proofs.lemmas.List.{append-nil, length-replicate}
-use Rattle.std.proofs.lemmas.List.Folds.{list_all_more}
-use Rattle.std.proofs.lemmas.Fmt.{length-decimal-le}
-use Rattle.tatp_rows.specs.Number.{IsNumber, number_text}
+use Rattle.tatp_rows.proofs.Common.{◌≡◌, refl, ap, ◌∙◌, ℕ, ◌+◌, ◌-◌, ◌*◌, ◌<◌, ◌≤◌, ◌++◌, List, [], length, get_or, take, true, false, rules, arith, decimal, replicate, list_all, is_ascii_digit, digit_value, digits_value, styled_decimal, format_spec, nat_tests, digit_value_digit, digits_value_more, append-nil, list_all_more, number_text}
+use Rattle.std.specs.Fmt.{padded_integral, char_count}
 
 -- what an ASCII digit is worth
 pub digit_is : (c : ℕ) → is_ascii_digit c ≡ true → (48 ≤ c) × (c ≤ 57) × (digit_value c ≡ c - 48)
@@ -44,9 +33,3 @@ padded_numeral numeral =
 -- the text that `{:015}` writes
 pub written : (n : ℕ) → styled_decimal (format_spec 32 0 4 15 18446744073709551615) n ≡ number_text n
 written n = padded_numeral (decimal n)
-
--- a number is written in 15 digits
-pub length-number_text : (n : ℕ) → IsNumber n → length (number_text n) ≡ 15
-length-number_text n number =
-    let short = length-decimal-le 15 n (omega arith) (omega arith) (omega arith) in
-    rw (length-append, length-replicate) (omega arith)

@@ -1,11 +1,5 @@
 -- Lists that are ordered by a key: what is found, what an edit keeps, and what it does to sums.
-use Rattle.std.proofs.Common.{◌≡◌, ◌∙◌, refl, sym, ap, subst, ℕ, suc, ◌+◌, ◌<◌, ◌≤◌, ◌≢◌, ◌-◌, List, [], ◌∷◌, Bool, true, false, length, Option, IsSome, arith}
-use Rattle.std.specs.Prelude.{◌==◌, ◌&&◌, nat_lt, Some, None, if◌then◌else◌}
-use Rattle.std.specs.List.{AllByRecursion, filter, sum_by, count_by}
-use Rattle.std.specs.Option.{is_some}
-use Rattle.std.proofs.lemmas.Bool.Decides.{nat_tests}
-use Rattle.std.proofs.lemmas.List.Sums.{sum_by-cons}
-use Rattle.tatp_rows.specs.Ordered.{IsOrderedBy, row_at, with_row_at, with_row, without_row}
+use Rattle.tatp_rows.proofs.Common.{◌≡◌, ◌∙◌, refl, sym, ap, subst, ℕ, suc, ◌+◌, ◌<◌, ◌≤◌, ◌≢◌, ◌-◌, List, [], ◌∷◌, Bool, true, false, length, Option, IsSome, arith, ◌==◌, nat_lt, Some, None, if◌then◌else◌, AllByRecursion, filter, sum_by, count_by, is_some, nat_tests, sum_by-cons, IsOrderedBy, row_at, with_row_at, with_row, without_row}
 
 -- a fact, from each answer of a test
 pub by_test : {A : Type 0} (test : Bool) → (test ≡ true → A) → (test ≡ false → A) → A
@@ -151,10 +145,6 @@ module _ {X : Type 0} (key : X → ℕ) where
       rw e (absent_below k xs (each-weaker {P = λ z. key x < key z} {Q = λ z. k < key z} (λ z below. omega arith) xs ordered.0)))
       (λ e. rw (e, e) (row_at-without_row_same k xs ordered.1))
 
-  pub row_at-without_row_other : (j k : ℕ) (xs : List X) → j ≢ k → row_at key j (without_row key k xs) ≡ row_at key j xs
-  row_at-without_row_other j k [] other = refl
-  row_at-without_row_other j k (z ∷ xs) other = grind (arith, nat_tests, row_at-without_row_other j k xs)
-
   -- an edit at a key that is absent changes nothing
   pub with_row_at_absent : (k : ℕ) (y : X) (xs : List X) → row_at key k xs ≡ None → with_row_at key k y xs ≡ xs
   with_row_at_absent k y [] absent = refl
@@ -169,12 +159,6 @@ module _ {X : Type 0} (key : X → ℕ) where
   with_row_at_same k x [] found = refl
   with_row_at_same k x (z ∷ xs) found = grind (arith, nat_tests, with_row_at_same k x xs)
 
-  -- the second of two edits at a key counts
-  pub with_row_at_twice : (k : ℕ) (y z : X) (xs : List X) → key y ≡ k → with_row_at key k z (with_row_at key k y xs) ≡ with_row_at key k z xs
-  with_row_at_twice k y z [] at = refl
-  with_row_at_twice k y z (x ∷ xs) at = grind (arith, nat_tests, with_row_at_twice k y z xs)
-
-  -- a new element, taken out again
   -- two elements of different keys go in in either order
   pub with_row-either : (y z : X) (xs : List X) → key y ≢ key z → with_row key y (with_row key z xs) ≡ with_row key z (with_row key y xs)
   with_row-either y z [] other =
@@ -225,11 +209,6 @@ module _ {X : Type 0} (key : X → ℕ) where
       let rest = count_of_absent k xs (absent_below k xs (each-weaker {P = λ z. key x < key z} {Q = λ z. k < key z} (λ z below. omega arith) xs ordered.0)) in
       rw (sum_by-cons, e) (omega (arith, rest)))
       (λ e. rw (sum_by-cons, e) (omega (arith, count_of_key k xs ordered.1)))
-
-  -- the same, under a test that doesn't look at the elements
-  pub count_of_key_if : (test : Bool) (k : ℕ) (xs : List X) → IsOrderedBy key xs → count_by (λ x. test && (key x == k)) xs ≡ (if test && is_some (row_at key k xs) then 1 else 0)
-  count_of_key_if true k xs ordered = count_of_key k xs ordered
-  count_of_key_if false k xs ordered = count_of_none xs
 
   -- an ordered list has no more elements than there are keys for it
   pub length-ordered : (low high : ℕ) (xs : List X) → IsOrderedBy key xs → AllByRecursion (λ x. low ≤ key x) xs → AllByRecursion (λ x. key x < high) xs → length xs ≤ high - low

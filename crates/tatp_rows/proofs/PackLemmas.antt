@@ -1,12 +1,6 @@
 -- Digits that are packed in one number.
-use Rattle.std.proofs.Common.{◌≡◌, refl, sym, ap, ◌∙◌, ℕ, suc, Bool, true, false, ◌+◌, ◌-◌, ◌*◌, ◌/◌, ◌%◌, ◌^◌, ◌<◌, ◌≤◌, List, [], ◌∷◌, length, get_or, set, take, drop, ◌++◌, append_assoc, add-one, length-set, arith}
-use Rattle.std.specs.List.{EachIndex}
-use Rattle.std.proofs.Math.Nat.{add-mul-div_left, add-mul-mod_self_left, div-eq_of_lt, mod-eq_of_lt, mul_comm, mul-le-mul_left, pow-le-pow_right, pow-suc, pow-zero}
-use Rattle.std.proofs.lemmas.List.{append-nil, drop_all, drop_more, take_all, take_more_set}
+use Rattle.tatp_rows.proofs.Common.{◌≡◌, refl, sym, ap, ◌∙◌, ℕ, suc, Bool, true, false, ◌+◌, ◌-◌, ◌*◌, ◌/◌, ◌%◌, ◌^◌, ◌<◌, ◌≤◌, List, [], ◌∷◌, length, get_or, set, take, drop, ◌++◌, append_assoc, add-one, length-set, arith, EachIndex, add-mul-div_left, add-mul-mod_self_left, div-eq_of_lt, mod-eq_of_lt, mul_comm, mul-le-mul_left, pow-le-pow_right, pow-suc, pow-zero, append-nil, drop_all, drop_more, take_all, take_more_set, ◌==◌, ◌&&◌, list_all, are_between, is_between}
 use lib.Arith.{digits_lt}
-use Rattle.std.specs.Prelude.{◌==◌, ◌&&◌}
-use Rattle.std.specs.List.{list_all}
-use Rattle.tatp_rows.specs.Rows.{are_between, is_between}
 use Rattle.tatp_rows.proofs.RowLemmas.{between_each, both, length-are_between}
 use Rattle.tatp_rows.specs.Packed.{packed, unpacked}
 

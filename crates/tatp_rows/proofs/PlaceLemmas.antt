@@ -1,11 +1,5 @@
 -- The place of a key in an ordered list, how many elements have a smaller key, and the edits at that place.
-use Rattle.std.proofs.Common.{◌≡◌, ◌≢◌, refl, sym, ap, ◌∙◌, ℕ, zero, suc, ◌+◌, ◌-◌, ◌<◌, ◌≤◌, List, [], ◌∷◌, length, get_or, set, drop, true, false, arith}
-use Rattle.std.specs.Prelude.{◌==◌, nat_lt, Some, None}
-use Rattle.std.specs.List.{AllByRecursion, prefix_len, insert, remove}
-use Rattle.std.specs.List.Sorted.{IsPartitionedBy, IsPartitionPoint}
-use Rattle.std.proofs.Math.Seq.{drop-cons}
-use Rattle.std.proofs.lemmas.Bool.Decides.{nat_tests}
-use Rattle.tatp_rows.specs.Ordered.{IsOrderedBy, row_at, with_row_at, with_row, without_row}
+use Rattle.tatp_rows.proofs.Common.{◌≡◌, ◌≢◌, refl, sym, ap, ◌∙◌, ℕ, zero, suc, ◌+◌, ◌-◌, ◌<◌, ◌≤◌, List, [], ◌∷◌, length, get_or, set, drop, true, false, arith, ◌==◌, nat_lt, Some, None, AllByRecursion, prefix_len, insert, remove, IsPartitionedBy, IsPartitionPoint, drop-cons, nat_tests, IsOrderedBy, row_at, with_row_at, with_row, without_row}
 use Rattle.tatp_rows.proofs.OrderedLemmas.{each-weaker, by_test, absent_below, absent_cons}
 
 one_more : (n : ℕ) → 1 + n ≡ suc n
@@ -34,10 +28,6 @@ module _ {X : Type 0} (key : X → ℕ) where
 
   pub place-here : (k : ℕ) (x : X) (xs : List X) → k ≤ key x → place_in k (x ∷ xs) ≡ 0
   place-here k x xs over = let e : nat_lt (key x) k ≡ false = grind (arith, nat_tests) in rw e refl
-
-  pub place-le-length : (k : ℕ) (xs : List X) → place_in k xs ≤ length xs
-  place-le-length k [] = omega arith
-  place-le-length k (x ∷ xs) = let rest = place-le-length k xs in by_test (nat_lt (key x) k) (λ e. rw e (omega arith)) (λ e. rw e (omega arith))
 
   -- a key is at the head, later, or, where the head's key is greater, absent
   pub by_order : {A : Type 0} (k n : ℕ) → (n < k → A) → (n ≡ k → A) → (k < n → A) → A

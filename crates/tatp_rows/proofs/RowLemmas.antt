@@ -1,16 +1,6 @@
 -- What the ranges of a row's fields say, one by one.
-use Rattle.std.proofs.Common.{◌≡◌, refl, subst, sym, ℕ, zero, suc, ◌+◌, ◌<◌, ◌≤◌, Bool, true, false, List, [], ◌∷◌, length, replicate, get_or, set, ◌↔◌, ◌⊎◌, inl, inr, IsTrue, arith}
-use Rattle.std.specs.Prelude.{◌==◌, ◌&&◌, ◌||◌, nat_lt, nat_le, Ok, Err}
-use Rattle.std.specs.List.{EachIndex, list_all}
-use Rattle.std.proofs.lemmas.Bool.Decides.{nat_tests}
-use Rattle.std.proofs.lemmas.Str.{IsUtf8-from_ascii}
-use Rattle.std.proofs.lemmas.Bool.{cases_lt}
-use Rattle.std.proofs.lemmas.List.{get_or_past, length-replicate}
-use Rattle.std.specs.Str.{IsUtf8}
+use Rattle.tatp_rows.proofs.Common.{◌≡◌, refl, subst, sym, ℕ, zero, suc, ◌+◌, ◌<◌, ◌≤◌, Bool, true, false, List, [], ◌∷◌, length, replicate, get_or, set, ◌↔◌, ◌⊎◌, inl, inr, IsTrue, arith, ◌==◌, ◌&&◌, ◌||◌, nat_lt, nat_le, Ok, Err, EachIndex, list_all, nat_tests, IsUtf8-from_ascii, cases_lt, get_or_past, length-replicate, IsUtf8, LAST_SUBSCRIBER, Field, between, subscriber_of, SubscriberRow, AccessInfoRow, SpecialFacilityRow, CallForwardingRow, is_between, are_between, subscriber_in_range, access_in_range, facility_in_range, forwarding_in_range}
 use Rattle.tatp_rows.proofs.OrderedLemmas.{by_test}
-use Rattle.tatp_rows.specs.declared.ranges.TheConstants.{LAST_SUBSCRIBER}
-use Rattle.tatp_rows.specs.declared.refusal.Refusal.TheVariants.{Field}
-use Rattle.tatp_rows.specs.Rows.{between, subscriber_of, SubscriberRow, AccessInfoRow, SpecialFacilityRow, CallForwardingRow, is_between, are_between, subscriber_in_range, access_in_range, facility_in_range, forwarding_in_range}
 
 -- a first test, and the tests after it, from the test of all
 pub both : (a b : Bool) → (a && b) ≡ true → (a ≡ true) × (b ≡ true)
@@ -100,33 +90,6 @@ subscriber_from_ranges row ranges =
     let vlr = between_from 1 4294967295 row.vlr_location ranges.vlr_location_from (let to = ranges.vlr_location_below in omega arith) in
     both_from _ _ s_id (both_from _ _ number (both_from _ _ ranges.bits_between (both_from _ _ ranges.hexes_between (both_from _ _ ranges.bytes_between (both_from _ _ msc vlr)))))
 
--- so many numbers
-pub length_bits : (row : SubscriberRow) → subscriber_in_range row ≡ true → length row.bits ≡ 10
-length_bits row holds = length-are_between 10 0 1 row.bits (subscriber_ranges row holds).bits_between
-
-pub length_hexes : (row : SubscriberRow) → subscriber_in_range row ≡ true → length row.hexes ≡ 10
-length_hexes row holds = length-are_between 10 0 15 row.hexes (subscriber_ranges row holds).hexes_between
-
-pub length_bytes : (row : SubscriberRow) → subscriber_in_range row ≡ true → length row.bytes ≡ 10
-length_bytes row holds = length-are_between 10 0 255 row.bytes (subscriber_ranges row holds).bytes_between
-
--- the row at another location
-pub relocated_in_range : (row : SubscriberRow) (v : ℕ) → 1 ≤ v → v < 4294967296 → subscriber_in_range row ≡ true → subscriber_in_range (record row { vlr_location = v }) ≡ true
-relocated_in_range row v from below holds =
-    let ranges = subscriber_ranges row holds in
-    subscriber_from_ranges (record row { vlr_location = v }) (record {
-      s_id_from = ranges.s_id_from;
-      s_id_below = ranges.s_id_below;
-      sub_nbr_below = ranges.sub_nbr_below;
-      bits_between = ranges.bits_between;
-      hexes_between = ranges.hexes_between;
-      bytes_between = ranges.bytes_between;
-      msc_location_from = ranges.msc_location_from;
-      msc_location_below = ranges.msc_location_below;
-      vlr_location_from = from;
-      vlr_location_below = below;
-    })
-
 -- numbers in a range, with another one in front
 front_between : (size low high b : ℕ) (ns : List ℕ) → low ≤ b → b ≤ high → 0 < size → are_between size low high ns ≡ true → are_between size low high (set ns 0 b) ≡ true
 front_between size low high b [] from to some holds = absurd (let none = length-are_between size low high [] holds in omega arith)
@@ -145,23 +108,6 @@ bit_1_in_range row b small holds =
       s_id_below = ranges.s_id_below;
       sub_nbr_below = ranges.sub_nbr_below;
       bits_between = front_between 10 0 1 b row.bits (omega arith) small (omega arith) ranges.bits_between;
-      hexes_between = ranges.hexes_between;
-      bytes_between = ranges.bytes_between;
-      msc_location_from = ranges.msc_location_from;
-      msc_location_below = ranges.msc_location_below;
-      vlr_location_from = ranges.vlr_location_from;
-      vlr_location_below = ranges.vlr_location_below;
-    })
-
--- the row with another number
-pub renumbered_in_range : (row : SubscriberRow) (n : ℕ) → n < 1000000000000000 → subscriber_in_range row ≡ true → subscriber_in_range (record row { sub_nbr = n }) ≡ true
-renumbered_in_range row n below holds =
-    let ranges = subscriber_ranges row holds in
-    subscriber_from_ranges (record row { sub_nbr = n }) (record {
-      s_id_from = ranges.s_id_from;
-      s_id_below = ranges.s_id_below;
-      sub_nbr_below = below;
-      bits_between = ranges.bits_between;
       hexes_between = ranges.hexes_between;
       bytes_between = ranges.bytes_between;
       msc_location_from = ranges.msc_location_from;
@@ -238,38 +184,6 @@ facility_ranges row holds =
       data_a_between = on_data.0;
       data_b_between = on_data.1;
     }
-
--- and all of them make the row's test
-pub facility_from_ranges : (row : SpecialFacilityRow) → FacilityRanges row → facility_in_range row ≡ true
-facility_from_ranges row ranges =
-    both_from _ _ ranges.s_id_between (both_from _ _ ranges.sf_type_between (both_from _ _ ranges.is_active_between
-    (both_from _ _ ranges.error_cntrl_between (both_from _ _ ranges.data_a_between ranges.data_b_between))))
-
--- the row that is switched on or off
-pub switched_in_range : (row : SpecialFacilityRow) (n : ℕ) → n ≤ 1 → facility_in_range row ≡ true → facility_in_range (record row { is_active = n }) ≡ true
-switched_in_range row n small holds =
-    let ranges = facility_ranges row holds in
-    facility_from_ranges (record row { is_active = n }) (record {
-      s_id_between = ranges.s_id_between;
-      sf_type_between = ranges.sf_type_between;
-      is_active_between = between_from 0 1 n (omega arith) small;
-      error_cntrl_between = ranges.error_cntrl_between;
-      data_a_between = ranges.data_a_between;
-      data_b_between = ranges.data_b_between;
-    })
-
--- the row with another data_a
-pub data_a_in_range : (row : SpecialFacilityRow) (n : ℕ) → n ≤ 255 → facility_in_range row ≡ true → facility_in_range (record row { data_a = n }) ≡ true
-data_a_in_range row n small holds =
-    let ranges = facility_ranges row holds in
-    facility_from_ranges (record row { data_a = n }) (record {
-      s_id_between = ranges.s_id_between;
-      sf_type_between = ranges.sf_type_between;
-      is_active_between = ranges.is_active_between;
-      error_cntrl_between = ranges.error_cntrl_between;
-      data_a_between = between_from 0 255 n (omega arith) small;
-      data_b_between = ranges.data_b_between;
-    })
 
 -- the times and the number of a Call_Forwarding row
 pub record ForwardingRanges (row : CallForwardingRow) : Type 0 where

@@ -1,12 +1,7 @@
 -- Laws of ordered lists that are cut by their keys into a front, a middle and a back.
-use Rattle.std.proofs.Common.{◌≡◌, ℕ, ◌+◌, ◌-◌, ◌<◌, ◌≤◌, List, [], ◌∷◌, ◌++◌, length, min, suc, Some, None, eqb, ltb, leb, refl, sym, ap, subst, ◌∙◌, arith, Bool}
-use Rattle.std.specs.List.{AllByRecursion, find}
-use Rattle.std.proofs.lemmas.Bool.{eqb-true}
-use Rattle.std.proofs.lemmas.Bool.Decides.{nat_tests}
-use Rattle.tatp_rows.proofs.AppendLemmas.{each-append, ordered-append, ordered-right, ordered-between, row_at-low, row_at-high, with_row_at-low, with_row_at-high, with_row-low, with_row-high, without_row-low, without_row-high}
+use Rattle.tatp_rows.proofs.Common.{◌≡◌, ℕ, ◌+◌, ◌-◌, ◌<◌, ◌≤◌, List, [], ◌∷◌, ◌++◌, length, min, suc, Some, None, eqb, ltb, leb, refl, sym, ap, subst, ◌∙◌, arith, Bool, AllByRecursion, find, eqb-true, nat_tests, IsOrderedBy, row_at, with_row_at, with_row, without_row, AllBelow, AllFrom, StartsAt}
+use Rattle.tatp_rows.proofs.AppendLemmas.{ordered-right, ordered-between, row_at-low, row_at-high, with_row_at-low, with_row_at-high, with_row-low, with_row-high, without_row-low, without_row-high}
 use Rattle.tatp_rows.proofs.OrderedLemmas.{by_test, each-weaker, absent_below, with_row_at_absent, without_row_absent, length-ordered}
-use Rattle.tatp_rows.specs.Ordered.{IsOrderedBy, row_at, with_row_at, with_row, without_row}
-use Rattle.tatp_rows.specs.Spans.{AllBelow, AllFrom, StartsAt}
 
 module _ {X : Type 0} (key : X → ℕ) where
   pub below-weaker : (k l : ℕ) (xs : List X) → k ≤ l → AllBelow key k xs → AllBelow key l xs
@@ -26,11 +21,6 @@ module _ {X : Type 0} (key : X → ℕ) where
   -- what lies behind an element has greater keys
   pub ordered_back : (a : List X) (x : X) (b : List X) → IsOrderedBy key (a ++ (x ∷ b)) → AllFrom key (key x + 1) b
   ordered_back a x b h = ordered_rest x b (ordered-right key a (x ∷ b) h)
-
-  -- where each part is in order and the keys of one part are below those of the next
-  pub ordered_parts : (k l : ℕ) (a m b : List X) → k ≤ l → IsOrderedBy key a → IsOrderedBy key m → IsOrderedBy key b → AllBelow key k a → AllFrom key k m → AllBelow key l m → AllFrom key l b → IsOrderedBy key (a ++ (m ++ b))
-  ordered_parts k l a m b le oa om ob ba fm bm fb =
-      ordered-append key k a (m ++ b) oa (ordered-append key l m b om ob bm fb) ba (each-append (λ x. k ≤ key x) m b fm (from-weaker k l b le fb))
 
   -- the element at a key, over parts
   pub row_at-skip : (k : ℕ) (a b : List X) → AllBelow key k a → row_at key k (a ++ b) ≡ row_at key k b
@@ -90,10 +80,6 @@ module _ {X : Type 0} (key : X → ℕ) where
   find-skip k [] b h = refl
   find-skip k (x ∷ a) b h = grind (arith, nat_tests, find-skip k a b h.1)
 
-  pub find-none : (k : ℕ) (a : List X) → AllBelow key k a → find (λ x. leb k (key x)) a ≡ None
-  find-none k [] h = refl
-  find-none k (x ∷ a) h = grind (arith, nat_tests, find-none k a h.1)
-
   pub find-head : (k : ℕ) (x : X) (b : List X) → k ≤ key x → find (λ x. leb k (key x)) (x ∷ b) ≡ Some x
   find-head k x b h = grind (arith, nat_tests)
 
@@ -113,14 +99,6 @@ module _ {X : Type 0} (key : X → ℕ) where
   pub length-with_row : (y : X) (xs : List X) → length (with_row key y xs) ≡ length xs + 1
   length-with_row y [] = refl
   length-with_row y (x ∷ xs) = by_test (ltb (key y) (key x)) (λ t. rw t (omega arith)) (λ t. rw t (omega (arith, length-with_row y xs)))
-
-  pub length-without_row : (k : ℕ) (xs : List X) → length xs ≤ length (without_row key k xs) + 1
-  length-without_row k [] = omega arith
-  length-without_row k (x ∷ xs) = by_test (eqb (key x) k) (λ t. rw t (omega arith)) (λ t. rw t (omega (arith, length-without_row k xs)))
-
-  pub length-without_row-le : (k : ℕ) (xs : List X) → length (without_row key k xs) ≤ length xs
-  length-without_row-le k [] = omega arith
-  length-without_row-le k (x ∷ xs) = by_test (eqb (key x) k) (λ t. rw t (omega arith)) (λ t. rw t (omega (arith, length-without_row-le k xs)))
 
   -- keys from j on and below n, in order, are at most as many as there are such numbers
   pub few_between : (j n : ℕ) (xs : List X) → AllFrom key j xs → IsOrderedBy key xs → AllBelow key n xs → length xs ≤ n - j

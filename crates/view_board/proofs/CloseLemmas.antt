@@ -1,11 +1,5 @@
 -- The board's end.
-use Rattle.std.proofs.Common.{◌≡◌, ℕ, ◌≤◌, ◌/◌, List, length, get_or, sym, subst, ◌∙◌, arith}
-use Rattle.std.proofs.lemmas.List.{ext_get_or}
-use Rattle.atomic_table.specs.Table.{Final, Seen}
-use Rattle.view_board.specs.declared.rule.View.{View}
-use Rattle.view_board.specs.declared.words.TheConstants.{WORDS, SLOT_WORDS}
-use Rattle.view_board.specs.Views.{OwnsAll, IsWide}
-use Rattle.view_board.specs.Rule.{IsRuled, Fits}
+use Rattle.view_board.proofs.Common.{◌≡◌, ℕ, ◌≤◌, ◌/◌, List, length, get_or, sym, subst, ◌∙◌, arith, ext_get_or, Final, Seen, View, WORDS, SLOT_WORDS, OwnsAll, IsWide, IsRuled, Fits}
 
 -- the words at the end are the numbers of the desk that owns all slots, and at least what it has seen
 pub ends : (id : ℕ) (v : View) (words : List ℕ) (slots : List (Unit {0})) → IsWide v → OwnsAll v → Final (Seen IsRuled id v) words slots

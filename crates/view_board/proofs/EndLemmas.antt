@@ -1,13 +1,5 @@
 -- A slot that was split off comes back.
-use Rattle.std.proofs.Common.{◌≡◌, ◌≢◌, ℕ, ◌+◌, ◌/◌, ◌<◌, max, List, length, get_or, set, replicate, Bool, true, false, ◌||◌, cond, refl, sym, subst, ◌∙◌, inl, inr, arith}
-use Rattle.std.proofs.Math.Bool.{or-false}
-use Rattle.std.proofs.lemmas.Bool.{cases_eq}
-use Rattle.std.proofs.lemmas.List.{get_or-set_same, get_or-set_other, get_or-replicate, length-replicate, ext_get_or}
-use Rattle.tatp_rows.proofs.BlankLemmas.{blank_at}
-use Rattle.view_board.specs.declared.rule.View.{View}
-use Rattle.view_board.specs.declared.words.TheConstants.{SLOTS, SLOT_WORDS, WORDS}
-use Rattle.view_board.specs.Views.{owned_at, Owns, OwnsAll, IsWide, alone, without, both}
-use Rattle.view_board.specs.Words.{each_word}
+use Rattle.view_board.proofs.Common.{◌≡◌, ◌≢◌, ℕ, ◌+◌, ◌/◌, ◌<◌, max, List, length, get_or, set, replicate, Bool, true, false, ◌||◌, cond, refl, sym, subst, ◌∙◌, inl, inr, arith, or-false, cases_eq, get_or-set_same, get_or-set_other, get_or-replicate, length-replicate, ext_get_or, blank_at, View, SLOTS, SLOT_WORDS, WORDS, owned_at, Owns, OwnsAll, IsWide, alone, without, both, each_word}
 use Rattle.view_board.proofs.JoinLemmas.{owned_by_both}
 use Rattle.view_board.proofs.ListLemmas.{each_word_at, length-each_word, each_slot_at, length-each_slot, apart_by_slots}
 use Rattle.view_board.proofs.SplitLemmas.{gone, only_slot}

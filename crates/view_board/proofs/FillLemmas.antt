@@ -1,9 +1,5 @@
 -- A list whose elements are written one after another.
-use Rattle.std.proofs.Common.{◌≡◌, ℕ, ◌+◌, ◌<◌, ◌≤◌, List, length, get_or, set, Bool, false, refl, sym, ◌∙◌, inl, inr, arith}
-use Rattle.std.proofs.lemmas.Bool.{cases_eq}
-use Rattle.std.proofs.lemmas.List.{length-set, get_or-set_same, get_or-set_other, ext_get_or}
-use Rattle.view_board.specs.declared.words.TheConstants.{SLOTS, WORDS}
-use Rattle.view_board.specs.Words.{each_word, each_slot}
+use Rattle.view_board.proofs.Common.{◌≡◌, ℕ, ◌+◌, ◌<◌, ◌≤◌, List, length, get_or, set, Bool, false, sym, ◌∙◌, inl, inr, arith, cases_eq, length-set, get_or-set_same, get_or-set_other, ext_get_or, SLOTS, WORDS, each_word, each_slot}
 use Rattle.view_board.proofs.ListLemmas.{each_word_at, length-each_word, each_slot_at, length-each_slot}
 
 module _ {X : Type 0} (d : X) (value : ℕ → X) (start : List X) where
@@ -12,9 +8,6 @@ module _ {X : Type 0} (d : X) (value : ℕ → X) (start : List X) where
     pub wide : length now ≡ length start
     pub here : (k : ℕ) → k < n → get_or now k d ≡ value k
     pub ahead : (k : ℕ) → n ≤ k → get_or now k d ≡ get_or start k d
-
-  pub none_filled : IsFilledTo start 0
-  none_filled = record { wide = refl; here = λ k below. absurd (omega arith); ahead = λ k from. refl }
 
   -- one element is written
   pub one_filled : (now : List X) (n : ℕ) (x : X) → IsFilledTo now n → n < length start → x ≡ value n → IsFilledTo (set now n x) (n + 1)

@@ -1,18 +1,7 @@
 -- Two desks that become one.
-use Rattle.std.proofs.Common.{◌≡◌, ◌≢◌, ◌⊎◌, ℕ, ◌/◌, ◌<◌, ◌≤◌, max, List, get_or, set, Bool, true, false, ◌||◌, if◌then◌else◌, refl, sym, ap, subst, ◌∙◌, inl, inr, arith}
+use Rattle.view_board.proofs.Common.{◌≡◌, ◌≢◌, ◌⊎◌, ℕ, ◌/◌, ◌<◌, ◌≤◌, max, List, get_or, set, Bool, true, false, ◌||◌, if◌then◌else◌, refl, sym, ap, subst, ◌∙◌, inl, inr, arith, cases_lt, false≢true, get_or_past, by_test, Me, Joins, at_set, View, SLOTS, SLOT_WORDS, WORDS, owned_at, Owns, OwnsWord, IsWide, both, nobody, slots_of_both, numbers_of_both, AreApart, AreSmall, Fits, IsRuled, Agrees}
 use mathlib.Core.Option.{some}
 use lib.ListN.{get_elem?}
-use Rattle.std.proofs.lemmas.Bool.{cases_lt, false≢true}
-use Rattle.std.proofs.lemmas.List.{get_or_past}
-use Rattle.tatp_rows.proofs.OrderedLemmas.{by_test}
-use Rattle.atomic_table.specs.Table.{Me, Joins}
-use Rattle.atomic_table.proofs.Lists.{at_set}
-use Rattle.view_board.specs.declared.rule.View.{View}
-use Rattle.view_board.specs.declared.words.TheConstants.{SLOTS, SLOT_WORDS, WORDS}
-use Rattle.view_board.specs.Views.{owned_at, Owns, OwnsWord, IsWide, both, nobody, slots_of_both, numbers_of_both, AreApart}
-use Rattle.view_board.specs.Words.{AreSmall}
-use Rattle.view_board.specs.Rule.{Fits, IsRuled}
-use Rattle.view_board.specs.Desks.{Agrees}
 use Rattle.view_board.proofs.ListLemmas.{each_word_at, length-each_word, each_slot_at, length-each_slot, set_within, apart_at, apart_by_slots}
 use Rattle.view_board.proofs.RuleLemmas.{HaveOneOwner, fit_after}
 

@@ -1,18 +1,6 @@
 -- The lower of each cell's two words is raised to the higher, cell by cell.
-use Rattle.std.proofs.Common.{◌≡◌, ◌≢◌, ◌⊎◌, ℕ, zero, suc, ◌+◌, ◌/◌, ◌%◌, ◌<◌, ◌≤◌, ◌==◌, nat_lt, max, not, Bool, true, false, if◌then◌else◌, List, length, get_or, refl, sym, ap, ◌∙◌, inl, inr, arith}
-use Rattle.std.specs.Prelude.{ℤ, pos, negsuc, count_by}
-use Rattle.std.specs.List.{range_with_len}
-use Rattle.std.proofs.lemmas.Int.{ints}
-use Rattle.std.proofs.lemmas.Bool.{cases_eq}
-use Rattle.std.proofs.lemmas.Bool.Decides.{nat_tests}
-use Rattle.std.proofs.lemmas.List.{length-set, get_or-set_same, get_or-set_other, ext_get_or}
-use Rattle.std.proofs.lemmas.List.Sums.{sum_by-cons}
-use Rattle.tatp_rows.proofs.OrderedLemmas.{by_test}
-use Rattle.view_board.specs.declared.rule.View.{View}
-use Rattle.view_board.specs.declared.words.TheConstants.{SLOTS, CELLS, SLOT_WORDS, WORDS}
-use Rattle.view_board.specs.Inside.{wanting}
-use Rattle.view_board.specs.Views.{posted, taken_back}
-use Rattle.view_board.specs.Words.{plus_word, minus_word, twin_of, raised_by, raises_of, leveled, uneven_cells}
+use Rattle.view_board.proofs.Common.{◌≡◌, ◌≢◌, ◌⊎◌, ℕ, zero, suc, ◌+◌, ◌/◌, ◌%◌, ◌<◌, ◌≤◌, ◌==◌, nat_lt, max, not, Bool, true, false, if◌then◌else◌, List, length, get_or, refl, sym, ap, ◌∙◌, inl, inr, arith, ℤ, pos, negsuc, count_by, range_with_len, ints, cases_eq, nat_tests, length-set, get_or-set_same, get_or-set_other, ext_get_or, sum_by-cons, by_test, View, SLOTS, CELLS, SLOT_WORDS, WORDS, wanting, posted, taken_back, plus_word, minus_word, twin_of, raised_by, raises_of, leveled}
+use Rattle.view_board.specs.Words.{uneven_cells}
 use Rattle.view_board.proofs.ListLemmas.{each_word_at, length-each_word}
 
 -- the two words of a cell are each other's twins

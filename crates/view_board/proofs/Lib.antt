@@ -1,5 +1,6 @@
 pub mod BackLemmas
 pub mod CloseLemmas
+pub mod Common
 pub mod EndLemmas
 pub mod FillLemmas
 pub mod JoinLemmas

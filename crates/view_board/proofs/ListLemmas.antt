@@ -1,11 +1,7 @@
 -- Lists of words, flags and views.
-use Rattle.std.proofs.Common.{◌≡◌, ◌⊎◌, ℕ, zero, suc, ◌<◌, List, [], ◌∷◌, ◌++◌, length, get_or, set, Bool, true, false, refl, sym, ap, subst, ◌∙◌, inl, inr, arith}
+use Rattle.view_board.proofs.Common.{◌≡◌, ◌⊎◌, ℕ, zero, suc, ◌<◌, List, [], ◌∷◌, ◌++◌, length, get_or, set, Bool, true, false, refl, sym, ap, subst, ◌∙◌, inl, inr, arith, cases_lt, cases_eq, false≢true, get_or-set_same, get_or-set_other, get_or_past, length-set, get_or-map-range_with_len, length-map-range_with_len, SLOTS, WORDS}
 use mathlib.Core.Option.{some, some-injective, some-ne-none}
 use lib.ListN.{get_elem?}
-use Rattle.std.proofs.lemmas.Bool.{cases_lt, cases_eq, false≢true}
-use Rattle.std.proofs.lemmas.List.{get_or-set_same, get_or-set_other, get_or_past, length-set}
-use Rattle.std.proofs.lemmas.List.FromFn.{get_or-map-range_with_len, length-map-range_with_len}
-use Rattle.view_board.specs.declared.words.TheConstants.{SLOTS, WORDS}
 use Rattle.view_board.specs.Words.{each_word, each_slot}
 use Rattle.view_board.specs.Views.{are_apart}
 

@@ -1,10 +1,5 @@
 -- A look that has come to a word.
-use Rattle.std.proofs.Common.{◌≡◌, ℕ, ◌<◌, ◌≤◌, List, length, get_or, sym, ap, ◌∙◌, inl, inr, arith}
-use Rattle.std.proofs.lemmas.Bool.{cases_lt}
-use Rattle.std.proofs.lemmas.List.{ext_get_or, get_or_past}
-use Rattle.view_board.specs.declared.rule.View.{View}
-use Rattle.view_board.specs.declared.words.TheConstants.{WORDS, LIMIT}
-use Rattle.view_board.specs.Views.{OwnsWord, IsRightSight, looked}
+use Rattle.view_board.proofs.Common.{◌≡◌, ℕ, ◌<◌, ◌≤◌, List, length, get_or, sym, ap, ◌∙◌, inl, inr, arith, cases_lt, ext_get_or, get_or_past, View, WORDS, LIMIT, OwnsWord, IsRightSight, looked}
 
 -- the words in front of one were looked at, and the desk has seen what was found there
 pub record IsLookedTo (before now : View) (words : List ℕ) (n : ℕ) : Type 0 where

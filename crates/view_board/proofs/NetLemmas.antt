@@ -1,17 +1,6 @@
 -- The net of a desk: after a word is raised, and of two desks as one.
-use Rattle.std.proofs.Common.{◌≡◌, ◌≢◌, ℕ, zero, suc, ◌+◌, ◌/◌, ◌<◌, ◌≤◌, ◌==◌, if◌then◌else◌, List, [], ◌∷◌, length, get_or, set, drop, Bool, true, false, refl, subst, arith}
-use Rattle.std.specs.Prelude.{ℤ, pos, negsuc, ◌+ℤ◌}
-use Rattle.std.specs.Int.RustNames.{unsigned_abs}
-use Rattle.std.proofs.lemmas.Int.{ints}
-use Rattle.std.proofs.lemmas.Bool.{false≢true}
-use Rattle.std.proofs.lemmas.Bool.Decides.{nat_tests}
-use Rattle.std.proofs.lemmas.List.{at_drop_more, drop_all, get_or-set_same, get_or-set_other}
-use Rattle.tatp_rows.proofs.OrderedLemmas.{by_test}
-use Rattle.view_board.specs.declared.rule.View.{View}
-use Rattle.view_board.specs.declared.words.TheConstants.{SLOTS, CELLS, SLOT_WORDS, WORDS}
-use Rattle.view_board.specs.Words.{plus_word, minus_word, word_of, slot_net}
-use Rattle.view_board.specs.Views.{Owns, OwnsWord, IsWide, posted}
-use Rattle.view_board.specs.Nets.{net_from, NetMoves}
+use Rattle.view_board.proofs.Common.{◌≡◌, ◌≢◌, ℕ, zero, suc, ◌+◌, ◌/◌, ◌<◌, ◌≤◌, ◌==◌, if◌then◌else◌, List, [], ◌∷◌, length, get_or, set, drop, Bool, true, false, refl, subst, arith, ℤ, pos, negsuc, ◌+ℤ◌, unsigned_abs, ints, false≢true, nat_tests, at_drop_more, drop_all, get_or-set_same, get_or-set_other, by_test, View, SLOTS, CELLS, SLOT_WORDS, WORDS, plus_word, minus_word, word_of, slot_net, Owns, OwnsWord, IsWide, posted, NetMoves}
+use Rattle.view_board.specs.Nets.{net_from}
 use Rattle.view_board.proofs.ListLemmas.{set_within}
 
 -- the word that an amount raises is one of the slot's

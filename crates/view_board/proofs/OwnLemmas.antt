@@ -1,14 +1,6 @@
 -- The net of a desk with one slot, and of one whose slots have none.
-use Rattle.std.proofs.Common.{◌≡◌, ℕ, zero, suc, ◌+◌, ◌<◌, List, [], ◌∷◌, get_or, replicate, Bool, true, false, refl, subst, ◌∙◌, arith}
-use Rattle.std.specs.Prelude.{pos}
-use Rattle.std.proofs.lemmas.Bool.{false≢true}
-use Rattle.std.proofs.lemmas.Int.{ints}
-use Rattle.std.proofs.lemmas.List.{length-set, length-replicate, get_or-set_same}
-use Rattle.view_board.specs.declared.rule.View.{View}
-use Rattle.view_board.specs.declared.words.TheConstants.{SLOTS}
-use Rattle.view_board.specs.Words.{slot_net}
-use Rattle.view_board.specs.Views.{Owns, OwnsAlone, IsWide, alone, without}
-use Rattle.view_board.specs.Nets.{net_of, net_from}
+use Rattle.view_board.proofs.Common.{◌≡◌, ℕ, zero, suc, ◌+◌, ◌<◌, List, [], ◌∷◌, get_or, replicate, Bool, true, false, refl, subst, ◌∙◌, arith, pos, false≢true, ints, length-set, length-replicate, get_or-set_same, View, SLOTS, slot_net, Owns, OwnsAlone, IsWide, alone, without, net_of}
+use Rattle.view_board.specs.Nets.{net_from}
 use Rattle.view_board.proofs.SplitLemmas.{only_slot}
 
 module _ (words : List ℕ) (cell : ℕ) where
@@ -50,9 +42,6 @@ net_alone v c slot own = subst (λ (s : ℕ). net_of v c ≡ slot_net v.numbers 
 -- a slot that was split off is the new desk's alone, whose net is the slot's
 pub owns_alone : (v : View) (slot : ℕ) → slot < SLOTS → OwnsAlone (alone v slot) slot
 owns_alone v slot in_board = (get_or-set_same (replicate SLOTS false) slot true false (rw (length-replicate SLOTS false) in_board), only_slot v slot)
-
-pub net_split_off : (v : View) (c slot : ℕ) → slot < SLOTS → net_of (alone v slot) c ≡ slot_net v.numbers c slot
-net_split_off v c slot in_board = net_alone (alone v slot) c slot (owns_alone v slot in_board)
 
 -- both desks are as wide as the one before
 pub wide_alone : (v : View) (slot : ℕ) → IsWide v → IsWide (alone v slot)

@@ -1,10 +1,5 @@
 -- In how many steps an amount is posted: in one, and an amount of 0 in none.
-use Rattle.std.proofs.Common.{◌≡◌, ℕ, zero, suc, ◌+◌, get_or, refl, arith}
-use Rattle.std.specs.Prelude.{ℤ, pos, negsuc}
-use Rattle.std.proofs.lemmas.List.{set-get_or}
-use Rattle.view_board.specs.declared.rule.View.{View}
-use Rattle.view_board.specs.Words.{plus_word, raises_of}
-use Rattle.view_board.specs.Views.{posted}
+use Rattle.view_board.proofs.Common.{◌≡◌, ℕ, zero, suc, ◌+◌, get_or, refl, arith, ℤ, pos, negsuc, set-get_or, View, plus_word, raises_of, posted}
 
 -- an amount of 0 leaves what the desk knows
 pub posted_none : (v : View) (slot cell : ℕ) → posted v slot cell (pos 0) ≡ v

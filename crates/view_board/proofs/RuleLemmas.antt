@@ -1,15 +1,7 @@
 -- The rule after a view is put in another's place, and one more is there.
-use Rattle.std.proofs.Common.{◌≡◌, ◌≢◌, ◌⊎◌, ℕ, ◌≤◌, List, get_or, set, sym, subst, ◌∙◌, inl, inr, arith}
+use Rattle.view_board.proofs.Common.{◌≡◌, ◌≢◌, ◌⊎◌, ℕ, ◌≤◌, List, get_or, set, sym, subst, ◌∙◌, inl, inr, arith, cases_eq, length-set, set-get_or, get_or-set_other, State, at_set, View, LIMIT, Owns, OwnsWord, Fits, IsRuled}
 use mathlib.Core.Option.{some}
 use lib.ListN.{get_elem?}
-use Rattle.std.proofs.lemmas.Bool.{cases_eq}
-use Rattle.std.proofs.lemmas.List.{length-set, set-get_or, get_or-set_other}
-use Rattle.atomic_table.specs.Table.{State}
-use Rattle.atomic_table.proofs.Lists.{at_set}
-use Rattle.view_board.specs.declared.rule.View.{View}
-use Rattle.view_board.specs.declared.words.TheConstants.{LIMIT}
-use Rattle.view_board.specs.Views.{Owns, OwnsWord}
-use Rattle.view_board.specs.Rule.{Fits, IsRuled}
 use Rattle.view_board.proofs.ListLemmas.{after_set}
 
 -- each desk fits the words; a slot is of one desk at most

@@ -1,16 +1,7 @@
 -- A slot that is split off.
-use Rattle.std.proofs.Common.{◌≡◌, ℕ, List, [], ◌∷◌, ◌++◌, length, set, replicate, true, false, sym, subst, ◌∙◌, inl, inr}
+use Rattle.view_board.proofs.Common.{◌≡◌, ℕ, List, [], ◌∷◌, ◌++◌, length, set, replicate, true, false, sym, subst, ◌∙◌, inl, inr, cases_eq, cases_lt, false≢true, length-set, get_or-set_same, get_or-set_other, get_or_past, blank_at, Splits, at_set, View, SLOTS, Owns, without, alone, Fits, IsRuled}
 use mathlib.Core.Option.{some}
 use lib.ListN.{get_elem?}
-use Rattle.std.proofs.lemmas.Bool.{cases_eq, cases_lt, false≢true}
-use Rattle.std.proofs.lemmas.List.{length-set, get_or-set_same, get_or-set_other, get_or_past}
-use Rattle.tatp_rows.proofs.BlankLemmas.{blank_at}
-use Rattle.atomic_table.specs.Table.{Splits}
-use Rattle.atomic_table.proofs.Lists.{at_set}
-use Rattle.view_board.specs.declared.rule.View.{View}
-use Rattle.view_board.specs.declared.words.TheConstants.{SLOTS}
-use Rattle.view_board.specs.Views.{Owns, without, alone}
-use Rattle.view_board.specs.Rule.{Fits, IsRuled}
 use Rattle.view_board.proofs.ListLemmas.{at_end}
 use Rattle.view_board.proofs.RuleLemmas.{AreFit, HaveOneOwner, fit_after, one_owner_after}
 

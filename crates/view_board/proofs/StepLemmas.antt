@@ -1,14 +1,6 @@
 -- What each step asks: whatever the words and desks are, the rule is kept, and the desk is told what its step tells.
-use Rattle.std.proofs.Common.{◌≡◌, ℕ, ◌+◌, ◌%◌, ◌^◌, ◌<◌, ◌≤◌, List, length, get_or, set, Bool, refl, sym, subst, ◌∙◌, inl, inr, arith}
+use Rattle.view_board.proofs.Common.{◌≡◌, ℕ, ◌+◌, ◌%◌, ◌^◌, ◌<◌, ◌≤◌, List, length, get_or, set, Bool, refl, sym, subst, ◌∙◌, inl, inr, arith, cases_eq, get_or-set_same, get_or-set_other, set-get_or, Me, Allows, step, keeps, View, WORDS, LIMIT, OwnsWord, raised, saw, Fits, IsRuled, IsRaiseStep, IsLookStep, IsCheckStep, Agrees}
 use mathlib.Core.Option.{none}
-use Rattle.std.proofs.lemmas.Bool.{cases_eq}
-use Rattle.std.proofs.lemmas.List.{get_or-set_same, get_or-set_other, set-get_or}
-use Rattle.atomic_table.specs.Table.{Me, Allows, step, keeps}
-use Rattle.view_board.specs.declared.rule.View.{View}
-use Rattle.view_board.specs.declared.words.TheConstants.{WORDS, LIMIT}
-use Rattle.view_board.specs.Views.{OwnsWord, raised, saw}
-use Rattle.view_board.specs.Rule.{Fits, IsRuled, IsRaiseStep, IsLookStep, IsCheckStep}
-use Rattle.view_board.specs.Desks.{Agrees}
 use Rattle.view_board.proofs.ListLemmas.{after_set}
 use Rattle.view_board.proofs.RuleLemmas.{stepped_rule}
 

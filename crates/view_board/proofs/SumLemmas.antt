@@ -1,15 +1,6 @@
 -- The net of two desks as one, and of one as two.
-use Rattle.std.proofs.Common.{◌≡◌, ◌≢◌, ℕ, suc, ◌+◌, ◌/◌, ◌<◌, ◌||◌, List, [], ◌∷◌, length, get_or, replicate, Bool, true, false, refl, sym, subst, ◌∙◌, inl, inr, arith}
-use Rattle.std.specs.Prelude.{◌+ℤ◌}
-use Rattle.std.proofs.lemmas.Int.{ints}
-use Rattle.std.proofs.lemmas.Bool.{cases_eq, false≢true}
-use Rattle.std.proofs.lemmas.List.{length-set, length-replicate, get_or-set_same, get_or-set_other}
-use Rattle.tatp_rows.proofs.BlankLemmas.{blank_at}
-use Rattle.view_board.specs.declared.rule.View.{View}
-use Rattle.view_board.specs.declared.words.TheConstants.{SLOTS, SLOT_WORDS}
-use Rattle.view_board.specs.Words.{plus_word, minus_word, slot_net}
-use Rattle.view_board.specs.Views.{owned_at, Owns, IsWide, both, alone, without, slots_of_both}
-use Rattle.view_board.specs.Nets.{net_from, NetAdds}
+use Rattle.view_board.proofs.Common.{◌≡◌, ◌≢◌, ℕ, suc, ◌+◌, ◌/◌, ◌<◌, ◌||◌, List, [], ◌∷◌, length, get_or, replicate, Bool, true, false, refl, sym, subst, ◌∙◌, inl, inr, arith, ◌+ℤ◌, ints, cases_eq, false≢true, length-set, length-replicate, get_or-set_same, get_or-set_other, blank_at, View, SLOTS, SLOT_WORDS, plus_word, minus_word, slot_net, owned_at, Owns, IsWide, both, alone, without, slots_of_both, NetAdds}
+use Rattle.view_board.specs.Nets.{net_from}
 use Rattle.view_board.proofs.ListLemmas.{set_within, each_slot_at, length-each_slot}
 use Rattle.view_board.proofs.JoinLemmas.{number_theirs, number_ours, not_theirs}
 

@@ -36,7 +36,7 @@ impl Model for Board {
 }
 
 impl Board {
-    /// A board of these words, and a desk that owns all of it. `Field` where a word passes `LIMIT`, else `Memory`
+    /// Opens a board of these words, and a desk that owns all of it. `Field` where a word passes `LIMIT`, else `Memory`
     /// where a growth was refused.
     pub fn open(alloc: Global, words: &[u64; WORDS]) -> Result<(Board, Desk), Refusal>
         ensures ok { IfOk result (λ opened. AreSmall words.now × (opened.1.board ≡ opened.0) × (opened.1.view ≡ first_view words.now)) }

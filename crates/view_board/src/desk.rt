@@ -29,14 +29,14 @@ impl Model for Desk {
 }
 
 impl Desk {
-    /// Whether the slot is the desk's; one past the last is nobody's.
+    /// Tells whether the slot is the desk's; one past the last is nobody's.
     pub fn owns(&self, slot: u8) -> bool
         ensures { IsTrue result ↔ Owns self.now.view slot }
     {
         slot < SLOTS && self.owned[usize::from(slot)]
     }
 
-    /// The least slot of the desk, or `None` where it owns none.
+    /// Gives the least slot of the desk, or `None` where it owns none.
     pub fn least_slot(&self) -> Option<u8>
         ensures least { IfSome result (λ slot. (slot < SLOTS) × IsLeastSlot self.now.view slot) }
         ensures none { result ≡ None → (slot : ℕ) → Owns self.now.view slot → ⊥ }
@@ -51,7 +51,7 @@ impl Desk {
         None
     }
 
-    /// What the desk has published of a cell below `CELLS`: the sum over its slots of their plus-words less their
+    /// Gives what the desk has published of a cell below `CELLS`: the sum over its slots of their plus-words less their
     /// minus-words.
     #[inline(always)]
     pub fn net(&self, cell: u8) -> i128
@@ -64,7 +64,7 @@ impl Desk {
         net_over(&self.owned, &self.numbers, cell)
     }
 
-    /// What the desk has published of each cell, in one walk over its slots.
+    /// Gives what the desk has published of each cell, in one walk over its slots.
     pub fn nets(&self) -> [i128; CELLS as usize]
         ensures wide { IsWide self.now.view }
         ensures value { (c : ℕ) → c < CELLS → slice_index_or result c (pos 0) ≡ net_of self.now.view c }

@@ -41,8 +41,8 @@ pub struct Sight {
 }
 
 impl Sight {
-    /// The plus-word and the minus-word of a slot below `SLOTS` and a cell below `CELLS`: how much was added to the cell there,
-    /// and how much was taken off it.
+    /// Gives the plus-word and the minus-word of a slot below `SLOTS` and a cell below `CELLS`: how much was added to
+    /// the cell there, and how much was taken off it.
     pub fn words_of(&self, slot: u8, cell: u8) -> (u64, u64)
         requires slot { slot < SLOTS }
         requires cell { cell < CELLS }
@@ -54,7 +54,8 @@ impl Sight {
         (self.words[plus], self.words[minus])
     }
 
-    /// What is published of a cell below `CELLS`: what a desk that has all slots would have published by these words.
+    /// Gives what is published of a cell below `CELLS`: what a desk that has all slots would have published by these
+    /// words.
     pub fn published(&self, cell: u8) -> i128
         requires { cell < CELLS }
         ensures { result ≡ net_of (first_view self.now.words) cell }

@@ -1,2 +1,3 @@
+pub mod Common
 pub mod NoteLemmas
 pub mod SumLemmas

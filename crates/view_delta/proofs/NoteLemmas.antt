@@ -1,13 +1,5 @@
 -- The notes of a change fit deltas that are far from the limits.
-use Rattle.std.proofs.Common.{◌≡◌, ℕ, ◌*◌, ◌^◌, ◌<◌, ◌≤◌, ◌==◌, arith, List, [], ◌∷◌, length}
-use Rattle.std.specs.Prelude.{ℤ, pos, neg_ℤ, ◌≤ℤ◌}
-use Rattle.std.specs.List.{AllByRecursion}
-use Rattle.std.proofs.lemmas.Int.{ints}
-use Rattle.tatp_rows.proofs.OrderedLemmas.{by_test}
-use Rattle.tatp_actions.specs.Change.{change_at, IsNote}
-use Rattle.tatp_actions.specs.declared.cells.TheConstants.{CELLS}
-use Rattle.tatp_actions.specs.declared.change.TheConstants.{NOTES}
-use Rattle.view_delta.specs.Pending.{delta_at, NotesFit}
+use Rattle.view_delta.proofs.Common.{ℕ, ◌*◌, ◌^◌, ◌<◌, ◌≤◌, ◌==◌, arith, List, [], ◌∷◌, length, ℤ, pos, neg_ℤ, ◌≤ℤ◌, AllByRecursion, ints, by_test, change_at, IsNote, CELLS, NOTES, delta_at, NotesFit}
 
 -- notes move a cell by at most eight each
 notes_small : (notes : List (ℕ × ℤ)) (c : ℕ) → AllByRecursion IsNote notes → (neg_ℤ (pos (8 * length notes)) ≤ℤ change_at notes c) × (change_at notes c ≤ℤ pos (8 * length notes))

@@ -1,14 +1,5 @@
 -- Deltas that are moved one cell after another.
-use Rattle.std.proofs.Common.{◌≡◌, ℕ, ◌+◌, ◌<◌, ◌≤◌, List, length, get_or, set, refl, ◌∙◌, arith}
-use Rattle.std.proofs.Common.{◌==◌}
-use Rattle.std.proofs.lemmas.Bool.Decides.{nat_tests}
-use Rattle.std.specs.Prelude.{ℤ, pos, ◌+ℤ◌}
-use Rattle.tatp_rows.proofs.BlankLemmas.{blank_at}
-use Rattle.tatp_rows.proofs.OrderedLemmas.{by_test}
-use Rattle.std.proofs.Common.{replicate}
-use Rattle.std.proofs.lemmas.List.{length-set, length-replicate, get_or-set_same, get_or-set_other}
-use Rattle.tatp_actions.specs.declared.cells.TheConstants.{CELLS}
-use Rattle.view_delta.specs.Pending.{delta_at}
+use Rattle.view_delta.proofs.Common.{◌≡◌, ℕ, ◌+◌, ◌<◌, ◌≤◌, List, length, get_or, set, ◌∙◌, arith, ◌==◌, nat_tests, ℤ, pos, ◌+ℤ◌, blank_at, by_test, replicate, length-set, length-replicate, get_or-set_same, get_or-set_other, CELLS, delta_at}
 
 -- the deltas of the first n cells are moved, each by its amount, and the others are as they were
 pub record AreMovedTo (amount : ℕ → ℤ) (start deltas : List ℤ) (n : ℕ) : Type 0 where
@@ -17,10 +8,6 @@ pub record AreMovedTo (amount : ℕ → ℤ) (start deltas : List ℤ) (n : ℕ)
   pub ahead : (c : ℕ) → n ≤ c → delta_at deltas c ≡ delta_at start c
 
 module _ (amount : ℕ → ℤ) (start : List ℤ) where
-  -- before the first cell
-  pub none_moved : length start ≡ CELLS → AreMovedTo amount start start 0
-  none_moved wide = record { wide = wide; moved = λ c below. absurd (omega arith); ahead = λ c from. refl }
-
   -- one more cell
   pub one_moved : (deltas : List ℤ) (n at : ℕ) (value : ℤ) → n < CELLS → at ≡ n → value ≡ delta_at start n +ℤ amount n → AreMovedTo amount start deltas n
       → AreMovedTo amount start (set deltas at value) (n + 1)

@@ -26,7 +26,7 @@ impl Model for Pending {
 }
 
 impl Pending {
-    /// A delta of 0 for each cell.
+    /// Makes a delta of 0 for each cell.
     pub fn zero() -> Self
         ensures { result ≡ replicate CELLS (pos 0) }
     {
@@ -42,7 +42,7 @@ impl Pending {
         Pending { deltas }
     }
 
-    /// The delta of a cell.
+    /// Gives the delta of a cell.
     pub fn get(&self, cell: u8) -> i64
         requires { cell < CELLS }
         ensures { result ≡ delta_at self.now cell }
@@ -50,7 +50,7 @@ impl Pending {
         self.deltas[usize::from(cell)]
     }
 
-    /// The deltas of all cells.
+    /// Gives the deltas of all cells.
     pub fn deltas(&self) -> [i64; CELLS as usize]
         ensures { result ≡ self.now }
     {
@@ -65,14 +65,14 @@ impl Pending {
         self.deltas[usize::from(cell)] = 0;
     }
 
-    /// Whether each delta is 0. The crates above ask for the next cell instead: this is for tests.
+    /// Tells whether each delta is 0. The crates above ask for the next cell instead: this is for tests.
     pub fn is_zero(&self) -> bool
         ensures { IsTrue result ↔ AreZero 0 CELLS self.now }
     {
         self.next_nonzero(0).is_none()
     }
 
-    /// The first cell from this one on whose delta isn't 0, or `None`.
+    /// Finds the first cell from this one on whose delta isn't 0, or `None`.
     pub fn next_nonzero(&self, from: u8) -> Option<u8>
         ensures { IsNextNonzero from self.now result }
     {

@@ -1,9 +1,4 @@
-use Rattle.std.proofs.Common.{◌∙◌, arith, w64}
-use Rattle.std.specs.Int.{w128}
-use Rattle.std.specs.Int.RustNames.{FitsSigned}
-use Rattle.std.proofs.lemmas.Int.{ints, to_z-of_z}
-use Rattle.std.proofs.lemmas.List.{length-set}
-use Rattle.view_board.specs.Nets.{net_of}
+use Rattle.holding.proofs.Common.{◌∙◌, arith, w64, w128, FitsSigned, ints, to_z-of_z, length-set, net_of}
 use Rattle.holding.proofs.HeldLemmas.{one_told}
 use Rattle.holding.proofs.holding.pending_of.Goals as goal
 

@@ -1,7 +1,4 @@
-use Rattle.std.proofs.Common.{◌≡◌, ℕ, ◌<◌, length}
-use Rattle.std.specs.Prelude.{pos, ◌-ℤ◌, slice_index, slice_index_or}
-use Rattle.tatp_actions.specs.declared.cells.TheConstants.{CELLS}
-use Rattle.view_board.specs.Nets.{net_of}
+use Rattle.holding.proofs.Common.{◌≡◌, ℕ, ◌<◌, length, pos, ◌-ℤ◌, slice_index, slice_index_or, CELLS, net_of}
 use Rattle.holding.proofs.holding.pending_of.Given as goal
 
 abbrev pub invariant-loop-cell : goal.invariant-loop-cell

@@ -1,6 +1,4 @@
-use Rattle.std.proofs.Common.{rules, arith, sym, ap, subst, ◌∙◌}
-use Rattle.mr_node.specs.Levels.{IsNode, seen}
-use Rattle.mr_cut.specs.Cuts.{IsCut}
+use Rattle.mr_cut.proofs.Common.{rules, arith, sym, ap, subst, ◌∙◌, IsNode, seen, IsCut}
 use Rattle.mr_cut.proofs.CutLemmas.{IsMiddleOf, middle_of, AreJoinable, joinable, cut_of}
 use Rattle.mr_cut.proofs.cuts.+cut.Goals.{After-divide-left, After-cut-low}
 use Rattle.mr_cut.proofs.cuts.+cut.Goals as goal

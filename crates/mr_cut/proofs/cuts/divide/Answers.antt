@@ -1,6 +1,4 @@
-use Rattle.std.proofs.Common.{rules, ◌∙◌}
-use Rattle.mr_node.proofs.NodeLemmas.{children_rise, children_below}
-use Rattle.mr_node.proofs.ChildLemmas.{child_at}
+use Rattle.mr_cut.proofs.Common.{rules, ◌∙◌, children_rise, children_below, child_at}
 use Rattle.mr_cut.proofs.CutLemmas.{IsSplitAt, parted_at, divided_of}
 use Rattle.mr_cut.proofs.cuts.divide.Goals.{After-take_child-mid}
 use Rattle.mr_cut.proofs.cuts.divide.Goals as goal

@@ -1,4 +1,4 @@
-use Rattle.std.proofs.Common.{rules, arith, get_or}
+use Rattle.mr_cut.proofs.Common.{rules, arith, get_or}
 use Rattle.mr_cut.proofs.CutLemmas.{piece_none, piece_one, piece_many, some_children}
 use Rattle.mr_cut.proofs.cuts.root_of.Goals as goal
 

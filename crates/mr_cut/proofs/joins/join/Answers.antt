@@ -1,6 +1,4 @@
-use Rattle.std.proofs.Common.{rules, arith, ◌-◌, sym, ap, subst, ◌∙◌}
-use Rattle.tatp_rows.specs.Ordered.{IsOrderedBy}
-use Rattle.mr_node.specs.Rows.{key_of_pair}
+use Rattle.mr_cut.proofs.Common.{rules, arith, ◌-◌, sym, ap, subst, ◌∙◌, IsOrderedBy, key_of_pair}
 use Rattle.mr_cut.proofs.JoinLemmas.{AreHigherFirst, higher_first, both_rootless, root_left, root_rows, both_height}
 use Rattle.mr_cut.proofs.CountLemmas.{more_fits, IsJoinCount, join_count}
 use Rattle.mr_cut.proofs.joins.join.Goals.{After-turned-node, After-root_of_both}

@@ -1,9 +1,4 @@
-use Rattle.std.proofs.Common.{rules, arith, ◌≡◌, ◌+◌, ◌-◌, ◌<◌, ◌≤◌, sym, ap, subst, ◌∙◌}
-use Rattle.tatp_rows.specs.Ordered.{IsOrderedBy}
-use Rattle.mr_node.specs.Rows.{key_of_pair}
-use Rattle.mr_node.specs.Levels.{seen, IsNode}
-use Rattle.mr_node.proofs.ChildLemmas.{child_at}
-use Rattle.mr_cut.specs.SideJoins.{beside}
+use Rattle.mr_cut.proofs.Common.{rules, arith, ◌≡◌, ◌+◌, ◌-◌, ◌<◌, ◌≤◌, sym, ap, subst, ◌∙◌, IsOrderedBy, key_of_pair, seen, IsNode, child_at, beside}
 use Rattle.mr_cut.proofs.SideJoinLemmas.{place_within, AreEnds, turned_ends, met_side_joined, side_rejoined}
 use Rattle.mr_cut.proofs.SideJoinLemmas.{IsApart, apart_of, apart_back}
 use Rattle.mr_cut.proofs.CountLemmas.{met_count, more_fits, inserted_count}

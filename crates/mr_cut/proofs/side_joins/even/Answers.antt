@@ -1,6 +1,4 @@
-use Rattle.std.proofs.Common.{rules, ◌++◌, sym, ap, subst, ◌∙◌}
-use Rattle.tatp_rows.specs.Ordered.{IsOrderedBy}
-use Rattle.mr_node.specs.Rows.{key_of_pair}
+use Rattle.mr_cut.proofs.Common.{rules, ◌++◌, sym, ap, subst, ◌∙◌, IsOrderedBy, key_of_pair}
 use Rattle.mr_cut.proofs.side_joins.even.Goals as goal
 
 pub even_with-requires : goal.even_with-requires

@@ -1,4 +1,4 @@
-use Rattle.std.proofs.Common.{rules, ◌∙◌}
+use Rattle.mr_cut.proofs.Common.{rules, ◌∙◌}
 use Rattle.mr_cut.proofs.SideJoinLemmas.{lone_inner}
 use Rattle.mr_cut.proofs.side_joins.lone.Goals as goal
 

@@ -1,9 +1,4 @@
-use Rattle.std.proofs.Common.{rules, arith, ◌≡◌, ◌+◌, ◌-◌, ◌++◌, IfSome, sym, subst, ◌∙◌}
-use Rattle.tatp_rows.specs.Ordered.{IsOrderedBy}
-use Rattle.mr_node.specs.Rows.{key_of_pair}
-use Rattle.mr_node.specs.Levels.{children_of, rows_of, IsInner}
-use Rattle.mr_node.specs.Pairs.{IsChildNode}
-use Rattle.mr_cut.specs.SideJoins.{beside, MaybeNode, rows_with}
+use Rattle.mr_cut.proofs.Common.{rules, arith, ◌≡◌, ◌+◌, ◌-◌, ◌++◌, IfSome, sym, subst, ◌∙◌, IsOrderedBy, key_of_pair, children_of, rows_of, IsInner, IsChildNode, beside, MaybeNode, rows_with}
 use Rattle.mr_cut.proofs.SideJoinLemmas.{place_within, own_level, put_beside, near_children, IsNearBack, near_back}
 use Rattle.mr_cut.proofs.SideJoinLemmas.{inserted_one, AreEnds, back_ends, back_side_joined}
 use Rattle.mr_cut.proofs.side_joins.put_back.Goals.{After-turned-near, After-insert_child, After-turned-first, After-insert_child-in-None}

@@ -1,11 +1,5 @@
-use Rattle.std.proofs.Common.{rules, arith, ◌≡◌, ◌-◌, max, ◌++◌, sym, ap, subst, ◌∙◌}
-use Rattle.std.specs.Int.{abs_diff}
-use Rattle.tatp_rows.specs.Ordered.{IsOrderedBy}
-use Rattle.mr_node.specs.Rows.{key_of_pair}
-use Rattle.mr_subtree.specs.Trees.{IsRoot}
+use Rattle.mr_cut.proofs.Common.{rules, arith, ◌≡◌, ◌-◌, max, ◌++◌, sym, ap, subst, ◌∙◌, abs_diff, IsOrderedBy, key_of_pair, IsRoot, after_steps, join_steps}
 use Rattle.mr_subtree.proofs.RootFacts.{low_root as low_height}
-use Rattle.mr_node.specs.Steps.{after_steps}
-use Rattle.mr_cut.specs.Bounds.{join_steps}
 use Rattle.mr_cut.proofs.JoinLemmas.{apart_ordered}
 use Rattle.mr_cut.proofs.CountLemmas.{count_fits, same_count}
 use Rattle.mr_cut.proofs.trees.meld_from.Goals as goal

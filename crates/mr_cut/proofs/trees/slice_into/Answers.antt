@@ -1,5 +1,4 @@
-use Rattle.std.proofs.Common.{rules, arith, ◌+◌, ◌*◌, ◌≤◌, sym, subst, ap}
-use Rattle.mr_cut.specs.Cuts.{IsCut}
+use Rattle.mr_cut.proofs.Common.{rules, arith, ◌+◌, ◌*◌, ◌≤◌, sym, subst, ap, IsCut}
 use Rattle.mr_cut.proofs.CutLemmas.{both_meters, cut_rows}
 use Rattle.mr_cut.proofs.trees.slice_into.Goals as goal
 

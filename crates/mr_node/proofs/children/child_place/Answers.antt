@@ -1,5 +1,4 @@
-use Rattle.std.proofs.Common.{rules, ◌≡◌, length, subst, sym}
-use Rattle.mr_node.specs.Levels.{IsChildPlace}
+use Rattle.mr_node.proofs.Common.{rules, ◌≡◌, length, subst, sym, IsChildPlace}
 use Rattle.mr_node.proofs.EntryListLemmas.{entries_rises}
 use Rattle.mr_node.proofs.SearchLemmas.{child_placed}
 use Rattle.mr_node.proofs.children.child_place.Goals as goal

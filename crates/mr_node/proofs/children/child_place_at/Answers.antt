@@ -1,4 +1,4 @@
-use Rattle.std.proofs.Common.{rules, ◌≡◌, length}
+use Rattle.mr_node.proofs.Common.{rules, ◌≡◌, length}
 use Rattle.mr_node.proofs.SearchLemmas.{child_between}
 use Rattle.mr_node.proofs.children.child_place_at.Goals as goal
 

@@ -1,4 +1,4 @@
-use Rattle.std.proofs.Common.{refl}
+use Rattle.mr_node.proofs.Common.{refl}
 use Rattle.mr_node.proofs.EntryListLemmas.{no_entries}
 use Rattle.mr_node.proofs.children.empty_inner.Goals as goal
 

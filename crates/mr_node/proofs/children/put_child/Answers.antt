@@ -1,4 +1,4 @@
-use Rattle.std.proofs.Common.{rules, ◌≡◌, length}
+use Rattle.mr_node.proofs.Common.{rules, ◌≡◌, length}
 use Rattle.mr_node.proofs.MoveLemmas.{entries_put}
 use Rattle.mr_node.proofs.children.put_child.Goals as goal
 

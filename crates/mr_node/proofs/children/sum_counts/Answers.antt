@@ -1,7 +1,4 @@
-use Rattle.std.proofs.Common.{arith, ◌+◌, ap, ◌∙◌}
-use Rattle.std.specs.List.{sum_by}
-use Rattle.std.proofs.lemmas.List.{take_all}
-use Rattle.mr_node.specs.EntryLists.{entries}
+use Rattle.mr_node.proofs.Common.{arith, ◌+◌, ap, ◌∙◌, sum_by, take_all, entries}
 use Rattle.mr_node.proofs.EntryListLemmas.{entries_length}
 use Rattle.mr_node.proofs.ChildLemmas.{counts_more, counts_within}
 use Rattle.mr_node.proofs.children.sum_counts.Goals as goal

@@ -1,6 +1,4 @@
-use Rattle.std.proofs.Common.{◌≡◌, take}
-use Rattle.std.specs.List.{sum_by}
-use Rattle.mr_node.specs.EntryLists.{entries}
+use Rattle.mr_node.proofs.Common.{◌≡◌, take, sum_by, entries}
 use Rattle.mr_node.proofs.children.sum_counts.Given as goal
 
 abbrev pub invariant-loop-place : goal.invariant-loop-place

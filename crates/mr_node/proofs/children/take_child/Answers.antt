@@ -1,4 +1,4 @@
-use Rattle.std.proofs.Common.{sym, ◌∙◌}
+use Rattle.mr_node.proofs.Common.{sym, ◌∙◌}
 use Rattle.mr_node.proofs.PlaceLemmas.{never_none}
 use Rattle.mr_node.proofs.MoveLemmas.{entries_taken}
 use Rattle.mr_node.proofs.children.take_child.Goals as goal

@@ -1,6 +1,4 @@
-use Rattle.std.proofs.Common.{◌≡◌, [], sym, ◌∙◌}
-use Rattle.std.proofs.lemmas.List.{nil_from_length}
-use Rattle.mr_node.specs.EntryLists.{entries}
+use Rattle.mr_node.proofs.Common.{◌≡◌, [], sym, ◌∙◌, nil_from_length, entries}
 use Rattle.mr_node.proofs.EntryListLemmas.{entries_length}
 use Rattle.mr_node.proofs.EvenLemmas.{no_more}
 use Rattle.mr_node.proofs.PartLemmas.{cut_fits}

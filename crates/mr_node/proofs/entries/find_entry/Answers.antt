@@ -1,4 +1,4 @@
-use Rattle.std.proofs.Common.{◌≡◌, get_or, sym, subst}
+use Rattle.mr_node.proofs.Common.{◌≡◌, get_or, sym, subst}
 use Rattle.mr_node.proofs.EntryLemmas.{read_value, missing_value}
 use Rattle.mr_node.proofs.entries.find_entry.Goals as goal
 

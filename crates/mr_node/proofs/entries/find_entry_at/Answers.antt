@@ -1,5 +1,4 @@
-use Rattle.std.proofs.Common.{rules, arith, ◌≡◌, length, get_or, ap, subst}
-use Rattle.mr_node.specs.Entries.{IsThere}
+use Rattle.mr_node.proofs.Common.{rules, arith, ◌≡◌, length, get_or, ap, subst, IsThere}
 use Rattle.mr_node.proofs.EntryLemmas.{there_at, read_value}
 use Rattle.mr_node.proofs.entries.find_entry_at.Goals.{Then-is_at}
 use Rattle.mr_node.proofs.entries.find_entry_at.Goals as goal

@@ -1,4 +1,4 @@
-use Rattle.std.proofs.Common.{rules, arith, ◌≡◌, ◌<◌, length, get_or, sym, subst}
+use Rattle.mr_node.proofs.Common.{rules, arith, ◌≡◌, ◌<◌, length, get_or, sym, subst}
 use Rattle.mr_node.proofs.EntryLemmas.{leaf_rises}
 use Rattle.mr_node.proofs.FirstLemmas.{first_none, first_here}
 use Rattle.mr_node.proofs.entries.first_entry.Goals as goal

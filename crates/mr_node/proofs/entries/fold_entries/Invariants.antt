@@ -1,6 +1,4 @@
-use Rattle.std.proofs.Common.{take}
-use Rattle.mr_node.specs.Levels.{pairs_of}
-use Rattle.mr_node.specs.Folds.{FoldsRows}
+use Rattle.mr_node.proofs.Common.{take, pairs_of, FoldsRows}
 use Rattle.mr_node.proofs.entries.fold_entries.Given as goal
 
 abbrev pub invariant-loop-place : goal.invariant-loop-place

@@ -1,5 +1,4 @@
-use Rattle.std.proofs.Common.{arith, Bool, ◌==◌, ◌≡◌, ◌≤◌, ℕ, true}
-use Rattle.std.proofs.lemmas.Bool.Decides.{nat_tests}
+use Rattle.mr_node.proofs.Common.{arith, Bool, ◌==◌, ◌≡◌, ◌≤◌, ℕ, true, nat_tests}
 use Rattle.mr_node.proofs.EntryLemmas.{room_exists, room_full, room_done}
 use Rattle.mr_node.proofs.entries.insert_entry.Goals as goal
 

@@ -1,4 +1,4 @@
-use Rattle.std.proofs.Common.{rules, arith, ◌≡◌, length, get_or, subst}
+use Rattle.mr_node.proofs.Common.{rules, arith, ◌≡◌, length, get_or, subst}
 use Rattle.mr_node.proofs.EntryLemmas.{leaf_rises}
 use Rattle.mr_node.proofs.PageLemmas.{page_started, page_more, page_room, page_ends}
 use Rattle.mr_node.proofs.entries.page_entries.Goals as goal

@@ -1,4 +1,4 @@
-use Rattle.std.proofs.Common.{rules, ◌≡◌, length, set, refl, ◌∙◌}
+use Rattle.mr_node.proofs.Common.{rules, ◌≡◌, length, set, refl, ◌∙◌}
 use Rattle.mr_node.proofs.EntryLemmas.{IsPut, leaf_put, leaf_pushed}
 use Rattle.mr_node.proofs.entries.put_entry.Goals as goal
 use Rattle.mr_node.proofs.entries.put_entry.Goals.{After-insert, After-push}

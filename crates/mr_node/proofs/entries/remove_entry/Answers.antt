@@ -1,4 +1,4 @@
-use Rattle.std.proofs.Common.{sym}
+use Rattle.mr_node.proofs.Common.{sym}
 use Rattle.mr_node.proofs.EntryLemmas.{missing_at, missing_value, read_value, leaf_removed}
 use Rattle.mr_node.proofs.entries.remove_entry.Goals as goal
 

@@ -1,5 +1,4 @@
-use Rattle.std.proofs.Common.{rules, is_some, sym, ap, refl}
-use Rattle.mr_node.specs.Levels.{pairs_of}
+use Rattle.mr_node.proofs.Common.{rules, is_some, sym, ap, refl, pairs_of}
 use Rattle.mr_node.proofs.EntryLemmas.{missing_value}
 use Rattle.mr_node.proofs.ReviseLemmas.{revised_none, spent_none, leaf_revised, leaf_spent, leaf_found}
 use Rattle.mr_node.proofs.entries.revise_entry.Goals as goal

@@ -1,5 +1,4 @@
-use Rattle.std.proofs.Common.{rules, ◌≡◌, length, refl}
-use Rattle.mr_node.specs.Entries.{IsThere}
+use Rattle.mr_node.proofs.Common.{rules, ◌≡◌, length, refl, IsThere}
 use Rattle.mr_node.proofs.EntryLemmas.{there_at}
 use Rattle.mr_node.proofs.ReviseLemmas.{leaf_revised, leaf_spent, leaf_found}
 use Rattle.mr_node.proofs.entries.revise_entry_at.Goals.{Then-is_at}

@@ -1,4 +1,4 @@
-use Rattle.std.proofs.Common.{◌≡◌}
+use Rattle.mr_node.proofs.Common.{◌≡◌}
 use Rattle.mr_node.proofs.KeyedLemmas.{of_item}
 use Rattle.mr_node.proofs.ReviseLemmas.{value_changed}
 use Rattle.mr_node.proofs.entries.revise_in.Goals as goal

@@ -1,4 +1,4 @@
-use Rattle.std.proofs.Common.{rules, arith, ◌≡◌, length}
+use Rattle.mr_node.proofs.Common.{rules, arith, ◌≡◌, length}
 use Rattle.mr_node.proofs.EntryLemmas.{leaf_rises, there_at, free_at}
 use Rattle.mr_node.proofs.entries.search.Goals as goal
 

@@ -1,4 +1,4 @@
-use Rattle.std.proofs.Common.{arith, ◌≡◌, get_or, refl, subst}
+use Rattle.mr_node.proofs.Common.{arith, ◌≡◌, get_or, refl, subst}
 use Rattle.mr_node.proofs.FoldLemmas.{folds_entry, folds_all}
 use Rattle.mr_node.proofs.entries.walk_entries.Goals as goal
 

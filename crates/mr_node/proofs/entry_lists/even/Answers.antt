@@ -1,5 +1,4 @@
-use Rattle.std.proofs.Common.{◌+◌, length, eqb, sym, subst}
-use Rattle.mr_node.specs.Pairs.{AreEvenWidths}
+use Rattle.mr_node.proofs.Common.{◌+◌, length, eqb, sym, subst, AreEvenWidths}
 use Rattle.mr_node.proofs.ShareLemmas.{appended_sum, even_widths}
 use Rattle.mr_node.proofs.entry_lists.even.Goals as goal
 

@@ -1,6 +1,4 @@
-use Rattle.std.proofs.Common.{rules, arith, ◌≡◌, ◌+◌, ◌++◌, [], ◌∷◌, take, length, length-append, ap, ◌∙◌}
-use Rattle.mr_node.specs.Levels.{pairs_of}
-use Rattle.std.specs.List.{zip}
+use Rattle.mr_node.proofs.Common.{rules, arith, ◌≡◌, ◌+◌, ◌++◌, [], ◌∷◌, take, length, length-append, ap, ◌∙◌, pairs_of, zip}
 use Rattle.mr_node.proofs.FrontLemmas.{front_moved, rest_next}
 use Rattle.mr_node.proofs.entry_lists.move_front.Goals as goal
 

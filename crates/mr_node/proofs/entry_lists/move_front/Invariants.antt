@@ -1,7 +1,4 @@
-use Rattle.std.proofs.Common.{◌≡◌, ◌+◌, ◌++◌, length, take, drop}
-use Rattle.std.specs.List.{zip}
-use Rattle.mr_node.specs.EntryLists.{AreKeyed}
-use Rattle.mr_node.specs.Levels.{pairs_of}
+use Rattle.mr_node.proofs.Common.{◌≡◌, ◌+◌, ◌++◌, length, take, drop, zip, AreKeyed, pairs_of}
 use Rattle.mr_node.proofs.entry_lists.move_front.Given as goal
 
 abbrev pub invariant-loop-place : goal.invariant-loop-place

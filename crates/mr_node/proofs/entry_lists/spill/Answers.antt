@@ -1,4 +1,4 @@
-use Rattle.std.proofs.Common.{arith, ◌∙◌, ◌<◌, length}
+use Rattle.mr_node.proofs.Common.{arith, ◌∙◌, ◌<◌, length}
 use Rattle.mr_node.proofs.ShareLemmas.{spill_step, spill_room}
 use Rattle.mr_node.proofs.entry_lists.spill.Goals as goal
 

@@ -1,4 +1,4 @@
-use Rattle.std.proofs.Common.{◌≡◌, ◌≤◌, ◌++◌, length, reverse, min}
+use Rattle.mr_node.proofs.Common.{◌≡◌, ◌≤◌, ◌++◌, length, reverse, min}
 use Rattle.mr_node.proofs.entry_lists.spill.Given as goal
 
 abbrev pub invariant-loop-left : goal.invariant-loop-left

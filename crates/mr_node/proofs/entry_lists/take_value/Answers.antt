@@ -1,5 +1,4 @@
-use Rattle.std.proofs.Common.{Some, get_or, sym, ap, ◌∙◌}
-use Rattle.std.proofs.lemmas.Option.{slice_get-get_or}
+use Rattle.mr_node.proofs.Common.{Some, get_or, sym, ap, ◌∙◌, slice_get-get_or}
 use Rattle.mr_node.proofs.FrontLemmas.{value_taken}
 use Rattle.mr_node.proofs.entry_lists.take_value.Goals as goal
 

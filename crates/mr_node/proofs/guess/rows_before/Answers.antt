@@ -1,4 +1,4 @@
-use Rattle.std.proofs.Common.{arith, ◌∙◌}
+use Rattle.mr_node.proofs.Common.{arith, ◌∙◌}
 use Rattle.mr_node.proofs.GuessLemmas.{rows_counted}
 use Rattle.mr_node.proofs.guess.rows_before.Goals as goal
 

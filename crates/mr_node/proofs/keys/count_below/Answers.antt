@@ -1,4 +1,4 @@
-use Rattle.std.proofs.Common.{arith, ◌≡◌, ◌*◌, ◌+◌, ap}
+use Rattle.mr_node.proofs.Common.{arith, ◌≡◌, ◌*◌, ◌+◌, ap}
 use Rattle.mr_node.proofs.SearchLemmas.{stop_of, less_at}
 use Rattle.mr_node.proofs.keys.count_below.Goals as goal
 

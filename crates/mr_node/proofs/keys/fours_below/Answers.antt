@@ -1,4 +1,4 @@
-use Rattle.std.proofs.Common.{arith, ◌≡◌, ◌+◌, ◌<◌, ◌≤◌, ℕ, Bool, true, false, if◌then◌else◌}
+use Rattle.mr_node.proofs.Common.{arith, ◌≡◌, ◌+◌, ◌<◌, ◌≤◌, ℕ, Bool, true, false, if◌then◌else◌}
 use Rattle.mr_node.proofs.SearchLemmas.{four_of}
 use Rattle.mr_node.proofs.keys.fours_below.Goals.{After-is_less-7}
 use Rattle.mr_node.proofs.keys.fours_below.Goals as goal

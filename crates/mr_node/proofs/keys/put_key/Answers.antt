@@ -1,4 +1,4 @@
-use Rattle.std.proofs.Common.{set, ap, ◌∙◌}
+use Rattle.mr_node.proofs.Common.{set, ap, ◌∙◌}
 use Rattle.mr_node.proofs.PlaceLemmas.{put_within}
 use Rattle.mr_node.proofs.keys.put_key.Goals as goal
 

@@ -1,6 +1,5 @@
-use Rattle.std.proofs.Common.{arith, ◌∙◌}
+use Rattle.mr_node.proofs.Common.{arith, ◌∙◌, no_key}
 use Rattle.mr_node.proofs.PlaceLemmas.{moved_behind}
-use Rattle.mr_node.specs.EntryLists.{no_key}
 use Rattle.mr_node.proofs.keys.take_key.Goals as goal
 
 pub returns : goal.returns

@@ -1,4 +1,4 @@
-use Rattle.std.proofs.Common.{rules, ◌<◌, sym, ap, subst, ◌∙◌}
+use Rattle.mr_node.proofs.Common.{rules, ◌<◌, sym, ap, subst, ◌∙◌}
 use Rattle.mr_node.proofs.node.drop_root.Goals as goal
 
 pub only_child-requires : goal.only_child-requires

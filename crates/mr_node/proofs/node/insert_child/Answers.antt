@@ -1,4 +1,4 @@
-use Rattle.std.proofs.Common.{refl}
+use Rattle.mr_node.proofs.Common.{refl}
 use Rattle.mr_node.proofs.RootLemmas.{inserted_child}
 use Rattle.mr_node.proofs.node.insert_child.Goals as goal
 

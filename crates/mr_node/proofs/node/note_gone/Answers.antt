@@ -1,4 +1,4 @@
-use Rattle.std.proofs.Common.{◌≡◌, ◌-◌, Bool, true, false, if◌then◌else◌, refl, ap, ◌∙◌}
+use Rattle.mr_node.proofs.Common.{◌≡◌, ◌-◌, Bool, true, false, if◌then◌else◌, refl, ap, ◌∙◌}
 use mir.Val.{bool_byte}
 use Rattle.mr_node.proofs.node.note_gone.Goals as goal
 

@@ -1,5 +1,4 @@
-use Rattle.std.proofs.Common.{arith, ◌≡◌, get_or, sym, ap, subst, ◌∙◌}
-use Rattle.mr_node.specs.Levels.{IsWell}
+use Rattle.mr_node.proofs.Common.{arith, ◌≡◌, get_or, sym, ap, subst, ◌∙◌, IsWell}
 use Rattle.mr_node.proofs.RootLemmas.{only_child_left}
 use Rattle.mr_node.proofs.node.only_child.Goals as goal
 

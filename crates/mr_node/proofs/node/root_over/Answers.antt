@@ -1,6 +1,4 @@
-use Rattle.std.proofs.Common.{rules, arith, ◌≡◌, ◌+◌, refl, sym, ap, subst, ◌∙◌}
-use Rattle.mr_node.specs.EntryLists.{AreEntries}
-use Rattle.mr_node.specs.Pairs.{IsHalved}
+use Rattle.mr_node.proofs.Common.{rules, arith, ◌≡◌, ◌+◌, refl, sym, ap, subst, ◌∙◌, AreEntries, IsHalved}
 use Rattle.mr_node.proofs.SizeLemmas.{low_tree}
 use Rattle.mr_node.proofs.RootLemmas.{root_inner}
 use Rattle.mr_node.proofs.node.root_over.Goals as goal

@@ -1,4 +1,4 @@
-use Rattle.std.proofs.Common.{arith}
+use Rattle.mr_node.proofs.Common.{arith}
 use Rattle.mr_node.proofs.FrontLemmas.{gap_closing}
 use Rattle.mr_node.proofs.places.close_front.Goals as goal
 

@@ -1,4 +1,4 @@
-use Rattle.std.proofs.Common.{◌≡◌, ◌-◌, ◌≤◌, length, take, drop}
+use Rattle.mr_node.proofs.Common.{◌≡◌, ◌-◌, ◌≤◌, length, take, drop}
 use Rattle.mr_node.proofs.places.close_front.Given as goal
 
 abbrev pub invariant-loop-place : goal.invariant-loop-place

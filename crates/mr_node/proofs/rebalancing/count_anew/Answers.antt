@@ -1,4 +1,4 @@
-use Rattle.std.proofs.Common.{length, ap, ◌∙◌}
+use Rattle.mr_node.proofs.Common.{length, ap, ◌∙◌}
 use Rattle.mr_node.proofs.rebalancing.count_anew.Goals as goal
 
 pub returns-clause-count : goal.returns-clause-count

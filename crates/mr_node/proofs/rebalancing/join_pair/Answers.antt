@@ -1,5 +1,4 @@
-use Rattle.std.proofs.Common.{subst}
-use Rattle.mr_node.specs.Inside.{IsPairAt}
+use Rattle.mr_node.proofs.Common.{subst, IsPairAt}
 use Rattle.mr_node.proofs.RebalanceLemmas.{spliced_one, spliced_two}
 use Rattle.mr_node.proofs.rebalancing.join_pair.Goals as goal
 

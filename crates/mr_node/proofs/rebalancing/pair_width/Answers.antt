@@ -1,5 +1,4 @@
-use Rattle.std.proofs.Common.{arith, drop, take}
-use Rattle.mr_node.specs.Levels.{children_of}
+use Rattle.mr_node.proofs.Common.{arith, drop, take, children_of}
 use Rattle.mr_node.proofs.RebalanceLemmas.{AreWidths, widths_at}
 use Rattle.mr_node.proofs.rebalancing.pair_width.Goals.{After-child_width-2}
 use Rattle.mr_node.proofs.rebalancing.pair_width.Goals as goal

@@ -1,4 +1,4 @@
-use Rattle.std.proofs.Common.{arith, refl}
+use Rattle.mr_node.proofs.Common.{arith, refl}
 use Rattle.mr_node.proofs.RebalanceLemmas.{rebalanced_same, if_thin, if_enough, with_width}
 use Rattle.mr_node.proofs.rebalancing.rebalance.Goals as goal
 

@@ -1,5 +1,4 @@
-use Rattle.std.proofs.Common.{rules, arith, ◌+◌, ◌-◌, ◌≡◌}
-use Rattle.mr_node.specs.declared.rebalancing.TheConstants.{GIVEN_TO}
+use Rattle.mr_node.proofs.Common.{rules, arith, ◌+◌, ◌-◌, ◌≡◌, GIVEN_TO}
 use Rattle.mr_node.proofs.RebalanceLemmas.{IsGiving, giving_at, loosened, parted_given}
 use Rattle.mr_node.proofs.rebalancing.share_or_split.Goals.{Then-child_width-le-GIVEN_FROM}
 use Rattle.mr_node.proofs.rebalancing.share_or_split.Goals as goal
@@ -15,9 +14,9 @@ share_pair-requires g c =
     let given = (giving g (goal.at.share_pair-requires g c).Then-child_width-le-GIVEN_FROM).1 in
     (search rules, (search rules, (loosened c.args.inner.now c.requires.inner, (given.within, given.share))))
 
-pub returns-then-child_width-le-GIVEN_FROM-clause-parted : goal.returns-then-child_width-le-GIVEN_FROM-clause-parted
-returns-then-child_width-le-GIVEN_FROM-clause-parted g c =
-    let given = giving g (goal.at.returns-then-child_width-le-GIVEN_FROM-clause-parted g c).Then-child_width-le-GIVEN_FROM in
+pub returns-then-child_width-le-GIVEN_FROM-clause-split : goal.returns-then-child_width-le-GIVEN_FROM-clause-split
+returns-then-child_width-le-GIVEN_FROM-clause-split g c =
+    let given = giving g (goal.at.returns-then-child_width-le-GIVEN_FROM-clause-split g c).Then-child_width-le-GIVEN_FROM in
     parted_given c.args.place (c.args.place - 1) GIVEN_TO c.share_pair.result c.args.inner.now c.share_pair.new.inner given.0 (omega arith) c.requires.inner given.1 c.share_pair.ensures.pair
 
 pub returns-then-child_width-le-GIVEN_FROM-clause-made : goal.returns-then-child_width-le-GIVEN_FROM-clause-made

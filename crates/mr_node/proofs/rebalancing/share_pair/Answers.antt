@@ -1,8 +1,4 @@
-use Rattle.std.proofs.Common.{rules, arith, ◌+◌, ◌++◌, sym, ap, subst, ◌∙◌}
-use Rattle.std.proofs.lemmas.List.{get_or-set_other}
-use Rattle.tatp_rows.specs.Ordered.{IsOrderedBy}
-use Rattle.mr_node.specs.Rows.{key_of_pair, StartsWith}
-use Rattle.mr_node.specs.Pairs.{IsShare, AreEvened}
+use Rattle.mr_node.proofs.Common.{rules, arith, ◌+◌, ◌++◌, sym, ap, subst, ◌∙◌, get_or-set_other, IsOrderedBy, key_of_pair, StartsWith, IsShare, AreEvened}
 use Rattle.mr_node.proofs.PlaceLemmas.{got_used, never_none}
 use Rattle.mr_node.proofs.RebalanceLemmas.{pair_at, pair_widths, pair_shared}
 use Rattle.mr_node.proofs.rebalancing.share_pair.Goals as goal

@@ -1,7 +1,4 @@
-use Rattle.std.proofs.Common.{rules, arith, ◌≡◌, Option, Some, IfSome, set, length, refl, ap, subst, ◌∙◌}
-use Rattle.mr_node.specs.Rows.{StartsWith}
-use Rattle.mr_node.specs.Levels.{NodePart}
-use Rattle.mr_node.specs.Pairs.{IsHalved}
+use Rattle.mr_node.proofs.Common.{rules, arith, ◌≡◌, Option, Some, IfSome, set, length, refl, ap, subst, ◌∙◌, StartsWith, NodePart, IsHalved}
 use Rattle.mr_node.proofs.PlaceLemmas.{got_used, never_none}
 use Rattle.mr_node.proofs.EntryListLemmas.{entries_written}
 use Rattle.mr_node.proofs.CutLemmas.{parted_halves}

@@ -1,4 +1,4 @@
-use Rattle.std.proofs.Common.{refl}
+use Rattle.mr_subtree.proofs.Common.{refl}
 use Rattle.mr_subtree.proofs.DescentLemmas.{started}
 use Rattle.mr_subtree.proofs.many.leaves.Goals as goal
 

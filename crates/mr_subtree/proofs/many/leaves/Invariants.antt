@@ -1,4 +1,4 @@
-use Rattle.mr_subtree.specs.Inside.{HaveSameValues}
+use Rattle.mr_subtree.proofs.Common.{HaveSameValues}
 use Rattle.mr_subtree.proofs.many.leaves.Given as goal
 
 abbrev pub invariant-loop : goal.invariant-loop

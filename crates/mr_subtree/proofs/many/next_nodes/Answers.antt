@@ -1,5 +1,4 @@
-use Rattle.std.proofs.Common.{rules, arith, ◌∙◌}
-use Rattle.std.proofs.lemmas.List.{length-set}
+use Rattle.mr_subtree.proofs.Common.{rules, arith, ◌∙◌, length-set}
 use Rattle.mr_subtree.proofs.DescentLemmas.{moved}
 use Rattle.mr_subtree.proofs.many.next_nodes.Goals as goal
 

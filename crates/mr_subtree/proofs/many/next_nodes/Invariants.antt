@@ -1,5 +1,4 @@
-use Rattle.std.proofs.Common.{◌≡◌, length}
-use Rattle.mr_subtree.specs.Inside.{KeepSameValues}
+use Rattle.mr_subtree.proofs.Common.{◌≡◌, length, KeepSameValues}
 use Rattle.mr_subtree.proofs.many.next_nodes.Given as goal
 
 abbrev pub invariant-loop-place : goal.invariant-loop-place

@@ -1,4 +1,4 @@
-use Rattle.std.proofs.Common.{arith}
+use Rattle.mr_subtree.proofs.Common.{arith}
 use Rattle.mr_subtree.proofs.RootFacts.{low_root}
 use Rattle.mr_subtree.proofs.subtree.blanks_wanted.Goals as goal
 

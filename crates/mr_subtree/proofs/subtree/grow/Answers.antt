@@ -1,6 +1,4 @@
-use Rattle.std.proofs.Common.{rules, arith, refl, sym, ap, ◌∙◌}
-use Rattle.tatp_rows.specs.Ordered.{row_at}
-use Rattle.mr_node.specs.Rows.{key_of_pair}
+use Rattle.mr_subtree.proofs.Common.{rules, arith, refl, sym, ap, ◌∙◌, row_at, key_of_pair}
 use Rattle.mr_subtree.proofs.RootFacts.{grown_root, higher_root}
 use Rattle.mr_subtree.proofs.subtree.grow.Goals as goal
 

@@ -1,5 +1,4 @@
-use Rattle.std.proofs.Common.{◌≡◌, drop}
-use Rattle.part_table.specs.Bounds.{are_rising}
+use Rattle.part_table.proofs.Common.{◌≡◌, drop, are_rising}
 use Rattle.part_table.proofs.bounds.are_rising.Given as goal
 
 abbrev pub invariant-loop-bound : goal.invariant-loop-bound

@@ -1,6 +1,5 @@
 -- The zones are looked at in order, with the weight below each.
-use Rattle.std.proofs.Common.{◌*◌, ◌≤◌, sum, refl, sym, arith}
-use Rattle.std.proofs.lemmas.List.Sums.{sum_by_more}
+use Rattle.part_table.proofs.Common.{◌*◌, ◌≤◌, sum, refl, sym, arith, sum_by_more}
 use Rattle.part_table.proofs.ProposalLemmas.{product_small, share_here, share_more, share_all}
 use Rattle.part_table.proofs.bounds.share_zone.Goals as goal
 

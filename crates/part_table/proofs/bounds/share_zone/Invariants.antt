@@ -1,6 +1,4 @@
-use Rattle.std.proofs.Common.{◌≡◌, ◌-◌}
-use Rattle.part_table.specs.Least.{least}
-use Rattle.part_table.specs.Proposal.{share_zone, has_shares, weight_below}
+use Rattle.part_table.proofs.Common.{◌≡◌, ◌-◌, least, share_zone, has_shares, weight_below}
 use Rattle.part_table.proofs.bounds.share_zone.Given as goal
 
 abbrev pub invariant-loop-zone : goal.invariant-loop-zone

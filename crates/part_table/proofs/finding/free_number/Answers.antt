@@ -1,6 +1,5 @@
 -- The loop stops at the first number that no piece has.
-use Rattle.std.proofs.Common.{◌∙◌}
-use Rattle.part_table.specs.Regions.{pieces_of}
+use Rattle.part_table.proofs.Common.{◌∙◌, pieces_of}
 use Rattle.part_table.proofs.FreeLemmas.{free_if, free_found, not_free, used_more, none_free}
 use Rattle.part_table.proofs.finding.free_number.Goals as goal
 

@@ -1,8 +1,4 @@
-use Rattle.std.proofs.Common.{◌≡◌, ℕ, ◌-◌, ◌==◌, ◌<◌, ◌≤◌, true, not}
-use Rattle.std.specs.List.{list_any}
-use Rattle.part_table.specs.Least.{least}
-use Rattle.part_table.specs.Give.{free_number}
-use Rattle.part_table.specs.Regions.{pieces_of}
+use Rattle.part_table.proofs.Common.{◌≡◌, ℕ, ◌-◌, ◌==◌, ◌<◌, ◌≤◌, true, not, list_any, least, free_number, pieces_of}
 use Rattle.part_table.proofs.finding.free_number.Given as goal
 
 abbrev pub invariant-loop-n : goal.invariant-loop-n

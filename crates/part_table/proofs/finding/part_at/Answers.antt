@@ -1,5 +1,5 @@
 -- The region of a part is looked for behind as many regions as there are parts before it.
-use Rattle.std.proofs.Common.{◌∙◌, sym, arith, inl, inr, ℕ, ◌<◌, ◌⊎◌, Some, None}
+use Rattle.part_table.proofs.Common.{◌∙◌, sym, arith, inl, inr, ℕ, ◌<◌, ◌⊎◌, Some, None}
 use Rattle.part_table.proofs.NumberLemmas.{found_behind, part_nowhere}
 use Rattle.part_table.proofs.finding.part_at.Goals as goal
 

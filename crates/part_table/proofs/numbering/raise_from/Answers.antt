@@ -1,5 +1,5 @@
 -- The numbers rise one after another.
-use Rattle.std.proofs.Common.{◌∙◌, ◌<◌, ◌≤◌, length, refl, sym, arith}
+use Rattle.part_table.proofs.Common.{◌∙◌, ◌<◌, ◌≤◌, length, refl, sym, arith}
 use Rattle.part_table.proofs.BehindLemmas.{one_anew, none_anew}
 use Rattle.part_table.proofs.PlaceLemmas.{blank}
 use Rattle.part_table.proofs.RenumberLemmas.{each_behind, each_number, region_raised}

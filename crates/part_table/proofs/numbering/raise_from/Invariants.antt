@@ -1,6 +1,4 @@
-use Rattle.std.proofs.Common.{◌≡◌, ◌<◌, drop}
-use Rattle.std.specs.List.{AllByRecursion}
-use Rattle.part_table.specs.Regions.{parts_of}
+use Rattle.part_table.proofs.Common.{◌≡◌, ◌<◌, drop, AllByRecursion, parts_of}
 use Rattle.part_table.proofs.BehindLemmas.{anew_from}
 use Rattle.part_table.proofs.RenumberLemmas.{region_raised}
 use Rattle.part_table.proofs.numbering.raise_from.Given as goal

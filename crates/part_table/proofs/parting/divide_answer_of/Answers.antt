@@ -1,4 +1,4 @@
-use Rattle.std.proofs.Common.{◌∙◌, sym}
+use Rattle.part_table.proofs.Common.{◌∙◌, sym}
 use Rattle.part_table.proofs.DivideLemmas.{divide_done, divide_refused}
 use Rattle.part_table.proofs.parting.divide_answer_of.Goals as goal
 

@@ -1,6 +1,5 @@
 -- The bounds are looked at from the first up.
-use Rattle.std.proofs.Common.{◌-◌, refl, ◌≤◌, length, arith}
-use Rattle.part_table.specs.Recut.{bounds_of, falling_moves}
+use Rattle.part_table.proofs.Common.{◌-◌, refl, ◌≤◌, length, arith, bounds_of, falling_moves}
 use Rattle.part_table.proofs.PlaceLemmas.{blank}
 use Rattle.part_table.proofs.MoveLemmas.{bound_fits, falling_last, falling_room, length_bounds, length_moves, one_falls, one_holds}
 use Rattle.part_table.proofs.recut.falling_moves.Goals as goal

@@ -1,5 +1,4 @@
-use Rattle.std.proofs.Common.{◌≡◌, ◌++◌}
-use Rattle.part_table.specs.Recut.{bounds_of, falling_moves}
+use Rattle.part_table.proofs.Common.{◌≡◌, ◌++◌, bounds_of, falling_moves}
 use Rattle.part_table.proofs.MoveLemmas.{falling_left}
 use Rattle.part_table.proofs.recut.falling_moves.Given as goal
 

@@ -1,4 +1,4 @@
-use Rattle.std.proofs.Common.{Result, Ok, Err, IsOk, OnOk}
+use Rattle.part_table.proofs.Common.{Result, Ok, Err, IsOk, OnOk}
 use Rattle.part_table.proofs.recut.joined.Goals as goal
 
 -- what holds on Ok holds of what is Ok

@@ -1,5 +1,5 @@
 -- The bounds are looked at from the last down.
-use Rattle.std.proofs.Common.{◌≡◌, ◌∙◌, sym, ◌-◌, arith}
+use Rattle.part_table.proofs.Common.{◌≡◌, ◌∙◌, sym, ◌-◌, arith}
 use Rattle.part_table.proofs.PlaceLemmas.{blank}
 use Rattle.part_table.proofs.MoveLemmas.{rising_last, one_rises, one_stays, rising_room, bound_fits}
 use Rattle.part_table.proofs.recut.rising_moves.Goals as goal

@@ -1,5 +1,4 @@
-use Rattle.std.proofs.Common.{◌≡◌, ◌≤◌}
-use Rattle.part_table.specs.Recut.{bounds_of}
+use Rattle.part_table.proofs.Common.{◌≡◌, ◌≤◌, bounds_of}
 use Rattle.part_table.proofs.MoveLemmas.{rising_left}
 use Rattle.part_table.proofs.recut.rising_moves.Given as goal
 

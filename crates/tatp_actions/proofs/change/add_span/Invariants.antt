@@ -1,4 +1,4 @@
-use Rattle.std.specs.Prelude.{◌≤◌, max}
+use Rattle.tatp_actions.proofs.Common.{◌≤◌, max}
 use Rattle.tatp_actions.proofs.DeltaLemmas.{AreSpanned}
 use Rattle.tatp_actions.proofs.change.add_span.Given as goal
 

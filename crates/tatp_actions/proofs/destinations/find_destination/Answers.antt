@@ -1,5 +1,4 @@
-use Rattle.std.proofs.Common.{◌∙◌, ap}
-use Rattle.tatp_actions.specs.Inside.{destination}
+use Rattle.tatp_actions.proofs.Common.{◌∙◌, ap, destination}
 use Rattle.tatp_actions.proofs.DestinationLemmas.{by_times, destination_late}
 use Rattle.tatp_actions.proofs.destinations.find_destination.Goals as goal
 

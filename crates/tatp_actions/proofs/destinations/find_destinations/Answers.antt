@@ -1,5 +1,4 @@
-use Rattle.std.proofs.Common.{sym, ap, ◌∙◌}
-use Rattle.tatp_actions.specs.Book.{has_active}
+use Rattle.tatp_actions.proofs.Common.{sym, ap, ◌∙◌, has_active}
 use Rattle.tatp_actions.proofs.DestinationLemmas.{numbers_found}
 use Rattle.tatp_actions.proofs.destinations.find_destinations.Goals as goal
 

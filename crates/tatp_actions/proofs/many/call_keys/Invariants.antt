@@ -1,5 +1,4 @@
-use Rattle.std.proofs.Common.{◌≡◌, ℕ, map, take}
-use Rattle.tatp_rows.specs.Keys.{key_of}
+use Rattle.tatp_actions.proofs.Common.{◌≡◌, ℕ, map, take, key_of}
 use Rattle.tatp_actions.proofs.many.call_keys.Given as goal
 
 abbrev pub invariant-loop-place : goal.invariant-loop-place

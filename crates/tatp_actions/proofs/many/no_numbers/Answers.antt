@@ -1,4 +1,4 @@
-use Rattle.std.proofs.Common.{None, refl}
+use Rattle.tatp_actions.proofs.Common.{None, refl}
 use Rattle.tatp_actions.proofs.ManyLemmas.{one_more_made}
 use Rattle.tatp_actions.proofs.many.no_numbers.Goals as goal
 

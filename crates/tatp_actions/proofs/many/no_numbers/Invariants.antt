@@ -1,4 +1,4 @@
-use Rattle.std.proofs.Common.{◌≡◌, map, take, None}
+use Rattle.tatp_actions.proofs.Common.{◌≡◌, map, take, None}
 use Rattle.tatp_actions.proofs.many.no_numbers.Given as goal
 
 abbrev pub invariant-loop : goal.invariant-loop

@@ -1,4 +1,4 @@
-use Rattle.std.proofs.Common.{◌∙◌, sym}
+use Rattle.tatp_actions.proofs.Common.{◌∙◌, sym}
 use Rattle.tatp_actions.proofs.CounterLemmas.{hours_go_on, hours_end}
 use Rattle.tatp_actions.proofs.recount.count_hours.Goals as goal
 

@@ -1,5 +1,4 @@
-use Rattle.std.proofs.Common.{◌≡◌, ◌-◌}
-use Rattle.tatp_actions.specs.Recount.{one_more_from}
+use Rattle.tatp_actions.proofs.Common.{◌≡◌, ◌-◌, one_more_from}
 use Rattle.tatp_actions.proofs.recount.count_hours.Given as goal
 
 abbrev pub invariant-loop-hour : goal.invariant-loop-hour

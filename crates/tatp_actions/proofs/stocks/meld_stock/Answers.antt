@@ -1,4 +1,4 @@
-use Rattle.std.proofs.Common.{rules}
+use Rattle.tatp_actions.proofs.Common.{rules}
 use Rattle.tatp_actions.proofs.stocks.meld_stock.Goals as goal
 
 pub stock_for_meld-requires : goal.stock_for_meld-requires

@@ -1,8 +1,4 @@
-use Rattle.std.proofs.Common.{refl, ap, ◌∙◌, ℕ, ◌+◌, ◌-◌, ◌%◌, ◌^◌, map, leb, cond, Bool, arith}
-use Rattle.std.specs.Prelude.{◌==◌}
-use Rattle.std.specs.Char.{is_ascii_digit}
-use Rattle.std.proofs.lemmas.Simd.{zip2_of_maps, zip2_splat, splat_is_map, map-map, mask_l-mod}
-use Rattle.std.proofs.lemmas.List.{length-map}
+use Rattle.tatp_rows.proofs.Common.{refl, ap, ◌∙◌, ℕ, ◌+◌, ◌-◌, ◌%◌, ◌^◌, map, leb, cond, Bool, arith, ◌==◌, is_ascii_digit, zip2_of_maps, zip2_splat, splat_is_map, map-map, mask_l-mod, length-map}
 use lib.Lanes.{mask_l, top}
 use Rattle.tatp_rows.proofs.DigitLemmas.{none_stops}
 use Rattle.tatp_rows.proofs.number.are_digits.Goals as goal

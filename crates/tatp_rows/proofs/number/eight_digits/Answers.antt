@@ -1,4 +1,4 @@
-use Rattle.std.proofs.Common.{rules}
+use Rattle.tatp_rows.proofs.Common.{rules}
 use Rattle.tatp_rows.proofs.DigitLemmas.{eight_joined}
 use Rattle.tatp_rows.proofs.number.eight_digits.Goals as goal
 

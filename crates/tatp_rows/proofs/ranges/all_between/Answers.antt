@@ -1,6 +1,5 @@
 -- The loop of `all` stops at the first value that is out of the range, as `list_all` does.
-use Rattle.std.proofs.Common.{◌↔◌, ◌≤◌, IsTrue, get_or, rules}
-use Rattle.std.specs.List.{EachIndex}
+use Rattle.tatp_rows.proofs.Common.{◌↔◌, ◌≤◌, IsTrue, get_or, rules, EachIndex}
 use Rattle.tatp_rows.proofs.RowLemmas.{are_from_each}
 use Rattle.tatp_rows.proofs.ranges.all_between.Goals as goal
 

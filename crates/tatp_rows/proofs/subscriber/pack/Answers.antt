@@ -1,4 +1,4 @@
-use Rattle.std.proofs.Common.{◌-◌, arith}
+use Rattle.tatp_rows.proofs.Common.{◌-◌, arith}
 use Rattle.tatp_rows.proofs.PackLemmas.{pack_none, pack_more, pack_fits, pack_all, pack_below}
 use Rattle.tatp_rows.proofs.subscriber.pack.Goals as goal
 

@@ -1,4 +1,4 @@
-use Rattle.std.proofs.Common.{refl}
+use Rattle.tatp_rows.proofs.Common.{refl}
 use Rattle.tatp_rows.proofs.PackLemmas.{unpack_none, unpack_more, unpack_all}
 use Rattle.tatp_rows.proofs.subscriber.unpack.Goals as goal
 

@@ -1,8 +1,4 @@
-use Rattle.std.proofs.Common.{◌≡◌, ap, arith, inl, inr, to_z, of_z, get_or}
-use Rattle.std.specs.Prelude.{ℤ, ◌+ℤ◌, pos}
-use Rattle.std.specs.Int.{w128}
-use Rattle.std.proofs.lemmas.Bool.{cases_eq}
-use Rattle.std.proofs.lemmas.Int.{ints, to_z-of_z}
+use Rattle.view_board.proofs.Common.{◌≡◌, ap, arith, inl, inr, to_z, of_z, get_or, ℤ, ◌+ℤ◌, pos, w128, cases_eq, ints, to_z-of_z}
 use Rattle.view_board.proofs.FillLemmas.{one_filled}
 use Rattle.view_board.proofs.desk.add_slot.Goals as goal
 

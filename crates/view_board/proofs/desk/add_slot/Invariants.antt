@@ -1,6 +1,4 @@
-use Rattle.std.proofs.Common.{ℕ, ◌<◌, ◌^◌, get_or}
-use Rattle.std.specs.Prelude.{pos, neg_ℤ, ◌+ℤ◌, ◌≤ℤ◌}
-use Rattle.view_board.specs.Words.{slot_net}
+use Rattle.view_board.proofs.Common.{ℕ, ◌<◌, ◌^◌, get_or, pos, neg_ℤ, ◌+ℤ◌, ◌≤ℤ◌, slot_net}
 use Rattle.view_board.proofs.FillLemmas.{IsFilledTo}
 use Rattle.view_board.proofs.desk.add_slot.Given as goal
 

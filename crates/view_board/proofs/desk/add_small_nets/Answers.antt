@@ -1,7 +1,4 @@
-use Rattle.std.proofs.Common.{◌≡◌, ◌∙◌, ap, arith, to_z, of_z, get_or, w64}
-use Rattle.std.specs.Prelude.{ℤ, ◌+ℤ◌, pos}
-use Rattle.std.specs.Int.{w128}
-use Rattle.std.proofs.lemmas.Int.{ints, to_z-of_z}
+use Rattle.view_board.proofs.Common.{◌≡◌, ◌∙◌, ap, arith, to_z, of_z, get_or, w64, ℤ, ◌+ℤ◌, pos, w128, ints, to_z-of_z}
 use Rattle.view_board.proofs.FillLemmas.{one_filled}
 use Rattle.view_board.proofs.desk.add_small_nets.Goals as goal
 

@@ -1,6 +1,4 @@
-use Rattle.std.proofs.Common.{get_or}
-use Rattle.std.specs.Prelude.{pos, ◌+ℤ◌}
-use Rattle.view_board.specs.Words.{slot_net}
+use Rattle.view_board.proofs.Common.{get_or, pos, ◌+ℤ◌, slot_net}
 use Rattle.view_board.proofs.FillLemmas.{IsFilledTo}
 use Rattle.view_board.proofs.desk.add_small_nets.Given as goal
 

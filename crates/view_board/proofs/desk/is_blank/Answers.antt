@@ -1,6 +1,4 @@
-use Rattle.std.proofs.Common.{inl, inr, arith, get_or}
-use Rattle.std.proofs.lemmas.Bool.{cases_eq}
-use Rattle.std.proofs.lemmas.Nat.{le_or_l, le_or_r}
+use Rattle.view_board.proofs.Common.{inl, inr, arith, get_or, cases_eq, le_or_l, le_or_r}
 use Rattle.view_board.proofs.desk.is_blank.Goals as goal
 
 pub loop-word-preserved : goal.loop-word-preserved

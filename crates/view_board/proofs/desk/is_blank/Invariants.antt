@@ -1,4 +1,4 @@
-use Rattle.std.proofs.Common.{ℕ, ◌<◌, ◌≤◌, get_or}
+use Rattle.view_board.proofs.Common.{ℕ, ◌<◌, ◌≤◌, get_or}
 use Rattle.view_board.proofs.desk.is_blank.Given as goal
 
 abbrev pub invariant-loop-word : goal.invariant-loop-word

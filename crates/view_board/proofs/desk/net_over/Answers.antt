@@ -1,7 +1,4 @@
-use Rattle.std.proofs.Common.{◌≡◌, arith, to_z, of_z}
-use Rattle.std.specs.Prelude.{◌+ℤ◌}
-use Rattle.std.specs.Int.{w128}
-use Rattle.std.proofs.lemmas.Int.{ints, to_z-of_z}
+use Rattle.view_board.proofs.Common.{◌≡◌, arith, to_z, of_z, ◌+ℤ◌, w128, ints, to_z-of_z}
 use Rattle.view_board.proofs.NetLemmas.{net_from-next, net_from-end}
 use Rattle.view_board.proofs.desk.net_over.Goals as goal
 

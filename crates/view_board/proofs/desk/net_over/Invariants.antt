@@ -1,6 +1,4 @@
-use Rattle.std.proofs.Common.{◌≡◌, ◌*◌, ◌^◌, drop}
-use Rattle.std.specs.Prelude.{pos, neg_ℤ, ◌+ℤ◌, ◌≤ℤ◌}
-use Rattle.view_board.specs.Nets.{net_from}
+use Rattle.view_board.proofs.Common.{◌≡◌, ◌*◌, ◌^◌, drop, pos, neg_ℤ, ◌+ℤ◌, ◌≤ℤ◌, net_from}
 use Rattle.view_board.proofs.desk.net_over.Given as goal
 
 abbrev pub invariant-loop-slot : goal.invariant-loop-slot

@@ -1,5 +1,4 @@
-use Rattle.std.proofs.Common.{◌/◌, if◌then◌else◌, false, slice_index, slice_index_or, ℕ}
-use Rattle.view_board.specs.declared.words.TheConstants.{SLOT_WORDS}
+use Rattle.view_board.proofs.Common.{◌/◌, if◌then◌else◌, false, slice_index, slice_index_or, ℕ, SLOT_WORDS}
 use Rattle.view_board.proofs.FillLemmas.{IsFilledTo}
 use Rattle.view_board.proofs.desk.take_numbers.Given as goal
 

@@ -1,4 +1,4 @@
-use Rattle.std.proofs.Common.{◌||◌, false, slice_index_or, ℕ}
+use Rattle.view_board.proofs.Common.{◌||◌, false, slice_index_or, ℕ}
 use Rattle.view_board.proofs.FillLemmas.{IsFilledTo}
 use Rattle.view_board.proofs.desk.take_slots.Given as goal
 

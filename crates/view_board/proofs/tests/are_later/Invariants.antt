@@ -1,4 +1,4 @@
-use Rattle.std.proofs.Common.{◌≡◌}
+use Rattle.view_board.proofs.Common.{◌≡◌}
 use Rattle.view_board.proofs.tests.are_later.Given as goal
 
 abbrev pub invariant-loop : goal.invariant-loop

@@ -1,6 +1,4 @@
-use Rattle.std.proofs.Common.{ap, arith}
-use Rattle.view_board.specs.Views.{OwnsAll, both}
-use Rattle.view_board.specs.Desks.{Station}
+use Rattle.view_board.proofs.Common.{ap, arith, OwnsAll, both, Station}
 use Rattle.view_board.proofs.EndLemmas.{whole_again}
 use Rattle.view_board.proofs.tests.ended.Goals as goal
 

@@ -1,6 +1,4 @@
-use Rattle.std.proofs.Common.{ℕ, arith}
-use Rattle.tatp_rows.proofs.BlankLemmas.{blank_at}
-use Rattle.tatp_actions.specs.declared.cells.TheConstants.{CELLS}
+use Rattle.view_delta.proofs.Common.{ℕ, arith, blank_at, CELLS}
 use Rattle.view_delta.proofs.SumLemmas.{one_at_most}
 use Rattle.view_delta.proofs.tests.counts_of.Goals as goal
 

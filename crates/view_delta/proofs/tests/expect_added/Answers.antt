@@ -1,9 +1,5 @@
-use Rattle.std.proofs.Common.{arith, replicate}
-use Rattle.std.specs.Prelude.{pos}
-use Rattle.std.proofs.lemmas.Int.{ints}
-use Rattle.tatp_actions.specs.declared.cells.TheConstants.{CELLS}
+use Rattle.view_delta.proofs.Common.{arith, replicate, pos, ints, CELLS, blank_at}
 use Rattle.view_delta.proofs.NoteLemmas.{notes_fit}
-use Rattle.tatp_rows.proofs.BlankLemmas.{blank_at}
 use Rattle.view_delta.proofs.tests.expect_added.Goals as goal
 
 pub note-requires : goal.note-requires

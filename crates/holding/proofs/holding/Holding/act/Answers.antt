@@ -1,8 +1,4 @@
-use Rattle.std.proofs.Common.{◌≡◌, ◌+ℤ◌, arith, pos, subst, sym}
-use Rattle.std.proofs.lemmas.Int.{ints}
-use Rattle.tatp_actions.specs.Cell.{cell}
-use Rattle.view_board.specs.Nets.{net_of}
-use Rattle.view_delta.specs.Pending.{delta_at}
+use Rattle.holding.proofs.Common.{◌≡◌, ◌+ℤ◌, arith, pos, subst, sym, ints, cell, net_of, delta_at}
 use Rattle.holding.proofs.HeldLemmas.{change_fits}
 use Rattle.holding.proofs.holding.Holding.act.Goals as goal
 

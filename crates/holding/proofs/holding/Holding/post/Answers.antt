@@ -1,7 +1,4 @@
-use Rattle.std.proofs.Common.{refl, ◌∙◌, sym, ap, arith, subst, Some, None}
-use Rattle.std.proofs.lemmas.Result.{err_from_is_err_and}
-use Rattle.view_delta.specs.Pending.{IsNextNonzero}
-use Rattle.holding.specs.Held.{HoldingState, IsHolding}
+use Rattle.holding.proofs.Common.{refl, ◌∙◌, sym, ap, arith, subst, Some, None, err_from_is_err_and, IsNextNonzero, HoldingState, IsHolding}
 use Rattle.holding.proofs.PostLemmas.{posting_begins, posting_full, posting_ends, posting_turn, posting_worn}
 use Rattle.holding.proofs.holding.Holding.post.Goals as goal
 

@@ -1,6 +1,4 @@
-use Rattle.std.proofs.Common.{◌≡◌, ◌≤◌, ◌-◌}
-use Rattle.tatp_actions.specs.declared.cells.TheConstants.{CELLS}
-use Rattle.holding.specs.Held.{count_of}
+use Rattle.holding.proofs.Common.{◌≡◌, ◌≤◌, ◌-◌, CELLS, count_of}
 use Rattle.holding.proofs.PostLemmas.{IsPosting}
 use Rattle.holding.proofs.holding.Holding.post.Given as goal
 

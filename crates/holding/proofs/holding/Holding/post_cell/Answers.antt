@@ -1,6 +1,4 @@
-use Rattle.std.proofs.Common.{ap, ◌∙◌, FitsSigned, w64, rules}
-use Rattle.std.proofs.lemmas.Int.{to_z-of_z}
-use Rattle.view_board.specs.Desks.{Station}
+use Rattle.holding.proofs.Common.{ap, ◌∙◌, FitsSigned, w64, rules, to_z-of_z, Station}
 use Rattle.holding.proofs.HeldLemmas.{published, wide_posted}
 use Rattle.holding.proofs.holding.Holding.post_cell.Goals as goal
 

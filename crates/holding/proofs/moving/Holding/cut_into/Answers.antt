@@ -1,7 +1,5 @@
-use Rattle.std.proofs.Common.{◌∙◌, ap, sym, refl}
-use Rattle.std.specs.Prelude.{ℤ, ◌-ℤ◌}
+use Rattle.holding.proofs.Common.{◌∙◌, ap, sym, refl, ℤ, ◌-ℤ◌, delta_at}
 use Rattle.holding.proofs.MovedLemmas.{differences_fit, left, divided, counts_pending, are_piece}
-use Rattle.view_delta.specs.Pending.{delta_at}
 use Rattle.holding.proofs.moving.Holding.cut_into.Goals as goal
 
 pub subtract-requires : goal.subtract-requires

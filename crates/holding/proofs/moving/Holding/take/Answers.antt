@@ -1,4 +1,4 @@
-use Rattle.std.proofs.Common.{◌∙◌}
+use Rattle.holding.proofs.Common.{◌∙◌}
 use Rattle.holding.proofs.FillLemmas.{box_same}
 use Rattle.holding.proofs.moving.Holding.take.Goals as goal
 

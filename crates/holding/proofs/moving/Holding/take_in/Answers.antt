@@ -1,6 +1,4 @@
-use Rattle.std.proofs.Common.{◌≡◌}
-use Rattle.tatp_actions.specs.Cut.{Touch}
-use Rattle.tatp_actions.specs.Part.{PartState}
+use Rattle.holding.proofs.Common.{◌≡◌, Touch, PartState}
 use Rattle.holding.proofs.MovedLemmas.{grown, joined}
 use Rattle.holding.proofs.moving.Holding.take_in.Goals as goal
 

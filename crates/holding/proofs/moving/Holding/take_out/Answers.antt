@@ -1,8 +1,4 @@
-use Rattle.std.proofs.Common.{refl, ℕ, map, ap}
-use Rattle.std.specs.Prelude.{pos}
-use Rattle.tatp_rows.proofs.BlankLemmas.{blank_at}
-use Rattle.tatp_actions.specs.Part.{PartState}
-use Rattle.tatp_actions.specs.declared.cells.TheConstants.{CELLS}
+use Rattle.holding.proofs.Common.{refl, ℕ, map, ap, pos, blank_at, PartState, CELLS}
 use Rattle.holding.proofs.HeldLemmas.{empty_cell}
 use Rattle.holding.proofs.MovedLemmas.{sums_fit, counts_of, counts_pending}
 use Rattle.holding.proofs.moving.Holding.take_out.Goals as goal

@@ -1,8 +1,4 @@
-use Rattle.std.proofs.Common.{ap}
-use Rattle.std.specs.Prelude.{ℤ, pos}
-use Rattle.tatp_rows.proofs.BlankLemmas.{blank_at}
-use Rattle.tatp_actions.specs.declared.cells.TheConstants.{CELLS}
-use Rattle.tatp_actions.specs.Part.{PartState}
+use Rattle.holding.proofs.Common.{ap, ℤ, pos, blank_at, CELLS, PartState}
 use Rattle.holding.proofs.FillLemmas.{alone_least, emptied}
 use Rattle.holding.proofs.parting.Holding.absorb.Goals as goal
 

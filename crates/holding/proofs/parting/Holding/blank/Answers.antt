@@ -1,6 +1,4 @@
-use Rattle.std.proofs.Common.{ap, ◌∙◌}
-use Rattle.tatp_actions.specs.Part.{PartState}
-use Rattle.holding.specs.Held.{PieceState}
+use Rattle.holding.proofs.Common.{ap, ◌∙◌, PartState, PieceState}
 use Rattle.holding.proofs.FillLemmas.{none_pending}
 use Rattle.holding.proofs.parting.Holding.blank.Goals as goal
 

@@ -1,4 +1,4 @@
-use Rattle.std.proofs.Common.{◌∙◌}
+use Rattle.holding.proofs.Common.{◌∙◌}
 use Rattle.holding.proofs.FillLemmas.{box_same, counts_list, are_counts}
 use Rattle.holding.proofs.parting.Holding.dissolve.Goals as goal
 

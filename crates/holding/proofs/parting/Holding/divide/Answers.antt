@@ -1,5 +1,4 @@
-use Rattle.std.proofs.Common.{◌∙◌, ap}
-use Rattle.holding.specs.Held.{HoldingState}
+use Rattle.holding.proofs.Common.{◌∙◌, ap, HoldingState}
 use Rattle.holding.proofs.parting.Holding.divide.Goals as goal
 
 pub returns-in-Ok-fill-clause-divided : goal.returns-in-Ok-fill-clause-divided

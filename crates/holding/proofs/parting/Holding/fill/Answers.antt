@@ -1,5 +1,4 @@
-use Rattle.std.proofs.Common.{refl, arith}
-use Rattle.std.proofs.lemmas.Int.{ints}
+use Rattle.holding.proofs.Common.{refl, arith, ints}
 use Rattle.holding.proofs.MovedLemmas.{sums_fit, counts_of, counts_pending}
 use Rattle.holding.proofs.FillLemmas.{filled, given_to, counted_by}
 use Rattle.holding.proofs.parting.Holding.fill.Goals as goal

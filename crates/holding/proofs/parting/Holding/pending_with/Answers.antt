@@ -1,11 +1,4 @@
-use Rattle.std.proofs.Common.{ℕ, ◌∙◌, arith, FitsSigned, w64, rules}
-use Rattle.std.specs.Prelude.{pos, ◌+ℤ◌}
-use Rattle.std.specs.Int.{w128}
-use Rattle.std.proofs.lemmas.Int.{ints, to_z-of_z}
-use Rattle.std.proofs.lemmas.List.{length-set}
-use Rattle.view_board.specs.Nets.{net_of}
-use Rattle.view_delta.specs.Pending.{delta_at}
-use Rattle.holding.specs.Held.{count_of}
+use Rattle.holding.proofs.Common.{ℕ, ◌∙◌, arith, FitsSigned, w64, rules, pos, ◌+ℤ◌, w128, ints, to_z-of_z, length-set, net_of, delta_at, count_of}
 use Rattle.holding.proofs.HeldLemmas.{pending_small, one_told}
 use Rattle.holding.proofs.parting.Holding.pending_with.Goals as goal
 

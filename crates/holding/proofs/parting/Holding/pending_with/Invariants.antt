@@ -1,8 +1,4 @@
-use Rattle.std.proofs.Common.{◌≡◌, ℕ, ◌<◌, length}
-use Rattle.std.specs.Prelude.{pos, ◌+ℤ◌}
-use Rattle.tatp_actions.specs.declared.cells.TheConstants.{CELLS}
-use Rattle.view_delta.specs.Pending.{delta_at}
-use Rattle.holding.specs.Held.{count_of}
+use Rattle.holding.proofs.Common.{◌≡◌, ℕ, ◌<◌, length, pos, ◌+ℤ◌, CELLS, delta_at, count_of}
 use Rattle.holding.proofs.parting.Holding.pending_with.Given as goal
 
 abbrev pub invariant-loop-cell : goal.invariant-loop-cell

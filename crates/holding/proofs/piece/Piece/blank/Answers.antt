@@ -1,6 +1,4 @@
-use Rattle.std.proofs.Common.{refl, ℕ}
-use Rattle.tatp_rows.proofs.BlankLemmas.{blank_at}
-use Rattle.tatp_actions.specs.declared.cells.TheConstants.{CELLS}
+use Rattle.holding.proofs.Common.{refl, ℕ, blank_at, CELLS}
 use Rattle.holding.proofs.HeldLemmas.{empty_cell}
 use Rattle.holding.proofs.MovedLemmas.{counts_pending}
 use Rattle.holding.proofs.piece.Piece.blank.Goals as goal

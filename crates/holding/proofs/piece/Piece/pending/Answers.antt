@@ -1,12 +1,10 @@
-use Rattle.std.proofs.Common.{◌∙◌, ap, sym, arith, FitsSigned, w64, rules}
-use Rattle.std.specs.Prelude.{pos}
-use Rattle.std.proofs.lemmas.Int.{ints, to_z-of_z}
+use Rattle.holding.proofs.Common.{◌∙◌, ap, sym, arith, FitsSigned, w64, rules, pos, ints, to_z-of_z}
 use Rattle.holding.proofs.HeldLemmas.{few}
 use Rattle.holding.proofs.MovedLemmas.{counts_pending}
 use Rattle.holding.proofs.piece.Piece.pending.Goals as goal
 
-pub signed-requires : goal.signed-requires
-signed-requires c =
+pub delta_of-requires : goal.delta_of-requires
+delta_of-requires c =
     let law = c.self.invariant.law c.args.cell c.requires in
     let most = few c.self.inside.part c.self.invariant.rules c.args.cell in
     let count = counts_pending c.self.inside.pending c.args.cell in
@@ -15,5 +13,5 @@ signed-requires c =
 
 pub returns-clause-value : goal.returns-clause-value
 returns-clause-value c =
-    let fits : FitsSigned w64 c.signed.result = search rules in
-    rw (← c.self.view_is) (to_z-of_z w64 c.signed.result fits ∙ c.signed.ensures ∙ ap pos c.get.ensures ∙ sym (counts_pending c.self.inside.pending c.args.cell))
+    let fits : FitsSigned w64 c.delta_of.result = search rules in
+    rw (← c.self.view_is) (to_z-of_z w64 c.delta_of.result fits ∙ c.delta_of.ensures ∙ ap pos c.get.ensures ∙ sym (counts_pending c.self.inside.pending c.args.cell))

@@ -1,6 +1,4 @@
-use Rattle.std.proofs.Common.{rules, arith, ◌+◌, ◌-◌, ◌<◌, drop, length, length-append, length-drop, ap, ◌∙◌}
-use Rattle.std.proofs.lemmas.List.{length-reverse}
-use Rattle.mr_node.specs.EntryLists.{entries}
+use Rattle.mr_node.proofs.Common.{rules, arith, ◌+◌, ◌-◌, ◌<◌, drop, length, length-append, length-drop, ap, ◌∙◌, length-reverse, entries}
 use Rattle.mr_node.proofs.EntryListLemmas.{entries_length}
 use Rattle.mr_node.proofs.ShareLemmas.{fill_step}
 use Rattle.mr_node.proofs.FrontLemmas.{turned_left, turned_front}

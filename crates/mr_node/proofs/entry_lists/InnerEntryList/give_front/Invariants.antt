@@ -1,5 +1,4 @@
-use Rattle.std.proofs.Common.{◌≡◌, ◌-◌, ◌≤◌, ◌++◌, length, reverse, max}
-use Rattle.mr_node.specs.EntryLists.{AreEntries, entries}
+use Rattle.mr_node.proofs.Common.{◌≡◌, ◌-◌, ◌≤◌, ◌++◌, length, reverse, max, AreEntries, entries}
 use Rattle.mr_node.proofs.entry_lists.InnerEntryList.give_front.Given as goal
 
 abbrev pub invariant-loop-to : goal.invariant-loop-to

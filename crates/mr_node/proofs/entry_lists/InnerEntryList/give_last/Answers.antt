@@ -1,5 +1,4 @@
-use Rattle.std.proofs.Common.{rules, arith, ◌≡◌, ◌+◌, ◌-◌, length, get_or, set}
-use Rattle.mr_node.specs.EntryLists.{no_key, entries}
+use Rattle.mr_node.proofs.Common.{rules, arith, ◌≡◌, ◌+◌, ◌-◌, length, get_or, set, no_key, entries}
 use Rattle.mr_node.proofs.EntryListLemmas.{entries_length}
 use Rattle.mr_node.proofs.ShareLemmas.{IsGiven, inner_given}
 use Rattle.mr_node.proofs.entry_lists.InnerEntryList.give_last.Goals.{After-take}

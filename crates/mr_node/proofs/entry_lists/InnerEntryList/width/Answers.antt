@@ -1,4 +1,4 @@
-use Rattle.std.proofs.Common.{sym}
+use Rattle.mr_node.proofs.Common.{sym}
 use Rattle.mr_node.proofs.EntryListLemmas.{entries_length}
 use Rattle.mr_node.proofs.entry_lists.InnerEntryList.width.Goals as goal
 

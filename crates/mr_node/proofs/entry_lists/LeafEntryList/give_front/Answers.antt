@@ -1,6 +1,4 @@
-use Rattle.std.proofs.Common.{rules, arith, ◌≡◌, drop, length, ap}
-use Rattle.std.specs.List.{zip}
-use Rattle.mr_node.specs.EntryLists.{AreKeyed}
+use Rattle.mr_node.proofs.Common.{rules, arith, ◌≡◌, drop, length, ap, zip, AreKeyed}
 use Rattle.mr_node.proofs.KeyedLemmas.{keyed_length}
 use Rattle.mr_node.proofs.FrontLemmas.{front_closed, front_dropped}
 use Rattle.mr_node.proofs.entry_lists.LeafEntryList.give_front.Goals.{After-drop_keys}

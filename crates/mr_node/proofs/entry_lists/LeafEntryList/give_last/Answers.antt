@@ -1,6 +1,4 @@
-use Rattle.std.proofs.Common.{rules, arith, ◌≡◌, ◌-◌, ◌<◌, length, get_or, set}
-use Rattle.std.specs.List.{zip}
-use Rattle.mr_node.specs.EntryLists.{no_key}
+use Rattle.mr_node.proofs.Common.{rules, arith, ◌≡◌, ◌-◌, ◌<◌, length, get_or, set, zip, no_key}
 use Rattle.mr_node.proofs.KeyedLemmas.{keyed_length}
 use Rattle.mr_node.proofs.ShareLemmas.{AreGivenValues, leaf_given}
 use Rattle.mr_node.proofs.entry_lists.LeafEntryList.give_last.Goals.{After-push}

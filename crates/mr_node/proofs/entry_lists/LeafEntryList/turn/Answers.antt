@@ -1,4 +1,4 @@
-use Rattle.std.proofs.Common.{ap, ◌∙◌, reverse}
+use Rattle.mr_node.proofs.Common.{ap, ◌∙◌, reverse}
 use Rattle.mr_node.proofs.ShareLemmas.{leaf_turned, turned_back}
 use Rattle.mr_node.proofs.entry_lists.LeafEntryList.turn.Goals as goal
 

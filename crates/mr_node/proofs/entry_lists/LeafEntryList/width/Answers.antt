@@ -1,4 +1,4 @@
-use Rattle.std.proofs.Common.{sym, ◌∙◌}
+use Rattle.mr_node.proofs.Common.{sym, ◌∙◌}
 use Rattle.mr_node.proofs.KeyedLemmas.{keyed_length}
 use Rattle.mr_node.proofs.entry_lists.LeafEntryList.width.Goals as goal
 

@@ -1,6 +1,4 @@
-use Rattle.std.proofs.Common.{rules, arith, ◌≡◌, option_map, sym, ap, subst, ◌∙◌}
-use Rattle.mr_node.specs.Rows.{value_at}
-use Rattle.mr_node.specs.Levels.{IsNode, IsInner, seen, seen_inner}
+use Rattle.mr_node.proofs.Common.{rules, arith, ◌≡◌, option_map, sym, ap, subst, ◌∙◌, value_at, IsNode, IsInner, seen, seen_inner}
 use Rattle.mr_node.proofs.PlaceLemmas.{packed_fits, got_used, never_none}
 use Rattle.mr_node.proofs.ChildLemmas.{cut_child}
 use Rattle.mr_node.proofs.NodeLemmas.{find_inner, children_rise, children_below}

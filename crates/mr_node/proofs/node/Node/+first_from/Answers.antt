@@ -1,5 +1,4 @@
-use Rattle.std.proofs.Common.{rules, arith, ◌≡◌, ◌+◌, ◌-◌, option_map, sym, ap, subst, ◌∙◌}
-use Rattle.mr_node.specs.Levels.{children_of, IsNode, IsInner, seen, seen_inner}
+use Rattle.mr_node.proofs.Common.{rules, arith, ◌≡◌, ◌+◌, ◌-◌, option_map, sym, ap, subst, ◌∙◌, children_of, IsNode, IsInner, seen, seen_inner}
 use Rattle.mr_node.proofs.PlaceLemmas.{packed_fits, got_used, never_none}
 use Rattle.mr_node.proofs.ChildLemmas.{cut_child, child_at}
 use Rattle.mr_node.proofs.NodeLemmas.{children_rise, children_below}

@@ -1,5 +1,4 @@
-use Rattle.std.proofs.Common.{arith, sym, ap, subst, ◌∙◌}
-use Rattle.mr_node.specs.Levels.{pairs_of, IsNode, IsInner, seen}
+use Rattle.mr_node.proofs.Common.{arith, sym, ap, subst, ◌∙◌, pairs_of, IsNode, IsInner, seen}
 use Rattle.mr_node.proofs.PlaceLemmas.{packed_fits, got_used, never_none}
 use Rattle.mr_node.proofs.FoldLemmas.{folds_child, folds_children, folds_same}
 use Rattle.mr_node.proofs.node.Node.+fold.Goals as goal

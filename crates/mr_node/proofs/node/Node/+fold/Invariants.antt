@@ -1,6 +1,4 @@
-use Rattle.std.proofs.Common.{take}
-use Rattle.mr_node.specs.Levels.{children_of, rows_of}
-use Rattle.mr_node.specs.Folds.{FoldsRows}
+use Rattle.mr_node.proofs.Common.{take, children_of, rows_of, FoldsRows}
 use Rattle.mr_node.proofs.node.Node.+fold.Given as goal
 
 abbrev pub invariant-loop-place : goal.invariant-loop-place

@@ -1,5 +1,4 @@
-use Rattle.std.proofs.Common.{rules, arith, ◌≡◌, ◌-◌, ◌+◌, get_or, None, Some, sym, ap, subst, ◌∙◌}
-use Rattle.mr_node.specs.Levels.{IsNode, IsInner, seen, seen_inner}
+use Rattle.mr_node.proofs.Common.{rules, arith, ◌≡◌, ◌-◌, ◌+◌, get_or, None, Some, sym, ap, subst, ◌∙◌, IsNode, IsInner, seen, seen_inner}
 use Rattle.mr_node.proofs.PlaceLemmas.{packed_fits, got_used, never_none}
 use Rattle.mr_node.proofs.ChildLemmas.{cut_child}
 use Rattle.mr_node.proofs.NodeLemmas.{children_rise, children_below, room_answer, child_gains}

@@ -1,13 +1,8 @@
-use Rattle.std.proofs.Common.{rules, arith, ◌≡◌, ◌+◌, ◌-◌, ◌*◌, ◌<◌, get_or, IfSome, refl, sym, ap, subst, ◌∙◌}
-use Rattle.tatp_rows.specs.Ordered.{row_at}
-use Rattle.mr_node.specs.Rows.{key_of_pair}
-use Rattle.mr_node.specs.Levels.{children_of, IsNode, IsInner, seen, seen_leaf, seen_inner}
-use Rattle.mr_node.specs.Growth.{IsGrown}
+use Rattle.mr_node.proofs.Common.{rules, arith, ◌≡◌, ◌+◌, ◌-◌, ◌*◌, ◌<◌, get_or, IfSome, refl, sym, ap, subst, ◌∙◌, row_at, key_of_pair, children_of, IsNode, IsInner, seen, seen_leaf, seen_inner, IsGrown, after_steps, IsRoomMade}
 use Rattle.mr_node.proofs.PlaceLemmas.{got_used, never_none}
 use Rattle.mr_node.proofs.ChildLemmas.{IsCutAt, child_at}
 use Rattle.mr_node.proofs.NodeLemmas.{find_cut, child_count_fits}
 use Rattle.mr_node.proofs.CutLemmas.{cut_of_room, grown_after}
-use Rattle.mr_node.specs.Steps.{after_steps, IsRoomMade}
 use Rattle.mr_node.proofs.StepLemmas.{room_made, leaf_made, made_fewest, made_most}
 use Rattle.mr_node.proofs.node.Node.+insert_split.Goals.{In-Inner, After-deref_mut-node, After-insert_split}
 use Rattle.mr_node.proofs.node.Node.+insert_split.Goals as goal

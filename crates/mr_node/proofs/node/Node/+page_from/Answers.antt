@@ -1,6 +1,4 @@
-use Rattle.std.proofs.Common.{rules, arith, ◌≡◌, get_or, None, Some, sym, ap, subst, ◌∙◌}
-use Rattle.mr_node.specs.Levels.{IsNode, IsInner, seen, seen_inner}
-use Rattle.mr_node.specs.Pages.{IsPage}
+use Rattle.mr_node.proofs.Common.{rules, arith, ◌≡◌, get_or, None, Some, sym, ap, subst, ◌∙◌, IsNode, IsInner, seen, seen_inner, IsPage}
 use Rattle.mr_node.proofs.PlaceLemmas.{packed_fits, got_used, never_none}
 use Rattle.mr_node.proofs.NodeLemmas.{children_rise, children_below}
 use Rattle.mr_node.proofs.PageLemmas.{is_filled, is_emptied, child_in, none_before, none_to_next, page_in_child, page_of_none}

@@ -1,4 +1,4 @@
-use Rattle.std.proofs.Common.{◌≡◌, []}
+use Rattle.mr_node.proofs.Common.{◌≡◌, []}
 use Rattle.mr_node.proofs.PageLemmas.{NoneTo}
 use Rattle.mr_node.proofs.node.Node.+page_from.Given as goal
 

@@ -1,7 +1,4 @@
-use Rattle.std.proofs.Common.{rules, arith, ◌≡◌, get_or, None, Some, is_some, sym, ap, subst, ◌∙◌, refl}
-use Rattle.mr_node.specs.Rows.{value_at}
-use Rattle.mr_node.specs.Revisions.{revised_at}
-use Rattle.mr_node.specs.Levels.{IsNode, IsInner, seen, seen_inner}
+use Rattle.mr_node.proofs.Common.{rules, arith, ◌≡◌, get_or, None, Some, is_some, sym, ap, subst, ◌∙◌, refl, value_at, revised_at, IsNode, IsInner, seen, seen_inner}
 use Rattle.mr_node.proofs.PlaceLemmas.{packed_fits, got_used, never_none}
 use Rattle.mr_node.proofs.SizeLemmas.{leaf_well, leaf_with, inner_well}
 use Rattle.mr_node.proofs.NodeLemmas.{children_rise, children_below, inner_with, part_with}

@@ -1,7 +1,4 @@
-use Rattle.std.proofs.Common.{rules, arith, cond, ◌≡◌, ◌+◌, ◌-◌, option_map, refl, sym, ap, subst, ◌∙◌}
-use Rattle.mr_node.specs.Rows.{value_at}
-use Rattle.mr_node.specs.Levels.{children_of, IsNode, IsInner, seen, seen_leaf, seen_inner}
-use Rattle.mr_node.specs.Changes.{IsShrunk}
+use Rattle.mr_node.proofs.Common.{rules, arith, cond, ◌≡◌, ◌+◌, ◌-◌, option_map, refl, sym, ap, subst, ◌∙◌, value_at, children_of, IsNode, IsInner, seen, seen_leaf, seen_inner, IsShrunk}
 use Rattle.mr_node.proofs.PlaceLemmas.{packed_fits, got_used, never_none}
 use Rattle.mr_node.proofs.ChildLemmas.{IsCutAt, child_at, cut_child}
 use Rattle.mr_node.proofs.SizeLemmas.{leaf_well}

@@ -1,5 +1,4 @@
-use Rattle.std.proofs.Common.{subst}
-use Rattle.mr_node.specs.Changes.{HasNewRoot}
+use Rattle.mr_node.proofs.Common.{subst, HasNewRoot}
 use Rattle.mr_node.proofs.node.Node.add_root.Goals as goal
 
 pub returns-clause-root : goal.returns-clause-root

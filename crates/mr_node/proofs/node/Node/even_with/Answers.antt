@@ -1,5 +1,4 @@
-use Rattle.std.proofs.Common.{rules, arith, ◌+◌, ap, subst, ◌∙◌}
-use Rattle.mr_node.specs.Pairs.{IsShare}
+use Rattle.mr_node.proofs.Common.{rules, arith, ◌+◌, ap, subst, ◌∙◌, IsShare}
 use Rattle.mr_node.proofs.node.Node.even_with.Goals as goal
 
 pub low_of-low-requires : goal.low_of-low-requires

@@ -1,5 +1,4 @@
-use Rattle.std.proofs.Common.{rules, ◌≡◌, [], arith, sym, ap, subst, ◌∙◌, length}
-use Rattle.mr_node.specs.Levels.{seen, pairs_of, IsNode, IsLeaf, IsInner, seen_leaf, seen_inner}
+use Rattle.mr_node.proofs.Common.{rules, ◌≡◌, [], arith, sym, ap, subst, ◌∙◌, length, seen, pairs_of, IsNode, IsLeaf, IsInner, seen_leaf, seen_inner}
 use Rattle.mr_node.proofs.EntryListLemmas.{entries_length}
 use Rattle.mr_node.proofs.EvenLemmas.{leaf_length, inner_length, halved_leaf, halved_inner, halved_by}
 use Rattle.mr_node.proofs.node.Node.halve_into.Goals.{in-Leaf+in-Leaf-body, in-Inner}

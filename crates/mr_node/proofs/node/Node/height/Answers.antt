@@ -1,5 +1,4 @@
-use Rattle.std.proofs.Common.{sym, ap, subst, ◌∙◌}
-use Rattle.mr_node.specs.Levels.{seen, IsWell}
+use Rattle.mr_node.proofs.Common.{sym, ap, subst, ◌∙◌, seen, IsWell}
 use Rattle.mr_node.proofs.SizeLemmas.{node_well}
 use Rattle.mr_node.proofs.node.Node.height.Goals as goal
 

@@ -1,6 +1,4 @@
-use Rattle.std.proofs.Common.{arith, sym, ap, subst, ◌∙◌, get_or}
-use Rattle.mr_node.specs.Rows.{StartsWith}
-use Rattle.mr_node.specs.Levels.{IsNode, IsLeaf, IsInner, seen}
+use Rattle.mr_node.proofs.Common.{arith, sym, ap, subst, ◌∙◌, get_or, StartsWith, IsNode, IsLeaf, IsInner, seen}
 use Rattle.mr_node.proofs.ChildLemmas.{least_inner}
 use Rattle.mr_node.proofs.SizeLemmas.{least_leaf}
 use Rattle.mr_node.proofs.node.Node.least.Goals as goal

@@ -1,5 +1,4 @@
-use Rattle.std.proofs.Common.{rules, arith, ◌-◌, length, sym, ap, subst, ◌∙◌}
-use Rattle.mr_node.specs.Levels.{children_of, IsNode, IsLeaf, IsInner, seen}
+use Rattle.mr_node.proofs.Common.{rules, arith, ◌-◌, length, sym, ap, subst, ◌∙◌, children_of, IsNode, IsLeaf, IsInner, seen}
 use Rattle.mr_node.proofs.KeyedLemmas.{keyed_length}
 use Rattle.mr_node.proofs.ChildLemmas.{counts_are}
 use Rattle.mr_node.proofs.SizeLemmas.{few_rows, inner_well}

@@ -1,4 +1,4 @@
-use Rattle.std.proofs.Common.{rules, arith, ◌<◌, refl}
+use Rattle.mr_node.proofs.Common.{rules, arith, ◌<◌, refl}
 use Rattle.mr_node.proofs.node.Node.lower.Goals as goal
 
 pub returns-then-width-ge2-clause-lowered : goal.returns-then-width-ge2-clause-lowered

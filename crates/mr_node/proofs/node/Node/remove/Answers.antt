@@ -1,4 +1,4 @@
-use Rattle.std.proofs.Common.{rules}
+use Rattle.mr_node.proofs.Common.{rules}
 use Rattle.mr_node.proofs.node.Node.remove.Goals as goal
 
 pub take_at-requires : goal.take_at-requires

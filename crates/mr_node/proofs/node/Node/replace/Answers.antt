@@ -1,4 +1,4 @@
-use Rattle.std.proofs.Common.{ap, ◌∙◌}
+use Rattle.mr_node.proofs.Common.{ap, ◌∙◌}
 use Rattle.mr_node.proofs.NodeLemmas.{seen_with}
 use Rattle.mr_node.proofs.ReviseLemmas.{put_at}
 use Rattle.mr_node.proofs.node.Node.replace.Goals as goal

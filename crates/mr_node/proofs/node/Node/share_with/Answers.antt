@@ -1,5 +1,4 @@
-use Rattle.std.proofs.Common.{◌≡◌, length, arith, sym, ap, subst, ◌∙◌}
-use Rattle.mr_node.specs.Levels.{seen, pairs_of, children_of, IsNode, seen_leaf, seen_inner}
+use Rattle.mr_node.proofs.Common.{◌≡◌, length, arith, sym, ap, subst, ◌∙◌, seen, pairs_of, children_of, IsNode, seen_leaf, seen_inner}
 use Rattle.mr_node.proofs.EvenLemmas.{share_seen, leaf_length, inner_length, AreLeaves, AreMovedLeaves, leaves_of, left_leaf, right_leaf, evened_leaves, AreInners, AreMovedChildren, inners_of, evened_inners, evened_by, kept_node}
 use Rattle.mr_node.proofs.node.Node.share_with.Goals.{in-Leaf+in-Leaf-body, in-Inner+in-Inner-body-2}
 use Rattle.mr_node.proofs.node.Node.share_with.Goals as goal

@@ -1,4 +1,4 @@
-use Rattle.std.proofs.Common.{◌≤◌, ◌-◌, max, vec_len, vec_capacity}
+use Rattle.mr_node.proofs.Common.{◌≤◌, ◌-◌, max, vec_len, vec_capacity}
 use Rattle.mr_node.proofs.stock.Blanks+Node+V.fill.Given as goal
 
 abbrev pub invariant-loop-alloc : goal.invariant-loop-alloc

@@ -1,6 +1,4 @@
-use Rattle.std.proofs.Common.{◌≡◌, ◌∷◌, ◌++◌, [], get_or, map, take, sym, ap, ◌∙◌}
-use Rattle.std.proofs.lemmas.List.{map_more}
-use Rattle.mr_node.specs.Rows.{value_at}
+use Rattle.mr_subtree.proofs.Common.{◌≡◌, ◌∷◌, ◌++◌, [], get_or, map, take, sym, ap, ◌∙◌, map_more, value_at}
 use Rattle.mr_subtree.proofs.DescentLemmas.{found}
 use Rattle.mr_subtree.proofs.subtree.SubTree.copy_many.Goals as goal
 

@@ -1,5 +1,4 @@
-use Rattle.std.proofs.Common.{◌≡◌, map, take}
-use Rattle.mr_node.specs.Rows.{value_at}
+use Rattle.mr_subtree.proofs.Common.{◌≡◌, map, take, value_at}
 use Rattle.mr_subtree.proofs.subtree.SubTree.copy_many.Given as goal
 
 abbrev pub invariant-loop-place : goal.invariant-loop-place

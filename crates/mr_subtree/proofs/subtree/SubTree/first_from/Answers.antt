@@ -1,6 +1,4 @@
-use Rattle.std.proofs.Common.{ap, ◌∙◌}
-use Rattle.std.specs.List.{find}
-use Rattle.std.proofs.Common.{leb}
+use Rattle.mr_subtree.proofs.Common.{ap, ◌∙◌, find, leb}
 use Rattle.mr_subtree.proofs.subtree.SubTree.first_from.Goals as goal
 
 pub returns : goal.returns

@@ -1,4 +1,4 @@
-use Rattle.std.proofs.Common.{arith, ap, ◌∙◌}
+use Rattle.mr_subtree.proofs.Common.{arith, ap, ◌∙◌}
 use Rattle.mr_subtree.proofs.RootFacts.{bounds_seen, low_root}
 use Rattle.mr_subtree.proofs.subtree.SubTree.height.Goals as goal
 

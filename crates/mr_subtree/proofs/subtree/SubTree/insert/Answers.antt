@@ -1,6 +1,4 @@
-use Rattle.std.proofs.Common.{rules, arith, Some, IsSome, refl, sym, ap, subst, length, ◌≤◌, ◌∙◌}
-use Rattle.tatp_rows.specs.Ordered.{row_at}
-use Rattle.mr_node.specs.Rows.{key_of_pair}
+use Rattle.mr_subtree.proofs.Common.{rules, arith, Some, IsSome, refl, sym, ap, subst, length, ◌≤◌, ◌∙◌, row_at, key_of_pair}
 use Rattle.mr_subtree.proofs.RootFacts.{grown_root, memory_wanted}
 use Rattle.mr_subtree.proofs.subtree.SubTree.insert.Goals.{in-Some-1, in-None-1}
 use Rattle.mr_subtree.proofs.subtree.SubTree.insert.Goals as goal

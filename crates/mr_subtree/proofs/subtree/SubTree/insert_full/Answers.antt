@@ -1,6 +1,4 @@
-use Rattle.std.proofs.Common.{rules, arith, ◌≡◌, ◌≤◌, sym, ap, subst, IfSome, ◌∙◌}
-use Rattle.tatp_rows.specs.Ordered.{row_at, with_row}
-use Rattle.mr_node.specs.Rows.{key_of_pair}
+use Rattle.mr_subtree.proofs.Common.{rules, arith, ◌≡◌, ◌≤◌, sym, ap, subst, IfSome, ◌∙◌, row_at, with_row, key_of_pair}
 use Rattle.mr_subtree.proofs.RootFacts.{inserted, no_memory, filled}
 use Rattle.mr_subtree.proofs.subtree.SubTree.insert_full.Goals as goal
 

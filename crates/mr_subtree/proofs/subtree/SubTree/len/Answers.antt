@@ -1,4 +1,4 @@
-use Rattle.std.proofs.Common.{length, ap, ◌∙◌}
+use Rattle.mr_subtree.proofs.Common.{length, ap, ◌∙◌}
 use Rattle.mr_subtree.proofs.subtree.SubTree.len.Goals as goal
 
 pub returns : goal.returns

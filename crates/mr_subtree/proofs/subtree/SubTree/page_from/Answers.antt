@@ -1,5 +1,4 @@
-use Rattle.std.proofs.Common.{subst}
-use Rattle.mr_node.specs.Pages.{IsPage}
+use Rattle.mr_subtree.proofs.Common.{subst, IsPage}
 use Rattle.mr_subtree.proofs.subtree.SubTree.page_from.Goals as goal
 
 pub returns : goal.returns

@@ -1,6 +1,4 @@
-use Rattle.std.proofs.Common.{rules, arith, ap, ◌∙◌}
-use Rattle.tatp_rows.specs.Ordered.{without_row}
-use Rattle.mr_node.specs.Rows.{key_of_pair, value_at}
+use Rattle.mr_subtree.proofs.Common.{rules, arith, ap, ◌∙◌, without_row, key_of_pair, value_at}
 use Rattle.mr_subtree.proofs.subtree.SubTree.remove.Goals as goal
 
 pub returns-clause-rows : goal.returns-clause-rows

@@ -1,7 +1,4 @@
-use Rattle.std.proofs.Common.{◌<◌, ◌≤◌, sym, ap, subst, ◌∙◌}
-use Rattle.tatp_rows.specs.Ordered.{with_row_at}
-use Rattle.mr_node.specs.Rows.{key_of_pair}
-use Rattle.mr_node.proofs.NodeLemmas.{seen_with}
+use Rattle.mr_subtree.proofs.Common.{◌<◌, ◌≤◌, sym, ap, subst, ◌∙◌, with_row_at, key_of_pair, seen_with}
 use Rattle.mr_subtree.proofs.subtree.SubTree.replace.Goals as goal
 
 pub returns-clause-rows : goal.returns-clause-rows

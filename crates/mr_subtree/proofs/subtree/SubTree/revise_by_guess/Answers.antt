@@ -1,7 +1,4 @@
-use Rattle.std.proofs.Common.{◌<◌, ◌≤◌, is_some, sym, ap, subst, ◌∙◌}
-use Rattle.mr_node.specs.Rows.{value_at}
-use Rattle.mr_node.specs.Revisions.{revised_at, spent_at}
-use Rattle.mr_node.proofs.NodeLemmas.{seen_with}
+use Rattle.mr_subtree.proofs.Common.{◌<◌, ◌≤◌, is_some, sym, ap, subst, ◌∙◌, value_at, revised_at, spent_at, seen_with}
 use Rattle.mr_subtree.proofs.subtree.SubTree.revise_by_guess.Goals as goal
 
 pub returns-clause-rows : goal.returns-clause-rows

@@ -1,5 +1,4 @@
-use Rattle.std.proofs.Common.{ap}
-use Rattle.mr_node.proofs.FoldLemmas.{folds_same}
+use Rattle.mr_subtree.proofs.Common.{ap, folds_same}
 use Rattle.mr_subtree.proofs.subtree.SubTree.walk.Goals as goal
 
 pub returns : goal.returns

@@ -1,7 +1,4 @@
-use Rattle.std.proofs.Common.{◌≡◌, ◌<◌, ℕ, Some, sym}
-use Rattle.std.specs.Prelude.{position}
-use Rattle.part_table.specs.Dissolve.{dissolved}
-use Rattle.part_table.specs.Region.{is_part}
+use Rattle.part_table.proofs.Common.{◌≡◌, ◌<◌, ℕ, Some, sym, position, dissolved, is_part}
 use Rattle.part_table.proofs.BehindLemmas.{refill_anew}
 use Rattle.part_table.proofs.DissolveLemmas.{dissolve_from_answer, dissolved_edit, part_behind_front, regions-dissolved}
 use Rattle.part_table.proofs.RenumberLemmas.{region_lowered}

@@ -1,4 +1,4 @@
-use Rattle.std.proofs.Common.{◌∙◌, sym, arith}
+use Rattle.part_table.proofs.Common.{◌∙◌, sym, arith}
 use Rattle.part_table.proofs.DissolvingLemmas.{dissolve_behind_part, dissolve_behind_piece, dissolve_first, dissolve_nowhere, not_first}
 use Rattle.part_table.proofs.SplitLemmas.{own_below}
 use Rattle.part_table.proofs.regions.Regions.dissolving.Goals as goal

@@ -1,7 +1,4 @@
-use Rattle.std.proofs.Common.{◌≡◌, ◌+◌, ℕ, Some, arith}
-use Rattle.std.specs.Prelude.{position}
-use Rattle.part_table.specs.Divide.{divided}
-use Rattle.part_table.specs.Region.{is_part}
+use Rattle.part_table.proofs.Common.{◌≡◌, ◌+◌, ℕ, Some, arith, position, divided, is_part}
 use Rattle.part_table.proofs.BehindLemmas.{length_anew, refill_anew}
 use Rattle.part_table.proofs.DivideLemmas.{bound_fits, divide_from_answer, divide_room, divided_by, regions-divided}
 use Rattle.part_table.proofs.RenumberLemmas.{region_raised}

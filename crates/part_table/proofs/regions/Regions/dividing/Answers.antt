@@ -1,5 +1,4 @@
-use Rattle.std.proofs.Common.{◌∙◌, sym, arith}
-use Rattle.std.proofs.lemmas.Result.{err_from_is_err_and}
+use Rattle.part_table.proofs.Common.{◌∙◌, sym, arith, err_from_is_err_and}
 use Rattle.part_table.proofs.DivideLemmas.{divide_at_index, divide_nowhere}
 use Rattle.part_table.proofs.SplitLemmas.{own_below}
 use Rattle.part_table.proofs.regions.Regions.dividing.Goals as goal

@@ -1,5 +1,4 @@
-use Rattle.std.proofs.Common.{◌∙◌, sym}
-use Rattle.std.proofs.lemmas.Result.{err_from_is_err_and}
+use Rattle.part_table.proofs.Common.{◌∙◌, sym, err_from_is_err_and}
 use Rattle.part_table.proofs.GivingLemmas.{answer_at, answer_none}
 use Rattle.part_table.proofs.regions.Regions.giving.Goals as goal
 

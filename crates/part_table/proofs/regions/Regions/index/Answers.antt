@@ -1,5 +1,5 @@
 -- Each s_id lies in one of the regions.
-use Rattle.std.proofs.Common.{◌∙◌, sym}
+use Rattle.part_table.proofs.Common.{◌∙◌, sym}
 use Rattle.part_table.proofs.PlaceLemmas.{first_behind, some_index}
 use Rattle.part_table.proofs.regions.Regions.index.Goals as goal
 

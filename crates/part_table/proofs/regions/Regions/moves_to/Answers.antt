@@ -1,5 +1,5 @@
 -- The tests come in the order of the refusals; then the bounds that rise, and those that fall.
-use Rattle.std.proofs.Common.{◌∙◌, sym, arith}
+use Rattle.part_table.proofs.Common.{◌∙◌, sym, arith}
 use Rattle.part_table.proofs.AnswerLemmas.{too_many, not_rising, some_loose, answers, few_bounds, few_moves, done}
 use Rattle.part_table.proofs.regions.Regions.moves_to.Goals as goal
 use Rattle.part_table.proofs.regions.Regions.moves_to.Goals.{then-bounds-parts-via-then-bounds-parts, then-bounds-parts-via-else-bounds-parts+then-not-are_rising}

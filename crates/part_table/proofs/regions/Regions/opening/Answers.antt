@@ -1,5 +1,5 @@
 -- One part after another, each from the bound in front of it.
-use Rattle.std.proofs.Common.{◌∙◌, refl, sym, arith}
+use Rattle.part_table.proofs.Common.{◌∙◌, refl, sym, arith}
 use Rattle.part_table.proofs.OpeningLemmas.{product_small, one_opened, last_opened, openable, regions_opened, opened}
 use Rattle.part_table.proofs.regions.Regions.opening.Goals as goal
 

@@ -1,4 +1,4 @@
-use Rattle.std.proofs.Common.{◌≡◌, ◌+◌, ◌++◌, length}
+use Rattle.part_table.proofs.Common.{◌≡◌, ◌+◌, ◌++◌, length}
 use Rattle.part_table.proofs.OpeningLemmas.{all_parts, parts_left}
 use Rattle.part_table.proofs.regions.Regions.opening.Given as goal
 

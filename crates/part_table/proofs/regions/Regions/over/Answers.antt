@@ -1,7 +1,4 @@
-use Rattle.std.proofs.Common.{◌≡◌, ◌∙◌, arith, refl, sym, true}
-use Rattle.std.specs.Prelude.{◌==◌}
-use Rattle.std.proofs.lemmas.Bool.Decides.{nat_tests}
-use Rattle.part_table.specs.declared.region.TheConstants.{END}
+use Rattle.part_table.proofs.Common.{◌≡◌, ◌∙◌, arith, refl, sym, true, ◌==◌, nat_tests, END}
 use Rattle.part_table.proofs.NumberLemmas.{length_regions}
 use Rattle.part_table.proofs.NumberedLemmas.{are_regions, one_numbered, one_follows, one_part, one_piece, all_numbered, all_follow}
 use Rattle.part_table.proofs.regions.Regions.over.Goals as goal

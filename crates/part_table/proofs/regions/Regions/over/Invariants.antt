@@ -1,6 +1,4 @@
-use Rattle.std.proofs.Common.{◌≡◌, ◌+◌, ◌++◌, drop, length}
-use Rattle.part_table.specs.Numbered.{numbered, do_follow}
-use Rattle.part_table.specs.Regions.{parts_of, pieces_of}
+use Rattle.part_table.proofs.Common.{◌≡◌, ◌+◌, ◌++◌, drop, length, numbered, do_follow, parts_of, pieces_of}
 use Rattle.part_table.proofs.regions.Regions.over.Given as goal
 
 abbrev pub invariant-loop-range : goal.invariant-loop-range

@@ -1,5 +1,4 @@
-use Rattle.std.proofs.Common.{◌≡◌, ◌∙◌, arith, length}
-use Rattle.part_table.specs.Regions.{parts_of}
+use Rattle.part_table.proofs.Common.{◌≡◌, ◌∙◌, arith, length, parts_of}
 use Rattle.part_table.proofs.NumberLemmas.{count_parts}
 use Rattle.part_table.proofs.regions.Regions.parts.Goals as goal
 

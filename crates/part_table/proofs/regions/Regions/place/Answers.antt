@@ -1,4 +1,4 @@
-use Rattle.std.proofs.Common.{sym}
+use Rattle.part_table.proofs.Common.{sym}
 use Rattle.part_table.proofs.PlaceLemmas.{one_of_regions, place_at}
 use Rattle.part_table.proofs.regions.Regions.place.Goals as goal
 

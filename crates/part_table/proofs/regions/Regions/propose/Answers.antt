@@ -1,5 +1,5 @@
 -- One bound after another, each from the zone of the one before it.
-use Rattle.std.proofs.Common.{◌≡◌, ◌∙◌, ◌+◌, ◌-◌, refl, arith}
+use Rattle.part_table.proofs.Common.{◌≡◌, ◌∙◌, ◌+◌, ◌-◌, refl, arith}
 use Rattle.part_table.proofs.ProposalLemmas.{max_is, sum_small, next_zone, one_proposed, length_proposed, all_proposed, rising_proposal}
 use Rattle.part_table.proofs.regions.Regions.propose.Goals as goal
 

@@ -1,6 +1,4 @@
-use Rattle.std.proofs.Common.{◌≡◌, ◌-◌, map}
-use Rattle.std.specs.List.{range_with_len}
-use Rattle.part_table.specs.Proposal.{bound_zone, proposed_bound}
+use Rattle.part_table.proofs.Common.{◌≡◌, ◌-◌, map, range_with_len, bound_zone, proposed_bound}
 use Rattle.part_table.proofs.regions.Regions.propose.Given as goal
 
 abbrev pub invariant-loop-i : goal.invariant-loop-i

@@ -1,5 +1,4 @@
-use Rattle.std.proofs.Common.{◌∙◌, sym}
-use Rattle.std.proofs.lemmas.Result.{err_from_is_err_and}
+use Rattle.part_table.proofs.Common.{◌∙◌, sym, err_from_is_err_and}
 use Rattle.part_table.proofs.PairLemmas.{taken_both, no_piece, no_part}
 use Rattle.part_table.proofs.regions.Regions.taking.Goals as goal
 

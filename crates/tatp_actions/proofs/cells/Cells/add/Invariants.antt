@@ -1,5 +1,4 @@
-use Rattle.std.proofs.Common.{◌≡◌, ℕ, ◌+◌, ◌<◌, ◌≤◌, length, get_or}
-use Rattle.tatp_actions.specs.declared.cells.TheConstants.{CELLS}
+use Rattle.tatp_actions.proofs.Common.{◌≡◌, ℕ, ◌+◌, ◌<◌, ◌≤◌, length, get_or, CELLS}
 use Rattle.tatp_actions.proofs.cells.Cells.add.Given as goal
 
 abbrev pub invariant-loop-cell : goal.invariant-loop-cell

@@ -1,8 +1,4 @@
-use Rattle.std.proofs.Common.{◌≡◌, ℕ, ◌+◌, ◌<◌, arith}
-use Rattle.std.specs.Prelude.{◌+ℤ◌}
-use Rattle.tatp_actions.specs.Inside.{covering, in_span, signed}
-use Rattle.tatp_actions.specs.declared.cells.TheConstants.{CELLS}
-use Rattle.tatp_actions.specs.Change.{delta_at}
+use Rattle.tatp_actions.proofs.Common.{◌≡◌, ℕ, ◌+◌, ◌<◌, arith, ◌+ℤ◌, covering, in_span, signed, CELLS, delta_at}
 use Rattle.tatp_actions.proofs.DeltaLemmas.{added, first_fits, signed_more, partial_fits, second_fits, three_spans}
 use Rattle.tatp_actions.proofs.change.Change.add_to.Goals.{After-add_span-3}
 use Rattle.tatp_actions.proofs.change.Change.add_to.Goals as goal

@@ -1,6 +1,4 @@
-use Rattle.std.proofs.Common.{◌∙◌, ap, arith, refl, w8}
-use Rattle.std.proofs.lemmas.Int.{ints, to_z-of_z}
-use Rattle.tatp_actions.specs.declared.change.Note.{Note}
+use Rattle.tatp_actions.proofs.Common.{◌∙◌, ap, arith, refl, w8, ints, to_z-of_z, Note}
 use Rattle.tatp_actions.proofs.HourLemmas.{with_zone}
 use Rattle.tatp_actions.proofs.change.Change.forwarding_moved.Goals as goal
 

@@ -1,7 +1,4 @@
-use Rattle.std.proofs.Common.{append-nil}
-use Rattle.tatp_actions.specs.Change.{hour_notes}
-use Rattle.tatp_actions.specs.Inside.{span_amount}
-use Rattle.tatp_actions.specs.declared.cells.TheConstants.{FIRST_AREA}
+use Rattle.tatp_actions.proofs.Common.{append-nil, hour_notes, span_amount, FIRST_AREA}
 use Rattle.tatp_actions.proofs.HourLemmas.{hours_are}
 use Rattle.tatp_actions.proofs.change.Change.hours_moved.Goals as goal
 

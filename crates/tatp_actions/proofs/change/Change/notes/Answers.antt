@@ -1,11 +1,4 @@
-use Rattle.std.proofs.Common.{◌≡◌, ◌∙◌, ◌-◌, ◌++◌, ℕ, List, [], ap, arith, sym, w8, of_z, to_z, append-nil}
-use Rattle.std.specs.Prelude.{ℤ}
-use Rattle.std.proofs.lemmas.Int.{ints, to_z-of_z}
-use Rattle.std.proofs.lemmas.List.{append_assoc}
-use Rattle.tatp_actions.specs.Change.{hour_notes, note_of}
-use Rattle.tatp_actions.specs.Inside.{span_amount, signed, IsCellNote}
-use Rattle.tatp_actions.specs.declared.change.Note.{Note}
-use Rattle.tatp_actions.specs.declared.cells.TheConstants.{FIRST_AREA}
+use Rattle.tatp_actions.proofs.Common.{◌≡◌, ◌∙◌, ◌-◌, ◌++◌, ℕ, List, [], ap, arith, sym, w8, of_z, to_z, append-nil, ℤ, ints, to_z-of_z, append_assoc, hour_notes, note_of, span_amount, signed, IsCellNote, Note, FIRST_AREA}
 use Rattle.tatp_actions.proofs.HourLemmas.{compact_each, compact_few, compact_once, hour_noted, last_fits, no_hour}
 use Rattle.tatp_actions.proofs.change.Change.notes.Goals.{After-push_note-2}
 use Rattle.tatp_actions.proofs.change.Change.notes.Goals as goal

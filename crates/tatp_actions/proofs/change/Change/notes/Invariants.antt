@@ -1,7 +1,4 @@
-use Rattle.std.specs.Prelude.{◌≡◌, ◌≤◌, ◌-◌, ◌++◌, length}
-use Rattle.tatp_actions.specs.Change.{hour_notes}
-use Rattle.tatp_actions.specs.Inside.{span_amount}
-use Rattle.tatp_actions.specs.declared.cells.TheConstants.{FIRST_AREA}
+use Rattle.tatp_actions.proofs.Common.{◌≡◌, ◌≤◌, ◌-◌, ◌++◌, length, hour_notes, span_amount, FIRST_AREA}
 use Rattle.tatp_actions.proofs.change.Change.notes.Given as goal
 
 abbrev pub invariant-loop-hour : goal.invariant-loop-hour

@@ -1,4 +1,4 @@
-use Rattle.std.proofs.Common.{arith, refl, true}
+use Rattle.tatp_actions.proofs.Common.{arith, refl, true}
 use Rattle.tatp_actions.proofs.HourLemmas.{no_span_notes, none_covers}
 use Rattle.tatp_actions.proofs.change.Change.of_notes.Goals as goal
 

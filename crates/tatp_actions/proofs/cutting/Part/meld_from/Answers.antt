@@ -1,4 +1,4 @@
-use Rattle.std.proofs.Common.{◌⊎◌, inl, inr}
+use Rattle.tatp_actions.proofs.Common.{◌⊎◌, inl, inr}
 use Rattle.tatp_actions.proofs.CutTablesLemmas.{tables_apart, joined_holds, melded_low, melded_high}
 use Rattle.tatp_actions.proofs.CutTablesLemmas.{apart_behind, apart_before, emptied_is, emptied_holds}
 use Rattle.tatp_actions.proofs.cutting.Part.meld_from.Goals as goal

@@ -1,5 +1,4 @@
-use Rattle.std.proofs.Common.{◌∙◌, ap}
-use Rattle.tatp_actions.specs.Cut.{low_part, high_part}
+use Rattle.tatp_actions.proofs.Common.{◌∙◌, ap, low_part, high_part}
 use Rattle.tatp_actions.proofs.CutTablesLemmas.{low_is, low_holds, high_is, high_holds}
 use Rattle.tatp_actions.proofs.StoredLemmas.{own_heights}
 use Rattle.tatp_actions.proofs.cutting.Part.slice_into.Goals as goal

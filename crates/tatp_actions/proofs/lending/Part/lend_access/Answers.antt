@@ -1,4 +1,4 @@
-use Rattle.tatp_rows.specs.Keys.{access_key}
+use Rattle.tatp_actions.proofs.Common.{access_key}
 use Rattle.tatp_actions.proofs.StoredLemmas.{found_in}
 use Rattle.tatp_actions.proofs.lending.Part.lend_access.Goals as goal
 

@@ -1,4 +1,4 @@
-use Rattle.tatp_rows.specs.Keys.{facility_key}
+use Rattle.tatp_actions.proofs.Common.{facility_key}
 use Rattle.tatp_actions.proofs.StoredLemmas.{found_in}
 use Rattle.tatp_actions.proofs.lending.Part.lend_facility.Goals as goal
 

@@ -1,4 +1,4 @@
-use Rattle.tatp_rows.specs.Keys.{forwarding_key}
+use Rattle.tatp_actions.proofs.Common.{forwarding_key}
 use Rattle.tatp_actions.proofs.StoredLemmas.{found_in}
 use Rattle.tatp_actions.proofs.lending.Part.lend_forwarding.Goals as goal
 

@@ -1,4 +1,4 @@
-use Rattle.tatp_rows.specs.Keys.{subscriber_key}
+use Rattle.tatp_actions.proofs.Common.{subscriber_key}
 use Rattle.tatp_actions.proofs.StoredLemmas.{found_in}
 use Rattle.tatp_actions.proofs.lending.Part.lend_subscriber.Goals as goal
 

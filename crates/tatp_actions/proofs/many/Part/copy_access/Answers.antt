@@ -1,6 +1,4 @@
-use Rattle.std.proofs.Common.{map, ap, ◌∙◌}
-use Rattle.mr_node.specs.Rows.{value_at}
-use Rattle.tatp_rows.specs.Keys.{key_of, access_key}
+use Rattle.tatp_actions.proofs.Common.{map, ap, ◌∙◌, value_at, key_of, access_key}
 use Rattle.tatp_actions.proofs.ManyLemmas.{all_found}
 use Rattle.tatp_actions.proofs.many.Part.copy_access.Goals as goal
 

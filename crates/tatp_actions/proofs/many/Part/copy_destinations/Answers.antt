@@ -1,9 +1,4 @@
-use Rattle.std.proofs.Common.{◌≡◌, ◌∙◌, ℕ, ap, get_or, map}
-use Rattle.mr_node.specs.Rows.{value_at}
-use Rattle.tatp_rows.specs.Keys.{facility_key, key_of}
-use Rattle.tatp_actions.specs.Action.{destinations}
-use Rattle.tatp_actions.specs.Book.{IsBook, facility_at, forwarding_at}
-use Rattle.tatp_actions.specs.Inside.{destination}
+use Rattle.tatp_actions.proofs.Common.{◌≡◌, ◌∙◌, ℕ, ap, get_or, map, value_at, facility_key, key_of, destinations, IsBook, facility_at, forwarding_at, destination}
 use Rattle.tatp_actions.proofs.DestinationLemmas.{active_numbers}
 use Rattle.tatp_actions.proofs.ManyLemmas.{all_found, made_at, one_more_made}
 use Rattle.tatp_actions.proofs.many.Part.copy_destinations.Goals.{After-push}

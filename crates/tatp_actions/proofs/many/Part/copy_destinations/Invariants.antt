@@ -1,5 +1,4 @@
-use Rattle.std.proofs.Common.{◌≡◌, ℕ, map, take}
-use Rattle.tatp_actions.specs.Action.{destinations}
+use Rattle.tatp_actions.proofs.Common.{◌≡◌, ℕ, map, take, destinations}
 use Rattle.tatp_actions.proofs.many.Part.copy_destinations.Given as goal
 
 abbrev pub invariant-loop-place : goal.invariant-loop-place

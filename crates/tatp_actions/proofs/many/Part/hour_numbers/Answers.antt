@@ -1,8 +1,4 @@
-use Rattle.std.proofs.Common.{◌≡◌, ◌∙◌, ℕ, ap, get_or, map, sym}
-use Rattle.mr_node.specs.Rows.{value_at}
-use Rattle.tatp_rows.specs.Keys.{forwarding_key, key_of}
-use Rattle.tatp_actions.specs.Book.{IsBook, forwarding_at}
-use Rattle.tatp_actions.specs.Inside.{destination}
+use Rattle.tatp_actions.proofs.Common.{◌≡◌, ◌∙◌, ℕ, ap, get_or, map, sym, value_at, forwarding_key, key_of, IsBook, forwarding_at, destination}
 use Rattle.tatp_actions.proofs.DestinationLemmas.{all_late, by_times}
 use Rattle.tatp_actions.proofs.ManyLemmas.{all_found, made_at, one_more_made}
 use Rattle.tatp_actions.proofs.many.Part.hour_numbers.Goals.{After-push}

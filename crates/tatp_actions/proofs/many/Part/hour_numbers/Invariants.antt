@@ -1,6 +1,4 @@
-use Rattle.std.proofs.Common.{◌≡◌, ℕ, map, take}
-use Rattle.tatp_actions.specs.Book.{forwarding_at}
-use Rattle.tatp_actions.specs.Inside.{destination}
+use Rattle.tatp_actions.proofs.Common.{◌≡◌, ℕ, map, take, forwarding_at, destination}
 use Rattle.tatp_actions.proofs.many.Part.hour_numbers.Given as goal
 
 abbrev pub invariant-loop-place : goal.invariant-loop-place

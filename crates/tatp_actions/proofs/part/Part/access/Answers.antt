@@ -1,5 +1,4 @@
-use Rattle.std.proofs.Common.{◌∙◌}
-use Rattle.tatp_rows.specs.Keys.{access_key}
+use Rattle.tatp_actions.proofs.Common.{◌∙◌, access_key}
 use Rattle.tatp_actions.proofs.StoredLemmas.{found_in}
 use Rattle.tatp_actions.proofs.part.Part.access.Goals as goal
 

@@ -1,5 +1,4 @@
-use Rattle.std.proofs.Common.{sym, ◌∙◌}
-use Rattle.tatp_actions.specs.Book.{subscriber_at}
+use Rattle.tatp_actions.proofs.Common.{sym, ◌∙◌, subscriber_at}
 use Rattle.tatp_actions.proofs.ActsLemmas.{some_from}
 use Rattle.tatp_actions.proofs.AdministrationLemmas.{access_is_added}
 use Rattle.tatp_actions.proofs.part.Part.add_access.Goals as goal

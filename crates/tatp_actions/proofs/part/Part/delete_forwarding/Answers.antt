@@ -1,4 +1,4 @@
-use Rattle.std.proofs.Common.{sym}
+use Rattle.tatp_actions.proofs.Common.{sym}
 use Rattle.tatp_actions.proofs.TransactionLemmas.{forwarding_deleted, no_forwarding}
 use Rattle.tatp_actions.proofs.part.Part.delete_forwarding.Goals as goal
 

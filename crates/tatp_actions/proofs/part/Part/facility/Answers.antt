@@ -1,5 +1,4 @@
-use Rattle.std.proofs.Common.{◌∙◌}
-use Rattle.tatp_rows.specs.Keys.{facility_key}
+use Rattle.tatp_actions.proofs.Common.{◌∙◌, facility_key}
 use Rattle.tatp_actions.proofs.StoredLemmas.{found_in}
 use Rattle.tatp_actions.proofs.part.Part.facility.Goals as goal
 

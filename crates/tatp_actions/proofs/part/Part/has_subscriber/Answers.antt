@@ -1,6 +1,4 @@
-use Rattle.std.proofs.Common.{sym, ap, ◌∙◌}
-use Rattle.std.specs.Prelude.{is_some}
-use Rattle.tatp_rows.specs.Keys.{subscriber_key}
+use Rattle.tatp_actions.proofs.Common.{sym, ap, ◌∙◌, is_some, subscriber_key}
 use Rattle.tatp_actions.proofs.StoredLemmas.{found_in, some_mapped}
 use Rattle.tatp_actions.proofs.part.Part.has_subscriber.Goals as goal
 

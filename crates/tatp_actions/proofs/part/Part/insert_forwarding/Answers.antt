@@ -1,7 +1,4 @@
-use Rattle.std.proofs.Common.{Result, sym, subst}
-use Rattle.tatp_actions.specs.Action.{done_reply}
-use Rattle.tatp_actions.specs.Edit.{Acts, notes_of}
-use Rattle.tatp_actions.specs.declared.action.Action.TheVariants.{InsertForwarding}
+use Rattle.tatp_actions.proofs.Common.{Result, sym, subst, done_reply, Acts, notes_of, InsertForwarding}
 use Rattle.tatp_actions.proofs.ActsLemmas.{handed_on}
 use Rattle.tatp_actions.proofs.TransactionLemmas.{forwarding_inserted, insertion_refused}
 use Rattle.tatp_actions.proofs.part.Part.insert_forwarding.Goals as goal

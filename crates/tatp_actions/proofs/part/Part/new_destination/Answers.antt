@@ -1,5 +1,4 @@
-use Rattle.std.proofs.Common.{sym, subst}
-use Rattle.tatp_actions.specs.Part.{IsPart}
+use Rattle.tatp_actions.proofs.Common.{sym, subst, IsPart}
 use Rattle.tatp_actions.proofs.DestinationLemmas.{numbers_answer, no_number_answer}
 use Rattle.tatp_actions.proofs.part.Part.new_destination.Goals as goal
 

@@ -1,4 +1,4 @@
-use Rattle.tatp_rows.specs.Keys.{forwarding_key}
+use Rattle.tatp_actions.proofs.Common.{forwarding_key}
 use Rattle.tatp_actions.proofs.StoredLemmas.{found_in}
 use Rattle.tatp_actions.proofs.KeyedLemmas.{removed_is, removed_holds}
 use Rattle.tatp_actions.proofs.part.Part.remove_forwarding.Goals as goal

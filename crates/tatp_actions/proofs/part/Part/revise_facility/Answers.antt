@@ -1,6 +1,4 @@
-use Rattle.std.proofs.Common.{is_some, ap, ◌∙◌}
-use Rattle.tatp_actions.specs.Book.{facility_at}
-use Rattle.tatp_actions.specs.Tables.{stored_book}
+use Rattle.tatp_actions.proofs.Common.{is_some, ap, ◌∙◌, facility_at, stored_book}
 use Rattle.tatp_actions.proofs.RevisedLemmas.{spent_found, facility_there, facility_is, facility_holds}
 use Rattle.tatp_actions.proofs.part.Part.revise_facility.Goals as goal
 

@@ -1,7 +1,5 @@
-use Rattle.std.proofs.Common.{is_some, ap, ◌∙◌}
+use Rattle.tatp_actions.proofs.Common.{is_some, ap, ◌∙◌, subscriber_at, stored_book}
 use Rattle.tatp_actions.proofs.RevisedLemmas.{spent_found, subscriber_there, subscriber_is, subscriber_holds}
-use Rattle.tatp_actions.specs.Book.{subscriber_at}
-use Rattle.tatp_actions.specs.Tables.{stored_book}
 use Rattle.tatp_actions.proofs.part.Part.revise_subscriber.Goals as goal
 
 pub invariant_of-self : goal.invariant_of-self

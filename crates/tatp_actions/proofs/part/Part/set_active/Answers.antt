@@ -1,5 +1,4 @@
-use Rattle.std.proofs.Common.{refl, sym, ◌∙◌}
-use Rattle.tatp_actions.specs.Book.{facility_at}
+use Rattle.tatp_actions.proofs.Common.{refl, sym, ◌∙◌, facility_at}
 use Rattle.tatp_actions.proofs.AdministrationLemmas.{switch_stands, switch_done}
 use Rattle.tatp_actions.proofs.part.Part.set_active.Goals as goal
 

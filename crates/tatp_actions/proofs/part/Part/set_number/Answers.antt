@@ -1,5 +1,4 @@
-use Rattle.std.proofs.Common.{◌<◌, arith, refl, sym, ◌∙◌}
-use Rattle.tatp_actions.specs.Book.{subscriber_at}
+use Rattle.tatp_actions.proofs.Common.{◌<◌, arith, refl, sym, ◌∙◌, subscriber_at}
 use Rattle.tatp_actions.proofs.AdministrationLemmas.{number_set}
 use Rattle.tatp_actions.proofs.part.Part.set_number.Goals as goal
 

@@ -1,5 +1,4 @@
-use Rattle.std.proofs.Common.{◌∙◌}
-use Rattle.tatp_rows.specs.Keys.{subscriber_key}
+use Rattle.tatp_actions.proofs.Common.{◌∙◌, subscriber_key}
 use Rattle.tatp_actions.proofs.StoredLemmas.{found_in}
 use Rattle.tatp_actions.proofs.part.Part.subscriber.Goals as goal
 

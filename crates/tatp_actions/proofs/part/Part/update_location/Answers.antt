@@ -1,5 +1,4 @@
-use Rattle.std.proofs.Common.{refl, sym, ◌∙◌}
-use Rattle.tatp_actions.specs.Book.{subscriber_at}
+use Rattle.tatp_actions.proofs.Common.{refl, sym, ◌∙◌, subscriber_at}
 use Rattle.tatp_actions.proofs.TransactionLemmas.{location_moved}
 use Rattle.tatp_actions.proofs.part.Part.update_location.Goals as goal
 

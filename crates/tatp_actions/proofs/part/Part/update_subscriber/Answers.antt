@@ -1,5 +1,4 @@
-use Rattle.std.proofs.Common.{refl, sym, ◌∙◌}
-use Rattle.tatp_actions.specs.Book.{facility_at}
+use Rattle.tatp_actions.proofs.Common.{refl, sym, ◌∙◌, facility_at}
 use Rattle.tatp_actions.proofs.RevisedLemmas.{keeps_bit}
 use Rattle.tatp_actions.proofs.TransactionLemmas.{subscriber_updated}
 use Rattle.tatp_actions.proofs.part.Part.update_subscriber.Goals as goal

@@ -1,8 +1,4 @@
-use Rattle.std.proofs.Common.{◌≡◌, ℕ, sym, map, subst, arith}
-use Rattle.std.specs.Prelude.{Some, None}
-use Rattle.tatp_rows.specs.Rows.{SubscriberRow}
-use Rattle.tatp_actions.specs.Book.{first_subscriber}
-use Rattle.tatp_actions.specs.Part.{PartState}
+use Rattle.tatp_actions.proofs.Common.{◌≡◌, ℕ, sym, map, subst, arith, Some, None, SubscriberRow, first_subscriber, PartState}
 use Rattle.tatp_actions.proofs.FirstLemmas.{first_answered, none_past}
 use Rattle.tatp_actions.proofs.recount.Part.first_sub_from.Goals as goal
 

@@ -1,8 +1,4 @@
-use Rattle.std.proofs.Common.{◌≡◌, subst, rules}
-use Rattle.std.specs.Prelude.{slice_index}
-use Rattle.tatp_actions.specs.Cell.{cell}
-use Rattle.tatp_actions.specs.Part.{PartState}
-use Rattle.tatp_actions.specs.Tables.{Tables}
+use Rattle.tatp_actions.proofs.Common.{◌≡◌, subst, rules, slice_index, cell, PartState, Tables}
 use Rattle.tatp_actions.proofs.RecountLemmas.{recounted}
 use Rattle.tatp_actions.proofs.recount.Part.recount.Goals as goal
 

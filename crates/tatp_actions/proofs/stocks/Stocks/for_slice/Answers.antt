@@ -1,6 +1,4 @@
-use Rattle.std.proofs.Common.{◌≡◌, ℕ, ◌<◌, arith}
-use Rattle.mr_cut.specs.Bounds.{blanks_for_slice}
-use Rattle.tatp_actions.specs.CutTables.{IsForSlice}
+use Rattle.tatp_actions.proofs.Common.{◌≡◌, ℕ, ◌<◌, arith, blanks_for_slice, IsForSlice}
 use Rattle.tatp_actions.proofs.CutTablesLemmas.{heights_are}
 use Rattle.tatp_actions.proofs.stocks.Stocks.for_slice.Goals as goal
 

@@ -1,5 +1,4 @@
-use Rattle.std.proofs.Common.{◌≡◌, ◌∙◌}
-use Rattle.tatp_rows.proofs.PlaceLemmas.{absent_past, absent_here, found_here}
+use Rattle.tatp_actions.proofs.Common.{◌≡◌, ◌∙◌, absent_past, absent_here, found_here}
 use Rattle.tatp_actions.proofs.table.Table.get.Goals as goal
 
 pub returns-in_err-entry : goal.returns-in_err-entry

@@ -1,9 +1,4 @@
-use Rattle.std.proofs.Common.{◌≡◌, ◌∙◌, refl, sym, ap, subst, length, arith, rules}
-use Rattle.std.specs.Prelude.{None, Some}
-use Rattle.std.specs.List.{insert}
-use Rattle.tatp_rows.specs.Ordered.{IsOrderedBy, row_at, with_row}
-use Rattle.tatp_rows.proofs.OrderedLemmas.{ordered-with_row}
-use Rattle.tatp_rows.proofs.PlaceLemmas.{absent_past, absent_here, found_here, inserts_here}
+use Rattle.tatp_actions.proofs.Common.{◌≡◌, ◌∙◌, refl, sym, ap, subst, length, arith, rules, None, Some, insert, IsOrderedBy, row_at, with_row, ordered-with_row, absent_past, absent_here, found_here, inserts_here}
 use Rattle.tatp_actions.proofs.table.Table.insert.Goals as goal
 use Rattle.tatp_actions.proofs.table.Table.insert.Goals.{else-at-len-via-then-at-len+else-index-key, else-at-len-via-else-at-len, in-Ok, in-Err}
 

@@ -1,8 +1,4 @@
-use Rattle.std.proofs.Common.{◌≡◌, ◌∙◌, sym, subst, rules, nat_lt}
-use Rattle.std.specs.List.{prefix_len}
-use Rattle.std.proofs.lemmas.List.Sorted.{IsPartitionPoint-from_clause}
-use Rattle.tatp_rows.specs.Ordered.{IsOrderedBy}
-use Rattle.tatp_rows.proofs.PlaceLemmas.{partitioned, place_from_point}
+use Rattle.tatp_actions.proofs.Common.{◌≡◌, ◌∙◌, sym, subst, rules, nat_lt, prefix_len, IsPartitionPoint-from_clause, IsOrderedBy, partitioned, place_from_point}
 use Rattle.tatp_actions.proofs.table.Table.place_of.Goals as goal
 
 pub returns-clause-place : goal.returns-clause-place

@@ -1,9 +1,4 @@
-use Rattle.std.proofs.Common.{◌≡◌, ◌∙◌, sym, ap, subst, length, arith}
-use Rattle.std.specs.Prelude.{None, Some}
-use Rattle.std.specs.List.{remove}
-use Rattle.tatp_rows.specs.Ordered.{IsOrderedBy, row_at, without_row}
-use Rattle.tatp_rows.proofs.OrderedLemmas.{without_row_absent, ordered-without_row}
-use Rattle.tatp_rows.proofs.PlaceLemmas.{absent_past, absent_here, found_here, removes_here}
+use Rattle.tatp_actions.proofs.Common.{◌≡◌, ◌∙◌, sym, ap, subst, length, arith, None, Some, remove, IsOrderedBy, row_at, without_row, without_row_absent, ordered-without_row, absent_past, absent_here, found_here, removes_here}
 use Rattle.tatp_actions.proofs.TableLemmas.{same_read}
 use Rattle.tatp_actions.proofs.table.Table.remove.Goals as goal
 use Rattle.tatp_actions.proofs.table.Table.remove.Goals.{then-at-len-via-then-at-len, then-at-len-via-else-at-len+then-index-key}

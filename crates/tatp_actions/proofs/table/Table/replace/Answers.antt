@@ -1,8 +1,4 @@
-use Rattle.std.proofs.Common.{◌≡◌, ◌∙◌, refl, sym, ap, subst, set, length, arith, Ok}
-use Rattle.std.specs.Prelude.{None, Some}
-use Rattle.tatp_rows.specs.Ordered.{IsOrderedBy, row_at, with_row_at}
-use Rattle.tatp_rows.proofs.OrderedLemmas.{with_row_at_absent, ordered-with_row_at}
-use Rattle.tatp_rows.proofs.PlaceLemmas.{absent_past, absent_here, found_here, sets_here}
+use Rattle.tatp_actions.proofs.Common.{◌≡◌, ◌∙◌, refl, sym, ap, subst, set, length, arith, Ok, None, Some, IsOrderedBy, row_at, with_row_at, with_row_at_absent, ordered-with_row_at, absent_past, absent_here, found_here, sets_here}
 use Rattle.tatp_actions.proofs.TableLemmas.{same_read, pair_is}
 use Rattle.tatp_actions.proofs.table.Table.replace.Goals as goal
 use Rattle.tatp_actions.proofs.table.Table.replace.Goals.{then-at-len-via-then-at-len, then-at-len-via-else-at-len+then-index-key}

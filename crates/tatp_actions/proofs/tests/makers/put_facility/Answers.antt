@@ -1,11 +1,4 @@
-use Rattle.std.proofs.Common.{◌≡◌, refl, arith, Option, Some, None, false, IsSome}
-use Rattle.std.specs.Prelude.{is_some}
-use Rattle.tatp_rows.proofs.OrderedLemmas.{row_at-with_row_same}
-use Rattle.tatp_rows.specs.Keys.{facility_key}
-use Rattle.tatp_rows.specs.Rows.{SpecialFacilityRow}
-use Rattle.tatp_actions.specs.Book.{Book, IsRowsOf, facility_at, more_facilities}
-use Rattle.tatp_actions.specs.Heights.{zero_heights}
-use Rattle.tatp_actions.specs.Tables.{Tables, AreKeyed, stored_book}
+use Rattle.tatp_actions.proofs.Common.{◌≡◌, refl, arith, Option, Some, None, false, IsSome, is_some, row_at-with_row_same, facility_key, SpecialFacilityRow, Book, IsRowsOf, facility_at, more_facilities, zero_heights, Tables, AreKeyed, stored_book}
 use Rattle.tatp_actions.proofs.KeyedLemmas.{more_facilities_added, more_facilities_holds}
 use Rattle.tatp_actions.proofs.StoredLemmas.{Holds}
 use Rattle.tatp_actions.proofs.tests.makers.put_facility.Goals as goal

@@ -1,7 +1,4 @@
-use Rattle.std.proofs.Common.{arith}
-use Rattle.tatp_actions.specs.Book.{IsRowsOf}
-use Rattle.tatp_actions.specs.Heights.{zero_heights}
-use Rattle.tatp_actions.specs.Tables.{Tables, AreKeyed, stored_book}
+use Rattle.tatp_actions.proofs.Common.{arith, IsRowsOf, zero_heights, Tables, AreKeyed, stored_book}
 use Rattle.tatp_actions.proofs.KeyedLemmas.{more_forwardings_holds}
 use Rattle.tatp_actions.proofs.StoredLemmas.{Holds}
 use Rattle.tatp_actions.proofs.tests.makers.put_forwarding.Goals as goal

@@ -1,4 +1,4 @@
-use Rattle.std.proofs.Common.{arith}
+use Rattle.tatp_rows.proofs.Common.{arith}
 use Rattle.tatp_rows.proofs.RowLemmas.{least_between}
 use Rattle.tatp_rows.proofs.letters.LettersDefault.default.Goals as goal
 

@@ -1,5 +1,5 @@
 -- Fifteen bytes are digits where eight and eight of them are, and then spell one number.
-use Rattle.std.proofs.Common.{◌∙◌, sym, arith}
+use Rattle.tatp_rows.proofs.Common.{◌∙◌, sym, arith}
 use Rattle.tatp_rows.proofs.DigitLemmas.{first_refused, last_refused, zero_before, joined_read, joined_below}
 use Rattle.tatp_rows.proofs.number.Number.from_digits.Goals as goal
 use Rattle.tatp_rows.proofs.number.Number.from_digits.Goals.{then-not-are_digits-via-then-not-are_digits, then-not-are_digits-via-else-not-are_digits+then-not-are_digits-2}

@@ -1,7 +1,5 @@
 -- The call writes what `{:015}` stands for, which is the number's text.
-use Rattle.std.proofs.Common.{◌∙◌, ap}
-use Rattle.std.specs.Fmt.{styled_decimal}
-use Rattle.tatp_rows.specs.Number.{number_text}
+use Rattle.tatp_rows.proofs.Common.{◌∙◌, ap, styled_decimal, number_text}
 use Rattle.tatp_rows.proofs.NumberLemmas.{written}
 use Rattle.tatp_rows.proofs.number.NumberDisplay.fmt.Goals as goal
 

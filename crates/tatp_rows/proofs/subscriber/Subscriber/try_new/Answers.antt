@@ -1,6 +1,5 @@
 -- The row that is made has the fields that were given, and they are in range.
-use Rattle.std.proofs.Common.{◌≡◌, sym, arith}
-use Rattle.tatp_rows.specs.Packed.{unpacked}
+use Rattle.tatp_rows.proofs.Common.{◌≡◌, sym, arith, unpacked}
 use Rattle.tatp_rows.proofs.PackLemmas.{digits_each, ten_back}
 use Rattle.tatp_rows.proofs.RowLemmas.{AreChecked, made_is, made_in_range}
 use Rattle.tatp_rows.proofs.subscriber.Subscriber.try_new.Goals as goal

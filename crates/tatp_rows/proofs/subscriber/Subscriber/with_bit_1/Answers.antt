@@ -1,5 +1,4 @@
-use Rattle.std.proofs.Common.{◌≡◌, ◌+◌, ◌-◌, ◌%◌, refl, set, arith}
-use Rattle.tatp_rows.specs.Packed.{unpacked}
+use Rattle.tatp_rows.proofs.Common.{◌≡◌, ◌+◌, ◌-◌, ◌%◌, refl, set, arith, unpacked}
 use Rattle.tatp_rows.proofs.PackLemmas.{first_changed}
 use Rattle.tatp_rows.proofs.RowLemmas.{bit_1_in_range}
 use Rattle.tatp_rows.proofs.subscriber.Subscriber.with_bit_1.Goals as goal

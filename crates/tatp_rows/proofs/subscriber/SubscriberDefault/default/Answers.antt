@@ -1,5 +1,5 @@
 -- The least digits are so many zeros.
-use Rattle.std.proofs.Common.{rules, arith, ◌≡◌, refl}
+use Rattle.tatp_rows.proofs.Common.{rules, arith, ◌≡◌, refl}
 use Rattle.tatp_rows.specs.Packed.{unpacked}
 use Rattle.tatp_rows.proofs.subscriber.SubscriberDefault.default.Goals as goal
 

@@ -1,8 +1,6 @@
 -- Rows are alike where their packed digits are.
-use Rattle.std.proofs.Common.{arith}
-use Rattle.std.specs.Prelude.{◌==◌, nat_eq}
+use Rattle.tatp_rows.proofs.Common.{arith, ◌==◌, nat_eq, packed_back}
 use lib.Pointwise.{pointwise}
-use Rattle.tatp_rows.specs.Packed.{packed_back}
 use Rattle.tatp_rows.proofs.PackLemmas.{reordered}
 use Rattle.tatp_rows.proofs.subscriber.SubscriberPartialEq.eq.Goals as goal
 

@@ -1,13 +1,4 @@
-use Rattle.std.proofs.Common.{rules, arith, ◌≡◌, ◌<◌, ◌/◌, ◌∙◌, sym, ap, refl, FitsSigned, w64, to_z, of_z}
-use Rattle.std.specs.Prelude.{pos}
-use Rattle.std.specs.Int.RustNames.{unsigned_abs}
-use Rattle.std.proofs.lemmas.Int.{to_z-of_z}
-use Rattle.view_board.specs.declared.rule.View.{View}
-use Rattle.view_board.specs.declared.words.TheConstants.{SLOTS, SLOT_WORDS, WORDS}
-use Rattle.view_board.specs.Words.{word_of}
-use Rattle.view_board.specs.Views.{Owns, OwnsWord, posted}
-use Rattle.view_board.specs.Nets.{NetMoves}
-use Rattle.view_board.specs.Desks.{Station}
+use Rattle.view_board.proofs.Common.{rules, arith, ◌≡◌, ◌<◌, ◌/◌, ◌∙◌, sym, ap, refl, FitsSigned, w64, to_z, of_z, pos, unsigned_abs, to_z-of_z, View, SLOTS, SLOT_WORDS, WORDS, word_of, Owns, OwnsWord, posted, NetMoves, Station}
 use Rattle.view_board.proofs.ListLemmas.{set_within}
 use Rattle.view_board.proofs.StepLemmas.{raises}
 use Rattle.view_board.proofs.NetLemmas.{word_within, net_moves}

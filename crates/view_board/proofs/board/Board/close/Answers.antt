@@ -1,7 +1,4 @@
-use Rattle.std.proofs.Common.{◌≡◌, ◌≤◌, ◌∙◌, sym, ap, refl, List, ℕ, length, get_or}
-use Rattle.view_board.specs.declared.rule.View.{View}
-use Rattle.view_board.specs.Desks.{Station}
-use Rattle.view_board.specs.Views.{OwnsAll}
+use Rattle.view_board.proofs.Common.{◌≡◌, ◌≤◌, ◌∙◌, sym, ap, refl, List, ℕ, length, get_or, View, Station, OwnsAll}
 use Rattle.view_board.proofs.CloseLemmas.{ends}
 use Rattle.view_board.proofs.FillLemmas.{one_filled, all_copied}
 use Rattle.view_board.proofs.ListLemmas.{found_at}

@@ -1,4 +1,4 @@
-use Rattle.std.proofs.Common.{get_or, ℕ}
+use Rattle.view_board.proofs.Common.{get_or, ℕ}
 use Rattle.view_board.proofs.FillLemmas.{IsFilledTo}
 use Rattle.view_board.proofs.board.Board.close.Given as goal
 

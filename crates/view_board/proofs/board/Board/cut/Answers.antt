@@ -1,9 +1,4 @@
-use Rattle.std.proofs.Common.{◌≡◌, ◌∙◌, sym, ap, arith}
-use Rattle.atomic_table.specs.Table.{Me}
-use Rattle.view_board.specs.declared.rule.View.{View}
-use Rattle.view_board.specs.Views.{Owns, alone, without}
-use Rattle.view_board.specs.Nets.{NetAdds}
-use Rattle.view_board.specs.Desks.{Station}
+use Rattle.view_board.proofs.Common.{◌≡◌, ◌∙◌, sym, ap, arith, Me, View, Owns, alone, without, NetAdds, Station}
 use Rattle.view_board.proofs.SplitLemmas.{splits}
 use Rattle.view_board.proofs.SumLemmas.{net_split}
 use Rattle.view_board.proofs.board.Board.cut.Goals as goal

@@ -1,9 +1,4 @@
-use Rattle.std.proofs.Common.{◌≡◌, ◌∙◌, sym, ap, refl, arith}
-use Rattle.atomic_table.specs.Table.{Me}
-use Rattle.view_board.specs.declared.rule.View.{View}
-use Rattle.view_board.specs.Views.{AreApart, both, numbers_of_both}
-use Rattle.view_board.specs.Nets.{NetAdds}
-use Rattle.view_board.specs.Desks.{Station}
+use Rattle.view_board.proofs.Common.{◌≡◌, ◌∙◌, sym, ap, refl, arith, Me, View, AreApart, both, numbers_of_both, NetAdds, Station}
 use Rattle.view_board.proofs.StepLemmas.{checks}
 use Rattle.view_board.proofs.JoinLemmas.{joins, told, joined_agrees}
 use Rattle.view_board.proofs.SumLemmas.{net_both}

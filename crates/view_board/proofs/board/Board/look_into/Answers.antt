@@ -1,5 +1,4 @@
-use Rattle.std.proofs.Common.{◌∙◌, sym, ap, refl, arith}
-use Rattle.view_board.specs.Desks.{Station}
+use Rattle.view_board.proofs.Common.{◌∙◌, sym, ap, refl, arith, Station}
 use Rattle.view_board.proofs.LookLemmas.{all_looked}
 use Rattle.view_board.proofs.StepLemmas.{looks}
 use Rattle.view_board.proofs.NetLemmas.{own_within}

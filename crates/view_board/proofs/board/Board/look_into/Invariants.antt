@@ -1,4 +1,4 @@
-use Rattle.std.proofs.Common.{◌≡◌}
+use Rattle.view_board.proofs.Common.{◌≡◌}
 use Rattle.view_board.proofs.LookLemmas.{IsLookedTo}
 use Rattle.view_board.proofs.board.Board.look_into.Given as goal
 

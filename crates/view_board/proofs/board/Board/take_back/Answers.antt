@@ -1,8 +1,4 @@
-use Rattle.std.proofs.Common.{◌≡◌, ◌<◌, ap, refl, arith, length}
-use Rattle.view_board.specs.declared.rule.View.{View}
-use Rattle.view_board.specs.declared.words.TheConstants.{SLOTS, WORDS}
-use Rattle.view_board.specs.Desks.{Station}
-use Rattle.view_board.specs.Views.{Owns}
+use Rattle.view_board.proofs.Common.{◌≡◌, ◌<◌, ap, refl, arith, length, View, SLOTS, WORDS, Station, Owns}
 use Rattle.view_board.proofs.LevelLemmas.{none_level, one_level, all_level}
 use Rattle.view_board.proofs.ListLemmas.{set_within}
 use Rattle.view_board.proofs.board.Board.take_back.Goals as goal

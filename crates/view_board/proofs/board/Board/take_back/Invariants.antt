@@ -1,4 +1,4 @@
-use Rattle.std.proofs.Common.{◌≡◌}
+use Rattle.view_board.proofs.Common.{◌≡◌}
 use Rattle.view_board.proofs.LevelLemmas.{IsLevelTo}
 use Rattle.view_board.proofs.board.Board.take_back.Given as goal
 

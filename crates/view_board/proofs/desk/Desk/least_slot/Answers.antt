@@ -1,6 +1,4 @@
-use Rattle.std.proofs.Common.{◌≡◌, ap, arith}
-use Rattle.view_board.specs.declared.rule.View.{View}
-use Rattle.view_board.specs.Desks.{Station}
+use Rattle.view_board.proofs.Common.{◌≡◌, ap, arith, View, Station}
 use Rattle.view_board.proofs.ListLemmas.{set_within}
 use Rattle.view_board.proofs.desk.Desk.least_slot.Goals as goal
 

@@ -1,5 +1,4 @@
-use Rattle.std.proofs.Common.{ℕ, ◌<◌}
-use Rattle.view_board.specs.Views.{Owns}
+use Rattle.view_board.proofs.Common.{ℕ, ◌<◌, Owns}
 use Rattle.view_board.proofs.desk.Desk.least_slot.Given as goal
 
 abbrev pub invariant-loop-slot : goal.invariant-loop-slot

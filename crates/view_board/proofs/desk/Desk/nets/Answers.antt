@@ -1,10 +1,4 @@
-use Rattle.std.proofs.Common.{◌≡◌, ℤ, ap, arith, length}
-use Rattle.std.specs.Prelude.{pos}
-use Rattle.std.proofs.lemmas.Int.{ints}
-use Rattle.tatp_rows.proofs.BlankLemmas.{blank_at}
-use Rattle.view_board.specs.declared.rule.View.{View}
-use Rattle.view_board.specs.declared.words.TheConstants.{SLOTS, CELLS}
-use Rattle.view_board.specs.Desks.{Station}
+use Rattle.view_board.proofs.Common.{◌≡◌, ℤ, ap, arith, length, pos, ints, blank_at, View, SLOTS, CELLS, Station}
 use Rattle.view_board.proofs.NetLemmas.{net_from-next, net_from-end}
 use Rattle.view_board.proofs.desk.Desk.nets.Goals as goal
 

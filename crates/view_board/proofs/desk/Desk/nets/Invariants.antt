@@ -1,8 +1,4 @@
-use Rattle.std.proofs.Common.{◌≡◌, ℕ, ◌<◌, drop, get_or}
-use Rattle.std.specs.Prelude.{pos, ◌+ℤ◌}
-use Rattle.view_board.specs.declared.words.TheConstants.{CELLS}
-use Rattle.view_board.specs.Inside.{AreWithin}
-use Rattle.view_board.specs.Nets.{net_from, net_of}
+use Rattle.view_board.proofs.Common.{◌≡◌, ℕ, ◌<◌, drop, get_or, pos, ◌+ℤ◌, CELLS, AreWithin, net_from, net_of}
 use Rattle.view_board.proofs.desk.Desk.nets.Given as goal
 
 abbrev pub invariant-loop-slot : goal.invariant-loop-slot

@@ -1,5 +1,4 @@
-use Rattle.std.proofs.Common.{get_or}
-use Rattle.std.specs.Prelude.{pos}
+use Rattle.view_delta.proofs.Common.{get_or, pos}
 use Rattle.view_delta.proofs.SumLemmas.{AreMovedTo}
 use Rattle.view_delta.proofs.pending.Pending.add.Given as goal
 

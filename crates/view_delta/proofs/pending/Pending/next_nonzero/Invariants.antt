@@ -1,4 +1,4 @@
-use Rattle.view_delta.specs.Pending.{AreZero}
+use Rattle.view_delta.proofs.Common.{AreZero}
 use Rattle.view_delta.proofs.pending.Pending.next_nonzero.Given as goal
 
 abbrev pub invariant-loop-cell : goal.invariant-loop-cell

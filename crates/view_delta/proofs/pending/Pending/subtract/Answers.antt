@@ -1,7 +1,4 @@
-use Rattle.std.proofs.Common.{get_or, ◌≡◌, arith, rules, FitsSigned, w64}
-use Rattle.std.specs.Prelude.{pos, ◌-ℤ◌}
-use Rattle.std.proofs.lemmas.Int.{ints}
-use Rattle.view_delta.specs.Pending.{delta_at}
+use Rattle.view_delta.proofs.Common.{get_or, ◌≡◌, arith, rules, FitsSigned, w64, pos, ◌-ℤ◌, ints, delta_at}
 use Rattle.view_delta.proofs.SumLemmas.{one_moved}
 use Rattle.view_delta.proofs.pending.Pending.subtract.Goals as goal
 
