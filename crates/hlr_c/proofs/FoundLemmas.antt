@@ -1,14 +1,5 @@
 -- What was found for questions is what the call for one answers to each.
-use Rattle.std.proofs.Common.{ℕ, List, get_or, map, inr, refl, arith, ◌∙◌}
-use Rattle.std.specs.Prelude.{Ok}
-use Rattle.std.proofs.lemmas.List.{get_or-map, length-map}
-use Rattle.hlr_owners.specs.Owners.{OwnersState}
-use Rattle.hlr_core.specs.Home.{AreHomesAfter}
-use Rattle.hlr_core.specs.Rows.{AreFound}
-use Rattle.hlr_core.specs.declared.event.Event.{Event}
-use Rattle.hlr_core.specs.declared.event.Reply.{Reply}
-use Rattle.hlr_c.specs.Call.{IsAnswer}
-use Rattle.hlr_c.specs.Inside.{AreTold}
+use Rattle.hlr_c.proofs.Common.{ℕ, List, get_or, map, inr, refl, arith, ◌∙◌, Ok, get_or-map, length-map, OwnersState, AreHomesAfter, AreFound, Event, Reply, IsAnswer, AreTold}
 
 -- what was found for the events of questions was found for the questions
 pub found_of : {P Q F : Type 0} (asks : P → Event) (told : F → Reply) (h : OwnersState) (to_pair : Q → P) (none : P) (asked : List Q) (found : List F) → AreFound asks told h (map to_pair asked) found

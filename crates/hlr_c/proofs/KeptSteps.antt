@@ -1,6 +1,5 @@
 -- A kept register in the machine: one word, its address, which owns what `held` says.
-use Rattle.std.proofs.Common.{◌≡◌, ◌∙◌, ap, ℕ, List, [], ◌∷◌, ◌++◌, refl}
-use Rattle.std.specs.Prelude.{Option, Some, None, ◌≢◌}
+use Rattle.hlr_c.proofs.Common.{◌≡◌, ◌∙◌, ap, ℕ, List, [], ◌∷◌, ◌++◌, refl, Option, Some, None, ◌≢◌, box_owns, Global, held}
 use seplogic.Ra.Ura.{Ura}
 use mir.Raw.{raw as bare}
 use mir.Syntax.{w64}
@@ -16,11 +15,8 @@ use denote.RawPtr.{Ptr, block_ptr, in_a_block, null_ptr, ptr_val}
 use denote.Steps.{nothing}
 use denote.Struct.Owning.{shape}
 use denote.Struct.Struct.{within}
-use Rattle.std.specs.Box.Ownership.{box_owns}
 use Rattle.std.specs.contracts.impls.GlobalAllocator.TheImpl.{ghosts as of_global}
-use Rattle.std.specs.declared.alloc.Global.{Global}
 use Rattle.hlr_lent.specs.contracts.lender.Lender.{the_row as Lender}
-use Rattle.hlr_c.specs.Held.{held}
 use Rattle.hlr_c.specs.contracts.kept.Kept as kept
 
 -- the value of an option that isn't none

@@ -1,7 +1,8 @@
 -- A register that lends its parts may go to another thread.
 use denote.Param.Send.{IsSend, sendable}
 use denote.Struct.Field.{u32-field}
-use Rattle.std.proofs.Crossing.{Arc-send, Box-send, Vec-send, crosses, frees, send as heap_send}
+use Rattle.hlr_c.proofs.Common.{Arc-send, Box-send, Vec-send, crosses, frees, ghosts, tree_send, holding_send, piece_send, message_send}
+use Rattle.std.proofs.Crossing.{send as heap_send}
 use Rattle.std.specs.contracts.alloc.Global as Heap
 use Rattle.std.specs.contracts.boxed.Box as Box
 use Rattle.std.specs.contracts.impls.GlobalAllocator.TheImpl as heap
@@ -11,13 +12,10 @@ use Rattle.std.specs.contracts.vec.Vec as Vec
 use Rattle.rtrb.proofs.consumer.Consumer.TheSendSync.{the_send as consumer_send}
 use Rattle.rtrb.specs.contracts.consumer.Consumer as Consumer
 use Rattle.tatp_actions.specs.contracts.trees.Trees as Trees
-use Rattle.tatp_actions.specs.contracts.trees.TreesRows.TheImpl.{ghosts}
-use Rattle.mr_subtree.proofs.CrossingLemmas.{tree_send}
 use Rattle.part_table.proofs.regions.Regions.TheSendSync.{the_send as regions_send}
 use Rattle.view_board.proofs.desk.Desk.TheSendSync.{the_send as desk_send}
 use Rattle.view_board.proofs.board.Board.TheSendSync.{the_send as board_send, the_sync as board_sync}
 use Rattle.view_board.specs.contracts.board.Board as Board
-use Rattle.holding.proofs.CrossingLemmas.{holding_send, piece_send}
 use Rattle.holding.specs.contracts.holding.Holding as Holding
 use Rattle.holding.specs.contracts.piece.Piece as Piece
 use Rattle.number_index.specs.contracts.index.NumberIndex as NumberIndex
@@ -26,7 +24,6 @@ use Rattle.hlr_owners.specs.contracts.part_owner.RegionOwner as RegionOwner
 use Rattle.hlr_owners.specs.contracts.prepared.Rooms as Rooms
 use Rattle.hlr_owners.specs.contracts.owners.Owners as Owners
 use Rattle.hlr_core.specs.contracts.register.Register as Register
-use Rattle.hlr_lent.proofs.CrossingLemmas.{message_send}
 use Rattle.hlr_lent.specs.contracts.lender.Lender as Lender
 use Rattle.hlr_lent.specs.contracts.ring.Message as Message
 use Rattle.hlr_lent.specs.contracts.ring.ReturnRule as ReturnRule

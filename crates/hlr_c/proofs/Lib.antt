@@ -1,4 +1,5 @@
 pub mod AnswerLemmas
+pub mod Common
 pub mod CrossingLemmas
 pub mod FoundLemmas
 pub mod KeptPartSteps

@@ -1,9 +1,5 @@
 -- Answers that are written one after another.
-use Rattle.std.proofs.Common.{◌≡◌, ℕ, ◌+◌, ◌<◌, ◌≤◌, ◌-◌, List, [], ◌∷◌, length, get_or, set, take, drop, refl, sym, ap, subst, ◌∙◌, inl, inr, arith}
-use Rattle.std.proofs.lemmas.Bool.{cases_eq, cases_lt}
-use Rattle.std.proofs.lemmas.List.{length-drop, length-set, length-take-le, get_or-set_same, get_or-set_other, get_or_default, get_or-take, get_or-drop}
-use Rattle.hlr_c.specs.Inside.{AnswersFrom, AreTold, AreWritten, IsAnsweredTo, IsBlock}
-use Rattle.hlr_c.specs.Many.{AreAsMany}
+use Rattle.hlr_c.proofs.Common.{◌≡◌, ℕ, ◌+◌, ◌<◌, ◌≤◌, ◌-◌, List, [], ◌∷◌, length, get_or, set, take, drop, refl, sym, ap, subst, ◌∙◌, inl, inr, arith, cases_eq, cases_lt, length-drop, length-set, length-take-le, get_or-set_same, get_or-set_other, get_or_default, get_or-take, get_or-drop, AnswersFrom, AreTold, AreWritten, IsAnsweredTo, IsBlock, AreAsMany}
 
 -- how long a block of a list is
 pub block_length : {Q : Type 0} (asked : List Q) (from to : ℕ) → to ≤ length asked → length (take (to - from) (drop from asked)) ≡ to - from

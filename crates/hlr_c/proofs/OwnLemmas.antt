@@ -1,28 +1,6 @@
 -- What was found for questions of a part that is out is what its call for one answers to each.
-use Rattle.std.proofs.Common.{◌≡◌, ◌∙◌, ℕ, suc, ◌+◌, ◌<◌, List, [], ◌∷◌, ◌++◌, length, get_or, map, take, ap, subst, sym, refl, Bool, true, inl, inr, arith}
-use Rattle.std.specs.Prelude.{Option, Some, None}
-use Rattle.std.specs.List.{All}
-use Rattle.std.proofs.Math.Seq.{take-suc}
-use Rattle.std.proofs.lemmas.Bool.{cases_eq}
-use Rattle.std.proofs.lemmas.List.{get_or-map, get_or-take, get_or_default, length-map, length-take-le, map-append}
-use Rattle.tatp_rows.specs.Rows.{SubscriberRow, AccessInfoRow, is_between}
-use Rattle.tatp_rows.specs.declared.ranges.TheConstants.{LAST_SUBSCRIBER}
-use Rattle.tatp_actions.specs.Action.{access_data, destinations, effect, is_in_range, is_typed, new_destination, subscriber_data}
-use Rattle.tatp_actions.specs.Book.{Book, access_at, subscriber_at}
-use Rattle.tatp_actions.specs.declared.action.Action.{Action}
+use Rattle.hlr_c.proofs.Common.{◌≡◌, ◌∙◌, ℕ, suc, ◌+◌, ◌<◌, List, [], ◌∷◌, ◌++◌, length, get_or, map, take, ap, subst, sym, refl, Bool, true, inl, inr, arith, Option, Some, None, All, take-suc, cases_eq, get_or-map, get_or-take, get_or_default, length-map, length-take-le, map-append, SubscriberRow, AccessInfoRow, is_between, LAST_SUBSCRIBER, access_data, destinations, effect, is_in_range, is_typed, new_destination, subscriber_data, Book, access_at, subscriber_at, Action, HoldingState, access_reply, numbers_reply, subscriber_reply, reply_of, Reply, AreTold, IsOwn, IsOwnAccess, IsOwnCall, IsPartAccessRead, IsPartDestinationRead, IsPartSubscriberRead, has, read_by, access_told, numbers_told, subscriber_told, ELSEWHERE, HlrAccessAsked, HlrDestinationAsked, HlrNumbers}
 use Rattle.tatp_actions.specs.declared.action.Action.TheVariants as action
-use Rattle.holding.specs.Held.{HoldingState}
-use Rattle.hlr_core.specs.Rows.{access_reply, numbers_reply, subscriber_reply}
-use Rattle.hlr_core.specs.Step.{reply_of}
-use Rattle.hlr_core.specs.declared.event.Reply.{Reply}
-use Rattle.hlr_c.specs.Inside.{AreTold, IsOwn, IsOwnAccess, IsOwnCall}
-use Rattle.hlr_c.specs.Many.{IsPartAccessRead, IsPartDestinationRead, IsPartSubscriberRead}
-use Rattle.hlr_c.specs.Parts.{has, read_by}
-use Rattle.hlr_c.specs.Told.{access_told, numbers_told, subscriber_told}
-use Rattle.hlr_c.specs.declared.codes.TheConstants.{ELSEWHERE}
-use Rattle.hlr_c.specs.declared.rows.HlrAccessAsked.{HlrAccessAsked}
-use Rattle.hlr_c.specs.declared.rows.HlrDestinationAsked.{HlrDestinationAsked}
-use Rattle.hlr_c.specs.declared.rows.HlrNumbers.{HlrNumbers}
 
 -- what is made of what was made of each
 pub map_of_map : {A B C : Type 0} (f : B → C) (g : A → B) (xs : List A) → map f (map g xs) ≡ map (λ x. f (g x)) xs

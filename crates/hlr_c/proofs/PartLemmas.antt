@@ -1,24 +1,7 @@
 -- What a part that is out is asked for.
-use Rattle.std.proofs.Common.{◌≡◌, ◌∙◌, ◌<◌, refl, ℕ, arith, length, get_or, Bool, true, false, Ok, Err, inl}
-use Rattle.std.proofs.lemmas.List.{get_or_default}
-use Rattle.std.specs.Prelude.{Result}
-use Rattle.tatp_rows.specs.Refusal.{code_of}
-use Rattle.tatp_rows.specs.declared.refusal.Refusal.{Refusal}
-use Rattle.tatp_rows.specs.declared.refusal.Refusal.TheVariants.{Field}
-use Rattle.tatp_rows.proofs.OrderedLemmas.{by_test}
-use Rattle.tatp_actions.specs.Action.{is_in_range, s_id_of}
-use Rattle.tatp_actions.specs.declared.action.Action.{Action}
+use Rattle.hlr_c.proofs.Common.{◌≡◌, ◌∙◌, ◌<◌, refl, ℕ, arith, length, get_or, Bool, true, false, Ok, Err, inl, get_or_default, Result, code_of, Refusal, Field, by_test, is_in_range, s_id_of, Action, parts_of, HoldingState, IsHolding, Act, PartOwnerState, AreOwners, IsPartHome, OwnersState, homes_in, count_parts, IsAskedAlone, IsJobDone, IsPartEdit, IsPartStep, has}
 use Rattle.tatp_actions.specs.declared.action.RowReply.TheVariants as row_reply
-use Rattle.part_table.specs.Regions.{parts_of}
-use Rattle.holding.specs.Held.{HoldingState, IsHolding}
-use Rattle.holding.specs.declared.job.Job.TheVariants.{Act}
-use Rattle.hlr_owners.specs.PartOwnerState.{PartOwnerState}
-use Rattle.hlr_owners.specs.Owners.{AreOwners, IsPartHome, OwnersState, homes_in}
-use Rattle.hlr_owners.proofs.PartLemmas.{count_parts}
-use Rattle.hlr_core.specs.Inside.Asked.{IsAskedAlone}
-use Rattle.hlr_core.specs.Session.{IsJobDone}
 use Rattle.hlr_core.specs.declared.event.Reply.TheVariants as reply
-use Rattle.hlr_c.specs.Parts.{IsPartEdit, IsPartStep, has}
 
 -- a field out of its range is refused as a job of the part would refuse it
 field_job : (act : Action) (h : HoldingState) → IsHolding h → is_in_range act ≡ false → IsJobDone (Act act) h (reply.Refused Field) h

@@ -65,7 +65,7 @@ pub struct Hlr {
 const _: () = prove!(size_of::<Hlr>() == 16);
 
 impl Hlr {
-    /// A closed handle.
+    /// Makes a closed handle.
     pub fn closed() -> Hlr
         ensures { result.kept.register ≡ None }
     {
@@ -75,7 +75,7 @@ impl Hlr {
         }
     }
 
-    /// Whether it is open.
+    /// Tells whether it is open.
     pub fn is_open(&self) -> bool
         ensures { IsTrue result ↔ (self.now.kept.register ≢ None) }
     {

@@ -106,8 +106,8 @@ fn write_next(register: &Register, from: u64, row: &mut HlrSubscriber) -> u8
     }
 }
 
-/// The subscriber who has a number, whoever is out, as a part gives no number. `NOT_OPEN`, `Field` where sub_nbr isn't
-/// below 10^15, `NoNumber`.
+/// Finds the subscriber who has a number, whoever is out, as a part gives no number. `NOT_OPEN`, `Field` where sub_nbr
+/// isn't below 10^15, `NoNumber`.
 #[unsafe(no_mangle)]
 pub extern "C" fn hlr_find(alloc: Global, handle: &mut Hlr, sub_nbr: u64, s_id: &mut u64) -> u8
     ensures { IsCall (NOT_OPEN, s_id.old) (IsReadWhileOut (bearer_in sub_nbr) (value_told s_id.old))
@@ -118,8 +118,8 @@ pub extern "C" fn hlr_find(alloc: Global, handle: &mut Hlr, sub_nbr: u64, s_id: 
     })
 }
 
-/// The row of a facility. `NOT_OPEN`, `Field` where s_id isn't in 1..=16,777,216 or sf_type isn't in 1..=4, `Moving`,
-/// `AWAY`, `NoFacility`.
+/// Reads the row of a facility. `NOT_OPEN`, `Field` where s_id isn't in 1..=16,777,216 or sf_type isn't in 1..=4,
+/// `Moving`, `AWAY`, `NoFacility`.
 #[unsafe(no_mangle)]
 pub extern "C" fn hlr_facility_data(
     alloc: Global,
@@ -136,8 +136,8 @@ pub extern "C" fn hlr_facility_data(
     })
 }
 
-/// The end and the number of a facility's forwarding that starts at start_time. `NOT_OPEN`, `Field` where s_id isn't in
-/// 1..=16,777,216, sf_type isn't in 1..=4 or start_time isn't 0, 8 or 16, `Moving`, `AWAY`, `NoForwarding`.
+/// Reads the end and the number of a facility's forwarding that starts at start_time. `NOT_OPEN`, `Field` where s_id
+/// isn't in 1..=16,777,216, sf_type isn't in 1..=4 or start_time isn't 0, 8 or 16, `Moving`, `AWAY`, `NoForwarding`.
 #[unsafe(no_mangle)]
 pub extern "C" fn hlr_forwarding(
     alloc: Global,
@@ -156,8 +156,8 @@ pub extern "C" fn hlr_forwarding(
     })
 }
 
-/// The first subscriber with an s_id from one on, also one in a loose piece. `NOT_OPEN`, `AWAY` where any part is out,
-/// `NoSubscriber`.
+/// Finds the first subscriber with an s_id from one on, also one in a loose piece. `NOT_OPEN`, `AWAY` where any part is
+/// out, `NoSubscriber`.
 #[unsafe(no_mangle)]
 pub extern "C" fn hlr_next_subscriber(
     alloc: Global,

@@ -39,7 +39,7 @@ pub struct HlrPart {
 const _: () = prove!(size_of::<HlrPart>() == 16);
 
 impl HlrPart {
-    /// A closed handle.
+    /// Makes a closed handle.
     pub fn closed() -> HlrPart
         ensures { result.kept.part ≡ None }
     {
@@ -49,7 +49,7 @@ impl HlrPart {
         }
     }
 
-    /// Whether it is open.
+    /// Tells whether it is open.
     pub fn is_open(&self) -> bool
         ensures { IsTrue result ↔ (self.now.kept.part ≢ None) }
     {

@@ -112,8 +112,7 @@ fn edit<E: Edit>(part: &mut Owner, asked: Result<E, Refusal>) -> u8
     ensures edit { IsPartEdit (action_asked E.action asked) part.old result part.new }
     ensures rules { IsHolding part.old }
 {
-    // For the prover: a part keeps the rules, as its range tells.
-    let _lo = part.lo();
+    part.rules();
     let edit = match asked {
         Ok(edit) => edit,
         Err(why) => return why.code(),

@@ -68,7 +68,7 @@ pub(crate) fn read_destinations(
     write_numbers(&found, numbers)
 }
 
-/// The range of a part: the first subscriber, and the number behind the last one. It stays while the part is out.
+/// Tells the range of a part: the first subscriber, and the number behind the last one. It stays while the part is out.
 /// `NOT_OPEN`.
 #[unsafe(no_mangle)]
 pub extern "C" fn hlr_part_range(

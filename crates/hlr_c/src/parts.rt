@@ -162,8 +162,8 @@ pub extern "C" fn hlr_post(
     })
 }
 
-/// A part gives the stretch on one side of `at` away (`side` 0: below it, 1: from it on), which becomes a loose piece,
-/// and tells it. `NOT_OPEN`, `Field` where side isn't 0 or 1, `NoPart`, `OutOfRange`, `ManyPieces`, `AWAY`,
+/// Gives the stretch of a part on one side of `at` away (`side` 0: below it, 1: from it on), which becomes a loose
+/// piece, and tells it. `NOT_OPEN`, `Field` where side isn't 0 or 1, `NoPart`, `OutOfRange`, `ManyPieces`, `AWAY`,
 /// `Memory`.
 #[unsafe(no_mangle)]
 pub extern "C" fn hlr_give(
@@ -182,8 +182,8 @@ pub extern "C" fn hlr_give(
     })
 }
 
-/// A part takes a loose piece that touches it. `NOT_OPEN`, `NoPiece`, `NoPart`, `NotAdjacent`, `AWAY` where the part is
-/// out, `Memory`.
+/// Takes a loose piece into a part that touches it. `NOT_OPEN`, `NoPiece`, `NoPart`, `NotAdjacent`, `AWAY` where the
+/// part is out, `Memory`.
 #[unsafe(no_mangle)]
 pub extern "C" fn hlr_take(alloc: Global, handle: &mut Hlr, piece: u64, part: u64) -> u8
     ensures { IsCall NOT_OPEN (IsAnswer (Ok (event.Take piece part)) code_told AWAY)

@@ -90,8 +90,8 @@ fn write_proposal(register: &Register, bounds: &mut HlrBounds)
     *bounds = bounds_for_c(register.propose().list());
 }
 
-/// Each cell as published, and what is not posted yet of it, which add up to the count over the rows now. `NOT_OPEN`,
-/// `AWAY` where any part is out.
+/// Tells each cell as published, and what is not posted yet of it, which add up to the count over the rows now.
+/// `NOT_OPEN`, `AWAY` where any part is out.
 #[unsafe(no_mangle)]
 pub extern "C" fn hlr_views(
     alloc: Global,
@@ -108,8 +108,8 @@ pub extern "C" fn hlr_views(
     })
 }
 
-/// Each cell as published now, whoever is out: the words of the board are loaded one after another, so it is no moment of
-/// all of them, and a word never falls behind an earlier look. `NOT_OPEN`.
+/// Tells each cell as published now, whoever is out: the words of the board are loaded one after another, so it is no
+/// moment of all of them, and a word never falls behind an earlier look. `NOT_OPEN`.
 #[unsafe(no_mangle)]
 pub extern "C" fn hlr_look(
     alloc: Global,
@@ -121,7 +121,7 @@ pub extern "C" fn hlr_look(
     with_register!(handle, alloc, |register| { look(&mut register, published) })
 }
 
-/// Each cell, counted anew by a walk over all rows. `NOT_OPEN`, `AWAY` where any part is out.
+/// Counts each cell anew by a walk over all rows. `NOT_OPEN`, `AWAY` where any part is out.
 #[unsafe(no_mangle)]
 pub extern "C" fn hlr_scan(
     alloc: Global,
@@ -137,7 +137,7 @@ pub extern "C" fn hlr_scan(
     })
 }
 
-/// All regions in order, each of a part or of a loose piece. `NOT_OPEN`.
+/// Tells all regions in order, each of a part or of a loose piece. `NOT_OPEN`.
 #[unsafe(no_mangle)]
 pub extern "C" fn hlr_regions(alloc: Global, handle: &mut Hlr, regions: &mut HlrRegions) -> u8
     ensures { IsCall (NOT_OPEN, regions.old) (λ before. IsReport (AreListed before) before)
@@ -149,8 +149,8 @@ pub extern "C" fn hlr_regions(alloc: Global, handle: &mut Hlr, regions: &mut Hlr
     })
 }
 
-/// The bounds between zones that would give each part about its share of the rows, by what is published of the zones.
-/// `NOT_OPEN`, `AWAY` where any part is out.
+/// Tells the bounds between zones that would give each part about its share of the rows, by what is published of the
+/// zones. `NOT_OPEN`, `AWAY` where any part is out.
 #[unsafe(no_mangle)]
 pub extern "C" fn hlr_propose(alloc: Global, handle: &mut Hlr, bounds: &mut HlrBounds) -> u8
     ensures { IsCall (NOT_OPEN, bounds.old) (IsAtHome (AWAY, bounds.old) (λ before. IsReport (AreProposed before) before))

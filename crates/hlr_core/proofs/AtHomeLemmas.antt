@@ -1,6 +1,5 @@
 -- Where no piece is loose, the events on rows have the replies that they have elsewhere, but for Moving and Memory.
-use Rattle.hlr_core.proofs.Common.{◌≡◌, ◌∙◌, refl, sym, ap, subst, ℕ, List, [], ◌∷◌, ◌++◌, Bool, true, false, inl, inr, ◌&&◌, Result, by_test, Refusal, effect, s_id_of, Book, Action, RowReply, recut_answer, lies_in, piece_number, pieces_of, Place, Piece, Region, IsSameAtHome, is_kept, is_on_rows, is_lasting, kept_answers, kept_orders, IsOrderStep, IsRun, IsStep, IsAskedStep, IsOwnedStep, IsPostStep, action_for, whole_effect, takes_number, given_number, is_done, reply_of, is_loose, is_loose_place, IsDissolved, IsDivided, Store, slots_of, Event, Post, Give, Take, Divide, Dissolve, Reply, Answer, Order, both, recut_stays}
-use Rattle.std.specs.Prelude.{Option, Some, None, Ok, Err}
+use Rattle.hlr_core.proofs.Common.{◌≡◌, ◌∙◌, refl, sym, ap, subst, ℕ, List, [], ◌∷◌, ◌++◌, Bool, true, false, inl, inr, ◌&&◌, Result, by_test, Refusal, effect, s_id_of, Book, Action, RowReply, recut_answer, lies_in, piece_number, pieces_of, Place, Piece, Region, IsSameAtHome, is_kept, is_on_rows, is_lasting, kept_answers, kept_orders, IsOrderStep, IsRun, IsStep, IsAskedStep, IsOwnedStep, IsPostStep, action_for, whole_effect, takes_number, given_number, is_done, reply_of, is_loose, is_loose_place, IsDissolved, IsDivided, Store, slots_of, Event, Post, Give, Take, Divide, Dissolve, Reply, Answer, Order, both, recut_stays, Option, Some, None, Ok, Err}
 use Rattle.tatp_actions.specs.declared.action.RowReply.TheVariants as row_reply
 use Rattle.part_table.specs.declared.region.Place.TheVariants.{Part}
 use Rattle.hlr_core.specs.declared.order.Answer.TheVariants as answer
@@ -44,11 +43,8 @@ module _ (base before after : Store) (reply : Reply) (none : pieces_of base.regi
 -- a reply that does not last is a refusal
 passing_refuses : (rows : RowReply) → is_lasting (reply_of rows) ≡ false
     → (why : Refusal) × (rows ≡ row_reply.Refused why)
-passing_refuses row_reply.Done passes = absurd cc
-passing_refuses (row_reply.Row row) passes = absurd cc
-passing_refuses (row_reply.Numbers numbers) passes = absurd cc
-passing_refuses (row_reply.AccessRow data1 data2 data3 data4) passes = absurd cc
 passing_refuses (row_reply.Refused why) passes = (why, refl)
+passing_refuses rows passes = absurd cc
 
 -- a refusal leaves the whole book
 whole_refused : (act : Action) (before : Book) (why : Refusal)
@@ -132,10 +128,9 @@ order_stays : (before after : Store) (one : Order) (told : Answer) → is_kept o
     → IsOrderStep one before told after → after.book ≡ before.book
 order_stays before after (order.Event event) (answer.Reply reply) out step =
     step_stays before after event reply out step
-order_stays before after (order.Event event) (answer.Recut done) out step = absurd step
 order_stays before after (order.Recut bounds) (answer.Recut done) out step =
     recut_stays (recut_answer before.regions bounds.items) bounds.items before after done step
-order_stays before after (order.Recut bounds) (answer.Reply reply) out step = absurd step
+order_stays before after one told out step = absurd step
 
 -- a run, and what is left of it where no piece is loose
 run_at_home : (base before after : Store) (orders : List Order) (answers : List Answer) → pieces_of base.regions ≡ []
@@ -143,8 +138,6 @@ run_at_home : (base before after : Store) (orders : List Order) (answers : List 
     → IsRun (kept_orders orders answers) (with_book base before.book) (kept_answers orders answers)
     (with_book base after.book)
 run_at_home base before after [] [] none run = ap (λ (s : Store). with_book base s.book) run
-run_at_home base before after [] (told ∷ answers) none run = absurd run
-run_at_home base before after (one ∷ orders) [] none run = absurd run
 run_at_home base before after (one ∷ orders) (told ∷ answers) none run =
     let rest = run_at_home base run.0 after orders answers none run.2 in
     by_test (is_kept one told)
@@ -153,6 +146,7 @@ run_at_home base before after (one ∷ orders) (told ∷ answers) none run =
     (λ (b : Book).
     IsRun (kept_orders orders answers) (with_book base b) (kept_answers orders answers) (with_book base after.book))
     (order_stays before run.0 one told e run.1) rest))
+run_at_home base before after orders answers none run = absurd run
 
 -- so the kept orders have the same answers
 pub same_at_home : (orders : List Order) (answers : List Answer) (before after : Store)

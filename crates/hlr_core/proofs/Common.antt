@@ -23,17 +23,17 @@ pub use Rattle.atomic_table.specs.Seated.{TableId}
 pub use Rattle.hlr_owners.proofs.HeldLemmas.{holding_keeps}
 pub use Rattle.hlr_owners.proofs.HomeLemmas.{cut_home_of_all, home_of_all, part_home_of_all}
 pub use Rattle.hlr_owners.proofs.LendLemmas.{desks_later, later_self, ruled_later}
+pub use Rattle.hlr_owners.proofs.ListLemmas.{map_twice}
 pub use Rattle.hlr_owners.proofs.OutLemmas.{own_outs}
 pub use Rattle.hlr_owners.proofs.PartLemmas.{at_number, count_parts, part_has_place, part_state_at}
-pub use Rattle.hlr_owners.proofs.FilterLemmas.{map_twice}
 pub use Rattle.hlr_owners.proofs.PostedLemmas.{posted_right}
 pub use Rattle.hlr_owners.proofs.ReadLemmas.{is_read, none_read, numbers_read, subscriber_fits}
 pub use Rattle.hlr_owners.proofs.RecutLemmas.{recut_stays}
 pub use Rattle.hlr_owners.proofs.RegionOwnerLemmas.{acts_at, owned, parts-kept, region_there, state_is, states-set}
 pub use Rattle.hlr_owners.proofs.ShareLemmas.{zeros_are, zeros_opening}
 pub use Rattle.hlr_owners.proofs.StateLemmas.{lies_within, state_rows}
-pub use Rattle.hlr_owners.proofs.ZipLemmas.{zip_weaker}
 pub use Rattle.hlr_owners.proofs.SumLemmas.{unposted_is}
+pub use Rattle.hlr_owners.proofs.ZipLemmas.{zip_weaker}
 pub use Rattle.hlr_owners.specs.Answered.{IsAnswered, MayAnswer, is_loose, is_loose_place}
 pub use Rattle.hlr_owners.specs.Boxed.{unboxed}
 pub use Rattle.hlr_owners.specs.Desks.{AreDesks, IsLevel, slots_in}
@@ -41,8 +41,8 @@ pub use Rattle.hlr_owners.specs.Gather.{gathered, states_of}
 pub use Rattle.hlr_owners.specs.Held.{OwnerState, of_holding, of_piece}
 pub use Rattle.hlr_owners.specs.Out.{outs_in, with_outs}
 pub use Rattle.hlr_owners.specs.Owners.{AllHome, AreOwners, IsHomeFor, IsHomeFrom, IsLaterOwner, IsLent, IsPartHome, OwnersState, book_in, desks_in, homes_in, part_holdings, state_of, states_in, store_in}
-pub use Rattle.hlr_owners.specs.PartOwnerState.{PartOwnerState}
 pub use Rattle.hlr_owners.specs.PartChanges.{IsDissolved, IsDissolvedWhileOut, IsDivided, IsDividedWhileOut, IsWithNew, IsWithout}
+pub use Rattle.hlr_owners.specs.PartOwnerState.{PartOwnerState}
 pub use Rattle.hlr_owners.specs.Posting.{IsPosting}
 pub use Rattle.hlr_owners.specs.Read.{HasRowsOf, IsRead}
 pub use Rattle.hlr_owners.specs.Recut.{IsRecut, IsRecutBy}

@@ -1,6 +1,5 @@
 -- Whoever an event needs is at home where all are, and where the one is whom its action needs.
-use Rattle.hlr_core.proofs.Common.{◌≡◌, ◌∙◌, arith, refl, sym, ap, ℕ, zero, suc, ◌+◌, ◌-◌, List, [], ◌∷◌, Bool, true, inl, inr, Option, Some, None, Ok, Err, ◌⊎◌, IfOk, IfSome, insert, option_map, remove, AllByRecursion, Refusal, s_id_of, Action, Station, outs_in, IsWithNew, IsWithout, AllHome, IsHomeFor, IsHomeFrom, OwnersState, book_in, homes_in, home_of_all, part_home_of_all, IsBearerHome, IsHomeTo, AreHomesAfter, IsLaterDesk, HaveSameHomes, IsAsked, action_asked, bearer_id, Event, UpdateLocation, InsertForwarding, DeleteForwarding, Post, Give, Take, Divide, Dissolve, Reply}
-use Rattle.std.proofs.Common.{Result}
+use Rattle.hlr_core.proofs.Common.{◌≡◌, ◌∙◌, arith, refl, sym, ap, ℕ, zero, suc, ◌+◌, ◌-◌, List, [], ◌∷◌, Bool, true, inl, inr, Option, Some, None, Ok, Err, ◌⊎◌, IfOk, IfSome, insert, option_map, remove, AllByRecursion, Refusal, s_id_of, Action, Station, outs_in, IsWithNew, IsWithout, AllHome, IsHomeFor, IsHomeFrom, OwnersState, book_in, homes_in, home_of_all, part_home_of_all, IsBearerHome, IsHomeTo, AreHomesAfter, IsLaterDesk, HaveSameHomes, IsAsked, action_asked, bearer_id, Event, UpdateLocation, InsertForwarding, DeleteForwarding, Post, Give, Take, Divide, Dissolve, Reply, Result}
 use Rattle.hlr_core.proofs.PartsLemmas.{trues_each, trues_to}
 use Rattle.hlr_core.specs.declared.event.Reply.TheVariants as reply
 

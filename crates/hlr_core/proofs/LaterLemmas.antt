@@ -78,21 +78,18 @@ later_owner (Part l) (Part m) (Part n) one two = (
   λ wide. two.2 (one.2 wide),
 )
 later_owner (Part l) (Part m) (Piece c) one two = absurd two
-later_owner (Part l) (Piece b) u one two = absurd one
-later_owner (Piece a) (Part m) u one two = absurd one
 later_owner (Piece a) (Piece b) (Part n) one two = absurd two
 later_owner (Piece a) (Piece b) (Piece c) one two = two ∙ one
+later_owner s t u one two = absurd one
 
 pub later_after : (s t u : RegionOwner) → IsLater s t → IsLater t u → IsLater s u
 later_after s t u one two = record { owner = later_owner s t u one.owner two.owner; numbers = two.numbers ∙ one.numbers }
 
 pub all_later_after : (xs ys zs : List RegionOwner) → AreLater xs ys → AreLater ys zs → AreLater xs zs
-all_later_after [] [] [] one two = tt
-all_later_after [] [] (z ∷ zs) one two = absurd two
-all_later_after [] (y ∷ ys) zs one two = absurd one
-all_later_after (x ∷ xs) [] zs one two = absurd one
-all_later_after (x ∷ xs) (y ∷ ys) [] one two = absurd two
+all_later_after [] [] zs one two = two
+all_later_after (x ∷ xs) (y ∷ ys) [] one two = two
 all_later_after (x ∷ xs) (y ∷ ys) (z ∷ zs) one two = (later_after x y z one.0 two.0, all_later_after xs ys zs one.1 two.1)
+all_later_after xs ys zs one two = absurd one
 
 -- one owner that stands for the one that was there
 pub put_later : (owners : List RegionOwner) (i : ℕ) (s t : RegionOwner) → slice_get owners i ≡ Some s → IsLater s t → AreLater owners (set owners i t)
@@ -120,13 +117,12 @@ back_later owners i k back keeps =
 -- the numbers of all
 pub numbers_later : (owners ks : List RegionOwner) → AreLater owners ks → map number_pair (book_in ks).subscribers ≡ map number_pair (book_in owners).subscribers
 numbers_later [] [] later = refl
-numbers_later [] (k ∷ ks) later = absurd later
-numbers_later (s ∷ owners) [] later = absurd later
 numbers_later (s ∷ owners) (k ∷ ks) later =
     let here = later.0.numbers in
     let rest = numbers_later owners ks later.1 in
     map-append number_pair (state_of k).part.book.subscribers (book_in ks).subscribers
     ∙ rw (here, rest) (sym (map-append number_pair (state_of s).part.book.subscribers (book_in owners).subscribers))
+numbers_later owners ks later = absurd later
 
 -- each subscriber keeps the number
 later_same : (owners ks : List RegionOwner) → AreLater owners ks → HaveSame (book_in owners).subscribers (book_in ks).subscribers

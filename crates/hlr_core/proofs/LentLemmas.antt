@@ -1,7 +1,5 @@
 -- What is read where its row lies is a right step.
-use Rattle.hlr_core.proofs.Common.{◌≡◌, refl, None, Result, IfOk, IfErr, MatchResult, Refusal, is_in_range, Action, RowReply, IsReadWhileOut, with_outs, IsRead, OwnersState, store_in, Store, IsStepWhileOut, register_with, IsActionStep, IsRowStepWhileOut, IsStep, given_number, reply_of, Event, Reply}
-use Rattle.std.specs.Prelude.{Ok, Err}
-use Rattle.std.specs.Prelude.{Some}
+use Rattle.hlr_core.proofs.Common.{◌≡◌, refl, None, Result, IfOk, IfErr, MatchResult, Refusal, is_in_range, Action, RowReply, IsReadWhileOut, with_outs, IsRead, OwnersState, store_in, Store, IsStepWhileOut, register_with, IsActionStep, IsRowStepWhileOut, IsStep, given_number, reply_of, Event, Reply, Ok, Err, Some}
 use Rattle.tatp_actions.specs.declared.action.RowReply.TheVariants as row_reply
 use Rattle.hlr_core.specs.declared.event.Reply.TheVariants as reply
 use Rattle.hlr_core.proofs.WhileOutLemmas.{own_step}

@@ -1,6 +1,5 @@
 -- Rows of many subscribers at once.
-use Rattle.hlr_core.proofs.Common.{◌≡◌, ◌∙◌, refl, sym, ap, ℕ, suc, ◌+◌, ◌<◌, List, [], ◌∷◌, ◌++◌, length, get_or, map, take, arith, true, All, take-suc, get_or-map, length-map, map-append, All-more, ArrayVec, between_is, between_ok, both, both_from, SubscriberRow, AccessInfoRow, between, is_between, LAST_SUBSCRIBER, access_data, destinations, effect, is_in_range, new_destination, s_id_of, subscriber_data, IsWithin, access_at, subscriber_at, HoldingState, HasRowsWhileOut, with_outs, HasRowsOf, OwnersState, store_in, Store, is_read, subscriber_fits, IsStepWhileOut, register_with, AreFound, access_reply, numbers_reply, subscriber_reply, IsActionStep, IsStep, given_number, reply_of, Action, RowReply, Event, Reply}
-use Rattle.std.specs.Prelude.{Option, Some, None, Ok}
+use Rattle.hlr_core.proofs.Common.{◌≡◌, ◌∙◌, refl, sym, ap, ℕ, suc, ◌+◌, ◌<◌, List, [], ◌∷◌, ◌++◌, length, get_or, map, take, arith, true, All, take-suc, get_or-map, length-map, map-append, All-more, ArrayVec, between_is, between_ok, both, both_from, SubscriberRow, AccessInfoRow, between, is_between, LAST_SUBSCRIBER, access_data, destinations, effect, is_in_range, new_destination, s_id_of, subscriber_data, IsWithin, access_at, subscriber_at, HoldingState, HasRowsWhileOut, with_outs, HasRowsOf, OwnersState, store_in, Store, is_read, subscriber_fits, IsStepWhileOut, register_with, AreFound, access_reply, numbers_reply, subscriber_reply, IsActionStep, IsStep, given_number, reply_of, Action, RowReply, Event, Reply, Option, Some, None, Ok}
 use Rattle.tatp_rows.specs.declared.refusal.Refusal.TheVariants as refusal
 use Rattle.tatp_actions.specs.declared.action.Action.TheVariants as action
 use Rattle.tatp_actions.specs.declared.action.RowReply.TheVariants as row_reply

@@ -71,8 +71,7 @@ single_once (row ∷ rows) n alone =
     omega (arith, sum, here, none))
     (λ e.
     let here : bears n (number_pair row) ≡ 0 = rw e refl in
-    let rest = single_once rows n alone.1 in
-    omega (arith, sum, here, rest))
+    omega (arith, sum, here, single_once rows n alone.1))
 
 -- the pairs of rows whose numbers all differ rise
 index_rises : (rows : List SubscriberRow) → HasNoTwin rows → IsOrderedBy key_of_pair (index_of rows)
@@ -114,9 +113,8 @@ stands_behind pair k (x ∷ xs) each some =
 -- so of rising pairs the first is the one that stands there, or one in front of it
 first_or_behind : (pair x : ℕ × ℕ) (xs : List (ℕ × ℕ)) → IsOrderedBy key_of_pair (x ∷ xs) → 1 ≤ times pair (x ∷ xs) → is_pair pair x ≡ false → x.0 < pair.0
 first_or_behind pair x xs ordered some e =
-    let sum = sum_by-cons (is_one pair) x xs in
     let none : is_one pair x ≡ 0 = rw e refl in
-    stands_behind pair x.0 xs ordered.0 (omega (arith, sum, none, some))
+    stands_behind pair x.0 xs ordered.0 (omega (arith, sum_by-cons (is_one pair) x xs, none, some))
 
 first_stands : (x : ℕ × ℕ) (xs : List (ℕ × ℕ)) → 1 ≤ times x (x ∷ xs)
 first_stands x xs =
@@ -169,26 +167,15 @@ sum_both f xs ys = sum_by-append (λ (row : SubscriberRow). f (number_pair row))
 
 -- two lists of rows that are noted one after another
 pub noted_both : (xs ys : List SubscriberRow) (start middle end : List (ℕ × ℕ)) → AreNoted xs start middle → AreNoted ys middle end → AreNoted (xs ++ ys) start end
-noted_both xs ys start middle end first second f =
-    let both = sum_both f xs ys in
-    let low = first f in
-    let high = second f in
-    omega (arith, both, low, high)
+noted_both xs ys start middle end first second f = omega (arith, sum_both f xs ys, first f, second f)
 
 -- a number that stands twice once the second list is noted too
 pub twin_later : (xs ys : List SubscriberRow) (start middle : List (ℕ × ℕ)) → AreNoted xs start middle → HasTwin ys middle → HasTwin (xs ++ ys) start
-twin_later xs ys start middle first two =
-    let both = sum_both (bears two.0) xs ys in
-    let low = first (bears two.0) in
-    let twice = two.1 in
-    (two.0, omega (arith, both, low, twice))
+twin_later xs ys start middle first two = (two.0, omega (arith, sum_both (bears two.0) xs ys, first (bears two.0), two.1))
 
 -- or does so in the first already
 pub twin_sooner : (xs ys : List SubscriberRow) (start : List (ℕ × ℕ)) → HasTwin xs start → HasTwin (xs ++ ys) start
-twin_sooner xs ys start two =
-    let both = sum_both (bears two.0) xs ys in
-    let twice = two.1 in
-    (two.0, omega (arith, both, twice))
+twin_sooner xs ys start two = (two.0, omega (arith, sum_both (bears two.0) xs ys, two.1))
 
 -- all rows but those that are left are noted
 pub record IsNoting (left rows : List SubscriberRow) (before pairs : List (ℕ × ℕ)) : Type 0 where
@@ -201,8 +188,7 @@ noting_start left rows before all = record { sums = λ f. ap (λ (some : List Su
 pub noting_end : (left rows : List SubscriberRow) (before pairs : List (ℕ × ℕ)) → left ≡ [] → IsNoting left rows before pairs → AreNoted rows before pairs
 noting_end left rows before pairs none noting f =
     let past : sum_of f left ≡ 0 = ap (sum_of f) none in
-    let all = noting.sums f in
-    omega (arith, past, all)
+    omega (arith, past, noting.sums f)
 
 -- the next of them are noted
 noting_next : (now next left rows : List SubscriberRow) (before pairs more : List (ℕ × ℕ)) → now ≡ next ++ left → IsNoting now rows before pairs → AreNoted next pairs more → IsNoting left rows before more
@@ -217,23 +203,18 @@ noting_next now next left rows before pairs more parts noting noted = record {
 noting_twin : (now next left rows : List SubscriberRow) (before pairs : List (ℕ × ℕ)) → now ≡ next ++ left → IsNoting now rows before pairs → HasTwin next pairs → HasTwin rows before
 noting_twin now next left rows before pairs parts noting two =
     let both : sum_of (bears two.0) now ≡ sum_of (bears two.0) next + sum_of (bears two.0) left = ap (sum_of (bears two.0)) parts ∙ sum_both (bears two.0) next left in
-    let so_far = noting.sums (bears two.0) in
-    let twice = two.1 in
-    (two.0, omega (arith, both, so_far, twice))
+    (two.0, omega (arith, both, noting.sums (bears two.0), two.1))
 
 -- one row is noted
 noted_one : (row : SubscriberRow) (pairs : List (ℕ × ℕ)) → AreNoted (row ∷ []) pairs (with_row key_of_pair (number_pair row) pairs)
 noted_one row pairs f =
-    let more = sum_by-with_row key_of_pair f (number_pair row) pairs in
-    let one = sum_by-cons (λ (r : SubscriberRow). f (number_pair r)) row [] in
-    omega (arith, more, one)
+    omega (arith, sum_by-with_row key_of_pair f (number_pair row) pairs, sum_by-cons (λ (r : SubscriberRow). f (number_pair r)) row [])
 
 -- a row whose number has a pair
 twin_one : (row : SubscriberRow) (pairs : List (ℕ × ℕ)) (pair : ℕ × ℕ) → pair_of row.sub_nbr pairs ≡ Some pair → HasTwin (row ∷ []) pairs
 twin_one row pairs pair found =
-    let there = stands_there pairs row.sub_nbr pair found in
     let one = sum_by-cons (λ (r : SubscriberRow). bears row.sub_nbr (number_pair r)) row [] in
-    (row.sub_nbr, omega (arith, there, one, own row))
+    (row.sub_nbr, omega (arith, stands_there pairs row.sub_nbr pair found, one, own row))
 
 -- why a row isn't noted
 one_refused : (row : SubscriberRow) (pairs : List (ℕ × ℕ)) (why : Refusal) → why ≡ (if is_some (pair_of row.sub_nbr pairs) then NumberTaken else Memory)

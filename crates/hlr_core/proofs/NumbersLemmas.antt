@@ -1,6 +1,5 @@
 -- Who has which number: no number stands twice, and each leads to its subscriber.
-use Rattle.hlr_core.proofs.Common.{◌≡◌, ◌≢◌, refl, sym, subst, ℕ, ◌<◌, List, [], ◌∷◌, true, false, inl, inr, arith, ◌==◌, nat_lt, is_some, AllByRecursion, cases_eq, nat_tests, by_test, key_found, each_found, each-with_row_at, each-with_row, absent_cons, key_of, subscriber_key, IsOrderedBy, row_at, with_row_at, with_row, without_row, SubscriberRow, bearer_of, HasNoTwin, is_anothers}
-use Rattle.std.specs.Prelude.{Option, Some, None}
+use Rattle.hlr_core.proofs.Common.{◌≡◌, ◌≢◌, refl, sym, subst, ℕ, ◌<◌, List, [], ◌∷◌, true, false, inl, inr, arith, ◌==◌, nat_lt, is_some, AllByRecursion, cases_eq, nat_tests, by_test, key_found, each_found, each-with_row_at, each-with_row, absent_cons, key_of, subscriber_key, IsOrderedBy, row_at, with_row_at, with_row, without_row, SubscriberRow, bearer_of, HasNoTwin, is_anothers, Option, Some, None}
 
 -- the number of a row
 abbrev number : SubscriberRow → ℕ

@@ -14,8 +14,6 @@ pub record HaveSame (rows others : List SubscriberRow) : Type 0 where
 
 pub have_same : (rows others : List SubscriberRow) → map number_pair others ≡ map number_pair rows → HaveSame rows others
 have_same [] [] same = record { number = λ k. refl; bearer = λ n. refl; differ = λ n each. tt; alone = λ alone. tt }
-have_same [] (y ∷ ys) same = absurd cc
-have_same (x ∷ xs) [] same = absurd cc
 have_same (x ∷ xs) (y ∷ ys) same =
     let pair : number_pair y ≡ number_pair x = cc in
     let number : y.sub_nbr ≡ x.sub_nbr = ap (λ (one : ℕ × ℕ). one.0) pair in
@@ -29,6 +27,7 @@ have_same (x ∷ xs) (y ∷ ys) same =
       differ = λ n each. (λ e. each.0 (e ∙ number), rest.differ n each.1);
       alone = λ alone. (rw (← number) at (rest.differ x.sub_nbr alone.0), rest.alone alone.1);
     }
+have_same xs ys same = absurd cc
 
 -- a row replaced by one of the same number and subscriber
 pub pairs_with_row_at : (k : ℕ) (new old : SubscriberRow) (rows : List SubscriberRow) → row_at subscriber_key k rows ≡ Some old → number_pair new ≡ number_pair old

@@ -1,6 +1,5 @@
 -- The parts on which an event works: where these are at home, so is whoever the event needs.
-use Rattle.hlr_core.proofs.Common.{◌≡◌, refl, ℕ, zero, suc, ◌<◌, ◌≤◌, arith, List, [], ◌∷◌, drop, get_or, length, Bool, true, false, None, inl, inr, ◌↔◌, ◌⊎◌, AllByRecursion, cases_lt, nat_tests, get_or_past, by_test, between, is_between, LAST_SUBSCRIBER, Refusal, lies_in, IsConsecutive, parts_of, place_of, Region, END, PartOwnerState, AreOwners, IsHomeFor, IsHomeFrom, IsPartHome, OwnersState, homes_in, lies_within, count_parts, AreHome, Parts}
-use Rattle.std.specs.Prelude.{Ok, Err}
+use Rattle.hlr_core.proofs.Common.{◌≡◌, refl, ℕ, zero, suc, ◌<◌, ◌≤◌, arith, List, [], ◌∷◌, drop, get_or, length, Bool, true, false, None, inl, inr, ◌↔◌, ◌⊎◌, AllByRecursion, cases_lt, nat_tests, get_or_past, by_test, between, is_between, LAST_SUBSCRIBER, Refusal, lies_in, IsConsecutive, parts_of, place_of, Region, END, PartOwnerState, AreOwners, IsHomeFor, IsHomeFrom, IsPartHome, OwnersState, homes_in, lies_within, count_parts, AreHome, Parts, Ok, Err}
 
 -- none are at home in any case
 pub none_home : (parts : Parts) (h : OwnersState) → parts.end ≤ parts.first → AreHome parts h

@@ -1,6 +1,5 @@
 -- The parts and the loose pieces that are there have small numbers.
-use Rattle.hlr_core.proofs.Common.{◌≡◌, ◌∙◌, refl, sym, subst, ℕ, zero, suc, ◌+◌, ◌<◌, ◌≤◌, List, [], ◌∷◌, Bool, true, length, arith, ◌==◌, AllByRecursion, find, list_any, range_with_len, nat_tests, by_test, any_part, any_piece, is_part, is_piece, AreRegions, IsPieceNumber, parts_of, pieces_of, take_answer, answer_of_both, Region, Side, MayAnswer}
-use Rattle.std.specs.Prelude.{Option, Some, None, Ok}
+use Rattle.hlr_core.proofs.Common.{◌≡◌, ◌∙◌, refl, sym, subst, ℕ, zero, suc, ◌+◌, ◌<◌, ◌≤◌, List, [], ◌∷◌, Bool, true, length, arith, ◌==◌, AllByRecursion, find, list_any, range_with_len, nat_tests, by_test, any_part, any_piece, is_part, is_piece, AreRegions, IsPieceNumber, parts_of, pieces_of, take_answer, answer_of_both, Region, Side, MayAnswer, Option, Some, Ok}
 
 -- what was found passes the test
 found_passes : {A : Type 0} (test : A → Bool) (xs : List A) (x : A) → find test xs ≡ Some x → list_any test xs ≡ true
@@ -36,6 +35,5 @@ pub taken_small : (n q : ℕ) (side : Side) (regions : List Region) → AreRegio
 taken_small n q side regions are may = cases (find (is_piece n) regions) (find (is_part q) regions) refl refl may
   where
     cases : (piece part : Option Region) → find (is_piece n) regions ≡ piece → find (is_part q) regions ≡ part → MayAnswer (answer_of_both piece part) (Ok side) → (n ≤ 16) × (q < 16)
-    cases None part e f may = absurd cc
-    cases (Some piece) None e f may = absurd cc
     cases (Some piece) (Some part) e f may = (piece_small regions n piece are e, part_small regions q part are f)
+    cases piece part e f may = absurd cc

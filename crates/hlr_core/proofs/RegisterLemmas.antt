@@ -1,6 +1,5 @@
 -- Right steps of the register, from what its owners and its index do.
-use Rattle.hlr_core.proofs.Common.{◌≡◌, ◌≢◌, ℕ, ◌+◌, refl, List, Bool, true, false, Option, Some, None, Ok, Err, sym, ap, ◌∙◌, inl, inr, is_some, option_map, ◌||◌, if◌then◌else◌, SubscriberRow, subscriber_key, by_test, with_row, without_row, LAST_SUBSCRIBER, Refusal, without_row-with_row, key_of_pair, pair_of, IsAdded, adds_row, is_in_range, s_id_of, effect, add_subscriber, done_reply, IsOutcome, Book, IsRowsOf, subscriber_at, Action, RowReply, IsAsked, IsRowStep, IsAnswered, is_loose, IsRegister, bearer_of, IsPostStep, IsWholeOutcome, posted_reply, given_number, takes_number, changes_number, reply_of, edited_reply, IsPosting, Store, Reply}
-use Rattle.std.proofs.Common.{Result}
+use Rattle.hlr_core.proofs.Common.{◌≡◌, ◌≢◌, ℕ, ◌+◌, refl, List, Bool, true, false, Option, Some, None, Ok, Err, sym, ap, ◌∙◌, inl, inr, is_some, option_map, ◌||◌, if◌then◌else◌, SubscriberRow, subscriber_key, by_test, with_row, without_row, LAST_SUBSCRIBER, Refusal, without_row-with_row, key_of_pair, pair_of, IsAdded, adds_row, is_in_range, s_id_of, effect, add_subscriber, done_reply, IsOutcome, Book, IsRowsOf, subscriber_at, Action, RowReply, IsAsked, IsRowStep, IsAnswered, is_loose, IsRegister, bearer_of, IsPostStep, IsWholeOutcome, posted_reply, given_number, takes_number, changes_number, reply_of, edited_reply, IsPosting, Store, Reply, Result}
 use Rattle.tatp_rows.specs.declared.refusal.Refusal.TheVariants as refusal
 use Rattle.tatp_actions.specs.declared.action.Action.TheVariants as action
 use Rattle.tatp_actions.specs.declared.action.RowReply.TheVariants as row_reply

@@ -6,8 +6,7 @@ pub run_more : (orders : List Order) (one : Order) (answers : List Answer) (told
     → IsRun (orders ++ one ∷ []) a (answers ++ told ∷ []) c
 run_more [] one [] told a b c run step = let same : b ≡ a = run in (c, rw same at step, refl)
 run_more (first ∷ orders) one (said ∷ answers) told a b c run step = (run.0, run.1, run_more orders one answers told run.0 b c run.2 step)
-run_more [] one (said ∷ answers) told a b c run step = absurd run
-run_more (first ∷ orders) one [] told a b c run step = absurd run
+run_more orders one answers told a b c run step = absurd run
 
 -- a run over the first orders of a list, and the next of them
 pub run_next : (all : List Order) (i : ℕ) (one : Order) (answers answers' : List Answer) (told : Answer) (a b c : Store) → i < length all → one ≡ get_or all i one

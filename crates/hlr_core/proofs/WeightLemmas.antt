@@ -1,6 +1,5 @@
 -- The weights of the zones, by what is published of them.
-use Rattle.hlr_core.proofs.Common.{◌≡◌, ◌∙◌, refl, sym, ap, ℕ, zero, suc, ◌+◌, ◌<◌, ◌≤◌, List, length, map, take, set, get_or, arith, ℤ, negsuc, ◌-ℤ◌, min, unsigned_abs, int_lt, All, range_with_len, ints, take_more_set, take_all, All-map, map-range_with_len_more, IsBook, cell, CELLS, FIRST_ZONE, proposal, GREATEST_WEIGHT, Store, published, unpublished, parts_in, weight, published_weights, counted_weights, ZONES, few_in_weight}
-use Rattle.std.specs.Prelude.{pos, true, false}
+use Rattle.hlr_core.proofs.Common.{◌≡◌, ◌∙◌, refl, sym, ap, ℕ, zero, suc, ◌+◌, ◌<◌, ◌≤◌, List, length, map, take, set, get_or, arith, ℤ, negsuc, ◌-ℤ◌, min, unsigned_abs, int_lt, All, range_with_len, ints, take_more_set, take_all, All-map, map-range_with_len_more, IsBook, cell, CELLS, FIRST_ZONE, proposal, GREATEST_WEIGHT, Store, published, unpublished, parts_in, weight, published_weights, counted_weights, ZONES, few_in_weight, pos, true, false}
 use Rattle.hlr_core.specs.Weights.{all_zones}
 
 -- a weight is at most that of all rows

@@ -1,6 +1,5 @@
 -- What the register does while holdings are out is right whatever these have become.
-use Rattle.hlr_core.proofs.Common.{◌≡◌, ◌∙◌, refl, sym, ap, ℕ, List, Bool, true, false, Option, Some, None, Ok, Err, is_some, option_map, SubscriberRow, Refusal, pair_of, bearer_in, IsAdded, IsRenamed, is_in_range, s_id_of, subscriber_at, Action, RowReply, dissolve_answer, divide_answer, give_answer, after_give, recut_answer, take_answer, after_take, CutMove, Region, Side, HoldingState, MayAnswer, is_loose, IsAnsweredWhileOut, IsMovedWhileOut, IsPostedWhileOut, outs_in, with_outs, IsDissolvedWhileOut, IsDividedWhileOut, IsRecut, IsRecutBy, OwnersState, AreOwners, book_in, part_holdings, store_in, Store, own_outs, register_with, IsStepWhileOut, IsRecutWhileOut, IsRegister, IsAsked, IsRowStepWhileOut, is_on_rows, AreLater, IsAskedStep, IsStep, action_for, dissolved_reply, divided_reply, given_number, given_reply, posted_reply, taken_reply, reply_of, Event, Give, Take, Divide, Dissolve, Post, Reply}
-use Rattle.std.proofs.Common.{Result}
+use Rattle.hlr_core.proofs.Common.{◌≡◌, ◌∙◌, refl, sym, ap, ℕ, List, Bool, true, false, Option, Some, None, Ok, Err, is_some, option_map, SubscriberRow, Refusal, pair_of, bearer_in, IsAdded, IsRenamed, is_in_range, s_id_of, subscriber_at, Action, RowReply, dissolve_answer, divide_answer, give_answer, after_give, recut_answer, take_answer, after_take, CutMove, Region, Side, HoldingState, MayAnswer, is_loose, IsAnsweredWhileOut, IsMovedWhileOut, IsPostedWhileOut, outs_in, with_outs, IsDissolvedWhileOut, IsDividedWhileOut, IsRecut, IsRecutBy, OwnersState, AreOwners, book_in, part_holdings, store_in, Store, own_outs, register_with, IsStepWhileOut, IsRecutWhileOut, IsRegister, IsAsked, IsRowStepWhileOut, is_on_rows, AreLater, IsAskedStep, IsStep, action_for, dissolved_reply, divided_reply, given_number, given_reply, posted_reply, taken_reply, reply_of, Event, Give, Take, Divide, Dissolve, Post, Reply, Result}
 use Rattle.tatp_rows.specs.declared.refusal.Refusal.TheVariants as refusal
 use Rattle.tatp_actions.specs.declared.action.Action.TheVariants as action
 use Rattle.hlr_core.specs.declared.event.Reply.TheVariants as reply

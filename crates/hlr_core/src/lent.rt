@@ -17,6 +17,16 @@ use std::sync::Arc;
 use view_board::Board;
 
 impl Register {
+    /// Tells the prover that each region has its owner beside it, and that the desks are the board's and share its slots.
+    /// It does nothing.
+    #[inline(always)]
+    pub fn rules(&self)
+        ensures ruled { AreOwners self.now }
+        ensures desks { AreDesks self.now.spare.board self.now.spare (desks_in self.now.owners) }
+    {
+        self.owners.rules();
+    }
+
     /// Hands the holding of a part out, which is at home: to a thread, where it does the jobs that `Register::route`
     /// sends to the part. The register is seen as before, with that part as it is now. Such jobs change neither index nor
     /// regions, and those of different parts may be done in any order, with the same replies. It takes no memory.
@@ -46,25 +56,21 @@ impl Register {
         ensures { (i : ℕ) → IsBackWith (slice_get self.old.owners i) holding.value
             → self.new ≡ record self.old { owners = slice_set self.old.owners i (owner.Part (record { holding = holding.value; home = true })) } }
     {
-        // For the prover: the holding keeps the rules, as all owners do.
-        let _lo = holding.lo();
-        let _board = self.owners.board();
+        holding.rules();
+        self.owners.rules();
         self.owners.back(holding);
     }
 
-    /// Whether the holding of a part is at home; where there is no such part, it isn't.
+    /// Tells whether the holding of a part is at home; where there is no such part, it isn't.
     pub fn at_home(&self, part: u8) -> bool
         ensures { result ≡ slice_index_or (homes_in self.now.owners) part false }
     {
         self.owners.at_home(part)
     }
 
-    /// The board to which the desks of all holdings belong, at home or lent. Each region has its owner beside it, and the
-    /// desks share the board's slots. It takes no memory.
+    /// Gives the board to which the desks of all holdings belong, at home or lent. It takes no memory.
     pub fn board(&self) -> &Arc<Board>
-        ensures board { arc_value result.now ≡ self.now.spare.board }
-        ensures ruled { AreOwners self.now }
-        ensures desks { AreDesks (arc_value result.now) self.now.spare (desks_in self.now.owners) }
+        ensures { arc_value result.now ≡ self.now.spare.board }
     {
         self.owners.board()
     }

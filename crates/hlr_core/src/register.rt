@@ -390,8 +390,7 @@ impl Register {
         ensures counted { ((c : ℕ) → c < CELLS → unposted self.now.owners c ≡ pos 0)
             → result ≡ proposal (counted_weights (store_in self.now)) (parts_in (store_in self.now)) self.now.width }
     {
-        // For the prover: each region has its owner beside it.
-        let _board = self.owners.board();
+        self.owners.rules();
         let parts = self.owners.parts();
         let weights = zone_weights(&self.published());
         Regions::propose(&weights, parts, self.owners.width())
@@ -449,8 +448,7 @@ impl Register {
         ensures homes { HaveSameHomes self.old self.new }
         ensures while_out { IsStepWhileOut (Event.Take piece part) self.old result self.new }
     {
-        // For the prover: the regions tell that a piece and a part that are there have small numbers.
-        let _regions = self.owners.regions();
+        self.owners.rules();
         match self.owners.take(piece, part) {
             Ok(_) => Reply::Taken {
                 piece: piece as u8,

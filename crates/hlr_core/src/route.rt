@@ -82,8 +82,7 @@ impl Register {
         ensures here { is_by_number event.now ≡ false → (h : OwnersState) → AreOwners h → h.regions ≡ self.now.regions → WorksOn event.now result h }
         ensures few { result.end ≤ length (parts_of self.now.regions) }
     {
-        // For the prover: each region has its owner beside it.
-        let _board = self.owners.board();
+        self.owners.rules();
         let event = *event;
         match event {
             Event::SubscriberData { s_id }
@@ -154,8 +153,7 @@ impl Register {
         ensures home { (h : OwnersState) → AreOwners h → h.regions ≡ self.now.regions → (book_in h.owners).subscribers ≡ (book_in self.now.owners).subscribers → AreHome result h ↔ IsBearerHome sub_nbr h }
         ensures few { result.end ≤ length (parts_of self.now.regions) }
     {
-        // For the prover: each region has its owner beside it.
-        let _board = self.owners.board();
+        self.owners.rules();
         match self.bearer(sub_nbr) {
             Some(s_id) => self.part_of(u64::from(s_id)),
             None => Parts::NONE,
@@ -259,8 +257,7 @@ impl Register {
     fn route_post(&self, part: u64, limit: u64) -> TaskRoute
         ensures { IsRouted (event.Post part limit) self.now (route_of result) }
     {
-        // For the prover: each region has its owner beside it, and the desks share the board's slots.
-        let _board = self.owners.board();
+        self.owners.rules();
         if part >= u64::from(self.owners.regions().parts()) {
             return TaskRoute::Refused(Refusal::NoPart);
         }
@@ -272,8 +269,7 @@ impl Register {
         requires { (wanted : Result Actions Refusals) × IsTaskFor wanted asked }
         ensures { (event : Events) → is_on_rows event ≡ true → IsTaskFor (action_for event (book_in self.now.owners)) asked → IsRouted event self.now (route_of result) }
     {
-        // For the prover: each region has its owner beside it.
-        let _board = self.owners.board();
+        self.owners.rules();
         match asked {
             Ok(task) => match self.owners.regions().place(task.s_id()) {
                 Place::Part(part) => TaskRoute::To(part, task),

@@ -104,8 +104,7 @@ fn read_subscriber(holding: &Holding, s_id: u32) -> Reply
     requires { IsWithin holding.now.part.lo holding.now.part.hi s_id }
     ensures { IsActed (action.SubscriberData s_id) holding.now result holding.now }
 {
-    // For the prover: the holding keeps its rules.
-    let _lo = holding.lo();
+    holding.rules();
     row_reply(holding.lend_subscriber(s_id).ok_or(Refusal::NoSubscriber))
 }
 
@@ -114,8 +113,7 @@ fn read_access(holding: &Holding, s_id: u32, ai_type: u8) -> Reply
     requires { IsWithin holding.now.part.lo holding.now.part.hi s_id }
     ensures { IsActed (action.AccessData s_id ai_type) holding.now result holding.now }
 {
-    // For the prover: the holding keeps its rules.
-    let _lo = holding.lo();
+    holding.rules();
     if !is_between(ai_type, 1, 4) {
         return Reply::Refused(Refusal::Field);
     }
@@ -134,8 +132,7 @@ fn read_destinations(
     requires { IsWithin holding.now.part.lo holding.now.part.hi s_id }
     ensures { IsActed (action.NewDestination s_id sf_type start_time end_time) holding.now result holding.now }
 {
-    // For the prover: the holding keeps its rules.
-    let _lo = holding.lo();
+    holding.rules();
     if !is_between(sf_type, 1, 4)
         || !is_start_time(u64::from(start_time))
         || !is_between(end_time, 1, 24)

@@ -179,8 +179,7 @@ impl Register {
         ensures homes { HaveSameHomes self.old self.new }
         ensures while_out { IsStepWhileOut (event.AddSubscriber row) self.old (edited_reply result) self.new }
     {
-        // For the prover: each region has its owner beside it.
-        let _board = self.owners.board();
+        self.owners.rules();
         let s_id = row.s_id();
         let owner = self.owners.owner_of(s_id);
         if self.owners.number_in(owner, s_id)?.is_some() {
@@ -206,8 +205,7 @@ impl Register {
         ensures homes { HaveSameHomes self.old self.new }
         ensures while_out { IsStepWhileOut (event.SetNumber s_id sub_nbr) self.old (edited_reply result) self.new }
     {
-        // For the prover: each region has its owner beside it.
-        let _board = self.owners.board();
+        self.owners.rules();
         let s_id = in_range(s_id, LAST_SUBSCRIBER)?;
         let owner = self.owners.owner_of(s_id);
         let Some(old) = self.owners.number_in(owner, s_id)? else {
@@ -219,7 +217,7 @@ impl Register {
         self.owners.edit_in(owner, SetNumber { s_id, sub_nbr })
     }
 
-    /// The s_id of the subscriber who has a number, or `None`.
+    /// Finds the s_id of the subscriber who has a number, or `None`.
     pub fn bearer(&self, sub_nbr: Number) -> Option<u32>
         ensures value { result ≡ bearer_id (book_in self.now.owners).subscribers sub_nbr }
         ensures within { (s_id : ℕ) → result ≡ Some s_id → IsWithin 1 (LAST_SUBSCRIBER + 1) s_id }

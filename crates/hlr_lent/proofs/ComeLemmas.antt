@@ -1,13 +1,5 @@
 -- A holding comes out of its ring, and takes its place again.
-use Rattle.std.proofs.Common.{◌≡◌, ◌∙◌, sym, ℕ, List, get_or, set, Some, None}
-use Rattle.std.specs.Prelude.{Option, slice_get}
-use Rattle.rtrb.specs.Ring.{received}
-use Rattle.holding.specs.Held.{HoldingState}
-use Rattle.hlr_owners.specs.Out.{outs_in}
-use Rattle.hlr_owners.specs.Owners.{AreOwners, OwnersState}
-use Rattle.hlr_core.specs.Later.{IsBackWith}
-use Rattle.hlr_lent.specs.Jobs.{IsBack}
-use Rattle.hlr_lent.specs.Rings.{HaveRings, MayComeHome}
+use Rattle.hlr_lent.proofs.Common.{◌≡◌, ◌∙◌, sym, ℕ, List, get_or, set, Some, None, Option, slice_get, received, HoldingState, outs_in, AreOwners, OwnersState, IsBackWith, IsBack, HaveRings, MayComeHome}
 use Rattle.hlr_lent.proofs.RingLemmas.{Ring, ring_there, rings_taken, whose}
 use Rattle.hlr_lent.proofs.RegionOwnerLemmas.{at_home, home_back, home_outs, home_there, home_with}
 

@@ -1,7 +1,8 @@
 -- An owner may go to another thread.
 use denote.Param.Send.{IsSend, sendable, view_send}
 use denote.Param.SendFields.{declared_send}
-use Rattle.std.proofs.Crossing.{Arc-send, Box-send, crosses, frees, send as heap_send}
+use Rattle.hlr_lent.proofs.Common.{Arc-send, Box-send, crosses, frees, ghosts, holding_send}
+use Rattle.std.proofs.Crossing.{send as heap_send}
 use Rattle.std.specs.contracts.alloc.Global as Heap
 use Rattle.std.specs.contracts.boxed.Box as Box
 use Rattle.std.specs.contracts.impls.GlobalAllocator.TheImpl as heap
@@ -9,10 +10,8 @@ use Rattle.std.specs.contracts.sync.Arc as Arc
 use Rattle.rtrb.proofs.producer.Producer.TheSendSync.{the_send as producer_send}
 use Rattle.rtrb.specs.contracts.producer.Producer as Producer
 use Rattle.tatp_actions.specs.contracts.trees.Trees as Trees
-use Rattle.tatp_actions.specs.contracts.trees.TreesRows.TheImpl.{ghosts}
 use Rattle.view_board.proofs.board.Board.TheSendSync.{the_send as board_send, the_sync as board_sync}
 use Rattle.view_board.specs.contracts.board.Board as Board
-use Rattle.holding.proofs.CrossingLemmas.{holding_send}
 use Rattle.holding.specs.contracts.holding.Holding as Holding
 use Rattle.hlr_lent.specs.contracts.owner.Owner as Owner
 use Rattle.hlr_lent.specs.contracts.owner.Owner.TheInside as Inside

@@ -1,40 +1,8 @@
 -- Whether the parts are at home on which something works, and what an event leaves of who is out.
-use Rattle.std.proofs.Common.{◌≡◌, ◌∙◌, refl, sym, ap, ℕ, zero, suc, ◌<◌, ◌≤◌, ◌+◌, List, [], ◌∷◌, length, get_or, drop, arith, true, false, Bool, Some, None, Ok, Err, inl, inr}
-use Rattle.std.specs.Prelude.{Option, IfSome, Result, ◌≢◌, ◌⊎◌, ◌-◌, insert, remove}
-use Rattle.std.specs.List.{AllByRecursion}
-use Rattle.std.specs.Result.{result_err}
-use Rattle.std.proofs.lemmas.Bool.{cases_lt}
-use Rattle.std.proofs.lemmas.Bool.Decides.{nat_tests}
-use Rattle.tatp_rows.proofs.OrderedLemmas.{by_test}
-use Rattle.tatp_rows.specs.Rows.{between, is_between}
-use Rattle.tatp_rows.specs.declared.ranges.TheConstants.{LAST_SUBSCRIBER}
-use Rattle.tatp_rows.specs.declared.refusal.Refusal.{Refusal}
-use Rattle.part_table.specs.Recut.{recut_answer}
-use Rattle.part_table.specs.Region.{lies_in}
-use Rattle.part_table.specs.Regions.{IsConsecutive, place_of}
-use Rattle.part_table.specs.declared.moves.CutMove.{CutMove}
-use Rattle.part_table.specs.declared.region.Region.{Region}
-use Rattle.part_table.specs.declared.region.TheConstants.{END, MOST_PARTS}
-use Rattle.tatp_actions.specs.declared.action.Action.{Action}
-use Rattle.holding.specs.declared.job.Job.TheVariants.{Act, Post as Posting}
-use Rattle.hlr_owners.specs.Answered.{MayAnswer}
-use Rattle.hlr_owners.specs.Out.{outs_in}
-use Rattle.hlr_owners.specs.Recut.{IsHomeToCut, IsHomeToMove}
-use Rattle.hlr_owners.specs.Owners.{AllHome, AreOwners, IsHomeFor, IsHomeFrom, OwnersState, book_in, homes_in, store_in}
-use Rattle.hlr_owners.specs.Store.{Store}
-use Rattle.hlr_owners.proofs.StateLemmas.{lies_within}
-use Rattle.hlr_core.specs.Home.{IsHomeTo, AreHomesAfter, HaveSameHomes}
-use Rattle.hlr_core.specs.Route.{IsRightNow, is_here}
-use Rattle.hlr_core.specs.Step.{IsAskedStep, IsStep, action_for, dissolved_reply, divided_reply, given_reply, taken_reply}
-use Rattle.hlr_core.proofs.HomeLemmas.{still_home}
-use Rattle.hlr_core.specs.declared.event.Event.{Event}
-use Rattle.hlr_core.specs.declared.event.Event.TheVariants.{SubscriberData, NewDestination, AccessData, UpdateSubscriber, UpdateLocation, InsertForwarding, DeleteForwarding}
-use Rattle.hlr_core.specs.declared.event.Event.TheVariants.{AddSubscriber, AddAccess, AddFacility, SetActive, SetNumber, Post, Give, Take, Divide, Dissolve}
-use Rattle.hlr_core.specs.declared.event.Reply.{Reply}
+use Rattle.hlr_lent.proofs.Common.{◌≡◌, ◌∙◌, refl, sym, ap, ℕ, zero, suc, ◌<◌, ◌≤◌, ◌+◌, List, [], ◌∷◌, length, get_or, drop, arith, true, false, Bool, Some, None, Ok, Err, inl, inr, Option, IfSome, Result, ◌≢◌, ◌⊎◌, ◌-◌, insert, remove, AllByRecursion, result_err, cases_lt, nat_tests, by_test, between, is_between, LAST_SUBSCRIBER, Refusal, recut_answer, lies_in, IsConsecutive, place_of, CutMove, Region, END, Action, Act, MayAnswer, outs_in, IsHomeToCut, IsHomeToMove, AreOwners, IsHomeFor, IsHomeFrom, OwnersState, book_in, homes_in, store_in, Store, lies_within, IsHomeTo, AreHomesAfter, HaveSameHomes, IsRightNow, is_here, IsAskedStep, IsStep, action_for, dissolved_reply, divided_reply, given_reply, taken_reply, Event, SubscriberData, NewDestination, AccessData, UpdateSubscriber, UpdateLocation, InsertForwarding, DeleteForwarding, AddSubscriber, AddAccess, AddFacility, SetActive, SetNumber, Give, Take, Divide, Dissolve, Reply, all_later_self, IsAsking, allowed, refusal_of, HaveRings}
+use Rattle.holding.specs.declared.job.Job.TheVariants.{Post as Posting}
+use Rattle.hlr_core.specs.declared.event.Event.TheVariants.{Post}
 use Rattle.hlr_core.specs.declared.event.Reply.TheVariants as reply
-use Rattle.hlr_core.proofs.LaterLemmas.{all_later_self}
-use Rattle.hlr_lent.specs.Away.{IsAsking, allowed, refusal_of}
-use Rattle.hlr_lent.specs.Rings.{HaveRings}
 use Rattle.hlr_lent.proofs.RingLemmas.{Ring, none_out}
 
 -- all parts from one on are at home where each is
@@ -114,12 +82,6 @@ module _ (h g : OwnersState) where
 
   pub rings_after : (event : Event) (r : Reply) (rings : List (Option Ring)) → IsHomeTo event h → AreHomesAfter event r h g → HaveRings (outs_in h.owners) rings → HaveRings (outs_in g.owners) rings
   rings_after event r rings home homes have q = rw (outs_after event r home homes q) (have q)
-
-  -- a change leaves them too, and all at home where all were
-  pub kept_after : (rings : List (Option Ring)) (lends : Bool) → HaveSameHomes h g
-      → HaveRings (outs_in h.owners) rings × (length rings ≡ MOST_PARTS) × (lends ≡ false → AllHome h.owners)
-      → HaveRings (outs_in g.owners) rings × (length rings ≡ MOST_PARTS) × (lends ≡ false → AllHome g.owners)
-  kept_after rings lends homes kept = (λ q. rw (same_outs homes q) (kept.0 q), kept.1, λ none. still_home h g homes (kept.2 none))
 
 -- a refusal that is known at once is right
 pub right_here : (event : Event) (h : OwnersState) (r : Reply) → IsRightNow event h r → IsStep event (store_in h) r (store_in h)
@@ -210,10 +172,7 @@ module _ (h : OwnersState) (event : Event) where
 regions_end : (from : ℕ) (regions : List Region) → IsConsecutive from regions → from ≤ END
 regions_end from [] is = let end : from ≡ END = is in omega arith
 regions_end from (r ∷ regions) is =
-    let lo = is.0 in
-    let some = is.1 in
-    let rest = regions_end r.hi regions is.2 in
-    omega arith
+    omega (arith, is.0, is.1, regions_end r.hi regions is.2)
 
 nowhere : (from s_id : ℕ) (regions : List Region) → IsConsecutive from regions → (s_id < from) ⊎ (END ≤ s_id) → place_of s_id regions ≡ None
 nowhere from s_id [] is out = refl

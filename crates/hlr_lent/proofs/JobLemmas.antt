@@ -1,21 +1,5 @@
 -- What jobs leave of a holding that is out, so that it may come home.
-use Rattle.std.proofs.Common.{refl, ap, List, [], ◌∷◌, map, false, Some}
-use Rattle.view_board.specs.Desks.{Station}
-use Rattle.tatp_actions.specs.Part.{PartState}
-use Rattle.holding.specs.Held.{HoldingState}
-use Rattle.holding.specs.declared.job.Job.{Job}
-use Rattle.holding.specs.declared.job.Job.TheVariants.{Act, Post}
-use Rattle.hlr_owners.specs.declared.part_owner.RegionOwner.{RegionOwner}
-use Rattle.hlr_owners.specs.declared.part_owner.RegionOwner.TheVariants.{Part}
-use Rattle.hlr_owners.proofs.HeldLemmas.{holding_keeps}
-use Rattle.hlr_core.specs.Index.{number_pair}
-use Rattle.hlr_core.specs.Later.{IsBackWith, IsLater}
-use Rattle.hlr_core.specs.Session.{IsJobDone}
-use Rattle.hlr_core.specs.declared.event.Reply.{Reply}
-use Rattle.hlr_core.proofs.LaterLemmas.{all_later_self, later_after, outcome_numbers}
-use Rattle.hlr_lent.specs.Jobs.{AreDone, IsNumberless, IsWorked}
-use Rattle.hlr_lent.specs.Rings.{MayComeHome}
-use Rattle.hlr_lent.specs.declared.ring.Message.{Message}
+use Rattle.hlr_lent.proofs.Common.{refl, ap, List, [], ◌∷◌, map, false, Some, Station, PartState, HoldingState, Job, Act, Post, RegionOwner, Part, holding_keeps, number_pair, IsBackWith, IsLater, IsJobDone, Reply, all_later_self, later_after, outcome_numbers, AreDone, IsNumberless, IsWorked, MayComeHome, Message}
 
 -- the owner of a part that is out, with what its holding is now
 abbrev pub away : HoldingState → RegionOwner

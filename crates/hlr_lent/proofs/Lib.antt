@@ -1,3 +1,4 @@
+pub mod Common
 pub mod ComeLemmas
 pub mod CrossingLemmas
 pub mod EventLemmas

@@ -1,22 +1,5 @@
 -- Owners of parts that go out and come home.
-use Rattle.std.proofs.Common.{◌≡◌, ◌∙◌, refl, sym, ap, ℕ, zero, suc, ◌<◌, ◌≤◌, List, [], ◌∷◌, length, get_or, set, arith, true, false, Bool, Some, None, inl, inr}
-use Rattle.std.specs.Prelude.{Option, position, slice_get, if◌then◌else◌}
-use Rattle.std.proofs.lemmas.Bool.{cases_lt}
-use Rattle.std.proofs.lemmas.List.{get_or_past}
-use Rattle.std.proofs.lemmas.Option.{none-some, same_Some, slice_get-get_or, slice_get_read, get_or_from_slice_get}
-use Rattle.part_table.specs.Region.{is_part}
-use Rattle.part_table.specs.declared.region.TheConstants.{MOST_PARTS}
-use Rattle.part_table.proofs.IndexLemmas.{past_parts}
-use Rattle.holding.specs.Held.{HoldingState}
-use Rattle.hlr_owners.specs.PartOwnerState.{PartOwnerState}
-use Rattle.hlr_owners.specs.Out.{out_of, outs_in}
-use Rattle.hlr_owners.specs.Owners.{AreOwners, IsLent, OwnersState}
-use Rattle.hlr_owners.specs.declared.part_owner.RegionOwner.{RegionOwner}
-use Rattle.hlr_owners.specs.declared.part_owner.RegionOwner.TheVariants.{Part}
-use Rattle.hlr_owners.proofs.PartLemmas.{at_number, count_parts, part_state_at, part_has_place, set_number}
-use Rattle.tatp_rows.proofs.OrderedLemmas.{by_test}
-use Rattle.hlr_core.specs.Later.{IsBackWith}
-use Rattle.hlr_lent.specs.Jobs.{IsBack, IsWorked}
+use Rattle.hlr_lent.proofs.Common.{◌≡◌, ◌∙◌, refl, sym, ap, ℕ, zero, suc, ◌<◌, ◌≤◌, List, [], ◌∷◌, length, get_or, set, arith, true, false, Bool, Some, None, inl, inr, Option, position, slice_get, if◌then◌else◌, cases_lt, get_or_past, none-some, same_Some, slice_get-get_or, slice_get_read, get_or_from_slice_get, is_part, MOST_PARTS, past_parts, HoldingState, PartOwnerState, out_of, outs_in, AreOwners, IsLent, OwnersState, RegionOwner, Part, at_number, count_parts, part_state_at, part_has_place, set_number, by_test, IsBackWith, IsBack, IsWorked}
 use Rattle.hlr_lent.proofs.JobLemmas.{away, worked_back}
 use Rattle.hlr_lent.proofs.RingLemmas.{set_again}
 
@@ -50,9 +33,7 @@ module _ (h : OwnersState) (are : AreOwners h) where
   -- there are at most so many parts
   pub few_outs : length (outs_in h.owners) ≤ MOST_PARTS
   few_outs =
-      let count = count_parts out_of h.width h.regions h.owners are.each in
-      let few = are.are.few_parts in
-      omega arith
+      omega (arith, count_parts out_of h.width h.regions h.owners are.each, are.are.few_parts)
 
   -- a part goes out
   module _ (p : ℕ) (k : HoldingState) (g : OwnersState) (lent : IsLent p h k g) where

@@ -1,22 +1,5 @@
 -- The rings of the parts: who is at home, and what is left of them as a part goes out and comes home.
-use Rattle.std.proofs.Common.{◌≡◌, ◌∙◌, refl, sym, ap, ℕ, zero, suc, ◌<◌, ◌≤◌, List, [], ◌∷◌, length, get_or, set, replicate, arith, true, false, Bool, Some, None, inl, inr}
-use Rattle.std.specs.Prelude.{Option, IsTrue, ◌↔◌, is_some, not, if◌then◌else◌}
-use Rattle.std.specs.declared.alloc.Global.{Global}
-use Rattle.std.proofs.lemmas.Bool.{cases_lt}
-use Rattle.std.proofs.lemmas.List.{get_or_default, get_or_past, get_or-replicate, length-replicate}
-use Rattle.std.proofs.lemmas.Option.{none-some}
-use Rattle.rtrb.specs.Ring.{received}
-use Rattle.rtrb.specs.declared.consumer.Consumer.{Consumer}
-use Rattle.tatp_rows.proofs.OrderedLemmas.{by_test}
-use Rattle.holding.specs.Held.{HoldingState}
-use Rattle.hlr_owners.specs.PartOwnerState.{PartOwnerState}
-use Rattle.hlr_owners.specs.Out.{out_of, outs_in}
-use Rattle.hlr_owners.specs.Owners.{homes_in}
-use Rattle.hlr_owners.specs.declared.part_owner.RegionOwner.{RegionOwner}
-use Rattle.hlr_owners.specs.declared.part_owner.RegionOwner.TheVariants.{Part, Piece}
-use Rattle.hlr_lent.specs.Rings.{HasRing, HaveRings, lent_as}
-use Rattle.hlr_lent.specs.declared.ring.Message.{Message}
-use Rattle.hlr_lent.specs.declared.ring.ReturnRule.{ReturnRule}
+use Rattle.hlr_lent.proofs.Common.{◌≡◌, ◌∙◌, refl, sym, ap, ℕ, zero, suc, ◌<◌, ◌≤◌, List, [], ◌∷◌, length, get_or, set, replicate, arith, true, false, Bool, Some, None, inl, inr, Option, IsTrue, ◌↔◌, is_some, not, if◌then◌else◌, Global, cases_lt, get_or_default, get_or_past, get_or-replicate, length-replicate, none-some, received, Consumer, by_test, HoldingState, PartOwnerState, out_of, outs_in, homes_in, RegionOwner, Part, Piece, HasRing, HaveRings, lent_as, Message, ReturnRule}
 
 abbrev pub Ring : Type 0
 Ring = Consumer Message Global ReturnRule
@@ -81,13 +64,6 @@ both_set P d e (a ∷ xs) (b ∷ ys) zero x y each one low short (suc q) = each 
 both_set P d e (a ∷ xs) (b ∷ ys) (suc p) x y each one low short zero = each 0
 both_set P d e (a ∷ xs) (b ∷ ys) (suc p) x y each one low short (suc q) = both_set P d e xs ys p x y (λ r. each (suc r)) one (omega arith) (omega arith) q
 
-one_set : {A B : Type 0} (P : A → B → Type 0) (e : B) (f : ℕ → A) (ys : List B) (p : ℕ) (y : B) → ((q : ℕ) → P (f q) (get_or ys q e)) → P (f p) y → (q : ℕ) → P (f q) (get_or (set ys p y) q e)
-one_set P e f [] p y each one q = each q
-one_set P e f (b ∷ ys) zero y each one zero = one
-one_set P e f (b ∷ ys) zero y each one (suc q) = each (suc q)
-one_set P e f (b ∷ ys) (suc p) y each one zero = each 0
-one_set P e f (b ∷ ys) (suc p) y each one (suc q) = one_set P e (λ n. f (suc n)) ys p y (λ r. each (suc r)) one q
-
 pub set_again : {X : Type 0} (xs : List X) (i : ℕ) (a b : X) → set (set xs i a) i b ≡ set xs i b
 set_again [] i a b = refl
 set_again (x ∷ xs) zero a b = refl
@@ -100,19 +76,6 @@ module _ (outs : List (Option HoldingState)) (rings : List (Option Ring)) (have 
 
   pub rings_taken : (p : ℕ) → p < length outs → p < length rings → HaveRings (set outs p None) (set rings p None)
   rings_taken p there short = both_set HasRing None None outs rings p None None have tt there short
-
-  -- nothing came
-  pub rings_wait : (p : ℕ) (w v : Ring) → get_or rings p None ≡ Some w → received v ≡ received w → HaveRings outs (set (set rings p None) p (Some v))
-  rings_wait p w v is same =
-      rw (set_again rings p None (Some v))
-      (one_set HasRing None (λ (q : ℕ). get_or outs q None) rings p (Some v) have (waits (get_or outs p None) (rw is at (have p))))
-    where
-      waits : (out : Option HoldingState) → HasRing out (Some w) → HasRing out (Some v)
-      waits None has = has
-      waits (Some lent) has = rw same has
-
-  pub rings_none : (p : ℕ) → get_or rings p None ≡ None → HaveRings outs (set rings p None)
-  rings_none p is = one_set HasRing None (λ (q : ℕ). get_or outs q None) rings p None have (rw is at (have p))
 
   -- whose ring it is
   pub whose : (p : ℕ) (w : Ring) → get_or rings p None ≡ Some w → (lent : HoldingState) × (get_or outs p None ≡ Some lent) × (lent_as (received w) ≡ Some lent)

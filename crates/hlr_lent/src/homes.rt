@@ -41,8 +41,7 @@ impl Lender {
     fn is_place_home(&self, s_id: u64) -> bool
         ensures { IsTrue result ↔ IsHomeFor s_id self.now }
     {
-        // For the prover: each region has its owner beside it.
-        let _board = self.register.board();
+        self.register.rules();
         let Ok(s_id) = in_range(s_id, LAST_SUBSCRIBER) else {
             return true;
         };

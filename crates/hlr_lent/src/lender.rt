@@ -125,8 +125,7 @@ impl Lender {
         ensures value { result.now ≡ self.now }
         ensures ruled { AreOwners self.now }
     {
-        // For the prover: each region has its owner beside it.
-        let _board = self.register.board();
+        self.register.rules();
         &self.register
     }
 
@@ -149,8 +148,7 @@ impl Lender {
         ensures lent { IfOk result (λ owner. IsLent part self.old owner.value self.new) }
         ensures refused { OnErr result ((self.new ≡ self.old) × (result ≡ Err Refusal.Memory)) }
     {
-        // For the prover: each region has its owner beside it.
-        let _board = self.register.board();
+        self.register.rules();
         let Ok((mut owner_end, mut lender_end)) = ring(alloc) else {
             return Err(Refusal::Memory);
         };
@@ -178,8 +176,7 @@ impl Lender {
         ensures come { IsTrue result → IsBack part self.old self.new }
         ensures none { result ≡ false → self.new ≡ self.old }
     {
-        // For the prover: each region has its owner beside it.
-        let _board = self.register.board();
+        self.register.rules();
         let Some(mut ring) = take_ring(&mut self.rings, part) else {
             return false;
         };

@@ -71,6 +71,14 @@ impl Owner {
         holding
     }
 
+    /// Tells the prover that the part keeps its rules. It does nothing.
+    #[inline(always)]
+    pub fn rules(&self)
+        ensures { IsHolding self.now }
+    {
+        self.holding.rules();
+    }
+
     /// Gives the first subscriber of the part, 1..=16,777,216. It stays the same while the part is out.
     pub fn lo(&self) -> u32
         ensures value { result ≡ self.now.part.lo }

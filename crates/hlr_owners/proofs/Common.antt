@@ -6,13 +6,13 @@ pub use Rattle.std.proofs.Math.Seq.{map-set_same}
 pub use Rattle.std.proofs.lemmas.Bool.{cases_eq, cases_lt}
 pub use Rattle.std.proofs.lemmas.Bool.Decides.{nat_tests}
 pub use Rattle.std.proofs.lemmas.Int.{ints}
-pub use Rattle.std.proofs.lemmas.List.{append-nil, append_assoc, drop_all, drop_more, ext_get_or, get_or-replicate, get_or-set_other, get_or-set_same, get_or_past, length-append, length-map, length-replicate, length-set, length-take, map-append, map-set, set-get_or, take_all, take_more}
+pub use Rattle.std.proofs.lemmas.List.{append-nil, append_assoc, drop-map, drop_all, drop_more, ext_get_or, get_or-replicate, get_or-set_other, get_or-set_same, get_or_past, length-append, length-map, length-replicate, length-set, length-take, map-append, map-set, set-get_or, take-append-drop, take-map, take_all, take_more}
 pub use Rattle.std.proofs.lemmas.List.Edits.{get_or-remove_above, get_or-remove_below, length-remove}
 pub use Rattle.std.proofs.lemmas.List.Elements.{filter-append}
 pub use Rattle.std.proofs.lemmas.List.Folds.{list_all-append, list_all-map}
 pub use Rattle.std.proofs.lemmas.List.FromFn.{length-map-range_with_len, map-range_with_len_more}
 pub use Rattle.std.proofs.lemmas.List.Quantifiers.{position-Some}
-pub use Rattle.std.proofs.lemmas.List.Sums.{AllPass-from_list_all, get_or-le-sum_by, sum_by-cons, sum_by-insert, sum_by-remove, sum_by-set, sum_by_more, sum_by_more_le, sum_by_push}
+pub use Rattle.std.proofs.lemmas.List.Sums.{AllPass-from_list_all, get_or-le-sum_by, sum_by-cons, sum_by-insert, sum_by-remove, sum_by-set, sum_by_push}
 pub use Rattle.std.proofs.lemmas.Map.Views.{any-filter_same}
 pub use Rattle.std.proofs.lemmas.Option.{get_or_from_slice_get, slice_get-map, slice_get_past, slice_get_read, slice_get_within}
 pub use Rattle.std.proofs.lemmas.Result.{err_from_is_err_and}
@@ -27,7 +27,7 @@ pub use Rattle.arrayvec.specs.ArrayVec.{ArrayVec, array_vec_len}
 pub use Rattle.atomic_table.specs.Seated.{TableId}
 pub use Rattle.holding.proofs.HeldLemmas.{empty_cell, few, wide_posted}
 pub use Rattle.holding.specs.Held.{HasSmallNets, HoldingState, IsHolding, IsPiece, PieceState, count_of}
-pub use Rattle.holding.specs.Moved.{IsBlankDesk, IsGiven, IsInside, IsMerged, IsHoldingDivided, IsTaken, as_piece}
+pub use Rattle.holding.specs.Moved.{IsBlankDesk, IsGiven, IsHoldingDivided, IsInside, IsMerged, IsTaken, as_piece}
 pub use Rattle.holding.specs.Post.{due, post_cells}
 pub use Rattle.part_table.proofs.BehindLemmas.{anew_from, zip_anew}
 pub use Rattle.part_table.proofs.BoundsLemmas.{length_parts, no_pieces, within}
@@ -63,7 +63,6 @@ pub use Rattle.part_table.specs.declared.region.Side.{Side}
 pub use Rattle.part_table.specs.declared.region.Side.TheVariants.{High, Low}
 pub use Rattle.part_table.specs.declared.region.TheConstants.{END}
 pub use Rattle.tatp_actions.proofs.BetweenLemmas.{between_joined, high_between, high_is_between, low_between, low_is_between, none_past, own_rows}
-pub use Rattle.tatp_actions.proofs.CountLemmas.{few_cells}
 pub use Rattle.tatp_actions.proofs.CutLemmas.{cut_high_rows, cut_joined, cut_low_rows, same_tables}
 pub use Rattle.tatp_actions.proofs.DeltaLemmas.{plain_sum}
 pub use Rattle.tatp_actions.proofs.JoinedLemmas.{cell_joined, rows_joined}
@@ -99,13 +98,13 @@ pub use Rattle.view_board.proofs.NetLemmas.{net_from-end, net_from-next, word_wi
 pub use Rattle.view_board.proofs.OwnLemmas.{net_none, owns_alone, wide_alone, wide_without}
 pub use Rattle.view_board.proofs.SplitLemmas.{only_slot, was_owned}
 pub use Rattle.view_board.specs.Desks.{Station, with_view}
-pub use Rattle.view_board.specs.Nets.{net_of}
-pub use Rattle.view_board.specs.Views.{IsLeastSlot, IsRightSight, IsWide, Owns, alone, both, first_view, looked, nobody, owned_at, posted, taken_back, without}
+pub use Rattle.view_board.specs.Nets.{net_from, net_of}
+pub use Rattle.view_board.specs.Views.{IsLeastSlot, IsRightSight, IsWide, Owns, OwnsAlone, alone, both, first_view, looked, nobody, owned_at, posted, taken_back, without}
 pub use Rattle.view_board.specs.Words.{each_word, is_worn, leveled, minus_word, plus_word, raised_by, slot_net, twin_of, word_of}
 pub use Rattle.view_board.specs.declared.rule.View.{View}
 pub use Rattle.view_board.specs.declared.words.TheConstants.{SLOTS, SLOT_WORDS, WORDS}
 pub use Rattle.view_delta.proofs.SumLemmas.{AreMovedTo, one_moved}
-pub use Rattle.view_delta.specs.Pending.{is_zero, delta_at}
+pub use Rattle.view_delta.specs.Pending.{delta_at, is_zero}
 pub use Rattle.hlr_owners.specs.Answered.{IsAnswered, MayAnswer, is_loose, is_loose_place}
 pub use Rattle.hlr_owners.specs.Apart.{lo_of, loose_pieces, owners_from, part_of, piece_at, piece_of, range_of}
 pub use Rattle.hlr_owners.specs.Boxed.{map_boxed, unboxed}
@@ -115,8 +114,8 @@ pub use Rattle.hlr_owners.specs.Held.{AreOwnerStates, IsLawful, IsOwnerState, Ow
 pub use Rattle.hlr_owners.specs.Inside.{AreHome, IsHanded, IsMovedAlone, IsOpened}
 pub use Rattle.hlr_owners.specs.Out.{out_of, outs_in, with_out, with_outs}
 pub use Rattle.hlr_owners.specs.Owners.{AllHome, AreOwners, IsBackFor, IsHomeFor, IsHomeFrom, IsKind, IsLaterOwner, IsLent, IsPartHome, IsPlaceHome, IsRegionOwner, IsSameOwner, OwnersState, book_in, desks_in, holding_at, homes_in, is_home, of_part, of_parts, part_holdings, state_of, states_in, store_in, taker, unposted}
-pub use Rattle.hlr_owners.specs.PartOwnerState.{PartOwnerState}
 pub use Rattle.hlr_owners.specs.PartChanges.{IsDissolved, IsDivided, IsWithNew, IsWithout, free_slot, words_back}
+pub use Rattle.hlr_owners.specs.PartOwnerState.{PartOwnerState}
 pub use Rattle.hlr_owners.specs.Post.{least_slot, post, raise_cells}
 pub use Rattle.hlr_owners.specs.Posting.{IsPosting}
 pub use Rattle.hlr_owners.specs.Read.{HasRowsOf, IsRead, row_answer}

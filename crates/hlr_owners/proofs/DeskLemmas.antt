@@ -1,9 +1,7 @@
 -- The words of the board as all desks have them: their nets, and after one desk has raised a word.
-use Rattle.hlr_owners.proofs.Common.{◌≡◌, ◌∙◌, refl, sym, ap, ℕ, zero, suc, ◌+◌, ◌/◌, ◌<◌, ◌≤◌, arith, List, [], ◌∷◌, length, get_or, set, drop, true, false, Bool, inl, inr, ℤ, pos, ◌-ℤ◌, sum_by, unsigned_abs, AllByRecursion, filter, range_with_len, cases_eq, ints, length-set, get_or-set_same, get_or-set_other, ext_get_or, sum_by-cons, sum_by-set, get_or-le-sum_by, by_test, CELLS, Station, with_view, net_of, owned_at, IsLeastSlot, Owns, IsWide, posted, plus_word, minus_word, word_of, raised_by, slot_net, View, SLOTS, SLOT_WORDS, WORDS, each_word_at, length-each_word, net_from-next, net_from-end, word_within, own_number, owns_one, words_of, slots_in, HasOneSlot, least_slot, net}
-use Rattle.std.proofs.Common.{if◌then◌else◌}
-use Rattle.view_board.specs.Nets.{net_from}
+use Rattle.hlr_owners.proofs.Common.{◌≡◌, ◌∙◌, refl, sym, ap, ℕ, zero, suc, ◌+◌, ◌/◌, ◌<◌, ◌≤◌, arith, List, [], ◌∷◌, length, get_or, set, drop, true, false, Bool, inl, inr, ℤ, pos, ◌-ℤ◌, sum_by, unsigned_abs, AllByRecursion, filter, range_with_len, cases_eq, ints, length-set, get_or-set_same, get_or-set_other, ext_get_or, sum_by-cons, sum_by-set, get_or-le-sum_by, by_test, CELLS, Station, with_view, net_of, owned_at, Owns, IsWide, posted, plus_word, minus_word, word_of, raised_by, slot_net, View, SLOTS, SLOT_WORDS, WORDS, each_word_at, length-each_word, net_from-next, net_from-end, word_within, own_number, owns_one, words_of, slots_in, HasOneSlot, least_slot, net, OwnsAlone, ◌≢◌, if◌then◌else◌, net_from}
 use Rattle.hlr_owners.specs.Words.{all_slots}
-use Rattle.hlr_owners.proofs.IntSumLemmas.{sum_ints, sums_added, sums_none}
+use Rattle.hlr_owners.proofs.ListLemmas.{sum_ints, sums_added, sums_none}
 
 -- a desk with the flags of one that has one slot
 pub same_one : (before after : Station) → after.view.owned ≡ before.view.owned → HasOneSlot before → HasOneSlot after
@@ -20,10 +18,7 @@ own_net slot c desk = if owned_at desk.view slot then slot_net desk.view.numbers
 -- the difference of two sums is the sum of differences
 differences : (f g : Station → ℕ) (h : Station → ℤ) → ((d : Station) → h d ≡ pos (f d) -ℤ pos (g d)) → (desks : List Station) → pos (sum_by f desks) -ℤ pos (sum_by g desks) ≡ sum_ints h desks
 differences f g h is [] = omega (arith, ints)
-differences f g h is (d ∷ desks) =
-    let rest = differences f g h is desks in
-    let here = is d in
-    rw (sum_by-cons f d desks, sum_by-cons g d desks) (omega (arith, ints))
+differences f g h is (d ∷ desks) = rw (sum_by-cons f d desks, sum_by-cons g d desks) (omega (arith, ints, differences f g h is desks, is d))
 
 -- the net of a slot is what its desk has published
 net_at : (desks : List Station) (slot c : ℕ) → slot < SLOTS → c < CELLS → slot_net (words_of desks) c slot ≡ sum_ints (own_net slot c) desks
@@ -66,9 +61,8 @@ none_owns (d ∷ desks) slot w of_slot none =
 -- one that has a slot counts
 pub one_owns : (desks : List Station) (p slot : ℕ) (desk : Station) → p < length desks → desk ≡ get_or desks p desk → Owns desk.view slot → 1 ≤ sum_by (owns_one slot) desks
 one_owns desks p slot desk within is own =
-    let least = get_or-le-sum_by (owns_one slot) desks p desk within in
     let one : owns_one slot (get_or desks p desk) ≡ 1 = rw (← is, own) refl in
-    omega arith
+    omega (arith, get_or-le-sum_by (owns_one slot) desks p desk within)
 
 -- a word of a slot that one desk alone has is that desk's number
 pub sole_number : (desks : List Station) (p slot w : ℕ) (desk : Station) → p < length desks → desk ≡ get_or desks p desk → Owns desk.view slot → sum_by (owns_one slot) desks ≡ 1 → w / SLOT_WORDS ≡ slot
@@ -76,10 +70,8 @@ pub sole_number : (desks : List Station) (p slot w : ℕ) (desk : Station) → p
 sole_number [] p slot w desk within is own once of_slot = absurd (omega arith)
 sole_number (d ∷ desks) zero slot w desk within is own once of_slot =
     let sum = rw (sum_by-cons (owns_one slot) d desks, ← is, own) at once in
-    let rest = none_owns desks slot w of_slot (omega arith) in
     let here : own_number w d ≡ get_or desk.view.numbers w 0 = rw (← is, of_slot, own) refl in
-    let all = sum_by-cons (own_number w) d desks in
-    omega arith
+    omega (arith, none_owns desks slot w of_slot (omega arith), sum_by-cons (own_number w) d desks)
 sole_number (d ∷ desks) (suc p) slot w desk within is own once of_slot =
     let sum = rw (sum_by-cons (owns_one slot) d desks) at once in
     let later = one_owns desks p slot desk (omega arith) is own in
@@ -98,25 +90,26 @@ nets_same desk words a (suc n) c all wide same =
     (λ e. let here = same a (omega arith) e in let next' = rw e at next in rw e (omega (arith, ints)))
     (λ e. let next' = rw e at next in rw e (omega (arith, ints)))
 
--- the least of the slots from one on that pass a test
-least_behind : (test : ℕ → Bool) (a n : ℕ) → a + n ≤ SLOTS → a ≤ least_slot (filter test (range_with_len a n))
-least_behind test a zero all = omega arith
-least_behind test a (suc n) all =
-    let rest = least_behind test (a + 1) n (omega arith) in
-    by_test (test a) (λ e. rw e (omega arith)) (λ e. rw e (omega arith))
+-- the slots from one on of which one passes a test
+only_from : (test : ℕ → Bool) (a n slot : ℕ) → a ≤ slot → slot < a + n → test slot ≡ true → ((other : ℕ) → other ≢ slot → test other ≡ false) → filter test (range_with_len a n) ≡ slot ∷ []
+only_from test a zero slot from to is others = absurd (omega arith)
+only_from test a (suc n) slot from to is others = elim (cases_eq a slot) [
+  | inl same ↦ rw (same, is) (ap (λ slots. slot ∷ slots) (none_from (slot + 1) n (omega arith)))
+  | inr other ↦ rw (others a other) (only_from test (a + 1) n slot (omega arith) (omega arith) is others)
+]
+  where
+    none_from : (b m : ℕ) → slot < b → filter test (range_with_len b m) ≡ []
+    none_from b zero behind = refl
+    none_from b (suc m) behind = rw (others b (omega arith)) (none_from (b + 1) m (omega arith))
 
-least_found : (test : ℕ → Bool) (a n slot : ℕ) → a + n ≤ SLOTS → a ≤ slot → slot < a + n → test slot ≡ true → ((other : ℕ) → other < slot → test other ≡ true → ⊥) → least_slot (filter test (range_with_len a n)) ≡ slot
-least_found test a zero slot all from to is none = absurd (omega arith)
-least_found test a (suc n) slot all from to is none =
-    by_test (test a)
-    (λ e. let rest = least_behind test (a + 1) n (omega arith) in elim (cases_eq a slot) [
-      | inl same ↦ rw e (omega arith)
-      | inr other ↦ absurd (none a (omega arith) e)
-    ])
-    (λ e. elim (cases_eq a slot) [
-      | inl same ↦ (let clash : true ≡ false = sym is ∙ ap test (sym same) ∙ e in absurd cc)
-      | inr other ↦ rw e (least_found test (a + 1) n slot (omega arith) (omega arith) (omega arith) is none)
-    ])
+-- a desk that has one slot lists that one, which is the least then
+pub only_listed : (desk : Station) (slot : ℕ) → slot < SLOTS → OwnsAlone desk.view slot → slots_in desk ≡ slot ∷ []
+unfolding all_slots
+only_listed desk slot below own =
+    only_from (owned_at desk.view) 0 SLOTS slot (omega arith) below own.0 (λ other differ. by_test (owned_at desk.view other) (λ e. absurd (differ (own.1 other e))) (λ e. e))
+
+pub least_of_slots : (desk : Station) (slot : ℕ) → slot < SLOTS → OwnsAlone desk.view slot → least_slot (slots_in desk) ≡ slot
+least_of_slots desk slot in_board own = rw (only_listed desk slot in_board own) (omega arith)
 
 -- a desk in the place of one that differs in its numbers alone
 module _ (desks : List Station) (p : ℕ) (desk : Station) (within : p < length desks) (is : desk ≡ get_or desks p desk) where
@@ -150,12 +143,10 @@ module _ (desks : List Station) (p : ℕ) (desk : Station) (within : p < length 
         each : (w : ℕ) → w < WORDS → get_or (words_with (posted view slot c amount)) w 0 ≡ get_or (raised_by (words_with view) slot c amount) w 0
         each w low = elim (cases_eq w at) [
           | inl here ↦ (
-              let before = rw (here, there.1, owns) at (word_with view w low) in
               let number = get_or-set_same view.numbers at (get_or view.numbers at 0 + unsigned_abs amount) 0 (omega (arith, there.0, wide.numbers)) in
-              let after = rw (here, there.1, owns, number) at (word_with (posted view slot c amount) w low) in
               let long = length-each_word (λ k. sum_by (own_number k) (set desks p (with_view desk view))) in
               let more = get_or-set_same (words_with view) at (get_or (words_with view) at 0 + unsigned_abs amount) 0 (omega (arith, there.0, long)) in
-              rw (here, more) (omega arith)
+              rw (here, more) (omega (arith, rw (here, there.1, owns) at (word_with view w low), rw (here, there.1, owns, number) at (word_with (posted view slot c amount) w low)))
               )
           | inr other ↦ (
               let before = word_with view w low in
@@ -172,10 +163,9 @@ module _ (desks : List Station) (p : ℕ) (desk : Station) (within : p < length 
     word_here view c amount once same below =
         let there = word_within slot c amount in_board below in
         let old = words_at desks (word_of slot c amount) there.0 ∙ sole_number desks p slot (word_of slot c amount) desk within is own once there.1 in
-        let sum = word_with view (word_of slot c amount) there.0 in
         let mine : own_number (word_of slot c amount) desk ≡ get_or desk.view.numbers (word_of slot c amount) 0 = rw (there.1, own) refl in
         let new : own_number (word_of slot c amount) (with_view desk view) ≡ get_or view.numbers (word_of slot c amount) 0 = rw (there.1, same, own) refl in
-        omega arith
+        omega (arith, word_with view (word_of slot c amount) there.0)
 
 -- the slots of a desk: the nets of the words in them are the desk's, and the least of them
 module _ (desks : List Station) (p : ℕ) (desk : Station) (within : p < length desks) (is : desk ≡ get_or desks p desk) (once : (slot : ℕ) → slot < SLOTS → sum_by (owns_one slot) desks ≡ 1) (wide : IsWide desk.view) where
@@ -193,7 +183,3 @@ module _ (desks : List Station) (p : ℕ) (desk : Station) (within : p < length 
   pub net_of_slots : (c : ℕ) → c < CELLS → net (words_of desks) (slots_in desk) c ≡ net_of desk.view c
   unfolding all_slots
   net_of_slots c below = nets_same desk (words_of desks) 0 SLOTS c refl wide (λ slot in_board own. own_slot_net slot c in_board below own)
-
-pub least_of_slots : (desk : Station) (slot : ℕ) → slot < SLOTS → IsLeastSlot desk.view slot → least_slot (slots_in desk) ≡ slot
-unfolding all_slots
-least_of_slots desk slot in_board is = least_found (owned_at desk.view) 0 SLOTS slot (omega arith) (omega arith) in_board is.0 is.1

@@ -4,20 +4,18 @@ use Rattle.hlr_owners.proofs.Common.{◌≡◌, ◌∙◌, refl, sym, ap, ℕ, s
 use Rattle.part_table.specs.declared.region.Place.TheVariants as place
 use Rattle.hlr_owners.proofs.HalvesLemmas.{merged_in}
 use Rattle.hlr_owners.proofs.HomeLemmas.{first_home, later_home}
-use Rattle.hlr_owners.proofs.IndexedLemmas.{set_same, put_back, other_left, both_edited, map-remove}
+use Rattle.hlr_owners.proofs.ListLemmas.{set_same, put_back, other_left, both_edited, map-remove}
 use Rattle.hlr_owners.proofs.LendLemmas.{part_state_is, ruled_later, desks_later}
-use Rattle.hlr_owners.proofs.OutLemmas.{none_out, outs-at, outs-set}
+use Rattle.hlr_owners.proofs.OutLemmas.{none_out, outs-at, outs-set, parts-remove_part, outs-remove_part, AreHomeFrom}
 use Rattle.hlr_owners.proofs.PartLemmas.{ahead, get_number, part_number_at, part_owner_at, owner_is_part, part_has_place, part_is_home}
 use Rattle.hlr_owners.proofs.PartDeskLemmas.{desks_dissolved, words_dissolved, seen_grows}
-use Rattle.hlr_owners.proofs.PutLemmas.{parts-remove_part, outs-remove_part, AreHomeFrom}
 use Rattle.hlr_owners.proofs.RegionOwnerLemmas.{IsRegionOwnerIn, part_kind, parts-kept, placed_in, ruled_rows, each_in, owners_in}
 use Rattle.hlr_owners.proofs.ZipLemmas.{zip_set, zip_remove}
 
 -- a region's place tells of a part that it is one, so its number may fall
 lowered_kind : (p : Place) (s : RegionOwner) → IsKind p s → IsKind (place_lowered p) s
 lowered_kind (place.Part p) (Part l) kind = tt
-lowered_kind (place.Part p) (Piece b) kind = absurd kind
-lowered_kind (place.Piece n) s kind = kind
+lowered_kind p s kind = kind
 
 -- the spare desk with the one that a holding leaves
 abbrev spare_with : Station → HoldingState → Station

@@ -1,22 +1,20 @@
 -- A divide among all owners: the part's owner exchanged, and that of the new part put in behind it.
-use Rattle.hlr_owners.proofs.Common.{Store, MayBecome, store_with, ◌≡◌, ◌∙◌, refl, sym, ap, ℕ, suc, ◌+◌, ◌<◌, ◌≤◌, List, [], ◌∷◌, length, get_or, set, map, true, arith, Some, Ok, position, insert, AllZip-long, TableId, divided, divide_answer, place_raised, is_part, Place, Region, blank, anew_from, zip_anew, IsDivide, divide_from_answer, divided_edit, divide_room, bound_inside, regions-divided, low_half, high_half, region_raised, Station, with_view, IsLeastSlot, alone, both, without, SLOTS, HoldingState, IsHolding, IsInside, IsHoldingDivided, AreDesks, slots_in, words_of, PartOwnerState, out_of, with_outs, free_slot, IsDivided, IsWithNew, book_in, desks_in, of_parts, store_in, IsKind, IsRegionOwner, IsHomeFrom, OwnersState, AreOwners, homes_in, RegionOwner, Part, Piece}
+use Rattle.hlr_owners.proofs.Common.{Store, MayBecome, store_with, ◌≡◌, ◌∙◌, refl, sym, ap, ℕ, suc, ◌+◌, ◌<◌, ◌≤◌, List, [], ◌∷◌, length, get_or, set, map, true, arith, Some, Ok, position, insert, AllZip-long, TableId, divided, divide_answer, place_raised, is_part, Place, Region, blank, anew_from, zip_anew, IsDivide, divide_from_answer, divided_edit, divide_room, bound_inside, regions-divided, low_half, high_half, region_raised, Station, with_view, IsLeastSlot, alone, both, without, SLOTS, HoldingState, IsHolding, IsInside, IsHoldingDivided, AreDesks, slots_in, words_of, PartOwnerState, out_of, with_outs, free_slot, IsDivided, IsWithNew, book_in, desks_in, of_parts, store_in, IsKind, IsRegionOwner, IsHomeFrom, OwnersState, AreOwners, homes_in, RegionOwner, Part}
 use Rattle.part_table.specs.declared.region.Place.TheVariants as place
 use Rattle.hlr_owners.proofs.HalvesLemmas.{divided_in}
 use Rattle.hlr_owners.proofs.HomeLemmas.{first_home, later_home}
-use Rattle.hlr_owners.proofs.IndexedLemmas.{map-insert}
+use Rattle.hlr_owners.proofs.ListLemmas.{map-insert}
 use Rattle.hlr_owners.proofs.LendLemmas.{ruled_later, desks_later}
-use Rattle.hlr_owners.proofs.OutLemmas.{none_out, outs-at, outs-set}
+use Rattle.hlr_owners.proofs.OutLemmas.{none_out, outs-at, outs-set, ahead_behind, parts-insert_part, outs-insert_part, AreHomeFrom}
 use Rattle.hlr_owners.proofs.PartLemmas.{ahead, at_number, count_parts, part_number_at, part_owner_at, part_has_place, part_is_home}
 use Rattle.hlr_owners.proofs.PartDeskLemmas.{desks_divided, words_divided, slots_new, free, rejoined}
-use Rattle.hlr_owners.proofs.PutLemmas.{ahead_behind, parts-insert_part, outs-insert_part, AreHomeFrom}
 use Rattle.hlr_owners.proofs.RegionOwnerLemmas.{IsRegionOwnerIn, part_kind, parts-kept, placed_in, each_in, owners_in}
 use Rattle.hlr_owners.proofs.ZipLemmas.{zip_set, zip_insert}
 
 -- a region's place tells of a part that it is one, so its number may rise
 raised_kind : (p : Place) (s : RegionOwner) → IsKind p s → IsKind (place_raised p) s
 raised_kind (place.Part p) (Part l) kind = tt
-raised_kind (place.Part p) (Piece b) kind = absurd kind
-raised_kind (place.Piece n) s kind = kind
+raised_kind p s kind = kind
 
 module _ (h : OwnersState) (are : AreOwners h) (p at : ℕ) (told : ℕ × ℕ × ℕ) (answer : divide_answer p at h.regions ≡ Ok told) where
   dividing : IsDivide p at h.regions told
@@ -30,8 +28,7 @@ module _ (h : OwnersState) (are : AreOwners h) (p at : ℕ) (told : ℕ × ℕ �
   pub few_desks : length (desks_in h.owners) < SLOTS
   few_desks =
       let count = count_parts (λ (o : PartOwnerState). o.holding.desk) h.width h.regions h.owners are.each in
-      let room = dividing.room in
-      omega arith
+      omega (arith, dividing.room)
 
   module _ (i : ℕ) (index : position (is_part p) h.regions ≡ Some i) (l : PartOwnerState) (is : Part l ≡ get_or h.owners i (Part l)) where
     abbrev region : Region

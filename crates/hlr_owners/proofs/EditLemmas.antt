@@ -1,11 +1,12 @@
--- A give among all owners: an owner exchanged, and a piece put in beside it.
-use Rattle.hlr_owners.proofs.Common.{◌≡◌, ◌∙◌, refl, sym, ℕ, ◌<◌, ◌≤◌, List, length, get_or, set, arith, Some, Ok, position, insert, Box, Global, AllZip-long, cut, give_answer, piece_index, is_part, Region, Side, Low, High, find_index, IsGive, give_from_answer, has_room, leaves_regions, cut_edit, part_half, piece_half, blank, HoldingState, PieceState, IsHolding, IsPiece, IsInside, IsGiven, IsMovedAlone, out_of, with_outs, PartOwnerState, book_in, desks_in, of_parts, store_in, IsKind, IsPartHome, IsRegionOwner, OwnersState, AreOwners, RegionOwner, Part, Piece}
+-- A give among all owners: an owner exchanged, and a piece put in beside it; and a change that is refused.
+use Rattle.hlr_owners.proofs.Common.{◌≡◌, ◌∙◌, refl, sym, ℕ, ◌<◌, ◌≤◌, List, length, get_or, set, arith, Some, Ok, position, insert, Box, Global, AllZip-long, cut, give_answer, piece_index, is_part, Region, Side, Low, High, find_index, IsGive, give_from_answer, has_room, leaves_regions, cut_edit, part_half, piece_half, blank, HoldingState, PieceState, IsHolding, IsPiece, IsInside, IsGiven, IsMovedAlone, out_of, with_outs, PartOwnerState, book_in, desks_in, of_parts, store_in, IsKind, IsPartHome, IsRegionOwner, OwnersState, AreOwners, RegionOwner, Part, Piece, ◌⊎◌, inl, inr, Refusal, MayAnswer, Result, Err}
 use Rattle.hlr_owners.proofs.HalvesLemmas.{given_in}
 use Rattle.hlr_owners.proofs.LendLemmas.{ruled_later}
 use Rattle.hlr_owners.proofs.OutLemmas.{none_out, outs-at, outs-insert, outs-set}
 use Rattle.hlr_owners.proofs.RegionOwnerLemmas.{IsRegionOwnerIn, parts-insert, parts-kept, part_kind, each_in, owners_in}
 use Rattle.hlr_owners.proofs.PartLemmas.{part_is_home, part_owner_at}
 use Rattle.hlr_owners.proofs.ZipLemmas.{zip_set, zip_insert}
+use Rattle.tatp_rows.specs.declared.refusal.Refusal.TheVariants as refusal
 
 -- of the halves the part's is of the same kind as the whole, and the other one a piece
 half_kind : (side : Side) (at : ℕ) (region : Region) (l m : PartOwnerState) → IsKind region.place (Part l) → IsKind (part_half side at region).place (Part m)
@@ -92,3 +93,14 @@ all_given h are p side at told answer i index l is home k b parts piece kept =
             (given_store (record h { owners = with_outs h.owners ks }) (ruled_later h (with_outs h.owners ks) are become) p side at told answer i index l (outs-at h.owners ks i (Part l) is was) m b parts piece kept);
       };
     }
+
+-- a refusal that is want of memory, where the other reason does not stand
+pub only_memory : {P : Type 0} (other why : Refusal) → P → ((why ≡ other) × (P → ⊥)) ⊎ ((why ≡ refusal.Memory) × P) → why ≡ refusal.Memory
+only_memory other why stands told = elim told [
+  | inl none ↦ absurd (none.1 stands)
+  | inr memory ↦ memory.0
+]
+
+-- a give or a take that the regions would do is refused
+pub may_refuse : {A : Type 0} (answer result : Result A Refusal) (told : A) (why : Refusal) → answer ≡ Ok told → result ≡ Err why → why ≡ refusal.Memory → MayAnswer answer result
+may_refuse answer result told why does refused memory = rw (does, refused, memory) (inr refl)

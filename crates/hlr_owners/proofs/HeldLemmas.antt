@@ -1,10 +1,6 @@
 -- The rules of one owner: those of a holding and of a loose piece, and what follows from them.
-use Rattle.hlr_owners.proofs.Common.{◌≡◌, ℕ, ◌<◌, ◌^◌, refl, arith, rules, ℤ, pos, neg_ℤ, ◌≤ℤ◌, ints, empty_book, IsRowsOf, CELLS, Region, net_of, nobody, delta_at, HoldingState, PieceState, IsHolding, IsPiece, few, OwnerState, of_holding, of_piece, IsLawful, IsOwnerState, IsOpened}
+use Rattle.hlr_owners.proofs.Common.{◌≡◌, ℕ, ◌<◌, ◌^◌, refl, arith, ℤ, pos, neg_ℤ, ◌≤ℤ◌, ints, empty_book, CELLS, Region, net_of, nobody, delta_at, HoldingState, PieceState, IsHolding, IsPiece, few, OwnerState, of_holding, of_piece, IsLawful, IsOwnerState, IsOpened}
 use Rattle.view_board.specs.Nets.{net_from}
-
--- an empty book keeps the rules
-pub empty_rows : (lo hi : ℕ) → IsRowsOf lo hi empty_book
-empty_rows lo hi = search rules
 
 -- a holding keeps the local law
 pub holding_keeps : (holding : HoldingState) → IsHolding holding → IsLawful (of_holding holding)

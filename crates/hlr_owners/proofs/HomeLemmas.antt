@@ -1,15 +1,9 @@
 -- Who is at home: all parts, the part with a number, and whoever has an s_id.
-use Rattle.hlr_owners.proofs.Common.{by_test, ◌≡◌, refl, ℕ, zero, suc, ◌<◌, List, [], ◌∷◌, Bool, true, length, get_or, drop, arith, Some, None, ◌-◌, false, Option, position, IfOk, ◌↔◌, IsTrue, AllByRecursion, list_all, get_or_past, position-Some, Refusal, each_at, recut_answer, lies_in, CutMove, place_of, Place, is_part_there, blank, place_at, AreHome, PartOwnerState, IsHomeToCut, IsHomeToMove, is_home, homes_in, IsKind, OwnersState, AreOwners, IsPartHome, IsPlaceHome, IsHomeFor, AllHome, RegionOwner, Part, Piece}
-use Rattle.std.proofs.Common.{Result, Ok, Err}
+use Rattle.hlr_owners.proofs.Common.{by_test, ◌≡◌, refl, ℕ, zero, suc, ◌<◌, List, [], ◌∷◌, Bool, true, length, get_or, drop, arith, Some, ◌-◌, false, Option, position, IfOk, ◌↔◌, IsTrue, AllByRecursion, list_all, get_or_past, position-Some, Refusal, each_at, recut_answer, lies_in, CutMove, place_of, Place, is_part_there, blank, place_at, AreHome, PartOwnerState, IsHomeToCut, IsHomeToMove, is_home, homes_in, IsKind, OwnersState, AreOwners, IsPartHome, IsPlaceHome, IsHomeFor, AllHome, RegionOwner, Part, Piece, Result, Ok, Err}
 use Rattle.part_table.specs.declared.region.Place.TheVariants as place
+use Rattle.hlr_owners.proofs.ListLemmas.{each_drop}
 use Rattle.hlr_owners.proofs.PartLemmas.{part_state_home}
 use Rattle.hlr_owners.proofs.RegionOwnerLemmas.{owner_is, owner_there}
-
--- each of a list of trues is true, and what is behind them counts as true
-trues_at : (homes : List Bool) (p : ℕ) → AllByRecursion (λ (home : Bool). home ≡ true) homes → get_or homes p true ≡ true
-trues_at [] p all = get_or_past [] p true (omega arith)
-trues_at (home ∷ homes) zero all = all.0
-trues_at (home ∷ homes) (suc p) all = trues_at homes p all.1
 
 -- with all from one on at home that one is, and so are all behind it
 pub first_home : (homes : List Bool) (p : ℕ) → AllByRecursion (λ (home : Bool). home ≡ true) (drop p homes) → get_or homes p true ≡ true
@@ -18,19 +12,17 @@ first_home (home ∷ homes) zero all = all.0
 first_home (home ∷ homes) (suc p) all = first_home homes p all
 
 pub later_home : (homes : List Bool) (p : ℕ) → AllByRecursion (λ (home : Bool). home ≡ true) (drop p homes) → AllByRecursion (λ (home : Bool). home ≡ true) (drop (suc p) homes)
-later_home [] zero all = tt
-later_home [] (suc p) all = tt
+later_home [] p all = tt
 later_home (home ∷ homes) zero all = all.1
 later_home (home ∷ homes) (suc p) all = later_home homes p all
 
 -- with all parts at home each is, and whoever has an s_id
 pub part_home_of_all : (p : ℕ) (h : OwnersState) → AllHome h.owners → IsPartHome p h
-part_home_of_all p h all = trues_at (homes_in h.owners) p all
+part_home_of_all p h all = first_home (homes_in h.owners) p (each_drop (λ (home : Bool). home ≡ true) (homes_in h.owners) p all)
 
 place_home_of_all : (o : Option Place) (h : OwnersState) → AllHome h.owners → IsPlaceHome o h
 place_home_of_all (Some (place.Part p)) h all = part_home_of_all p h all
-place_home_of_all (Some (place.Piece n)) h all = tt
-place_home_of_all None h all = tt
+place_home_of_all o h all = tt
 
 pub home_of_all : (s_id : ℕ) (h : OwnersState) → AllHome h.owners → IsHomeFor s_id h
 home_of_all s_id h all = place_home_of_all (place_of s_id h.regions) h all

@@ -3,7 +3,7 @@ use Rattle.hlr_owners.proofs.Common.{IsWide, ◌≡◌, ◌∙◌, refl, sym, ap
 use Rattle.hlr_owners.proofs.ZipLemmas.{each_while_out, sum_while_out}
 use Rattle.hlr_owners.proofs.StateLemmas.{lies_within}
 use Rattle.hlr_owners.proofs.DeskLemmas.{same_one}
-use Rattle.hlr_owners.proofs.PostLemmas.{desks_posted}
+use Rattle.hlr_owners.proofs.PostedLemmas.{desks_posted}
 use Rattle.hlr_owners.proofs.PartLemmas.{ahead, at_ahead, set_ahead}
 use Rattle.hlr_owners.proofs.RegionOwnerLemmas.{exchanged, part_kind, owner_is, region_there, region_behind}
 
@@ -16,17 +16,15 @@ owner_later width r (Part l) (Part m) later is = record {
   kind = part_kind r.place l m is.kind;
   state = record { from = later.0.lo ∙ is.state.from; to = later.0.hi ∙ is.state.to; zones = later.0.width ∙ is.state.zones; keeps = later.1 is.state.keeps };
 }
-owner_later width r (Part l) (Piece b) later is = absurd later
-owner_later width r (Piece a) (Part m) later is = absurd later
 owner_later width r (Piece a) (Piece b) later is = rw later is
+owner_later width r s t later is = absurd later
 
 zip_later : (width : ℕ) (regions : List Region) (owners ks : List RegionOwner) → AllZip IsLaterOwner owners ks → AllZip (IsRegionOwner width) regions owners → AllZip (IsRegionOwner width) regions ks
 zip_later width [] [] [] later each = tt
-zip_later width [] [] (k ∷ ks) later each = absurd later
 zip_later width [] (s ∷ owners) ks later each = absurd each
 zip_later width (r ∷ regions) [] ks later each = absurd each
-zip_later width (r ∷ regions) (s ∷ owners) [] later each = absurd later
 zip_later width (r ∷ regions) (s ∷ owners) (k ∷ ks) later each = (owner_later width r s k later.0 each.0, zip_later width regions owners ks later.1 each.1)
+zip_later width regions owners ks later each = absurd later
 
 pub ruled_later : (h : OwnersState) (ks : List RegionOwner) → AreOwners h → AllZip IsLaterOwner h.owners ks → AreOwners (record h { owners = ks })
 ruled_later h ks are later = record { are = are.are; each = zip_later h.width h.regions h.owners ks later are.each; zones = are.zones }
@@ -39,12 +37,10 @@ pub record IsLaterDesk (before after : Station) : Type 0 where
 
 desks_zip : (owners ks : List RegionOwner) → AllZip IsLaterOwner owners ks → AllZip IsLaterDesk (desks_in owners) (desks_in ks)
 desks_zip [] [] later = tt
-desks_zip [] (k ∷ ks) later = absurd later
-desks_zip (s ∷ owners) [] later = absurd later
 desks_zip (Part l ∷ owners) (Part m ∷ ks) later = (record { board = later.0.0.board; owned = later.0.0.owned; wide = later.0.2 }, desks_zip owners ks later.1)
-desks_zip (Part l ∷ owners) (Piece b ∷ ks) later = absurd later.0
-desks_zip (Piece a ∷ owners) (Part m ∷ ks) later = absurd later.0
 desks_zip (Piece a ∷ owners) (Piece b ∷ ks) later = desks_zip owners ks later.1
+desks_zip (s ∷ owners) (k ∷ ks) later = absurd later.0
+desks_zip owners ks later = absurd later
 
 -- and their desks share the slots
 pub desks_later : (board : TableId) (spare : Station) (owners ks : List RegionOwner) → AllZip IsLaterOwner owners ks → AreDesks board spare (desks_in owners) → AreDesks board spare (desks_in ks)
@@ -70,10 +66,9 @@ later_self (Piece b ∷ owners) = (refl, later_self owners)
 
 -- a holding that comes home has a place
 back_there : (owners : List RegionOwner) (i : ℕ) (k : HoldingState) → IsBackFor (slice_get owners i) k → (l : PartOwnerState) × (Part l ≡ get_or owners i (Part l)) × (i < length owners) × (l.home ≡ false) × IsSameOwner l.holding k
-back_there [] i k back = absurd back
 back_there (Part l ∷ owners) zero k back = (l, refl, omega arith, back.0, back.1)
-back_there (Piece b ∷ owners) zero k back = absurd back
 back_there (s ∷ owners) (suc i) k back = let rest = back_there owners i k back in let lt = rest.2 in (rest.0, rest.1, omega arith, rest.3, rest.4)
+back_there owners i k back = absurd back
 
 -- an s_id lies in one region
 pub lies_once : (from s_id : ℕ) (regions : List Region) (i j : ℕ) → IsConsecutive from regions → i < length regions → j < length regions
@@ -82,14 +77,10 @@ lies_once from s_id [] i j consecutive lt below one two = absurd (omega arith)
 lies_once from s_id (r ∷ regions) zero zero consecutive lt below one two = refl
 lies_once from s_id (r ∷ regions) zero (suc j) consecutive lt below one two =
     let behind = region_behind r.hi regions j blank consecutive.2 (omega arith) in
-    let under = (lies_within s_id r one).1 in
-    let above = (lies_within s_id (get_or regions j blank) two).0 in
-    absurd (omega arith)
+    absurd (omega (arith, (lies_within s_id r one).1, (lies_within s_id (get_or regions j blank) two).0))
 lies_once from s_id (r ∷ regions) (suc i) zero consecutive lt below one two =
     let behind = region_behind r.hi regions i blank consecutive.2 (omega arith) in
-    let under = (lies_within s_id r two).1 in
-    let above = (lies_within s_id (get_or regions i blank) one).0 in
-    absurd (omega arith)
+    absurd (omega (arith, (lies_within s_id r two).1, (lies_within s_id (get_or regions i blank) one).0))
 lies_once from s_id (r ∷ regions) (suc i) (suc j) consecutive lt below one two = ap suc (lies_once r.hi s_id regions i j consecutive.2 (omega arith) (omega arith) one two)
 
 -- which is that of its first subscriber

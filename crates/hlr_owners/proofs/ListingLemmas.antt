@@ -1,6 +1,5 @@
 -- Rows that no action reads: those of a part are those of all, and the first from a subscriber on.
-use Rattle.hlr_owners.proofs.Common.{◌≡◌, ◌∙◌, refl, sym, ap, ℕ, zero, suc, ◌<◌, ◌≤◌, ◌==◌, arith, drop, get_or, length, List, [], ◌∷◌, ◌++◌, Bool, true, false, Some, None, Err, nat_le, position, ok_or, AllByRecursion, filter, nat_tests, position-Some, by_test, each-weaker, facility_type, forwarding_type, forwarding_ranges, key_of, facility_key, forwarding_key, subscriber_key, row_at, SubscriberRow, SpecialFacilityRow, CallForwardingRow, facility_in_range, forwarding_in_range, subscriber_in_range, Refusal, Book, IsBook, IsWithin, facility_at, first_subscriber, forwarding_at, is_within, rows_between, subscriber_at, lies_in, Region, blank, is_loose, HasRowsOf, row_answer, PartOwnerState, AreOwners, OwnersState, book_in, state_of, store_in, Store, RegionOwner, Part}
-use Rattle.std.proofs.Common.{Option}
+use Rattle.hlr_owners.proofs.Common.{◌≡◌, ◌∙◌, refl, sym, ap, ℕ, zero, suc, ◌<◌, ◌≤◌, ◌==◌, arith, drop, get_or, length, List, [], ◌∷◌, ◌++◌, Bool, true, false, Some, None, Err, nat_le, position, ok_or, AllByRecursion, filter, nat_tests, position-Some, by_test, each-weaker, facility_type, forwarding_type, forwarding_ranges, key_of, facility_key, forwarding_key, subscriber_key, row_at, SubscriberRow, SpecialFacilityRow, CallForwardingRow, facility_in_range, forwarding_in_range, subscriber_in_range, Refusal, Book, IsBook, IsWithin, facility_at, first_subscriber, forwarding_at, is_within, rows_between, subscriber_at, lies_in, Region, blank, is_loose, HasRowsOf, row_answer, PartOwnerState, AreOwners, OwnersState, book_in, state_of, store_in, Store, RegionOwner, Part, Option}
 use Rattle.tatp_rows.specs.declared.refusal.Refusal.TheVariants as refusal
 use Rattle.hlr_owners.proofs.StateLemmas.{lies_within}
 use Rattle.hlr_owners.proofs.RegionOwnerLemmas.{part_not_loose, read_answer, owner_in, ruled_rows}
@@ -95,7 +94,6 @@ rows_next zero (one ∷ owners) owner low is = rw is refl
 rows_next (suc k) (one ∷ owners) owner low is = rows_next k owners owner (omega arith) is
 
 pub rows_past : (k : ℕ) (owners : List RegionOwner) → length owners ≤ k → rows_from k owners ≡ []
-rows_past zero [] past = refl
 rows_past zero (one ∷ owners) past = absurd (omega arith)
-rows_past (suc k) [] past = refl
 rows_past (suc k) (one ∷ owners) past = rows_past k owners (omega arith)
+rows_past k owners past = refl

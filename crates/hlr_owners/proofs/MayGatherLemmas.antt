@@ -2,7 +2,7 @@
 -- and put back.
 use Rattle.hlr_owners.proofs.Common.{◌≡◌, ◌∙◌, ℕ, ◌+◌, arith, List, [], ◌∷◌, ◌++◌, length, map, refl, Box, sum_by, AllByRecursion, Global, map-append, sum_by-cons, sum_by_push, TableId, Station, with_view, first_view, looked, WORDS, HoldingState, each-append, each-left, each-right, desk_of, owns_one, AreOpening, HasOneSlot, MayGather, map_boxed, unboxed}
 use Rattle.hlr_owners.proofs.DeskLemmas.{same_one}
-use Rattle.hlr_owners.proofs.FilterLemmas.{map_twice}
+use Rattle.hlr_owners.proofs.ListLemmas.{map_twice}
 use Rattle.hlr_owners.proofs.ShareLemmas.{none_shared, first_of_board, shared_desks}
 
 -- a desk of the same board that has the same slots
@@ -43,8 +43,7 @@ module _ (rest : List (Box HoldingState Global)) (first second : Box HoldingStat
   owned_by_two spare slot =
       let head = sum_by-cons (owns_one slot) spare ((map_boxed desk_of rest ++ first.value.desk ∷ []) ++ second.value.desk ∷ []) in
       let last = sum_by_push (owns_one slot) (map_boxed desk_of rest ++ first.value.desk ∷ []) second.value.desk in
-      let before = sum_by_push (owns_one slot) (map_boxed desk_of rest) first.value.desk in
-      rw desks_of_two (omega arith)
+      rw desks_of_two (omega (arith, sum_by_push (owns_one slot) (map_boxed desk_of rest) first.value.desk))
 
   -- what holds of each of their desks and of each in front of them
   each_with_two : (P : Station → Type 0) → AllByRecursion P (map_boxed desk_of rest) → P first.value.desk → P second.value.desk → AllByRecursion P (map desk_of (unboxed ((rest ++ first ∷ []) ++ second ∷ [])))

@@ -1,22 +1,16 @@
 -- The desks where a part is divided, and where one is dissolved: the rules are kept, and what becomes of the words.
-use Rattle.hlr_owners.proofs.Common.{◌≡◌, ◌∙◌, refl, sym, ap, ℕ, zero, suc, ◌+◌, ◌/◌, ◌%◌, ◌<◌, ◌≤◌, ◌≢◌, ◌==◌, max, nat_lt, arith, List, [], ◌∷◌, length, get_or, map, Bool, true, false, inl, inr, Some, insert, remove, slice_get, pos, sum_by, AllByRecursion, or-false, cases_eq, cases_lt, nat_tests, get_or_past, ext_get_or, sum_by-cons, sum_by-insert, sum_by-remove, slice_get_within, get_or_from_slice_get, TableId, by_test, each_at, CELLS, Station, with_view, owned_at, Owns, IsLeastSlot, IsWide, alone, without, both, taken_back, each_word, plus_word, minus_word, twin_of, leveled, slot_net, SLOTS, SLOT_WORDS, WORDS, again, owned_by_one, owned_by_both, number_theirs, number_ours, seen_both, not_theirs, each_slot_at, length-each_slot, each_word_at, length-each_word, set_within, IsBlankDesk, own_number, owns_one, words_of, slots_in, HasOneSlot, IsOfBoard, AreDesks, free_slot, least_slot, no_net, leveled_here, level_of, owns_alone, wide_alone, wide_without, net_none, only_slot, was_owned}
-use Rattle.std.proofs.Common.{◌||◌, if◌then◌else◌}
-use Rattle.hlr_owners.proofs.DeskLemmas.{words_at, none_owns, one_owns, sole_number, least_of_slots}
-use Rattle.hlr_owners.proofs.FreeSlotLemmas.{has_slot, free_is}
-use Rattle.hlr_owners.proofs.ShareLemmas.{alone_slots, split_once}
+use Rattle.hlr_owners.proofs.Common.{◌≡◌, ◌∙◌, refl, sym, ap, ℕ, suc, ◌+◌, ◌/◌, ◌%◌, ◌<◌, ◌≤◌, ◌≢◌, ◌==◌, max, nat_lt, arith, List, [], ◌∷◌, length, get_or, map, Bool, true, false, inl, inr, Some, insert, remove, slice_get, pos, sum_by, AllByRecursion, or-false, cases_eq, cases_lt, nat_tests, get_or_past, ext_get_or, sum_by-cons, sum_by-insert, sum_by-remove, slice_get_within, get_or_from_slice_get, TableId, by_test, each_at, CELLS, Station, with_view, owned_at, Owns, IsLeastSlot, IsWide, alone, without, both, taken_back, each_word, plus_word, minus_word, twin_of, leveled, slot_net, SLOTS, SLOT_WORDS, WORDS, again, owned_by_one, owned_by_both, number_theirs, number_ours, seen_both, not_theirs, each_slot_at, length-each_slot, each_word_at, length-each_word, set_within, IsBlankDesk, own_number, owns_one, words_of, slots_in, HasOneSlot, IsOfBoard, AreDesks, free_slot, least_slot, no_net, leveled_here, level_of, owns_alone, wide_alone, wide_without, net_none, only_slot, was_owned, each-append, take, drop, ◌||◌, if◌then◌else◌}
+use Rattle.hlr_owners.proofs.DeskLemmas.{words_at, none_owns, one_owns, sole_number, least_of_slots, only_listed}
+use Rattle.hlr_owners.proofs.ListLemmas.{each_take, each_drop}
+use Rattle.hlr_owners.proofs.SightLemmas.{has_slot, free_is}
+use Rattle.hlr_owners.proofs.ShareLemmas.{split_once}
 
 -- what holds of each holds with one more, and without one
 each_insert : {X : Type 0} (P : X → Type 0) (xs : List X) (i : ℕ) (x : X) → AllByRecursion P xs → P x → AllByRecursion P (insert xs i x)
-each_insert P [] zero x each new = (new, tt)
-each_insert P [] (suc i) x each new = (new, tt)
-each_insert P (first ∷ xs) zero x each new = (new, each)
-each_insert P (first ∷ xs) (suc i) x each new = (each.0, each_insert P xs i x each.1 new)
+each_insert P xs i x each new = each-append P (take i xs) (x ∷ drop i xs) (each_take P xs i each) (new, each_drop P xs i each)
 
 each_remove : {X : Type 0} (P : X → Type 0) (xs : List X) (i : ℕ) → AllByRecursion P xs → AllByRecursion P (remove xs i)
-each_remove P [] zero each = tt
-each_remove P [] (suc i) each = tt
-each_remove P (first ∷ xs) zero each = each.1
-each_remove P (first ∷ xs) (suc i) each = (each.0, each_remove P xs i each.1)
+each_remove P xs i each = each-append P (take i xs) (drop (suc i) xs) (each_take P xs i each) (each_drop P xs (suc i) each)
 
 -- a number that either of two desks has, where their flags add up to that of one desk
 number_of_two : (one other whole : Bool) (n : ℕ) → (if one then 1 else 0) + (if other then 1 else 0) ≡ (if whole then 1 else 0)
@@ -53,7 +47,7 @@ module _ (board : TableId) (spare : Station) (desks : List Station) (rules : Are
 
     -- and the only one that it lists
     pub slots_new : slots_in new ≡ slot ∷ []
-    slots_new = alone_slots spare slot in_board
+    slots_new = only_listed new slot in_board (owns_alone spare.view slot in_board)
 
     -- put back, it leaves the spare desk as it was
     pub rejoined : spare.view.was_apart ≡ true → with_view left (both left.view new.view) ≡ spare
@@ -139,12 +133,9 @@ module _ (board : TableId) (spare : Station) (desks : List Station) (rules : Are
   -- no slot is both's
   apart : (s : ℕ) → Owns spare.view s → Owns d.view s → ⊥
   apart s mine theirs =
-      let low = set_within spare.view.owned s mine in
-      let once = rules.shares.once s (omega (arith, rules.of_board.0.wide.slots)) in
-      let head = sum_by-cons (owns_one s) spare desks in
+      let once = rules.shares.once s (omega (arith, rules.of_board.0.wide.slots, set_within spare.view.owned s mine)) in
       let one : owns_one s spare ≡ 1 = rw mine refl in
-      let other = one_owns desks i s d within is theirs in
-      absurd (omega arith)
+      absurd (omega (arith, sum_by-cons (owns_one s) spare desks, one_owns desks i s d within is theirs))
 
   -- a sum over the desks that are left
   removed : (f : Station → ℕ) → sum_by f (remove desks i) + f d ≡ sum_by f desks
@@ -165,12 +156,8 @@ module _ (board : TableId) (spare : Station) (desks : List Station) (rules : Are
   -- each slot is still of one desk
   desks_once : (s : ℕ) → s < SLOTS → sum_by (owns_one s) (whole ∷ remove desks i) ≡ 1
   desks_once s below =
-      let was = rules.shares.once s below in
-      let before = sum_by-cons (owns_one s) spare desks in
-      let after = sum_by-cons (owns_one s) whole (remove desks i) in
-      let less = removed (owns_one s) in
       let both : owns_one s whole ≡ owns_one s spare + owns_one s d = rw (whole_owned s below) (one_of_two (owned_at spare.view s) (owned_at d.view s) (apart s)) in
-      omega arith
+      omega (arith, rules.shares.once s below, sum_by-cons (owns_one s) spare desks, sum_by-cons (owns_one s) whole (remove desks i), removed (owns_one s))
 
   -- a slot of its own keeps its net of 0, and the one that it took in has none
   net_ours : (s : ℕ) → s < SLOTS → Owns spare.view s → (c : ℕ) → c < CELLS → slot_net whole.view.numbers c s ≡ slot_net spare.view.numbers c s
@@ -207,11 +194,8 @@ module _ (board : TableId) (spare : Station) (desks : List Station) (rules : Are
 
   none_left : sum_by (owns_one slot) (remove desks i) ≡ 0
   none_left =
-      let once = rules.shares.once slot in_board in
-      let head = sum_by-cons (owns_one slot) spare desks in
-      let less = removed (owns_one slot) in
       let one : owns_one slot d ≡ 1 = rw least.0 refl in
-      omega arith
+      omega (arith, rules.shares.once slot in_board, sum_by-cons (owns_one slot) spare desks, removed (owns_one slot))
 
   -- a word of the slot is the greater of the two words of its cell
   word_here : (w : ℕ) → w < WORDS → w / SLOT_WORDS ≡ slot → sum_by (own_number w) (whole ∷ remove desks i) ≡ max (get_or (words_of (spare ∷ desks)) w 0) (get_or (words_of (spare ∷ desks)) (twin_of w) 0)
@@ -220,10 +204,8 @@ module _ (board : TableId) (spare : Station) (desks : List Station) (rules : Are
       let rest = none_owns (remove desks i) slot w own none_left in
       let theirs : Owns back.view (w / SLOT_WORDS) = rw own least.0 in
       let mine : own_number w whole ≡ get_or whole.view.numbers w 0 = rw (owned_by_both spare.view back.view (w / SLOT_WORDS) (omega arith) (inr theirs)) refl in
-      let number = number_theirs spare.view back.view w below theirs in
-      let level = leveled_here slot d.view.numbers w in_board own in
       let twin = twin_within slot w in_board own in
-      rw (number_here w below own, number_here (twin_of w) twin.0 twin.1) (omega arith)
+      rw (number_here w below own, number_here (twin_of w) twin.0 twin.1) (omega (arith, number_theirs spare.view back.view w below theirs, leveled_here slot d.view.numbers w in_board own))
 
   -- any other word stays
   word_else : (w : ℕ) → w < WORDS → w / SLOT_WORDS ≢ slot → sum_by (own_number w) (whole ∷ remove desks i) ≡ get_or (words_of (spare ∷ desks)) w 0
@@ -233,16 +215,12 @@ module _ (board : TableId) (spare : Station) (desks : List Station) (rules : Are
       let number = number_ours spare.view back.view w below not_theirs in
       let same : own_number w whole ≡ own_number w spare = λ k. if flag k then number k else 0 in
       let none : own_number w d ≡ 0 = rw not_theirs refl in
-      let after = sum_by-cons (own_number w) whole (remove desks i) in
-      let before = sum_by-cons (own_number w) spare desks in
-      let less = removed (own_number w) in
-      let is = words_at (spare ∷ desks) w below in
-      omega arith
+      omega (arith, sum_by-cons (own_number w) whole (remove desks i), sum_by-cons (own_number w) spare desks, removed (own_number w), words_at (spare ∷ desks) w below)
 
   -- so the words are leveled in that slot
   pub words_dissolved : words_of (whole ∷ remove desks i) ≡ leveled (least_slot (slots_in d)) (words_of (spare ∷ desks))
   words_dissolved =
-      rw (least_of_slots d slot in_board least)
+      rw (least_of_slots d slot in_board (least.0, only))
       (each_word_same (λ w. sum_by (own_number w) (whole ∷ remove desks i)) (level_of slot (words_of (spare ∷ desks)))
       (λ w below. elim (cases_eq (w / SLOT_WORDS) slot) [
         | inl own ↦ (let test : (w / SLOT_WORDS == slot) ≡ true = grind (arith, nat_tests, own) in rw test (word_here w below own))

@@ -36,9 +36,8 @@ module _ {X : Type 0} (f : PartOwnerState → X) where
     where
       one : (q : Place) (t : RegionOwner) → IsKind q t → length (of_parts f owners) ≡ length (parts_of regions) → length (of_part f t ++ of_parts f owners) ≡ length (part_number q ++ parts_of regions)
       one (place.Part p) (Part l) kind rest = ap suc rest
-      one (place.Part p) (Piece b) kind rest = absurd kind
-      one (place.Piece n) (Part l) kind rest = absurd kind
       one (place.Piece n) (Piece b) kind rest = rest
+      one q t kind rest = absurd kind
 
 -- the number of the part at an index
 number_here : (p a n : ℕ) (q : Place) (others : List ℕ) → is_part_place p q ≡ true → part_number q ++ others ≡ range_with_len a n → a ≡ p
@@ -54,11 +53,9 @@ number_behind : (a n : ℕ) (q : Place) (s : RegionOwner) (owners : List RegionO
 number_behind a zero (place.Part m) (Part l) owners others i p kind order more = absurd cc
 number_behind a (suc n) (place.Part m) (Part l) owners others i p kind order more =
     let rest : others ≡ range_with_len (a + 1) n = cc in
-    let number = more (a + 1) n rest in
-    omega arith
-number_behind a n (place.Part m) (Piece b) owners others i p kind order more = absurd kind
-number_behind a n (place.Piece m) (Part l) owners others i p kind order more = absurd kind
+    omega (arith, more (a + 1) n rest)
 number_behind a n (place.Piece m) (Piece b) owners others i p kind order more = more a n order
+number_behind a n q s owners others i p kind order more = absurd kind
 
 number_ahead : (width a n p : ℕ) (regions : List Region) (owners : List RegionOwner) (i : ℕ) → AllZip (IsRegionOwner width) regions owners → parts_of regions ≡ range_with_len a n → i < length regions
     → is_part p (get_or regions i blank) ≡ true → a + ahead owners i ≡ p
@@ -71,9 +68,8 @@ number_ahead width a n p (r ∷ regions) (s ∷ owners) (suc i) each order lt is
 -- no part at home has a number behind the last
 pub none_home : (h : OwnersState) (are : AreOwners h) (p : ℕ) → position (is_part p) h.regions ≡ None → get_or (homes_in h.owners) p false ≡ false
 none_home h are p none =
-    let past = past_parts p h.regions are.are none in
     let count = count_parts (λ (o : PartOwnerState). o.home) h.width h.regions h.owners are.each in
-    get_or_past (homes_in h.owners) p false (omega arith)
+    get_or_past (homes_in h.owners) p false (omega (arith, past_parts p h.regions are.are none))
 
 -- the owner of a part: beside its region
 module _ (h : OwnersState) (are : AreOwners h) (p i : ℕ) (within : i < length h.regions) (of_part_p : is_part p (get_or h.regions i blank) ≡ true) where

@@ -1,6 +1,5 @@
 -- What is read of one part's rows is what all rows answer.
-use Rattle.hlr_owners.proofs.Common.{◌≡◌, refl, sym, ℕ, ◌+◌, List, [], ◌∷◌, length, true, false, inl, inr, arith, nat_tests, ArrayVec, array_vec_len, is_between, LAST_SUBSCRIBER, Refusal, s_id_of, effect, is_in_range, new_destination, Book, IsWithin, Action, RowReply, HoldingState, is_loose, HasRowsWhileOut, IsReadWhileOut, store_with, HasRowsOf, IsRead, OwnersState, store_in, Store}
-use Rattle.std.specs.Prelude.{◌==◌}
+use Rattle.hlr_owners.proofs.Common.{◌≡◌, refl, sym, ℕ, ◌+◌, List, [], ◌∷◌, length, true, false, inl, inr, arith, nat_tests, ArrayVec, array_vec_len, is_between, LAST_SUBSCRIBER, Refusal, s_id_of, effect, is_in_range, new_destination, Book, IsWithin, Action, RowReply, HoldingState, is_loose, HasRowsWhileOut, IsReadWhileOut, store_with, HasRowsOf, IsRead, OwnersState, store_in, Store, ◌==◌}
 use Rattle.tatp_rows.specs.declared.refusal.Refusal.TheVariants as refusal
 use Rattle.tatp_actions.specs.declared.action.RowReply.TheVariants as row_reply
 

@@ -58,6 +58,5 @@ all_moves bounds moves i before now past moving =
 
 -- a re-cut leaves the book
 pub recut_stays : (moves : Result (List CutMove) Refusal) (bounds : List ℕ) (before after : Store) (answer : Result ℕ Refusal) → IsRecutBy moves bounds before answer after → after.book ≡ before.book
-recut_stays (Err why) bounds before after answer done = ap (λ (s : Store). s.book) done.1
 recut_stays (Ok moves) bounds before after (Ok count) done = ap (λ (s : Store). s.book) done.1
-recut_stays (Ok moves) bounds before after (Err why) done = ap (λ (s : Store). s.book) done.1
+recut_stays moves bounds before after answer done = ap (λ (s : Store). s.book) done.1

@@ -6,25 +6,12 @@ use Rattle.part_table.specs.declared.region.Place.TheVariants as place
 use Rattle.hlr_owners.proofs.HeldLemmas.{holding_keeps}
 use Rattle.hlr_owners.proofs.HalvesLemmas.{HasRows, IsOwnerIn}
 use Rattle.hlr_owners.proofs.StateLemmas.{book_of_states, own_region, state_rows, states_rows, lies_within, book_stays}
-use Rattle.hlr_owners.proofs.IndexedLemmas.{set_same}
-use Rattle.hlr_owners.proofs.ZipLemmas.{zip_at, zip_put, zip_from_two, zip_weaker}
-
--- a fact of states is one of owners
-pub zip_owners : (Q : Region → OwnerState → Type 0) (regions : List Region) (owners : List RegionOwner) → AllZip Q regions (states_in owners) → AllZip (λ (r : Region) (s : RegionOwner). Q r (state_of s)) regions owners
-zip_owners Q [] [] each = tt
-zip_owners Q [] (s ∷ owners) each = absurd each
-zip_owners Q (r ∷ regions) [] each = absurd each
-zip_owners Q (r ∷ regions) (s ∷ owners) each = (each.0, zip_owners Q regions owners each.1)
-
-pub zip_states : (Q : Region → OwnerState → Type 0) (regions : List Region) (owners : List RegionOwner) → AllZip (λ (r : Region) (s : RegionOwner). Q r (state_of s)) regions owners → AllZip Q regions (states_in owners)
-zip_states Q [] [] each = tt
-zip_states Q [] (s ∷ owners) each = absurd each
-zip_states Q (r ∷ regions) [] each = absurd each
-zip_states Q (r ∷ regions) (s ∷ owners) each = (each.0, zip_states Q regions owners each.1)
+use Rattle.hlr_owners.proofs.ListLemmas.{set_same}
+use Rattle.hlr_owners.proofs.ZipLemmas.{zip_at, zip_put, zip_from_two, zip_mapped, zip_weaker}
 
 -- the owners beside their regions
 pub owned : (width : ℕ) (regions : List Region) (owners : List RegionOwner) → AllZip (IsRegionOwner width) regions owners → AreOwnerStates width regions (states_in owners)
-owned width regions owners each = zip_states (IsOwnerState width) regions owners (zip_weaker {P = IsRegionOwner width} {Q = λ (r : Region) (s : RegionOwner). IsOwnerState width r (state_of s)} (λ r s is. is.state) regions owners each)
+owned width regions owners each = zip_mapped state_of (IsRegionOwner width) (IsOwnerState width) (λ r s is. is.state) regions owners each
 
 -- an owner beside a region, of its kind, with its rows in a book
 pub record IsRegionOwnerIn (width : ℕ) (book : Book) (region : Region) (owner : RegionOwner) : Type 0 where
@@ -44,9 +31,9 @@ module _ (h : OwnersState) (are : AreOwners h) where
   ruled_rows = state_rows h.width 1 h.regions (states_in h.owners) (owned h.width h.regions h.owners are.each) are.are.consecutive
 
   pub each_in : AllZip (IsRegionOwnerIn h.width (book_in h.owners)) h.regions h.owners
-  each_in = zip_from_two {P = IsRegionOwner h.width} {Q = λ (r : Region) (s : RegionOwner). HasRows (book_in h.owners) r (state_of s)} {R = IsRegionOwnerIn h.width (book_in h.owners)}
+  each_in = zip_from_two state_of (IsRegionOwner h.width) (HasRows (book_in h.owners)) {R = IsRegionOwnerIn h.width (book_in h.owners)}
       (λ r s is has. record { kind = is.kind; state = record { is = is.state; has = has } }) h.regions h.owners are.each
-      (zip_owners (HasRows (book_in h.owners)) h.regions h.owners (states_rows h.width 1 h.regions (states_in h.owners) (owned h.width h.regions h.owners are.each) are.are.consecutive))
+      (states_rows h.width 1 h.regions (states_in h.owners) (owned h.width h.regions h.owners are.each) are.are.consecutive)
 
   pub owner_in : (i : ℕ) (s : RegionOwner) → s ≡ get_or h.owners i s → i < length h.regions → IsRegionOwnerIn h.width (book_in h.owners) (get_or h.regions i blank) s
   owner_in i s is within = rw is (zip_at (IsRegionOwnerIn h.width (book_in h.owners)) h.regions h.owners i blank s each_in within)
@@ -60,8 +47,8 @@ module _ (h : OwnersState) (are : AreOwners h) where
       each = zip_weaker {P = IsRegionOwnerIn h.width (book_in h.owners)} {Q = IsRegionOwner h.width} (λ r s is. record { kind = is.kind; state = is.state.is }) regions owners each;
       zones = are.zones;
     },
-    book_stays regions (states_in owners) (book_in h.owners) ruled_rows right.consecutive (zip_states (HasRows (book_in h.owners)) regions owners
-        (zip_weaker {P = IsRegionOwnerIn h.width (book_in h.owners)} {Q = λ (r : Region) (s : RegionOwner). HasRows (book_in h.owners) r (state_of s)} (λ r s is. is.state.has) regions owners each)),
+    book_stays regions (states_in owners) (book_in h.owners) ruled_rows right.consecutive
+        (zip_mapped state_of (IsRegionOwnerIn h.width (book_in h.owners)) (HasRows (book_in h.owners)) (λ r s is. is.state.has) regions owners each),
   )
 
 -- a region with an index lies behind where they begin
@@ -69,10 +56,8 @@ pub region_behind : (from : ℕ) (regions : List Region) (i : ℕ) (d : Region) 
 region_behind from [] i d consecutive lt = absurd (omega arith)
 region_behind from (r ∷ regions) zero d consecutive lt = let begins = consecutive.0 in omega arith
 region_behind from (r ∷ regions) (suc i) d consecutive lt =
-    let begins = consecutive.0 in
-    let some = consecutive.1 in
     let rest = region_behind r.hi regions i d consecutive.2 (omega arith) in
-    omega arith
+    omega (arith, consecutive.0, consecutive.1)
 
 -- an action on an owner is that action on the rows of all
 pub acts_at : (width from : ℕ) (regions : List Region) (states : List OwnerState) (i : ℕ) (d : Region) (act : Action) (before after : OwnerState) (answer : RowReply)
@@ -83,14 +68,12 @@ acts_at width from (r ∷ regions) [] i d act before after answer each consecuti
 acts_at width from (r ∷ regions) (o ∷ states) zero d act before after answer each consecutive lt is inside done =
     let rest = book_of_states states in
     let parts = apart r.lo r.hi END o.part.book rest (own_region width r o each.0) (state_rows width r.hi regions states each.1 consecutive.2) in
-    let under = (lies_within (s_id_of act) r inside).1 in
-    outcome-low r.hi act o.part.book rest after.part.book answer parts (omega arith) (rw (← is) done)
+    outcome-low r.hi act o.part.book rest after.part.book answer parts (omega (arith, (lies_within (s_id_of act) r inside).1)) (rw (← is) done)
 acts_at width from (r ∷ regions) (o ∷ states) (suc i) d act before after answer each consecutive lt is inside done =
     let rest = book_of_states states in
     let parts = apart r.lo r.hi END o.part.book rest (own_region width r o each.0) (state_rows width r.hi regions states each.1 consecutive.2) in
-    let from = (lies_within (s_id_of act) (get_or regions i d) inside).0 in
     let behind = region_behind r.hi regions i d consecutive.2 (omega arith) in
-    outcome-high r.hi act o.part.book rest (book_of_states (set states i after)) answer parts (omega arith)
+    outcome-high r.hi act o.part.book rest (book_of_states (set states i after)) answer parts (omega (arith, (lies_within (s_id_of act) (get_or regions i d) inside).0))
     (acts_at width r.hi regions states i d act before after answer each.1 consecutive.2 (omega arith) is inside done)
 
 loose_part : (p : Place) (l : PartOwnerState) → IsKind p (Part l) → is_loose_place (Some p) ≡ false
@@ -104,10 +87,9 @@ loose_piece (place.Piece n) b kind = refl
 -- what the parts have, after an edit of the owners
 module _ {X : Type 0} (f : PartOwnerState → X) where
   pub parts-insert : (owners : List RegionOwner) (j : ℕ) (b : Box PieceState Global) → of_parts f (insert owners j (Piece b)) ≡ of_parts f owners
-  parts-insert [] zero b = refl
-  parts-insert [] (suc j) b = refl
-  parts-insert (s ∷ owners) zero b = refl
   parts-insert (s ∷ owners) (suc j) b = ap (λ rest. of_part f s ++ rest) (parts-insert owners j b)
+  parts-insert [] zero b = refl
+  parts-insert owners j b = refl
 
   pub parts-remove : (owners : List RegionOwner) (j : ℕ) (b : Box PieceState Global) → Piece b ≡ get_or owners j (Piece b) → of_parts f (remove owners j) ≡ of_parts f owners
   parts-remove [] zero b is = refl

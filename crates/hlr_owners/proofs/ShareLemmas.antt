@@ -1,8 +1,8 @@
 -- The slots of the board, shared out among desks one after another.
-use Rattle.hlr_owners.proofs.Common.{map-range_with_len_more, ◌≡◌, ◌≢◌, ◌∙◌, refl, sym, ap, ℕ, zero, suc, ◌+◌, ◌*◌, ◌/◌, ◌<◌, ◌≤◌, arith, List, [], ◌∷◌, ◌++◌, length, get_or, set, map, replicate, true, false, Bool, inl, inr, pos, sum_by, AllByRecursion, filter, range_with_len, cases_eq, ints, length-append, get_or-replicate, length-replicate, length-set, map-append, get_or-set_same, get_or-set_other, ext_get_or, sum_by-cons, sum_by_push, TableId, blank_at, by_test, CELLS, each-append, Station, with_view, net_of, owned_at, Owns, IsWide, first_view, alone, without, slot_net, plus_word, minus_word, View, SLOTS, SLOT_WORDS, WORDS, length-each_word, set_within, HasSmallNets, owns_one, own_number, words_of, slots_in, HasOneSlot, IsOfBoard, AreDesks, AreLevel, AreOpening, owns_alone}
+use Rattle.hlr_owners.proofs.Common.{map-range_with_len_more, ◌≡◌, ◌≢◌, ◌∙◌, refl, sym, ap, ℕ, ◌+◌, ◌*◌, ◌/◌, ◌<◌, ◌≤◌, arith, List, [], ◌∷◌, ◌++◌, length, get_or, set, map, replicate, true, false, Bool, inl, inr, pos, sum_by, AllByRecursion, range_with_len, cases_eq, ints, length-append, get_or-replicate, length-replicate, length-set, map-append, get_or-set_same, get_or-set_other, ext_get_or, sum_by-cons, sum_by_push, TableId, blank_at, by_test, CELLS, each-append, Station, with_view, net_of, owned_at, Owns, IsWide, first_view, alone, without, slot_net, plus_word, minus_word, View, SLOTS, SLOT_WORDS, WORDS, length-each_word, set_within, HasSmallNets, owns_one, own_number, words_of, slots_in, HasOneSlot, IsOfBoard, AreDesks, AreLevel, AreOpening, owns_alone}
 use Rattle.view_board.specs.Nets.{net_from}
-use Rattle.hlr_owners.specs.Words.{all_slots, blank_words}
-use Rattle.hlr_owners.proofs.DeskLemmas.{words_at}
+use Rattle.hlr_owners.specs.Words.{blank_words}
+use Rattle.hlr_owners.proofs.DeskLemmas.{only_listed, words_at}
 
 -- the first slots are desks' own, one each, the spare desk has the others and has seen the words, and all desks have
 -- their numbers
@@ -32,34 +32,15 @@ none_shared words spare desks first none = rw none (record {
 pub first_of_board : (words : List ℕ) (board : TableId) (spare : Station) → spare.board ≡ board → spare.view ≡ first_view words → length words ≡ WORDS → IsOfBoard board spare
 first_of_board words board spare same first wide = record { same = same; wide = rw first (record { slots = length-replicate SLOTS true; numbers = wide; seen = wide }) }
 
--- a desk that is split off has its slot alone
-pub alone_at : (v : View) (slot : ℕ) → slot < SLOTS → owned_at (alone v slot) slot ≡ true
-alone_at v slot below = get_or-set_same (replicate SLOTS false) slot true false (rw (length-replicate SLOTS false) below)
-
+-- a desk that is split off has no other slot
 alone_else : (v : View) (slot other : ℕ) → other ≢ slot → owned_at (alone v slot) other ≡ false
 alone_else v slot other differ = get_or-set_other (replicate SLOTS false) slot other true false differ ∙ blank_at SLOTS other false
-
-only_from : (test : ℕ → Bool) (a n slot : ℕ) → a ≤ slot → slot < a + n → test slot ≡ true → ((other : ℕ) → other ≢ slot → test other ≡ false) → filter test (range_with_len a n) ≡ slot ∷ []
-only_from test a zero slot from to is others = absurd (omega arith)
-only_from test a (suc n) slot from to is others = elim (cases_eq a slot) [
-  | inl same ↦ rw (same, is) (ap (λ slots. slot ∷ slots) (none_from (slot + 1) n (omega arith)))
-  | inr other ↦ rw (others a other) (only_from test (a + 1) n slot (omega arith) (omega arith) is others)
-]
-  where
-    none_from : (b m : ℕ) → slot < b → filter test (range_with_len b m) ≡ []
-    none_from b zero behind = refl
-    none_from b (suc m) behind = rw (others b (omega arith)) (none_from (b + 1) m (omega arith))
-
--- so it lists that one
-pub alone_slots : (desk : Station) (slot : ℕ) → slot < SLOTS → slots_in (with_view desk (alone desk.view slot)) ≡ slot ∷ []
-unfolding all_slots
-alone_slots desk slot below = only_from (owned_at (alone desk.view slot)) 0 SLOTS slot (omega arith) below (alone_at desk.view slot below) (λ other differ. alone_else desk.view slot other differ)
 
 -- each slot of a desk is either of the two that it is split into
 pub split_once : (desk : Station) (slot other : ℕ) → slot < SLOTS → IsWide desk.view → Owns desk.view slot
     → owns_one other (with_view desk (without desk.view slot)) + owns_one other (with_view desk (alone desk.view slot)) ≡ owns_one other desk
 split_once desk slot other below wide own = elim (cases_eq other slot) [
-  | inl same ↦ (let left = get_or-set_same desk.view.owned slot false false (rw wide.slots below) in rw (same, left, alone_at desk.view slot below, own) refl)
+  | inl same ↦ (let left = get_or-set_same desk.view.owned slot false false (rw wide.slots below) in rw (same, left, (owns_alone desk.view slot below).0, own) refl)
   | inr differ ↦ rw (get_or-set_other desk.view.owned slot other false false differ, alone_else desk.view slot other differ) (omega arith)
 ]
 
@@ -89,7 +70,7 @@ module _ (words : List ℕ) (spare : Station) (desks : List Station) (slot : ℕ
         omega arith);
     alone = each-append HasOneSlot desks (with_view spare (alone spare.view slot) ∷ []) so_far.alone ((slot, owns_alone spare.view slot below), tt);
     numbers = (so_far.numbers.0, each-append (λ (d : Station). d.view.numbers ≡ words) desks (with_view spare (alone spare.view slot) ∷ []) so_far.numbers.1 (so_far.numbers.0, tt));
-    slots = map-append slots_in desks (with_view spare (alone spare.view slot) ∷ []) ∙ rw (so_far.slots, alone_slots spare slot below, long, next) (numbered_more (length desks));
+    slots = map-append slots_in desks (with_view spare (alone spare.view slot) ∷ []) ∙ rw (so_far.slots, only_listed (with_view spare (alone spare.view slot)) slot below (owns_alone spare.view slot below), long, next) (numbered_more (length desks));
     seen = so_far.seen;
   }
     where
@@ -108,8 +89,7 @@ net_level words c (flag ∷ flags) start level below within =
 
 level_idle : (words : List ℕ) (v : View) → AreLevel words → IsWide v → v.numbers ≡ words → (slot : ℕ) → Owns v slot → (c : ℕ) → c < CELLS → slot_net v.numbers c slot ≡ pos 0
 level_idle words v level wide same slot own c below =
-    let within = set_within v.owned slot own in
-    let here = level slot (omega (arith, wide.slots)) c below in
+    let here = level slot (omega (arith, wide.slots, set_within v.owned slot own)) c below in
     rw same (omega (arith, ints))
 
 pub level_small : (words : List ℕ) (v : View) (slot : ℕ) → AreLevel words → IsWide v → v.numbers ≡ words → HasSmallNets (alone v slot)

@@ -6,7 +6,7 @@ use Rattle.hlr_owners.proofs.EditLemmas.{LeavesMoved}
 use Rattle.hlr_owners.proofs.HalvesLemmas.{Meets, meets_from, meets_touch, taken_in}
 use Rattle.hlr_owners.proofs.LendLemmas.{ruled_later}
 use Rattle.hlr_owners.proofs.OutLemmas.{none_out, outs-at, outs-remove, outs-set}
-use Rattle.hlr_owners.proofs.IndexedLemmas.{set_same, put_back, other_left, both_edited}
+use Rattle.hlr_owners.proofs.ListLemmas.{set_same, put_back, other_left, both_edited}
 use Rattle.hlr_owners.proofs.PartLemmas.{part_state_home}
 use Rattle.hlr_owners.proofs.RegionOwnerLemmas.{IsRegionOwnerIn, parts-remove, parts-kept, ruled_rows, each_in, owner_in, owners_in}
 use Rattle.hlr_owners.proofs.ZipLemmas.{zip_set, zip_remove}
@@ -51,17 +51,15 @@ module _ (h : OwnersState) (are : AreOwners h) (n q : ℕ) (side : Side) (j : �
   -- and once it is gone the part has an index
   pub taker_there : taker side j < length (remove h.owners j)
   taker_there =
-      let lt = two.within in
       let shorter = length-remove h.owners j piece_there in
-      rw at (rw (taker_is side two.i) (let less = rw at at shorter in omega (arith, long)))
+      rw at (rw (taker_is side two.i) (let less = rw at at shorter in omega (arith, long, two.within)))
 
   -- owners without the piece
   module _ (s : RegionOwner) (is : s ≡ get_or (remove h.owners j) (taker side j) s) where
     part_at : s ≡ get_or h.owners (part_index side two.i) s
     part_at =
-        let lt = two.within in
         let left : s ≡ get_or (remove h.owners (piece_index side two.i)) two.i s = rw (at, taker_is side two.i) at is in
-        left ∙ other_left side h.owners two.i s (omega (arith, long))
+        left ∙ other_left side h.owners two.i s (omega (arith, long, two.within))
 
     part_owner_at : IsRegionOwnerIn h.width (book_in h.owners) part s
     part_owner_at = owner_in h are (part_index side two.i) s part_at inside.1

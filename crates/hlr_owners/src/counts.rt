@@ -67,8 +67,8 @@ fn add_pending(sums: &mut [i64; CELLS as usize], owner: &RegionOwner)
 }
 
 impl Owners {
-    /// The cells as published: the sum of what the parts' desks have published. The desk of the other slots has a net
-    /// of 0.
+    /// Gives the cells as published: the sum of what the parts' desks have published. The desk of the other slots has a
+    /// net of 0.
     pub fn published(&self) -> [i64; CELLS as usize]
         requires { AllHome self.now.owners }
         ensures { (c : ℕ) → c < CELLS → slice_index_or result c (pos 0) ≡ published (store_in self.now) c }
@@ -80,7 +80,7 @@ impl Owners {
         sums
     }
 
-    /// What is not posted yet of each cell: the sum of what is pending in all parts and loose pieces.
+    /// Gives what is not posted yet of each cell: the sum of what is pending in all parts and loose pieces.
     pub fn unposted(&self) -> [i64; CELLS as usize]
         requires { AllHome self.now.owners }
         ensures pending { (c : ℕ) → c < CELLS → slice_index_or result c (pos 0) ≡ unposted self.now.owners c }
@@ -93,7 +93,7 @@ impl Owners {
         sums
     }
 
-    /// The count of each cell, taken by a walk over all rows, those of loose pieces too.
+    /// Counts each cell by a walk over all rows, those of loose pieces too.
     pub fn recount(&self) -> Cells
         requires { AllHome self.now.owners }
         ensures { (c : ℕ) → c < CELLS → slice_index result c ≡ cell self.now.width c (book_in self.now.owners) }

@@ -29,7 +29,7 @@ fn are_home(owners: &[RegionOwner]) -> bool
 }
 
 impl Owners {
-    /// Whether all parts are at home.
+    /// Tells whether all parts are at home.
     pub fn all_at_home(&self) -> bool
         ensures { IsTrue result ↔ AllHome self.now.owners }
     {

@@ -14,7 +14,7 @@ use arrayvec::ArrayVec;
 use tatp_rows::{Access, Number, Refusal, Subscriber};
 
 impl Owners {
-    /// The Subscriber row of a subscriber: `Moving`, `NoSubscriber`.
+    /// Lends the Subscriber row of a subscriber: `Moving`, `NoSubscriber`.
     pub fn lend_subscriber(&self, s_id: u32) -> Result<&Subscriber, Refusal>
         requires subscriber { IsWithin 1 (LAST_SUBSCRIBER + 1) s_id }
         requires home { IsHomeFor s_id self.now }
@@ -29,7 +29,7 @@ impl Owners {
         }
     }
 
-    /// The Access_Info row of a subscriber's access of a type in 1..=4: `Moving`, `NoAccess`.
+    /// Lends the Access_Info row of a subscriber's access of a type in 1..=4: `Moving`, `NoAccess`.
     pub fn lend_access(&self, s_id: u32, ai_type: u8) -> Result<&Access, Refusal>
         requires subscriber { IsWithin 1 (LAST_SUBSCRIBER + 1) s_id }
         requires home { IsHomeFor s_id self.now }
@@ -45,7 +45,7 @@ impl Owners {
         }
     }
 
-    /// The numbers to which a facility of a type in 1..=4 forwards a call that starts by one hour and ends after
+    /// Finds the numbers to which a facility of a type in 1..=4 forwards a call that starts by one hour and ends after
     /// another: `Moving`, `NoDestination`.
     pub fn destinations(
         &self,

@@ -11,7 +11,7 @@ use holding::Holding;
 use part_table::Place;
 
 impl Owners {
-    /// Whether a part is at home; where there is no such part, it isn't.
+    /// Tells whether a part is at home; where there is no such part, it isn't.
     pub fn at_home(&self, part: u8) -> bool
         ensures { result ≡ slice_index_or (homes_in self.now.owners) part false }
     {

@@ -33,7 +33,7 @@ fn all_lie_in(region: &Region, s_ids: &[u32]) -> bool
 }
 
 impl Owners {
-    /// The holding of all of these subscribers, to be read, where one part has them all. It takes no memory.
+    /// Lends the holding of all of these subscribers, to be read, where one part has them all. It takes no memory.
     pub fn holding_of_all(&self, s_ids: &[u32]) -> Option<&Holding>
         requires within { All (IsWithin 1 (LAST_SUBSCRIBER + 1)) s_ids.now }
         requires home { All (λ s_id. IsHomeFor s_id self.now) s_ids.now }

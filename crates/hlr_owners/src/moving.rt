@@ -35,7 +35,7 @@ fn taker(side: Side, i: usize) -> usize
 }
 
 impl Owners {
-    /// A part gives the stretch on one side of `at` away, as a loose piece with the least free number; the answer is
+    /// Gives the stretch of a part on one side of `at` away, as a loose piece with the least free number; the answer is
     /// that number, and where the piece begins and ends. `NoPart`, `OutOfRange`, `ManyPieces`, `Memory`; a refusal
     /// changes nothing.
     pub fn give(&mut self, part: u64, side: Side, at: u64) -> Result<(u8, u32, u32), Refusal>
@@ -61,7 +61,7 @@ impl Owners {
         Ok(told)
     }
 
-    /// A part takes a loose piece that touches it; the answer is the side of the part on which it lies. `NoPiece`,
+    /// Takes a loose piece into a part that touches it; the answer is the side of the part on which it lies. `NoPiece`,
     /// `NoPart`, `NotAdjacent`, `Memory`; a refusal changes nothing.
     pub fn take(&mut self, piece: u64, part: u64) -> Result<Side, Refusal>
         requires home { IsPartHome part self.old }

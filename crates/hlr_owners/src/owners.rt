@@ -73,6 +73,16 @@ fn number_of(holding: &Holding, s_id: u32) -> Option<Number>
 }
 
 impl Owners {
+    /// Tells the prover that each region has its owner beside it, and that the desks are the board's and share its slots.
+    /// It does nothing.
+    #[inline(always)]
+    pub fn rules(&self)
+        ensures ruled { AreOwners self.now }
+        ensures desks { AreDesks self.now.spare.board self.now.spare (desks_in self.now.owners) }
+    {
+        let _ = &self.board;
+    }
+
     /// Finds the index of the region of an s_id.
     pub fn owner_of(&self, s_id: u32) -> usize
         requires { IsWithin 1 (LAST_SUBSCRIBER + 1) s_id }
@@ -82,7 +92,7 @@ impl Owners {
         self.regions.index(s_id)
     }
 
-    /// The holding of a subscriber, to be read, or `Moving` where a loose piece has them.
+    /// Lends the holding of a subscriber, to be read, or `Moving` where a loose piece has them.
     pub fn holding_of(&self, s_id: u32) -> Result<&Holding, Refusal>
         requires within { IsWithin 1 (LAST_SUBSCRIBER + 1) s_id }
         requires home { IsHomeFor s_id self.now }
@@ -96,8 +106,8 @@ impl Owners {
         }
     }
 
-    /// The number of a subscriber in the region with this index, or `None` where there is no such row; `Moving` where that is
-    /// a loose piece's.
+    /// Gives the number of a subscriber in the region with this index, or `None` where there is no such row; `Moving`
+    /// where that is a loose piece's.
     pub fn number_in(&self, i: usize, s_id: u32) -> Result<Option<Number>, Refusal>
         requires owner { position (lies_in s_id) self.now.regions ≡ Some i }
         requires home { IsHomeFor s_id self.now }
@@ -146,7 +156,7 @@ impl Owners {
         self.edit_in(i, edit)
     }
 
-    /// The regions of all subscribers.
+    /// Gives the regions of all subscribers.
     pub fn regions(&self) -> &Regions
         ensures value { result.now ≡ self.now.regions }
         ensures regions { AreRegions result.now }
@@ -156,7 +166,7 @@ impl Owners {
         &self.regions
     }
 
-    /// How many parts there are.
+    /// Counts the parts.
     pub fn parts(&self) -> u8
         ensures value { result ≡ length (parts_of self.now.regions) }
         ensures some { 1 ≤ result }
@@ -165,7 +175,7 @@ impl Owners {
         self.regions.parts()
     }
 
-    /// The width of the zones, 1..=524,288.
+    /// Gives the width of the zones, 1..=524,288.
     pub fn width(&self) -> u32
         ensures value { result ≡ self.now.width }
         ensures range { IsWidth result }
@@ -173,17 +183,14 @@ impl Owners {
         self.width
     }
 
-    /// The board that the parts post to. Each region has its owner beside it, and the desks are the board's and share
-    /// its slots.
+    /// Gives the board that the parts post to.
     pub fn board(&self) -> &Arc<Board>
-        ensures board { arc_value result.now ≡ self.now.spare.board }
-        ensures ruled { AreOwners self.now }
-        ensures desks { AreDesks (arc_value result.now) self.now.spare (desks_in self.now.owners) }
+        ensures { arc_value result.now ≡ self.now.spare.board }
     {
         &self.board
     }
 
-    /// What the desk of the slots that no part has sees of all words, one after another.
+    /// Loads all words, one after another, by the desk of the slots that no part has.
     pub fn look(&mut self) -> Sight
         ensures right { IsSightOf (store_in self.old) result.words }
         ensures seen { store_in self.new ≡ record (store_in self.old) { sight = result.words } }
@@ -194,7 +201,7 @@ impl Owners {
         sight
     }
 
-    /// What `look` answers, into a sight that the caller has: its 18 KB aren't moved.
+    /// Looks as `look` does, into a sight that the caller has: its 18 KB aren't moved.
     pub fn look_into(&mut self, sight: &mut Sight)
         ensures right { IsSightOf (store_in self.old) sight.new.words }
         ensures seen { store_in self.new ≡ record (store_in self.old) { sight = sight.new.words } }

@@ -46,7 +46,7 @@ fn value_mut<T>(place: &mut Option<T>) -> &mut T
 }
 
 impl PartOwner {
-    /// A holding at home.
+    /// Makes the owner of a part from its holding, at home.
     pub fn of(holding: Box<Holding>) -> PartOwner
         ensures { (result.holding ≡ holding.value) × (result.home ≡ true) }
     {
@@ -57,7 +57,7 @@ impl PartOwner {
         }
     }
 
-    /// Whether the holding is at home.
+    /// Tells whether the holding is at home.
     pub fn is_home(&self) -> bool
         ensures { result ≡ self.now.home }
     {
@@ -73,8 +73,7 @@ impl PartOwner {
     {
         match self.holding.take() {
             Some(holding) => {
-                // A holding tells by its range that it keeps the rules.
-                let _lo = holding.lo();
+                holding.rules();
                 self.lent = Snapshot::of(&*holding);
                 holding
             }
@@ -88,11 +87,11 @@ impl PartOwner {
         ensures owner { (self.new.holding ≡ holding.value) × (self.new.home ≡ true) }
         ensures rules { IsHolding holding.value }
     {
-        let _lo = holding.lo();
+        holding.rules();
         self.holding = Some(holding);
     }
 
-    /// The holding at home, to be read.
+    /// Lends the holding at home, to be read.
     pub fn holding(&self) -> &Holding
         requires { self.now.home ≡ true }
         ensures value { result.now ≡ self.now.holding }

@@ -53,7 +53,8 @@ impl Owners {
         }
     }
 
-    /// All that is handed in, over these regions, each holding and piece beside its region. It takes no memory.
+    /// Makes owners of all that is handed in, over these regions, each holding and piece beside its region. It takes no
+    /// memory.
     pub fn gathered(scattered: Scattered, prepared: Prepared) -> Owners
         requires surveyed { IsSurveyed scattered prepared }
         requires desks { MayBeGathered scattered }

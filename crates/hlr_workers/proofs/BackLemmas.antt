@@ -1,16 +1,5 @@
 -- A holding comes home from a worker with the numbers that it had.
-use Rattle.std.proofs.Common.{◌≡◌, ◌∙◌, refl, ap, ℕ, List, [], ◌∷◌, map, false, Some}
-use Rattle.tatp_actions.specs.Part.{PartState}
-use Rattle.holding.specs.Held.{HoldingState}
-use Rattle.holding.specs.declared.job.Job.{Job}
-use Rattle.holding.specs.declared.job.Job.TheVariants.{Act, Post}
-use Rattle.hlr_owners.specs.declared.part_owner.RegionOwner.TheVariants.{Part}
-use Rattle.hlr_core.specs.Index.{number_pair}
-use Rattle.hlr_core.specs.Later.{IsBackWith, numbers_of}
-use Rattle.hlr_core.specs.Session.{IsJobDone}
-use Rattle.hlr_core.specs.declared.event.Reply.{Reply}
-use Rattle.hlr_core.proofs.LaterLemmas.{outcome_numbers}
-use Rattle.hlr_workers.specs.Session.{AreNumberless, IsNumberless, IsSession}
+use Rattle.hlr_workers.proofs.Common.{◌≡◌, ◌∙◌, refl, ap, ℕ, List, [], ◌∷◌, map, false, Some, PartState, HoldingState, Job, Act, Post, Part, number_pair, IsBackWith, numbers_of, IsJobDone, Reply, outcome_numbers, AreNumberless, IsNumberless, IsSession}
 use Rattle.hlr_workers.proofs.SessionLemmas.{session_same}
 
 pub job_numbers : (job : Job) (a : HoldingState) (answer : Reply) (b : HoldingState) → IsNumberless job → IsJobDone job a answer b → numbers_of b ≡ numbers_of a

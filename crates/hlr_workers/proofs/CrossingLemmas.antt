@@ -4,7 +4,8 @@ use denote.Struct.Field.{u8-field, u64-field}
 use denote.Struct.Tuple.{TupleAt}
 use denote.Param.Send.{IsSend, IsSync, sendable}
 use denote.Param.SendFields.{declared_send, declared_sync}
-use Rattle.std.proofs.Crossing.{Box-send, Arc-send, Arc-sync, Vec-send, crosses, frees, send as heap_send, sync as heap_sync}
+use Rattle.hlr_workers.proofs.Common.{Box-send, Arc-send, Arc-sync, Vec-send, crosses, frees, tuple_send, ghosts, holding_send}
+use Rattle.std.proofs.Crossing.{send as heap_send, sync as heap_sync}
 use Rattle.std.specs.contracts.alloc.Global as Heap
 use Rattle.std.specs.contracts.boxed.Box as Box
 use Rattle.std.specs.contracts.impls.GlobalAllocator.TheImpl as heap
@@ -19,12 +20,9 @@ use Rattle.crossbeam_queue.specs.contracts.array_queue.Slotted as Slotted
 use Rattle.crossbeam_queue.specs.contracts.array_queue.Turns as Turns
 use Rattle.crossbeam_queue.specs.contracts.array_queue.TurnsTableRuleOptionDoingUnit.TheImpl as turns
 use Rattle.crossbeam_utils.specs.contracts.sync.event_count.EventCount as EventCount
-use Rattle.tatp_rows.proofs.CrossingLemmas.{tuple_send}
 use Rattle.tatp_actions.specs.contracts.trees.Trees as Trees
-use Rattle.tatp_actions.specs.contracts.trees.TreesRows.TheImpl.{ghosts}
 use Rattle.view_board.proofs.board.Board.TheSendSync.{the_send as board_send, the_sync as board_sync}
 use Rattle.view_board.specs.contracts.board.Board as Board
-use Rattle.holding.proofs.CrossingLemmas.{holding_send}
 use Rattle.hlr_core.proofs.task.Task.TheSendSync.{the_field_send as task_field_send}
 use Rattle.holding.specs.contracts.holding.Holding as Holding
 use Rattle.hlr_core.proofs.event.Reply.TheSendSync.{the_send as reply_send}

@@ -1,45 +1,6 @@
 -- The moves of an engine: where it stands after each.
-use Rattle.std.proofs.Common.{◌≡◌, ◌∙◌, refl, sym, ap, subst, ℕ, zero, suc, ◌+◌, ◌<◌, ◌≤◌, List, [], ◌∷◌, ◌++◌, length, get_or, set, arith, true, false, Bool, Some, None, inl, inr}
-use Rattle.std.specs.Prelude.{Option, Result, Ok, Err, Vec, slice_get, vec_capacity, if◌then◌else◌, ◌-◌}
-use Rattle.std.specs.List.{AllByRecursion}
-use Rattle.std.proofs.lemmas.List.{get_or_default, get_or_past, length-set, set-get_or, set-set}
-use Rattle.std.proofs.lemmas.Bool.{cases_lt}
-use Rattle.std.proofs.lemmas.Option.{none-some, same_Some, slice_get_within, slice_get-get_or, slice_get_read}
-use Rattle.tatp_rows.proofs.OrderedLemmas.{by_test}
-use Rattle.tatp_rows.specs.declared.refusal.Refusal.{Refusal}
-use Rattle.holding.specs.Held.{HoldingState}
-use Rattle.holding.specs.declared.job.Job.{Job}
-use Rattle.view_board.specs.Desks.{Station, with_view}
-use Rattle.view_board.specs.Views.{looked}
-use Rattle.hlr_owners.specs.PartOwnerState.{PartOwnerState}
-use Rattle.hlr_owners.specs.Out.{out_of, outs_in, with_out, with_outs}
-use Rattle.part_table.specs.Recut.{recut_answer}
-use Rattle.part_table.specs.declared.moves.CutMove.{CutMove}
-use Rattle.part_table.specs.Regions.{parts_of}
-use Rattle.hlr_owners.specs.Recut.{IsHomeToCut, IsHomeToMove}
-use Rattle.hlr_owners.specs.Owners.{AllHome, AreOwners, IsLent, OwnersState, desks_in, part_holdings, homes_in, of_parts, store_in}
-use Rattle.hlr_owners.specs.Store.{Store}
-use Rattle.hlr_owners.specs.declared.part_owner.RegionOwner.{RegionOwner}
-use Rattle.hlr_owners.specs.declared.part_owner.RegionOwner.TheVariants.{Part, Piece}
-use Rattle.hlr_owners.proofs.PartLemmas.{ahead, set_number}
-use Rattle.hlr_owners.proofs.SightLemmas.{words_looked}
-use Rattle.hlr_core.specs.WhileOut.{IsRecutWhileOut, IsStepWhileOut, register_with}
-use Rattle.hlr_core.specs.Home.{IsLaterDesk, HaveSameHomes, is_by_number}
-use Rattle.hlr_core.specs.Later.{AreLater, IsLater, with_owners}
-use Rattle.hlr_core.specs.Run.{IsRun}
-use Rattle.hlr_core.specs.Route.{IsRightNow, IsRightSent, is_here}
-use Rattle.hlr_core.specs.Session.{IsJobDone, IsJobOf}
-use Rattle.hlr_core.specs.Step.{IsStep}
-use Rattle.hlr_core.specs.declared.event.Event.{Event}
-use Rattle.hlr_core.specs.declared.event.Event.TheVariants.{SubscriberData, NewDestination, AccessData, UpdateSubscriber, UpdateLocation, InsertForwarding, DeleteForwarding, AddSubscriber, AddAccess, AddFacility, SetActive, SetNumber, Post, Give, Take, Divide, Dissolve}
-use Rattle.hlr_core.specs.declared.event.Reply.{Reply}
-use Rattle.hlr_core.proofs.HomeLemmas.{desk_same}
-use Rattle.hlr_core.proofs.LaterLemmas.{all_later_after, all_later_self, all_ruled_later, put_later}
-use Rattle.hlr_workers.specs.Inside.{AreBrought, AreIdle, IsAnswered, IsBehind, IsHomeAgain, IsOut, AreWorkersChanged, IsSentTo, PartChange, put_answers, with_part_change, part_change_of}
-use Rattle.hlr_workers.specs.Kept.{AllNumberless, WorkersState, IsKept, NoneOut, engaged}
-use Rattle.hlr_workers.specs.Relay.{nothing}
-use Rattle.hlr_workers.specs.Session.{AreNumberless}
-use Rattle.hlr_workers.specs.Standing.{AreEnds, Cut, IsAsBefore, IsSettled, Stands, Took, TookNext, answers_by, answers_with, changes_parts, orders_of, store_at}
+use Rattle.hlr_workers.proofs.Common.{◌≡◌, ◌∙◌, refl, sym, ap, subst, ℕ, zero, suc, ◌+◌, ◌<◌, ◌≤◌, List, [], ◌∷◌, ◌++◌, length, get_or, set, arith, true, false, Bool, Some, None, inl, inr, Option, Result, Ok, Vec, slice_get, vec_capacity, if◌then◌else◌, ◌-◌, AllByRecursion, get_or_default, get_or_past, length-set, set-get_or, set-set, cases_lt, none-some, same_Some, slice_get_within, slice_get-get_or, slice_get_read, by_test, Refusal, HoldingState, Job, Station, with_view, looked, PartOwnerState, out_of, outs_in, with_out, with_outs, recut_answer, CutMove, parts_of, IsHomeToCut, IsHomeToMove, AllHome, AreOwners, IsLent, OwnersState, desks_in, part_holdings, homes_in, of_parts, store_in, Store, RegionOwner, Part, Piece, ahead, set_number, words_looked, IsRecutWhileOut, IsStepWhileOut, register_with, IsLaterDesk, HaveSameHomes, is_by_number, AreLater, IsLater, with_owners, IsRun, IsRightNow, IsRightSent, is_here, IsJobDone, IsJobOf, IsStep, Event, SubscriberData, NewDestination, AccessData, UpdateSubscriber, UpdateLocation, InsertForwarding, DeleteForwarding, AddSubscriber, AddAccess, AddFacility, SetActive, SetNumber, Give, Take, Divide, Dissolve, Reply, desk_same, all_later_after, all_later_self, all_ruled_later, put_later, AreBrought, AreIdle, IsAnswered, IsBehind, IsHomeAgain, IsOut, AreWorkersChanged, IsSentTo, PartChange, put_answers, with_part_change, part_change_of, AllNumberless, WorkersState, IsKept, NoneOut, engaged, nothing, AreNumberless, AreEnds, Cut, IsAsBefore, IsSettled, Stands, Took, TookNext, answers_by, answers_with, changes_parts, orders_of, store_at}
+use Rattle.hlr_core.specs.declared.event.Event.TheVariants.{Post}
 use Rattle.hlr_workers.proofs.WorkersLemmas.{as_homes, as_parts, lent_outs, numberless_of, out_part}
 use Rattle.hlr_workers.proofs.RegisterLemmas.{IsPartAt, ends_later, out_done, out_ends, out_owners, part_at, owner_store, with_outs_same}
 use Rattle.hlr_workers.proofs.PartChangeLemmas.{all_changed, ends_alike, ends_changed, numbered_changed, order_changed, changed_long, undone}
@@ -197,9 +158,7 @@ module _ (workers : WorkersState) (replies : List (ℕ × Reply)) (kept : IsKept
 
     low : p < length mid.jobs
     low =
-        let paired = (out_kept mid out).paired in
-        let within = slice_get_within (outs_in mid.register.owners) p (Some out.2.0) out.2.1 in
-        omega arith
+        omega (arith, (out_kept mid out).paired, slice_get_within (outs_in mid.register.owners) p (Some out.2.0) out.2.1)
 
     sent_law : (start : Store) (reply : ℕ → Reply) (ends : List HoldingState) (m y : HoldingState) → AreEnds reply (outs_in mid.register.owners) mid.jobs ends → slice_get ends p ≡ Some m
         → IsJobDone job m (reply (length replies)) y → IsStep event (store_at start mid.register ends) (reply (length replies)) (store_at start mid.register (set ends p y))
@@ -351,10 +310,6 @@ part_home (Piece b ∷ owners) p none = part_home owners p none
 part_home (Part l ∷ owners) zero none = at_home l none
 part_home (Part l ∷ owners) (suc p) none = part_home owners p none
 
--- what came home, or was at home
-pub still_none : (outs : List (Option HoldingState)) (p : ℕ) → get_or outs p None ≡ None → set outs p None ≡ outs
-still_none outs p none = ap (λ (o : Option HoldingState). set outs p o) (sym none) ∙ set-get_or outs p None
-
 pub none_set : (outs : List (Option HoldingState)) (p q : ℕ) → get_or outs q None ≡ None → get_or (set outs p None) q None ≡ None
 none_set [] p q none = none
 none_set (o ∷ outs) zero zero none = refl
@@ -424,9 +379,6 @@ sides_each h (move ∷ moves) each =
 pub sides_cut : (bounds : List ℕ) (h : OwnersState) (moves : List CutMove) → recut_answer h.regions bounds ≡ Ok moves
     → ((i : ℕ) (d : CutMove) → i < length moves → AreSidesHome (outs_in h.owners) (get_or moves i d)) → IsHomeToCut bounds h
 sides_cut bounds h moves answer each = rw answer (sides_each h moves each)
-
-pub refused_cut : (bounds : List ℕ) (h : OwnersState) (why : Refusal) → recut_answer h.regions bounds ≡ Err why → IsHomeToCut bounds h
-refused_cut bounds h why answer = rw answer tt
 
 -- an event that the register does itself names no subscriber by a number
 pub here_by_id : (event : Event) → is_here event ≡ true → is_by_number event ≡ false

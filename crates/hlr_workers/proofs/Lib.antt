@@ -1,3 +1,4 @@
+pub mod Common
 pub mod BackLemmas
 pub mod WorkersLemmas
 pub mod CrossingLemmas

@@ -1,18 +1,5 @@
 -- Lists with something for each part, when a part comes or goes.
-use Rattle.std.proofs.Common.{◌≡◌, ◌∙◌, refl, ap, subst, ℕ, zero, suc, ◌<◌, ◌≤◌, List, [], ◌∷◌, length, get_or, map, arith, Some, None, inl, inr}
-use Rattle.std.specs.Prelude.{Option, insert, remove, slice_get, ◌⊎◌}
-use Rattle.std.specs.List.{AllByRecursion, AllZip}
-use Rattle.std.proofs.lemmas.Bool.{cases_lt}
-use Rattle.std.proofs.lemmas.List.Edits.{length-remove}
-use Rattle.std.proofs.lemmas.Option.{none-some, same_Some}
-use Rattle.holding.specs.Held.{HoldingState}
-use Rattle.holding.specs.declared.job.Job.{Job}
-use Rattle.hlr_owners.proofs.ZipLemmas.{zip_insert, zip_remove}
-use Rattle.hlr_core.specs.declared.event.Reply.{Reply}
-use Rattle.hlr_workers.specs.Inside.{Gone, IsBehind, IsPlace, New, PartChange, Same, with_part_change}
-use Rattle.hlr_workers.specs.Kept.{InOrder}
-use Rattle.hlr_workers.specs.Relay.{nothing}
-use Rattle.hlr_workers.specs.Standing.{AreEnds, numbered, numbered_in}
+use Rattle.hlr_workers.proofs.Common.{◌≡◌, ◌∙◌, refl, ap, subst, ℕ, zero, suc, ◌<◌, ◌≤◌, List, [], ◌∷◌, length, get_or, map, arith, Some, None, inl, inr, Option, insert, remove, slice_get, ◌⊎◌, AllByRecursion, AllZip, cases_lt, length-remove, none-some, same_Some, HoldingState, Job, zip_insert, zip_remove, Reply, Gone, IsBehind, IsPlace, New, PartChange, Same, with_part_change, InOrder, nothing, AreEnds, numbered, numbered_in}
 
 -- two lists of one length
 module _ {A B : Type 0} where

@@ -1,33 +1,5 @@
 -- A register with what the holdings that are out have become.
-use Rattle.std.proofs.Common.{◌≡◌, ◌∙◌, refl, sym, ap, ℕ, zero, suc, ◌<◌, List, [], ◌∷◌, ◌++◌, length, get_or, set, map, arith, true, false, Bool, Some, None, inl, inr}
-use Rattle.std.specs.Prelude.{Option, position, slice_get, if◌then◌else◌, ◌⊎◌}
-use Rattle.std.proofs.lemmas.List.Quantifiers.{position-Some}
-use Rattle.std.proofs.lemmas.Option.{none-some, same_Some}
-use Rattle.tatp_rows.proofs.OrderedLemmas.{by_test}
-use Rattle.tatp_actions.specs.Joined.{book_of}
-use Rattle.part_table.specs.Region.{is_part}
-use Rattle.part_table.proofs.IndexLemmas.{past_parts}
-use Rattle.part_table.proofs.PlaceLemmas.{blank}
-use Rattle.holding.specs.Held.{HoldingState}
-use Rattle.holding.specs.declared.job.Job.{Job}
-use Rattle.holding.specs.declared.job.Job.TheVariants.{Act, Post}
-use Rattle.hlr_owners.specs.Desks.{words_of, slots_in}
-use Rattle.hlr_owners.specs.Held.{OwnerState}
-use Rattle.hlr_owners.specs.PartOwnerState.{PartOwnerState}
-use Rattle.hlr_owners.specs.Out.{out_of, outs_in, with_out, with_outs}
-use Rattle.hlr_owners.specs.Owners.{OwnersState, AreOwners, desks_in, homes_in, of_parts, of_part, state_of, states_in, store_in}
-use Rattle.hlr_owners.specs.declared.part_owner.RegionOwner.{RegionOwner}
-use Rattle.hlr_owners.specs.declared.part_owner.RegionOwner.TheVariants.{Part, Piece}
-use Rattle.hlr_owners.proofs.HeldLemmas.{holding_keeps}
-use Rattle.hlr_owners.proofs.PartLemmas.{ahead, count_parts, number_at, part_state_at, part_has_place}
-use Rattle.hlr_owners.proofs.RegionOwnerLemmas.{states-set}
-use Rattle.hlr_core.specs.Later.{AreLater, IsLater, with_owners}
-use Rattle.hlr_core.specs.Session.{IsDoneAt, IsJobDone}
-use Rattle.hlr_core.specs.declared.event.Reply.{Reply}
-use Rattle.hlr_core.proofs.LaterLemmas.{all_later_self, later_after}
-use Rattle.hlr_workers.specs.Kept.{AllNumberless}
-use Rattle.hlr_workers.specs.Session.{AreNumberless, IsNumberless}
-use Rattle.hlr_workers.specs.Standing.{AreEnds, IsSessionBy}
+use Rattle.hlr_workers.proofs.Common.{◌≡◌, ◌∙◌, refl, sym, ap, ℕ, zero, suc, ◌<◌, List, [], ◌∷◌, ◌++◌, length, get_or, set, map, arith, true, false, Bool, Some, None, inl, inr, Option, position, slice_get, if◌then◌else◌, ◌⊎◌, position-Some, none-some, same_Some, by_test, book_of, is_part, past_parts, blank, HoldingState, Job, Act, Post, words_of, slots_in, OwnerState, PartOwnerState, out_of, outs_in, with_out, with_outs, OwnersState, AreOwners, desks_in, homes_in, of_parts, of_part, state_of, states_in, store_in, RegionOwner, Part, Piece, holding_keeps, ahead, count_parts, number_at, part_state_at, part_has_place, states-set, AreLater, IsLater, with_owners, IsDoneAt, IsJobDone, Reply, all_later_self, later_after, AllNumberless, AreNumberless, IsNumberless, AreEnds, IsSessionBy}
 use Rattle.hlr_workers.proofs.BackLemmas.{job_numbers}
 use Rattle.hlr_workers.proofs.SessionLemmas.{job_same}
 

@@ -1,12 +1,7 @@
 -- Each step of a queue keeps its rule.
-use Rattle.std.proofs.Common.{◌≡◌, ◌≢◌, ◌∙◌, refl, sym, ap, ℕ, zero, suc, true, false, List, [], ◌∷◌, ◌++◌, length, set, append_assoc, inl, inr, ◌⊎◌, arith}
+use Rattle.hlr_workers.proofs.Common.{◌≡◌, ◌≢◌, ◌∙◌, refl, sym, ap, ℕ, zero, suc, true, false, List, [], ◌∷◌, ◌++◌, length, set, append_assoc, inl, inr, ◌⊎◌, arith, Pushes, Pops, Forks, Merges, Learns, at_set, at_snoc, IsKnown, IsRelayed, IsWellSent, log, Log, Message}
 use mathlib.Core.Option.{some, some-ne-none}
 use lib.ListN.{get_elem?}
-use Rattle.crossbeam_queue.specs.Fifo.{Pushes, Pops, Forks, Merges, Learns}
-use Rattle.crossbeam_queue.proofs.Lists.{at_set, at_snoc}
-use Rattle.hlr_workers.specs.Relay.{IsKnown, IsRelayed, IsWellSent, log}
-use Rattle.hlr_workers.specs.declared.message.Log.{Log}
-use Rattle.hlr_workers.specs.declared.message.Message.{Message}
 use Rattle.hlr_workers.proofs.ShapeLemmas.{well_before}
 
 -- what each pass knows, by its number

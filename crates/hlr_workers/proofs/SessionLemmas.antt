@@ -1,14 +1,5 @@
 -- What a session keeps.
-use Rattle.std.proofs.Common.{◌≡◌, ◌∙◌, refl, ap, subst, ℕ, suc, List, [], ◌∷◌, ◌++◌, length}
-use Rattle.view_board.specs.Desks.{Station}
-use Rattle.tatp_actions.specs.Part.{PartState}
-use Rattle.holding.specs.Held.{HoldingState}
-use Rattle.holding.specs.declared.job.Job.{Job}
-use Rattle.holding.specs.declared.job.Job.TheVariants.{Act, Post}
-use Rattle.hlr_owners.specs.Owners.{IsSameOwner}
-use Rattle.hlr_core.specs.Session.{IsJobDone, IsWithinJob}
-use Rattle.hlr_core.specs.declared.event.Reply.{Reply}
-use Rattle.hlr_workers.specs.Session.{AreNumberless, IsNumberless, IsSession}
+use Rattle.hlr_workers.proofs.Common.{◌≡◌, ◌∙◌, refl, ap, subst, ℕ, suc, List, [], ◌∷◌, ◌++◌, length, Station, PartState, HoldingState, Job, Act, Post, IsSameOwner, IsJobDone, IsWithinJob, Reply, AreNumberless, IsNumberless, IsSession}
 
 -- one job more
 pub session_more : (a : HoldingState) (jobs : List (ℕ × Job)) (answers : List (ℕ × Reply)) (b : HoldingState) (job : ℕ × Job) (answer : ℕ × Reply) (c : HoldingState)

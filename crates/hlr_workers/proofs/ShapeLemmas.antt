@@ -1,14 +1,5 @@
 -- Messages in their shape: one more at the end, and what is known of it.
-use Rattle.std.proofs.Common.{◌≡◌, ◌∙◌, refl, sym, ap, ℕ, ◌≤◌, List, [], ◌∷◌, ◌++◌, length, arith, length-append, append_assoc}
-use Rattle.std.proofs.lemmas.List.{append-nil}
-use Rattle.arrayvec.specs.ArrayVec.{ArrayVec}
-use Rattle.holding.specs.Held.{HoldingState}
-use Rattle.holding.specs.declared.job.Job.{Job}
-use Rattle.hlr_workers.specs.Relay.{AreJobs, AreWithin, IsInShape, IsStarted, IsWellSent, jobs_in, jobs_of, lent_of}
-use Rattle.hlr_workers.specs.declared.message.Lent.{Lent}
-use Rattle.hlr_workers.specs.declared.message.Message.{Message}
-use Rattle.hlr_workers.specs.declared.message.Message.TheVariants.{Begin, Do, Stop}
-use Rattle.hlr_workers.specs.declared.message.Numbered.{Numbered}
+use Rattle.hlr_workers.proofs.Common.{◌≡◌, ◌∙◌, refl, sym, ap, ℕ, ◌≤◌, List, [], ◌∷◌, ◌++◌, length, arith, length-append, append_assoc, append-nil, ArrayVec, HoldingState, Job, AreJobs, AreWithin, IsInShape, IsStarted, IsWellSent, jobs_in, jobs_of, lent_of, Lent, Message, Begin, Do, Stop, Numbered}
 
 -- jobs, and more of them, or that the thread is to end
 jobs_more : (holding : HoldingState) (messages : List Message) (batch : ArrayVec Numbered) → AreWithin holding (jobs_in batch) → AreJobs holding messages → AreJobs holding (messages ++ Do batch ∷ [])
@@ -97,10 +88,7 @@ few_before : (messages rest : List Message) → length (jobs_of messages) ≤ le
 few_before [] rest = omega arith
 few_before (Begin lent ∷ messages) rest = few_before messages rest
 few_before (Do own ∷ messages) rest =
-    let few = few_before messages rest in
-    let one = length-append (jobs_in own) (jobs_of messages) in
-    let all = length-append (jobs_in own) (jobs_of (messages ++ rest)) in
-    omega (arith, few, one, all)
+    omega (arith, few_before messages rest, length-append (jobs_in own) (jobs_of messages), length-append (jobs_in own) (jobs_of (messages ++ rest)))
 few_before (Stop ∷ messages) rest = few_before messages rest
 
 pub well_before : (messages rest : List Message) → IsWellSent (messages ++ rest) → IsWellSent messages

@@ -1,29 +1,7 @@
 -- Where an engine stands after each of its moves.
-use Rattle.std.proofs.Common.{◌≡◌, ◌∙◌, refl, sym, ap, subst, ℕ, zero, suc, ◌+◌, ◌<◌, ◌≤◌, List, [], ◌∷◌, ◌++◌, length, get_or, set, arith, Some, None, length-append, inl, inr}
-use Rattle.std.specs.Prelude.{Option, Result, slice_get, ◌⊎◌, ◌≢◌}
-use Rattle.std.specs.List.{AllByRecursion}
-use Rattle.std.proofs.lemmas.Option.{none-some, same_Some, slice_get_within, slice_get-get_or, get_or_from_slice_get}
-use Rattle.std.proofs.lemmas.List.{set-set, length-set}
-use Rattle.std.proofs.lemmas.Bool.{cases_lt}
-use Rattle.std.proofs.lemmas.Bool.Decides.{eqb_tells}
-use Rattle.tatp_rows.specs.declared.refusal.Refusal.{Refusal}
-use Rattle.holding.specs.Held.{HoldingState}
-use Rattle.holding.specs.declared.job.Job.{Job}
-use Rattle.hlr_owners.specs.Recut.{IsRecut}
-use Rattle.hlr_owners.specs.Store.{Store}
-use Rattle.hlr_core.specs.Run.{IsOrderStep, IsRun}
-use Rattle.hlr_core.specs.Session.{IsJobDone}
-use Rattle.hlr_core.specs.Step.{IsStep}
-use Rattle.hlr_core.specs.declared.event.Event.{Event}
-use Rattle.hlr_core.specs.declared.event.Reply.{Reply}
-use Rattle.hlr_core.specs.declared.order.Answer.{Answer}
+use Rattle.hlr_workers.proofs.Common.{◌≡◌, ◌∙◌, refl, sym, ap, subst, ℕ, zero, suc, ◌+◌, ◌<◌, ◌≤◌, List, [], ◌∷◌, ◌++◌, length, get_or, set, arith, Some, None, length-append, inl, inr, Option, Result, slice_get, ◌⊎◌, ◌≢◌, AllByRecursion, none-some, same_Some, slice_get_within, slice_get-get_or, get_or_from_slice_get, set-set, length-set, cases_lt, eqb_tells, Refusal, HoldingState, Job, IsRecut, Store, IsOrderStep, IsRun, IsJobDone, IsStep, Event, Reply, Answer, Order, IsSession, IsSessionBy, AreEnds, numbered, numbered_in, HasKept, Asked, Took, Cut, orders_of, events_in, answers_by, answers_with, put_answers, InOrder}
 use Rattle.hlr_core.specs.declared.order.Answer.TheVariants as answer
-use Rattle.hlr_core.specs.declared.order.Order.{Order}
 use Rattle.hlr_core.specs.declared.order.Order.TheVariants as order
-use Rattle.hlr_workers.specs.Session.{IsSession}
-use Rattle.hlr_workers.specs.Standing.{IsSessionBy, AreEnds, numbered, numbered_in, HasKept, Asked, Took, Cut, orders_of, events_in, answers_by, answers_with}
-use Rattle.hlr_workers.specs.Inside.{put_answers}
-use Rattle.hlr_workers.specs.Kept.{InOrder}
 
 -- two numbers are the same, or not
 by_number : {A : Type 0} (i j : ℕ) → (i ≡ j → A) → (i ≢ j → A) → A
@@ -105,9 +83,7 @@ numbered_there k (js ∷ jobs) (suc p) own is = let rest = numbered_there k jobs
 sent_numbered : (k : ℕ) (jobs : List (List (ℕ × Job))) (p : ℕ) (job : ℕ × Job) → p < length jobs
     → numbered_in k (set jobs p (get_or jobs p [] ++ job ∷ [])) ≡ numbered_in k jobs + numbered k (job ∷ [])
 sent_numbered k jobs p job low =
-    let was = numbered_set k jobs p (get_or jobs p [] ++ job ∷ []) low in
-    let one = numbered_more k (get_or jobs p []) job in
-    omega arith
+    omega (arith, numbered_set k jobs p (get_or jobs p [] ++ job ∷ []) low, numbered_more k (get_or jobs p []) job)
 
 -- runs, one order more
 run_more : (orders : List Order) (before : Store) (answers : List Answer) (mid : Store) (one : Order) (told : Answer) (after : Store)
@@ -377,9 +353,7 @@ module _ (outs : List (Option HoldingState)) (jobs : List (List (ℕ × Job))) (
   filled_numbered : (j : ℕ) → numbered_in j (set jobs p own) + numbered j ((k, job) ∷ []) ≡ numbered_in j jobs
   filled_numbered j =
       let low = slice_get_within jobs p ((k, job) ∷ own) first in
-      let was = numbered_set j jobs p own low in
-      let had = ap (numbered j) (get_or_from_slice_get jobs p ((k, job) ∷ own) [] first) in
-      omega arith
+      omega (arith, numbered_set j jobs p own low, ap (numbered j) (get_or_from_slice_get jobs p ((k, job) ∷ own) [] first))
 
   filled_none : numbered_in k (set jobs p own) ≡ 0
   filled_none = let was = filled_numbered k in let self = numbered_self k job in let once = order.once k in omega arith
@@ -494,9 +468,7 @@ leads_new f outs jobs before law = (refl, λ reply ends kept are. law ends)
 none_numbered : (k : ℕ) (jobs : List (List (ℕ × Job))) → AllByRecursion (λ own. own ≡ []) jobs → numbered_in k jobs ≡ 0
 none_numbered k [] none = refl
 none_numbered k (own ∷ jobs) none =
-    let here = ap (numbered k) none.0 in
-    let rest = none_numbered k jobs none.1 in
-    omega arith
+    omega (arith, ap (numbered k) none.0, none_numbered k jobs none.1)
 
 home_ends : (reply : ℕ → Reply) (outs : List (Option HoldingState)) (jobs : List (List (ℕ × Job))) (ends : List HoldingState) → AllByRecursion (λ out. out ≡ None) outs
     → length jobs ≡ length outs → length ends ≡ length outs → AreEnds reply outs jobs ends

@@ -1,27 +1,8 @@
 -- A right step is one whatever has been seen of the words.
-use Rattle.std.proofs.Common.{ap, ℕ, ◌≤◌, List, [], ◌∷◌, arith, true, false, Bool, Some, None, Ok, Err}
-use Rattle.std.specs.Prelude.{Option, Result, slice_index}
-use Rattle.tatp_rows.specs.declared.refusal.Refusal.{Refusal}
-use Rattle.tatp_actions.specs.Action.{s_id_of}
-use Rattle.tatp_actions.specs.declared.action.Action.{Action}
-use Rattle.part_table.specs.Recut.{recut_answer}
-use Rattle.part_table.specs.declared.moves.CutMove.{CutMove}
-use Rattle.hlr_owners.specs.Answered.{is_loose}
-use Rattle.hlr_owners.specs.PartChanges.{IsDissolved, IsDivided}
-use Rattle.hlr_owners.specs.Posting.{IsPosting}
-use Rattle.hlr_owners.specs.Recut.{IsRecut, IsRecutBy}
-use Rattle.hlr_owners.specs.Store.{Store, slots_of}
-use Rattle.hlr_core.specs.Run.{IsOrderStep, IsRun}
-use Rattle.hlr_core.specs.Step.{IsAskedStep, IsOwnedStep, IsStep, action_for}
-use Rattle.hlr_core.specs.declared.event.Event.{Event}
-use Rattle.hlr_core.specs.declared.event.Event.TheVariants.{SubscriberData, NewDestination, AccessData, UpdateSubscriber, UpdateLocation, InsertForwarding, DeleteForwarding}
-use Rattle.hlr_core.specs.declared.event.Event.TheVariants.{AddSubscriber, AddAccess, AddFacility, SetActive, SetNumber, Post, Give, Take, Divide, Dissolve}
-use Rattle.hlr_core.specs.declared.event.Reply.{Reply}
-use Rattle.hlr_core.specs.declared.order.Answer.{Answer}
+use Rattle.hlr_workers.proofs.Common.{ap, ℕ, ◌≤◌, List, [], ◌∷◌, arith, true, false, Bool, Some, None, Ok, Err, Option, Result, slice_index, Refusal, s_id_of, Action, recut_answer, CutMove, is_loose, IsDissolved, IsDivided, IsPosting, IsRecut, IsRecutBy, Store, slots_of, IsOrderStep, IsRun, IsAskedStep, IsOwnedStep, IsStep, action_for, Event, SubscriberData, NewDestination, AccessData, UpdateSubscriber, UpdateLocation, InsertForwarding, DeleteForwarding, AddSubscriber, AddAccess, AddFacility, SetActive, SetNumber, Give, Take, Divide, Dissolve, Reply, Answer, Order, Asked, Engaged, Stands, answers_by, orders_of, store_at}
+use Rattle.hlr_core.specs.declared.event.Event.TheVariants.{Post}
 use Rattle.hlr_core.specs.declared.order.Answer.TheVariants as answer
-use Rattle.hlr_core.specs.declared.order.Order.{Order}
 use Rattle.hlr_core.specs.declared.order.Order.TheVariants as order
-use Rattle.hlr_workers.specs.Standing.{Asked, Engaged, Stands, answers_by, orders_of, store_at}
 
 -- a store of which this was seen
 abbrev pub seen_as : List ℕ → Store → Store

@@ -1,21 +1,5 @@
 -- One message more of a worker, and all of them.
-use Rattle.std.proofs.Common.{◌≡◌, ◌∙◌, refl, sym, ap, ℕ, ◌+◌, ◌<◌, ◌≤◌, true, false, List, [], ◌∷◌, ◌++◌, length, get_or, map, take, zero, suc, arith, length-append, append_assoc}
-use Rattle.std.proofs.lemmas.List.{append-nil, length-map, map-append, take_more}
-use Rattle.arrayvec.specs.ArrayVec.{ArrayVec}
-use Rattle.holding.specs.Held.{HoldingState}
-use Rattle.holding.specs.declared.job.Job.{Job}
-use Rattle.hlr_owners.specs.Owners.{IsSameOwner}
-use Rattle.hlr_core.specs.Session.{IsJobDone, IsWithinJob}
-use Rattle.hlr_core.specs.Tasks.{job_of}
-use Rattle.hlr_core.specs.declared.event.Reply.{Reply}
-use Rattle.hlr_core.specs.declared.task.Task.{Task}
-use Rattle.hlr_workers.specs.Finish.{HasDone, IsAtWork, IsSessionMore, MaySend, sent_with}
-use Rattle.hlr_workers.specs.Relay.{AreWithin, IsWellSent, job_pair, jobs_in, jobs_of, lent_of, log}
-use Rattle.hlr_workers.specs.declared.message.Log.{Log}
-use Rattle.hlr_workers.specs.declared.message.Message.{Message}
-use Rattle.hlr_workers.specs.declared.message.Message.TheVariants.{Do, Stop}
-use Rattle.hlr_workers.specs.declared.message.Numbered.{Numbered}
-use Rattle.hlr_workers.specs.declared.work.TheConstants.{MOST_PENDING}
+use Rattle.hlr_workers.proofs.Common.{◌≡◌, ◌∙◌, refl, sym, ap, ℕ, ◌+◌, ◌<◌, ◌≤◌, true, false, List, [], ◌∷◌, ◌++◌, length, get_or, map, take, zero, suc, arith, length-append, append_assoc, append-nil, length-map, map-append, take_more, ArrayVec, HoldingState, Job, IsSameOwner, IsJobDone, IsWithinJob, job_of, Reply, Task, HasDone, IsAtWork, IsSessionMore, MaySend, sent_with, AreWithin, IsWellSent, job_pair, jobs_in, jobs_of, lent_of, log, Log, Message, Do, Stop, Numbered, MOST_PENDING}
 use Rattle.hlr_workers.proofs.SessionLemmas.{session_length, session_more, session_same, within_later}
 use Rattle.hlr_workers.proofs.ShapeLemmas.{jobs_do, jobs_stop, lent_more, shape_within, started_do, started_shape, started_stop}
 
@@ -49,11 +33,7 @@ module _ (got : List Message) (answers : List (ℕ × Reply)) (holding : Holding
   pub room : length answers + length batch.items ≤ MOST_PENDING
   room =
       let same = session_length (lent_of got) (jobs_of got) answers holding at.1 in
-      let more = ap length (jobs_do got batch) in
-      let long = length-append (jobs_of got) (jobs_in batch) in
-      let own = length-map batch.items job_pair in
-      let few = well.1 in
-      omega arith
+      omega (arith, ap length (jobs_do got batch), length-append (jobs_of got) (jobs_in batch), length-map batch.items job_pair, well.1)
 
   -- and the holding as it is now may be asked for them
   pub within : AreWithin holding (jobs_in batch)
@@ -78,11 +58,6 @@ at_work w got answers holding is done = rw is (refl, done)
 pub none_left : {A : Type 0} (items : List A) → length items ≡ 0 → items ≡ []
 none_left [] none = refl
 none_left (x ∷ items) none = absurd (omega arith)
-
-pub all_done : (sent got items : List Message) (answers : List (ℕ × Reply)) (holding : HoldingState) → sent ≡ got ++ items → length items ≡ 0 → HasDone got answers holding → HasDone sent answers holding
-all_done sent got items answers holding total none done =
-    let same : sent ≡ got = total ∙ (ap (λ (l : List Message). got ++ l) (none_left items none) ∙ append-nil got) in
-    rw same done
 
 -- what is held may be sent
 module _ (v : Log) (held : ArrayVec Numbered) (may : MaySend v held) where
@@ -171,8 +146,4 @@ held_within v held may answers holding done =
 
 pub held_room : (v : Log) (held : ArrayVec Numbered) → MaySend v held → (answers : List (ℕ × Reply)) (holding : HoldingState) → HasDone v.sent answers holding → length answers + length held.items ≤ MOST_PENDING
 held_room v held may answers holding done =
-    let same = session_length (lent_of v.sent) (jobs_of v.sent) answers holding done.1 in
-    let long = length-append (jobs_of v.sent) (jobs_in held) in
-    let own = length-map held.items job_pair in
-    let few = may.room in
-    omega arith
+    omega (arith, session_length (lent_of v.sent) (jobs_of v.sent) answers holding done.1, length-append (jobs_of v.sent) (jobs_in held), length-map held.items job_pair, may.room)

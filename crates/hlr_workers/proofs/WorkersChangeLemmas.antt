@@ -1,41 +1,7 @@
 -- The register does an event itself: which parts come or go by it, and what that leaves of the workers.
-use Rattle.std.proofs.Common.{◌≡◌, ◌∙◌, refl, sym, ap, subst, ℕ, zero, suc, ◌+◌, ◌<◌, ◌≤◌, List, [], ◌∷◌, length, get_or, drop, map, arith, true, false, Bool, Some, None, Ok, Err, inl, inr}
-use Rattle.std.specs.Prelude.{Option, Result, ◌-◌, ◌==◌, ◌&&◌, not, nat_lt, position, ◌⊎◌}
-use Rattle.std.specs.List.{AllByRecursion, AllZip, find}
-use Rattle.std.proofs.lemmas.Bool.Decides.{nat_tests}
-use Rattle.std.proofs.lemmas.Option.{none-some, slice_get_within}
-use Rattle.std.proofs.lemmas.Slice.Zip.{AllZip-long}
-use Rattle.tatp_rows.proofs.OrderedLemmas.{by_test}
-use Rattle.tatp_rows.specs.declared.refusal.Refusal.{Refusal}
-use Rattle.tatp_actions.specs.Action.{s_id_of}
-use Rattle.tatp_actions.specs.declared.action.Action.{Action}
-use Rattle.tatp_actions.specs.declared.action.RowReply.{RowReply}
+use Rattle.hlr_workers.proofs.Common.{◌≡◌, ◌∙◌, refl, sym, ap, subst, ℕ, zero, suc, ◌+◌, ◌<◌, ◌≤◌, List, [], ◌∷◌, length, get_or, drop, map, arith, true, false, Bool, Some, None, Ok, Err, inl, inr, Option, Result, ◌-◌, ◌==◌, ◌&&◌, not, nat_lt, position, ◌⊎◌, AllByRecursion, AllZip, find, nat_tests, none-some, slice_get_within, AllZip-long, by_test, Refusal, s_id_of, Action, RowReply, dissolve_answer, dissolve_answer_of, part_before, divide_answer, divide_answer_of, is_part, parts_of, Region, Side, MOST_PARTS, find_none, HoldingState, MayAnswer, is_loose, out_of, outs_in, AreOwners, IsHomeFrom, OwnersState, homes_in, store_in, Store, RegionOwner, Part, Piece, IsHomeTo, AreHomesAfter, HaveSameHomes, IsAskedStep, IsOwnedStep, IsStep, action_for, dissolved_reply, divided_reply, given_reply, posted_reply, reply_of, taken_reply, Event, SubscriberData, NewDestination, AccessData, UpdateSubscriber, UpdateLocation, InsertForwarding, DeleteForwarding, AddSubscriber, AddAccess, AddFacility, SetActive, SetNumber, Give, Take, Divide, Dissolve, Reply, Sent, IsBehind, AreWorkersChanged, IsPlace, New, PartChange, Same, with_part_change, part_change_of, WorkersState, HasWorker, jobs_at, changes_parts}
 use Rattle.tatp_actions.specs.declared.action.RowReply.TheVariants as row
-use Rattle.part_table.specs.Dissolve.{dissolve_answer, dissolve_answer_of, part_before}
-use Rattle.part_table.specs.Divide.{divide_answer, divide_answer_of}
-use Rattle.part_table.specs.Region.{is_part}
-use Rattle.part_table.specs.Regions.{parts_of}
-use Rattle.part_table.specs.declared.region.Region.{Region}
-use Rattle.part_table.specs.declared.region.Side.{Side}
-use Rattle.part_table.specs.declared.region.TheConstants.{MOST_PARTS}
-use Rattle.part_table.proofs.FirstLemmas.{find_none}
-use Rattle.holding.specs.Held.{HoldingState}
-use Rattle.hlr_owners.specs.Answered.{MayAnswer, is_loose}
-use Rattle.hlr_owners.specs.Out.{out_of, outs_in}
-use Rattle.hlr_owners.specs.Owners.{AreOwners, IsHomeFrom, OwnersState, homes_in, store_in}
-use Rattle.hlr_owners.specs.Store.{Store}
-use Rattle.hlr_owners.specs.declared.part_owner.RegionOwner.{RegionOwner}
-use Rattle.hlr_owners.specs.declared.part_owner.RegionOwner.TheVariants.{Part, Piece}
-use Rattle.hlr_core.specs.Home.{IsHomeTo, AreHomesAfter, HaveSameHomes}
-use Rattle.hlr_core.specs.Step.{IsAskedStep, IsOwnedStep, IsStep, action_for, dissolved_reply, divided_reply, given_reply, posted_reply, reply_of, taken_reply}
-use Rattle.hlr_core.specs.declared.event.Event.{Event}
-use Rattle.hlr_core.specs.declared.event.Event.TheVariants.{SubscriberData, NewDestination, AccessData, UpdateSubscriber, UpdateLocation, InsertForwarding, DeleteForwarding}
-use Rattle.hlr_core.specs.declared.event.Event.TheVariants.{AddSubscriber, AddAccess, AddFacility, SetActive, SetNumber, Post, Give, Take, Divide, Dissolve}
-use Rattle.hlr_core.specs.declared.event.Reply.{Reply}
-use Rattle.hlr_workers.specs.Finish.{Sent}
-use Rattle.hlr_workers.specs.Inside.{IsBehind, AreWorkersChanged, IsPlace, New, PartChange, Same, with_part_change, part_change_of}
-use Rattle.hlr_workers.specs.Kept.{WorkersState, HasWorker, jobs_at}
-use Rattle.hlr_workers.specs.Standing.{changes_parts}
+use Rattle.hlr_core.specs.declared.event.Event.TheVariants.{Post}
 use Rattle.hlr_workers.proofs.WorkersLemmas.{as_parts, idle_parts, out_is, outs_home}
 use Rattle.hlr_workers.proofs.RegisterLemmas.{part_at}
 use Rattle.hlr_workers.proofs.PartChangeLemmas.{map_changed, changed_zip}

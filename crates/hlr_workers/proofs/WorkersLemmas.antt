@@ -1,34 +1,5 @@
 -- A part goes out to a worker, has jobs sent to it, and comes home.
-use Rattle.std.proofs.Common.{◌≡◌, ◌∙◌, refl, sym, ap, subst, ℕ, zero, suc, ◌<◌, List, [], ◌∷◌, ◌++◌, length, get_or, set, map, replicate, arith, true, false, Bool, Some, None, inl, inr}
-use Rattle.std.specs.Prelude.{Option, IsSome, IfSome, is_some, slice_get, if◌then◌else◌}
-use Rattle.std.specs.List.{AllByRecursion, AllZip}
-use Rattle.std.proofs.Math.ListN.{get_or-map}
-use Rattle.std.proofs.lemmas.List.{get_or_past, length-map, length-replicate, map-set, set-get_or}
-use Rattle.std.proofs.lemmas.Bool.{cases_lt}
-use Rattle.std.proofs.lemmas.Option.{none-some, same_Some, slice_get_within, slice_get-get_or, slice_get_read, get_or_from_slice_get}
-use Rattle.std.proofs.lemmas.Slice.Zip.{AllZip-long}
-use Rattle.tatp_rows.proofs.OrderedLemmas.{by_test}
-use Rattle.part_table.specs.Regions.{parts_of}
-use Rattle.part_table.specs.declared.region.Region.{Region}
-use Rattle.holding.specs.Held.{HoldingState}
-use Rattle.holding.specs.declared.job.Job.{Job}
-use Rattle.holding.specs.declared.job.Job.TheVariants.{Act, Post}
-use Rattle.hlr_owners.specs.PartOwnerState.{PartOwnerState}
-use Rattle.hlr_owners.specs.Out.{out_of, outs_in}
-use Rattle.hlr_owners.specs.Owners.{AllHome, AreOwners, IsLent, OwnersState, homes_in}
-use Rattle.hlr_owners.specs.declared.part_owner.RegionOwner.{RegionOwner}
-use Rattle.hlr_owners.specs.declared.part_owner.RegionOwner.TheVariants.{Part, Piece}
-use Rattle.hlr_owners.proofs.PartLemmas.{at_number, count_parts, part_within, set_number}
-use Rattle.hlr_owners.proofs.ZipLemmas.{zip_at, zip_set}
-use Rattle.hlr_core.specs.Later.{IsBackWith}
-use Rattle.hlr_core.specs.Session.{IsJobOf, IsWithinJob}
-use Rattle.hlr_core.specs.declared.event.Reply.{Reply}
-use Rattle.hlr_core.proofs.SentLemmas.{within_job}
-use Rattle.hlr_workers.specs.Finish.{Sent}
-use Rattle.hlr_workers.specs.Inside.{AreIdle, IsHomeAgain, IsOut, IsSentTo, is_sent_more}
-use Rattle.hlr_workers.specs.Kept.{WorkersState, HasWorker, jobs_at}
-use Rattle.hlr_workers.specs.Session.{AreNumberless, IsNumberless, IsSession}
-use Rattle.hlr_workers.specs.declared.work.TheConstants.{MOST_PENDING}
+use Rattle.hlr_workers.proofs.Common.{◌≡◌, ◌∙◌, refl, sym, ap, subst, ℕ, zero, suc, ◌<◌, List, [], ◌∷◌, ◌++◌, length, get_or, set, map, replicate, arith, true, false, Bool, Some, None, inl, inr, Option, IsSome, IfSome, is_some, slice_get, if◌then◌else◌, AllByRecursion, AllZip, get_or-map, get_or_past, length-map, length-replicate, map-set, set-get_or, cases_lt, none-some, same_Some, slice_get_within, slice_get-get_or, slice_get_read, get_or_from_slice_get, AllZip-long, by_test, parts_of, Region, HoldingState, Job, Act, Post, PartOwnerState, out_of, outs_in, AllHome, AreOwners, IsLent, OwnersState, homes_in, RegionOwner, Part, Piece, at_number, count_parts, part_within, set_number, zip_at, zip_set, IsBackWith, IsJobOf, IsWithinJob, Reply, within_job, Sent, AreIdle, IsHomeAgain, IsOut, IsSentTo, is_sent_more, WorkersState, HasWorker, jobs_at, AreNumberless, IsNumberless, IsSession, MOST_PENDING}
 use Rattle.hlr_workers.proofs.BackLemmas.{session_back}
 use Rattle.hlr_workers.proofs.RegisterLemmas.{IsPartAt, part_at, part_with_number}
 use Rattle.hlr_workers.proofs.SessionLemmas.{numberless_more}

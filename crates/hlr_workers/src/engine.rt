@@ -120,8 +120,7 @@ fn join<G: Gate, R: Threads + Wait>(
     ensures brought { AreBrought workers.old replies.old workers.new replies.new }
     ensures home { outs_in workers.new.register.owners ≡ slice_set (outs_in workers.old.register.owners) part None }
 {
-    // For the prover: each region has its owner beside it.
-    let _register = workers.register();
+    workers.rules();
     if let Some(mut answers) = workers.bring_home(rt, gate, part) {
         put_answers(replies, &mut answers);
         workers.keep(EmptyList { list: answers });
@@ -176,8 +175,7 @@ fn bring_all_home<G: Gate, R: Threads + Wait>(
 {
     let end = workers.register().regions().parts();
     bring_parts_home(rt, workers, replies, gate, Parts { first: 0, end });
-    // For the prover: a part that isn't out has no jobs.
-    let _register = workers.register();
+    workers.rules();
 }
 
 /// Brings the parts home on which an event works that the register does itself.
@@ -195,8 +193,7 @@ fn bring_workers_home<G: Gate, R: Threads + Wait>(
 {
     let parts = workers.register().parts_for(event);
     bring_parts_home(rt, workers, replies, gate, parts);
-    // For the prover: each region has its owner beside it.
-    let _register = workers.register();
+    workers.rules();
 }
 
 /// Has the register itself do an event, which gives a number, moves regions, or has a part come or go: the parts that
@@ -304,8 +301,8 @@ fn bring_sides_home<G: Gate, R: Threads + Wait>(
 }
 
 impl<G: Gate + 'static> Engine<G> {
-    /// An engine over a register with all parts at home. The gate is called round each job, by the thread that does it.
-    /// It takes no memory.
+    /// Makes an engine over a register with all parts at home. The gate is called round each job, by the thread that
+    /// does it. It takes no memory.
     pub fn new(alloc: Global, register: Register, gate: Arc<G>) -> Engine<G>
         requires { AllHome register.owners }
         ensures register { result.register ≡ register }
@@ -320,14 +317,14 @@ impl<G: Gate + 'static> Engine<G> {
         }
     }
 
-    /// How many events were taken since the last settle.
+    /// Counts the events that were taken since the last settle.
     pub fn pending(&self) -> usize
         ensures { result ≡ length self.now.replies }
     {
         self.replies.len()
     }
 
-    /// The register, where no event is pending.
+    /// Gives the register, where no event is pending.
     pub fn register(&self) -> &Register
         requires { self.now.replies ≡ [] }
         ensures value { result.now ≡ self.now.register }
@@ -402,7 +399,8 @@ impl<G: Gate + 'static> Engine<G> {
         self.workers.recut_to(bounds)
     }
 
-    /// A sight of the board's words, as `Register::look`, while workers post. It takes no memory, and waits for nobody.
+    /// Gives a sight of the board's words, as `Register::look`, while workers post. It takes no memory, and waits for
+    /// nobody.
     pub fn sight(&mut self) -> Sight
         ensures right { IsSightOf (store_in self.old.register) result.words }
         ensures stands { IsAsBefore self.old self.new }

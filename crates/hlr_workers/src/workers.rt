@@ -323,8 +323,7 @@ impl Workers {
         ensures jobs { AllByRecursion (λ own. own ≡ []) result.jobs }
         ensures paired { length result.jobs ≡ length (outs_in register.owners) }
     {
-        // For the prover: each region has its owner beside it.
-        let _board = register.board();
+        register.rules();
         let mut by_part = ArrayVec::new();
         for _ in 0..register.regions().parts() {
             by_part.push(None);
@@ -337,14 +336,22 @@ impl Workers {
         }
     }
 
-    /// The register, with the parts that are out as they were lent; a part that isn't out has no jobs.
-    pub(crate) fn register(&self) -> &Register
-        ensures value { result.now ≡ self.now.register }
+    /// Tells the prover that each region has its owner beside it, and that a part that isn't out has no jobs. It does
+    /// nothing.
+    #[inline(always)]
+    pub(crate) fn rules(&self)
         ensures ruled { AreOwners self.now.register }
         ensures idle { AreIdle self.now }
     {
-        // For the prover: each region has its owner beside it.
-        let _board = self.register.board();
+        self.register.rules();
+    }
+
+    /// Gives the register, with the parts that are out as they were lent.
+    pub(crate) fn register(&self) -> &Register
+        ensures value { result.now ≡ self.now.register }
+        ensures ruled { AreOwners self.now.register }
+    {
+        self.register.rules();
         &self.register
     }
 
@@ -379,8 +386,7 @@ impl Workers {
         ensures why { OnErr result ((result ≡ Err Refusal.Memory) ⊎ (result ≡ Err Refusal.Thread)) }
         ensures home { OnErr result (slice_index_or (homes_in self.old.register.owners) part false ≡ true) }
     {
-        // For the prover: each region has its owner beside it.
-        let _board = self.register.board();
+        self.register.rules();
         let list = list_for(&mut self.lists, alloc)?;
         let pops = pops_for(&mut self.pops, alloc)?;
         let idle = Idle::start(rt, alloc, gate, self.register.board(), part, list, pops)?;
@@ -403,8 +409,7 @@ impl Workers {
         ensures why { OnErr result ((result ≡ Err Refusal.Memory) ⊎ (result ≡ Err Refusal.Thread)) }
         ensures home { OnErr result (slice_index_or (homes_in self.old.register.owners) part false ≡ true) }
     {
-        // For the prover: each region has its owner beside it.
-        let _board = self.register.board();
+        self.register.rules();
         if has_worker(&self.by_part, part) {
             return Ok(());
         }
@@ -431,8 +436,7 @@ impl Workers {
         ensures home { OnErr result (slice_index_or (homes_in self.old.register.owners) part false ≡ true) }
     {
         self.call_out(rt, alloc, gate, part)?;
-        // For the prover: each region has its owner beside it.
-        let _board = self.register.board();
+        self.register.rules();
         offer_before(
             rt,
             &mut self.by_part,
@@ -497,8 +501,7 @@ impl Workers {
         ensures home { IsHomeAgain part self.old (option_map (λ answers. answers.items) result) self.new }
         ensures room { IfSome result (λ answers. MOST_PENDING ≤ vec_capacity answers) }
     {
-        // For the prover: each region has its owner beside it.
-        let _board = self.register.board();
+        self.register.rules();
         let worker = take_worker(&mut self.by_part, part)?;
         let (holding, answers) = worker.join(rt, &**gate, part);
         self.register.back(holding);
@@ -520,8 +523,7 @@ impl Workers {
         ensures spare { changes_parts event ≡ false → self.new.register.spare ≡ self.old.register.spare }
         ensures desk { IsLaterDesk self.old.register.spare self.new.register.spare }
     {
-        // For the prover: each region has its owner beside it.
-        let _board = self.register.board();
+        self.register.rules();
         let reply = self.register.apply(event);
         part_workers(&mut self.by_part, &reply);
         reply

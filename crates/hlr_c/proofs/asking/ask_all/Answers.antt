@@ -1,4 +1,4 @@
-use Rattle.std.proofs.Common.{arith, refl}
+use Rattle.hlr_c.proofs.Common.{arith, refl}
 use Rattle.hlr_c.proofs.asking.ask_all.Goals as goal
 
 pub loop-from-preserved-then-not-ask_block : goal.loop-from-preserved-then-not-ask_block

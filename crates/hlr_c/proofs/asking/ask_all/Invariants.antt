@@ -1,5 +1,4 @@
-use Rattle.std.proofs.Common.{length, ◌-◌, ◌≤◌}
-use Rattle.hlr_c.specs.Inside.{IsAnsweredTo}
+use Rattle.hlr_c.proofs.Common.{length, ◌-◌, ◌≤◌, IsAnsweredTo}
 use Rattle.hlr_c.proofs.asking.ask_all.Given as goal
 
 abbrev pub invariant-loop-from : goal.invariant-loop-from

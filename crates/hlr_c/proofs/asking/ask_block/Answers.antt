@@ -1,4 +1,4 @@
-use Rattle.std.proofs.Common.{refl}
+use Rattle.hlr_c.proofs.Common.{refl}
 use Rattle.hlr_c.proofs.ManyLemmas.{told_answers, told_length}
 use Rattle.hlr_c.proofs.asking.ask_block.Goals as goal
 

@@ -1,5 +1,4 @@
-use Rattle.std.proofs.Common.{◌≡◌, arith, get_or, subst}
-use Rattle.hlr_c.specs.Inside.{AreWritten}
+use Rattle.hlr_c.proofs.Common.{◌≡◌, arith, get_or, subst, AreWritten}
 use Rattle.hlr_c.proofs.ManyLemmas.{none_written, one_written}
 use Rattle.hlr_c.proofs.asking.write_block.Goals as goal
 

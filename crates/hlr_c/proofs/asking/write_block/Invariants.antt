@@ -1,5 +1,4 @@
-use Rattle.std.proofs.Common.{◌≤◌}
-use Rattle.hlr_c.specs.Inside.{AreWritten}
+use Rattle.hlr_c.proofs.Common.{◌≤◌, AreWritten}
 use Rattle.hlr_c.proofs.asking.write_block.Given as goal
 
 abbrev pub invariant-loop-at : goal.invariant-loop-at

@@ -1,6 +1,4 @@
-use Rattle.std.proofs.Common.{◌∙◌, ap, sym}
-use Rattle.hlr_core.specs.declared.event.Event.TheVariants.{DeleteForwarding}
-use Rattle.hlr_c.specs.Asked.{asks}
+use Rattle.hlr_c.proofs.Common.{◌∙◌, ap, sym, DeleteForwarding, asks}
 use Rattle.hlr_c.proofs.AnswerLemmas.{away_code, refused_code}
 use Rattle.hlr_c.proofs.changes.delete_forwarding.Goals as goal
 

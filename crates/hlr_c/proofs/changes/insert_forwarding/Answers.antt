@@ -1,7 +1,5 @@
-use Rattle.std.proofs.Common.{◌∙◌, ap, inr, refl, sym}
-use Rattle.hlr_core.specs.declared.event.Event.TheVariants.{InsertForwarding}
+use Rattle.hlr_c.proofs.Common.{◌∙◌, ap, inr, refl, sym, InsertForwarding, asks}
 use Rattle.hlr_core.specs.declared.event.Reply.TheVariants as reply
-use Rattle.hlr_c.specs.Asked.{asks}
 use Rattle.hlr_c.proofs.AnswerLemmas.{refused_code}
 use Rattle.hlr_c.proofs.changes.insert_forwarding.Goals as goal
 

@@ -1,6 +1,4 @@
-use Rattle.std.proofs.Common.{◌∙◌, ap, sym}
-use Rattle.hlr_core.specs.declared.event.Event.TheVariants.{SetNumber}
-use Rattle.hlr_c.specs.Asked.{asks}
+use Rattle.hlr_c.proofs.Common.{◌∙◌, ap, sym, SetNumber, asks}
 use Rattle.hlr_c.proofs.AnswerLemmas.{away_code, refused_code}
 use Rattle.hlr_c.proofs.changes.set_number.Goals as goal
 

@@ -1,7 +1,4 @@
-use Rattle.std.proofs.Common.{◌≡◌, ◌<◌, ◌∙◌, ap, arith, length, List}
-use Rattle.part_table.specs.Regions.{parts_of}
-use Rattle.part_table.specs.declared.region.Region.{Region}
-use Rattle.hlr_owners.specs.Owners.{OwnersState}
+use Rattle.hlr_c.proofs.Common.{◌≡◌, ◌<◌, ◌∙◌, ap, arith, length, List, parts_of, Region, OwnersState}
 use Rattle.hlr_c.proofs.PartLemmas.{home_there}
 use Rattle.hlr_c.proofs.lending.lend.Goals as goal
 

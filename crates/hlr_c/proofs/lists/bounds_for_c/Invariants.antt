@@ -1,4 +1,4 @@
-use Rattle.std.proofs.Common.{◌≡◌, length, map, take}
+use Rattle.hlr_c.proofs.Common.{◌≡◌, length, map, take}
 use Rattle.hlr_c.proofs.lists.bounds_for_c.Given as goal
 
 abbrev pub invariant-loop-at : goal.invariant-loop-at

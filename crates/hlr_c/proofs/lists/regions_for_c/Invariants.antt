@@ -1,5 +1,4 @@
-use Rattle.std.proofs.Common.{◌≡◌, length, map, take}
-use Rattle.hlr_c.specs.Rows.{region_for_c}
+use Rattle.hlr_c.proofs.Common.{◌≡◌, length, map, take, region_for_c}
 use Rattle.hlr_c.proofs.lists.regions_for_c.Given as goal
 
 abbrev pub invariant-loop-at : goal.invariant-loop-at

@@ -1,5 +1,4 @@
-use Rattle.std.proofs.Common.{◌≡◌, map, take}
-use Rattle.hlr_c.specs.declared.rows.HlrDestinationAsked.{HlrDestinationAsked}
+use Rattle.hlr_c.proofs.Common.{◌≡◌, map, take, HlrDestinationAsked}
 use Rattle.hlr_c.proofs.many.put_calls.Given as goal
 
 abbrev pub invariant-loop-place : goal.invariant-loop-place

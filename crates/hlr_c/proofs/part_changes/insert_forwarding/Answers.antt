@@ -1,4 +1,4 @@
-use Rattle.std.proofs.Common.{◌∙◌, sym}
+use Rattle.hlr_c.proofs.Common.{◌∙◌, sym}
 use Rattle.tatp_actions.specs.declared.action.Action.TheVariants.{InsertForwarding}
 use Rattle.hlr_c.proofs.PartLemmas.{asked_edit}
 use Rattle.hlr_c.proofs.part_changes.insert_forwarding.Goals as goal

@@ -1,4 +1,4 @@
-use Rattle.tatp_actions.specs.declared.action.Action.TheVariants.{SetActive}
+use Rattle.hlr_c.proofs.Common.{SetActive}
 use Rattle.hlr_c.proofs.PartLemmas.{asked_edit}
 use Rattle.hlr_c.proofs.part_changes.set_active.Goals as goal
 

@@ -1,4 +1,4 @@
-use Rattle.tatp_actions.specs.declared.action.Action.TheVariants.{UpdateSubscriber}
+use Rattle.hlr_c.proofs.Common.{UpdateSubscriber}
 use Rattle.hlr_c.proofs.PartLemmas.{asked_edit}
 use Rattle.hlr_c.proofs.part_changes.update_subscriber.Goals as goal
 

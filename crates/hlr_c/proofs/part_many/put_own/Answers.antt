@@ -1,5 +1,4 @@
-use Rattle.std.proofs.Common.{◌∙◌, sym}
-use Rattle.hlr_c.specs.Inside.{IsOwn}
+use Rattle.hlr_c.proofs.Common.{◌∙◌, sym, IsOwn}
 use Rattle.hlr_c.proofs.OwnLemmas.{one_more_kept, one_more_owned}
 use Rattle.hlr_c.proofs.part_many.put_own.Goals as goal
 

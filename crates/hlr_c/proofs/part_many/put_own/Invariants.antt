@@ -1,6 +1,4 @@
-use Rattle.std.proofs.Common.{◌≡◌, take}
-use Rattle.std.specs.List.{All}
-use Rattle.hlr_c.specs.Inside.{IsOwn}
+use Rattle.hlr_c.proofs.Common.{◌≡◌, take, All, IsOwn}
 use Rattle.hlr_c.proofs.part_many.put_own.Given as goal
 
 abbrev pub invariant-loop-place : goal.invariant-loop-place

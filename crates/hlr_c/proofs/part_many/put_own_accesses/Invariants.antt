@@ -1,7 +1,4 @@
-use Rattle.std.proofs.Common.{◌≡◌, map, take}
-use Rattle.std.specs.List.{All}
-use Rattle.hlr_c.specs.Inside.{IsOwnAccess}
-use Rattle.hlr_c.specs.declared.rows.HlrAccessAsked.{HlrAccessAsked}
+use Rattle.hlr_c.proofs.Common.{◌≡◌, map, take, All, IsOwnAccess, HlrAccessAsked}
 use Rattle.hlr_c.proofs.part_many.put_own_accesses.Given as goal
 
 abbrev pub invariant-loop-place : goal.invariant-loop-place

@@ -1,6 +1,4 @@
-use Rattle.std.proofs.Common.{◌∙◌, sym}
-use Rattle.hlr_c.specs.Inside.{IsOwnCall}
-use Rattle.hlr_c.specs.declared.rows.HlrDestinationAsked.{HlrDestinationAsked}
+use Rattle.hlr_c.proofs.Common.{◌∙◌, sym, IsOwnCall, HlrDestinationAsked}
 use Rattle.hlr_c.proofs.OwnLemmas.{one_more_owned, one_more_put}
 use Rattle.hlr_c.proofs.part_many.put_own_calls.Goals as goal
 

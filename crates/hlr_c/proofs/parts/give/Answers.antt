@@ -1,7 +1,4 @@
-use Rattle.std.proofs.Common.{◌∙◌, ap, refl, sym}
-use Rattle.hlr_core.specs.declared.event.Event.TheVariants.{Give}
-use Rattle.hlr_c.specs.Asked.{asks}
-use Rattle.hlr_c.specs.Told.{given_told}
+use Rattle.hlr_c.proofs.Common.{◌∙◌, ap, refl, sym, Give, asks, given_told}
 use Rattle.hlr_c.proofs.AnswerLemmas.{refused_told}
 use Rattle.hlr_c.proofs.parts.give.Goals as goal
 

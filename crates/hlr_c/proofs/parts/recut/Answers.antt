@@ -1,4 +1,4 @@
-use Rattle.std.proofs.Common.{Err, ap, inr, refl}
+use Rattle.hlr_c.proofs.Common.{Err, ap, inr, refl}
 use Rattle.hlr_c.proofs.parts.recut.Goals as goal
 
 pub returns-in-Err : goal.returns-in-Err

@@ -1,5 +1,4 @@
-use Rattle.std.specs.Prelude.{slice_index}
-use Rattle.view_board.proofs.FillLemmas.{IsFilledTo}
+use Rattle.hlr_c.proofs.Common.{slice_index, IsFilledTo}
 use Rattle.hlr_c.proofs.reports.counts_of.Given as goal
 
 abbrev pub invariant-loop-cell : goal.invariant-loop-cell

@@ -1,6 +1,4 @@
-use Rattle.std.proofs.Common.{arith}
-use Rattle.part_table.specs.Regions.{pieces_of}
-use Rattle.part_table.proofs.NumberLemmas.{length_regions, most_pieces}
+use Rattle.hlr_c.proofs.Common.{arith, pieces_of, length_regions, most_pieces}
 use Rattle.hlr_c.proofs.reports.write_regions.Goals as goal
 
 pub regions_for_c-requires : goal.regions_for_c-requires

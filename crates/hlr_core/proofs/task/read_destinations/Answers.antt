@@ -8,7 +8,7 @@ use Rattle.hlr_core.proofs.task.read_destinations.Goals as goal
 
 pub returns-then-not-is_between : goal.returns-then-not-is_between
 returns-then-not-is_between c =
-    let rules = c.lo-lo.ensures.rules in
+    let rules = c.rules.ensures in
     let held = held_fits c.args.holding.now rules c.args.s_id c.requires in
     field_acted (action.NewDestination c.args.s_id c.args.sf_type c.args.start_time c.args.end_time) c.args.holding.now rules
     (elim c.then-not-is_between.branch [
@@ -27,11 +27,11 @@ fits s_id sf_type start_time end_time held kind start end = both_from _ _ (both_
 pub returns-then-is_empty : goal.returns-then-is_empty
 returns-then-is_empty c =
     let book = c.args.holding.now.part.book in
-    read_acted (action.NewDestination c.args.s_id c.args.sf_type c.args.start_time c.args.end_time) c.args.holding.now c.lo-lo.ensures.rules (row_reply.Refused refusal.NoDestination) (fits c.args.s_id c.args.sf_type c.args.start_time c.args.end_time (held_fits c.args.holding.now c.lo-lo.ensures.rules c.args.s_id c.requires) (sym c.if-not-is_between.ensures) (sym (rw c.from.ensures at c.if-not-is_start_time.ensures)) (sym c.if-not-is_between-2.ensures))
+    read_acted (action.NewDestination c.args.s_id c.args.sf_type c.args.start_time c.args.end_time) c.args.holding.now c.rules.ensures (row_reply.Refused refusal.NoDestination) (fits c.args.s_id c.args.sf_type c.args.start_time c.args.end_time (held_fits c.args.holding.now c.rules.ensures c.args.s_id c.requires) (sym c.if-not-is_between.ensures) (sym (rw c.from.ensures at c.if-not-is_start_time.ensures)) (sym c.if-not-is_between-2.ensures))
     (ap (new_destination book) (sym c.destinations-numbers.ensures) ∙ none_read book c.destinations-numbers.result.items (sym c.is_empty.ensures ∙ c.if-is_empty.true))
 
 pub returns : goal.returns
 returns c =
     let book = c.args.holding.now.part.book in
-    read_acted (action.NewDestination c.args.s_id c.args.sf_type c.args.start_time c.args.end_time) c.args.holding.now c.lo-lo.ensures.rules (row_reply.Numbers c.destinations-numbers.result) (fits c.args.s_id c.args.sf_type c.args.start_time c.args.end_time (held_fits c.args.holding.now c.lo-lo.ensures.rules c.args.s_id c.requires) (sym c.if-not-is_between.ensures) (sym (rw c.from.ensures at c.if-not-is_start_time.ensures)) (sym c.if-not-is_between-2.ensures))
+    read_acted (action.NewDestination c.args.s_id c.args.sf_type c.args.start_time c.args.end_time) c.args.holding.now c.rules.ensures (row_reply.Numbers c.destinations-numbers.result) (fits c.args.s_id c.args.sf_type c.args.start_time c.args.end_time (held_fits c.args.holding.now c.rules.ensures c.args.s_id c.requires) (sym c.if-not-is_between.ensures) (sym (rw c.from.ensures at c.if-not-is_start_time.ensures)) (sym c.if-not-is_between-2.ensures))
     (ap (new_destination book) (sym c.destinations-numbers.ensures) ∙ numbers_read book c.destinations-numbers.result (sym c.is_empty.ensures ∙ c.if-is_empty.false))

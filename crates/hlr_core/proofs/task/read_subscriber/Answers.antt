@@ -3,5 +3,5 @@ use Rattle.hlr_core.proofs.task.read_subscriber.Goals as goal
 
 pub returns : goal.returns
 returns c =
-    subscriber_acted c.args.s_id c.args.holding.now c.lo-lo.ensures.rules c.requires c.lend_subscriber.result c.row_reply.result c.lend_subscriber.ensures
+    subscriber_acted c.args.s_id c.args.holding.now c.rules.ensures c.requires c.lend_subscriber.result c.row_reply.result c.lend_subscriber.ensures
     (rw c.ok_or.ensures.value at c.row_reply.ensures)

@@ -1,10 +1,5 @@
-use Rattle.std.proofs.Common.{◌≡◌, ◌∙◌, ℕ, arith, length, subst}
-use Rattle.hlr_owners.specs.Owners.{OwnersState}
-use Rattle.hlr_core.specs.Route.{IsRightNow, IsRouted}
-use Rattle.hlr_core.specs.Tasks.{job_of}
+use Rattle.hlr_workers.proofs.Common.{◌≡◌, ◌∙◌, ℕ, arith, length, subst, OwnersState, IsRightNow, IsRouted, job_of, To, IsSentTo}
 use Rattle.hlr_core.specs.declared.event.Reply.TheVariants as reply
-use Rattle.hlr_core.specs.declared.route.Route.TheVariants.{To}
-use Rattle.hlr_workers.specs.Inside.{IsSentTo}
 use Rattle.hlr_workers.proofs.EngineLemmas.{few_jobs, part_there, sent_after, told_after}
 use Rattle.hlr_workers.proofs.engine.answer.Goals as goal
 
@@ -15,9 +10,7 @@ send-requires-clause-there g c κs within =
 
 pub send-requires-clause-room : goal.send-requires-clause-room
 send-requires-clause-room g c κs within =
-    let few = few_jobs c.args.workers.now c.args.replies.now.items c.requires.kept c.in-To.part in
-    let room = c.requires.room in
-    omega arith
+    omega (arith, few_jobs c.args.workers.now c.args.replies.now.items c.requires.kept c.in-To.part, c.requires.room)
 
 pub returns-in-Refused-clause-answered : goal.returns-in-Refused-clause-answered
 returns-in-Refused-clause-answered g c =

@@ -1,5 +1,4 @@
-use Rattle.std.proofs.Common.{arith}
-use Rattle.hlr_owners.specs.Out.{outs_in}
+use Rattle.hlr_workers.proofs.Common.{arith, outs_in}
 use Rattle.hlr_workers.proofs.EngineLemmas.{brought_itself, brought_twice, none_next}
 use Rattle.hlr_workers.proofs.engine.join_parts.Goals as goal
 

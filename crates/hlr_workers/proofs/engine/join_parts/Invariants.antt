@@ -1,6 +1,4 @@
-use Rattle.std.proofs.Common.{◌≡◌, ◌<◌, ◌≤◌, ℕ, None, get_or}
-use Rattle.hlr_owners.specs.Out.{outs_in}
-use Rattle.hlr_workers.specs.Inside.{AreBrought}
+use Rattle.hlr_workers.proofs.Common.{◌≡◌, ◌<◌, ◌≤◌, ℕ, None, get_or, outs_in, AreBrought}
 use Rattle.hlr_workers.proofs.engine.join_parts.Given as goal
 
 abbrev pub invariant-loop-part : goal.invariant-loop-part

@@ -1,10 +1,4 @@
-use Rattle.std.proofs.Common.{◌≡◌, ◌∙◌, ap, arith, get_or, set, sym, List, None, Ok}
-use Rattle.std.proofs.lemmas.List.{get_or_default}
-use Rattle.part_table.specs.Recut.{recut_answer}
-use Rattle.part_table.specs.declared.moves.CutMove.{CutMove}
-use Rattle.part_table.specs.declared.region.Region.{Region}
-use Rattle.hlr_owners.specs.Out.{outs_in}
-use Rattle.hlr_owners.specs.Owners.{OwnersState}
+use Rattle.hlr_workers.proofs.Common.{◌≡◌, ◌∙◌, ap, arith, get_or, set, sym, List, None, Ok, get_or_default, recut_answer, CutMove, Region, outs_in, OwnersState}
 use Rattle.hlr_workers.proofs.EngineLemmas.{brought_itself, brought_twice, none_still, sides_cut, sides_next}
 use Rattle.hlr_workers.proofs.engine.join_sides.Goals as goal
 

@@ -1,8 +1,4 @@
-use Rattle.std.proofs.Common.{◌<◌, ℕ, get_or}
-use Rattle.part_table.specs.declared.moves.CutMove.{CutMove}
-use Rattle.hlr_owners.specs.Out.{outs_in}
-use Rattle.hlr_workers.specs.Inside.{AreBrought}
-use Rattle.hlr_workers.specs.Kept.{NoneOut}
+use Rattle.hlr_workers.proofs.Common.{◌<◌, ℕ, get_or, CutMove, outs_in, AreBrought, NoneOut}
 use Rattle.hlr_workers.proofs.EngineLemmas.{AreSidesHome}
 use Rattle.hlr_workers.proofs.engine.join_sides.Given as goal
 

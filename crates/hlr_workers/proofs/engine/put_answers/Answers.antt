@@ -1,4 +1,4 @@
-use Rattle.std.proofs.Common.{◌∙◌, sym}
+use Rattle.hlr_workers.proofs.Common.{◌∙◌, sym}
 use Rattle.hlr_workers.proofs.StandingLemmas.{put_last}
 use Rattle.hlr_workers.proofs.engine.put_answers.Goals as goal
 

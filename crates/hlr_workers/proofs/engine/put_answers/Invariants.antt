@@ -1,5 +1,4 @@
-use Rattle.std.proofs.Common.{◌≡◌, vec_capacity}
-use Rattle.hlr_workers.specs.Inside.{put_answers}
+use Rattle.hlr_workers.proofs.Common.{◌≡◌, vec_capacity, put_answers}
 use Rattle.hlr_workers.proofs.engine.put_answers.Given as goal
 
 abbrev pub invariant-loop-answer : goal.invariant-loop-answer

@@ -1,5 +1,4 @@
-use Rattle.std.proofs.Common.{◌∙◌, refl, ap, arith, [], ◌∷◌, length, length-append}
-use Rattle.hlr_core.specs.Tasks.{job_of}
+use Rattle.hlr_workers.proofs.Common.{◌∙◌, refl, ap, arith, [], ◌∷◌, length, length-append, job_of}
 use Rattle.hlr_workers.proofs.SessionLemmas.{itself, job_same, same_twice, within_later}
 use Rattle.hlr_workers.proofs.WorkLemmas.{more_next, more_none, one_within}
 use Rattle.hlr_workers.proofs.work.do_batch.Goals as goal
@@ -21,12 +20,7 @@ carry_out-reply-requires-clause-within g c =
 
 pub push_reserved-requires : goal.push_reserved-requires
 push_reserved-requires g c =
-    let low = rw c.as_slice-one-items.ensures.value at c.loop-one-test.true in
-    let is = c.loop-one.replies.ok in
-    let long = c.loop-one.invariant.long in
-    let capacity = c.loop-one.invariant.capacity in
-    let room = c.requires.room in
-    omega (arith, is, long, low, room, capacity)
+    omega (arith, c.loop-one.replies.ok, c.loop-one.invariant.long, rw c.as_slice-one-items.ensures.value at c.loop-one-test.true, c.requires.room, c.loop-one.invariant.capacity)
 
 pub loop-one-preserved : goal.loop-one-preserved
 loop-one-preserved g c =

@@ -1,7 +1,4 @@
-use Rattle.std.proofs.Common.{◌≡◌, ◌+◌, length, map, take, vec_capacity}
-use Rattle.hlr_owners.specs.Owners.{IsSameOwner}
-use Rattle.hlr_workers.specs.Finish.{IsSessionMore}
-use Rattle.hlr_workers.specs.Relay.{job_pair}
+use Rattle.hlr_workers.proofs.Common.{◌≡◌, ◌+◌, length, map, take, vec_capacity, IsSameOwner, IsSessionMore, job_pair}
 use Rattle.hlr_workers.proofs.work.do_batch.Given as goal
 
 abbrev pub invariant-loop-one : goal.invariant-loop-one

@@ -1,5 +1,4 @@
-use Rattle.std.proofs.Common.{arith}
-use Rattle.crossbeam_queue.specs.Passes.{view}
+use Rattle.hlr_workers.proofs.Common.{arith, view}
 use Rattle.hlr_workers.proofs.ShapeLemmas.{not_again}
 use Rattle.hlr_workers.proofs.WorkLemmas.{at_work, batch_done, room, stop_done, within}
 use Rattle.hlr_workers.proofs.work.serve.Goals as goal

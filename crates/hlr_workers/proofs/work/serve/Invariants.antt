@@ -1,7 +1,4 @@
-use Rattle.std.proofs.Common.{◌≡◌, ◌≤◌, vec_capacity}
-use Rattle.crossbeam_queue.specs.Passes.{view, IsPassOf}
-use Rattle.hlr_workers.specs.Finish.{IsAtWork}
-use Rattle.hlr_workers.specs.declared.work.TheConstants.{MOST_PENDING}
+use Rattle.hlr_workers.proofs.Common.{◌≡◌, ◌≤◌, vec_capacity, view, IsPassOf, IsAtWork, MOST_PENDING}
 use Rattle.hlr_workers.proofs.work.serve.Given as goal
 
 abbrev pub invariant-loop : goal.invariant-loop

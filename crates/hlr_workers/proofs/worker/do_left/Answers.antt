@@ -1,4 +1,4 @@
-use Rattle.std.proofs.Common.{arith}
+use Rattle.hlr_workers.proofs.Common.{arith}
 use Rattle.hlr_workers.proofs.ShapeLemmas.{not_again}
 use Rattle.hlr_workers.proofs.WorkLemmas.{batch_done, room, stop_done, within}
 use Rattle.hlr_workers.proofs.worker.do_left.Goals as goal
@@ -11,9 +11,7 @@ do_batch-requires-clause-within g c κs lives =
 pub do_batch-requires-clause-room : goal.do_batch-requires-clause-room
 do_batch-requires-clause-room g c =
     let left = rw c.in-Do.is at c.requires.left in
-    let few = room left.0 c.args.replies.now.items c.args.holding.now c.in-Do.batch left.1 left.2 in
-    let places = c.requires.room in
-    omega (arith, few, places)
+    omega (arith, room left.0 c.args.replies.now.items c.args.holding.now c.in-Do.batch left.1 left.2, c.requires.room)
 
 pub unreachable-requires : goal.unreachable-requires
 unreachable-requires g c =

@@ -1,8 +1,4 @@
-use Rattle.std.proofs.Common.{◌≡◌, ◌∙◌, List, ap, sym, true}
-use Rattle.crossbeam_queue.specs.Passes.{view}
-use Rattle.hlr_workers.specs.Relay.{log}
-use Rattle.hlr_workers.specs.declared.message.Log.{Log}
-use Rattle.hlr_workers.specs.declared.message.Message.{Message}
+use Rattle.hlr_workers.proofs.Common.{◌≡◌, ◌∙◌, List, ap, sym, true, view, log, Log, Message}
 use Rattle.hlr_workers.proofs.worker.do_rest.Goals as goal
 
 pub pop_rest-requires-clause-both : goal.pop_rest-requires-clause-both

@@ -1,8 +1,4 @@
-use Rattle.std.proofs.Common.{◌≡◌, ◌≤◌, true, vec_capacity}
-use Rattle.crossbeam_queue.specs.Passes.{view, IsPassOf}
-use Rattle.hlr_workers.specs.Finish.{HasDone}
-use Rattle.hlr_workers.specs.Relay.{log}
-use Rattle.hlr_workers.specs.declared.work.TheConstants.{MOST_PENDING}
+use Rattle.hlr_workers.proofs.Common.{◌≡◌, ◌≤◌, true, vec_capacity, view, IsPassOf, HasDone, log, MOST_PENDING}
 use Rattle.hlr_workers.proofs.worker.do_rest.Given as goal
 
 abbrev pub invariant-loop : goal.invariant-loop

@@ -1,9 +1,4 @@
-use Rattle.std.proofs.Common.{◌∙◌, ◌<◌, [], ◌∷◌, ◌++◌, ap, length, subst, sym}
-use Rattle.crossbeam_queue.specs.Passes.{view}
-use Rattle.hlr_core.specs.Session.{IsWithinJob}
-use Rattle.hlr_core.specs.Tasks.{job_of}
-use Rattle.hlr_workers.specs.Finish.{Sent}
-use Rattle.hlr_workers.specs.declared.work.TheConstants.{MOST_PENDING}
+use Rattle.hlr_workers.proofs.Common.{◌∙◌, ◌<◌, [], ◌∷◌, ◌++◌, ap, length, subst, sym, view, IsWithinJob, job_of, Sent, MOST_PENDING}
 use Rattle.hlr_workers.proofs.WorkLemmas.{held_may, held_more}
 use Rattle.hlr_workers.proofs.worker.hold.Goals as goal
 

@@ -1,7 +1,4 @@
-use Rattle.std.proofs.Common.{◌∙◌, ap}
-use Rattle.arrayvec.specs.ArrayVec.{ArrayVec}
-use Rattle.crossbeam_queue.specs.Passes.{view}
-use Rattle.hlr_workers.specs.declared.message.Numbered.{Numbered}
+use Rattle.hlr_workers.proofs.Common.{◌∙◌, ap, ArrayVec, view, Numbered}
 use Rattle.hlr_workers.proofs.WorkLemmas.{do_may, do_same, sends_do}
 use Rattle.hlr_workers.proofs.worker.offer.Goals as goal
 

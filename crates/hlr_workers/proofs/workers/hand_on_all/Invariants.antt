@@ -1,4 +1,4 @@
-use Rattle.std.proofs.Common.{◌≡◌}
+use Rattle.hlr_workers.proofs.Common.{◌≡◌}
 use Rattle.hlr_workers.proofs.workers.hand_on_all.Given as goal
 
 abbrev pub invariant-loop-part : goal.invariant-loop-part

@@ -1,4 +1,4 @@
-use Rattle.std.proofs.Common.{◌≡◌}
+use Rattle.hlr_workers.proofs.Common.{◌≡◌}
 use Rattle.hlr_workers.proofs.workers.offer_until.Given as goal
 
 abbrev pub invariant-loop : goal.invariant-loop

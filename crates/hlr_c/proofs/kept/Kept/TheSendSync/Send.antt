@@ -6,12 +6,9 @@ use denote.Builtin.{RawPtr}
 use denote.Memory.{lone}
 use denote.Param.Send.{IsSend, owning_send, part_keyless, sendable}
 use denote.RawPtr.{Ptr, block_ptr, null_ptr}
-use Rattle.std.specs.Prelude.{Option, None, Some}
-use Rattle.std.proofs.Crossing.{frees}
+use Rattle.hlr_c.proofs.Common.{Option, None, Some, frees, held, the_row, the_type}
 use Rattle.hlr_c.proofs.LenderCrossing.{lender_send}
 use Rattle.hlr_lent.specs.contracts.lender.Lender.{the_row as Lender}
-use Rattle.hlr_c.specs.Held.{held}
-use Rattle.hlr_c.specs.contracts.kept.Kept.{the_row, the_type}
 
 held_keyless : (p : Ptr) (o : Option Lender.Denot) → Keyless (held Lender p o)
 held_keyless p None = tt

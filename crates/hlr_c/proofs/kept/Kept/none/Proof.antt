@@ -1,6 +1,5 @@
 -- `none`: a null address, with which nothing is owned.
-use Rattle.std.proofs.Common.{◌≡◌, [], ◌∷◌, lit<, refl}
-use Rattle.std.specs.Prelude.{None}
+use Rattle.hlr_c.proofs.Common.{◌≡◌, [], ◌∷◌, lit<, refl, None, leaves, proved_at}
 use base.Fml.{ftrue}
 use base.Logic.{SProp, emp}
 use contract.Monad.{fact, fact_i}
@@ -14,7 +13,6 @@ use types.ByLocal.{alloc_all, free_all, look_at, pass_all, sets}
 use types.Kit.{‵, raw, ◌⊛◌, ◌$◌, ◌∵◌, !, by, keep, qed, split, use0}
 use types.Part.{agg}
 use types.Run.{and_then, enter, lit, no_more, returns}
-use Rattle.std.proofs.raw_atomic.Walks.{leaves, proved_at}
 use Rattle.hlr_c.proofs.KeptSteps.{none_in, word}
 use Rattle.hlr_c.proofs.kept.Kept.none.Code as code
 use Rattle.hlr_c.proofs.kept.Kept.none.Statement.{statement}

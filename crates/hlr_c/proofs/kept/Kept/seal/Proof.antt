@@ -1,6 +1,5 @@
 -- `seal`: the address of the parts, with no type; the allocator takes no room, and is let go.
-use Rattle.std.proofs.Common.{◌≡◌, subst, sym, List, [], ◌∷◌, ◌++◌, refl}
-use Rattle.std.specs.Prelude.{Some}
+use Rattle.hlr_c.proofs.Common.{◌≡◌, subst, sym, List, [], ◌∷◌, ◌++◌, refl, Some, Goes-blank, leaves, proved_at, Parts, pair, pair_fits, parts_out}
 use base.Fml.{ftrue}
 use base.Logic.{SProp, emp, ent, id⊢}
 use contract.Monad.{fact, fact_i}
@@ -17,13 +16,10 @@ use types.ByLocal.{alloc_all, free_all, get, get_in, look_at, pass_all, sets}
 use types.Kit.{‵, raw, ◌⊛◌, ◌$◌, ◌∵◌, !, by, fjoin, fsplit, keep, move, qed, split, suffices, use0}
 use types.Part.{agg, sub, whole}
 use types.Run.{and_then, enter, fld, no_more, of_opd, returns, stop}
-use Rattle.std.proofs.alloc.Calls.{Goes-blank}
 use Rattle.std.proofs.alloc.Global.TheLaws.{the_row_laws as global_laws}
-use Rattle.std.proofs.raw_atomic.Walks.{leaves, proved_at}
 use Rattle.std.specs.contracts.alloc.Global.{the_row as Global}
 use Rattle.std.specs.contracts.impls.GlobalAllocator.TheImpl.{ghosts as of_global}
 use Rattle.hlr_lent.specs.contracts.lender.Lender.{the_row as Lender}
-use Rattle.c_handle.proofs.PartsSteps.{Parts, pair, pair_fits, parts_out}
 use Rattle.hlr_c.proofs.KeptSteps.{kept_in, word}
 use Rattle.hlr_c.proofs.kept.Kept.seal.Code as code
 use Rattle.hlr_c.proofs.kept.Kept.seal.Statement.{statement}

@@ -6,11 +6,8 @@ use denote.Builtin.{RawPtr}
 use denote.Memory.{lone}
 use denote.Param.Send.{IsSend, owning_send, part_keyless, sendable}
 use denote.RawPtr.{Ptr, block_ptr, null_ptr}
-use Rattle.std.specs.Prelude.{Option, None, Some}
-use Rattle.std.proofs.Crossing.{frees}
-use Rattle.hlr_lent.proofs.CrossingLemmas.{owner_send}
+use Rattle.hlr_c.proofs.Common.{Option, None, Some, frees, owner_send, held}
 use Rattle.hlr_lent.specs.contracts.owner.Owner.{the_row as Owner}
-use Rattle.hlr_c.specs.Held.{held}
 use Rattle.hlr_c.specs.contracts.kept_part.KeptPart.{the_row, the_type}
 
 held_keyless : (p : Ptr) (o : Option Owner.Denot) → Keyless (held Owner p o)

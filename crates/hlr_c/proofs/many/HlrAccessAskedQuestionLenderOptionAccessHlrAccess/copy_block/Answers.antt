@@ -1,9 +1,5 @@
-use Rattle.std.proofs.Common.{◌∙◌, ℕ, refl}
-use Rattle.hlr_core.specs.Rows.{access_reply}
+use Rattle.hlr_c.proofs.Common.{◌∙◌, ℕ, refl, access_reply, access_told, AWAY, HlrAccessAsked}
 use Rattle.hlr_core.specs.declared.event.Event.TheVariants as event
-use Rattle.hlr_c.specs.Told.{access_told}
-use Rattle.hlr_c.specs.declared.codes.TheConstants.{AWAY}
-use Rattle.hlr_c.specs.declared.rows.HlrAccessAsked.{HlrAccessAsked}
 use Rattle.hlr_c.proofs.FoundLemmas.{found_of, told_of_found}
 use Rattle.hlr_c.proofs.many.HlrAccessAskedQuestionLenderOptionAccessHlrAccess.copy_block.Goals as goal
 

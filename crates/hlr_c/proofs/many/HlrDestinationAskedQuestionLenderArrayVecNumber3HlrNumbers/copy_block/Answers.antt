@@ -1,10 +1,5 @@
-use Rattle.std.proofs.Common.{◌∙◌, ℕ, refl}
-use Rattle.arrayvec.specs.ArrayVec.{ArrayVec}
-use Rattle.hlr_core.specs.Rows.{numbers_reply}
+use Rattle.hlr_c.proofs.Common.{◌∙◌, ℕ, refl, ArrayVec, numbers_reply, numbers_told, AWAY, HlrDestinationAsked}
 use Rattle.hlr_core.specs.declared.event.Event.TheVariants as event
-use Rattle.hlr_c.specs.Told.{numbers_told}
-use Rattle.hlr_c.specs.declared.codes.TheConstants.{AWAY}
-use Rattle.hlr_c.specs.declared.rows.HlrDestinationAsked.{HlrDestinationAsked}
 use Rattle.hlr_c.proofs.FoundLemmas.{found_of, told_of_found}
 use Rattle.hlr_c.proofs.many.HlrDestinationAskedQuestionLenderArrayVecNumber3HlrNumbers.copy_block.Goals as goal
 

@@ -1,10 +1,4 @@
-use Rattle.std.proofs.Common.{◌∙◌, ℕ, ap, map}
-use Rattle.tatp_actions.specs.Book.{access_at}
-use Rattle.hlr_core.specs.Rows.{access_reply}
-use Rattle.hlr_c.specs.Inside.{IsOwnAccess}
-use Rattle.hlr_c.specs.Many.{IsPartAccessRead}
-use Rattle.hlr_c.specs.Told.{access_told}
-use Rattle.hlr_c.specs.declared.rows.HlrAccessAsked.{HlrAccessAsked}
+use Rattle.hlr_c.proofs.Common.{◌∙◌, ℕ, ap, map, access_at, access_reply, IsOwnAccess, IsPartAccessRead, access_told, HlrAccessAsked}
 use Rattle.hlr_c.proofs.OwnLemmas.{access_is, map_of_map, told_of_own}
 use Rattle.hlr_c.proofs.part_many.HlrAccessAskedQuestionOwnerOptionAccessHlrAccess.copy_block.Goals as goal
 

@@ -1,11 +1,4 @@
-use Rattle.std.proofs.Common.{◌∙◌, ℕ, ap, map}
-use Rattle.arrayvec.specs.ArrayVec.{ArrayVec}
-use Rattle.tatp_actions.specs.Action.{destinations}
-use Rattle.hlr_core.specs.Rows.{numbers_reply}
-use Rattle.hlr_c.specs.Inside.{IsOwnCall}
-use Rattle.hlr_c.specs.Many.{IsPartDestinationRead}
-use Rattle.hlr_c.specs.Told.{numbers_told}
-use Rattle.hlr_c.specs.declared.rows.HlrDestinationAsked.{HlrDestinationAsked}
+use Rattle.hlr_c.proofs.Common.{◌∙◌, ℕ, ap, map, ArrayVec, destinations, numbers_reply, IsOwnCall, IsPartDestinationRead, numbers_told, HlrDestinationAsked}
 use Rattle.hlr_c.proofs.OwnLemmas.{map_of_map, numbers_are, told_of_own}
 use Rattle.hlr_c.proofs.part_many.HlrDestinationAskedQuestionOwnerArrayVecNumber3HlrNumbers.copy_block.Goals as goal
 

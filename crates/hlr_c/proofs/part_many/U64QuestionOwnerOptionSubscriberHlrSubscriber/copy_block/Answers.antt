@@ -1,9 +1,4 @@
-use Rattle.std.proofs.Common.{◌∙◌, ap, map}
-use Rattle.tatp_actions.specs.Book.{subscriber_at}
-use Rattle.hlr_core.specs.Rows.{subscriber_reply}
-use Rattle.hlr_c.specs.Inside.{IsOwn}
-use Rattle.hlr_c.specs.Many.{IsPartSubscriberRead}
-use Rattle.hlr_c.specs.Told.{subscriber_told}
+use Rattle.hlr_c.proofs.Common.{◌∙◌, ap, map, subscriber_at, subscriber_reply, IsOwn, IsPartSubscriberRead, subscriber_told}
 use Rattle.hlr_c.proofs.OwnLemmas.{subscriber_is, told_of_own}
 use Rattle.hlr_c.proofs.part_many.U64QuestionOwnerOptionSubscriberHlrSubscriber.copy_block.Goals as goal
 

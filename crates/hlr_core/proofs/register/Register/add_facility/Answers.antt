@@ -1,5 +1,4 @@
-use Rattle.hlr_core.proofs.Common.{true}
-use Rattle.std.specs.Prelude.{Some}
+use Rattle.hlr_core.proofs.Common.{true, Some}
 use Rattle.tatp_actions.specs.declared.action.Action.TheVariants as action
 use Rattle.hlr_core.proofs.HomeLemmas.{home_of_asked}
 use Rattle.hlr_core.proofs.register.Register.add_facility.Goals as goal

@@ -35,7 +35,7 @@ pub returns-in_err-add : goal.returns-in_err-add
 returns-in_err-add c =
     let p = err_from_is_err_and c.from_residual-in_err-add.result c.from_residual-in_err-add.ensures.1 in
     let here = at_home _ c.args.row (store_in c.self.inside.owners) _ _ c.s_id-s_id.ensures.value c.in_ok-number_in.ensures.home c.in_ok-number_in.ensures.number c.if-is_some.ensures in
-    let right = unadded_while_out c.self.inside.owners c.args.row c.board-board.ensures.ruled c.self.inside.index c.self.invariant here c.add.new.self c.in_err-add.field-0.0 (rw c.sub_nbr-number.ensures at c.in_err-add.ensures.added) in
+    let right = unadded_while_out c.self.inside.owners c.args.row c.rules.ensures.ruled c.self.inside.index c.self.invariant here c.add.new.self c.in_err-add.field-0.0 (rw c.sub_nbr-number.ensures at c.in_err-add.ensures.added) in
     rw (p.1, p.2, ← c.self.view_is) (record {
       step = own_step (event.AddSubscriber c.args.row) c.self.inside.owners c.self.inside.owners (reply.Refused c.in_err-add.field-0.0) refl right;
       homes = homes_kept c.self.inside.owners;
@@ -59,7 +59,7 @@ pub returns-in-Ok : goal.returns-in-Ok
 returns-in-Ok c =
     let here = at_home _ c.args.row (store_in c.self.inside.owners) _ _ c.s_id-s_id.ensures.value c.in_ok-number_in.ensures.home c.in_ok-number_in.ensures.number c.if-is_some.ensures in
     let added = rw (c.sub_nbr-number.ensures, c.s_id-s_id.ensures.value) at c.in_ok-add.ensures.added in
-    let right = added_while_out c.self.inside.owners c.args.row c.board-board.ensures.ruled c.self.inside.index c.self.invariant here c.edit_in.new.self _ (reply.Rows row_reply.Done) c.s_id-s_id.ensures.in_range added.0 c.in-Ok.ensures.while_out refl in
+    let right = added_while_out c.self.inside.owners c.args.row c.rules.ensures.ruled c.self.inside.index c.self.invariant here c.edit_in.new.self _ (reply.Rows row_reply.Done) c.s_id-s_id.ensures.in_range added.0 c.in-Ok.ensures.while_out refl in
     rw (← c.self.view_is) (record {
       step = own_step (event.AddSubscriber c.args.row) c.self.inside.owners c.edit_in.new.self (reply.Rows row_reply.Done) c.in-Ok.ensures.outs right;
       homes = homes_edited c.self.inside.owners c.edit_in.new.self c.in-Ok.ensures.homes c.in-Ok.ensures.outs c.in-Ok.ensures.same;
@@ -70,7 +70,7 @@ pub returns-in-Err : goal.returns-in-Err
 returns-in-Err c =
     let here = at_home _ c.args.row (store_in c.self.inside.owners) _ _ c.s_id-s_id.ensures.value c.in_ok-number_in.ensures.home c.in_ok-number_in.ensures.number c.if-is_some.ensures in
     let added = rw (c.sub_nbr-number.ensures, c.s_id-s_id.ensures.value) at c.in_ok-add.ensures.added in
-    let right = added_while_out c.self.inside.owners c.args.row c.board-board.ensures.ruled c.self.inside.index c.self.invariant here c.edit_in.new.self _ (reply.Refused c.in-Err.why) c.s_id-s_id.ensures.in_range added.0 c.in-Err.ensures.while_out refl in
+    let right = added_while_out c.self.inside.owners c.args.row c.rules.ensures.ruled c.self.inside.index c.self.invariant here c.edit_in.new.self _ (reply.Refused c.in-Err.why) c.s_id-s_id.ensures.in_range added.0 c.in-Err.ensures.while_out refl in
     rw (← c.self.view_is) (record {
       step = own_step (event.AddSubscriber c.args.row) c.self.inside.owners c.edit_in.new.self (reply.Refused c.in-Err.why) c.in-Err.ensures.outs right;
       homes = homes_edited c.self.inside.owners c.edit_in.new.self c.in-Err.ensures.homes c.in-Err.ensures.outs c.in-Err.ensures.same;

@@ -8,7 +8,7 @@ pub invariant_of-self : goal.invariant_of-self
 invariant_of-self c =
     let given = rw (← c.self.view_is) at c.requires in
     rw (c.back.ensures given.0 given.1.0)
-    (registered_later _ _ _ c.board-board.ensures.ruled (back_later _ given.0 _ given.1 (rw c.deref.ensures at c.lo-lo.ensures.rules)) c.self.invariant)
+    (registered_later _ _ _ c.rules-2.ensures.ruled (back_later _ given.0 _ given.1 (rw c.deref.ensures at c.rules.ensures)) c.self.invariant)
 
 pub returns : goal.returns
 returns c = λ i fits. rw (← c.self.view_is) (c.back.ensures i (rw (← c.self.view_is) at fits).0)

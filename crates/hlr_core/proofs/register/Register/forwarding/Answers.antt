@@ -1,5 +1,4 @@
-use Rattle.hlr_core.proofs.Common.{◌≡◌, ◌∙◌, sym, true, is_start_time, between_ok, both_from, LAST_SUBSCRIBER, with_outs, is_typed}
-use Rattle.std.proofs.Common.{◌&&◌}
+use Rattle.hlr_core.proofs.Common.{◌≡◌, ◌∙◌, sym, true, is_start_time, between_ok, both_from, LAST_SUBSCRIBER, with_outs, is_typed, ◌&&◌}
 use Rattle.hlr_core.proofs.LaterLemmas.{each_owner}
 use Rattle.hlr_core.proofs.register.Register.forwarding.Goals.{After-forwarding}
 use Rattle.hlr_core.proofs.register.Register.forwarding.Goals as goal

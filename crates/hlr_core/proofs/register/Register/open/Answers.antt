@@ -1,5 +1,4 @@
-use Rattle.hlr_core.proofs.Common.{◌≡◌, ap, subst, List, ℕ, store_in, Store, opening_from, zeros_are, zeros_opening}
-use Rattle.std.proofs.Common.{IfOk}
+use Rattle.hlr_core.proofs.Common.{◌≡◌, ap, subst, List, ℕ, store_in, Store, opening_from, zeros_are, zeros_opening, IfOk}
 use Rattle.hlr_core.proofs.register.Register.open.Goals as goal
 
 pub returns-clause-ok : goal.returns-clause-ok

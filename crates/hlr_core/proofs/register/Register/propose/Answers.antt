@@ -9,4 +9,4 @@ returns-clause-value c =
 pub returns-clause-counted : goal.returns-clause-counted
 returns-clause-counted c = λ none.
     proposed_counted (store_in c.args.self.now) _ (rw (c.self.view_is) at c.self.invariant.rows.rules) (returns-clause-value c)
-    (λ k below. rw (c.self.view_is) at (sym (unposted_is _ c.board-board.ensures.ruled _ c.board-board.ensures.desks k below)) ∙ none k below)
+    (λ k below. rw (c.self.view_is) at (sym (unposted_is _ c.rules.ensures.ruled _ c.rules.ensures.desks k below)) ∙ none k below)

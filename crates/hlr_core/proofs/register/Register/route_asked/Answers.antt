@@ -10,7 +10,7 @@ pub returns-in-Part : goal.returns-in-Part
 returns-in-Part c =
     let placed : place_of c.s_id.result c.self.inside.owners.regions ≡ Some (place.Part c.in-Part.part) =
     rw (← c.regions.ensures.value) (sym c.in-Part.ensures.value) in
-    rw (← c.self.view_is) (λ event rows asks. job_to event c.self.inside.owners rows c.s_id.result (job_of c.in-Ok.task) (rw c.in-Ok.is at asks) c.s_id.ensures c.in-Part.part c.board-board.ensures.ruled placed)
+    rw (← c.self.view_is) (λ event rows asks. job_to event c.self.inside.owners rows c.s_id.result (job_of c.in-Ok.task) (rw c.in-Ok.is at asks) c.s_id.ensures c.in-Part.part c.rules.ensures.ruled placed)
 
 pub returns-in-Piece : goal.returns-in-Piece
 returns-in-Piece c =

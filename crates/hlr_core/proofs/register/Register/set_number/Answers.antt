@@ -37,7 +37,7 @@ returns-in_err-rename c =
     let p = err_from_is_err_and c.from_residual-in_err-rename.result c.from_residual-in_err-rename.ensures.1 in
     let fits = between_ok 1 LAST_SUBSCRIBER c.args.s_id c.in_ok-s_id.s_id c.in_ok-s_id.ensures in
     let right =
-    unrenamed_while_out c.self.inside.owners c.in_ok-s_id.s_id c.args.sub_nbr c.in_ok-old.ensures.home c.board-board.ensures.ruled c.self.inside.index c.self.invariant c.in-Some.old (sym c.in-Some.is ∙ c.in_ok-old.ensures.number)
+    unrenamed_while_out c.self.inside.owners c.in_ok-s_id.s_id c.args.sub_nbr c.in_ok-old.ensures.home c.rules.ensures.ruled c.self.inside.index c.self.invariant c.in-Some.old (sym c.in-Some.is ∙ c.in_ok-old.ensures.number)
     c.rename.new.self c.in_err-rename.field-0.0 c.in_err-rename.ensures.renamed in
     rw (p.1, p.2, ← c.self.view_is) (record {
       step = own_step (event.SetNumber c.args.s_id c.args.sub_nbr) c.self.inside.owners c.self.inside.owners (reply.Refused c.in_err-rename.field-0.0) refl (rw (fits.1, ← fits.0) right);
@@ -57,7 +57,7 @@ returns c =
     let fits = between_ok 1 LAST_SUBSCRIBER c.args.s_id c.in_ok-s_id.s_id c.in_ok-s_id.ensures in
     let in_range = renaming_in_range c.in_ok-s_id.s_id c.args.sub_nbr c.value-value.result (rw (fits.0) fits.1) c.value-value.ensures.value c.value-value.ensures.in_range in
     let right =
-    renamed_while_out c.self.inside.owners c.in_ok-s_id.s_id c.args.sub_nbr c.in_ok-old.ensures.home c.board-board.ensures.ruled c.self.inside.index c.self.invariant c.in-Some.old (sym c.in-Some.is ∙ c.in_ok-old.ensures.number)
+    renamed_while_out c.self.inside.owners c.in_ok-s_id.s_id c.args.sub_nbr c.in_ok-old.ensures.home c.rules.ensures.ruled c.self.inside.index c.self.invariant c.in-Some.old (sym c.in-Some.is ∙ c.in_ok-old.ensures.number)
     c.rename.new.self c.edit_in.new.self (done_reply c.edit_in.result) (edited_reply c.edit_in.result) c.in_ok-rename.ensures.renamed in_range c.edit_in.ensures.while_out (edited_is c.edit_in.result) in
     rw (← c.self.view_is) (record {
       step = own_step (event.SetNumber c.args.s_id c.args.sub_nbr) c.self.inside.owners c.edit_in.new.self (edited_reply c.edit_in.result) c.edit_in.ensures.outs (rw (fits.1, ← fits.0) right);

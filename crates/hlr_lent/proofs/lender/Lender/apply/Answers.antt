@@ -1,4 +1,4 @@
-use Rattle.hlr_core.proofs.HomeLemmas.{home_after}
+use Rattle.hlr_lent.proofs.Common.{home_after}
 use Rattle.hlr_lent.proofs.EventLemmas.{rings_after}
 use Rattle.hlr_lent.proofs.lender.Lender.apply.Goals as goal
 

@@ -1,4 +1,4 @@
-use Rattle.std.proofs.Common.{◌≡◌, arith, refl, true, false}
+use Rattle.hlr_lent.proofs.Common.{◌≡◌, arith, refl, true, false}
 use Rattle.hlr_lent.proofs.lender.Lender.are_home.Goals as goal
 
 pub returns-then-not-is_part_home : goal.returns-then-not-is_part_home

@@ -1,5 +1,4 @@
-use Rattle.std.proofs.Common.{◌<◌, ◌≤◌, ℕ}
-use Rattle.hlr_owners.specs.Owners.{IsPartHome}
+use Rattle.hlr_lent.proofs.Common.{◌<◌, ◌≤◌, ℕ, IsPartHome}
 use Rattle.hlr_lent.proofs.lender.Lender.are_home.Given as goal
 
 abbrev pub invariant-loop-part : goal.invariant-loop-part

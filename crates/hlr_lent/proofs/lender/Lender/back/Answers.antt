@@ -1,20 +1,17 @@
-use Rattle.std.proofs.Common.{◌≡◌, ◌∙◌, sym, true, false, None}
-use Rattle.std.specs.Prelude.{Option}
-use Rattle.std.proofs.lemmas.List.{length-set}
-use Rattle.tatp_rows.proofs.OrderedLemmas.{by_test}
+use Rattle.hlr_lent.proofs.Common.{◌≡◌, ◌∙◌, sym, true, false, None, Option, length-set, by_test}
 use Rattle.hlr_lent.proofs.ComeLemmas.{come_back, come_rings, come_with}
 use Rattle.hlr_lent.proofs.RingLemmas.{Ring}
 use Rattle.hlr_lent.proofs.lender.Lender.back.Goals as goal
 
 pub back-requires : goal.back-requires
 back-requires c =
-    come_with c.self.inside.register c.board-board.ensures.ruled c.self.inside.rings.items c.self.invariant.0 c.args.part c.in-Some.ring (sym c.take_ring.ensures.ring ∙ c.in-Some.is)
+    come_with c.self.inside.register c.rules.ensures.ruled c.self.inside.rings.items c.self.invariant.0 c.args.part c.in-Some.ring (sym c.take_ring.ensures.ring ∙ c.in-Some.is)
     c.in-Some-arrived.holding.value (rw c.in-Some-arrived.is at c.arrived.ensures.come)
 
 pub invariant_of-self-in-Some-arrived : goal.invariant_of-self-in-Some-arrived
 invariant_of-self-in-Some-arrived c =
     let h = c.self.inside.register in
-    let are = c.board-board.ensures.ruled in
+    let are = c.rules.ensures.ruled in
     let rings = c.self.inside.rings.items in
     let is = sym c.take_ring.ensures.ring ∙ c.in-Some.is in
     let come = rw c.in-Some-arrived.is at c.arrived.ensures.come in
@@ -28,7 +25,7 @@ invariant_of-self-in-Some-arrived c =
 pub returns-in-Some-arrived-clause-come : goal.returns-in-Some-arrived-clause-come
 returns-in-Some-arrived-clause-come c =
     let h = c.self.inside.register in
-    let are = c.board-board.ensures.ruled in
+    let are = c.rules.ensures.ruled in
     let rings = c.self.inside.rings.items in
     let is = sym c.take_ring.ensures.ring ∙ c.in-Some.is in
     let come = rw c.in-Some-arrived.is at c.arrived.ensures.come in

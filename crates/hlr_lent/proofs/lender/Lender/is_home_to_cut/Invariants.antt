@@ -1,6 +1,4 @@
-use Rattle.std.proofs.Common.{◌<◌, ℕ, get_or}
-use Rattle.part_table.specs.declared.moves.CutMove.{CutMove}
-use Rattle.hlr_owners.specs.Recut.{IsHomeToMove}
+use Rattle.hlr_lent.proofs.Common.{◌<◌, ℕ, get_or, CutMove, IsHomeToMove}
 use Rattle.hlr_lent.proofs.lender.Lender.is_home_to_cut.Given as goal
 
 abbrev pub invariant-loop-bound_move : goal.invariant-loop-bound_move

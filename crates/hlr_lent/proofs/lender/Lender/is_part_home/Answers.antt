@@ -1,4 +1,4 @@
-use Rattle.std.proofs.Common.{◌<◌, ◌≤◌, arith, length, refl}
+use Rattle.hlr_lent.proofs.Common.{◌<◌, ◌≤◌, arith, length, refl}
 use Rattle.hlr_lent.proofs.RingLemmas.{past_home, test_tells}
 use Rattle.hlr_lent.proofs.lender.Lender.is_part_home.Goals as goal
 

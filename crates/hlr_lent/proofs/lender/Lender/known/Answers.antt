@@ -1,5 +1,4 @@
-use Rattle.std.proofs.Common.{◌≡◌, ◌∙◌, ap, refl, sym}
-use Rattle.hlr_lent.specs.Away.{allowed}
+use Rattle.hlr_lent.proofs.Common.{◌≡◌, ◌∙◌, ap, refl, sym, allowed}
 use Rattle.hlr_lent.proofs.EventLemmas.{asks_now, here_asks, here_barred, refused_here, right_here}
 use Rattle.hlr_lent.proofs.lender.Lender.known.Goals as goal
 

@@ -1,6 +1,4 @@
-use Rattle.std.proofs.Common.{◌<◌, ◌∙◌, arith, refl, length, Some}
-use Rattle.std.proofs.lemmas.List.{length-set}
-use Rattle.hlr_owners.specs.Out.{outs_in}
+use Rattle.hlr_lent.proofs.Common.{◌<◌, ◌∙◌, arith, refl, length, Some, length-set, outs_in}
 use Rattle.hlr_lent.proofs.RingLemmas.{rings_put}
 use Rattle.hlr_lent.proofs.RegionOwnerLemmas.{few_outs, fits_again, lent_outs, lent_there, undone}
 use Rattle.hlr_lent.proofs.lender.Lender.lend.Goals as goal
@@ -8,17 +6,14 @@ use Rattle.hlr_lent.proofs.lender.Lender.lend.Goals as goal
 pub put_ring-requires : goal.put_ring-requires
 put_ring-requires c =
     let h = c.self.inside.register in
-    let are = c.board-board.ensures.ruled in
+    let are = c.rules.ensures.ruled in
     let went = c.lend-holding in
-    let there = lent_there h are c.args.part went.result.value went.new.self went.ensures.lent in
-    let few = few_outs h are in
-    let long = c.self.invariant.1 in
-    omega arith
+    omega (arith, lent_there h are c.args.part went.result.value went.new.self went.ensures.lent, few_outs h are, c.self.invariant.1)
 
 pub invariant_of-self : goal.invariant_of-self
 invariant_of-self c =
     let h = c.self.inside.register in
-    let are = c.board-board.ensures.ruled in
+    let are = c.rules.ensures.ruled in
     let went = c.lend-holding in
     let there = lent_there h are c.args.part went.result.value went.new.self went.ensures.lent in
     let few = few_outs h are in

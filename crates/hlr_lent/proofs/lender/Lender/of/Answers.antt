@@ -1,8 +1,4 @@
-use Rattle.std.proofs.Common.{◌≡◌, ◌∙◌, arith, None}
-use Rattle.std.specs.Prelude.{Option}
-use Rattle.std.proofs.lemmas.List.{length-replicate}
-use Rattle.part_table.specs.declared.region.TheConstants.{MOST_PARTS}
-use Rattle.hlr_owners.proofs.HomeLemmas.{part_home_of_all}
+use Rattle.hlr_lent.proofs.Common.{◌≡◌, ◌∙◌, arith, None, Option, length-replicate, MOST_PARTS, part_home_of_all}
 use Rattle.hlr_lent.proofs.RingLemmas.{Ring, no_rings}
 use Rattle.hlr_lent.proofs.lender.Lender.of.Goals as goal
 

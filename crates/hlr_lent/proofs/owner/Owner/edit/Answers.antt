@@ -1,11 +1,4 @@
-use Rattle.std.proofs.Common.{◌∙◌, ap, refl}
-use Rattle.rtrb.specs.Ring.{sent}
-use Rattle.tatp_actions.specs.Action.{done_reply}
-use Rattle.view_board.specs.Desks.{Station}
-use Rattle.holding.specs.Held.{HoldingState}
-use Rattle.holding.specs.declared.job.Job.TheVariants.{Act}
-use Rattle.hlr_core.specs.Session.{IsActed}
-use Rattle.hlr_core.specs.Step.{reply_of}
+use Rattle.hlr_lent.proofs.Common.{◌∙◌, ap, refl, sent, done_reply, Station, HoldingState, Act, IsActed, reply_of}
 use Rattle.hlr_lent.proofs.JobLemmas.{one_more}
 use Rattle.hlr_lent.proofs.owner.Owner.edit.Goals as goal
 

@@ -1,9 +1,4 @@
-use Rattle.std.proofs.Common.{◌∙◌, ap, refl}
-use Rattle.rtrb.specs.Ring.{sent}
-use Rattle.holding.specs.Held.{HoldingState}
-use Rattle.holding.specs.declared.job.Job.TheVariants.{Post}
-use Rattle.hlr_core.specs.Session.{IsPosted}
-use Rattle.hlr_core.specs.Step.{posted_reply}
+use Rattle.hlr_lent.proofs.Common.{◌∙◌, ap, refl, sent, HoldingState, Post, IsPosted, posted_reply}
 use Rattle.hlr_lent.proofs.JobLemmas.{one_more}
 use Rattle.hlr_lent.proofs.owner.Owner.post.Goals as goal
 

@@ -2,7 +2,7 @@ use Rattle.hlr_owners.proofs.Common.{◌∙◌, ap, refl, inl, arith}
 use Rattle.hlr_owners.proofs.DissolveLemmas.{dissolver_is_part, dissolver_width, dissolver_meets, dissolver_home, dissolved_home, part_again, all_dissolved}
 use Rattle.hlr_owners.proofs.PartLemmas.{owner_is_part, part_has_place}
 use Rattle.hlr_owners.proofs.PostedLemmas.{posted_before, part_slot}
-use Rattle.hlr_owners.proofs.RefusedLemmas.{only_memory, may_refuse}
+use Rattle.hlr_owners.proofs.EditLemmas.{only_memory, may_refuse}
 use Rattle.hlr_owners.proofs.owners.Owners.dissolve.Goals as goal
 
 pub remove-requires : goal.remove-requires
@@ -19,16 +19,14 @@ pub holding_mut-requires : goal.holding_mut-requires
 holding_mut-requires c =
     dissolver_home _ c.self.invariant.0 _ _ c.in_ok-i.ensures.answer _ c.in_ok-i.ensures.index c.in-Part.part_owner c.in-Part.ensures.value c.in-Part-index_mut.front (rw (c.in-Part-index_mut.is, c.remove.ensures.items) at c.index_mut.ensures.value) (rw (← c.self.view_is) at c.requires.home)
 
-pub dissolve-merged-requires-clause-width : goal.dissolve-merged-requires-clause-width
-dissolve-merged-requires-clause-width c =
-    rw (c.lend.ensures.holding, c.holding_mut.ensures.value) (dissolver_width _ c.self.invariant.0 _ _ c.in_ok-i.ensures.answer _ c.in_ok-i.ensures.index c.in-Part.part_owner c.in-Part.ensures.value c.in-Part-index_mut.front (rw (c.in-Part-index_mut.is, c.remove.ensures.items) at c.index_mut.ensures.value))
-
-pub dissolve-merged-requires-clause-board : goal.dissolve-merged-requires-clause-board
-dissolve-merged-requires-clause-board c =
-    rw (c.lend.ensures.holding, c.deref.ensures) (posted_before _ c.self.invariant.0 _ c.self.invariant.1 c.args.part _ c.in_ok-i.ensures.index c.in-Part.part_owner c.in-Part.ensures.value)
-
-pub dissolve-merged-requires-clause-alone : goal.dissolve-merged-requires-clause-alone
-dissolve-merged-requires-clause-alone c = rw c.lend.ensures.holding (part_slot _ c.self.invariant.0 _ c.self.invariant.1 c.args.part _ c.in_ok-i.ensures.index c.in-Part.part_owner c.in-Part.ensures.value)
+pub dissolve-merged-requires : goal.dissolve-merged-requires
+dissolve-merged-requires c =
+    let front = rw (c.in-Part-index_mut.is, c.remove.ensures.items) at c.index_mut.ensures.value in
+    rw (c.lend.ensures.holding, c.holding_mut.ensures.value, c.deref.ensures) (record {
+      width = dissolver_width _ c.self.invariant.0 _ _ c.in_ok-i.ensures.answer _ c.in_ok-i.ensures.index c.in-Part.part_owner c.in-Part.ensures.value c.in-Part-index_mut.front front;
+      board = posted_before _ c.self.invariant.0 _ c.self.invariant.1 c.args.part _ c.in_ok-i.ensures.index c.in-Part.part_owner c.in-Part.ensures.value;
+      alone = part_slot _ c.self.invariant.0 _ c.self.invariant.1 c.args.part _ c.in_ok-i.ensures.index c.in-Part.part_owner c.in-Part.ensures.value;
+    })
 
 pub unreachable-requires-in-Piece : goal.unreachable-requires-in-Piece
 unreachable-requires-in-Piece c = dissolver_is_part _ c.self.invariant.0 _ _ c.in_ok-i.ensures.answer _ c.in_ok-i.ensures.index c.in-Piece.field-0 (rw (c.in-Piece.is, c.remove.ensures.items) at c.index_mut.ensures.value)
@@ -42,8 +40,7 @@ invariant_of-self c =
     let again = part_again _ c.self.invariant.0 _ _ c.in_ok-i.ensures.answer _ c.in_ok-i.ensures.index c.in-Part.part_owner c.in-Part.ensures.value c.in-Part-index_mut.front (rw (c.in-Part-index_mut.is, c.remove.ensures.items) at c.index_mut.ensures.value) c.dissolve-merged.new.self c.of.result (rw c.holding_mut.ensures.value at c.in-Err.ensures.refused.1)
     (c.of.ensures.0 ∙ (ap (λ b. b.value) c.in-Err.ensures.refused.0 ∙ c.lend.ensures.holding)) c.of.ensures.1 (rw (← c.self.view_is) at c.requires.home) in
     let longer = c.insert_reserved.ensures.capacity in
-    let long = c.remove.ensures.capacity in
-    rw (c.insert_reserved.ensures.items, c.remove.ensures.items, again) (c.self.invariant.0, c.self.invariant.1, omega (arith, c.self.invariant.2))
+    rw (c.insert_reserved.ensures.items, c.remove.ensures.items, again) (c.self.invariant.0, c.self.invariant.1, omega (arith, c.self.invariant.2, c.remove.ensures.capacity))
 
 pub returns-in-Err : goal.returns-in-Err
 returns-in-Err c =

@@ -1,9 +1,9 @@
 use Rattle.hlr_owners.proofs.Common.{refl, inl, arith, Part}
 use Rattle.hlr_owners.proofs.DivideLemmas.{room_for_part, few_desks, divider_inside, divider_home, all_divided, spare_again}
-use Rattle.hlr_owners.proofs.IndexedLemmas.{set_same}
+use Rattle.hlr_owners.proofs.ListLemmas.{set_same}
 use Rattle.hlr_owners.proofs.PartLemmas.{part_has_place, owner_is_part}
 use Rattle.hlr_owners.proofs.PartDeskLemmas.{has_free, blank}
-use Rattle.hlr_owners.proofs.RefusedLemmas.{only_memory, may_refuse}
+use Rattle.hlr_owners.proofs.EditLemmas.{only_memory, may_refuse}
 use Rattle.hlr_owners.proofs.owners.Owners.divide.Goals as goal
 
 pub unreachable-requires : goal.unreachable-requires

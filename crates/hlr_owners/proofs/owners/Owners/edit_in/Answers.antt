@@ -1,7 +1,7 @@
 use Rattle.hlr_owners.proofs.Common.{refl, PartOwnerState, out_of, Part}
 use Rattle.hlr_owners.proofs.WhileOutLemmas.{acted_while_out, refused_while_out}
 use Rattle.hlr_owners.proofs.HomeLemmas.{owner_home}
-use Rattle.hlr_owners.proofs.IndexedLemmas.{set_same}
+use Rattle.hlr_owners.proofs.ListLemmas.{set_same}
 use Rattle.hlr_owners.proofs.OutLemmas.{none_out}
 use Rattle.hlr_owners.proofs.RegionOwnerLemmas.{owner_there, owner_within, exchanged, parts-kept, acted_answer, piece_answer, ruled_rows}
 use Rattle.hlr_owners.proofs.owners.Owners.edit_in.Goals as goal

@@ -1,18 +1,10 @@
-use Rattle.hlr_owners.proofs.Common.{◌∙◌, ap, List, arith, Box, Global, length-map, HoldingState, PieceState, unboxed, AreOwners, store_in, unposted, RegionOwner}
-use Rattle.hlr_owners.proofs.ApartFitLemmas.{do_fit, gathered_desks}
-use Rattle.hlr_owners.proofs.ApartLemmas.{desks_from}
+use Rattle.hlr_owners.proofs.Common.{◌∙◌, ap, List, arith, Box, Global, length-map, HoldingState, PieceState, unboxed, store_in, unposted, RegionOwner}
+use Rattle.hlr_owners.proofs.ApartLemmas.{do_fit, gathered_desks, desks_from}
 use Rattle.hlr_owners.proofs.ApartStoreLemmas.{ruled_from, store_from_owners, pending_from}
 use Rattle.hlr_owners.proofs.HomeLemmas.{all_home}
 use Rattle.hlr_owners.proofs.RegionOwnerLemmas.{ruled_rows}
 use Rattle.hlr_owners.proofs.SumLemmas.{unposted_is}
 use Rattle.hlr_owners.proofs.owners.Owners.gathered.Goals as goal
-
--- the rules of the owners
-ruled : (c : goal.After-owners_of) → AreOwners (record { regions = c.prepared.inside.regions; owners = c.owners_of.result.items; spare = c.args.scattered.frame.spare; width = c.args.scattered.frame.width })
-ruled c =
-    let is = c.requires.surveyed in
-    rw (c.owners_of.ensures.owners, c.prepared.view_is, is.over)
-    (ruled_from (unboxed c.args.scattered.holdings.items) c.args.scattered.pieces.items _ (do_fit _ _ _ is.fits) is.each_holding is.each_piece _ (rw is.over at is.right))
 
 pub owners_of-requires-clause-room : goal.owners_of-requires-clause-room
 owners_of-requires-clause-room c =
@@ -23,27 +15,23 @@ owners_of-requires-clause-room c =
 
 pub invariant_of-result : goal.invariant_of-result
 invariant_of-result c = (
-  ruled c,
+  rw (c.owners_of.ensures.owners, c.prepared.view_is, c.requires.surveyed.over) (ruled_from (unboxed c.args.scattered.holdings.items) c.args.scattered.pieces.items _
+      (do_fit _ _ _ c.requires.surveyed.fits) c.requires.surveyed.each_holding c.requires.surveyed.each_piece _ (rw c.requires.surveyed.over at c.requires.surveyed.right)),
   rw (c.owners_of.ensures.owners, desks_from (unboxed c.args.scattered.holdings.items) c.args.scattered.pieces.items)
       (gathered_desks _ _ _ c.requires.desks c.net-net.ensures.wide c.requires.surveyed.each_holding),
   omega (arith, c.prepared.invariant.1, c.owners_of.ensures.capacity),
 )
 
-pub returns-clause-store : goal.returns-clause-store
-returns-clause-store c =
+pub returns : goal.returns
+returns c =
     let regions = c.prepared.view_is ∙ c.requires.surveyed.over in
-    (λ k. store_in (record { regions = regions k; owners = c.owners_of.ensures.owners k; spare = c.args.scattered.frame.spare; width = c.args.scattered.frame.width }))
-    ∙ store_from_owners (unboxed c.args.scattered.holdings.items) c.args.scattered.pieces.items c.args.scattered.frame.width c.args.scattered.frame.spare
-
-pub returns-clause-home : goal.returns-clause-home
-returns-clause-home c = all_home _ c.owners_of.ensures.home
-
-pub returns-clause-rows : goal.returns-clause-rows
-returns-clause-rows c = ruled_rows _ (ruled c)
-
-pub returns-clause-pending : goal.returns-clause-pending
-returns-clause-pending c k =
-    ap (λ (owners : List RegionOwner). unposted owners k) c.owners_of.ensures.owners ∙ pending_from (unboxed c.args.scattered.holdings.items) c.args.scattered.pieces.items k
-
-pub returns-clause-difference : goal.returns-clause-difference
-returns-clause-difference c = let rules = invariant_of-result c in λ k below. unposted_is _ rules.0 _ rules.1 k below
+    let rules = invariant_of-result c in
+    record {
+      store = (λ k. store_in (record { regions = regions k; owners = c.owners_of.ensures.owners k; spare = c.args.scattered.frame.spare; width = c.args.scattered.frame.width }))
+          ∙ store_from_owners (unboxed c.args.scattered.holdings.items) c.args.scattered.pieces.items c.args.scattered.frame.width c.args.scattered.frame.spare;
+      owners = c.owners_of.ensures.owners;
+      home = all_home _ c.owners_of.ensures.home;
+      rows = ruled_rows _ rules.0;
+      pending = λ k. ap (λ (owners : List RegionOwner). unposted owners k) c.owners_of.ensures.owners ∙ pending_from (unboxed c.args.scattered.holdings.items) c.args.scattered.pieces.items k;
+      difference = unposted_is _ rules.0 _ rules.1;
+    }

@@ -1,7 +1,6 @@
 use Rattle.hlr_owners.proofs.Common.{refl, arith, inl, err_from_is_err_and, Part}
-use Rattle.hlr_owners.proofs.RefusedLemmas.{only_memory, may_refuse}
-use Rattle.hlr_owners.proofs.EditLemmas.{room_for_piece, giver_inside, piece_index-le, all_given}
-use Rattle.hlr_owners.proofs.IndexedLemmas.{set_same}
+use Rattle.hlr_owners.proofs.EditLemmas.{only_memory, may_refuse, room_for_piece, giver_inside, piece_index-le, all_given}
+use Rattle.hlr_owners.proofs.ListLemmas.{set_same}
 use Rattle.hlr_owners.proofs.PartLemmas.{part_has_place, owner_is_part, part_is_home}
 use Rattle.hlr_owners.proofs.owners.Owners.give.Goals as goal
 

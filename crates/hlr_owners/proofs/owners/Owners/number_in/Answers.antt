@@ -12,15 +12,15 @@ holding-requires c =
     let at = rw (← c.self.view_is) at c.requires.owner in
     owner_home _ c.self.invariant.0 _ _ at c.in-Part.part_owner (rw c.in-Part.is at c.index.ensures) (rw (← c.self.view_is) at c.requires.home)
 
-pub returns-in-Part-clause-number : goal.returns-in-Part-clause-number
-returns-in-Part-clause-number c =
+pub returns-in-Part : goal.returns-in-Part
+returns-in-Part c =
     let at = rw (← c.self.view_is) at c.requires.owner in
-    rw (← c.self.view_is, part_subscriber _ c.self.invariant.0 _ _ at c.in-Part.part_owner (rw c.in-Part.is at c.index.ensures), c.number_of.ensures, c.holding.ensures.value) refl
-
-pub returns-in-Part-clause-home : goal.returns-in-Part-clause-home
-returns-in-Part-clause-home c =
-    let at = rw (← c.self.view_is) at c.requires.owner in
-    rw (← c.self.view_is) (part_not_loose _ c.self.invariant.0 _ _ at c.in-Part.part_owner (rw c.in-Part.is at c.index.ensures))
+    let is = rw c.in-Part.is at c.index.ensures in
+    rw (← c.self.view_is) (record {
+      number = rw (part_subscriber _ c.self.invariant.0 _ _ at c.in-Part.part_owner is, c.number_of.ensures, c.holding.ensures.value) refl;
+      home = part_not_loose _ c.self.invariant.0 _ _ at c.in-Part.part_owner is;
+      moving = tt;
+    })
 
 pub returns-in-Piece-clause-moving : goal.returns-in-Piece-clause-moving
 returns-in-Piece-clause-moving c =

@@ -1,7 +1,7 @@
-use Rattle.hlr_owners.proofs.Common.{map-append, each-append, state_of, Part, ◌≡◌, ◌∙◌, arith, refl, sym, rules, length, ◌∷◌, [], WORDS}
-use Rattle.hlr_owners.proofs.OpenLemmas.{regions_few, width_fits, range_at, none_opened, one_opened}
+use Rattle.hlr_owners.proofs.Common.{map-append, each-append, state_of, Part, ◌≡◌, ◌∙◌, arith, refl, sym, rules, length, ◌∷◌, [], WORDS, PartOwnerState, ◌<◌, SLOTS}
+use Rattle.hlr_owners.proofs.ApartLemmas.{parts-last}
+use Rattle.hlr_owners.proofs.OpenLemmas.{regions_few, width_fits, range_at, none_opened, one_opened, IsPartOwnerHome, desks_long, opened_home, opened_ruled, opened_store}
 use Rattle.hlr_owners.proofs.ShareLemmas.{none_shared, first_of_board, one_of_board, one_shared, level_small, shared_desks}
-use Rattle.hlr_owners.proofs.OpenedLemmas.{IsPartOwnerHome, desks-push, desks_long, opened_home, opened_ruled, opened_store}
 use Rattle.hlr_owners.proofs.owners.Owners.open.Goals as goal
 
 pub loop-region-init : goal.loop-region-init
@@ -18,36 +18,25 @@ loop-region-init c =
       shared = none_shared c.args.words.now _ _ c.in_ok-board.ensures.ok.2 (rw none refl);
     }
 
-pub opened-requires-clause-slot : goal.opened-requires-clause-slot
-opened-requires-clause-slot c =
-    let few = regions_few c.args.parts c.args.width _ c.requires.can c.in_ok-regions.ensures in
-    let below = rw c.list-region-items.ensures.value at c.loop-region-test.true in
-    omega (arith, c.len-slot.ensures, c.loop-region.invariant.long)
-
-pub opened-requires-clause-own : goal.opened-requires-clause-own
-opened-requires-clause-own c =
+pub opened-requires : goal.opened-requires
+opened-requires c =
     let few = regions_few c.args.parts c.args.width _ c.requires.can c.in_ok-regions.ensures in
     let below = rw c.list-region-items.ensures.value at c.loop-region-test.true in
     let desks = desks_long c.loop-region.owners.items c.loop-region.invariant.home in
-    c.loop-region.invariant.shared.left c.len-slot.result (omega (arith, c.len-slot.ensures, c.loop-region.owners.ok.0)) (omega (arith, c.len-slot.ensures, c.loop-region.invariant.long))
-
-pub opened-requires-clause-small : goal.opened-requires-clause-small
-opened-requires-clause-small c =
-    level_small c.args.words.now c.loop-region.spare.view c.len-slot.result c.requires.level c.loop-region.invariant.of_board.0.wide c.loop-region.invariant.shared.numbers.0
-
-pub opened-requires-clause-range : goal.opened-requires-clause-range
-opened-requires-clause-range c = range_at _ _ _ c.list-region-items.ensures.regions c.loop-region-test.true
-
-pub opened-requires-clause-width : goal.opened-requires-clause-width
-opened-requires-clause-width c = width_fits c.args.parts c.args.width _ c.requires.can c.in_ok-regions.ensures
+    let slot : c.len-slot.result < SLOTS = omega (arith, c.len-slot.ensures, c.loop-region.invariant.long) in
+    record {
+      board = search rules;
+      slot = slot;
+      own = c.loop-region.invariant.shared.left c.len-slot.result (omega (arith, c.len-slot.ensures, c.loop-region.owners.ok.0)) slot;
+      small = level_small c.args.words.now c.loop-region.spare.view c.len-slot.result c.requires.level c.loop-region.invariant.of_board.0.wide c.loop-region.invariant.shared.numbers.0;
+      range = range_at _ _ _ c.list-region-items.ensures.regions c.loop-region-test.true;
+      width = width_fits c.args.parts c.args.width _ c.requires.can c.in_ok-regions.ensures;
+    }
 
 pub push_reserved-requires : goal.push_reserved-requires
 push_reserved-requires c =
     let few = regions_few c.args.parts c.args.width _ c.requires.can c.in_ok-regions.ensures in
-    let room = c.loop-region.invariant.room in
-    let long = c.loop-region.invariant.long in
-    let below = rw c.list-region-items.ensures.value at c.loop-region-test.true in
-    omega arith
+    omega (arith, c.loop-region.invariant.room, c.loop-region.invariant.long, rw c.list-region-items.ensures.value at c.loop-region-test.true)
 
 pub loop-region-preserved : goal.loop-region-preserved
 loop-region-preserved c =
@@ -61,9 +50,9 @@ loop-region-preserved c =
       long = omega (arith, c.push_reserved.ensures.len);
       home = rw c.push_reserved.ensures.items (each-append IsPartOwnerHome c.loop-region.owners.items (Part c.of.result ∷ []) c.loop-region.invariant.home (c.of.ensures.1, tt));
       opened = rw (c.push_reserved.ensures.items, map-append state_of c.loop-region.owners.items (Part c.of.result ∷ []), c.of.ensures.0) (one_opened _ _ _ _ _ _ c.loop-region-test.true c.loop-region.invariant.opened is.0);
-      of_board = rw (c.push_reserved.ensures.items, desks-push c.loop-region.owners.items c.of.result, c.of.ensures.0, is.1, is.2) (one_of_board c.args.words.now c.loop-region.spare _ c.len-slot.result (omega (arith, c.len-slot.ensures))
+      of_board = rw (c.push_reserved.ensures.items, parts-last (λ (o : PartOwnerState). o.holding.desk) c.loop-region.owners.items (Part c.of.result), c.of.ensures.0, is.1, is.2) (one_of_board c.args.words.now c.loop-region.spare _ c.len-slot.result (omega (arith, c.len-slot.ensures))
           (omega (arith, c.len-slot.ensures, c.loop-region.owners.ok.0)) _ c.loop-region.invariant.of_board);
-      shared = rw (c.push_reserved.ensures.items, desks-push c.loop-region.owners.items c.of.result, c.of.ensures.0, is.1, is.2) (one_shared c.args.words.now c.loop-region.spare _ c.len-slot.result (omega (arith, c.len-slot.ensures))
+      shared = rw (c.push_reserved.ensures.items, parts-last (λ (o : PartOwnerState). o.holding.desk) c.loop-region.owners.items (Part c.of.result), c.of.ensures.0, is.1, is.2) (one_shared c.args.words.now c.loop-region.spare _ c.len-slot.result (omega (arith, c.len-slot.ensures))
           (omega (arith, c.len-slot.ensures, c.loop-region.owners.ok.0)) c.loop-region.invariant.of_board.0.wide c.loop-region.invariant.shared);
     }
 

@@ -1,7 +1,6 @@
 use Rattle.hlr_owners.proofs.Common.{◌≡◌, ◌≤◌, ◌∷◌, vec_len, arc_value, AllByRecursion, vec_capacity, IsOfBoard, states_in, desks_in}
-use Rattle.hlr_owners.proofs.OpenLemmas.{AreOpened}
+use Rattle.hlr_owners.proofs.OpenLemmas.{AreOpened, IsPartOwnerHome}
 use Rattle.hlr_owners.proofs.ShareLemmas.{AreShared}
-use Rattle.hlr_owners.proofs.OpenedLemmas.{IsPartOwnerHome}
 use Rattle.hlr_owners.proofs.owners.Owners.open.Given as goal
 
 abbrev pub invariant-loop-region : goal.invariant-loop-region

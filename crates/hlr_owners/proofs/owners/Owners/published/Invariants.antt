@@ -1,6 +1,6 @@
-use Rattle.hlr_owners.proofs.Common.{states_in}
+use Rattle.hlr_owners.proofs.Common.{states_in, delta_at}
 use Rattle.hlr_owners.proofs.SumLemmas.{AreAdded, nets}
 use Rattle.hlr_owners.proofs.owners.Owners.published.Given as goal
 
 abbrev pub invariant-loop-owner : goal.invariant-loop-owner
-invariant-loop-owner l = AreAdded nets 0 (states_in l.owner-items) l.initial.sums l.sums l.owner-index
+invariant-loop-owner l = AreAdded nets 0 (states_in l.owner-items) (delta_at l.initial.sums) (delta_at l.sums) l.owner-index

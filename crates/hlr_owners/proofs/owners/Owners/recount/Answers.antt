@@ -1,23 +1,18 @@
-use Rattle.hlr_owners.proofs.Common.{arith, ℕ, blank_at, CELLS}
+use Rattle.hlr_owners.proofs.Common.{arith, ℕ, blank_at, CELLS, ints}
 use Rattle.hlr_owners.proofs.HomeLemmas.{home_at}
 use Rattle.hlr_owners.proofs.RegionOwnerLemmas.{state_is}
-use Rattle.hlr_owners.proofs.SumLemmas.{state_within, one_countable, counts_few, none_counted, one_fits, one_counted, added_counts}
+use Rattle.hlr_owners.proofs.SumLemmas.{counts, few_states, countable, state_within, one_countable, none_added, added_small, one_added, added_counts}
 use Rattle.hlr_owners.proofs.owners.Owners.recount.Goals as goal
 
 pub loop-owner-init : goal.loop-owner-init
-loop-owner-init c =
-    rw (← c.self.view_is, c.deref-owner-items.ensures.value) (none_counted _ _ _ (λ k below.
-    let zero = blank_at {A = ℕ} CELLS k 0 in
-    let few = counts_few _ c.self.invariant.0 k in
-    rw c.zero-counts.ensures (omega arith)))
+loop-owner-init c = none_added counts _ _ _ (λ k below. let zero = blank_at {A = ℕ} CELLS k 0 in rw c.zero-counts.ensures (omega (arith, ints), omega (arith, ints)))
 
 pub add-requires : goal.add-requires
-add-requires c =
-    let lt = rw c.deref-owner-items.ensures.value at c.loop-owner-test.true in
-    let is = rw c.deref-owner-items.ensures.value at c.owner-item.is in
-    let own = one_countable _ c.self.invariant.0 _ _ lt is in
-    let counted = rw (← c.self.view_is, c.deref-owner-items.ensures.value) at c.loop-owner.invariant in
-    one_fits _ _ _ _ _ _ _ (state_within _ c.self.invariant.0 _ lt) (state_is c.self.inside.owners.items c.loop-owner.owner-index c.owner-item.result is) counted c.recount.ensures own.zones
+add-requires c = λ k below.
+    let own = one_countable _ c.self.invariant.0 _ _ (rw c.deref-owner-items.ensures.value at c.loop-owner-test.true) (rw c.deref-owner-items.ensures.value at c.owner-item.is) in
+    let small = added_small counts _ _ _ _ _ _ (λ state is. is.counted)
+    (countable _ c.self.invariant.0) (few_states _ c.self.invariant.0) (rw c.deref-owner-items.ensures.value at c.loop-owner.invariant) k below in
+    omega (arith, ints, own.counted k below, c.recount.ensures k below)
 
 pub recount-requires : goal.recount-requires
 recount-requires c =
@@ -25,15 +20,12 @@ recount-requires c =
 
 pub loop-owner-preserved : goal.loop-owner-preserved
 loop-owner-preserved c =
-    let lt = rw c.deref-owner-items.ensures.value at c.loop-owner-test.true in
-    let is = rw c.deref-owner-items.ensures.value at c.owner-item.is in
-    let own = one_countable _ c.self.invariant.0 _ _ lt is in
-    let counted = rw (← c.self.view_is, c.deref-owner-items.ensures.value) at c.loop-owner.invariant in
-    rw (← c.self.view_is, c.deref-owner-items.ensures.value)
-    (one_counted _ _ _ _ _ _ _ (state_within _ c.self.invariant.0 _ lt) (state_is c.self.inside.owners.items c.loop-owner.owner-index c.owner-item.result is) counted c.recount.ensures own.zones _ c.add.ensures)
+    let within = state_within _ c.self.invariant.0 _ (rw c.deref-owner-items.ensures.value at c.loop-owner-test.true) in
+    one_added counts _ _ _ _ _ _ _ (rw c.deref-owner-items.ensures.value within) (state_is c.deref-owner-items.result.now c.loop-owner.owner-index c.owner-item.result c.owner-item.is) c.loop-owner.invariant
+    (λ k below. omega (arith, ints, c.add.ensures k below, c.recount.ensures k below))
 
 pub returns : goal.returns
 returns c =
     let past = rw c.deref-owner-items.ensures.value at c.loop-owner-test.false in
-    let counted = rw (← c.self.view_is, c.deref-owner-items.ensures.value) at c.loop-owner.invariant in
-    rw (← c.self.view_is) (added_counts _ c.self.invariant.0 _ _ _ (λ k. rw c.zero-counts.ensures (blank_at {A = ℕ} CELLS k 0)) past counted)
+    let all = rw c.deref-owner-items.ensures.value at c.loop-owner.invariant in
+    rw (← c.self.view_is) (added_counts _ c.self.invariant.0 _ _ _ (λ k. rw c.zero-counts.ensures (blank_at {A = ℕ} CELLS k 0)) past all)

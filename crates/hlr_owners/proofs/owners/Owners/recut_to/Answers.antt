@@ -7,15 +7,15 @@ use Rattle.hlr_owners.proofs.owners.Owners.recut_to.Goals as goal
 pub loop-bound_move-init : goal.loop-bound_move-init
 loop-bound_move-init c = (rw (← c.self.view_is, c.as_slice-bound_move-items.ensures.value) (moving_begins _ _ _ c.in_ok-moves.ensures.done), moved_none _)
 
-pub move_bound-requires-clause-can : goal.move_bound-requires-clause-can
-move_bound-requires-clause-can c = move_can _ _ _ _ _ _ c.loop-bound_move-test.true c.loop-bound_move.invariant.0
-
-pub move_bound-requires-clause-home : goal.move_bound-requires-clause-home
-move_bound-requires-clause-home c =
+pub move_bound-requires : goal.move_bound-requires
+move_bound-requires c =
     let answer = rw (← c.as_slice-bound_move-items.ensures.value) at c.in_ok-moves.ensures.answer in
     let same = rw (← c.self.view_is) at c.loop-bound_move.invariant.1.homes in
     let began : OwnersState = record { regions = c.self.inside.regions; owners = c.self.inside.owners.items; spare = c.self.inside.spare; width = c.self.inside.width } in
-    cut_move_home c.args.bounds.now began c.loop-bound_move.self _ _ _ answer (rw (← c.self.view_is) at c.requires.home) c.loop-bound_move-test.true same
+    record {
+      can = move_can _ _ _ _ _ _ c.loop-bound_move-test.true c.loop-bound_move.invariant.0;
+      home = cut_move_home c.args.bounds.now began c.loop-bound_move.self _ _ _ answer (rw (← c.self.view_is) at c.requires.home) c.loop-bound_move-test.true same;
+    }
 
 pub returns-in_err-move_bound : goal.returns-in_err-move_bound
 returns-in_err-move_bound c =

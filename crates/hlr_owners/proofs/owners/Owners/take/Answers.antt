@@ -1,5 +1,5 @@
 use Rattle.hlr_owners.proofs.Common.{refl, arith, inl}
-use Rattle.hlr_owners.proofs.RefusedLemmas.{only_memory, may_refuse}
+use Rattle.hlr_owners.proofs.EditLemmas.{only_memory, may_refuse}
 use Rattle.hlr_owners.proofs.TakeLemmas.{piece_there, taken_is_piece, taker_there, taker_is_part, taker_home, taken_width, taken_touch, put_again, all_taken}
 use Rattle.hlr_owners.proofs.owners.Owners.take.Goals as goal
 

@@ -1,7 +1,4 @@
-use Rattle.std.proofs.Common.{[], inl, refl, subst}
-use Rattle.hlr_owners.specs.Owners.{OwnersState, store_in}
-use Rattle.hlr_workers.specs.Kept.{NoneOut, engaged}
-use Rattle.hlr_workers.specs.Standing.{Stands}
+use Rattle.hlr_workers.proofs.Common.{[], inl, refl, subst, OwnersState, store_in, NoneOut, engaged, Stands}
 use Rattle.hlr_workers.proofs.WorkersLemmas.{outs_home}
 use Rattle.hlr_workers.proofs.EngineLemmas.{new_kept, new_stands}
 use Rattle.hlr_workers.proofs.engine.Engine.new.Goals as goal

@@ -1,4 +1,4 @@
-use Rattle.std.proofs.Common.{inl, inr}
+use Rattle.hlr_workers.proofs.Common.{inl, inr}
 use Rattle.hlr_workers.proofs.EngineLemmas.{cut_after, no_more, none_yet}
 use Rattle.hlr_workers.proofs.engine.Engine.recut_to.Goals as goal
 

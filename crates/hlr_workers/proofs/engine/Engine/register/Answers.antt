@@ -1,8 +1,5 @@
-use Rattle.std.proofs.Common.{◌≡◌, [], subst, sym}
-use Rattle.hlr_owners.specs.Owners.{store_in}
+use Rattle.hlr_workers.proofs.Common.{◌≡◌, [], subst, sym, store_in, engaged, Engaged, IsSettled, Stands}
 use Rattle.hlr_core.specs.declared.event.Reply.TheVariants as reply
-use Rattle.hlr_workers.specs.Kept.{engaged}
-use Rattle.hlr_workers.specs.Standing.{Engaged, IsSettled, Stands}
 use Rattle.hlr_workers.proofs.EngineLemmas.{all_home, new_stands, settled}
 use Rattle.hlr_workers.proofs.engine.Engine.register.Goals as goal
 

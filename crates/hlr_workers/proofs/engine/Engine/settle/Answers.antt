@@ -1,4 +1,4 @@
-use Rattle.std.proofs.Common.{inl, refl}
+use Rattle.hlr_workers.proofs.Common.{inl, refl}
 use Rattle.hlr_core.specs.declared.event.Reply.TheVariants as reply
 use Rattle.hlr_workers.proofs.EngineLemmas.{all_home, new_kept, new_stands, settled}
 use Rattle.hlr_workers.proofs.engine.Engine.settle.Goals as goal

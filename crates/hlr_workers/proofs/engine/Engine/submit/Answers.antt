@@ -1,4 +1,4 @@
-use Rattle.std.proofs.Common.{◌≡◌, ◌∙◌, inr, length}
+use Rattle.hlr_workers.proofs.Common.{◌≡◌, ◌∙◌, inr, length}
 use Rattle.hlr_workers.proofs.engine.Engine.submit.Goals as goal
 
 pub returns-clause-took : goal.returns-clause-took

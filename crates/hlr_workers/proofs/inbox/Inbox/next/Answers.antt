@@ -1,5 +1,4 @@
-use Rattle.std.proofs.Common.{◌∙◌, ap}
-use Rattle.hlr_workers.specs.declared.message.Log.{Log}
+use Rattle.hlr_workers.proofs.Common.{◌∙◌, ap, Log}
 use Rattle.hlr_workers.proofs.RelayLemmas.{gets}
 use Rattle.hlr_workers.proofs.inbox.Inbox.next.Goals as goal
 

@@ -1,5 +1,4 @@
-use Rattle.std.proofs.Common.{◌≡◌}
-use Rattle.crossbeam_queue.specs.Passes.{view, IsPassOf}
+use Rattle.hlr_workers.proofs.Common.{◌≡◌, view, IsPassOf}
 use Rattle.hlr_workers.proofs.inbox.Inbox.push.Given as goal
 
 abbrev pub invariant-loop : goal.invariant-loop

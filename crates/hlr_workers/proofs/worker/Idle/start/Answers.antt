@@ -1,9 +1,7 @@
 use mathlib.Core.List.{[], ◌∷◌}
 use denote.Exit.{yes}
 use denote.Param.Send.{param_send, arg_send}
-use Rattle.std.proofs.Common.{rules}
-use Rattle.std.proofs.Crossing.{Arc-send}
-use Rattle.tatp_rows.proofs.CrossingLemmas.{tuple_send}
+use Rattle.hlr_workers.proofs.Common.{rules, Arc-send, tuple_send}
 use Rattle.hlr_workers.proofs.CrossingLemmas.{byte_send, finished_send, inbox_shared_send, pass_send, replies_send}
 use Rattle.hlr_workers.proofs.RelayLemmas.{begins, forks}
 use Rattle.hlr_workers.proofs.worker.Idle.start.Goals as goal

@@ -1,9 +1,4 @@
-use Rattle.std.proofs.Common.{ap, arith, refl, subst}
-use Rattle.crossbeam_queue.specs.Passes.{view}
-use Rattle.hlr_workers.specs.Finish.{HasDone, Sent}
-use Rattle.hlr_workers.specs.Relay.{jobs_of, lent_of}
-use Rattle.hlr_workers.specs.Session.{IsSession}
-use Rattle.hlr_workers.specs.declared.message.Log.{Log}
+use Rattle.hlr_workers.proofs.Common.{ap, arith, refl, subst, view, HasDone, Sent, jobs_of, lent_of, IsSession, Log}
 use Rattle.hlr_workers.proofs.RelayLemmas.{merges}
 use Rattle.hlr_workers.proofs.WorkLemmas.{held_room, held_within}
 use Rattle.hlr_workers.proofs.worker.Worker.join.Goals as goal
@@ -27,9 +22,7 @@ pub do_batch-requires-clause-room : goal.do_batch-requires-clause-room
 do_batch-requires-clause-room g c κs lives =
     let v = view c.self.inside.pass in
     let done : HasDone v.sent c.do_rest.new.replies.items c.do_rest.new.holding = rw c.absorb.ensures.rule at c.do_rest.ensures.work in
-    let few = held_room v c.self.inside.held c.self.invariant.may c.do_rest.new.replies.items c.do_rest.new.holding done in
-    let places = c.do_rest.ensures.room in
-    omega (arith, few, places)
+    omega (arith, held_room v c.self.inside.held c.self.invariant.may c.do_rest.new.replies.items c.do_rest.new.holding done, c.do_rest.ensures.room)
 
 pub returns-clause-session : goal.returns-clause-session
 returns-clause-session g c =

@@ -1,8 +1,4 @@
-use Rattle.std.proofs.Common.{◌<◌, length, subst, sym}
-use Rattle.hlr_core.specs.Session.{IsWithinJob}
-use Rattle.hlr_core.specs.Tasks.{job_of}
-use Rattle.hlr_workers.specs.Finish.{Sent}
-use Rattle.hlr_workers.specs.declared.work.TheConstants.{MOST_PENDING}
+use Rattle.hlr_workers.proofs.Common.{◌<◌, length, subst, sym, IsWithinJob, job_of, Sent, MOST_PENDING}
 use Rattle.hlr_workers.proofs.worker.Worker.send.Goals as goal
 
 pub hold-requires-clause-room : goal.hold-requires-clause-room

@@ -1,5 +1,4 @@
-use Rattle.std.proofs.Common.{rules, ◌∙◌}
-use Rattle.crossbeam_queue.specs.Passes.{view}
+use Rattle.hlr_workers.proofs.Common.{rules, ◌∙◌, view}
 use Rattle.hlr_workers.proofs.WorkLemmas.{sends_stop, stop_may, stop_same}
 use Rattle.hlr_workers.proofs.worker.Worker.stop.Goals as goal
 

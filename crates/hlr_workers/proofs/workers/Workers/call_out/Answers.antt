@@ -1,5 +1,4 @@
-use Rattle.std.proofs.Common.{refl, inl, subst, ◌<◌, length, sym}
-use Rattle.hlr_workers.specs.Kept.{WorkersState}
+use Rattle.hlr_workers.proofs.Common.{refl, inl, subst, ◌<◌, length, sym, WorkersState}
 use Rattle.hlr_workers.proofs.WorkersLemmas.{without_worker, worker_out}
 use Rattle.hlr_workers.proofs.workers.Workers.call_out.Goals as goal
 
@@ -10,4 +9,4 @@ returns-then-has_worker-clause-out g c =
 pub start-requires-clause-home : goal.start-requires-clause-home
 start-requires-clause-home g c κs within =
     let low : c.args.part < length _ = subst (λ (v : WorkersState). c.args.part < length v.jobs) (sym c.self.view_is) c.requires in
-    rw (← c.self.view_is) (without_worker c.self.inside.register c.board-board.ensures.ruled c.self.inside.by_part.items c.self.invariant c.args.part low (sym c.if-has_worker.ensures))
+    rw (← c.self.view_is) (without_worker c.self.inside.register c.rules.ensures.ruled c.self.inside.by_part.items c.self.invariant c.args.part low (sym c.if-has_worker.ensures))

@@ -1,4 +1,4 @@
-use Rattle.std.proofs.Common.{◌≡◌, None, replicate}
+use Rattle.hlr_workers.proofs.Common.{◌≡◌, None, replicate}
 use Rattle.hlr_workers.proofs.workers.Workers.of.Given as goal
 
 abbrev pub invariant-loop : goal.invariant-loop

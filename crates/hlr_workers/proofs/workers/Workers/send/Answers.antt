@@ -1,7 +1,4 @@
-use Rattle.std.proofs.Common.{subst, sym}
-use Rattle.hlr_core.specs.Tasks.{job_of}
-use Rattle.hlr_workers.specs.Inside.{IsOut}
-use Rattle.hlr_workers.specs.Kept.{WorkersState}
+use Rattle.hlr_workers.proofs.Common.{subst, sym, job_of, IsOut, WorkersState}
 use Rattle.hlr_workers.proofs.WorkersLemmas.{IsSending, sends}
 use Rattle.hlr_workers.proofs.workers.Workers.send.Goals as goal
 use Rattle.hlr_workers.proofs.workers.Workers.send.Goals.{After-offer_before}
@@ -10,7 +7,7 @@ use Rattle.hlr_workers.proofs.workers.Workers.send.Goals.{After-offer_before}
 sending : (g : _) (c : After-offer_before g) → IsSending c.args.self.now c.self.inside.register c.self.inside.by_part.items c.args.part c.args.number (job_of c.args.task)
 sending g c =
     let out = subst (λ (v : WorkersState). IsOut c.args.part c.args.self.now v) (sym c.self.view_is) (rw c.in_ok-call_out.was at c.call_out.ensures.out) in
-    sends _ _ c.board-board.ensures.ruled _ c.self.invariant c.args.part c.args.number (job_of c.args.task) out c.requires.of c.requires.room
+    sends _ _ c.rules.ensures.ruled _ c.self.invariant c.args.part c.args.number (job_of c.args.task) out c.requires.of c.requires.room
 
 pub send_to-requires-clause-worker : goal.send_to-requires-clause-worker
 send_to-requires-clause-worker g c = rw c.offer_before.ensures (sending g (goal.at.send_to-requires-clause-worker g c).After-offer_before).may
