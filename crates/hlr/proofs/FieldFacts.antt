@@ -1,17 +1,5 @@
 -- Digits that are read one by one.
-use Rattle.std.proofs.Common.{◌≡◌, refl, sym, ◌∙◌, ℕ, ◌+◌, ◌-◌, ◌*◌, ◌%◌, ◌^◌, add-one, ◌<◌, ◌≤◌, List, length, get_or, take, true, false, ◌≢◌, below_more, rules, arith}
-use Rattle.std.specs.Prelude.{◌==◌, nat_lt, Bool, Ok, Err, slice_set, map}
-use Rattle.std.specs.List.{list_all}
-use Rattle.std.specs.Char.{is_ascii_digit, digit_value}
-use Rattle.std.specs.Str.Parse.{digits_value}
-use Rattle.std.proofs.lemmas.Bool.Decides.{nat_tests}
-use Rattle.std.proofs.lemmas.Str.Parse.{digits_value-take-le}
-use Rattle.std.proofs.lemmas.List.{take_all, ext_get_or, get_or-map, get_or-set_same, get_or-set_other, length-map, length-set}
-use Rattle.std.proofs.lemmas.Bool.{false≢true}
-use Rattle.std.proofs.Math.Nat.{pow-le-pow_right, pow-suc}
-use Rattle.std.proofs.lemmas.List.Folds.{list_all_more, list_all_at}
-use Rattle.tatp_rows.specs.declared.refusal.Refusal.TheVariants.{Field}
-use Rattle.tatp_rows.proofs.NumberLemmas.{AreDigits, digits_more}
+use Rattle.hlr.proofs.Common.{◌≡◌, refl, sym, ◌∙◌, ℕ, ◌+◌, ◌-◌, ◌*◌, ◌%◌, ◌^◌, add-one, ◌<◌, ◌≤◌, List, length, get_or, take, true, false, ◌≢◌, below_more, rules, arith, ◌==◌, nat_lt, Bool, Ok, Err, slice_set, map, list_all, is_ascii_digit, digit_value, digits_value, nat_tests, digits_value-take-le, take_all, ext_get_or, get_or-map, get_or-set_same, get_or-set_other, length-map, length-set, false≢true, pow-le-pow_right, pow-suc, list_all_more, list_all_at, Field, AreDigits, digits_more}
 use Rattle.hlr.specs.Fields.{number_field, digits_field}
 
 -- a byte that is no digit
@@ -76,9 +64,7 @@ short_more text i value above so inside byte is small =
 -- while bytes are left there is room for one more digit, and in the end the value fits
 pub short_fits : (text : List ℕ) (i value : ℕ) → IsReadTo text i value → i < length text → length text ≤ 19 → value < 10 ^ 18
 short_fits text i value so inside short =
-    let below = so.below in
-    let most = pow-le-pow_right {n = 10} (omega arith) {i = i} {j = 18} (omega arith) in
-    omega arith
+    omega (arith, so.below, pow-le-pow_right {n = 10} (omega arith) {i = i} {j = 18} (omega arith))
 
 pub short_whole : (text : List ℕ) (i value : ℕ) → (length text == 0) ≡ false → length text ≤ i → i ≤ 19 → IsReadTo text i value → Ok value ≡ number_field text
 short_whole text i value some past short so =

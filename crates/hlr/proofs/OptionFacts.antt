@@ -1,15 +1,7 @@
 -- What a parse of the program's words gives.
-use Rattle.std.proofs.Common.{◌≡◌, refl, sym, subst, ◌∙◌, ℕ, List, [], Option, Some, None, Bool, true, false, ap}
-use Rattle.std.specs.Prelude.{IfSome, Result, Ok, Err, codes}
-use Rattle.std.specs.Str.Parse.{digits_value, without_leading_plus, ParsesBool, ParsesUnsigned, ExplainsUnsignedError, HasUnsignedDigitsIfOk}
-use Rattle.std.specs.declared.num.ParseIntError.{ParseIntError}
-use Rattle.std.specs.declared.str.ParseBoolError.{ParseBoolError}
-use Rattle.std.proofs.lemmas.Result.{OkIff-at_ok}
-use Rattle.clap.specs.Words.{App, Rule, Text, FailsBy, HasKind, Kinds, HasMatchesOf, ReadsOne, fault_of, found_of, is_simple, is_simple_and_free, matches_of, new_app, one_of, one_text, rows_of, with_rule}
-use Rattle.clap.specs.declared.parser.matches.ArgMatches.{ArgMatches}
-use Rattle.clap.specs.declared.error.Error.{Error}
-use Rattle.clap.proofs.WalkLemmas.{one_text-rows}
-use Rattle.hlr.specs.Options.{flag_text, program, parts_rule, threads_rule, with_version, zone_rule, Spells, Tells}
+use Rattle.hlr.proofs.Common.{◌≡◌, refl, sym, subst, ◌∙◌, ℕ, List, [], Option, Some, None, Bool, true, false, ap, IfSome, Result, Ok, Err, codes, digits_value, without_leading_plus, ParsesBool, ParsesUnsigned, ExplainsUnsignedError, HasUnsignedDigitsIfOk, ParseIntError, ParseBoolError, OkIff-at_ok, App, Rule, Text, FailsBy, HasKind, Kinds, HasMatchesOf, fault_of, found_of, is_simple, is_simple_and_free, matches_of, new_app, one_of, one_text, rows_of, with_rule, ArgMatches, Error, one_text-rows, flag_text, parts_rule, threads_rule, with_version, zone_rule, Spells, Tells}
+use Rattle.clap.specs.Words.{ReadsOne}
+use Rattle.hlr.specs.Options.{program}
 
 -- the program is one that clap's definitions speak of
 pub program_simple : is_simple program ≡ true

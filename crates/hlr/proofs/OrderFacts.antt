@@ -1,20 +1,8 @@
 -- What records order of the register is a right run.
-use Rattle.std.proofs.Common.{◌≤◌, ℕ, List, [], ◌∷◌, ◌++◌, length}
-use Rattle.std.specs.Prelude.{Result, Ok, Err}
-use Rattle.arrayvec.specs.ArrayVec.{ArrayVec}
-use Rattle.tatp_rows.specs.declared.refusal.Refusal.{Refusal}
-use Rattle.hlr_owners.specs.Store.{Store}
-use Rattle.hlr_core.specs.Run.{IsRun}
-use Rattle.hlr_core.specs.declared.order.Answer.{Answer}
-use Rattle.hlr_core.specs.declared.order.Order.{Order}
-use Rattle.hlr_core.proofs.AtHomeLemmas.{same_at_home}
-use Rattle.hlr.specs.Command.{Command}
+use Rattle.hlr.proofs.Common.{◌≤◌, ℕ, List, [], ◌∷◌, ◌++◌, length, Result, Ok, Err, ArrayVec, Refusal, Store, IsRun, Answer, Order, same_at_home, Command, RECORDS, answer_in, order_of, orders_of, recut_answer_in, recut_order, bounds_of, command_of, AnsweredRecords, CommandText, RecutText}
 use Rattle.hlr.specs.Command.{Command as command}
-use Rattle.hlr.specs.declared.run.TheConstants.{RECORDS}
-use Rattle.hlr.specs.Orders.{answer_in, answers_in, order_of, orders_of, recut_answer_in, recut_order}
-use Rattle.hlr.specs.Records.{bounds_of, command_of}
-use Rattle.hlr.specs.Run.{AnsweredRecords}
-use Rattle.hlr.specs.Text.{CommandText, RecordsText, RecutText}
+use Rattle.hlr.specs.Orders.{answers_in}
+use Rattle.hlr.specs.Text.{RecordsText}
 use Rattle.hlr.proofs.ToldFacts.{answers_told}
 
 -- a re-cut, and a run behind it

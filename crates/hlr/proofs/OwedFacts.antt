@@ -1,34 +1,14 @@
 -- How the text of a run with threads grows: events are owed, and their answers are written at a settle.
-use Rattle.std.proofs.Common.{◌≡◌, refl, sym, ap, ◌∙◌, subst, ℕ, ◌+◌, ◌≤◌, ◌<◌, List, [], ◌∷◌, ◌++◌, length, Option, Some, Bool, true, false, append_assoc, length-append, inl, inr, arith}
-use Rattle.std.specs.Prelude.{◌⊎◌, map, IfSome, Result, Ok, Err, MatchResult}
-use Rattle.std.proofs.lemmas.List.{append-nil}
+use Rattle.hlr.proofs.Common.{◌≡◌, refl, sym, ap, ◌∙◌, subst, ℕ, ◌+◌, ◌≤◌, ◌<◌, List, [], ◌∷◌, ◌++◌, length, Option, Some, Bool, true, false, append_assoc, length-append, inl, inr, arith, ◌⊎◌, map, IfSome, Result, Ok, Err, MatchResult, append-nil, ArrayVec, Refusal, IsRecut, OwnersState, store_in, Store, IsRun, Event, Reply, answers_with, events_in, Asked, Cut, Engaged, IsSettled, Stands, Took, TookNext, recut_unseen, seen_as, stands_unseen, step_unseen, Command, Answers, AreAnswered, AreBrokenOff, AskFor, HasAnswered, HasCome, HasComeToEnd, HasTaken, IsAtRest, IsOwed, IsUnderway, kind_of, replies_text, with_sight, word_of_report, WritesOwed, reply_line, bounds_of, command_named, field, word_named, Adds, Outgoing, AreRead, AsksEvent, HasNextEvent, ReadsOne, StopsBehind, Unread, CommandText, RecordText, RecutText, Fault, Report, Word, Stalled}
 use Rattle.csv.specs.declared.parser.State.TheVariants as st
-use Rattle.arrayvec.specs.ArrayVec.{ArrayVec}
-use Rattle.tatp_rows.specs.declared.refusal.Refusal.{Refusal}
-use Rattle.hlr_owners.specs.Recut.{IsRecut}
-use Rattle.hlr_owners.specs.Owners.{OwnersState, store_in}
-use Rattle.hlr_owners.specs.Store.{Store}
-use Rattle.hlr_core.specs.Run.{IsRun}
-use Rattle.hlr_core.specs.declared.event.Event.{Event}
-use Rattle.hlr_core.specs.declared.event.Reply.{Reply}
-use Rattle.hlr_workers.specs.Standing.{answers_with, events_in, orders_of, Asked, Cut, Engaged, IsSettled, Stands, Took, TookNext}
-use Rattle.hlr_workers.proofs.UnseenLemmas.{recut_unseen, seen_as, stands_unseen, step_unseen}
-use Rattle.hlr.specs.Command.{Command}
+use Rattle.hlr_workers.specs.Standing.{orders_of}
 use Rattle.hlr.specs.Command.{Command as command}
-use Rattle.hlr.specs.Inside.{Answers, AreAnswered, AreBrokenOff, AskFor, HasAnswered, HasCome, HasComeToEnd, HasTaken, IsAtRest, IsOwed, IsUnderway, kind_of, replies_text, with_sight, word_of_report, WritesOwed}
-use Rattle.hlr.specs.Lines.{reply_line}
-use Rattle.hlr.specs.Records.{bounds_of, command_named, command_of, field, word_named}
-use Rattle.hlr.specs.Outgoing.{Adds, Outgoing}
-use Rattle.hlr.specs.Source.{AreRead, AsksEvent, HasNextEvent, ReadsOne, StopsBehind, Unread}
-use Rattle.hlr.specs.Text.{CommandText, RecordText, RecordsText, RecutText}
-use Rattle.hlr.specs.declared.fault.Fault.{Fault}
+use Rattle.hlr.specs.Records.{command_of}
+use Rattle.hlr.specs.Text.{RecordsText}
 use Rattle.hlr.specs.declared.fault.Fault.TheVariants as fault
 use Rattle.hlr.specs.declared.records.Kind.TheVariants as kind
-use Rattle.hlr.specs.declared.records.Report.{Report}
 use Rattle.hlr.specs.declared.records.Report.TheVariants as report
-use Rattle.hlr.specs.declared.records.Word.{Word}
 use Rattle.hlr.specs.declared.records.Word.TheVariants as word
-use Rattle.hlr.specs.declared.sink.Stalled.{Stalled}
 use Rattle.hlr.proofs.RunFacts.{answered_kept, broken_kept, come_to, has_next, if_known, if_some, read_all, read_is_no_write, read_more, read_none, records_more, stopped_at_last, stopped_by_read}
 use Rattle.hlr.proofs.SinkFacts.{adds_both, adds_front_after, adds_none}
 

@@ -1,18 +1,8 @@
 -- The bounds of a re-cut, read field by field.
-use Rattle.std.proofs.Common.{◌≡◌, refl, sym, ap, ◌∙◌, ℕ, zero, suc, ◌+◌, ◌^◌, ◌<◌, ◌≤◌, List, [], ◌∷◌, ◌++◌, length, drop, true, false, append_assoc, length-append, arith}
-use Rattle.std.specs.Prelude.{◌==◌, ◌&&◌, not, nat_lt, Result, Ok, Err}
-use Rattle.std.specs.List.{list_all}
-use Rattle.std.specs.Char.{is_ascii_digit}
-use Rattle.std.specs.Str.Parse.{digits_value}
-use Rattle.std.proofs.lemmas.Bool.Decides.{nat_tests}
-use Rattle.std.proofs.lemmas.List.{append-nil, drop_all, length-drop}
+use Rattle.hlr.proofs.Common.{◌≡◌, refl, sym, ap, ◌∙◌, ℕ, zero, suc, ◌+◌, ◌^◌, ◌<◌, ◌≤◌, List, [], ◌∷◌, ◌++◌, length, drop, true, false, append_assoc, length-append, arith, ◌==◌, ◌&&◌, not, nat_lt, Result, Ok, Err, list_all, is_ascii_digit, digits_value, nat_tests, append-nil, drop_all, length-drop, by_test, Refusal, Field, ◌>>=◌, number_fields, bounds_of, field, MOST_BOUNDS}
 use Rattle.csv.specs.Records.{field_at}
-use Rattle.tatp_rows.proofs.OrderedLemmas.{by_test}
-use Rattle.tatp_rows.specs.declared.refusal.Refusal.{Refusal}
-use Rattle.tatp_rows.specs.declared.refusal.Refusal.TheVariants.{Field}
-use Rattle.hlr.specs.Fields.{◌>>=◌, number_field, number_fields}
-use Rattle.hlr.specs.Records.{bound_fields, bounds_of, field}
-use Rattle.hlr.specs.declared.records.TheConstants.{MOST_BOUNDS}
+use Rattle.hlr.specs.Fields.{number_field}
+use Rattle.hlr.specs.Records.{bound_fields}
 
 -- the field at a place, and those behind it
 pub fields_from : (fields : List (List ℕ)) (i : ℕ) → i < length fields → drop i fields ≡ field fields i ∷ drop (i + 1) fields

@@ -1,23 +1,6 @@
 -- The lines of a report, one after another.
-use Rattle.std.proofs.Common.{◌≡◌, refl, sym, ap, ◌∙◌, subst, ℕ, zero, suc, ◌+◌, ◌-◌, ◌*◌, ◌^◌, ◌<◌, ◌≤◌, ◌==◌, min, List, [], ◌∷◌, ◌++◌, length, drop, get_or, Bool, true, false, Option, append_assoc, arith}
-use Rattle.std.specs.Prelude.{ℤ, nat_le}
-use Rattle.std.specs.List.{AllByRecursion, filter, flat_map, range_with_len}
-use Rattle.std.proofs.lemmas.Bool.Decides.{nat_tests}
-use Rattle.std.proofs.lemmas.List.{append-nil, drop_more, length-append}
-use Rattle.std.proofs.lemmas.List.Concat.{flat_map-append}
-use Rattle.tatp_rows.proofs.OrderedLemmas.{by_test, each-weaker, filter_all}
-use Rattle.tatp_rows.specs.Ordered.{IsOrderedBy}
-use Rattle.tatp_rows.specs.Spans.{keys_from}
-use Rattle.tatp_rows.specs.Number.{IsNumber}
-use Rattle.tatp_rows.proofs.AppendLemmas.{each-left}
-use Rattle.mr_node.specs.Rows.{key_of_pair}
-use Rattle.mr_node.specs.Pages.{IsPage}
-use Rattle.mr_node.proofs.PageLemmas.{is_emptied}
-use Rattle.number_index.specs.Pairs.{ArePairs}
-use Rattle.tatp_actions.specs.declared.cells.TheConstants.{CELLS}
-use Rattle.hlr.specs.Lines.{total_line}
-use Rattle.hlr.specs.Reports.{cells_where, rows_line, is_counted, is_standing, report_text, scan_text, standing_line, views_text}
-use Rattle.hlr.specs.Outgoing.{AddsFront, AddsWhole, Outgoing, outgoing}
+use Rattle.hlr.proofs.Common.{◌≡◌, refl, sym, ap, ◌∙◌, subst, ℕ, zero, suc, ◌+◌, ◌-◌, ◌*◌, ◌^◌, ◌<◌, ◌≤◌, ◌==◌, min, List, [], ◌∷◌, ◌++◌, length, drop, get_or, Bool, true, false, Option, append_assoc, arith, ℤ, nat_le, AllByRecursion, filter, flat_map, range_with_len, nat_tests, append-nil, drop_more, length-append, flat_map-append, by_test, each-weaker, filter_all, IsOrderedBy, keys_from, IsNumber, each-left, key_of_pair, IsPage, is_emptied, ArePairs, CELLS, total_line, rows_line, is_counted, is_standing, scan_text, standing_line, views_text, AddsFront, AddsWhole, Outgoing, outgoing}
+use Rattle.hlr.specs.Reports.{cells_where, report_text}
 use Rattle.hlr.proofs.LineFacts.{put_both}
 use Rattle.hlr.proofs.SinkFacts.{adds_both, adds_front_after, adds_front_wider, adds_grown, adds_none}
 

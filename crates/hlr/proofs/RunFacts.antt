@@ -1,35 +1,14 @@
 -- How the text of a run grows, record by record.
-use Rattle.std.proofs.Common.{◌≡◌, refl, sym, ap, ◌∙◌, subst, ℕ, ◌+◌, ◌≤◌, ◌<◌, List, [], ◌∷◌, ◌++◌, length, Option, Some, None, Bool, true, false, append_assoc, length-append, ◌⊎◌, inl, inr, arith}
-use Rattle.std.specs.Prelude.{◌==◌, IfSome, option_map, Result, Ok, Err}
-use Rattle.std.specs.Result.{is_err}
-use Rattle.std.proofs.lemmas.Bool.{false≢true}
-use Rattle.std.proofs.lemmas.Bool.Decides.{nat_tests}
-use Rattle.std.proofs.lemmas.List.{append-nil}
-use Rattle.std.specs.Io.KnownBytes.{Appends, Keeps}
-use Rattle.csv.specs.Machine.{Read, next_record}
-use Rattle.csv.specs.Reading.{AreRecords, NextIs, Reached, ReadsNext, default_config, strip_bom}
-use Rattle.csv.specs.declared.parser.State.{State}
+use Rattle.hlr.proofs.Common.{◌≡◌, refl, sym, ap, ◌∙◌, subst, ℕ, ◌+◌, ◌≤◌, ◌<◌, List, [], ◌∷◌, ◌++◌, length, Option, Some, None, Bool, true, false, append_assoc, length-append, ◌⊎◌, inl, inr, arith, ◌==◌, IfSome, option_map, Result, Ok, Err, is_err, false≢true, nat_tests, append-nil, Appends, Keeps, Read, next_record, AreRecords, NextIs, ReadsNext, default_config, strip_bom, State, reached-more, OwnersState, store_in, Store, command_named, field, word_named, Report, Word, AddsAnswer, Answers, AreAnswered, AreBrokenOff, HasCome, HasComeTo, HasComeToEnd, report_on, with_sight, word_of_report, Adds, AddsFront, AddsWhole, Outgoing, outgoing, WritesWhole, AnsweredRecords, RanFront, Ran, AreRead, HasNext, RanUntil, ReadsOne, StoppedFront, StopsBehind, Unread, CommandText, RecordText, Refusal, Fault, Command, Stalled}
+use Rattle.csv.specs.Reading.{Reached}
 use Rattle.csv.specs.declared.parser.State.TheVariants as st
-use Rattle.csv.proofs.ReadFacts.{reached-more}
-use Rattle.hlr_owners.specs.Owners.{OwnersState, store_in}
-use Rattle.hlr_owners.specs.Store.{Store}
-use Rattle.hlr.specs.Records.{command_of, command_named, field, word_named}
-use Rattle.hlr.specs.declared.records.Report.{Report}
+use Rattle.hlr.specs.Records.{command_of}
 use Rattle.hlr.specs.declared.records.Report.TheVariants as report
-use Rattle.hlr.specs.declared.records.Word.{Word}
 use Rattle.hlr.specs.declared.records.Word.TheVariants as word
-use Rattle.hlr.specs.Inside.{AddsAnswer, Answers, AreAnswered, AreBrokenOff, HasCome, HasComeTo, HasComeToEnd, report_on, with_sight, word_of_report}
-use Rattle.hlr.specs.Outgoing.{Adds, AddsFront, AddsWhole, Outgoing, outgoing}
-use Rattle.hlr.specs.Run.{WritesWhole, AnsweredRecords, RanFront, Ran}
-use Rattle.hlr.specs.Source.{AreRead, HasNext, RanUntil, ReadsOne, StoppedFront, StopsBehind, Unread}
-use Rattle.hlr.specs.Text.{CommandText, RecordText, RecordsText}
+use Rattle.hlr.specs.Text.{RecordsText}
 use Rattle.hlr.proofs.OrderFacts.{answered_records}
-use Rattle.tatp_rows.specs.declared.refusal.Refusal.{Refusal}
 use Rattle.tatp_rows.specs.declared.refusal.Refusal.TheVariants as refusal
-use Rattle.hlr.specs.declared.fault.Fault.{Fault}
-use Rattle.hlr.specs.Command.{Command}
 use Rattle.hlr.specs.Command.{Command as command}
-use Rattle.hlr.specs.declared.sink.Stalled.{Stalled}
 use Rattle.hlr.specs.declared.fault.Fault.TheVariants as fault
 use Rattle.hlr.proofs.SinkFacts.{adds_all, adds_begun, adds_both, adds_front, adds_front_after, adds_grown, adds_none, adds_on, adds_whole, appends_kept, appends_none, begins_all}
 

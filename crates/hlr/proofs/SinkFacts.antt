@@ -1,13 +1,5 @@
 -- Bytes that a sink took, piece by piece.
-use Rattle.std.proofs.Common.{◌≡◌, refl, sym, ap, ◌∙◌, ℕ, ◌-◌, List, [], ◌++◌, length, take, drop, Option, Some, None, append_assoc}
-use Rattle.std.specs.Prelude.{Bool, true, false, ◌||◌, Result, Ok, Err, IsErrAnd}
-use Rattle.std.specs.Result.{is_err}
-use Rattle.std.proofs.lemmas.Bool.{false≢true}
-use Rattle.std.proofs.lemmas.List.{append-nil, take-append-drop, take_rest}
-use Rattle.std.specs.Io.KnownBytes.{Appends, Keeps}
-use Rattle.hlr.specs.Sink.{AppendsFront, Begins}
-use Rattle.hlr.specs.Outgoing.{Adds, AddsFront, AddsWhole, Outgoing, outgoing}
-use Rattle.hlr.specs.declared.sink.Stalled.{Stalled}
+use Rattle.hlr.proofs.Common.{◌≡◌, refl, sym, ap, ◌∙◌, ℕ, ◌-◌, List, [], ◌++◌, length, take, drop, Option, Some, None, append_assoc, Bool, true, false, ◌||◌, Result, Ok, Err, IsErrAnd, is_err, false≢true, append-nil, take-append-drop, take_rest, Appends, Keeps, AppendsFront, Begins, Adds, AddsFront, AddsWhole, Outgoing, outgoing, Stalled}
 
 -- nothing was taken yet
 pub appends_none : (old : Option (List ℕ)) → Appends old old []

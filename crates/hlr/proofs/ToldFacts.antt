@@ -1,36 +1,12 @@
 -- From the store before a record, the text of its answer tells the answer.
-use Rattle.std.proofs.Common.{◌≡◌, refl, sym, ap, ◌∙◌, ℕ, ◌<◌, List, [], ◌∷◌, Option, Some, None, Bool, true, false, inl, inr, arith}
-use Rattle.std.specs.Prelude.{Result, Ok, Err}
-use Rattle.tatp_rows.specs.declared.refusal.Refusal.{Refusal}
+use Rattle.hlr.proofs.Common.{◌≡◌, refl, sym, ap, ◌∙◌, ℕ, ◌<◌, List, [], ◌∷◌, Option, Some, None, Bool, true, false, inl, inr, arith, Result, Ok, Err, Refusal, Action, RowReply, Book, ArrayVec, recut_answer, CutMove, Side, dissolve_answer, divide_answer, give_answer, take_answer, is_loose, MayAnswer, IsPosting, IsRecutBy, Store, slots_of, s_id_of, action_for, divided_reply, dissolved_reply, given_reply, posted_reply, reply_of, taken_reply, IsAskedStep, IsOwnedStep, IsStep, IsWholeOutcome, Event, SubscriberData, NewDestination, AccessData, UpdateSubscriber, UpdateLocation, InsertForwarding, DeleteForwarding, AddSubscriber, AddAccess, AddFacility, SetActive, SetNumber, Post, Give, Take, Divide, Dissolve, Reply, Command, ok_line, recut_line, reply_line, answer_in, recut_answer_in, bounds_of, command_of, CommandText, RecutText}
 use Rattle.tatp_rows.specs.declared.refusal.Refusal.TheVariants as refusal
-use Rattle.tatp_actions.specs.declared.action.Action.{Action}
-use Rattle.tatp_actions.specs.declared.action.RowReply.{RowReply}
 use Rattle.tatp_actions.specs.declared.action.RowReply.TheVariants as row_reply
-use Rattle.tatp_actions.specs.Book.{Book}
-use Rattle.arrayvec.specs.ArrayVec.{ArrayVec}
-use Rattle.part_table.specs.Recut.{recut_answer}
-use Rattle.part_table.specs.declared.moves.CutMove.{CutMove}
-use Rattle.part_table.specs.declared.region.Side.{Side}
-use Rattle.part_table.specs.Dissolve.{dissolve_answer}
-use Rattle.part_table.specs.Divide.{divide_answer}
-use Rattle.part_table.specs.Give.{give_answer}
-use Rattle.part_table.specs.Take.{take_answer}
-use Rattle.hlr_owners.specs.Answered.{is_loose, MayAnswer}
-use Rattle.hlr_owners.specs.Posting.{IsPosting}
-use Rattle.hlr_owners.specs.Recut.{IsRecutBy}
-use Rattle.hlr_owners.specs.Store.{Store, slots_of}
-use Rattle.tatp_actions.specs.Action.{s_id_of}
-use Rattle.hlr_core.specs.Step.{action_for, divided_reply, dissolved_reply, given_reply, posted_reply, reply_of, taken_reply, IsAskedStep, IsOwnedStep, IsStep, IsWholeOutcome}
-use Rattle.hlr_core.specs.declared.event.Event.{Event}
-use Rattle.hlr_core.specs.declared.event.Event.TheVariants.{SubscriberData, NewDestination, AccessData, UpdateSubscriber, UpdateLocation, InsertForwarding, DeleteForwarding, AddSubscriber, AddAccess, AddFacility, SetActive, SetNumber, Post, Give, Take, Divide, Dissolve}
-use Rattle.hlr_core.specs.declared.event.Reply.{Reply}
 use Rattle.hlr_core.specs.declared.order.Answer.TheVariants as answer
-use Rattle.hlr.specs.Command.{Command}
 use Rattle.hlr.specs.Command.{Command as command}
-use Rattle.hlr.specs.Lines.{ok_line, part_change_line, recut_line, refused_line, region_line, reply_line, taken_line, total_line}
-use Rattle.hlr.specs.Orders.{answer_in, recut_answer_in, TellAnswers}
-use Rattle.hlr.specs.Records.{bounds_of, command_of}
-use Rattle.hlr.specs.Text.{CommandText, RecordsText, RecutText}
+use Rattle.hlr.specs.Lines.{part_change_line, refused_line, region_line, taken_line, total_line}
+use Rattle.hlr.specs.Orders.{TellAnswers}
+use Rattle.hlr.specs.Text.{RecordsText}
 
 -- the first byte of a text, and its third
 abbrev first_of : List ℕ → ℕ

@@ -1,5 +1,4 @@
 pub mod Command
-pub mod Digits
 pub mod Fault
 pub mod Fields
 pub mod Inside

@@ -3,7 +3,6 @@ ghost use Rattle.std.specs.Prelude.{◌≡◌, ◌≤◌, ◌<◌, ◌+◌, ◌*
 ghost use Rattle.std.specs.Fmt.{signed_decimal};
 ghost use Rattle.tatp_rows.specs.Number.{number_text};
 ghost use Rattle.hlr_core.specs.Step.{edited_reply};
-ghost use Rattle.hlr.specs.Digits.{four_digits, two_digits};
 ghost use Rattle.hlr.specs.Lines.{hex_digit, hexes_text, bytes_text, numbers_text, ok_line, refused_line, subscriber_line, numbers_line, access_line, total_line, cell_line, counted_line, number_line, place_text, region_line, taken_line, part_change_line, decimals_text, bounds_line, recut_line, row_reply_line, reply_line};
 ghost use Rattle.hlr.specs.Written.{HasRoom};
 
@@ -27,18 +26,6 @@ pub const LINE_LIMIT: usize = 65_536;
 
 /// How many bytes there is room for.
 const LINE_SPACE: usize = LINE_LIMIT + LINE_ROOM;
-
-/// The two digits of each number below 100.
-static TWO_DIGITS: [u8; 200] = *b"00010203040506070809\
-10111213141516171819\
-20212223242526272829\
-30313233343536373839\
-40414243444546474849\
-50515253545556575859\
-60616263646566676869\
-70717273747576777879\
-80818283848586878889\
-90919293949596979899";
 
 /// The lines that aren't handed on yet, and behind them the one that is built. They take no memory: their bytes lie in
 /// the value itself, whence they go out.
@@ -133,69 +120,17 @@ impl Line {
         }
     }
 
-    /// Puts two digits behind: those of a number below 100.
+    /// Puts the digits of a number behind; the caller tells how many they are.
     #[inline(always)]
-    fn put_two(&mut self, n: u64)
-        requires { (n < 100) × (length self.old.items + 2 ≤ LINE_SPACE) }
-        ensures bytes { self.new.items ≡ self.old.items ++ two_digits n }
-        ensures len { length self.new.items ≡ length self.old.items + 2 }
-    {
-        let at = 2 * n as usize;
-        self.put_byte(TWO_DIGITS[at]);
-        self.put_byte(TWO_DIGITS[at + 1]);
-    }
-
-    /// Puts four digits behind: those of a number below 10,000.
-    #[inline(always)]
-    fn put_four(&mut self, n: u64)
-        requires { (n < 10000) × (length self.old.items + 4 ≤ LINE_SPACE) }
-        ensures bytes { self.new.items ≡ self.old.items ++ four_digits n }
-        ensures len { length self.new.items ≡ length self.old.items + 4 }
-    {
-        self.put_two(n / 100);
-        self.put_two(n % 100);
-    }
-
-    /// Puts a number below 100 in decimal behind.
-    #[inline(always)]
-    fn put_tiny(&mut self, n: u64)
-        requires { (n < 100) × (length self.old.items + 2 ≤ LINE_SPACE) }
+    fn put_digits(&mut self, n: u64, count: usize)
+        requires count { count ≡ length (decimal n) }
+        requires room { length self.old.items + count ≤ LINE_SPACE }
         ensures bytes { self.new.items ≡ self.old.items ++ decimal n }
-        ensures len { length self.new.items ≤ length self.old.items + 2 }
+        ensures len { length self.new.items ≡ length self.old.items + count }
     {
-        if n < 10 {
-            self.put_byte(b'0' + n as u8);
-        } else {
-            self.put_two(n);
-        }
-    }
-
-    /// Puts a number below 10,000 in decimal behind.
-    #[inline(always)]
-    fn put_short(&mut self, n: u64)
-        requires { (n < 10000) × (length self.old.items + 4 ≤ LINE_SPACE) }
-        ensures bytes { self.new.items ≡ self.old.items ++ decimal n }
-        ensures len { length self.new.items ≤ length self.old.items + 4 }
-    {
-        if n < 100 {
-            return self.put_tiny(n);
-        }
-        self.put_tiny(n / 100);
-        self.put_two(n % 100);
-    }
-
-    /// Puts a number below 100,000,000 in decimal behind.
-    #[inline(always)]
-    fn put_middle(&mut self, n: u64)
-        requires { (n < 100000000) × (length self.old.items + 8 ≤ LINE_SPACE) }
-        ensures bytes { self.new.items ≡ self.old.items ++ decimal n }
-        ensures len { length self.new.items ≤ length self.old.items + 8 }
-    {
-        if n < 10_000 {
-            return self.put_short(n);
-        }
-        self.put_short(n / 10_000);
-        self.put_four(n % 10_000);
+        let end = self.len + count;
+        write_digits(n, &mut self.bytes, end);
+        self.len = end;
     }
 
     /// Puts a number in decimal behind.
@@ -205,21 +140,17 @@ impl Line {
         ensures bytes { self.new.items ≡ self.old.items ++ decimal n }
         ensures len { length self.new.items ≤ length self.old.items + 20 }
     {
+        // Where the count is a literal, what writes longer numbers is compiled away.
+        if n < 10 {
+            return self.put_digits(n, 1);
+        }
         if n < 100 {
-            return self.put_tiny(n);
+            return self.put_digits(n, 2);
         }
-        if n < 100_000_000 {
-            return self.put_middle(n);
+        if n < 1_000 {
+            return self.put_digits(n, 3);
         }
-        let high = n / 10_000;
-        if n < 1_000_000_000_000 {
-            self.put_short(high / 10_000);
-        } else {
-            self.put_middle(high / 100_000_000);
-            self.put_four(high / 10_000 % 10_000);
-        }
-        self.put_four(high % 10_000);
-        self.put_four(n % 10_000);
+        self.put_digits(n, n.ilog10() as usize + 1);
     }
 
     /// Puts a number in decimal behind, with `-` before it where it is negative.
@@ -229,9 +160,6 @@ impl Line {
         ensures bytes { self.new.items ≡ self.old.items ++ signed_decimal n }
         ensures len { length self.new.items ≤ length self.old.items + 21 }
     {
-        if 0 <= n && n < 100 {
-            return self.put_tiny(n as u64);
-        }
         if n >= 0 {
             return self.put_decimal(n as u64);
         }
@@ -249,7 +177,7 @@ impl Line {
         if n > 999_999_999_999_999 {
             return self.put_decimal(n);
         }
-        self.put_word(b"000000000000000");
+        self.put(b"000000000000000");
         write_digits(n, &mut self.bytes, self.len);
     }
 }

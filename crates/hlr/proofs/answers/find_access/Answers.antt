@@ -1,4 +1,4 @@
-use Rattle.hlr_owners.proofs.HomeLemmas.{home_of_all}
+use Rattle.hlr.proofs.Common.{home_of_all}
 use Rattle.hlr.proofs.answers.find_access.Goals as goal
 
 pub lend_access-requires : goal.lend_access-requires

@@ -1,5 +1,4 @@
-use Rattle.hlr_owners.proofs.HomeLemmas.{home_of_all}
-use Rattle.hlr_core.proofs.HomeLemmas.{still_home}
+use Rattle.hlr.proofs.Common.{home_of_all, still_home}
 use Rattle.hlr.proofs.edits.add_subscriber.Goals as goal
 
 pub add_subscriber-requires : goal.add_subscriber-requires

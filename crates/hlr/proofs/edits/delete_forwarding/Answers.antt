@@ -1,5 +1,5 @@
 use Rattle.hlr_core.specs.declared.event.Event.TheVariants as event
-use Rattle.hlr_core.proofs.HomeLemmas.{home_to_all, still_home}
+use Rattle.hlr.proofs.Common.{home_to_all, still_home}
 use Rattle.hlr.proofs.edits.delete_forwarding.Goals as goal
 
 pub delete_forwarding-requires : goal.delete_forwarding-requires

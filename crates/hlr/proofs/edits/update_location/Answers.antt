@@ -1,5 +1,5 @@
 use Rattle.hlr_core.specs.declared.event.Event.TheVariants as event
-use Rattle.hlr_core.proofs.HomeLemmas.{home_to_all, still_home}
+use Rattle.hlr.proofs.Common.{home_to_all, still_home}
 use Rattle.hlr.proofs.edits.update_location.Goals as goal
 
 pub update_location-requires : goal.update_location-requires

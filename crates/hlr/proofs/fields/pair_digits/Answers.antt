@@ -1,5 +1,4 @@
-use Rattle.std.proofs.Common.{arith}
-use Rattle.std.proofs.lemmas.List.FromFn.{fill_by_all}
+use Rattle.hlr.proofs.Common.{arith, fill_by_all}
 use Rattle.hlr.specs.Fields.{bytes_of}
 use Rattle.hlr.proofs.fields.pair_digits.Goals as goal
 

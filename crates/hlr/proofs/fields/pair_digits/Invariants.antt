@@ -1,4 +1,4 @@
-use Rattle.std.proofs.Common.{◌≡◌, ◌<◌, ◌+◌, ◌*◌, ℕ, length, get_or}
+use Rattle.hlr.proofs.Common.{◌≡◌, ◌<◌, ◌+◌, ◌*◌, ℕ, length, get_or}
 use Rattle.hlr.proofs.fields.pair_digits.Given as goal
 
 abbrev pub invariant-loop-i : goal.invariant-loop-i

@@ -1,5 +1,4 @@
-use Rattle.std.proofs.Common.{sym, ◌∙◌, arith}
-use Rattle.std.proofs.lemmas.List.{length-replicate}
+use Rattle.hlr.proofs.Common.{sym, ◌∙◌, arith, length-replicate}
 use Rattle.hlr.proofs.FieldFacts.{none_read, one_read, all_read, refused_digit, refused_length}
 use Rattle.hlr.proofs.fields.parse_digits.Goals as goal
 

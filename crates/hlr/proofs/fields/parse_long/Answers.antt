@@ -1,5 +1,4 @@
-use Rattle.std.proofs.Common.{sym, ◌∙◌, arith}
-use Rattle.tatp_rows.proofs.NumberLemmas.{digits_more}
+use Rattle.hlr.proofs.Common.{sym, ◌∙◌, arith, digits_more}
 use Rattle.hlr.proofs.FieldFacts.{read_whole, refused_byte, refused_value}
 use Rattle.hlr.proofs.fields.parse_long.Goals as goal
 

@@ -1,4 +1,4 @@
-use Rattle.tatp_rows.proofs.NumberLemmas.{AreDigits}
+use Rattle.hlr.proofs.Common.{AreDigits}
 use Rattle.hlr.proofs.fields.parse_long.Given as goal
 
 abbrev pub invariant-loop-byte : goal.invariant-loop-byte

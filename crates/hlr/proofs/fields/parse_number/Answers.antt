@@ -1,4 +1,4 @@
-use Rattle.std.proofs.Common.{refl, sym, ◌∙◌, arith}
+use Rattle.hlr.proofs.Common.{refl, sym, ◌∙◌, arith}
 use Rattle.hlr.proofs.FieldFacts.{refused_empty, refused_byte, other_above, short_none, short_more, short_fits, short_whole}
 use Rattle.hlr.proofs.fields.parse_number.Goals as goal
 

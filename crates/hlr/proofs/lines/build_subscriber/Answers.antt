@@ -1,8 +1,6 @@
-use Rattle.std.proofs.Common.{◌++◌}
-use Rattle.std.specs.Prelude.{codes}
+use Rattle.hlr.proofs.Common.{◌++◌, codes, number_text, bytes_text, hexes_text}
 use Rattle.std.specs.Fmt.{decimal}
-use Rattle.tatp_rows.specs.Number.{number_text}
-use Rattle.hlr.specs.Lines.{bytes_text, hexes_text, subscriber_line}
+use Rattle.hlr.specs.Lines.{subscriber_line}
 use Rattle.hlr.proofs.LineFacts.{put_both}
 use Rattle.hlr.proofs.lines.build_subscriber.Goals as goal
 

@@ -1,5 +1,4 @@
-use Rattle.std.proofs.Common.{◌≡◌, ◌++◌, ◌+◌, ◌*◌, length, drop}
-use Rattle.hlr.specs.Lines.{bytes_text}
+use Rattle.hlr.proofs.Common.{◌≡◌, ◌++◌, ◌+◌, ◌*◌, length, drop, bytes_text}
 use Rattle.hlr.proofs.lines.put_bytes.Given as goal
 
 abbrev pub invariant-loop-at : goal.invariant-loop-at

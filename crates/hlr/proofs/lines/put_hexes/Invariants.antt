@@ -1,5 +1,4 @@
-use Rattle.std.proofs.Common.{◌≡◌, ◌++◌, ◌+◌, length, drop}
-use Rattle.hlr.specs.Lines.{hexes_text}
+use Rattle.hlr.proofs.Common.{◌≡◌, ◌++◌, ◌+◌, length, drop, hexes_text}
 use Rattle.hlr.proofs.lines.put_hexes.Given as goal
 
 abbrev pub invariant-loop-at : goal.invariant-loop-at

@@ -1,5 +1,4 @@
-use Rattle.std.proofs.Common.{◌≡◌, ◌≤◌, ◌++◌, ◌+◌, ◌*◌, length, drop}
-use Rattle.hlr.specs.Lines.{numbers_text}
+use Rattle.hlr.proofs.Common.{◌≡◌, ◌≤◌, ◌++◌, ◌+◌, ◌*◌, length, drop, numbers_text}
 use Rattle.hlr.proofs.lines.put_numbers.Given as goal
 
 abbrev pub invariant-loop-at : goal.invariant-loop-at

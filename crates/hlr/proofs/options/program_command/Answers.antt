@@ -1,7 +1,5 @@
-use Rattle.std.proofs.Common.{◌≡◌, ap, ◌∙◌, codes}
-use Rattle.std.proofs.lemmas.Result.{IfOk-weaker}
-use Rattle.clap.specs.Simple.{app_of, app_of_fields, new_app, with_rule}
-use Rattle.hlr.specs.Options.{parts_rule, program, with_version, zone_rule}
+use Rattle.hlr.proofs.Common.{◌≡◌, ap, ◌∙◌, codes, IfOk-weaker, app_of, app_of_fields, parts_rule, program, with_version, zone_rule}
+use Rattle.clap.specs.Simple.{new_app, with_rule}
 use Rattle.hlr.proofs.OptionFacts.{program_from, with_parts, with_zone}
 use Rattle.hlr.proofs.options.program_command.Goals as goal
 

@@ -1,4 +1,4 @@
-use Rattle.std.proofs.lemmas.Result.{err_from_is_err_and}
+use Rattle.hlr.proofs.Common.{err_from_is_err_and}
 use Rattle.hlr.proofs.OptionFacts.{found_rows, found_kinds, failed_kinds, passed_on}
 use Rattle.hlr.proofs.options.read_options.Goals as goal
 

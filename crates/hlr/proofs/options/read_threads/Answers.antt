@@ -1,4 +1,4 @@
-use Rattle.std.proofs.Common.{refl}
+use Rattle.hlr.proofs.Common.{refl}
 use Rattle.hlr.proofs.OptionFacts.{told, read_flag}
 use Rattle.hlr.proofs.options.read_threads.Goals as goal
 

@@ -1,4 +1,4 @@
-use Rattle.std.proofs.Common.{refl}
+use Rattle.hlr.proofs.Common.{refl}
 use Rattle.hlr.proofs.OptionFacts.{spelled, read_number}
 use Rattle.hlr.proofs.options.read_zone.Goals as goal
 

@@ -1,4 +1,4 @@
-use Rattle.std.proofs.Common.{refl, rules}
+use Rattle.hlr.proofs.Common.{refl, rules}
 use Rattle.hlr.proofs.OwedFacts.{nothing_more, recut_settled}
 use Rattle.hlr.proofs.owed.build_recut_by.Goals as goal
 

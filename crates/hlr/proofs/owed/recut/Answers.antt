@@ -1,4 +1,4 @@
-use Rattle.std.proofs.Common.{sym, Ok}
+use Rattle.hlr.proofs.Common.{sym, Ok}
 use Rattle.hlr.specs.Command.{Command as command}
 use Rattle.hlr.proofs.OwedFacts.{answered_next}
 use Rattle.hlr.proofs.RunFacts.{answered}

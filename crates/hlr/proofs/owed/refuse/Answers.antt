@@ -1,4 +1,4 @@
-use Rattle.std.proofs.Common.{refl, sym, Err}
+use Rattle.hlr.proofs.Common.{refl, sym, Err}
 use Rattle.hlr.proofs.OwedFacts.{answered_next}
 use Rattle.hlr.proofs.RunFacts.{answered}
 use Rattle.hlr.proofs.owed.refuse.Goals as goal

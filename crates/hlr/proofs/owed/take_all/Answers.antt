@@ -1,9 +1,4 @@
-use Rattle.std.proofs.Common.{arith, Err}
-use Rattle.std.proofs.lemmas.Result.{err_from_is_err_and}
-use Rattle.std.specs.Prelude.{⊤}
-use Rattle.hlr_owners.specs.Owners.{store_in}
-use Rattle.hlr.specs.Inside.{AreBrokenOff}
-use Rattle.hlr.specs.Outgoing.{outgoing}
+use Rattle.hlr.proofs.Common.{arith, Err, err_from_is_err_and, ⊤, store_in, AreBrokenOff, outgoing}
 use Rattle.hlr.proofs.OwedFacts.{owed_ends, owed_fails, owed_goes_on, owed_started, owed_stops, owed_stops_at_last, taken_no_field, taken_told}
 use Rattle.hlr.proofs.owed.take_all.Goals as goal
 

@@ -1,6 +1,4 @@
-use Rattle.std.proofs.Common.{◌≤◌, ◌<◌, length}
-use Rattle.hlr_owners.specs.Owners.{store_in}
-use Rattle.hlr.specs.Outgoing.{outgoing}
+use Rattle.hlr.proofs.Common.{◌≤◌, ◌<◌, length, store_in, outgoing}
 use Rattle.hlr.proofs.OwedFacts.{SoFarOwed}
 use Rattle.hlr.proofs.owed.take_all.Given as goal
 

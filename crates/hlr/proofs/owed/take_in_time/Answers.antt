@@ -1,6 +1,4 @@
-use Rattle.std.proofs.Common.{◌++◌, ◌∷◌, []}
-use Rattle.std.proofs.lemmas.Result.{err_from_is_err_and}
-use Rattle.csv.specs.Records.{fields_of}
+use Rattle.hlr.proofs.Common.{◌++◌, ◌∷◌, [], err_from_is_err_and, fields_of}
 use Rattle.hlr.proofs.OwedFacts.{handed_taken}
 use Rattle.hlr.proofs.owed.take_in_time.Goals as goal
 

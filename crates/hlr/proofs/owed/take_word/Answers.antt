@@ -1,5 +1,4 @@
-use Rattle.std.proofs.Common.{sym, ◌∙◌}
-use Rattle.csv.specs.Records.{fields_of}
+use Rattle.hlr.proofs.Common.{sym, ◌∙◌, fields_of}
 use Rattle.hlr.proofs.OwedFacts.{answered_taken, command_is, report_word, recut_word}
 use Rattle.hlr.proofs.RunFacts.{recut_named}
 use Rattle.hlr.proofs.owed.take_word.Goals as goal

@@ -1,6 +1,4 @@
-use Rattle.std.proofs.Common.{[], refl}
-use Rattle.std.proofs.lemmas.List.{drop_all}
-use Rattle.hlr.specs.Outgoing.{outgoing}
+use Rattle.hlr.proofs.Common.{[], refl, drop_all, outgoing}
 use Rattle.hlr.proofs.SinkFacts.{adds_failed, adds_on}
 use Rattle.hlr.proofs.ReportFacts.{drop_item, lines_stop_by, report_goes_on, report_whole}
 use Rattle.hlr.proofs.owed.write_replies.Goals as goal

@@ -1,7 +1,4 @@
-use Rattle.std.proofs.Common.{ℕ, drop}
-use Rattle.hlr_core.specs.declared.event.Reply.{Reply}
-use Rattle.hlr.specs.Lines.{reply_line}
-use Rattle.hlr.specs.Outgoing.{outgoing}
+use Rattle.hlr.proofs.Common.{ℕ, drop, Reply, reply_line, outgoing}
 use Rattle.hlr.proofs.ReportFacts.{ReportTo}
 use Rattle.hlr.proofs.owed.write_replies.Given as goal
 

@@ -1,4 +1,4 @@
-use Rattle.std.proofs.Common.{rules}
+use Rattle.hlr.proofs.Common.{rules}
 use Rattle.hlr.proofs.parts.build_moved.Goals as goal
 
 pub returns-in-Ok-clause-text : goal.returns-in-Ok-clause-text

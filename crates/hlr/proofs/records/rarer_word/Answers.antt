@@ -1,7 +1,5 @@
 -- In each arm the text is the word, byte by byte.
-use Rattle.std.proofs.Common.{refl, arith, rules}
-use Rattle.std.specs.Prelude.{codes}
-use Rattle.std.proofs.lemmas.Slice.Eq.{text_from_reads}
+use Rattle.hlr.proofs.Common.{refl, arith, rules, codes, text_from_reads}
 use Rattle.hlr.specs.Records.{rarer_word_named}
 use Rattle.hlr.proofs.records.rarer_word.Goals as goal
 

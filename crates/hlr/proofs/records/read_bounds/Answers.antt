@@ -1,7 +1,4 @@
-use Rattle.std.proofs.Common.{ap, ◌∙◌, arith}
-use Rattle.std.proofs.lemmas.Bool.Decides.{nat_tests}
-use Rattle.std.proofs.lemmas.Result.{err_from_is_err_and}
-use Rattle.hlr.specs.Fields.{number_field}
+use Rattle.hlr.proofs.Common.{ap, ◌∙◌, arith, nat_tests, err_from_is_err_and, number_field}
 use Rattle.hlr.proofs.RecordFacts.{one_from, all_from, refused_from, many_from}
 use Rattle.hlr.proofs.records.read_bounds.Goals as goal
 

@@ -1,6 +1,4 @@
-use Rattle.std.proofs.Common.{◌≤◌, length}
-use Rattle.csv.specs.Records.{fields_of}
-use Rattle.hlr.specs.declared.records.TheConstants.{MOST_BOUNDS}
+use Rattle.hlr.proofs.Common.{◌≤◌, length, fields_of, MOST_BOUNDS}
 use Rattle.hlr.proofs.RecordFacts.{AreReadFrom}
 use Rattle.hlr.proofs.records.read_bounds.Given as goal
 

@@ -1,5 +1,4 @@
-use Rattle.std.proofs.Common.{◌≡◌, ◌==◌, not, true, false, arith}
-use Rattle.std.proofs.lemmas.Bool.Decides.{nat_tests}
+use Rattle.hlr.proofs.Common.{◌≡◌, ◌==◌, not, true, false, arith, nat_tests}
 use Rattle.hlr.proofs.ReportFacts.{built_count, built_len, built_lines, built_more, built_none, built_skip}
 use Rattle.hlr.proofs.reports.build_counted.Goals.{then-count-ne0, else-count-ne0}
 use Rattle.hlr.proofs.reports.build_counted.Goals as goal

@@ -1,5 +1,4 @@
-use Rattle.std.specs.Prelude.{slice_index}
-use Rattle.hlr.specs.Reports.{is_counted, rows_line}
+use Rattle.hlr.proofs.Common.{slice_index, is_counted, rows_line}
 use Rattle.hlr.proofs.ReportFacts.{AreBuilt}
 use Rattle.hlr.proofs.reports.build_counted.Given as goal
 

@@ -1,6 +1,4 @@
-use Rattle.std.proofs.Common.{◌≡◌, ◌≤◌, ◌+◌, ◌*◌, ◌++◌, length, drop}
-use Rattle.std.specs.List.{flat_map}
-use Rattle.hlr.specs.Lines.{number_line}
+use Rattle.hlr.proofs.Common.{◌≡◌, ◌≤◌, ◌+◌, ◌*◌, ◌++◌, length, drop, flat_map, number_line}
 use Rattle.hlr.proofs.reports.build_page.Given as goal
 
 abbrev pub invariant-loop-at : goal.invariant-loop-at

@@ -1,5 +1,4 @@
-use Rattle.std.proofs.Common.{◌∙◌, sym, w64}
-use Rattle.std.proofs.lemmas.Int.{to_z-of_z}
+use Rattle.hlr.proofs.Common.{◌∙◌, sym, w64, to_z-of_z}
 use Rattle.hlr.proofs.ReportFacts.{built_count, built_len, built_lines, built_more, built_none, built_skip}
 use Rattle.hlr.proofs.reports.build_standing.Goals.{then-stands, else-stands}
 use Rattle.hlr.proofs.reports.build_standing.Goals as goal

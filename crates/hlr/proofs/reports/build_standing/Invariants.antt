@@ -1,5 +1,4 @@
-use Rattle.hlr.specs.Reports.{is_standing, standing_line}
-use Rattle.hlr.specs.Inside.{signed_at}
+use Rattle.hlr.proofs.Common.{is_standing, standing_line, signed_at}
 use Rattle.hlr.proofs.ReportFacts.{AreBuilt}
 use Rattle.hlr.proofs.reports.build_standing.Given as goal
 

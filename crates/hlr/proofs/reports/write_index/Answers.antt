@@ -1,5 +1,4 @@
-use Rattle.std.proofs.Common.{[]}
-use Rattle.hlr.specs.Outgoing.{outgoing}
+use Rattle.hlr.proofs.Common.{[], outgoing}
 use Rattle.hlr.proofs.SinkFacts.{adds_failed}
 use Rattle.hlr.proofs.ReportFacts.{page_none, page_some, page_step, pairs_all, report_ends, report_goes_on_by, report_started, report_stops_by}
 use Rattle.hlr.proofs.reports.write_index.Goals as goal

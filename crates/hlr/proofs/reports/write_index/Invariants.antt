@@ -1,8 +1,4 @@
-use Rattle.std.proofs.Common.{length}
-use Rattle.mr_node.specs.Pages.{IsPage}
-use Rattle.number_index.specs.Pairs.{ArePairs}
-use Rattle.hlr.specs.Lines.{number_line}
-use Rattle.hlr.specs.Outgoing.{outgoing}
+use Rattle.hlr.proofs.Common.{length, IsPage, ArePairs, number_line, outgoing}
 use Rattle.hlr.proofs.ReportFacts.{ReportTo, pairs_from}
 use Rattle.hlr.proofs.reports.write_index.Given as goal
 

@@ -1,7 +1,4 @@
-use Rattle.std.proofs.Common.{[]}
-use Rattle.std.specs.List.{flat_map}
-use Rattle.hlr.specs.Lines.{number_line}
-use Rattle.hlr.specs.Outgoing.{outgoing}
+use Rattle.hlr.proofs.Common.{[], flat_map, number_line, outgoing}
 use Rattle.hlr.proofs.SinkFacts.{adds_both, adds_failed, adds_front_wider, adds_grown}
 use Rattle.hlr.proofs.reports.write_page.Goals as goal
 

@@ -1,6 +1,4 @@
-use Rattle.std.proofs.Common.{[], refl}
-use Rattle.std.proofs.lemmas.List.{drop_all, drop_more}
-use Rattle.hlr.specs.Outgoing.{outgoing}
+use Rattle.hlr.proofs.Common.{[], refl, drop_all, drop_more, outgoing}
 use Rattle.hlr.proofs.SinkFacts.{adds_failed}
 use Rattle.hlr.proofs.ReportFacts.{report_ends, report_goes_on, report_stops_by}
 use Rattle.hlr.proofs.reports.write_regions.Goals as goal

@@ -1,6 +1,4 @@
-use Rattle.std.proofs.Common.{drop}
-use Rattle.hlr.specs.Lines.{region_line}
-use Rattle.hlr.specs.Outgoing.{outgoing}
+use Rattle.hlr.proofs.Common.{drop, region_line, outgoing}
 use Rattle.hlr.proofs.ReportFacts.{ReportTo}
 use Rattle.hlr.proofs.reports.write_regions.Given as goal
 

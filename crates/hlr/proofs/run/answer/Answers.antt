@@ -1,7 +1,5 @@
-use Rattle.std.proofs.Common.{◌≡◌, ◌∙◌, refl, sym, Err, None}
-use Rattle.csv.specs.Records.{fields_of}
-use Rattle.tatp_rows.specs.declared.refusal.Refusal.TheVariants.{Syntax}
-use Rattle.hlr.specs.Records.{command_of, field, word_named}
+use Rattle.hlr.proofs.Common.{◌≡◌, ◌∙◌, refl, sym, Err, None, fields_of, Syntax, field, word_named}
+use Rattle.hlr.specs.Records.{command_of}
 use Rattle.hlr.proofs.RunFacts.{answered}
 use Rattle.hlr.proofs.run.answer.Goals as goal
 

@@ -1,6 +1,5 @@
-use Rattle.std.proofs.Common.{◌≡◌, rules, Err}
+use Rattle.hlr.proofs.Common.{◌≡◌, rules, Err, outgoing}
 use Rattle.hlr.specs.declared.fault.Fault.TheVariants as fault
-use Rattle.hlr.specs.Outgoing.{outgoing}
 use Rattle.hlr.proofs.RunFacts.{answered_kept, broken_kept, come_broken, come_cut, come_whole, if_some}
 use Rattle.hlr.proofs.run.answer_all.Goals.{in_default-via-in-Err+in_default, in_default-via-in_default}
 use Rattle.hlr.proofs.run.answer_all.Goals as goal

@@ -1,4 +1,4 @@
-use Rattle.std.proofs.Common.{◌∙◌, sym}
+use Rattle.hlr.proofs.Common.{◌∙◌, sym}
 use Rattle.hlr.proofs.RunFacts.{answered_handed, answered_on}
 use Rattle.hlr.proofs.run.answer_in_time.Goals as goal
 

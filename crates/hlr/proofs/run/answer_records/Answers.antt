@@ -1,10 +1,4 @@
-use Rattle.std.proofs.Common.{◌≡◌, true, false, rules, arith}
-use Rattle.std.specs.Result.{is_err}
-use Rattle.std.specs.Prelude.{⊤}
-use Rattle.hlr_owners.specs.Owners.{store_in}
-use Rattle.hlr.specs.Inside.{AreBrokenOff}
-use Rattle.hlr.specs.Outgoing.{outgoing}
-use Rattle.hlr.specs.Source.{StopsBehind}
+use Rattle.hlr.proofs.Common.{◌≡◌, true, false, rules, arith, is_err, ⊤, store_in, AreBrokenOff, outgoing, StopsBehind}
 use Rattle.hlr.proofs.RunFacts.{breaks, ends, goes_on, if_known, if_some, read_is_no_write, started, stopped_by_read, stops_full, stops_so}
 use Rattle.hlr.proofs.SinkFacts.{adds_front}
 use Rattle.hlr.proofs.run.answer_records.Goals as goal

@@ -1,8 +1,4 @@
-use Rattle.std.proofs.Common.{◌≤◌}
-use Rattle.std.specs.Prelude.{IfSome}
-use Rattle.hlr_owners.specs.Owners.{AllHome, store_in}
-use Rattle.hlr.specs.Outgoing.{outgoing}
-use Rattle.hlr.specs.Written.{HasRoom}
+use Rattle.hlr.proofs.Common.{◌≤◌, IfSome, AllHome, store_in, outgoing, HasRoom}
 use Rattle.hlr.proofs.RunFacts.{SoFar}
 use Rattle.hlr.proofs.run.answer_records.Given as goal
 

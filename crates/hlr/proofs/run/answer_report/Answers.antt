@@ -1,6 +1,4 @@
-use Rattle.std.proofs.Common.{refl, sym, ◌∙◌, Ok, Err}
-use Rattle.csv.specs.Records.{fields_of}
-use Rattle.hlr_owners.specs.Owners.{store_in}
+use Rattle.hlr.proofs.Common.{refl, sym, ◌∙◌, Ok, Err, fields_of, store_in}
 use Rattle.tatp_rows.specs.declared.refusal.Refusal.TheVariants as refusal
 use Rattle.hlr.proofs.RunFacts.{answered, answered_by, command_of_report, report_answers, report_named, report_refused}
 use Rattle.hlr.proofs.run.answer_report.Goals as goal

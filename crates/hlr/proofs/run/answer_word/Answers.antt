@@ -1,4 +1,4 @@
-use Rattle.std.proofs.Common.{refl}
+use Rattle.hlr.proofs.Common.{refl}
 use Rattle.hlr.proofs.RunFacts.{answered, named_adds, named_done, recut_named}
 use Rattle.hlr.proofs.run.answer_word.Goals as goal
 

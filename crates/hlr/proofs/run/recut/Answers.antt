@@ -1,5 +1,4 @@
-use Rattle.std.proofs.Common.{refl}
-use Rattle.hlr_owners.proofs.HomeLemmas.{cut_home_of_all}
+use Rattle.hlr.proofs.Common.{refl, cut_home_of_all}
 use Rattle.hlr.proofs.run.recut.Goals as goal
 
 pub recut_to-requires : goal.recut_to-requires

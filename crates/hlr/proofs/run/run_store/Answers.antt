@@ -1,4 +1,4 @@
-use Rattle.std.specs.Prelude.{Err}
+use Rattle.hlr.proofs.Common.{Err}
 use Rattle.hlr.specs.declared.fault.Fault.TheVariants as fault
 use Rattle.hlr.proofs.RunFacts.{if_known, keeps_same, ran_finished, ran_flushed, ran_nothing}
 use Rattle.hlr.proofs.run.run_store.Goals as goal

@@ -1,5 +1,4 @@
-use Rattle.std.proofs.Common.{ap}
-use Rattle.hlr_owners.specs.Owners.{store_in}
+use Rattle.hlr.proofs.Common.{ap, store_in}
 use Rattle.hlr.proofs.OwedFacts.{opened_at_rest}
 use Rattle.hlr.proofs.RunFacts.{if_known, ran_from, ran_refused}
 use Rattle.hlr.proofs.run.run_threads.Goals as goal

@@ -1,4 +1,4 @@
-use Rattle.std.proofs.Common.{rules}
+use Rattle.hlr.proofs.Common.{rules}
 use Rattle.hlr.proofs.SinkFacts.{adds_failed, adds_flushed, adds_unflushed}
 use Rattle.hlr.proofs.sink.flush_line.Goals as goal
 

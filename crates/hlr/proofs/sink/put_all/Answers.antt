@@ -1,4 +1,4 @@
-use Rattle.std.proofs.Common.{arith, rules}
+use Rattle.hlr.proofs.Common.{arith, rules}
 use Rattle.hlr.proofs.SinkFacts.{left_front, left_kept, left_on, or_false_left}
 use Rattle.hlr.proofs.sink.put_all.Goals as goal
 

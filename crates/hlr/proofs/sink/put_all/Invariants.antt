@@ -1,4 +1,4 @@
-use Rattle.std.proofs.Common.{length, ◌≡◌, ◌≤◌, ◌-◌, ◌+◌, ◌*◌, false}
+use Rattle.hlr.proofs.Common.{length, ◌≡◌, ◌≤◌, ◌-◌, ◌+◌, ◌*◌, false}
 use Rattle.hlr.proofs.SinkFacts.{IsLeft}
 use Rattle.hlr.proofs.sink.put_all.Given as goal
 

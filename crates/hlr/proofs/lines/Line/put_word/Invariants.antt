@@ -1,4 +1,4 @@
-use Rattle.std.proofs.Common.{◌≡◌, ◌++◌, ◌+◌, length, drop}
+use Rattle.hlr.proofs.Common.{◌≡◌, ◌++◌, ◌+◌, length, drop}
 use Rattle.hlr.proofs.lines.Line.put_word.Given as goal
 
 abbrev pub invariant-loop-at : goal.invariant-loop-at
