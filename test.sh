@@ -1,5 +1,5 @@
 #!/usr/bin/env bash
-# All tests: the gate (every proof, the must-fail edits, the tests), then the built program from outside.
+# All tests: `rt ci` (every proof, the must-fail edits, the tests), then the built program from outside.
 #
 #   ./test.sh            both; the last line is 'N passed, N failed'
 #   ./test.sh program    the built programs and the library alone, as they stand in crates/*/out

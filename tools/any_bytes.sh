@@ -1,10 +1,10 @@
 #!/usr/bin/env bash
-# Any bytes, more than the gate draws: inputs that are drawn from a seed, each answered at once, by one byte a read, by
+# Any bytes, more than `rt ci` draws: inputs that are drawn from a seed, each answered at once, by one byte a read, by
 # drawn numbers of bytes a read and a write, and with threads. All four have to write the same bytes and to end alike.
 #
 #   tools/any_bytes.sh SEED INPUTS
 #
-# It runs the test of the gate (any_bytes_are_answered_alike of hlr), as it was built there or by `rt test` in
+# It runs the test any_bytes_are_answered_alike of hlr, as it was built by `rt ci` or by `rt test` in
 # crates/hlr, and prints how many bytes the inputs have. Input I of a seed S is input 0 of the seed S + I. The first
 # input that isn't answered alike ends it, and is told by its seed.
 set -u

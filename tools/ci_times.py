@@ -1,7 +1,7 @@
 #!/usr/bin/env python3
-"""Runs the gate and prints how many processor and wall minutes each crate took, phase by phase.
+"""Runs `rt ci` and prints how many processor and wall minutes each crate took, phase by phase.
 
-    python3 tools/gate_times.py [COMMAND ..]     at the top of a clean clone; without a command it runs `rt ci`
+    python3 tools/ci_times.py [COMMAND ..]     at the top of a clean clone; without a command it runs `rt ci`
 
 The phases are the proof of a crate, the proof of its tests, and its must-fail edits; `rt ci` runs several of them side by
 side. It looks at the running provers some five times a second, so a crate's number may be short by some percent; the sum
@@ -42,20 +42,20 @@ def task_of(words, folder):
     return crate, "tests" if any(word.endswith("_tests.o") for word in words) else "proof"
 
 
-def first_prover(pid, running, tasks, gate):
-    """The topmost prover that a process is or was started by, or None where the gate didn't start it."""
+def first_prover(pid, running, tasks, command):
+    """The topmost prover that a process is or was started by, or None where the command didn't start it."""
     first = None
     while pid in running:
         if tasks.get((pid, running[pid][0])):
             first = pid
-        if pid == gate:
+        if pid == command:
             return first
         pid = running[pid][1]
     return None
 
 
-def look(gate, used, tasks, spans):
-    """Notes what the gate's provers have used so far, each first one with those below it, and when each task was seen."""
+def look(command, used, tasks, spans):
+    """Notes what the command's provers have used so far, each first one with those below it, and when each task was seen."""
     running = {}
     for pid in filter(str.isdigit, os.listdir("/proc")):
         try:
@@ -66,7 +66,7 @@ def look(gate, used, tasks, spans):
             continue
     sums = {}
     for pid, (_, _, seconds) in running.items():
-        first = first_prover(pid, running, tasks, gate)
+        first = first_prover(pid, running, tasks, command)
         if first:
             sums[first] = sums.get(first, 0) + seconds
     for pid, seconds in sums.items():
@@ -93,14 +93,14 @@ def table(used, spans):
 
 def main():
     used, tasks, spans, begun = {}, {}, {}, time.time()
-    gate = subprocess.Popen(sys.argv[1:] or ["rt", "ci"])
-    while gate.poll() is None:
-        look(str(gate.pid), used, tasks, spans)
+    command = subprocess.Popen(sys.argv[1:] or ["rt", "ci"])
+    while command.poll() is None:
+        look(str(command.pid), used, tasks, spans)
         time.sleep(0.2)
     spent = resource.getrusage(resource.RUSAGE_CHILDREN)
     print("\n" + "\n".join(table(used, spans)))
     print(f"\n{(spent.ru_utime + spent.ru_stime) / 60:.1f} processor minutes in all, {(time.time() - begun) / 60:.1f} by the clock")
-    return gate.returncode
+    return command.returncode
 
 
 if __name__ == "__main__":
