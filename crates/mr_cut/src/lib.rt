@@ -1,6 +1,6 @@
 //! Slice and meld: a tree is cut at a key, and two trees are joined, along one path, while whole sub-trees go over as
-//! boxes. Both take a number of steps that the height bounds, and no memory but blank nodes of a stock. The stock has to be
-//! large enough before the call, which refuses nothing: `need_slice` and `need_meld` tell how large.
+//! boxes. Both take a number of steps that the height bounds, and no memory but blank nodes of a stock. The stock has
+//! to be large enough before the call, which refuses nothing: `need_slice` and `need_meld` tell how large.
 #![tactic(auto)]
 
 mod cuts;

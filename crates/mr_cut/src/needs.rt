@@ -6,7 +6,8 @@ use mr_node::Stock;
 use std::alloc::Global;
 use tatp_rows::Refusal;
 
-/// How many blank nodes a slice of a tree of this height wants: `(height + 2)^2 + 1`, no more than it may take steps.
+/// Counts the blank nodes that a slice of a tree of this height wants: `(height + 2)^2 + 1`, no more than it may take
+/// steps.
 pub fn need_slice(height: u64) -> usize
     requires { height < 16 }
     ensures number { result ≡ blanks_for_slice height }
@@ -16,8 +17,8 @@ pub fn need_slice(height: u64) -> usize
     levels * levels + 1
 }
 
-/// How many blank nodes a meld of trees of these heights wants: three more than the heights differ by, no more than it
-/// may take steps.
+/// Counts the blank nodes that a meld of trees of these heights wants: three more than the heights differ by, no more
+/// than it may take steps.
 pub fn need_meld(low: u64, high: u64) -> usize
     requires low { low < 16 }
     requires high { high < 16 }
@@ -27,7 +28,7 @@ pub fn need_meld(low: u64, high: u64) -> usize
     low.abs_diff(high) as usize + 3
 }
 
-/// The blank nodes for a slice of a tree of this height (`need_slice`). `Memory` where they can't be had.
+/// Takes the blank nodes for a slice of a tree of this height (`need_slice`). `Memory` where they can't be had.
 pub fn stock_for_slice<V: Drop + Default>(alloc: Global, height: u64) -> Result<Stock<V>, Refusal>
     requires { height < 16 }
     ensures { MatchResult result (λ stock. stock ≡ blanks_for_slice height) (λ why. why ≡ Refusal.Memory) }
@@ -35,7 +36,7 @@ pub fn stock_for_slice<V: Drop + Default>(alloc: Global, height: u64) -> Result<
     Stock::take(alloc, need_slice(height))
 }
 
-/// The blank nodes for a meld of trees of these heights (`need_meld`). `Memory` where they can't be had.
+/// Takes the blank nodes for a meld of trees of these heights (`need_meld`). `Memory` where they can't be had.
 pub fn stock_for_meld<V: Drop + Default>(
     alloc: Global,
     low: u64,

@@ -21,7 +21,7 @@ fn no_children<B>() -> [Option<Child<B>>; 32]
     ]
 }
 
-/// The part of an inner node of a height, without children.
+/// Makes the part of an inner node of a height, without children.
 pub fn empty_inner<B>(height: u64) -> Inner<B>
     ensures height { result.height ≡ height }
     ensures len { result.len ≡ 0 }
@@ -36,7 +36,7 @@ pub fn empty_inner<B>(height: u64) -> Inner<B>
     }
 }
 
-/// The place of the child to which a key belongs: the last whose least key isn't above the key, or the first.
+/// Finds the place of the child to which a key belongs: the last whose least key isn't above the key, or the first.
 pub fn child_place<B>(inner: &Inner<B>, key: u64) -> usize
     requires some { 0 < inner.now.len }
     requires entries { AreEntries inner.now.len inner.now.leasts inner.now.children }

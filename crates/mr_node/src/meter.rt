@@ -19,14 +19,14 @@ impl Model for Meter {
 }
 
 impl Meter {
-    /// A meter that stands at 0.
+    /// Makes a meter that stands at 0.
     pub fn new() -> Self
         ensures { result ≡ 0 }
     {
         Meter { steps: 0 }
     }
 
-    /// The steps counted.
+    /// Gives the steps counted.
     pub fn steps(&self) -> u64
         ensures { result ≡ self.now }
     {

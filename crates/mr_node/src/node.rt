@@ -57,7 +57,7 @@ impl<V> Model for Node<V> {
 }
 
 impl<V: Default> Node<V> {
-    /// A leaf without entries.
+    /// Makes a leaf without entries.
     pub fn new() -> Self
         ensures { result ≡ record { height = 0; width = 0; rows = [] } }
     {
@@ -68,7 +68,7 @@ impl<V: Default> Node<V> {
 }
 
 impl<V> Node<V> {
-    /// How far the node is above the leaves: 0 for a leaf.
+    /// Tells how far the node is above the leaves: 0 for a leaf.
     pub fn height(&self) -> u64
         ensures value { result ≡ self.now.height }
         ensures well { IsWell self.now }
@@ -79,7 +79,7 @@ impl<V> Node<V> {
         }
     }
 
-    /// The number of entries of a leaf, or of children of an inner node, at most 32.
+    /// Counts the entries of a leaf, or the children of an inner node, at most 32.
     pub fn width(&self) -> usize
         ensures value { result ≡ self.now.width }
         ensures well { IsWell self.now }
@@ -90,7 +90,7 @@ impl<V> Node<V> {
         }
     }
 
-    /// The number of rows in and below the node.
+    /// Gives the number of rows in and below the node.
     pub fn len(&self) -> u64
         ensures { result ≡ length self.now.rows }
     {
@@ -110,7 +110,7 @@ impl<V> Node<V> {
         }
     }
 
-    /// The value at a key, or `None`. Looking is no step.
+    /// Finds the value at a key, or `None`. Looking is no step.
     pub fn find(&self, key: u64) -> Option<&V>
         ensures { option_map (λ r. r.now) result ≡ value_at key self.now.rows }
     {
@@ -126,8 +126,8 @@ impl<V> Node<V> {
         }
     }
 
-    /// `find`, quick in a dense tree: one whose keys are 2^`shift` apart, and came in rising order. It looks first where
-    /// the key is in such a tree.
+    /// Finds as `find` does, and quicker in a dense tree: one whose keys are 2^`shift` apart, and came in rising order.
+    /// It looks first where the key is in such a tree.
     pub fn find_by_guess(&self, key: u64, shift: u32) -> Option<&V>
         ensures { option_map (λ r. r.now) result ≡ value_at key self.now.rows }
     {
@@ -151,7 +151,7 @@ impl<V> Node<V> {
         }
     }
 
-    /// The child to which a key belongs; of a leaf itself. Looking is no step.
+    /// Finds the child to which a key belongs; of a leaf itself. Looking is no step.
     #[inline]
     pub fn towards(&self, key: u64) -> &Node<V>
         ensures same { value_at key result.now.rows ≡ value_at key self.now.rows }
@@ -169,7 +169,7 @@ impl<V> Node<V> {
         }
     }
 
-    /// The first row from a key on, or `None`. Looking is no step.
+    /// Finds the first row from a key on, or `None`. Looking is no step.
     pub fn first_from(&self, key: u64) -> Option<(u64, &V)>
         ensures { option_map (λ r. (r.0, r.1.now)) result ≡ find (λ p. nat_le key p.0) self.now.rows }
     {
@@ -196,7 +196,7 @@ impl<V> Node<V> {
         }
     }
 
-    /// The fold over the rows in key order. Looking is no step.
+    /// Folds the rows in key order. Looking is no step.
     pub fn fold<A, F: Fn(A, u64, &V) -> A>(&self, init: A, f: &F) -> A
         requires { F.IsAlwaysCallable f.now }
         ensures { FoldsRows (λ a k r b. F.post f.now a k r b) init self.now.rows result }
@@ -306,7 +306,7 @@ impl<V: Drop> Node<V> {
         }
     }
 
-    /// `revise`, quick in a dense tree as `find_by_guess` is.
+    /// Revises as `revise` does, and quicker in a dense tree, as `find_by_guess` is.
     pub fn revise_by_guess<E: Revise<V>>(&mut self, key: u64, shift: u32, edit: &mut E) -> bool
         ensures rows { self.new ≡ record self.old { rows = revised_at key (E.revised edit.old) self.old.rows } }
         ensures well { IsWell self.new }

@@ -9,6 +9,7 @@ pub trait Revise<V> {
 
     ghost spent: { Self → V → Self };
 
+    /// Revises the value where it lies.
     fn revise(&mut self, value: &mut V)
         ensures value { value.new ≡ revised self.old value.old }
         ensures spent { self.new ≡ spent self.old value.old };

@@ -24,7 +24,7 @@ impl<N> Model for Blanks<N> {
 }
 
 impl<N> Blanks<N> {
-    /// No blank nodes. It takes no memory.
+    /// Makes a stock of no blank nodes. It takes no memory.
     pub fn none(alloc: Global) -> Self
         ensures { result ≡ 0 }
     {
@@ -33,14 +33,14 @@ impl<N> Blanks<N> {
         }
     }
 
-    /// The allocator of which blank nodes are taken.
+    /// Gives the allocator of which blank nodes are taken.
     pub fn alloc(&self) -> Global {
         *self.boxes.allocator()
     }
 }
 
 impl<V: Drop + Default> Blanks<Node<V>> {
-    /// `count` blank nodes. Memory where they can't be had: then none is kept.
+    /// Takes `count` blank nodes. `Memory` where they can't be had: then none is kept.
     pub fn take(alloc: Global, count: usize) -> Result<Stock<V>, Refusal>
         ensures { MatchResult result (λ stock. stock ≡ count) (λ why. why ≡ Refusal.Memory) }
     {
@@ -71,14 +71,14 @@ impl<V: Drop + Default> Blanks<Node<V>> {
         Ok(())
     }
 
-    /// The number of blank nodes.
+    /// Counts the blank nodes.
     pub fn count(&self) -> usize
         ensures { result ≡ self.now }
     {
         self.boxes.len()
     }
 
-    /// One of the blank nodes.
+    /// Gives one of the blank nodes.
     pub fn give(&mut self) -> Box<Node<V>>
         requires { 0 < self.old }
         ensures { self.new + 1 ≡ self.old }

@@ -38,7 +38,7 @@ impl<V> Model for SubTree<V> {
 }
 
 impl<V: Default> SubTree<V> {
-    /// A tree without rows. The root lies in the tree itself, so this is always `Ok`.
+    /// Makes a tree without rows. The root lies in the tree itself, so this is always `Ok`.
     pub fn new(alloc: Global) -> Result<Self, Refusal>
         ensures tree { IfOk result (λ tree. (tree.rows ≡ []) × (tree.height ≡ 0)) }
         ensures ok { IfErr result (λ _. ⊥) }
@@ -51,7 +51,7 @@ impl<V: Default> SubTree<V> {
 }
 
 impl<V> SubTree<V> {
-    /// The tree of a root that meets the rules.
+    /// Makes the tree of a root that meets the rules.
     pub fn from_root(alloc: Global, root: Node<V>) -> Self
         requires { IsRoot root }
         ensures { result ≡ root }
@@ -69,34 +69,34 @@ impl<V> SubTree<V> {
         &self.root
     }
 
-    /// The allocator of which the tree takes memory.
+    /// Gives the allocator of which the tree takes memory.
     pub fn alloc(&self) -> Global {
         self.spare.alloc()
     }
 
-    /// The value at a key, or `None`.
+    /// Finds the value at a key, or `None`.
     pub fn get(&self, key: u64) -> Option<&V>
         ensures { option_map (λ r. r.now) result ≡ value_at key self.now.rows }
     {
         self.root.find(key)
     }
 
-    /// The value at a key, or `None`: quicker than `get` in a dense tree, whose keys are 2^`shift` apart and came in
-    /// rising order, and slower in others. It looks first where the key is in such a tree.
+    /// Finds the value at a key, or `None`: quicker than `get` in a dense tree, whose keys are 2^`shift` apart and came
+    /// in rising order, and slower in others. It looks first where the key is in such a tree.
     pub fn get_by_guess(&self, key: u64, shift: u32) -> Option<&V>
         ensures { option_map (λ r. r.now) result ≡ value_at key self.now.rows }
     {
         self.root.find_by_guess(key, shift)
     }
 
-    /// The number of rows.
+    /// Gives the number of rows.
     pub fn len(&self) -> u64
         ensures { result ≡ length self.now.rows }
     {
         self.root.len()
     }
 
-    /// The height: 0 for a root that is a leaf. A tree of height h of at least 1 has 2 * 16^h to 32^(h+1) rows.
+    /// Gives the height: 0 for a root that is a leaf. A tree of height h of at least 1 has 2 * 16^h to 32^(h+1) rows.
     pub fn height(&self) -> u64
         ensures value { result ≡ self.now.height }
         ensures bounds { IsHeightOf result (length self.now.rows) }
@@ -105,14 +105,14 @@ impl<V> SubTree<V> {
         self.root.height()
     }
 
-    /// The first row from a key on, or `None`.
+    /// Finds the first row from a key on, or `None`.
     pub fn first_from(&self, key: u64) -> Option<(u64, &V)>
         ensures { option_map (λ r. (r.0, r.1.now)) result ≡ find (λ p. nat_le key p.0) self.now.rows }
     {
         self.root.first_from(key)
     }
 
-    /// The fold over the rows in key order: each call is given what was folded so far, a key, and its value.
+    /// Folds the rows in key order: each call is given what was folded so far, a key, and its value.
     pub fn fold<A, F: Fn(A, u64, &V) -> A>(&self, init: A, f: &F) -> A
         requires { F.IsAlwaysCallable f.now }
         ensures { FoldsRows (λ a k r b. F.post f.now a k r b) init self.now.rows result }
@@ -140,7 +140,7 @@ impl<V: Copy> SubTree<V> {
 }
 
 impl<V: Drop> SubTree<V> {
-    /// The root, which meets the rules. Blank nodes that the tree kept are let go.
+    /// Gives the root, which meets the rules. Blank nodes that the tree kept are let go.
     pub fn into_root(self) -> Node<V>
         ensures same { result ≡ self }
         ensures root { IsRoot result }

@@ -36,7 +36,7 @@ impl Model for Bounds {
 }
 
 impl Bounds {
-    /// The bounds in order, as a re-cut takes them.
+    /// Gives the bounds in order, as a re-cut takes them.
     pub fn list(&self) -> &[u64]
         ensures value { result.now ≡ self.now }
         ensures rising { are_rising 1 result.now ≡ true }
@@ -87,9 +87,9 @@ fn share_zone(weights: &[u64; 32], parts: u8, shares: u8) -> u8
 }
 
 impl Regions {
-    /// Bounds that give each part about its share of the rows: each lies in front of the least zone below which the
-    /// equal shares of the parts in front of it lie whole, but no zone twice, and one zone at least for each part. A
-    /// zone has a weight of at most 352,321,536. Parts has to be 1..=16, and the zones' width 1..=524,288.
+    /// Proposes bounds that give each part about its share of the rows: each lies in front of the least zone below
+    /// which the equal shares of the parts in front of it lie whole, but no zone twice, and one zone at least for each
+    /// part. A zone has a weight of at most 352,321,536. Parts has to be 1..=16, and the zones' width 1..=524,288.
     pub fn propose(weights: &[u64; 32], parts: u8, width: u32) -> Bounds
         requires weights { All (λ w. w ≤ GREATEST_WEIGHT) weights.now }
         requires some_part { 1 ≤ parts }

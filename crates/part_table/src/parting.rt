@@ -14,7 +14,8 @@ use crate::regions::Regions;
 use tatp_rows::Refusal;
 
 impl Regions {
-    /// What [`Regions::divide`] would answer, and in front of it where the region of the part stands. Nothing changes.
+    /// Tells what [`Regions::divide`] would answer, and in front of it where the region of the part stands. Nothing
+    /// changes.
     pub fn dividing(&self, p: u64, at: u64) -> Result<(usize, (u8, u32, u32)), Refusal>
         ensures index { IfOk result (λ told. position (is_part p) self.now ≡ Some told.0) }
         ensures answer { IfOk result (λ told. divide_answer p at self.now ≡ Ok told.1) }
@@ -28,7 +29,7 @@ impl Regions {
         Ok((i, told))
     }
 
-    /// The part is divided of which [`Regions::dividing`] told, and the index with it: the regions are those that
+    /// Divides the part of which [`Regions::dividing`] told, and the index with it: the regions are those that
     /// [`Regions::divide`] leaves.
     pub fn divide_at(&mut self, i: usize, at: u64)
         requires { (p : ℕ) × (told : ℕ × ℕ × ℕ) × (position (is_part p) self.old ≡ Some i) × (divide_answer p at self.old ≡ Ok told) }
@@ -39,10 +40,10 @@ impl Regions {
         put_two(&mut self.list, i, low, high);
     }
 
-    /// The part `p` is divided at a subscriber: it keeps what is below, a new part with the next number has the rest,
-    /// and later parts' numbers rise by one. The answer is the new part's number, and where it begins and ends.
-    /// `NoPart`, then `OutOfRange` where `at` isn't strictly inside the part, then `ManyParts` where sixteen parts are
-    /// there. A refusal changes nothing.
+    /// Divides the part `p` at a subscriber: it keeps what is below, a new part with the next number has the rest, and
+    /// later parts' numbers rise by one. The answer is the new part's number, and where it begins and ends. `NoPart`,
+    /// then `OutOfRange` where `at` isn't strictly inside the part, then `ManyParts` where sixteen parts are there. A
+    /// refusal changes nothing.
     pub fn divide(&mut self, p: u64, at: u64) -> Result<(u8, u32, u32), Refusal>
         ensures answer { result ≡ divide_answer p at self.old }
         ensures after { self.new ≡ after_divide p at result self.old }
@@ -52,8 +53,8 @@ impl Regions {
         Ok(told)
     }
 
-    /// What [`Regions::dissolve`] would answer, and in front of it where the region of the part stands, right behind
-    /// that of the part in front. Nothing changes.
+    /// Tells what [`Regions::dissolve`] would answer, and in front of it where the region of the part stands, right
+    /// behind that of the part in front. Nothing changes.
     pub fn dissolving(&self, p: u64) -> Result<(usize, (u8, u32, u32)), Refusal>
         ensures index { IfOk result (λ told. position (is_part p) self.now ≡ Some told.0) }
         ensures answer { IfOk result (λ told. dissolve_answer p self.now ≡ Ok told.1) }
@@ -70,8 +71,8 @@ impl Regions {
         Ok((i, (p as u8 - 1, regions[i - 1].lo, regions[i].hi)))
     }
 
-    /// The part is dissolved whose index [`Regions::dissolving`] told: the regions are those that
-    /// [`Regions::dissolve`] leaves.
+    /// Dissolves the part whose index [`Regions::dissolving`] told: the regions are those that [`Regions::dissolve`]
+    /// leaves.
     pub fn dissolve_at(&mut self, i: usize)
         requires { (p : ℕ) × (told : ℕ × ℕ × ℕ) × (position (is_part p) self.old ≡ Some i) × (dissolve_answer p self.old ≡ Ok told) }
         ensures { (p : ℕ) → position (is_part p) self.old ≡ Some i → self.new ≡ dissolved p self.old }
@@ -84,7 +85,7 @@ impl Regions {
         put_one(&mut self.list, i, whole);
     }
 
-    /// The part `p` is dissolved: the part in front of it has its range too, and later parts' numbers fall by one. The
+    /// Dissolves the part `p`: the part in front of it has its range too, and later parts' numbers fall by one. The
     /// answer is the number of the part in front, and where it begins and ends now. `NoPart`, then `NotAdjacent` where
     /// `p` is the first part or a loose piece lies between. A refusal changes nothing.
     pub fn dissolve(&mut self, p: u64) -> Result<(u8, u32, u32), Refusal>

@@ -13,8 +13,8 @@ use arrayvec::ArrayVec;
 use tatp_rows::Refusal;
 
 impl Regions {
-    /// The moves that bring the parts to other bounds: those of the bounds that rise, from the last down, and then
-    /// those of the bounds that fall, from the first up, so that each can be done when it comes. `Field` where the
+    /// Lists the moves that bring the parts to other bounds: those of the bounds that rise, from the last down, and
+    /// then those of the bounds that fall, from the first up, so that each can be done when it comes. `Field` where the
     /// bounds aren't strictly rising ones in 2..=16,777,216, one less than there are parts; then `Moving` where a piece
     /// is loose.
     pub fn moves_to(&self, bounds: &[u64]) -> Result<ArrayVec<CutMove, 15>, Refusal>

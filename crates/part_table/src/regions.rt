@@ -39,8 +39,8 @@ impl Model for Regions {
 }
 
 impl Regions {
-    /// The regions of so many parts at opening, where each has its share of the 32 zones of a width. `Field` where
-    /// parts isn't 1..=16 or the width isn't 1..=524,288.
+    /// Makes the regions of so many parts at opening, where each has its share of the 32 zones of a width. `Field`
+    /// where parts isn't 1..=16 or the width isn't 1..=524,288.
     pub fn opening(parts: u8, width: u32) -> Result<Regions, Refusal>
         ensures { result ≡ opening parts width }
     {
@@ -66,7 +66,7 @@ impl Regions {
         Ok(Regions { list })
     }
 
-    /// The regions over the ranges of 1 to 16 parts and at most 16 loose pieces, which are numbered anew in their
+    /// Makes the regions over the ranges of 1 to 16 parts and at most 16 loose pieces, which are numbered anew in their
     /// order: the parts from 0, the pieces from 1. `NotAdjacent` where the first doesn't begin at 1, one is empty or
     /// begins elsewhere than the one before it ends, or the last doesn't end at 16,777,217. It takes no memory.
     pub fn over(ranges: &[Region]) -> Result<Regions, Refusal>
@@ -92,7 +92,7 @@ impl Regions {
         Ok(Regions { list })
     }
 
-    /// The regions in order.
+    /// Gives the regions in order.
     pub fn list(&self) -> &[Region]
         ensures value { result.now ≡ self.now }
         ensures regions { AreRegions result.now }
@@ -100,7 +100,7 @@ impl Regions {
         self.list.as_slice()
     }
 
-    /// How many parts there are.
+    /// Counts the parts.
     pub fn parts(&self) -> u8
         ensures value { result ≡ length (parts_of self.now) }
         ensures some { 1 ≤ result }
@@ -109,7 +109,7 @@ impl Regions {
         count_parts(self.list()) as u8
     }
 
-    /// Where the region stands in which an s_id of 1..=16,777,216 lies.
+    /// Finds where the region stands in which an s_id of 1..=16,777,216 lies.
     pub fn index(&self, s_id: u32) -> usize
         requires from { 1 ≤ s_id }
         requires to { s_id < END }
@@ -121,14 +121,14 @@ impl Regions {
         }
     }
 
-    /// Where the region of the part `p` stands, if there is such a part.
+    /// Finds where the region of the part `p` stands, if there is such a part.
     pub fn index_of_part(&self, p: u64) -> Option<usize>
         ensures { result ≡ position (is_part p) self.now }
     {
         part_at(self.list(), p)
     }
 
-    /// Who holds an s_id of 1..=16,777,216.
+    /// Tells who holds an s_id of 1..=16,777,216.
     pub fn place(&self, s_id: u32) -> Place
         requires from { 1 ≤ s_id }
         requires to { s_id < END }
@@ -138,7 +138,7 @@ impl Regions {
         self.list()[self.index(s_id)].place
     }
 
-    /// What [`Regions::give`] would answer: the number of the new loose piece, and where it begins and ends; or
+    /// Tells what [`Regions::give`] would answer: the number of the new loose piece, and where it begins and ends; or
     /// `NoPart`, `OutOfRange` or `ManyPieces`, the first that holds. Nothing changes.
     pub fn give_answer(&self, p: u64, side: Side, at: u64) -> Result<(u8, u32, u32), Refusal>
         ensures { result ≡ give_answer p side at self.now }
@@ -147,7 +147,8 @@ impl Regions {
         Ok(piece)
     }
 
-    /// What [`Regions::give_answer`] answers, and in front of it where the region of the part stands. Nothing changes.
+    /// Tells what [`Regions::give_answer`] answers, and in front of it where the region of the part stands. Nothing
+    /// changes.
     pub fn giving(&self, p: u64, side: Side, at: u64) -> Result<(usize, (u8, u32, u32)), Refusal>
         ensures index { IfOk result (λ told. position (is_part p) self.now ≡ Some told.0) }
         ensures answer { IfOk result (λ told. give_answer p side at self.now ≡ Ok told.1) }
@@ -161,7 +162,7 @@ impl Regions {
         Ok((i, piece))
     }
 
-    /// The part gives the stretch away of which [`Regions::giving`] told, and the index with it: the regions are those
+    /// Gives away the part's stretch of which [`Regions::giving`] told, and the index with it: the regions are those
     /// that [`Regions::give`] leaves.
     pub fn give_at(&mut self, i: usize, side: Side, at: u64, piece: (u8, u32, u32))
         requires { (p : ℕ) × (position (is_part p) self.old ≡ Some i) × (give_answer p side at self.old ≡ Ok piece) }
@@ -171,8 +172,8 @@ impl Regions {
         put_two(&mut self.list, i, low, high);
     }
 
-    /// What [`Regions::take`] would answer: the side of the part on which the loose piece lies; or `NoPiece`, `NoPart`
-    /// or `NotAdjacent`, the first that holds. Nothing changes.
+    /// Tells what [`Regions::take`] would answer: the side of the part on which the loose piece lies; or `NoPiece`,
+    /// `NoPart` or `NotAdjacent`, the first that holds. Nothing changes.
     pub fn take_answer(&self, n: u64, q: u64) -> Result<Side, Refusal>
         ensures { result ≡ take_answer n q self.now }
     {
@@ -180,8 +181,8 @@ impl Regions {
         Ok(side)
     }
 
-    /// What [`Regions::take_answer`] answers, and in front of it where the region of the loose piece stands. Nothing
-    /// changes.
+    /// Tells what [`Regions::take_answer`] answers, and in front of it where the region of the loose piece stands.
+    /// Nothing changes.
     pub fn taking(&self, n: u64, q: u64) -> Result<(usize, Side), Refusal>
         ensures index { IfOk result (λ told. position (is_piece n) self.now ≡ Some told.0) }
         ensures answer { IfOk result (λ told. take_answer n q self.now ≡ Ok told.1) }
@@ -198,7 +199,7 @@ impl Regions {
         Ok((i, side))
     }
 
-    /// The part takes the loose piece, whose index and side [`Regions::taking`] told: the regions are those that
+    /// Joins to the part the loose piece whose index and side [`Regions::taking`] told: the regions are those that
     /// [`Regions::take`] leaves.
     pub fn take_at(&mut self, i: usize, side: Side)
         requires { (n q : ℕ) × (position (is_piece n) self.old ≡ Some i) × (take_answer n q self.old ≡ Ok side) }
@@ -211,8 +212,8 @@ impl Regions {
         put_one(&mut self.list, second, whole);
     }
 
-    /// The part `p` gives the stretch on one side of `at` away: from `at` on where the side is high, below it where it
-    /// is low. The stretch becomes a loose piece with the least number of 1..=16 that is free; the answer is that
+    /// Gives away the stretch of the part `p` on one side of `at`: from `at` on where the side is high, below it where
+    /// it is low. The stretch becomes a loose piece with the least number of 1..=16 that is free; the answer is that
     /// number, and where the piece begins and ends. `NoPart`, then `OutOfRange` where `at` isn't strictly inside the
     /// part, then `ManyPieces` where sixteen pieces are loose. A refusal changes nothing.
     pub fn give(&mut self, p: u64, side: Side, at: u64) -> Result<(u8, u32, u32), Refusal>
@@ -224,8 +225,8 @@ impl Regions {
         Ok(piece)
     }
 
-    /// The part `q` takes the loose piece `n`, which has to touch it; the answer is the side of the part on which the
-    /// piece lies. `NoPiece`, then `NoPart`, then `NotAdjacent`. A refusal changes nothing.
+    /// Joins to the part `q` the loose piece `n`, which has to touch it; the answer is the side of the part on which
+    /// the piece lies. `NoPiece`, then `NoPart`, then `NotAdjacent`. A refusal changes nothing.
     pub fn take(&mut self, n: u64, q: u64) -> Result<Side, Refusal>
         ensures answer { result ≡ take_answer n q self.old }
         ensures after { self.new ≡ after_take n q result self.old }
@@ -236,7 +237,7 @@ impl Regions {
     }
 }
 
-/// Whether a store can have so many parts, 1..=16, and zones of this width, 1..=524,288 subscribers.
+/// Tells whether a store can have so many parts, 1..=16, and zones of this width, 1..=524,288 subscribers.
 pub fn can_open(parts: u8, width: u32) -> bool
     ensures { result ≡ can_open parts width }
 {

@@ -121,7 +121,7 @@ fn are_hours_of_call(start_time: u8, end_time: u8) -> bool
 }
 
 impl Action {
-    /// The subscriber whose rows it is on.
+    /// Gives the subscriber whose rows it is on.
     pub fn s_id(&self) -> u32
         ensures { result ≡ s_id_of self.now }
     {
@@ -141,7 +141,8 @@ impl Action {
         }
     }
 
-    /// Whether all its fields are in their ranges, without which it is refused with `Field`. Those of a row always are.
+    /// Tells whether all its fields are in their ranges, without which it is refused with `Field`. Those of a row
+    /// always are.
     pub fn is_in_range(&self) -> bool
         ensures { result ≡ is_in_range self.now }
     {

@@ -40,7 +40,7 @@ impl Model for Cells {
 }
 
 impl Cells {
-    /// A count of 0 for each cell.
+    /// Makes cells with a count of 0 each.
     pub fn zero() -> Self
         ensures { result ≡ replicate CELLS 0 }
     {
@@ -49,7 +49,7 @@ impl Cells {
         }
     }
 
-    /// The count of a cell.
+    /// Gives the count of a cell.
     pub fn get(&self, cell: u8) -> u64
         requires { cell < CELLS }
         ensures { result ≡ slice_index self.now cell }

@@ -209,14 +209,14 @@ impl Change {
         }
     }
 
-    /// The change that moves no cell.
+    /// Makes the change that moves no cell.
     pub fn none() -> Self
         ensures { result ≡ [] }
     {
         Change::of_notes(no_area(), zone_note(0, 0))
     }
 
-    /// The notes, each a cell and by how much it moves.
+    /// Gives the notes, each a cell and by how much it moves.
     pub fn notes(&self) -> ArrayVec<(u8, i8), NOTES>
         ensures value { result.items ≡ self.now }
         ensures few { length self.now ≤ NOTES }

@@ -308,7 +308,7 @@ impl Part {
         Ok(())
     }
 
-    /// How many steps the last cut or join of the part took: 0 where there was none.
+    /// Tells how many steps the last cut or join of the part took: 0 where there was none.
     pub fn last_steps(&self) -> u64
         ensures { result ≡ self.now.steps }
     {

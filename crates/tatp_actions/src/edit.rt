@@ -19,11 +19,11 @@ use tatp_rows::{Access, Facility, Forwarding, Number, Refusal, Subscriber};
 pub trait Edit: Copy {
     ghost action: { Self → Action };
 
-    /// The subscriber whose rows it changes.
+    /// Gives the subscriber whose rows it changes.
     fn s_id(&self) -> u32
         ensures { result ≡ s_id_of (action self.now) };
 
-    /// The action that it is.
+    /// Gives the action that it is.
     fn to_action(&self) -> Action
         ensures { result ≡ action self.now };
 

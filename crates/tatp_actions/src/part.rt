@@ -77,7 +77,7 @@ fn answered(done: Result<Change, Refusal>) -> (RowReply, Change)
 }
 
 impl<R: Rows> Part<R> {
-    /// A part over rows that lie in its range and keep the rules of a book. It keeps the allocator.
+    /// Makes a part over rows that lie in its range and keep the rules of a book. It keeps the allocator.
     pub fn over(alloc: Global, rows: R, lo: u32, hi: u32, width: u32) -> Self
         requires range { IsRange lo hi }
         requires width { IsWidth width }
@@ -103,7 +103,7 @@ impl<R: Rows> Part<R> {
         }
     }
 
-    /// How often actions asked the rows. A row that is lent is not counted.
+    /// Tells how often actions asked the rows. A row that is lent is not counted.
     pub fn asked(&self) -> u64
         ensures { result ≡ self.now.asked }
     {
@@ -188,7 +188,7 @@ impl<R: Rows> Part<R> {
 }
 
 impl Part {
-    /// An empty part of the range lo..hi. Its empty trees take no memory, so this is always `Ok`.
+    /// Makes an empty part of the range lo..hi. Its empty trees take no memory, so this is always `Ok`.
     pub fn new(alloc: Global, lo: u32, hi: u32, width: u32) -> Result<Self, Refusal>
         requires range { IsRange lo hi }
         requires width { IsWidth width }
@@ -206,21 +206,21 @@ impl Part {
         Ok(Part::over(alloc, Trees::new(alloc)?, lo, hi, width))
     }
 
-    /// The first subscriber of the range, 1..=16,777,216.
+    /// Gives the first subscriber of the range, 1..=16,777,216.
     pub fn lo(&self) -> u32
         ensures { result ≡ self.now.lo }
     {
         self.lo
     }
 
-    /// The end of the range: one past its last subscriber.
+    /// Gives the end of the range: one past its last subscriber.
     pub fn hi(&self) -> u32
         ensures { result ≡ self.now.hi }
     {
         self.hi
     }
 
-    /// The width of the zones, 1..=524,288.
+    /// Gives the width of the zones, 1..=524,288.
     pub fn width(&self) -> u32
         ensures value { result ≡ self.now.width }
         ensures rules { IsPart self.now }

@@ -20,7 +20,7 @@ pub struct PlainRows {
 }
 
 impl PlainRows {
-    /// Rows with empty tables that have room for so many each, never asked.
+    /// Makes rows with empty tables that have room for so many each, never asked.
     pub fn new(alloc: Global, room: usize) -> Self
         ensures { result ≡ record { subscribers = []; access = []; facilities = []; forwardings = []; asked = 0 } }
     {

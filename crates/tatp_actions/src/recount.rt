@@ -131,7 +131,7 @@ impl<'a> Tally<'a> {
 }
 
 impl Part {
-    /// The count of each cell, taken by a walk over all rows.
+    /// Counts each cell by a walk over all rows.
     pub fn recount(&self) -> Cells
         ensures { (c : ℕ) → c < CELLS → slice_index result c ≡ cell self.now.width c self.now.book }
     {
@@ -148,7 +148,7 @@ impl Part {
         tally.cells()
     }
 
-    /// The first Subscriber row of the part from a subscriber on: `None` where there is none, as past 16,777,216.
+    /// Finds the first Subscriber row of the part from a subscriber on: `None` where there is none, as past 16,777,216.
     pub fn first_sub_from(&self, s_id: u64) -> Option<&Subscriber>
         ensures { option_copied result ≡ first_subscriber s_id self.now.book.subscribers }
     {

@@ -27,11 +27,11 @@ pub trait Rows {
 
     ghost heights: { Self → Heights };
 
-    /// How often the rows were asked.
+    /// Tells how often the rows were asked.
     fn asked(&self) -> u64
         ensures { result ≡ times_asked self.now };
 
-    /// The Subscriber row at a key.
+    /// Finds the Subscriber row at a key.
     fn get_s(&mut self, key: u64) -> Option<&Subscriber>
         ensures* after { sem 𝓛 (follows_so Self.row Self.row self.entry.ghost_name none (λ _ _. ⊤)
             (λ rows. (tables rows ≡ tables self.old) × (times_asked rows ≡ once_more (times_asked self.old))
@@ -75,7 +75,7 @@ pub trait Rows {
         ensures rows { tables self.new ≡ record (tables self.old) { subscribers = without_row key_of_pair key (tables self.old).subscribers } }
         ensures asked { times_asked self.new ≡ once_more (times_asked self.old) };
 
-    /// The Access_Info row at a key.
+    /// Finds the Access_Info row at a key.
     fn get_a(&mut self, key: u64) -> Option<&Access>
         ensures* after { sem 𝓛 (follows_so Self.row Self.row self.entry.ghost_name none (λ _ _. ⊤)
             (λ rows. (tables rows ≡ tables self.old) × (times_asked rows ≡ once_more (times_asked self.old))
@@ -102,7 +102,7 @@ pub trait Rows {
         ensures rows { tables self.new ≡ record (tables self.old) { access = without_row key_of_pair key (tables self.old).access } }
         ensures asked { times_asked self.new ≡ once_more (times_asked self.old) };
 
-    /// The Special_Facility row at a key.
+    /// Finds the Special_Facility row at a key.
     fn get_f(&mut self, key: u64) -> Option<&Facility>
         ensures* after { sem 𝓛 (follows_so Self.row Self.row self.entry.ghost_name none (λ _ _. ⊤)
             (λ rows. (tables rows ≡ tables self.old) × (times_asked rows ≡ once_more (times_asked self.old))
@@ -147,7 +147,7 @@ pub trait Rows {
         ensures rows { tables self.new ≡ record (tables self.old) { facilities = without_row key_of_pair key (tables self.old).facilities } }
         ensures asked { times_asked self.new ≡ once_more (times_asked self.old) };
 
-    /// The Call_Forwarding row at a key.
+    /// Finds the Call_Forwarding row at a key.
     fn get_c(&mut self, key: u64) -> Option<&Forwarding>
         ensures* after { sem 𝓛 (follows_so Self.row Self.row self.entry.ghost_name none (λ _ _. ⊤)
             (λ rows. (tables rows ≡ tables self.old) × (times_asked rows ≡ once_more (times_asked self.old))

@@ -34,7 +34,7 @@ impl<V> Model for Table<V> {
 }
 
 impl<V> Table<V> {
-    /// A table with no entry.
+    /// Makes a table with no entry.
     pub fn new(alloc: Global, room: usize) -> Self
         ensures { result ≡ [] }
     {
@@ -53,7 +53,7 @@ impl<V> Table<V> {
         self.entries.partition_point(|entry| entry.0 < key)
     }
 
-    /// The value at a key.
+    /// Finds the value at a key.
     pub fn get(&self, key: u64) -> Option<&V>
         ensures { option_copied result ≡ value_at key self.now }
     {

@@ -34,7 +34,7 @@ fn empty<V: Default>(alloc: Global) -> SubTree<V>
 }
 
 impl Trees {
-    /// Rows with empty trees, never asked. An empty tree takes no memory, so this is always `Ok`.
+    /// Makes rows with empty trees, never asked. An empty tree takes no memory, so this is always `Ok`.
     pub fn new(alloc: Global) -> Result<Self, Refusal>
         ensures subscribers { IfOk result (λ t. (t.subscribers.rows ≡ []) × (t.subscribers.height ≡ 0)) }
         ensures access { IfOk result (λ t. (t.access.rows ≡ []) × (t.access.height ≡ 0)) }

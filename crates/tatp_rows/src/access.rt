@@ -75,7 +75,7 @@ impl Default for Access {
 }
 
 impl Access {
-    /// The row with these fields, in TATP's order; `Field` where one is out of its range: s_id 1..=16,777,216,
+    /// Makes the row with these fields, in TATP's order; `Field` where one is out of its range: s_id 1..=16,777,216,
     /// ai_type 1..=4.
     pub fn try_new(
         s_id: u64,
@@ -109,7 +109,7 @@ impl Access {
         })
     }
 
-    /// The row's key.
+    /// Gives the row's key.
     pub fn key(&self) -> u64
         ensures key { result ≡ access_key self.now }
         ensures in_range { IsTrue (access_in_range self.now) }
@@ -117,7 +117,7 @@ impl Access {
         row_key(self.s_id, self.ai_type, 0)
     }
 
-    /// The subscriber, 1..=16,777,216.
+    /// Gives the subscriber, 1..=16,777,216.
     pub fn s_id(&self) -> u32
         ensures value { result ≡ self.now.s_id }
         ensures in_range { IsTrue (access_in_range self.now) }
@@ -125,35 +125,35 @@ impl Access {
         self.s_id
     }
 
-    /// The type of the access, 1..=4.
+    /// Gives the type of the access, 1..=4.
     pub fn ai_type(&self) -> u8
         ensures { result ≡ self.now.ai_type }
     {
         self.ai_type
     }
 
-    /// data1, 0..=255.
+    /// Gives data1, 0..=255.
     pub fn data1(&self) -> u8
         ensures { result ≡ self.now.data1 }
     {
         self.data1
     }
 
-    /// data2, 0..=255.
+    /// Gives data2, 0..=255.
     pub fn data2(&self) -> u8
         ensures { result ≡ self.now.data2 }
     {
         self.data2
     }
 
-    /// data3, three letters A to Z.
+    /// Gives data3, three letters A to Z.
     pub fn data3(&self) -> Letters<3>
         ensures { result ≡ self.now.data3 }
     {
         self.data3
     }
 
-    /// data4, five letters A to Z.
+    /// Gives data4, five letters A to Z.
     pub fn data4(&self) -> Letters<5>
         ensures { result ≡ self.now.data4 }
     {

@@ -75,7 +75,7 @@ impl Default for Facility {
 }
 
 impl Facility {
-    /// The row with these fields, in TATP's order; `Field` where one is out of its range: s_id 1..=16,777,216,
+    /// Makes the row with these fields, in TATP's order; `Field` where one is out of its range: s_id 1..=16,777,216,
     /// sf_type 1..=4, is_active 0..=1.
     pub fn try_new(
         s_id: u64,
@@ -111,7 +111,7 @@ impl Facility {
         })
     }
 
-    /// The row with is_active 1 or 0.
+    /// Gives the row with is_active 1 or 0.
     pub fn with_is_active(self, is_active: bool) -> Self
         ensures { result ≡ record self { is_active = if is_active then 1 else 0 } }
     {
@@ -121,14 +121,14 @@ impl Facility {
         }
     }
 
-    /// The row with another data_a.
+    /// Gives the row with another data_a.
     pub fn with_data_a(self, data_a: u8) -> Self
         ensures { result ≡ record self { data_a = data_a } }
     {
         Facility { data_a, ..self }
     }
 
-    /// The row's key.
+    /// Gives the row's key.
     pub fn key(&self) -> u64
         ensures key { result ≡ facility_key self.now }
         ensures in_range { IsTrue (facility_in_range self.now) }
@@ -136,7 +136,7 @@ impl Facility {
         row_key(self.s_id, self.sf_type, 0)
     }
 
-    /// The subscriber, 1..=16,777,216.
+    /// Gives the subscriber, 1..=16,777,216.
     pub fn s_id(&self) -> u32
         ensures value { result ≡ self.now.s_id }
         ensures in_range { IsTrue (facility_in_range self.now) }
@@ -144,35 +144,35 @@ impl Facility {
         self.s_id
     }
 
-    /// The type of the facility, 1..=4.
+    /// Gives the type of the facility, 1..=4.
     pub fn sf_type(&self) -> u8
         ensures { result ≡ self.now.sf_type }
     {
         self.sf_type
     }
 
-    /// Whether is_active is 1.
+    /// Tells whether is_active is 1.
     pub fn is_active(&self) -> bool
         ensures { result ≡ (self.now.is_active == 1) }
     {
         self.is_active == 1
     }
 
-    /// error_cntrl, 0..=255.
+    /// Gives error_cntrl, 0..=255.
     pub fn error_cntrl(&self) -> u8
         ensures { result ≡ self.now.error_cntrl }
     {
         self.error_cntrl
     }
 
-    /// data_a, 0..=255.
+    /// Gives data_a, 0..=255.
     pub fn data_a(&self) -> u8
         ensures { result ≡ self.now.data_a }
     {
         self.data_a
     }
 
-    /// data_b, five letters A to Z.
+    /// Gives data_b, five letters A to Z.
     pub fn data_b(&self) -> Letters<5>
         ensures { result ≡ self.now.data_b }
     {

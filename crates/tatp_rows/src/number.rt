@@ -51,7 +51,7 @@ fn eight_digits(text: [u8; 8]) -> u64
 }
 
 impl Number {
-    /// The number of this value; `Field` where it has more than 15 digits.
+    /// Makes the number of this value; `Field` where it has more than 15 digits.
     pub fn try_new(value: u64) -> Result<Self, Refusal>
         ensures { result ≡ number_of value }
     {
@@ -80,7 +80,7 @@ impl Number {
         Ok(Number { value })
     }
 
-    /// The number's value, below 10^15.
+    /// Gives the number's value, below 10^15.
     pub fn value(self) -> u64
         ensures value { result ≡ self }
         ensures in_range { IsNumber result }

@@ -54,7 +54,7 @@ pub enum Refusal {
 }
 
 impl Refusal {
-    /// The number of the refusal in the replies, 1..=22.
+    /// Gives the number of the refusal in the replies, 1..=22.
     pub fn code(self) -> u8
         ensures { result ≡ code_of self }
     {
@@ -84,7 +84,7 @@ impl Refusal {
         }
     }
 
-    /// The name of the refusal in the replies, at most 13 letters.
+    /// Gives the name of the refusal in the replies, at most 13 letters.
     pub fn name(self) -> &'static str
         ensures { result.now ≡ name_of self }
     {

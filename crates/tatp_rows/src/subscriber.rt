@@ -130,7 +130,7 @@ impl Default for Subscriber {
 }
 
 impl Subscriber {
-    /// The row with these fields, in TATP's order; `Field` where one is out of its range: s_id 1..=16,777,216,
+    /// Makes the row with these fields, in TATP's order; `Field` where one is out of its range: s_id 1..=16,777,216,
     /// bits 0..=1, hexes 0..=15, both locations 1..=4,294,967,295.
     pub fn try_new(
         s_id: u64,
@@ -173,7 +173,7 @@ impl Subscriber {
         })
     }
 
-    /// The row with another location.
+    /// Gives the row with another location.
     pub fn with_vlr_location(self, vlr_location: u32) -> Self
         requires { 1 ≤ vlr_location }
         ensures { result ≡ record self { vlr_location = vlr_location } }
@@ -184,7 +184,7 @@ impl Subscriber {
         }
     }
 
-    /// The row with another bit_1, 0 or 1.
+    /// Gives the row with another bit_1, 0 or 1.
     pub fn with_bit_1(self, bit_1: u8) -> Self
         requires { bit_1 ≤ 1 }
         ensures { result ≡ record self { bits = slice_set self.bits 0 bit_1 } }
@@ -193,7 +193,7 @@ impl Subscriber {
         Subscriber { bits, ..self }
     }
 
-    /// The row with another number.
+    /// Gives the row with another number.
     pub fn with_sub_nbr(self, sub_nbr: Number) -> Self
         ensures { result ≡ record self { sub_nbr = sub_nbr } }
     {
@@ -202,7 +202,7 @@ impl Subscriber {
         Subscriber { sub_nbr, ..self }
     }
 
-    /// The row's key.
+    /// Gives the row's key.
     pub fn key(&self) -> u64
         ensures key { result ≡ subscriber_key self.now }
         ensures in_range { IsTrue (subscriber_in_range self.now) }
@@ -210,7 +210,7 @@ impl Subscriber {
         keys::subscriber_key(self.s_id)
     }
 
-    /// The subscriber, 1..=16,777,216.
+    /// Gives the subscriber, 1..=16,777,216.
     pub fn s_id(&self) -> u32
         ensures value { result ≡ self.now.s_id }
         ensures in_range { IsTrue (subscriber_in_range self.now) }
@@ -218,42 +218,42 @@ impl Subscriber {
         self.s_id
     }
 
-    /// The subscriber's number.
+    /// Gives the subscriber's number.
     pub fn sub_nbr(&self) -> Number
         ensures { result ≡ self.now.sub_nbr }
     {
         self.sub_nbr
     }
 
-    /// bit_1 to bit_10, each 0 or 1.
+    /// Gives bit_1 to bit_10, each 0 or 1.
     pub fn bits(&self) -> [u8; 10]
         ensures { result ≡ self.now.bits }
     {
         unpack(u64::from(self.bits), 2)
     }
 
-    /// hex_1 to hex_10, each 0..=15.
+    /// Gives hex_1 to hex_10, each 0..=15.
     pub fn hexes(&self) -> [u8; 10]
         ensures { result ≡ self.now.hexes }
     {
         unpack(self.hexes, 16)
     }
 
-    /// byte2_1 to byte2_10.
+    /// Gives byte2_1 to byte2_10.
     pub fn bytes(&self) -> [u8; 10]
         ensures { result ≡ self.now.bytes }
     {
         self.bytes
     }
 
-    /// The location of the mobile switching centre, at least 1.
+    /// Gives the location of the mobile switching centre, at least 1.
     pub fn msc_location(&self) -> u32
         ensures { result ≡ self.now.msc_location }
     {
         self.msc_location
     }
 
-    /// The location of the visitor location register, at least 1.
+    /// Gives the location of the visitor location register, at least 1.
     pub fn vlr_location(&self) -> u32
         ensures { result ≡ self.now.vlr_location }
     {

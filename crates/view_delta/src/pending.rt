@@ -35,7 +35,7 @@ impl Pending {
         }
     }
 
-    /// These deltas.
+    /// Makes these deltas.
     pub fn of(deltas: [i64; CELLS as usize]) -> Self
         ensures { result ≡ deltas }
     {

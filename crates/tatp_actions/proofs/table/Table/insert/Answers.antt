@@ -1,4 +1,4 @@
-use Rattle.tatp_actions.proofs.Common.{◌≡◌, ◌∙◌, refl, sym, ap, subst, length, arith, rules, None, Some, insert, IsOrderedBy, row_at, with_row, ordered-with_row, absent_past, absent_here, found_here, inserts_here}
+use Rattle.tatp_actions.proofs.Common.{◌≡◌, ◌∙◌, refl, sym, ap, subst, length, arith, rules, None, insert, IsOrderedBy, row_at, with_row, ordered-with_row, absent_past, absent_here, found_here, inserts_here}
 use Rattle.tatp_actions.proofs.table.Table.insert.Goals as goal
 use Rattle.tatp_actions.proofs.table.Table.insert.Goals.{else-at-len-via-then-at-len+else-index-key, else-at-len-via-else-at-len, in-Ok, in-Err}
 
