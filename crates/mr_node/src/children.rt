@@ -59,15 +59,22 @@ fn child_place_far<B>(inner: &Inner<B>, key: u64) -> usize
     child_place(inner, key)
 }
 
-/// The place of the child to which a key belongs, looked for at a guess of it first.
+/// The place of the child to which a key belongs, looked for at a guess of it first where `GUESSED`.
 #[inline(always)]
-pub(crate) fn child_place_at<B>(inner: &Inner<B>, key: u64, guess: usize) -> usize
+pub(crate) fn child_place_at<B, const GUESSED: bool>(
+    inner: &Inner<B>,
+    key: u64,
+    guess: usize,
+) -> usize
     requires some { 0 < inner.now.len }
     requires entries { AreEntries inner.now.len inner.now.leasts inner.now.children }
     requires ordered { IsOrderedBy key_of_pair (entries inner.now.leasts inner.now.children) }
     requires below { KeysBelow key_limit (entries inner.now.leasts inner.now.children) }
     ensures { IsChildPlace key result inner.now.len inner.now.leasts }
 {
+    if !GUESSED {
+        return child_place(inner, key);
+    }
     if is_between(&inner.leasts, guess, key) {
         return guess;
     }

@@ -38,7 +38,7 @@ fn search<V>(leaf: &Leaf<V>, key: u64) -> Result<usize, usize>
 }
 
 /// The value at a key of a leaf.
-pub(crate) fn find_entry<V>(leaf: &Leaf<V>, key: u64) -> Option<&V>
+fn find_entry<V>(leaf: &Leaf<V>, key: u64) -> Option<&V>
     requires { IsLeaf leaf.now }
     ensures { option_map (λ r. r.now) result ≡ value_at key (pairs_of leaf.now) }
 {
@@ -57,12 +57,19 @@ fn find_far<V>(leaf: &Leaf<V>, key: u64) -> Option<&V>
     find_entry(leaf, key)
 }
 
-/// The value at a key of a leaf, looked for at a guess of its place first.
+/// The value at a key of a leaf, looked for at a guess of its place first where `GUESSED`.
 #[inline(always)]
-pub(crate) fn find_entry_at<V>(leaf: &Leaf<V>, key: u64, guess: usize) -> Option<&V>
+pub(crate) fn find_entry_at<V, const GUESSED: bool>(
+    leaf: &Leaf<V>,
+    key: u64,
+    guess: usize,
+) -> Option<&V>
     requires { IsLeaf leaf.now }
     ensures { option_map (λ r. r.now) result ≡ value_at key (pairs_of leaf.now) }
 {
+    if !GUESSED {
+        return find_entry(leaf, key);
+    }
     if is_at(&leaf.keys, guess, key) {
         return Some(&leaf.values.as_slice()[guess]);
     }
@@ -79,7 +86,7 @@ fn revise_in<V, E: Revise<V>>(values: &mut ArrayVec<V, 32>, place: usize, edit: 
 }
 
 /// Changes the value at a key of a leaf: false where the key isn't there.
-pub(crate) fn revise_entry<V, E: Revise<V>>(leaf: &mut Leaf<V>, key: u64, edit: &mut E) -> bool
+fn revise_entry<V, E: Revise<V>>(leaf: &mut Leaf<V>, key: u64, edit: &mut E) -> bool
     requires { IsLeaf leaf.old }
     ensures rows { pairs_of leaf.new ≡ revised_at key (E.revised edit.old) (pairs_of leaf.old) }
     ensures len { length leaf.new.values.items ≡ length leaf.old.values.items }
@@ -109,9 +116,10 @@ fn revise_far<V, E: Revise<V>>(leaf: &mut Leaf<V>, key: u64, edit: &mut E) -> bo
     revise_entry(leaf, key, edit)
 }
 
-/// Changes the value at a key of a leaf, looked for at a guess of its place first: false where the key isn't there.
+/// Changes the value at a key of a leaf, looked for at a guess of its place first where `GUESSED`: false where the key
+/// isn't there.
 #[inline(always)]
-pub(crate) fn revise_entry_at<V, E: Revise<V>>(
+pub(crate) fn revise_entry_at<V, E: Revise<V>, const GUESSED: bool>(
     leaf: &mut Leaf<V>,
     key: u64,
     guess: usize,
@@ -124,6 +132,9 @@ pub(crate) fn revise_entry_at<V, E: Revise<V>>(
     ensures spent { edit.new ≡ spent_at key E.spent edit.old (pairs_of leaf.old) }
     ensures found { result ≡ is_some (value_at key (pairs_of leaf.old)) }
 {
+    if !GUESSED {
+        return revise_entry(leaf, key, edit);
+    }
     if is_at(&leaf.keys, guess, key) {
         revise_in(&mut leaf.values, guess, edit);
         return true;

@@ -18,8 +18,8 @@ use crate::children::{
     child_place, child_place_at, empty_inner, put_child, sum_counts, take_child,
 };
 use crate::entries::{
-    empty_leaf, find_entry, find_entry_at, first_entry, fold_entries, insert_entry, insert_new,
-    page_entries, remove_entry, revise_entry, revise_entry_at, walk_entries,
+    empty_leaf, find_entry_at, first_entry, fold_entries, insert_entry, insert_new, page_entries,
+    remove_entry, revise_entry_at, walk_entries,
 };
 use crate::entry_lists::{even, low_of, share};
 use crate::guess::{child_behind, rows_before};
@@ -114,16 +114,7 @@ impl<V> Node<V> {
     pub fn find(&self, key: u64) -> Option<&V>
         ensures { option_map (λ r. r.now) result ≡ value_at key self.now.rows }
     {
-        match &self.body {
-            Body::Leaf(leaf) => find_entry(leaf, key),
-            Body::Inner(inner) => {
-                let place = child_place(inner, key);
-                match &inner.children[place] {
-                    Some(child) => child.node.find(key),
-                    None => unreachable!(),
-                }
-            }
-        }
+        self.find_row::<false>(key, 0, 0)
     }
 
     /// Finds as `find` does, and quicker in a dense tree: one whose keys are 2^`shift` apart, and came in rising order.
@@ -131,20 +122,24 @@ impl<V> Node<V> {
     pub fn find_by_guess(&self, key: u64, shift: u32) -> Option<&V>
         ensures { option_map (λ r. r.now) result ≡ value_at key self.now.rows }
     {
-        self.find_near(key, shift, self.least())
+        self.find_row::<true>(key, shift, self.least())
     }
 
-    /// The same of a node of such a tree, given its least key, or any number.
-    fn find_near(&self, key: u64, shift: u32, least: u64) -> Option<&V>
+    /// The value at a key. Where `GUESSED`, it looks first where the key is in a dense tree, of which the node's least
+    /// key is given, or any number.
+    fn find_row<const GUESSED: bool>(&self, key: u64, shift: u32, least: u64) -> Option<&V>
         ensures { option_map (λ r. r.now) result ≡ value_at key self.now.rows }
     {
         let rows = rows_before(key, least, shift);
         match &self.body {
-            Body::Leaf(leaf) => find_entry_at(leaf, key, rows as usize),
+            Body::Leaf(leaf) => find_entry_at::<V, GUESSED>(leaf, key, rows as usize),
             Body::Inner(inner) => {
-                let place = child_place_at(inner, key, child_behind(rows, inner.height));
+                let guess = child_behind(rows, inner.height);
+                let place = child_place_at::<Box<Node<V>>, GUESSED>(inner, key, guess);
                 match &inner.children[place] {
-                    Some(child) => child.node.find_near(key, shift, inner.leasts[place]),
+                    Some(child) => child
+                        .node
+                        .find_row::<GUESSED>(key, shift, inner.leasts[place]),
                     None => unreachable!(),
                 }
             }
@@ -291,19 +286,7 @@ impl<V: Drop> Node<V> {
         ensures spent { edit.new ≡ spent_at key E.spent edit.old self.old.rows }
         ensures found { result ≡ is_some (value_at key self.old.rows) }
     {
-        match &mut self.body {
-            Body::Leaf(leaf) => revise_entry(leaf, key, edit),
-            Body::Inner(inner) => {
-                let place = child_place(inner, key);
-                match &mut inner.children[place] {
-                    Some(child) => {
-                        let node = &mut *child.node;
-                        node.revise(key, edit)
-                    }
-                    None => unreachable!(),
-                }
-            }
-        }
+        self.revise_row::<E, false>(key, 0, 0, edit)
     }
 
     /// Revises as `revise` does, and quicker in a dense tree, as `find_by_guess` is.
@@ -314,11 +297,17 @@ impl<V: Drop> Node<V> {
         ensures found { result ≡ is_some (value_at key self.old.rows) }
     {
         let least = self.least();
-        self.revise_near(key, shift, least, edit)
+        self.revise_row::<E, true>(key, shift, least, edit)
     }
 
-    /// The same of a node of such a tree, given its least key, or any number.
-    fn revise_near<E: Revise<V>>(&mut self, key: u64, shift: u32, least: u64, edit: &mut E) -> bool
+    /// Changes the value at a key, which it looks for as `find_row` does.
+    fn revise_row<E: Revise<V>, const GUESSED: bool>(
+        &mut self,
+        key: u64,
+        shift: u32,
+        least: u64,
+        edit: &mut E,
+    ) -> bool
         ensures rows { self.new ≡ record self.old { rows = revised_at key (E.revised edit.old) self.old.rows } }
         ensures well { IsWell self.new }
         ensures spent { edit.new ≡ spent_at key E.spent edit.old self.old.rows }
@@ -326,14 +315,15 @@ impl<V: Drop> Node<V> {
     {
         let rows = rows_before(key, least, shift);
         match &mut self.body {
-            Body::Leaf(leaf) => revise_entry_at(leaf, key, rows as usize, edit),
+            Body::Leaf(leaf) => revise_entry_at::<V, E, GUESSED>(leaf, key, rows as usize, edit),
             Body::Inner(inner) => {
-                let place = child_place_at(inner, key, child_behind(rows, inner.height));
+                let guess = child_behind(rows, inner.height);
+                let place = child_place_at::<Box<Node<V>>, GUESSED>(inner, key, guess);
                 let child_least = inner.leasts[place];
                 match &mut inner.children[place] {
                     Some(child) => {
                         let node = &mut *child.node;
-                        node.revise_near(key, shift, child_least, edit)
+                        node.revise_row::<E, GUESSED>(key, shift, child_least, edit)
                     }
                     None => unreachable!(),
                 }

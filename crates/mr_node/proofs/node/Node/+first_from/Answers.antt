@@ -12,8 +12,6 @@ pub unreachable-requires : goal.unreachable-requires
 unreachable-requires g t c =
     let b = c.in-Inner.inner in
     let whole : IsInner b = subst IsNode c.in-Inner.is c.self.invariant in
-    let now : seen_inner b ≡ c.args.self.now = sym (ap seen c.in-Inner.is) ∙ c.self.view_is in
-    let at = c.child_place-place.ensures in
     let i = c.child_place-place.result in
     never_none b.len (i + 1) c.index-inner-place-in-None-first_from.result b.children whole.entries.packed c.if-place-inner.false c.in-None-children.is
 
@@ -21,7 +19,6 @@ pub unreachable-requires-in-None : goal.unreachable-requires-in-None
 unreachable-requires-in-None g t c =
     let b = c.in-Inner.inner in
     let whole : IsInner b = subst IsNode c.in-Inner.is c.self.invariant in
-    let now : seen_inner b ≡ c.args.self.now = sym (ap seen c.in-Inner.is) ∙ c.self.view_is in
     let at = c.child_place-place.ensures in
     let i = c.child_place-place.result in
     never_none b.len i c.index-inner-place.result b.children whole.entries.packed at.within c.in-None.is

@@ -2,7 +2,7 @@ use Rattle.mr_node.proofs.Common.{rules, arith, ◌≡◌, option_map, sym, ap, 
 use Rattle.mr_node.proofs.PlaceLemmas.{packed_fits, got_used, never_none}
 use Rattle.mr_node.proofs.ChildLemmas.{cut_child}
 use Rattle.mr_node.proofs.NodeLemmas.{find_inner, children_rise, children_below}
-use Rattle.mr_node.proofs.node.Node.+find_near.Goals as goal
+use Rattle.mr_node.proofs.node.Node.+find_row.Goals as goal
 
 pub unreachable-requires : goal.unreachable-requires
 unreachable-requires g t c =
@@ -19,7 +19,7 @@ returns-in-Some g t c =
     let got = got_used inner.len c.child_place_at-place.result c.index-inner-place.result c.in-Some.child inner.children whole.entries.packed at.within c.in-Some.is in
     let now : c.args.self.now ≡ seen_inner inner = sym c.self.view_is ∙ ap seen c.in-Inner.is in
     let below = find_inner c.args.key c.child_place_at-place.result inner c.in-Some.child whole at got in
-    c.find_near.ensures ∙ ap (λ s. value_at c.args.key s.rows) c.deref.ensures ∙ sym (ap (option_map (λ p. p.1)) below) ∙ sym (ap (λ s. value_at c.args.key s.rows) now)
+    c.find_row.ensures ∙ ap (λ s. value_at c.args.key s.rows) c.deref.ensures ∙ sym (ap (option_map (λ p. p.1)) below) ∙ sym (ap (λ s. value_at c.args.key s.rows) now)
 
 pub child_place_at-place-requires : goal.child_place_at-place-requires
 child_place_at-place-requires g t c =
@@ -36,8 +36,8 @@ bounds-inner-place g t c = omega (arith, c.child_place_at-place.ensures.within, 
 pub offset_bounds-inner-place : goal.offset_bounds-inner-place
 offset_bounds-inner-place g t c = omega (arith, c.child_place_at-place.ensures.within, (subst IsNode c.in-Inner.is c.self.invariant).entries.fits)
 
-pub find_near-requires : goal.find_near-requires
-find_near-requires g t c κs within =
+pub find_row-requires : goal.find_row-requires
+find_row-requires g t c κs within =
     let inner = c.in-Inner.inner in
     let whole : IsInner inner = subst IsNode c.in-Inner.is c.self.invariant in
     let at = c.child_place_at-place.ensures in
